@@ -1,0 +1,5 @@
+mod Appends
+mod Held
+mod HexDigits
+mod Reading
+mod Telling

@@ -1,0 +1,24 @@
+//! What every crate of the suite stands on: texts and lists, the outside, files and numbers.
+#![tactic(auto)]
+
+mod file;
+mod host;
+mod items;
+mod memory_host;
+mod memory_refusal;
+mod memory_sink;
+mod number;
+mod sink;
+#[cfg(test)]
+mod tests;
+mod text;
+
+pub use file::{FileRefusal, read_file};
+pub use host::{Failed, Host, OpenFault};
+pub use items::{Bytes, Items};
+pub use memory_host::{Files, MemoryHost};
+pub use memory_refusal::NoMemory;
+pub use memory_sink::MemorySink;
+pub use number::{decimal, hex_text, hex_word};
+pub use sink::{Sink, put_all};
+pub use text::Text;

@@ -1,0 +1,64 @@
+// What no clause says: calls that have memory succeed, and text is spelt as people write it.
+use crate::{
+    Failed, FileRefusal, Files, Host, Items, MemoryHost, MemorySink, Text, decimal, hex_word,
+    put_all, read_file,
+};
+use std::alloc::Global;
+use std::test::Fail;
+
+fn two_files(alloc: Global, fail: &[u64]) -> Result<MemoryHost, Fail> {
+    let mut files: Files = Items::new(alloc);
+    for name in ["a.sig", "b.sig"] {
+        let bytes = Items::from(name.as_bytes().to_vec(alloc)?);
+        files.push((Text::from(String::from_str(alloc, name)?), bytes))?;
+    }
+    Ok(MemoryHost::new(files, Items::from(fail.to_vec(alloc)?)))
+}
+
+#[test]
+fn numbers_are_spelt_as_usual(rt: HostRuntime) -> Result<(), Fail> {
+    assert_eq!(rt; hex_word(0x0012_abef), *b"0012abef");
+    assert_eq!(rt; decimal(rt.alloc(), -40)?.as_str(), "-40");
+    Ok(())
+}
+
+#[test]
+fn a_file_is_read_up_to_its_limit(rt: HostRuntime) -> Result<(), Fail> {
+    let mut host = two_files(rt.alloc(), &[])?;
+    let bytes = read_file(rt.alloc(), &mut host, "b.sig", 5)?;
+    assert_eq!(rt; bytes.as_slice(), b"b.sig".as_slice());
+    let longer = read_file(rt.alloc(), &mut host, "a.sig", 4).err();
+    assert_eq!(rt; longer, Some(FileRefusal::TooLong { limit: 4 }));
+    let missing = read_file(rt.alloc(), &mut host, "c.sig", 4).err();
+    assert_eq!(rt; missing, Some(FileRefusal::NoFile));
+    Ok(())
+}
+
+#[test]
+fn a_fault_in_mid_stream_is_told(rt: HostRuntime) -> Result<(), Fail> {
+    let mut host = two_files(rt.alloc(), &[2])?;
+    let outcome = read_file(rt.alloc(), &mut host, "a.sig", 5).err();
+    assert_eq!(rt; outcome, Some(FileRefusal::Failed));
+    Ok(())
+}
+
+#[test]
+fn a_written_file_is_found(rt: HostRuntime) -> Result<(), Fail> {
+    let mut host = two_files(rt.alloc(), &[1])?;
+    assert_eq!(rt; host.write_file("a.sig", b"x"), Ok(()));
+    assert_eq!(rt; host.write_file("c.sig", b"y"), Err(Failed));
+    assert_eq!(rt; host.file("a.sig"), Some(b"x".as_slice()));
+    assert_eq!(rt; host.file("c.sig"), None);
+    assert_eq!(rt; host.starved(), 0);
+    Ok(())
+}
+
+#[test]
+fn all_bytes_are_put(rt: HostRuntime) -> Result<(), Fail> {
+    let mut sink = MemorySink::new(Items::from([1].to_vec(rt.alloc())?));
+    assert_eq!(rt; put_all(&mut sink, b"PASS"), Ok(()));
+    assert_eq!(rt; put_all(&mut sink, b"FAIL"), Err(Failed));
+    assert_eq!(rt; sink.bytes(), b"PASS".as_slice());
+    assert_eq!(rt; sink.starved(), 0);
+    Ok(())
+}
