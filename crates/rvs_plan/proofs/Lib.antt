@@ -1,0 +1,8 @@
+pub mod Reaching
+pub mod Following
+pub mod Sequence
+pub mod Listing
+pub mod Putting
+pub mod Stepping
+pub mod Answering
+pub mod Progress

@@ -1,0 +1,9 @@
+pub mod World
+pub mod Effect
+pub mod Plan
+pub mod Performed
+pub mod Inputs
+pub mod Meets
+pub mod Account
+pub mod Laws
+pub mod Codes
