@@ -1,0 +1,5 @@
+mod Decoding
+mod Differences
+mod Cutting
+mod Counting
+mod Printing

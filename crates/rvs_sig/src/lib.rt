@@ -1,0 +1,10 @@
+//! Signature files: hexadecimal words, one a line, read, written and compared.
+#![tactic(auto)]
+
+mod comparison;
+#[cfg(test)]
+mod tests;
+mod words;
+
+pub use comparison::{Verdict, compare};
+pub use words::{SigRefusal, print_words, read_words};

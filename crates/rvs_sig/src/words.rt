@@ -1,0 +1,116 @@
+// The words of a signature file.
+ghost use Rattle.std.specs.Prelude.{◌≡◌, ◌==◌, ◌<◌, ◌≤◌, ◌⊎◌, ◌∷◌, IfErr, IfOk, IfSome, length, position};
+ghost use Rattle.rvs_sig.specs.Lines.{lines_of};
+ghost use Rattle.rvs_sig.specs.Words.{digits_of_line, text_of_words, word_of_line, words_of};
+
+use rvs_base::{Items, NoMemory, Text, hex_word};
+use std::alloc::Global;
+
+const MOST_LINES: u32 = 262_144;
+
+/// Why a file is no list of words.
+#[derive(Debug, Drop, Clone, Copy, PartialEq, Eq)]
+pub enum SigRefusal {
+    /// A line that isn't exactly eight hexadecimal digits.
+    BadLine {
+        /// The first such line, counted from 1.
+        line: u32,
+    },
+    /// The first 262,144 lines are good, and more follow.
+    TooLong,
+    /// The allocator refused.
+    NoMemory,
+}
+
+impl From<NoMemory> for SigRefusal {
+    ghost use Rattle.rvs_sig.specs.declared.words.SigRefusal.TheVariants.{NoMemory};
+
+    ghost from_gives = { λ _ refusal. refusal ≡ NoMemory };
+
+    fn from(_: NoMemory) -> Self {
+        SigRefusal::NoMemory
+    }
+}
+
+/// Reads the words of a file: one a line, as eight hexadecimal digits of either case. A carriage return may stand before a line feed, and the last line needs no line feed.
+///
+/// # Errors
+///
+/// [`SigRefusal`].
+pub fn read_words(alloc: Global, bytes: &[u8]) -> Result<Items<u32>, SigRefusal>
+    ensures words { IfOk result (λ words. words_of bytes.now ≡ Ok words) }
+    ensures refused { IfErr result (λ refusal. (refusal ≡ SigRefusal.NoMemory) ⊎ (words_of bytes.now ≡ Err refusal)) }
+{
+    let mut words = Items::new(alloc);
+    let mut left = bytes;
+    let mut line = 0;
+    while !left.is_empty() {
+        if line == MOST_LINES {
+            return Err(SigRefusal::TooLong);
+        }
+        line += 1;
+        let (first, rest) = split_line(left);
+        match read_line(first) {
+            None => return Err(SigRefusal::BadLine { line }),
+            Some(word) => words.push(word)?,
+        }
+        left = rest;
+    }
+    Ok(words)
+}
+
+/// Words as text: each in eight lower-case digits, with a line feed.
+///
+/// # Errors
+///
+/// [`NoMemory`].
+pub fn print_words(alloc: Global, words: &[u32]) -> Result<Text, NoMemory>
+    ensures text { IfOk result (λ text. text ≡ text_of_words words.now) }
+    ensures read_again { IfOk result (λ text. length words.now ≤ 262144 → words_of text ≡ Ok words.now) }
+{
+    let mut bytes = Vec::new(alloc);
+    for word in words {
+        bytes.extend_from_slice(&hex_word(*word))?;
+        bytes.push(b'\n')?;
+    }
+    Ok(Text::from(String::from_utf8(bytes).unwrap()))
+}
+
+/// The first line without its line feed, and what follows.
+fn split_line(bytes: &[u8]) -> (&[u8], &[u8])
+    requires { 0 < length bytes.now }
+    ensures lines { lines_of bytes.now ≡ result.0.now ∷ lines_of result.1.now }
+    ensures shorter { length result.1.now < length bytes.now }
+{
+    match line_feed(bytes) {
+        Some(end) => (&bytes[..end], &bytes[end + 1..]),
+        None => (bytes, &[]),
+    }
+}
+
+fn line_feed(bytes: &[u8]) -> Option<usize>
+    ensures first { result ≡ position (λ byte. byte == 10) bytes.now }
+    ensures within { IfSome result (λ end. end < length bytes.now) }
+{
+    bytes.iter().position(|byte| *byte == b'\n')
+}
+
+fn read_line(line: &[u8]) -> Option<u32>
+    ensures { result ≡ word_of_line line.now }
+{
+    let mut bytes = [0; 4];
+    match hex::decode_to_slice(without_return(line), &mut bytes) {
+        Ok(()) => Some(u32::from_be_bytes(bytes)),
+        Err(_) => None,
+    }
+}
+
+fn without_return(line: &[u8]) -> &[u8]
+    ensures { result.now ≡ digits_of_line line.now }
+{
+    if line.len() == 9 && line[8] == b'\r' {
+        &line[..8]
+    } else {
+        line
+    }
+}
