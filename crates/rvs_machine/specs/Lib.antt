@@ -1,0 +1,12 @@
+pub mod Image
+pub mod Written
+pub mod TrapNumbers
+pub mod Effects
+pub mod Machine
+pub mod Plans
+pub mod Run
+pub mod FileLines
+pub mod ImageNumbers
+pub mod ImageText
+pub mod Laws
+pub mod ImageFile

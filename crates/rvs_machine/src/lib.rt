@@ -1,0 +1,25 @@
+//! The reference machine: a program in memory, one step, and runs, as the unprivileged ISA manual
+//! says.
+#![tactic(auto)]
+
+mod action;
+mod effect;
+mod event;
+mod image;
+mod laws;
+mod lines;
+mod machine;
+mod memory;
+mod plan;
+mod reading;
+mod run;
+mod symbol;
+#[cfg(test)]
+mod tests;
+
+pub use event::{Commit, End, Event, Executed, Trace, Trap, TrapKind};
+pub use image::{DATA_BASE, DATA_LIMIT, Image, TEXT_BASE, TEXT_LIMIT};
+pub use laws::{files_read_back, runs_keep, steps_keep};
+pub use machine::Machine;
+pub use reading::{ImageKind, ImageRefusal, read_image};
+pub use symbol::Symbol;

@@ -1,0 +1,9 @@
+// Symbols.
+use rvs_base::Text;
+
+/// A symbol of a program, and its address.
+#[derive(Debug, Drop)]
+pub struct Symbol {
+    pub name: Text,
+    pub at: u32,
+}
