@@ -1,0 +1,47 @@
+-- The value of the open blocks is what closing them gives.
+use Rattle.std.proofs.Common.{◌≡◌, ℕ, List, [], ◌∷◌, Some, None, Ok, Err, refl, sym, ap, ◌∙◌}
+use Rattle.std.specs.Prelude.{if◌then◌else◌}
+use Rattle.rvs_yaml.specs.Checks.{Checked, ◌>>=◌}
+use Rattle.rvs_yaml.specs.Value.{Value, scalar_value}
+use Rattle.rvs_yaml.specs.Word.{Name, opens_block}
+use Rattle.rvs_yaml.specs.Block.{Found, found, named, check_merge}
+use Rattle.rvs_yaml.specs.Stack.{Done, done_items, done_entries, alone, Open, own_found, closed_as, closed, closed_into, unwound, finished}
+use Rattle.rvs_yaml.specs.StepParts.{closed_value}
+use Rattle.rvs_yaml.specs.Front.{own_value, ends, front_value}
+use Rattle.rvs_yaml.proofs.Outlined.{bind_assoc, bind_same, then_assoc}
+
+abbrev value_of : Found Value → Checked Value
+value_of g = Ok g.value
+
+closed-value : (dn : Done) (line : ℕ) (anchors : _) (g : Found Value) → (closed_as dn line anchors g >>= value_of) ≡ closed_value dn line g.value
+closed-value (done_items vs) line anchors g = refl
+closed-value (done_entries ws k) line anchors g = then_assoc (check_merge k g.value) _ _
+closed-value alone line anchors g = refl
+
+named-value : (name : Name) (g : Found Value) → (named name g).value ≡ g.value
+named-value None g = refl
+named-value (Some n) g = refl
+
+ends-one : (m : Checked Value) → m ≡ (m >>= λ w. let r : Checked Value = Ok w in r)
+ends-one (Ok w) = refl
+ends-one (Err k) = refl
+
+bind_values : {A : Type 0} (m : Checked (Found Value)) (f : Value → Checked A) → ((m >>= value_of) >>= f) ≡ (m >>= λ g. f g.value)
+bind_values (Ok g) f = refl
+bind_values (Err k) f = refl
+
+unwound-ends : (g : Found Value) (b : Open) (bs : List Open) → (unwound g b bs >>= value_of) ≡ ends g.value (b ∷ bs)
+unwound-ends g b [] = closed-value b.done b.line b.anchors g ∙ ends-one (closed_value b.done b.line g.value)
+unwound-ends g b (outer ∷ bs) =
+    bind_assoc (closed_into b g outer.head.anchor) _ _
+    ∙ bind_assoc (closed b g) _ _
+    ∙ bind_same (closed b g) _ _ (λ h. unwound-ends (named outer.head.anchor h) outer bs ∙ ap (λ v. ends v (outer ∷ bs)) (named-value outer.head.anchor h))
+    ∙ sym (bind_values (closed b g) (λ v. ends v (outer ∷ bs)))
+    ∙ ap (λ m. m >>= λ w. ends w (outer ∷ bs)) (closed-value b.done b.line b.anchors g)
+
+own-value : (b : Open) → (own_found b).value ≡ own_value b
+own-value b = named-value b.head.anchor (found (if opens_block b.head.sort then scalar_value [] b.head.line else b.own) [])
+
+pub finished-front : (bs : List Open) → (finished bs >>= value_of) ≡ front_value bs
+finished-front [] = refl
+finished-front (b ∷ bs) = unwound-ends (own_found b) b bs ∙ ap (λ v. ends v (b ∷ bs)) (own-value b)

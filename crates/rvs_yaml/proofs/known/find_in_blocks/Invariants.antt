@@ -1,0 +1,14 @@
+use Rattle.std.proofs.Common.{◌≡◌, ◌≤◌, length, take}
+use Rattle.rvs_yaml.specs.Word.{lookup}
+use Rattle.rvs_yaml.specs.Stack.{known_of}
+use Rattle.rvs_yaml.specs.StackView.{stack_view}
+use Rattle.rvs_yaml.proofs.known.find_in_blocks.Given as goal
+
+abbrev pub invariant-loop-i : goal.invariant-loop-i
+invariant-loop-i l = record {
+  inside : l.i ≤ length l.blocks;
+  same : lookup l.name (known_of (stack_view (take l.i l.blocks))) ≡ lookup l.name (known_of (stack_view l.blocks));
+}
+
+abbrev pub decreases-loop-i : goal.decreases-loop-i
+decreases-loop-i l = l.i

@@ -1,0 +1,14 @@
+-- What functions that may fail return, against checks.
+use Rattle.std.specs.Prelude.{◌≡◌, Result, Ok, Err}
+use Rattle.rvs_yaml.specs.Checks.{Checked}
+use Rattle.rvs_yaml.specs.declared.refusal.YamlKind.{YamlKind}
+use Rattle.rvs_yaml.specs.declared.refusal.YamlKind.TheVariants.{NoMemory}
+
+-- What a function returned, seen by see, is what the check gives, unless memory ran out.
+abbrev pub Fails : {Y : Type 0} → YamlKind → Checked Y → Type 0
+Fails NoMemory read = Unit {0}
+Fails kind read = read ≡ Err kind
+
+abbrev pub Gives : {X Y : Type 0} → (X → Y) → Result X YamlKind → Checked Y → Type 0
+Gives see (Ok x) read = read ≡ Ok (see x)
+Gives see (Err kind) read = Fails kind read

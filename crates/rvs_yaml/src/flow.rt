@@ -1,0 +1,375 @@
+// Reading flow collections from left to right.
+ghost use Rattle.std.specs.Prelude.{◌≡◌, Err, Some, if◌then◌else◌};
+ghost use Rattle.rvs_yaml.specs.Value as value_spec;
+ghost use Rattle.rvs_yaml.specs.Flow as spec;
+ghost use Rattle.rvs_yaml.specs.FlowSteps as steps_spec;
+ghost use Rattle.rvs_yaml.specs.FlowParts as parts;
+ghost use Rattle.rvs_yaml.specs.declared.refusal.YamlKind.TheVariants.{BadScalar, BadFlow};
+ghost use Rattle.rvs_yaml.specs.Gives.{Gives};
+ghost use Rattle.rvs_yaml.specs.StackView.{known_view};
+ghost use Rattle.rvs_yaml.specs.ValueView.{value_view, key_view, written_view, entries_view};
+ghost use Rattle.rvs_yaml.specs.WordView.{bracket_view};
+ghost use Rattle.rvs_yaml.specs.FlowView.{mark_view, place_view, reading_view, levels_view};
+
+use crate::counted::Value;
+use crate::entry_list::EntryList;
+use crate::known::Known;
+use crate::mark::{Level, Mark, Place, Reading};
+use crate::members::is_mergeable;
+use crate::merged::{list_value, map_value};
+use crate::refusal::YamlKind;
+use crate::value::scalar_value;
+use crate::value_list::ValueList;
+use crate::word::Bracket;
+use crate::written::{Key, Written};
+use std::alloc::Global;
+
+/// The place behind a collection's bracket.
+fn first_place(alloc: Global, bracket: Bracket) -> Place
+    ensures { place_view result ≡ spec.first_place (bracket_view bracket) }
+{
+    match bracket {
+        Bracket::Square => Place::Member(ValueList::new(alloc)),
+        Bracket::Curly => Place::KeyPlace(EntryList::new(alloc)),
+    }
+}
+
+/// The place behind a value.
+fn with_value(alloc: Global, place: Place, value: Value) -> Result<Place, YamlKind>
+    ensures { Gives place_view result (spec.with_value (place_view place) (value_view value)) }
+{
+    match place {
+        Place::Member(list) => Ok(Place::BehindMember(list.with(value)?)),
+        Place::EntryValue(list, key) => Ok(Place::BehindEntry(list.with(
+            alloc,
+            Written { key, value },
+        )?)),
+        _ => Err(YamlKind::BadFlow),
+    }
+}
+
+/// The place behind a comma.
+fn with_comma(place: Place) -> Result<Place, YamlKind>
+    ensures { Gives place_view result (spec.with_comma (place_view place)) }
+{
+    match place {
+        Place::BehindMember(list) => Ok(Place::Member(list)),
+        Place::BehindEntry(list) => Ok(Place::KeyPlace(list)),
+        _ => Err(YamlKind::BadFlow),
+    }
+}
+
+/// Whether the key is new among these, or merges.
+fn is_new(list: &EntryList, key: &Key) -> bool
+    ensures { result ≡ parts.is_new (entries_view list.now.entries.items) (key_view key.now) }
+{
+    key.merges || !list.has_key(key.name.as_str())
+}
+
+/// The place behind a key and its colon.
+fn with_key(place: Place, key: Key) -> Result<Place, YamlKind>
+    ensures { Gives place_view result (spec.with_key (place_view place) (key_view key)) }
+{
+    match place {
+        Place::KeyPlace(list) => {
+            if is_new(&list, &key) {
+                Ok(Place::EntryValue(list, key))
+            } else {
+                Err(YamlKind::DuplicateKey)
+            }
+        }
+        Place::Member(_) | Place::EntryValue(_, _) => Err(YamlKind::BadScalar),
+        _ => Err(YamlKind::BadFlow),
+    }
+}
+
+/// Why a quoted scalar with a colon and then more text is refused.
+fn cut_key_fault(place: &Place, key: &Key) -> YamlKind
+    ensures { spec.with_cut_key (place_view place.now) (key_view key.now) ≡ Err result }
+{
+    match place {
+        Place::KeyPlace(list) => {
+            if is_new(list, key) {
+                YamlKind::BadFlow
+            } else {
+                YamlKind::DuplicateKey
+            }
+        }
+        Place::Member(_) | Place::EntryValue(_, _) => YamlKind::BadScalar,
+        _ => YamlKind::BadFlow,
+    }
+}
+
+/// Why a plain scalar that ends in a colon is refused, where this byte ends it.
+fn colon_scalar_fault(place: &Place, byte: u8) -> YamlKind
+    ensures { spec.with_colon_scalar (place_view place.now) byte ≡ Err result }
+{
+    match place {
+        Place::Member(_) => bad_unless(byte == b',' || byte == b']'),
+        Place::EntryValue(_, _) => bad_unless(byte == b',' || byte == b'}'),
+        _ => YamlKind::BadFlow,
+    }
+}
+
+/// A scalar's fault where what ends it is in its place.
+fn bad_unless(in_place: bool) -> YamlKind
+    ensures { result ≡ (if in_place then BadScalar else BadFlow) }
+{
+    if in_place {
+        YamlKind::BadScalar
+    } else {
+        YamlKind::BadFlow
+    }
+}
+
+/// The fault of what begins here, which is the scalar's where one could begin.
+fn start_fault(place: &Place, kind: YamlKind) -> YamlKind
+    ensures { spec.with_fault (place_view place.now) kind ≡ Err result }
+{
+    match place {
+        Place::BehindMember(_) | Place::BehindEntry(_) => YamlKind::BadFlow,
+        _ => kind,
+    }
+}
+
+/// The value of an alias that stands here.
+fn alias_here(known: &Known<'_, '_>, place: &Place, name: &str) -> Result<Value, YamlKind>
+    ensures { Gives value_view result (parts.alias_at (known_view known.now) (place_view place.now) name.now) }
+{
+    match place {
+        Place::Member(_) | Place::EntryValue(_, _) => {
+            if name.is_empty() {
+                return Err(YamlKind::BadFlow);
+            }
+            known.alias_value(name)
+        }
+        Place::KeyPlace(_) => Err(YamlKind::BadScalar),
+        _ => Err(YamlKind::BadFlow),
+    }
+}
+
+/// The place behind an alias.
+fn with_alias(
+    alloc: Global,
+    known: &Known<'_, '_>,
+    place: Place,
+    name: &str,
+) -> Result<Place, YamlKind>
+    ensures { Gives place_view result (spec.with_alias (known_view known.now) (place_view place) name.now) }
+{
+    let value = alias_here(known, &place, name)?;
+    with_value(alloc, place, value)
+}
+
+/// The place behind a scalar.
+fn with_scalar(alloc: Global, line: u64, place: Place, key: Key) -> Result<Place, YamlKind>
+    ensures { Gives place_view result (spec.with_value (place_view place) (value_spec.scalar_value (key_view key).name line)) }
+{
+    let value = scalar_value(alloc, key.name, line)?;
+    with_value(alloc, place, value)
+}
+
+/// The place behind a mark that is no bracket.
+fn with_mark(
+    alloc: Global,
+    known: &Known<'_, '_>,
+    line: u64,
+    place: Place,
+    mark: Mark<'_>,
+) -> Result<Place, YamlKind>
+    ensures { Gives place_view result (spec.with_mark (known_view known.now) line (place_view place) (mark_view mark.entry)) }
+{
+    match mark {
+        Mark::Comma => with_comma(place),
+        Mark::Colon => Err(start_fault(&place, YamlKind::BadScalar)),
+        Mark::Scalar(key) => with_scalar(alloc, line, place, key),
+        Mark::Keyed(key) => with_key(place, key),
+        Mark::CutKey(key) => Err(cut_key_fault(&place, &key)),
+        Mark::ColonScalar(byte) => Err(colon_scalar_fault(&place, byte)),
+        Mark::Alias(name) => with_alias(alloc, known, place, name),
+        Mark::Fault(kind) => Err(start_fault(&place, kind)),
+        _ => Err(YamlKind::BadFlow),
+    }
+}
+
+/// Whether a collection may begin here.
+fn may_open(place: &Place) -> Result<(), YamlKind>
+    ensures { Gives (λ u. u) result (spec.may_open (place_view place.now)) }
+{
+    match place {
+        Place::Member(_) | Place::EntryValue(_, _) => Ok(()),
+        Place::KeyPlace(_) => Err(YamlKind::Unsupported),
+        _ => Err(YamlKind::BadFlow),
+    }
+}
+
+/// The value of a collection that ends here.
+fn closes(alloc: Global, line: u64, place: &Place) -> Result<Value, YamlKind>
+    ensures { Gives value_view result (spec.closes line (place_view place.now)) }
+{
+    match place {
+        Place::Member(list) | Place::BehindMember(list) => Ok(list_value(alloc, line, list)?),
+        Place::KeyPlace(list) | Place::BehindEntry(list) => Ok(map_value(alloc, line, list)?),
+        _ => Err(YamlKind::BadFlow),
+    }
+}
+
+/// Whether the bracket ends a collection with this one.
+fn ends_with(first: Bracket, last: Bracket) -> Result<(), YamlKind>
+    ensures { Gives (λ u. u) result (spec.ends_with (bracket_view first) (Some (bracket_view last))) }
+{
+    match (first, last) {
+        (Bracket::Square, Bracket::Square) | (Bracket::Curly, Bracket::Curly) => Ok(()),
+        _ => Err(YamlKind::BadFlow),
+    }
+}
+
+/// Whether the entry that was read last can be merged, where it is to be.
+fn fits(place: &Place) -> bool
+    ensures { result ≡ spec.fits (place_view place.now) }
+{
+    match place {
+        Place::BehindEntry(list) => last_fits(list.entries.as_slice()),
+        _ => true,
+    }
+}
+
+/// Whether the last of these entries can be merged, where it is to be.
+fn last_fits(entries: &[Written]) -> bool
+    ensures { result ≡ spec.last_fits (entries_view entries.now) }
+{
+    match entries {
+        [] => true,
+        [.., last] => entry_fits(last),
+    }
+}
+
+/// Whether the entry can be merged, where it is to be.
+fn entry_fits(written: &Written) -> bool
+    ensures { result ≡ spec.entry_fits (written_view written.now) }
+{
+    !written.key.merges || is_mergeable(&written.value.tree)
+}
+
+/// What is read once a value is whole.
+fn into(alloc: Global, value: Value, good: bool, mut outer: Vec<Level>) -> Result<Reading, YamlKind>
+    ensures { Gives reading_view result (steps_spec.into (value_view value, good) (levels_view outer.items)) }
+{
+    let Some(level) = outer.pop() else {
+        return Ok(Reading::Whole(value, good));
+    };
+    let place = with_value(alloc, level.place, value)?;
+    let good = good && fits(&place);
+    Ok(Reading::Inside(
+        good,
+        Level {
+            bracket: level.bracket,
+            place,
+        },
+        outer,
+    ))
+}
+
+/// What is read behind an opening bracket.
+fn opened(
+    alloc: Global,
+    good: bool,
+    level: Level,
+    mut outer: Vec<Level>,
+    bracket: Bracket,
+) -> Result<Reading, YamlKind>
+    ensures { Gives reading_view result (parts.opened good (bracket_view level.bracket) (place_view level.place) (levels_view outer.items) (bracket_view bracket)) }
+{
+    may_open(&level.place)?;
+    outer.push(level)?;
+    Ok(Reading::Inside(
+        good,
+        Level {
+            bracket,
+            place: first_place(alloc, bracket),
+        },
+        outer,
+    ))
+}
+
+/// What is read behind a closing bracket.
+fn closed(
+    alloc: Global,
+    line: u64,
+    good: bool,
+    level: Level,
+    outer: Vec<Level>,
+    bracket: Bracket,
+) -> Result<Reading, YamlKind>
+    ensures { Gives reading_view result (parts.closed line good (bracket_view level.bracket) (place_view level.place) (levels_view outer.items) (bracket_view bracket)) }
+{
+    let value = closes(alloc, line, &level.place)?;
+    ends_with(level.bracket, bracket)?;
+    into(alloc, value, good, outer)
+}
+
+/// What is read behind another mark.
+fn moved(
+    alloc: Global,
+    known: &Known<'_, '_>,
+    line: u64,
+    good: bool,
+    level: Level,
+    outer: Vec<Level>,
+    mark: Mark<'_>,
+) -> Result<Reading, YamlKind>
+    ensures { Gives reading_view result (steps_spec.moved good (bracket_view level.bracket) (levels_view outer.items) (spec.with_mark (known_view known.now) line (place_view level.place) (mark_view mark.entry))) }
+{
+    let place = with_mark(alloc, known, line, level.place, mark)?;
+    let good = good && fits(&place);
+    Ok(Reading::Inside(
+        good,
+        Level {
+            bracket: level.bracket,
+            place,
+        },
+        outer,
+    ))
+}
+
+/// What is read behind one mark more.
+pub(crate) fn flow_step(
+    alloc: Global,
+    known: &Known<'_, '_>,
+    line: u64,
+    reading: Reading,
+    mark: Mark<'_>,
+) -> Result<Reading, YamlKind>
+    ensures { Gives reading_view result (steps_spec.flow_step (known_view known.now) line (reading_view reading) (mark_view mark.entry)) }
+{
+    match reading {
+        Reading::Inside(good, level, outer) => match mark {
+            Mark::Opening(bracket) => opened(alloc, good, level, outer, bracket),
+            Mark::Closing(bracket) => closed(alloc, line, good, level, outer, bracket),
+            _ => moved(alloc, known, line, good, level, outer, mark),
+        },
+        Reading::Whole(_, _) => match mark {
+            Mark::Colon => Err(YamlKind::Unsupported),
+            _ => Err(YamlKind::BadFlow),
+        },
+    }
+}
+
+/// What is read behind the first bracket of a collection.
+pub(crate) fn new_reading(alloc: Global, bracket: Bracket) -> Reading
+    ensures { reading_view result ≡ parts.first_reading (bracket_view bracket) }
+{
+    let place = first_place(alloc, bracket);
+    Reading::Inside(true, Level { bracket, place }, Vec::new(alloc))
+}
+
+/// The value of a collection with nothing behind it.
+pub(crate) fn flow_end(reading: Reading) -> Result<Value, YamlKind>
+    ensures { Gives value_view result (parts.ended (reading_view reading)) }
+{
+    match reading {
+        Reading::Whole(value, true) => Ok(value),
+        Reading::Whole(_, false) => Err(YamlKind::BadMerge),
+        Reading::Inside(_, _, _) => Err(YamlKind::BadFlow),
+    }
+}

@@ -1,0 +1,288 @@
+// The limits on the tree of the lines so far.
+ghost use Rattle.std.specs.Prelude.{◌≡◌, ◌∷◌, ◌++◌, ◌&&◌, [], ℕ, not, nat_lt, IfOk};
+ghost use Rattle.rvs_yaml.specs.Data as data_spec;
+ghost use Rattle.rvs_yaml.specs.Value as value_spec;
+ghost use Rattle.rvs_yaml.specs.StepParts as parts;
+ghost use Rattle.rvs_yaml.specs.Word.{written};
+ghost use Rattle.rvs_yaml.specs.Stack.{done_entries};
+ghost use Rattle.rvs_yaml.specs.Front as spec;
+ghost use Rattle.rvs_yaml.specs.Gives.{Gives};
+ghost use Rattle.rvs_yaml.specs.Sketched.{IsSketch, SketchedAs};
+ghost use Rattle.rvs_yaml.specs.TreeView.{view};
+ghost use Rattle.rvs_yaml.specs.StackView.{done_view, open_view, stack_view};
+ghost use Rattle.rvs_yaml.specs.ValueView.{value_view, values_view, key_view, entries_view, written_view};
+
+use crate::counted::Value;
+use crate::entry_list::EntryList;
+use crate::members::{DEEP, is_map_or_empty, is_mergeable};
+use crate::merged::{list_value, map_value};
+use crate::open::{Block, Done, Open};
+use crate::refusal::YamlKind;
+use crate::sketch::Sketch;
+use crate::stack::check_merge;
+use crate::tree::Tree;
+use crate::value::{plus, scalar_value, shared_value, text_nodes};
+use crate::value_list::ValueList;
+use crate::written::{Key, Written};
+use std::alloc::{AllocError, Global};
+
+/// The greatest depth that is accepted.
+const MOST_DEPTH: u64 = 32;
+
+/// The greatest number of nodes that is accepted.
+const MOST_NODES: u64 = 500_000;
+
+/// What is known of a value without looking through it.
+fn sketch_of(value: &Value) -> Sketch
+    ensures { IsSketch (value_view value.now) result }
+{
+    Sketch {
+        depth: value.depth,
+        nodes: value.nodes,
+        is_map: is_map_or_empty(&value.tree),
+        mergeable: is_mergeable(&value.tree),
+    }
+}
+
+/// What is known of an empty scalar.
+fn empty_sketch() -> Sketch
+    ensures { (line : ℕ) → IsSketch (value_spec.scalar_value [] line) result }
+{
+    Sketch {
+        depth: 1,
+        nodes: 1,
+        is_map: true,
+        mergeable: true,
+    }
+}
+
+/// What is known of the last word of a block with nothing below it.
+fn own_sketch(top: &Open<'_>) -> Sketch
+    ensures { IsSketch (spec.own_value (open_view top.now)) result }
+{
+    if top.head.sort.opens_block() {
+        empty_sketch()
+    } else {
+        sketch_of(&top.own)
+    }
+}
+
+/// Whether both are true.
+fn both(left: bool, right: bool) -> bool
+    ensures { result ≡ (left && right) }
+{
+    left && right
+}
+
+/// What is known of a list with one item more.
+fn list_sketch(list: &ValueList, last: &Sketch) -> Sketch
+    ensures { (line : ℕ) → (v : value_spec.Value) → IsSketch v last.now → IsSketch (value_spec.list_value line (values_view list.now.values.items ++ v ∷ [])) result }
+{
+    Sketch {
+        depth: (list.depth.max(last.depth) + 1).min(DEEP),
+        nodes: plus(list.nodes, last.nodes),
+        is_map: false,
+        mergeable: both(list.all_maps, last.is_map),
+    }
+}
+
+/// What is known of a map with one entry more.
+fn map_sketch(entries: &EntryList, key: &Key, last: &Sketch) -> Sketch
+    ensures { (line : ℕ) → (v : value_spec.Value) → IsSketch v last.now → IsSketch (value_spec.map_value line (entries_view entries.now.entries.items ++ written (key_view key.now) v ∷ [])) result }
+{
+    Sketch {
+        depth: (entries.depth.max(last.depth) + 1).min(DEEP),
+        nodes: plus(
+            plus(entries.nodes, text_nodes(key.name.as_str())),
+            last.nodes,
+        ),
+        is_map: true,
+        mergeable: true,
+    }
+}
+
+/// Whether the value can't be merged, where its key merges.
+fn is_bad_merge(key: &Key, last: &Sketch) -> bool
+    ensures { result ≡ (key.now.merges && not last.now.mergeable) }
+{
+    key.merges && !last.mergeable
+}
+
+/// What is known of a map with its open entry.
+fn entry_sketch(entries: &EntryList, key: &Key, last: &Sketch) -> Result<Sketch, YamlKind>
+    ensures { (line : ℕ) → (v : value_spec.Value) → IsSketch v last.now → SketchedAs result (parts.closed_value (done_entries (entries_view entries.now.entries.items) (key_view key.now)) line v) }
+{
+    if is_bad_merge(key, last) {
+        return Err(YamlKind::BadMerge);
+    }
+    Ok(map_sketch(entries, key, last))
+}
+
+/// What is known of a block with its open member.
+fn closed_sketch(block: &Block<'_>, last: Sketch) -> Result<Sketch, YamlKind>
+    ensures { (v : value_spec.Value) → IsSketch v last → SketchedAs result (parts.closed_value (done_view block.now.done) block.now.line v) }
+{
+    match &block.done {
+        Done::Items(list) => Ok(list_sketch(list, &last)),
+        Done::Entries(entries, key) => entry_sketch(entries, key, &last),
+        Done::Alone => Ok(last),
+    }
+}
+
+/// What is known of the tree of the lines so far.
+fn sketch_front(blocks: &[Open<'_>]) -> Result<Sketch, YamlKind>
+    ensures { SketchedAs result (spec.front_value (stack_view blocks.now)) }
+{
+    let Some(top) = blocks.last() else {
+        return Ok(empty_sketch());
+    };
+    let mut sketch = own_sketch(top);
+    let mut i = blocks.len();
+    while i > 0 {
+        i -= 1;
+        sketch = closed_sketch(&blocks[i].block, sketch)?;
+    }
+    Ok(sketch)
+}
+
+/// The value of the last word of a block with nothing below it.
+fn own_value(alloc: Global, top: &Open<'_>) -> Result<Value, AllocError>
+    ensures { IfOk result (λ v. value_view v ≡ spec.own_value (open_view top.now)) }
+{
+    if top.head.sort.opens_block() {
+        scalar_value(alloc, String::new(alloc), top.head.line)
+    } else {
+        shared_value(&top.own)
+    }
+}
+
+/// The same values.
+fn copied_values(alloc: Global, values: &[Value]) -> Result<ValueList, AllocError>
+    ensures { IfOk result (λ l. values_view l.values.items ≡ values_view values.now) }
+{
+    let mut list = ValueList::new(alloc);
+    for value in values {
+        list = list.with(shared_value(value)?)?;
+    }
+    Ok(list)
+}
+
+/// The same entry.
+fn copied_written(alloc: Global, written: &Written) -> Result<Written, AllocError>
+    ensures { IfOk result (λ w. written_view w ≡ written_view written.now) }
+{
+    Ok(Written {
+        key: copied_key(alloc, &written.key)?,
+        value: shared_value(&written.value)?,
+    })
+}
+
+/// The same key.
+fn copied_key(alloc: Global, key: &Key) -> Result<Key, AllocError>
+    ensures { IfOk result (λ k. key_view k ≡ key_view key.now) }
+{
+    Ok(Key {
+        name: String::from_str(alloc, key.name.as_str())?,
+        merges: key.merges,
+    })
+}
+
+/// The same entries.
+fn copied_entries(alloc: Global, entries: &[Written]) -> Result<EntryList, AllocError>
+    ensures { IfOk result (λ l. entries_view l.entries.items ≡ entries_view entries.now) }
+{
+    let mut list = EntryList::new(alloc);
+    for written in entries {
+        list = list.with(alloc, copied_written(alloc, written)?)?;
+    }
+    Ok(list)
+}
+
+/// The value of a list with one item more.
+fn longer_list(alloc: Global, line: u64, values: &[Value], last: Value) -> Result<Value, AllocError>
+    ensures { IfOk result (λ v. value_view v ≡ value_spec.list_value line (values_view values.now ++ value_view last ∷ [])) }
+{
+    let list = copied_values(alloc, values)?.with(last)?;
+    list_value(alloc, line, &list)
+}
+
+/// The value of a map with one entry more.
+fn longer_map(
+    alloc: Global,
+    line: u64,
+    entries: &[Written],
+    key: &Key,
+    value: Value,
+) -> Result<Value, AllocError>
+    ensures { IfOk result (λ v. value_view v ≡ value_spec.map_value line (entries_view entries.now ++ written (key_view key.now) (value_view value) ∷ [])) }
+{
+    let key = copied_key(alloc, key)?;
+    let list = copied_entries(alloc, entries)?.with(alloc, Written { key, value })?;
+    map_value(alloc, line, &list)
+}
+
+/// The value of a block with its open member.
+fn closed_copy(alloc: Global, block: &Block<'_>, value: Value) -> Result<Value, YamlKind>
+    ensures { Gives value_view result (parts.closed_value (done_view block.now.done) block.now.line (value_view value)) }
+{
+    match &block.done {
+        Done::Items(list) => Ok(longer_list(alloc, block.line, list.values.as_slice(), value)?),
+        Done::Entries(entries, key) => {
+            check_merge(key, &value)?;
+            Ok(longer_map(alloc, block.line, entries.entries.as_slice(), key, value)?)
+        }
+        Done::Alone => Ok(value),
+    }
+}
+
+/// The value of the lines so far.
+pub(crate) fn front_value(alloc: Global, blocks: &[Open<'_>]) -> Result<Value, YamlKind>
+    ensures { Gives value_view result (spec.front_value (stack_view blocks.now)) }
+{
+    let Some(top) = blocks.last() else {
+        return Ok(scalar_value(alloc, String::new(alloc), 1)?);
+    };
+    let mut value = own_value(alloc, top)?;
+    let mut i = blocks.len();
+    while i > 0 {
+        i -= 1;
+        value = closed_copy(alloc, &blocks[i].block, value)?;
+    }
+    Ok(value)
+}
+
+/// Whether the tree is deeper than this.
+fn is_deeper(tree: &Tree, levels: u64) -> bool
+    ensures { result ≡ nat_lt levels (data_spec.depth (view tree.now)) }
+{
+    if levels == 0 {
+        return true;
+    }
+    if tree.is_scalar() {
+        return false;
+    }
+    for i in 0..tree.len() {
+        if is_deeper(tree.item(i), levels - 1) {
+            return true;
+        }
+    }
+    false
+}
+
+/// Whether the tree of the lines so far keeps the limits.
+pub(crate) fn check_front(alloc: Global, blocks: &[Open<'_>]) -> Result<(), YamlKind>
+    ensures { Gives (λ u. u) result (spec.checked_front (stack_view blocks.now)) }
+{
+    let sketch = sketch_front(blocks)?;
+    if sketch.depth > MOST_DEPTH {
+        let value = front_value(alloc, blocks)?;
+        if is_deeper(&value.tree, MOST_DEPTH) {
+            return Err(YamlKind::TooDeep);
+        }
+    }
+    if sketch.nodes > MOST_NODES {
+        Err(YamlKind::TooManyNodes)
+    } else {
+        Ok(())
+    }
+}

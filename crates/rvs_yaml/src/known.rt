@@ -1,0 +1,69 @@
+// The anchors that are known at a place.
+ghost use Rattle.std.specs.Prelude.{◌≡◌, ◌++◌, option_map};
+ghost use Rattle.rvs_yaml.specs.Word as spec;
+ghost use Rattle.rvs_yaml.specs.Stack as stack_spec;
+ghost use Rattle.rvs_yaml.specs.Gives.{Gives};
+ghost use Rattle.rvs_yaml.specs.StackView.{anchors_view, stack_view, known_view};
+ghost use Rattle.rvs_yaml.specs.ValueView.{value_view};
+
+use crate::counted::Value;
+use crate::open::{Anchor, Open};
+use crate::refusal::YamlKind;
+use crate::value::shared_value;
+
+/// The anchors in the complete members of a block, and the blocks around it.
+#[derive(Clone, Copy)]
+pub(crate) struct Known<'a, 'b> {
+    pub latest: &'b [Anchor<'a>],
+    pub blocks: &'b [Open<'a>],
+}
+
+/// The value of the latest of these anchors with this name.
+fn find_anchor<'b>(name: &str, anchors: &'b [Anchor<'_>]) -> Option<&'b Value>
+    ensures { option_map (λ v. value_view v.now) result ≡ spec.lookup name.now (anchors_view anchors.now) }
+{
+    let mut i = anchors.len();
+    while i > 0 {
+        i -= 1;
+        if anchors[i].name == name {
+            return Some(&anchors[i].value);
+        }
+    }
+    None
+}
+
+/// The value of the latest anchor with this name in these blocks.
+fn find_in_blocks<'b>(name: &str, blocks: &'b [Open<'_>]) -> Option<&'b Value>
+    ensures { option_map (λ v. value_view v.now) result ≡ spec.lookup name.now (stack_spec.known_of (stack_view blocks.now)) }
+{
+    let mut i = blocks.len();
+    while i > 0 {
+        i -= 1;
+        if let Some(value) = find_anchor(name, blocks[i].block.anchors.as_slice()) {
+            return Some(value);
+        }
+    }
+    None
+}
+
+impl<'a, 'b> Known<'a, 'b> {
+    /// The value of the latest anchor with this name.
+    fn find(&self, name: &str) -> Option<&'b Value>
+        ensures { option_map (λ v. value_view v.now) result ≡ spec.lookup name.now (known_view self.now) }
+    {
+        if let Some(value) = find_anchor(name, self.latest) {
+            return Some(value);
+        }
+        find_in_blocks(name, self.blocks)
+    }
+
+    /// What an alias with this name stands for.
+    pub(crate) fn alias_value(&self, name: &str) -> Result<Value, YamlKind>
+        ensures { Gives value_view result (spec.known_alias (spec.lookup name.now (known_view self.now))) }
+    {
+        match self.find(name) {
+            Some(value) => Ok(shared_value(value)?),
+            None => Err(YamlKind::UnknownAlias),
+        }
+    }
+}

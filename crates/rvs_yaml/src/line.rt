@@ -1,0 +1,184 @@
+// The words of a line.
+ghost use Rattle.std.specs.Prelude.{◌≡◌, ◌<◌, false, length, option_map, IfOk, IfSome};
+ghost use Rattle.rvs_yaml.specs.Text as text_spec;
+ghost use Rattle.rvs_yaml.specs.Stack as stack_spec;
+ghost use Rattle.rvs_yaml.specs.LineParts as parts;
+ghost use Rattle.rvs_yaml.specs.Gives.{Gives};
+ghost use Rattle.rvs_yaml.specs.StackView.{stack_view};
+ghost use Rattle.rvs_yaml.specs.Word as word_spec;
+ghost use Rattle.rvs_yaml.specs.WordView.{word_view, shape_view};
+
+use crate::content::{anchored_item, item_name, shape_of};
+use crate::open::Open;
+use crate::quoted::behind_first;
+use crate::refusal::YamlKind;
+use crate::scan::{ends_mark, is_blank, only_comment, starts_with, without_spaces};
+use crate::stack::step;
+use crate::word::{Shape, Word};
+use std::alloc::{AllocError, Global};
+
+/// The text behind the dash of an item, where one comes next.
+fn behind_dash(text: &str) -> Option<&str>
+    ensures split { option_map (λ t. t.now) result ≡ parts.behind_dash text.now }
+    ensures shorter { IfSome result (λ t. length t.now < length text.now) }
+{
+    if !starts_with(b'-', text.as_bytes()) {
+        return None;
+    }
+    let behind = behind_first(text);
+    if ends_mark(behind.as_bytes()) {
+        Some(behind)
+    } else {
+        None
+    }
+}
+
+/// The last word of a line, which stands at this column, if there is more than a comment. `item` says
+/// whether a dash stands before it.
+fn last_word<'a>(
+    alloc: Global,
+    line: u64,
+    column: usize,
+    item: bool,
+    text: &'a str,
+) -> Result<Option<Word<'a>>, AllocError>
+    ensures { IfOk result (λ o. parts.words_in (option_map word_view o) ≡ parts.rest_words line item column text.now) }
+{
+    if item && starts_with(b'&', text.as_bytes()) {
+        let shape = anchored_item(alloc, behind_first(text))?;
+        return Ok(word_with(line, column, shape));
+    }
+    plain_word(alloc, line, column, text)
+}
+
+/// A word with this shape, where there is one.
+fn word_with<'a>(line: u64, column: usize, shape: Option<Shape<'a>>) -> Option<Word<'a>>
+    ensures { parts.words_in (option_map word_view result) ≡ text_spec.word_of line column (option_map shape_view shape.entry) }
+{
+    let shape = shape?;
+    Some(Word {
+        line,
+        column,
+        shape,
+    })
+}
+
+/// The last word of a line, where no anchor stands before it.
+fn plain_word<'a>(
+    alloc: Global,
+    line: u64,
+    column: usize,
+    text: &'a str,
+) -> Result<Option<Word<'a>>, AllocError>
+    ensures { IfOk result (λ o. parts.words_in (option_map word_view o) ≡ text_spec.last_words line column text.now) }
+{
+    if is_blank(true, text.as_bytes()) {
+        return Ok(None);
+    }
+    if starts_with(b'\t', text.as_bytes()) {
+        return Ok(Some(refused(line, YamlKind::TabIndent)));
+    }
+    let shape = shape_of(alloc, text)?;
+    Ok(Some(Word {
+        line,
+        column,
+        shape,
+    }))
+}
+
+/// A line that is refused wherever it stands.
+fn refused<'a>(line: u64, kind: YamlKind) -> Word<'a>
+    ensures { word_view result ≡ text_spec.word_at line 0 (word_spec.refused kind) }
+{
+    Word {
+        line,
+        column: 0,
+        shape: Shape::Refused(kind),
+    }
+}
+
+/// Reads the last word of a line, if there is more than a comment.
+fn read_last<'a>(
+    alloc: Global,
+    blocks: &mut Vec<Open<'a>>,
+    line: u64,
+    column: usize,
+    item: bool,
+    text: &'a str,
+) -> Result<(), YamlKind>
+    ensures { Gives (λ u. stack_view blocks.new.items) result (stack_spec.steps (stack_view blocks.old.items) (parts.rest_words line item column text.now)) }
+{
+    let Some(word) = last_word(alloc, line, column, item, text)? else {
+        return Ok(());
+    };
+    step(alloc, blocks, word)
+}
+
+/// A dash of an item, behind which this stands.
+fn dash<'a>(line: u64, column: usize, behind: &'a str) -> Word<'a>
+    ensures { word_view result ≡ text_spec.word_at line column (word_spec.dash (text_spec.item_name behind.now)) }
+{
+    Word {
+        line,
+        column,
+        shape: Shape::Dash(item_name(behind)),
+    }
+}
+
+/// Reads the words of a line.
+fn read_words<'a>(
+    alloc: Global,
+    blocks: &mut Vec<Open<'a>>,
+    line: u64,
+    text: &'a str,
+) -> Result<(), YamlKind>
+    ensures { Gives (λ u. stack_view blocks.new.items) result (stack_spec.steps (stack_view blocks.old.items) (text_spec.words_at line false 0 text.now)) }
+{
+    let mut rest = without_spaces(text);
+    let mut item = false;
+    while let Some(behind) = behind_dash(rest) {
+        step(alloc, blocks, dash(line, text.len() - rest.len(), behind))?;
+        rest = without_spaces(behind);
+        item = true;
+    }
+    read_last(alloc, blocks, line, text.len() - rest.len(), item, rest)
+}
+
+/// Whether the line is three of these bytes, with at most a comment behind them.
+fn is_mark(mark: u8, line: &[u8]) -> bool
+    ensures { result ≡ text_spec.is_mark mark line.now }
+{
+    match line {
+        [first, second, third, behind @ ..] => *first == mark
+            && *second == mark
+            && *third == mark
+            && only_comment(behind),
+        _ => false,
+    }
+}
+
+/// Reads a line. `started` says whether a line before it isn't blank.
+pub(crate) fn read_line<'a>(
+    alloc: Global,
+    blocks: &mut Vec<Open<'a>>,
+    line: u64,
+    started: bool,
+    bytes: &'a [u8],
+) -> Result<(), YamlKind>
+    ensures { Gives (λ u. stack_view blocks.new.items) result (stack_spec.steps (stack_view blocks.old.items) (text_spec.line_words line started bytes.now)) }
+{
+    let Ok(text) = str::from_utf8(bytes) else {
+        return step(alloc, blocks, refused(line, YamlKind::NotUtf8));
+    };
+    if is_mark(b'-', bytes) {
+        return if started {
+            step(alloc, blocks, refused(line, YamlKind::Unsupported))
+        } else {
+            Ok(())
+        };
+    }
+    if is_mark(b'.', bytes) {
+        return step(alloc, blocks, refused(line, YamlKind::Unsupported));
+    }
+    read_words(alloc, blocks, line, text)
+}

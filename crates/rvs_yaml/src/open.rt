@@ -1,0 +1,46 @@
+// Blocks that aren't complete.
+use crate::counted::Value;
+use crate::entry_list::EntryList;
+use crate::value_list::ValueList;
+use crate::word::Head;
+use crate::written::Key;
+
+/// An anchor's name, and the value of its node.
+#[derive(Drop)]
+pub(crate) struct Anchor<'a> {
+    pub name: &'a str,
+    pub value: Value,
+}
+
+/// The members that a block has so far, without its open one: the items of a list, the entries of a
+/// map with the key of the open one, or nothing beside the leaf itself.
+#[derive(Drop)]
+pub(crate) enum Done {
+    Items(ValueList),
+    Entries(EntryList, Key),
+    Alone,
+}
+
+/// A value, and the anchors in it, the earliest first.
+#[derive(Drop)]
+pub(crate) struct Found<'a> {
+    pub value: Value,
+    pub anchors: Vec<Anchor<'a>>,
+}
+
+/// What a block has so far: its first line and its column, its members, and the anchors in them.
+#[derive(Drop)]
+pub(crate) struct Block<'a> {
+    pub line: u64,
+    pub column: usize,
+    pub done: Done,
+    pub anchors: Vec<Anchor<'a>>,
+}
+
+/// A block that isn't complete, its last word, and what that word is by itself.
+#[derive(Drop)]
+pub(crate) struct Open<'a> {
+    pub block: Block<'a>,
+    pub head: Head<'a>,
+    pub own: Value,
+}

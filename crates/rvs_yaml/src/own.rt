@@ -1,0 +1,47 @@
+// What a word is by itself.
+ghost use Rattle.std.specs.Prelude.{◌≡◌};
+ghost use Rattle.rvs_yaml.specs.Block as block_spec;
+ghost use Rattle.rvs_yaml.specs.Flow as flow_spec;
+ghost use Rattle.rvs_yaml.specs.Marks.{marks_of};
+ghost use Rattle.rvs_yaml.specs.Gives.{Gives};
+ghost use Rattle.rvs_yaml.specs.StackView.{known_view};
+ghost use Rattle.rvs_yaml.specs.ValueView.{value_view};
+ghost use Rattle.rvs_yaml.specs.WordView.{content_view, bracket_view};
+
+use crate::counted::Value;
+use crate::flow_text::flow_value;
+use crate::known::Known;
+use crate::refusal::YamlKind;
+use crate::value::scalar_value;
+use crate::word::Content;
+use std::alloc::Global;
+
+/// What an alias stands for, where at most a comment is behind it.
+fn alias_content_value(known: &Known<'_, '_>, name: &str, ended: bool) -> Result<Value, YamlKind>
+    ensures { Gives value_view result (block_spec.alias_value (known_view known.now) name.now ended) }
+{
+    let value = known.alias_value(name)?;
+    if ended {
+        Ok(value)
+    } else {
+        Err(YamlKind::BadScalar)
+    }
+}
+
+/// The value of what stands on a line, where these anchors are known.
+pub(crate) fn content_value<'a>(
+    alloc: Global,
+    known: &Known<'a, '_>,
+    line: u64,
+    content: Content<'a>,
+) -> Result<Value, YamlKind>
+    ensures { Gives value_view result (block_spec.content_value (known_view known.now) line (content_view content.entry)) }
+{
+    match content {
+        Content::Nothing => Ok(scalar_value(alloc, String::new(alloc), line)?),
+        Content::Text(text) => Ok(scalar_value(alloc, text, line)?),
+        Content::Alias(name, ended) => alias_content_value(known, name, ended),
+        Content::Flow(bracket, text) => flow_value(alloc, known, line, bracket, text),
+        Content::Faulty(kind) => Err(kind),
+    }
+}

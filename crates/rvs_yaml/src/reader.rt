@@ -1,0 +1,144 @@
+// Reading a text line by line.
+ghost use Rattle.std.specs.Prelude.{◌≡◌, ◌<◌, ◌∷◌, ◌||◌, ◌&&◌, not, true, Ok, Err, length, option_map, IfOk, IfErr, IfSome};
+ghost use Rattle.rvs_yaml.specs.Answer.{Answer, answer, AnswersAreLeast};
+ghost use Rattle.rvs_yaml.specs.Front as front_spec;
+ghost use Rattle.rvs_yaml.specs.Reader as spec;
+ghost use Rattle.rvs_yaml.specs.Scalar as scalar_spec;
+ghost use Rattle.rvs_yaml.specs.Text as text_spec;
+ghost use Rattle.std.specs.Str.{is_utf8};
+ghost use Rattle.rvs_yaml.specs.declared.refusal.YamlKind.TheVariants.{NoMemory};
+ghost use Rattle.rvs_yaml.specs.Gives.{Gives};
+ghost use Rattle.rvs_yaml.specs.StackView.{stack_view};
+ghost use Rattle.rvs_yaml.specs.TreeView.{view};
+
+use crate::front::{check_front, front_value};
+use crate::line::read_line;
+use crate::open::Open;
+use crate::refusal::{YamlKind, YamlRefusal};
+use crate::scan::is_blank;
+use crate::tree::Tree;
+use std::alloc::Global;
+use std::rc::Rc;
+
+/// The first line, and the text behind its line feed, where there is one.
+fn first_line(text: &[u8]) -> (&[u8], Option<&[u8]>)
+    ensures cut { text_spec.cut text.now ≡ result.0.now ∷ text_spec.cut_behind (option_map (λ r. r.now) result.1) }
+    ensures shorter { IfSome result.1 (λ r. length r.now < length text.now) }
+{
+    for (i, byte) in text.iter().enumerate() {
+        if *byte == b'\n' {
+            return (&text[..i], Some(&text[i + 1..]));
+        }
+    }
+    (text, None)
+}
+
+/// The line without a carriage return at its end.
+fn without_return(line: &[u8]) -> &[u8]
+    ensures { result.now ≡ text_spec.without_return line.now }
+{
+    match line {
+        [front @ .., b'\r'] => front,
+        _ => line,
+    }
+}
+
+/// Whether the line is blank and UTF-8. Such a line changes nothing.
+fn is_blank_text(bytes: &[u8]) -> bool
+    ensures { result ≡ (scalar_spec.is_blank true bytes.now && is_utf8 bytes.now) }
+{
+    is_blank(true, bytes) && is_text(bytes)
+}
+
+/// Whether the bytes are UTF-8.
+fn is_text(bytes: &[u8]) -> bool
+    ensures { result ≡ is_utf8 bytes.now }
+{
+    match str::from_utf8(bytes) {
+        Ok(_) => true,
+        Err(_) => false,
+    }
+}
+
+/// Reads a line, and checks the limits on the tree of the lines so far.
+fn read_checked_line<'a>(
+    alloc: Global,
+    blocks: &mut Vec<Open<'a>>,
+    line: u64,
+    started: bool,
+    bytes: &'a [u8],
+) -> Result<(), YamlKind>
+    requires { front_spec.checked_front (stack_view blocks.old.items) ≡ Ok tt }
+    ensures { Gives (λ u. stack_view blocks.new.items) result (spec.checked_line (stack_view blocks.old.items) line started bytes.now) }
+{
+    read_line(alloc, blocks, line, started, bytes)?;
+    if is_blank_text(bytes) {
+        return Ok(());
+    }
+    check_front(alloc, blocks.as_slice())
+}
+
+/// The refusal of a line.
+fn refusal(line: u64, kind: YamlKind) -> YamlRefusal
+    ensures kind { result.kind ≡ kind }
+    ensures line { (a : Answer) → (a ≡ Err (line, kind)) → spec.Refuses kind result.line a }
+    ensures memory { kind ≡ NoMemory → result.line ≡ 0 }
+{
+    match kind {
+        YamlKind::NoMemory => YamlRefusal { line: 0, kind },
+        _ => YamlRefusal { line, kind },
+    }
+}
+
+/// The tree of a text: block lists and maps, flow collections, scalars, with aliases and merges
+/// resolved. It takes memory for the tree and the open blocks, a small multiple of the text.
+///
+/// # Errors
+///
+/// The first line at which the lines so far have no tree, with the kind of the first check that fails
+/// there; line 0 for want of memory.
+pub fn parse(alloc: Global, bytes: &[u8]) -> Result<Tree, YamlRefusal>
+    ensures tree { IfOk result (λ t. answer bytes.now ≡ Ok (view t)) }
+    ensures refused { IfErr result (λ e. spec.Refuses e.kind e.line (answer bytes.now)) }
+{
+    let mut blocks = Vec::new(alloc);
+    let mut number: u64 = 0;
+    let mut started = false;
+    let mut rest = Some(bytes);
+    while let Some(text) = rest {
+        let (raw, behind) = first_line(text);
+        let line = without_return(raw);
+        number += 1;
+        if let Err(kind) = read_checked_line(alloc, &mut blocks, number, started, line) {
+            return Err(refusal(number, kind));
+        }
+        started = started_by(started, line);
+        rest = behind;
+    }
+    match whole_tree(alloc, blocks) {
+        Ok(tree) => Ok(tree),
+        Err(kind) => Err(refusal(number, kind)),
+    }
+}
+
+/// Whether this line or one before it isn't blank.
+fn started_by(started: bool, line: &[u8]) -> bool
+    ensures { result ≡ (started || not (scalar_spec.is_blank true line.now)) }
+{
+    started || !is_blank(true, line)
+}
+
+/// The tree of all lines.
+fn whole_tree(alloc: Global, blocks: Vec<Open<'_>>) -> Result<Tree, YamlKind>
+    ensures { Gives view result (spec.whole (stack_view blocks.entry.items)) }
+{
+    let value = front_value(alloc, blocks.as_slice())?;
+    drop(blocks);
+    // Nothing else holds the root now.
+    Rc::into_inner(value.tree).ok_or(YamlKind::NoMemory)
+}
+
+/// A text is refused at the least front of its lines that has no tree, and has one where there is none.
+pub fn refusals_are_least()
+    ensures { AnswersAreLeast }
+{}

@@ -1,0 +1,391 @@
+// Reading words with a stack of open blocks.
+ghost use Rattle.std.specs.Prelude.{◌≡◌, ◌++◌, IfOk};
+ghost use Rattle.rvs_yaml.specs.Block as block_spec;
+ghost use Rattle.rvs_yaml.specs.Stack as spec;
+ghost use Rattle.rvs_yaml.specs.Value as value_spec;
+ghost use Rattle.rvs_yaml.specs.StepParts as parts;
+ghost use Rattle.rvs_yaml.specs.Gives.{Gives};
+ghost use Rattle.rvs_yaml.specs.StackView.{anchors_view, done_view, found_view, block_view, stack_view};
+ghost use Rattle.rvs_yaml.specs.StepView.{done_content, key_content};
+ghost use Rattle.rvs_yaml.specs.ValueView.{value_view, values_view, key_view, entries_view};
+ghost use Rattle.rvs_yaml.specs.WordView.{content_view, shape_view, word_view, head_view, name_view};
+
+use crate::counted::Value;
+use crate::entry_list::EntryList;
+use crate::known::Known;
+use crate::members::is_mergeable;
+use crate::merged::{list_value, map_value};
+use crate::open::{Anchor, Block, Done, Found, Open};
+use crate::own::content_value;
+use crate::refusal::YamlKind;
+use crate::value::{scalar_value, shared_value};
+use crate::value_list::ValueList;
+use crate::word::{Content, Head, Shape, Word, is_below};
+use crate::written::{Key, Written};
+use std::alloc::{AllocError, Global};
+
+/// Why a word that has no place is refused.
+fn no_place(shape: &Shape<'_>) -> YamlKind
+    ensures { result ≡ block_spec.no_place (shape_view shape.now) }
+{
+    match shape {
+        Shape::Refused(kind) => *kind,
+        _ => YamlKind::BadIndent,
+    }
+}
+
+/// Whether the value can be merged, where its key merges.
+pub(crate) fn check_merge(key: &Key, value: &Value) -> Result<(), YamlKind>
+    ensures { Gives (λ u. u) result (block_spec.check_merge (key_view key.now) (value_view value.now)) }
+{
+    if key.merges && !is_mergeable(&value.tree) {
+        Err(YamlKind::BadMerge)
+    } else {
+        Ok(())
+    }
+}
+
+/// Whether the word is an item of the list at this column.
+fn item_at(column: usize, word: &Word<'_>) -> Result<(), YamlKind>
+    ensures { Gives (λ u. u) result (block_spec.item_at column (word_view word.now)) }
+{
+    if word.sort().is_dash() && word.column == column {
+        Ok(())
+    } else {
+        Err(no_place(&word.shape))
+    }
+}
+
+/// Whether the key is new in the map, or merges.
+fn check_new(entries: &EntryList, key: &Key) -> Result<(), YamlKind>
+    ensures { Gives (λ u. u) result (parts.check_new (value_spec.explicit_keys (entries_view entries.now.entries.items)) (key_view key.now)) }
+{
+    if key.merges {
+        return Ok(());
+    }
+    if entries.has_key(key.name.as_str()) {
+        Err(YamlKind::DuplicateKey)
+    } else {
+        Ok(())
+    }
+}
+
+/// The key of a word that is an entry of the map at this column, and what is behind it.
+fn key_at<'a>(
+    column: usize,
+    entries: &EntryList,
+    word: Word<'a>,
+) -> Result<(Key, Content<'a>), YamlKind>
+    ensures { Gives key_content result (parts.keyed_content column (value_spec.explicit_keys (entries_view entries.now.entries.items)) (word_view word.entry)) }
+{
+    let Word {
+        line: _,
+        column: at,
+        shape,
+    } = word;
+    match shape {
+        Shape::Key(key, _, content) => {
+            if at != column {
+                return Err(YamlKind::BadIndent);
+            }
+            check_new(entries, &key)?;
+            Ok((key, content))
+        }
+        Shape::Refused(kind) => Err(kind),
+        _ => Err(YamlKind::BadIndent),
+    }
+}
+
+/// The members of a map with the value of the open one, and the word that is the next.
+fn next_entry<'a>(
+    alloc: Global,
+    entries: EntryList,
+    key: Key,
+    column: usize,
+    value: Value,
+    word: Word<'a>,
+) -> Result<(Done, Content<'a>), YamlKind>
+    ensures { Gives done_content result (parts.next_entry (entries_view entries.entries.items) (key_view key) column (value_view value) (word_view word.entry)) }
+{
+    check_merge(&key, &value)?;
+    let entries = entries.with(alloc, Written { key, value })?;
+    let (key, content) = key_at(column, &entries, word)?;
+    Ok((Done::Entries(entries, key), content))
+}
+
+/// The members of a list with the value of the open one, and the word that is the next.
+fn next_item<'a>(
+    items: ValueList,
+    column: usize,
+    value: Value,
+    word: &Word<'a>,
+) -> Result<(Done, Content<'a>), YamlKind>
+    ensures { Gives done_content result (parts.next_item (values_view items.values.items) column (value_view value) (word_view word.now)) }
+{
+    item_at(column, word)?;
+    let items = items.with(value)?;
+    Ok((Done::Items(items), Content::Nothing))
+}
+
+/// The members of a block with the value of the open one, and the word that is the next.
+fn advanced<'a>(
+    alloc: Global,
+    done: Done,
+    column: usize,
+    value: Value,
+    word: Word<'a>,
+) -> Result<(Done, Content<'a>), YamlKind>
+    ensures { Gives done_content result (parts.advanced_content (done_view done) column (value_view value) (word_view word.entry)) }
+{
+    match done {
+        Done::Items(items) => next_item(items, column, value, &word),
+        Done::Entries(entries, key) => next_entry(alloc, entries, key, column, value, word),
+        Done::Alone => Err(no_place(&word.shape)),
+    }
+}
+
+/// What a block is that begins with such a word, and what is behind that.
+fn begun<'a>(alloc: Global, shape: Shape<'a>) -> (Done, Content<'a>)
+    ensures { done_content result ≡ (spec.begun_done (shape_view shape.entry), parts.own_content (shape_view shape.entry)) }
+{
+    match shape {
+        Shape::Dash(_) => (Done::Items(ValueList::new(alloc)), Content::Nothing),
+        Shape::Key(key, _, content) => (Done::Entries(EntryList::new(alloc), key), content),
+        Shape::Leaf(content) => (Done::Alone, content),
+        Shape::Refused(kind) => (Done::Alone, Content::Faulty(kind)),
+    }
+}
+
+/// Opens a block whose last word has this behind it.
+fn put<'a>(
+    alloc: Global,
+    blocks: &mut Vec<Open<'a>>,
+    block: Block<'a>,
+    head: Head<'a>,
+    content: Content<'a>,
+) -> Result<(), YamlKind>
+    ensures { Gives (λ u. stack_view blocks.new.items) result (parts.put_content (block_view block.entry) (stack_view blocks.old.items) (head_view head.entry) (content_view content.entry)) }
+{
+    let own = own_of(alloc, blocks.as_slice(), &block, head.line, content)?;
+    blocks.push(Open { block, head, own })?;
+    Ok(())
+}
+
+/// What the last word of a block is by itself.
+fn own_of<'a>(
+    alloc: Global,
+    blocks: &[Open<'a>],
+    block: &Block<'a>,
+    line: u64,
+    content: Content<'a>,
+) -> Result<Value, YamlKind>
+    ensures { Gives value_view result (block_spec.content_value (anchors_view block.now.anchors.items ++ spec.known_of (stack_view blocks.now)) line (content_view content.entry)) }
+{
+    let known = Known {
+        latest: block.anchors.as_slice(),
+        blocks,
+    };
+    content_value(alloc, &known, line, content)
+}
+
+/// Opens the block that begins with a word.
+fn begin<'a>(alloc: Global, blocks: &mut Vec<Open<'a>>, word: Word<'a>) -> Result<(), YamlKind>
+    ensures { Gives (λ u. stack_view blocks.new.items) result (spec.begins (stack_view blocks.old.items) (word_view word.entry)) }
+{
+    let head = word.head();
+    let (done, content) = begun(alloc, word.shape);
+    let block = Block {
+        line: head.line,
+        column: head.column,
+        done,
+        anchors: Vec::new(alloc),
+    };
+    put(alloc, blocks, block, head, content)
+}
+
+/// Goes on with a block whose open member is complete.
+fn advance<'a>(
+    alloc: Global,
+    blocks: &mut Vec<Open<'a>>,
+    block: Block<'a>,
+    found: Found<'a>,
+    word: Word<'a>,
+) -> Result<(), YamlKind>
+    ensures { Gives (λ u. stack_view blocks.new.items) result (spec.advanced (parts.bare (block_view block.entry)) (found_view found.entry) (stack_view blocks.old.items) (word_view word.entry)) }
+{
+    let head = word.head();
+    let Block {
+        line,
+        column,
+        done,
+        anchors,
+    } = block;
+    let Found {
+        value,
+        anchors: inner,
+    } = found;
+    let anchors = joined(anchors, inner)?;
+    let (done, content) = advanced(alloc, done, column, value, word)?;
+    put(
+        alloc,
+        blocks,
+        Block {
+            line,
+            column,
+            done,
+            anchors,
+        },
+        head,
+        content,
+    )
+}
+
+/// The anchors of both, one after another.
+fn joined<'a>(
+    mut first: Vec<Anchor<'a>>,
+    mut second: Vec<Anchor<'a>>,
+) -> Result<Vec<Anchor<'a>>, AllocError>
+    ensures { IfOk result (λ v. anchors_view v.items ≡ anchors_view second.entry.items ++ anchors_view first.entry.items) }
+{
+    first.append(&mut second)?;
+    Ok(first)
+}
+
+/// What is found, with the anchor that names it.
+fn named<'a>(
+    alloc: Global,
+    name: Option<&'a str>,
+    found: Found<'a>,
+) -> Result<Found<'a>, AllocError>
+    ensures { IfOk result (λ g. found_view g ≡ block_spec.named (name_view name.entry) (found_view found.entry)) }
+{
+    let Some(name) = name else {
+        return Ok(found);
+    };
+    let Found { value, anchors } = found;
+    let mut all = Vec::new(alloc);
+    all.push(Anchor {
+        name,
+        value: shared_value(&value)?,
+    })?;
+    let anchors = joined(all, anchors)?;
+    Ok(Found { value, anchors })
+}
+
+/// What the last word of a block is with nothing below it.
+fn own_found<'a>(alloc: Global, head: Head<'a>, own: Value) -> Result<Found<'a>, AllocError>
+    ensures { IfOk result (λ g. found_view g ≡ parts.own_of (head_view head.entry) (value_view own)) }
+{
+    let value = if head.sort.opens_block() {
+        scalar_value(alloc, String::new(alloc), head.line)?
+    } else {
+        own
+    };
+    let found = Found {
+        value,
+        anchors: Vec::new(alloc),
+    };
+    named(alloc, head.anchor, found)
+}
+
+/// The value of a block with the value of its open member.
+fn closed_value(alloc: Global, line: u64, done: Done, value: Value) -> Result<Value, YamlKind>
+    ensures { Gives value_view result (parts.closed_value (done_view done) line (value_view value)) }
+{
+    match done {
+        Done::Items(items) => {
+            let items = items.with(value)?;
+            Ok(list_value(alloc, line, &items)?)
+        }
+        Done::Entries(entries, key) => {
+            check_merge(&key, &value)?;
+            let entries = entries.with(alloc, Written { key, value })?;
+            Ok(map_value(alloc, line, &entries)?)
+        }
+        Done::Alone => Ok(value),
+    }
+}
+
+/// A block that is complete with the value of its open member.
+fn closed<'a>(alloc: Global, block: Block<'a>, found: Found<'a>) -> Result<Found<'a>, YamlKind>
+    ensures { Gives found_view result (spec.closed (parts.bare (block_view block.entry)) (found_view found.entry)) }
+{
+    let Block {
+        line,
+        column: _,
+        done,
+        anchors,
+    } = block;
+    if matches!(done, Done::Alone) {
+        return Ok(found);
+    }
+    let Found {
+        value,
+        anchors: inner,
+    } = found;
+    let value = closed_value(alloc, line, done, value)?;
+    let anchors = joined(anchors, inner)?;
+    Ok(Found { value, anchors })
+}
+
+/// A block that is complete, as the value of a word with this anchor.
+fn closed_into<'a>(
+    alloc: Global,
+    block: Block<'a>,
+    found: Found<'a>,
+    name: Option<&'a str>,
+) -> Result<Found<'a>, YamlKind>
+    ensures { Gives found_view result (spec.closed_into (parts.bare (block_view block.entry)) (found_view found.entry) (name_view name.entry)) }
+{
+    let found = closed(alloc, block, found)?;
+    Ok(named(alloc, name, found)?)
+}
+
+/// Closes the blocks that the word isn't in, and goes on with the one that it is in.
+fn settle<'a>(
+    alloc: Global,
+    blocks: &mut Vec<Open<'a>>,
+    mut block: Block<'a>,
+    mut found: Found<'a>,
+    word: Word<'a>,
+) -> Result<(), YamlKind>
+    ensures { Gives (λ u. stack_view blocks.new.items) result (spec.settled (found_view found.entry) (parts.bare (block_view block.entry)) (stack_view blocks.old.items) (word_view word.entry)) }
+{
+    while let Some(outer) = blocks.pop() {
+        if is_below(&outer.head, &word) {
+            blocks.push(outer)?;
+            return advance(alloc, blocks, block, found, word);
+        }
+        let Open {
+            block: around,
+            head,
+            own: _,
+        } = outer;
+        found = closed_into(alloc, block, found, head.anchor)?;
+        block = around;
+    }
+    advance(alloc, blocks, block, found, word)
+}
+
+/// Reads a word.
+pub(crate) fn step<'a>(
+    alloc: Global,
+    blocks: &mut Vec<Open<'a>>,
+    word: Word<'a>,
+) -> Result<(), YamlKind>
+    ensures { Gives (λ u. stack_view blocks.new.items) result (spec.step (stack_view blocks.old.items) (word_view word.entry)) }
+{
+    let Some(top) = blocks.pop() else {
+        return begin(alloc, blocks, word);
+    };
+    if is_below(&top.head, &word) {
+        if !top.head.sort.opens_block() {
+            return Err(YamlKind::Unsupported);
+        }
+        blocks.push(top)?;
+        return begin(alloc, blocks, word);
+    }
+    let Open { block, head, own } = top;
+    let found = own_found(alloc, head, own)?;
+    settle(alloc, blocks, block, found, word)
+}
