@@ -1,0 +1,10 @@
+pub mod Check
+pub mod Entries
+pub mod IsaText
+pub mod Misa
+pub mod Names
+pub mod Number
+pub mod Refusal
+pub mod Unread
+pub mod Print
+pub mod Laws

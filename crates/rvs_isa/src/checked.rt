@@ -1,0 +1,12 @@
+// What an accepted ISA specification says.
+use rvs_base::{Items, Text};
+use rvs_insn::IsaSpec;
+
+/// An accepted ISA specification.
+#[derive(Debug, Drop)]
+pub struct Checked {
+    /// What the core has.
+    pub spec: IsaSpec,
+    /// The paths of the entries that no check reads, in the file's order.
+    pub unread: Items<Text>,
+}

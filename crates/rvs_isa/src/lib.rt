@@ -1,0 +1,22 @@
+//! Checks a riscv-config ISA specification, and prints what it says of the core.
+#![tactic(auto)]
+
+mod checked;
+mod checks;
+mod entry;
+mod isa_text;
+mod laws;
+mod misa;
+mod number;
+mod print;
+mod refusal;
+#[cfg(test)]
+mod tests;
+mod unread;
+mod value;
+
+pub use checked::Checked;
+pub use checks::check;
+pub use laws::{canonical_texts_are_accepted, isa_texts_are_read_as_spelled};
+pub use print::{print_checked, refusal_text};
+pub use refusal::{IsaKind, IsaRefusal};

@@ -1,0 +1,79 @@
+// The texts of an accepted specification and of a refusal.
+ghost use Rattle.std.specs.Prelude.{◌≡◌, ◌++◌, IfOk, OnOk};
+ghost use Rattle.rvs_isa.specs.Print.{checked_text, core_lines, refusal_text, unread_line, word_text, words_text};
+
+use crate::checked::Checked;
+use crate::misa::misa_word;
+use crate::refusal::{IsaKind, IsaRefusal};
+use rvs_base::{NoMemory, Text, hex_text};
+use rvs_insn::{IsaSpec, isa_text};
+use std::alloc::Global;
+
+/// What the core has, line by line, and a line for each entry that no check reads.
+///
+/// # Errors
+///
+/// [`NoMemory`].
+pub fn print_checked(alloc: Global, c: &Checked) -> Result<Text, NoMemory>
+    ensures { IfOk result (λ text. text ≡ checked_text c.now) }
+{
+    let mut text = core_lines(alloc, &c.spec)?;
+    for path in c.unread.as_slice() {
+        push_unread_line(&mut text, path.as_str())?;
+    }
+    Ok(text)
+}
+
+fn push_unread_line(text: &mut Text, path: &str) -> Result<(), NoMemory>
+    ensures { OnOk result (text.new ≡ text.old ++ unread_line path.now) }
+{
+    text.push_str("unread ")?;
+    text.push_str(path)?;
+    text.push_str("\n")
+}
+
+fn core_lines(alloc: Global, spec: &IsaSpec) -> Result<Text, NoMemory>
+    ensures { IfOk result (λ text. text ≡ core_lines spec.now) }
+{
+    let isa = isa_text(alloc, spec)?;
+    let misaligned = spec.misaligned;
+    let bits = spec.address_bits;
+    let misa = word_text(alloc, misa_word(spec))?;
+    let lines = format!(in alloc;
+        "isa {isa}\nmisaligned {misaligned}\naddress_bits {bits}\nmisa {misa}\n"
+    )?;
+    Ok(Text::from(lines))
+}
+
+/// A refusal as a fault line has it behind the file's name: `isa`, the number of the check that
+/// fails, the path, and both words where the reset value of `misa` disagrees.
+///
+/// # Errors
+///
+/// [`NoMemory`].
+pub fn refusal_text(alloc: Global, refusal: &IsaRefusal) -> Result<Text, NoMemory>
+    ensures { IfOk result (λ text. text ≡ refusal_text refusal.now) }
+{
+    let number = refusal.kind.number();
+    let path = refusal.path.as_str();
+    let words = words_text(alloc, refusal.kind)?;
+    Ok(Text::from(format!(in alloc; "isa {number} {path}{words}")?))
+}
+
+fn words_text(alloc: Global, kind: IsaKind) -> Result<Text, NoMemory>
+    ensures { IfOk result (λ text. text ≡ words_text kind) }
+{
+    let IsaKind::MisaDisagrees { stated, expected } = kind else {
+        return Ok(Text::new(alloc));
+    };
+    let stated = word_text(alloc, stated)?;
+    let expected = word_text(alloc, expected)?;
+    Ok(Text::from(format!(in alloc; " stated {stated} expected {expected}")?))
+}
+
+fn word_text(alloc: Global, word: u32) -> Result<Text, NoMemory>
+    ensures { IfOk result (λ text. text ≡ word_text word) }
+{
+    let digits = hex_text(alloc, word)?;
+    Ok(Text::from(format!(in alloc; "0x{digits}")?))
+}
