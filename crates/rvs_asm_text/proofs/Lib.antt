@@ -1,0 +1,5 @@
+pub mod Cuts
+pub mod Spelling
+pub mod Symbols
+pub mod Ready
+pub mod Mnemonics

@@ -1,0 +1,30 @@
+-- The number of steps that a text's header allows.
+use Rattle.std.specs.Prelude.{ℕ, ◌==◌, ◌&&◌, nat_le, Option, Some, None, List, [], ◌∷◌, length, if◌then◌else◌, option_and_then, codes}
+use Rattle.std.specs.Option.{option_or}
+use Rattle.rvs_asm_text.specs.Text.{lines_of}
+use Rattle.rvs_asm_text.specs.Numbers.{digits_of}
+
+-- what follows a front, where the text has it
+abbrev pub after_front : List ℕ → List ℕ → Option (List ℕ)
+after_front [] text = Some text
+after_front (p ∷ ps) [] = None
+after_front (p ∷ ps) (c ∷ cs) = if c == p then after_front ps cs else None
+
+-- from 1 to 2,000,000
+abbrev pub allowed : ℕ → Option ℕ
+allowed n = if nat_le 1 n && nat_le n 2000000 then Some n else None
+
+-- one to seven digits
+abbrev pub steps_number : List ℕ → Option ℕ
+steps_number text = if nat_le (length text) 7 then option_and_then allowed (digits_of 10 text) else None
+
+abbrev pub steps_line : List ℕ → Option ℕ
+steps_line line = option_and_then steps_number (after_front (codes "#! steps ") line)
+
+abbrev pub first_steps : List (List ℕ) → Option ℕ
+first_steps [] = None
+first_steps (l ∷ ls) = option_or (steps_line l) (first_steps ls)
+
+-- the n of the first line `#! steps n`
+unfoldable pub header_steps : List ℕ → Option ℕ
+header_steps text = first_steps (lines_of text)

@@ -1,0 +1,330 @@
+// Directives.
+ghost use Rattle.std.specs.Prelude.{◌≡◌, ◌<◌, ◌≤◌, ◌⊎◌, Some, IfOk, codes};
+ghost use Rattle.std.specs.List.{list_any};
+ghost use Rattle.rvs_asm_text.specs.Text.{is_blank};
+ghost use Rattle.rvs_asm_text.specs.Numbers.{number_of};
+ghost use Rattle.rvs_asm_text.specs.Instructions.{number_value, IsReady};
+ghost use Rattle.rvs_asm_text.specs.Operands.{only, triple};
+ghost use Rattle.rvs_asm_text.specs.Header.{after_front};
+ghost use Rattle.rvs_asm_text.specs.Directives.{directive_name, directive_of, fits, data_value, is_no_value, wide, first_wide, unless_wide, values, without_operands, one_word, aligned, zeroed, filled, filled_by, number_of_one, is_size, directed, begins, section_named, section_of};
+
+use crate::arguments::Operands;
+use crate::bodies::{Body, LineFault, Link, Value};
+use crate::cutting::is_blank_byte;
+use crate::instructions::{is_within, read_number};
+use crate::names::Name;
+use crate::numbers::number;
+
+/// The first word of a directive other than `.section`.
+#[derive(Debug, Clone, Copy, PartialEq, Eq)]
+pub enum Directive {
+    Text,
+    Data,
+    Globl,
+    Option,
+    Align,
+    P2align,
+    Word,
+    Half,
+    Byte,
+    Zero,
+    Fill,
+}
+
+const DIRECTIVES: [Directive; 11] = [
+    Directive::Text,
+    Directive::Data,
+    Directive::Globl,
+    Directive::Option,
+    Directive::Align,
+    Directive::P2align,
+    Directive::Word,
+    Directive::Half,
+    Directive::Byte,
+    Directive::Zero,
+    Directive::Fill,
+];
+
+/// The directive as it is written.
+fn directive_text(directive: Directive) -> &'static str
+    ensures { result.now ≡ directive_name directive }
+{
+    match directive {
+        Directive::Text => ".text",
+        Directive::Data => ".data",
+        Directive::Globl => ".globl",
+        Directive::Option => ".option",
+        Directive::Align => ".align",
+        Directive::P2align => ".p2align",
+        Directive::Word => ".word",
+        Directive::Half => ".half",
+        Directive::Byte => ".byte",
+        Directive::Zero => ".zero",
+        Directive::Fill => ".fill",
+    }
+}
+
+/// The directive that a word is.
+#[tactic(auto, unfolding(crate::specs::Directives::directive_of))]
+pub fn read_directive(word: &[u8]) -> Option<Directive>
+    ensures { result ≡ directive_of word.now }
+{
+    DIRECTIVES
+        .iter()
+        .copied()
+        .find(|directive| directive_text(*directive).as_bytes() == word)
+}
+
+/// Whether a number of so many bytes, signed or unsigned, can be this one.
+fn fits_size(size: u8, number: i64) -> bool
+    requires { (size ≡ 1) ⊎ (size ≡ 2) ⊎ (size ≡ 4) }
+    ensures { result ≡ fits size number }
+{
+    match size {
+        1 => is_within(-0x80, 0xff, number),
+        2 => is_within(-0x8000, 0xffff, number),
+        _ => is_within(-0x8000_0000, 0xffff_ffff, number),
+    }
+}
+
+/// A number of data, or for words a symbol.
+pub fn read_value(size: u8, text: &[u8]) -> Option<Value<'_>>
+    ensures { result ≡ data_value size text.now }
+{
+    match read_number(text) {
+        Some(value) => Some(value),
+        None => {
+            if size != 4 {
+                return None;
+            }
+            Some(Value {
+                number: 0,
+                link: Link::Whole(Name::read(text)?),
+            })
+        },
+    }
+}
+
+/// Whether an operand is neither a number nor, for words, a symbol.
+fn lacks_value(size: u8, mut operands: Operands<'_>) -> bool
+    ensures { result ≡ list_any (is_no_value size) operands.entry }
+{
+    while let Some(text) = operands.next() {
+        if read_value(size, text).is_none() {
+            return true;
+        }
+    }
+    false
+}
+
+/// The number of a value where it is outside its size.
+fn wide_number(size: u8, text: &[u8]) -> Option<i64>
+    requires { (size ≡ 1) ⊎ (size ≡ 2) ⊎ (size ≡ 4) }
+    ensures { result ≡ wide size (data_value size text.now) }
+{
+    let number = read_value(size, text)?.number;
+    if fits_size(size, number) {
+        None
+    } else {
+        Some(number)
+    }
+}
+
+/// The first number outside its size.
+fn first_wide_number(size: u8, mut operands: Operands<'_>) -> Option<i64>
+    requires { (size ≡ 1) ⊎ (size ≡ 2) ⊎ (size ≡ 4) }
+    ensures { result ≡ first_wide size operands.entry }
+{
+    while let Some(text) = operands.next() {
+        if let Some(number) = wide_number(size, text) {
+            return Some(number);
+        }
+    }
+    None
+}
+
+/// `.byte`, `.half` and `.word` with their numbers.
+fn read_values<'t>(size: u8, operands: Operands<'t>) -> Result<Body<'t>, LineFault>
+    requires { (size ≡ 1) ⊎ (size ≡ 2) ⊎ (size ≡ 4) }
+    ensures body { result ≡ values size operands.entry }
+    ensures ready { IfOk result IsReady }
+{
+    if operands.again().next().is_none() || lacks_value(size, operands.again()) {
+        return Err(LineFault::BadOperand);
+    }
+    match first_wide_number(size, operands.again()) {
+        Some(number) => Err(LineFault::OutOfRange(number)),
+        None => Ok(Body::Values(size, operands)),
+    }
+}
+
+/// A directive without operands.
+fn read_plain<'t>(body: Body<'t>, mut operands: Operands<'_>) -> Result<Body<'t>, LineFault>
+    requires { IsReady body }
+    ensures body { result ≡ without_operands body.entry operands.entry }
+    ensures ready { IfOk result IsReady }
+{
+    match operands.next() {
+        None => Ok(body),
+        Some(_) => Err(LineFault::BadOperand),
+    }
+}
+
+/// Whether a text has a blank.
+fn has_blank(text: &[u8]) -> bool
+    ensures { result ≡ list_any is_blank text.now }
+{
+    text.iter().any(|c| is_blank_byte(*c))
+}
+
+/// A directive without effect, with one word.
+fn read_word(operands: Operands<'_>) -> Result<Body<'static>, LineFault>
+    ensures body { result ≡ one_word (only operands.entry) }
+    ensures ready { IfOk result IsReady }
+{
+    match operands.only() {
+        Some(word) => {
+            if has_blank(word) {
+                Err(LineFault::BadOperand)
+            } else {
+                Ok(Body::Nothing)
+            }
+        },
+        None => Err(LineFault::BadOperand),
+    }
+}
+
+/// The number that is the only operand.
+fn read_only_number(operands: Operands<'_>) -> Option<i64>
+    ensures { result ≡ number_of_one (only operands.entry) }
+{
+    number(operands.only()?)
+}
+
+/// `.align n` and `.p2align n`.
+fn read_alignment(power: Option<i64>) -> Result<Body<'static>, LineFault>
+    ensures body { result ≡ aligned power }
+    ensures ready { IfOk result IsReady }
+{
+    match power {
+        None => Err(LineFault::BadOperand),
+        Some(power) => {
+            if is_within(0, 12, power) {
+                Ok(Body::Align(power as u8))
+            } else {
+                Err(LineFault::OutOfRange(power))
+            }
+        },
+    }
+}
+
+/// `.zero n`.
+fn read_zero(count: Option<i64>) -> Result<Body<'static>, LineFault>
+    ensures body { result ≡ zeroed count }
+    ensures ready { IfOk result IsReady }
+{
+    match count {
+        None => Err(LineFault::BadOperand),
+        Some(count) => {
+            if count >= 0 {
+                Ok(Body::Fill(count as u64, 1, 0))
+            } else {
+                Err(LineFault::OutOfRange(count))
+            }
+        },
+    }
+}
+
+/// `.fill n, size, value`, of the right sorts.
+fn read_fill(count: i64, size: i64, value: i64) -> Result<Body<'static>, LineFault>
+    ensures body { result ≡ filled (Some count) (Some size) (Some value) }
+    ensures ready { IfOk result IsReady }
+{
+    if count < 0 {
+        return Err(LineFault::OutOfRange(count));
+    }
+    if size != 1 && size != 2 && size != 4 {
+        return Err(LineFault::OutOfRange(size));
+    }
+    let size = size as u8;
+    if fits_size(size, value) {
+        Ok(Body::Fill(count as u64, size, value))
+    } else {
+        Err(LineFault::OutOfRange(value))
+    }
+}
+
+/// The operands of `.fill`.
+fn read_fill_operands(operands: Operands<'_>) -> Result<Body<'static>, LineFault>
+    ensures body { result ≡ filled_by (triple operands.entry) }
+    ensures ready { IfOk result IsReady }
+{
+    let Some((count, size, value)) = operands.triple() else {
+        return Err(LineFault::BadOperand);
+    };
+    let Some(count) = number(count) else {
+        return Err(LineFault::BadOperand);
+    };
+    let Some(size) = number(size) else {
+        return Err(LineFault::BadOperand);
+    };
+    let Some(value) = number(value) else {
+        return Err(LineFault::BadOperand);
+    };
+    read_fill(count, size, value)
+}
+
+/// A directive with its operands.
+pub fn read_directed<'t>(
+    directive: Directive,
+    operands: Operands<'t>,
+) -> Result<Body<'t>, LineFault>
+    ensures body { result ≡ directed directive operands.entry }
+    ensures ready { IfOk result IsReady }
+{
+    match directive {
+        Directive::Text => read_plain(Body::ToText, operands),
+        Directive::Data => read_plain(Body::ToData, operands),
+        Directive::Globl | Directive::Option => read_word(operands),
+        Directive::Align | Directive::P2align => read_alignment(read_only_number(operands)),
+        Directive::Word => read_values(4, operands),
+        Directive::Half => read_values(2, operands),
+        Directive::Byte => read_values(1, operands),
+        Directive::Zero => read_zero(read_only_number(operands)),
+        Directive::Fill => read_fill_operands(operands),
+    }
+}
+
+/// Whether a text begins with `.text`.
+fn begins_with_text(text: &[u8]) -> bool
+    ensures { result ≡ begins (codes ".text") text.now }
+{
+    matches!(text, [b'.', b't', b'e', b'x', b't', ..])
+}
+
+/// Whether a text begins with `.data`.
+fn begins_with_data(text: &[u8]) -> bool
+    ensures { result ≡ begins (codes ".data") text.now }
+{
+    matches!(text, [b'.', b'd', b'a', b't', b'a', ..])
+}
+
+/// `.section` with its operands, of which the first decides.
+pub fn read_section(mut operands: Operands<'_>) -> Result<Body<'static>, LineFault>
+    ensures body { result ≡ section_of operands.entry }
+    ensures ready { IfOk result IsReady }
+{
+    let name = match operands.next() {
+        Some(name) => name,
+        None => return Err(LineFault::BadOperand),
+    };
+    if name.is_empty() {
+        Err(LineFault::BadLine)
+    } else if begins_with_text(name) {
+        Ok(Body::ToText)
+    } else if begins_with_data(name) {
+        Ok(Body::ToData)
+    } else {
+        Err(LineFault::BadOperand)
+    }
+}

@@ -1,0 +1,59 @@
+// The header of a test.
+ghost use Rattle.std.specs.Prelude.{◌≡◌, ◌≤◌, MatchOption, Some, None};
+ghost use Rattle.std.specs.Option.{option_copied};
+ghost use Rattle.rvs_asm_text.specs.Header.{after_front, steps_number, steps_line, header_steps};
+
+use crate::cutting::first_line;
+use crate::numbers::digits;
+
+/// The number of steps that digits allow: one to seven of them, from 1 to 2,000,000.
+fn allowed_steps(text: &[u8]) -> Option<u64>
+    ensures { result ≡ steps_number text.now }
+{
+    if text.len() > 7 {
+        return None;
+    }
+    let steps = digits(10, text)?;
+    if steps >= 1 && steps <= 2_000_000 {
+        Some(steps)
+    } else {
+        None
+    }
+}
+
+/// The number of steps that a line of a header allows.
+fn line_steps(line: &[u8]) -> Option<u64>
+    ensures { result ≡ steps_line line.now }
+{
+    match line {
+        [
+            b'#',
+            b'!',
+            b' ',
+            b's',
+            b't',
+            b'e',
+            b'p',
+            b's',
+            b' ',
+            rest @ ..,
+        ] => allowed_steps(rest),
+        _ => None,
+    }
+}
+
+/// The number n of a test's first line `#! steps n`, with n of one to seven digits and from 1 to
+/// 2,000,000. Other lines are passed over, also those with another n.
+#[tactic(auto, unfolding(crate::specs::Header::header_steps))]
+pub fn steps_of_header(text: &[u8]) -> Option<u64>
+    ensures { result ≡ header_steps text.now }
+{
+    let mut rest = text;
+    while let Some((line, after)) = first_line(rest) {
+        if let Some(steps) = line_steps(line) {
+            return Some(steps);
+        }
+        rest = after;
+    }
+    None
+}
