@@ -1,0 +1,44 @@
+-- The image that stands to a text.
+use Rattle.std.proofs.Common.{◌≡◌, ℕ, ◌≤◌, Bool, true, false, cond, ◌&&◌, Some, None, sym, ap, ◌∙◌, arith}
+use Rattle.std.specs.Prelude.{nat_le, ◌==◌}
+use Rattle.std.proofs.lemmas.Int.{ints}
+use Rattle.std.proofs.lemmas.Bool.Decides.{nat_tests}
+use Rattle.rvs_machine.specs.Image.{ImageValue, IsImage, is_image, if_image}
+use Rattle.rvs_asm.specs.Places.{start, labels}
+use Rattle.rvs_asm.specs.Answer.{answer, text_readings, image_of, region_checked, if_all_there, if_linked, if_placed}
+use Rattle.rvs_asm.specs.Laws.{PartsMakeAddress, OneImageEach, ImagesAreAnswered}
+
+pub parts_make_address : PartsMakeAddress
+parts_make_address address h = grind (arith, ints)
+
+pub one_image : OneImageEach
+one_image text isa a b p q = p.made ∙ sym q.made
+
+both : (s t : Bool) → s ≡ true → t ≡ true → (s && t) ≡ true
+both true t p q = q
+both false t p q = cc
+
+zero_test : (n : ℕ) → n ≡ 0 → (n == 0) ≡ true
+zero_test n h = grind (arith, nat_tests)
+
+le_test : (m n : ℕ) → m ≤ n → nat_le m n ≡ true
+le_test m n h = grind (arith, nat_tests)
+
+in_order : (i : ImageValue) → IsImage i → is_image i ≡ true
+in_order i h =
+    both _ _
+    (both _ _
+    (both _ _ (both _ _ (zero_test _ h.text_words) (le_test _ _ h.text_short)) (le_test _ _ h.data_short))
+    (both _ _ (both _ _ (zero_test _ h.tohost_word) (le_test _ _ h.tohost_low)) (le_test _ _ h.tohost_high)))
+    (both _ _ (both _ _ (both _ _ (both _ _ (zero_test _ h.begin_word) (zero_test _ h.end_word)) (le_test _ _ h.begin_low)) (le_test _ _ h.ordered)) (le_test _ _ h.end_high))
+
+pub image_answered : ImagesAreAnswered
+unfolding answer
+image_answered text isa image a =
+    let rs = text_readings text in
+    let ss = labels rs start in
+    ap (λ o. if_placed o rs) a.placed
+    ∙ ap (λ o. if_linked o ss rs) a.linked
+    ∙ ap (λ o. if_all_there o (image_of ss rs)) a.marked
+    ∙ ap (λ i. region_checked (if_image i)) (sym a.made)
+    ∙ ap (λ b. region_checked (cond b (Some image) None)) (in_order image a.regions)

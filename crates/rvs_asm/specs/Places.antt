@@ -1,0 +1,94 @@
+-- Where each line stands, and what each symbol marks.
+use Rattle.std.specs.Prelude.{◌≡◌, ◌≤◌, nat_le, ◌&&◌, ℕ, ◌+◌, ◌-◌, ◌*◌, ◌%◌, ◌^◌, Bool, true, false, Option, Some, None, Result, Ok, Err, List, [], ◌∷◌, ◌++◌, length, if◌then◌else◌}
+use Rattle.rvs_asm_text.specs.declared.bodies.Body.{Body}
+use Rattle.rvs_asm_text.specs.declared.bodies.Body.TheVariants.{Nothing, ToText, ToData, Insn, Values, Align, Fill}
+use Rattle.rvs_asm_text.specs.declared.bodies.Line.{Line}
+use Rattle.rvs_asm_text.specs.declared.bodies.LineFault.{LineFault}
+use Rattle.rvs_asm_text.specs.Lines.{read_line}
+use Rattle.rvs_machine.specs.Image.{text_base, data_base, text_limit, data_limit}
+use Rattle.rvs_asm.specs.declared.place.Place.{Place}
+use Rattle.rvs_asm.specs.Symbols.{Table}
+
+-- a line as it was read, or its fault
+abbrev pub Reading : Type 0
+Reading = Result Line LineFault
+
+-- a faulty line makes nothing and marks nothing: its fault is the answer
+abbrev pub body_of : Reading → Body
+body_of (Ok line) = line.body
+body_of (Err fault) = Nothing
+
+abbrev pub label_of : Reading → Option (List ℕ)
+label_of (Ok line) = line.label
+label_of (Err fault) = None
+
+-- whether the text goes on after a line
+abbrev pub goes_on : Bool → Body → Bool
+goes_on in_text ToText = true
+goes_on in_text ToData = false
+goes_on in_text _ = in_text
+
+-- the lines of a text, each read in the section that it stands in
+abbrev pub readings : Bool → List (List ℕ) → List Reading
+readings in_text [] = []
+readings in_text (l ∷ ls) = read_line in_text l ∷ readings (goes_on in_text (body_of (read_line in_text l))) ls
+
+-- how far it is to the next multiple of n
+abbrev pub padding : ℕ → ℕ → ℕ
+padding at n = (n - at % n) % n
+
+-- how many bytes a statement makes, at its offset in its section
+abbrev pub size_of : ℕ → Body → ℕ
+size_of at Nothing = 0
+size_of at ToText = 0
+size_of at ToData = 0
+size_of at (Insn i link) = 4
+size_of at (Values size args) = length args * size
+size_of at (Align power) = padding at (2 ^ power)
+size_of at (Fill n size z) = n * size
+
+abbrev pub start : Place
+start = record { in_text = true; text = 0; ram = 0 }
+
+abbrev pub offset : Place → ℕ
+offset p = if p.in_text then p.text else p.ram
+
+abbrev pub address : Place → ℕ
+address p = if p.in_text then text_base + p.text else data_base + p.ram
+
+abbrev pub moved : Place → ℕ → Place
+moved p n = if p.in_text then record { in_text = true; text = p.text + n; ram = p.ram } else record { in_text = false; text = p.text; ram = p.ram + n }
+
+-- the place after a statement
+abbrev pub next : Place → Body → Place
+next p ToText = record { in_text = true; text = p.text; ram = p.ram }
+next p ToData = record { in_text = false; text = p.text; ram = p.ram }
+next p body = moved p (size_of (offset p) body)
+
+abbrev pub place_after : List Reading → Place → Place
+place_after [] p = p
+place_after (r ∷ rs) p = place_after rs (next p (body_of r))
+
+-- what a line's label marks
+abbrev pub own_label : Option (List ℕ) → Place → Table
+own_label None p = []
+own_label (Some name) p = (name, record { at = address p; in_text = p.in_text }) ∷ []
+
+-- the symbols of lines from a place on
+abbrev pub labels : List Reading → Place → Table
+labels [] p = []
+labels (r ∷ rs) p = own_label (label_of r) p ++ labels rs (next p (body_of r))
+
+-- the sections keep their lengths
+abbrev pub is_short : Place → Bool
+is_short p = nat_le p.text text_limit && nat_le p.ram data_limit
+
+pub record IsPlace (p : Place) : Type 0 where
+  pub text_short : p.text ≤ text_limit
+  pub data_short : p.ram ≤ data_limit
+  pub words : p.text % 4 ≡ 0
+
+-- each line leaves its section within its length
+abbrev pub AreShort : Place → List Reading → Type 0
+AreShort p [] = Unit {0}
+AreShort p (r ∷ rs) = IsPlace (next p (body_of r)) × AreShort (next p (body_of r)) rs

@@ -1,0 +1,23 @@
+//! The assembler: from a test's text to a program in memory.
+#![tactic(auto)]
+
+mod assembling;
+mod emitting;
+mod first_pass;
+mod laws;
+mod linking;
+mod mark;
+mod place;
+mod refusal;
+mod second_pass;
+mod symbols;
+
+pub use assembling::assemble;
+pub use laws::{one_image_each, parts_make_the_address};
+pub use mark::Mark;
+pub use place::Place;
+pub use refusal::{AsmKind, AsmRefusal};
+pub use symbols::Symbols;
+
+#[cfg(test)]
+mod tests;

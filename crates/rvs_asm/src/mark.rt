@@ -1,0 +1,8 @@
+// What symbols mark.
+
+/// The address that a symbol marks, and whether its line stands in the text.
+#[derive(Debug, Clone, Copy, PartialEq, Eq)]
+pub struct Mark {
+    pub at: u32,
+    pub in_text: bool,
+}

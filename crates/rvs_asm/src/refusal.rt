@@ -1,0 +1,102 @@
+// Refusals.
+ghost use Rattle.std.specs.Prelude.{◌≡◌};
+ghost use Rattle.rvs_asm.specs.Faults.{kind_of};
+ghost use Rattle.rvs_asm.specs.KindNumbers.{kind_number};
+
+use rvs_asm_text::LineFault;
+use rvs_base::{NoMemory, Text};
+
+/// Why no image stands to a text.
+#[derive(Debug, Drop)]
+pub enum AsmKind {
+    /// A byte that may not stand outside a comment, a label that isn't a symbol, an empty operand
+    /// beside a comma, or an instruction in data.
+    BadLine,
+    /// A first word that is no mnemonic and no directive.
+    UnknownInstruction,
+    /// A wrong number or sort of operands.
+    BadOperand,
+    /// A number or a distance outside its field, or an odd distance.
+    OutOfRange {
+        /// The leftmost such number.
+        value: i64,
+    },
+    /// A symbol that no line has as its label.
+    UnknownSymbol,
+    /// A label that an earlier line has.
+    DoubleSymbol,
+    /// A line in the text whose size isn't a multiple of 4.
+    MisalignedCode,
+    /// The text passes 16 MiB.
+    TextFull,
+    /// The data passes 1 MiB.
+    DataFull,
+    /// One of `tohost`, `begin_signature` and `end_signature` isn't a symbol of data.
+    MissingSymbol {
+        /// The first such name.
+        name: Text,
+    },
+    /// An instruction that the core doesn't have.
+    NotInIsa,
+    /// The word at `tohost` or the signature doesn't lie in the data, or is not aligned.
+    BadRegion,
+    /// The allocator refused.
+    NoMemory,
+}
+
+/// A refusal, with the number of its line from 1; 0 for the last of `AsmKind` but `NotInIsa`, and
+/// for a missing symbol.
+#[derive(Debug, Drop)]
+pub struct AsmRefusal {
+    pub line: u64,
+    pub kind: AsmKind,
+}
+
+impl AsmKind {
+    /// The number of the kind, from 1 to 13 in the order in which they are declared.
+    pub fn number(&self) -> u8
+        ensures { result ≡ kind_number self.now }
+    {
+        match self {
+            AsmKind::BadLine => 1,
+            AsmKind::UnknownInstruction => 2,
+            AsmKind::BadOperand => 3,
+            AsmKind::OutOfRange { .. } => 4,
+            AsmKind::UnknownSymbol => 5,
+            AsmKind::DoubleSymbol => 6,
+            AsmKind::MisalignedCode => 7,
+            AsmKind::TextFull => 8,
+            AsmKind::DataFull => 9,
+            AsmKind::MissingSymbol { .. } => 10,
+            AsmKind::NotInIsa => 11,
+            AsmKind::BadRegion => 12,
+            AsmKind::NoMemory => 13,
+        }
+    }
+}
+
+/// The fault of a line by itself, as a kind of refusal.
+pub fn kind_of_fault(fault: LineFault) -> AsmKind
+    ensures { result ≡ kind_of fault }
+{
+    match fault {
+        LineFault::BadLine => AsmKind::BadLine,
+        LineFault::UnknownInstruction => AsmKind::UnknownInstruction,
+        LineFault::BadOperand => AsmKind::BadOperand,
+        LineFault::OutOfRange(value) => AsmKind::OutOfRange { value },
+    }
+}
+
+impl From<NoMemory> for AsmRefusal {
+    ghost use Rattle.std.specs.Prelude.{◌≡◌};
+    ghost use Rattle.rvs_asm.specs.Refusals.{no_memory};
+
+    ghost from_gives = { λ _ refusal. refusal ≡ no_memory };
+
+    fn from(_: NoMemory) -> Self {
+        AsmRefusal {
+            line: 0,
+            kind: AsmKind::NoMemory,
+        }
+    }
+}
