@@ -1,0 +1,15 @@
+mod Accepting
+mod TestRuns
+mod TestEnds
+mod SpecificationReads
+mod ReferenceEnds
+mod ReferenceRuns
+mod Ends
+mod IsaEnds
+mod Running
+mod Reading
+mod ValidateEnds
+mod ValidateRuns
+mod Verdicts
+mod WordRows
+mod CompareEnds

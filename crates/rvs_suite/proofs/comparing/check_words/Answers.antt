@@ -1,0 +1,12 @@
+use Rattle.std.proofs.lemmas.Result.{err_from_is_err_and}
+use Rattle.rvs_plan.proofs.Sequence.{Meets-no_memory}
+use Rattle.rvs_suite.specs.Compare.{words}
+use Rattle.rvs_suite.proofs.comparing.check_words.Goals as goal
+
+pub returns-in_err-refusal_text-in-Err : goal.returns-in_err-refusal_text-in-Err
+returns-in_err-refusal_text-in-Err c = λ w.
+    let p = err_from_is_err_and c.from_residual.result c.from_residual.ensures.1 in
+    rw (p.1, p.2) (Meets-no_memory (words c.args.name.now c.args.bytes.now) w)
+
+pub returns-in-Err-NoMemory : goal.returns-in-Err-NoMemory
+returns-in-Err-NoMemory c = λ w. Meets-no_memory (words c.args.name.now c.args.bytes.now) w

@@ -1,0 +1,17 @@
+use Rattle.std.proofs.Common.{◌≡◌, List, ℕ, Option, sym, subst}
+use Rattle.rvs_plan.specs.World.{world}
+use Rattle.rvs_plan.specs.Plan.{writes}
+use Rattle.rvs_plan.specs.Meets.{Meets}
+use Rattle.rvs_plan.proofs.Sequence.{Meets-gives}
+use Rattle.rvs_suite.specs.Reference.{log_of, writes_log}
+use Rattle.rvs_suite.proofs.reference.write_log.Goals as goal
+
+pub returns-in-None : goal.returns-in-None
+returns-in-None g c = λ out. rw c.in-None.is (Meets-gives tt (world (g.H.Host.state c.args.host.now) out))
+
+pub returns-in-Some : goal.returns-in-Some
+returns-in-Some g c = λ out.
+    let old = world (g.H.Host.state c.args.host.now) out in
+    let new = world (g.H.Host.state c.write_lines.new.host) out in
+    let met = subst (λ (name : List ℕ). Meets (writes name (log_of c.args.trace.now)) old new c.write_lines.result) c.as_str.ensures (c.write_lines.ensures out) in
+    rw c.in-Some.is met

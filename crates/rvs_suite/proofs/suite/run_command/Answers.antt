@@ -1,0 +1,43 @@
+use Rattle.std.proofs.Common.{◌≡◌, List, ℕ, subst}
+use Rattle.rvs_plan.specs.World.{world}
+use Rattle.rvs_plan.specs.Meets.{Meets}
+use Rattle.rvs_suite.specs.Compare.{compare}
+use Rattle.rvs_suite.specs.Validate.{validate}
+use Rattle.rvs_suite.specs.Reference.{reference}
+use Rattle.rvs_suite.proofs.Running.{Performs-meets, Performs-unknown}
+use Rattle.rvs_suite.proofs.suite.run_command.Goals as goal
+
+pub returns-in-Unknown : goal.returns-in-Unknown
+returns-in-Unknown g c = rw c.in-Unknown.is (Performs-unknown (world (g.H.Host.state c.args.host.now) (g.O.Sink.state c.args.out.now)))
+
+pub returns-in-Compare : goal.returns-in-Compare
+returns-in-Compare g c =
+    let l : c.as_str.result.now ≡ c.in-Compare.left = c.as_str.ensures in
+    let r : c.as_str-in-Compare.result.now ≡ c.in-Compare.right = c.as_str-in-Compare.ensures in
+    let old = world (g.H.Host.state c.args.host.now) (g.O.Sink.state c.args.out.now) in
+    let new = world (g.H.Host.state c.compare_files.new.host) (g.O.Sink.state c.compare_files.new.out) in
+    let met = subst (λ (x : List ℕ). Meets (compare x c.in-Compare.right) old new c.compare_files.result) l (subst (λ (y : List ℕ). Meets (compare c.as_str.result.now y) old new c.compare_files.result) r c.compare_files.ensures) in
+    rw c.in-Compare.is (Performs-meets (λ is. cc) met)
+
+pub returns-in-Validate : goal.returns-in-Validate
+returns-in-Validate g c =
+    let name : c.as_str-in-Validate.result.now ≡ c.in-Validate.isa = c.as_str-in-Validate.ensures in
+    let old = world (g.H.Host.state c.args.host.now) (g.O.Sink.state c.args.out.now) in
+    let new = world (g.H.Host.state c.validate_file.new.host) (g.O.Sink.state c.validate_file.new.out) in
+    let met = subst (λ (isa : List ℕ). Meets (validate isa) old new c.validate_file.result) name c.validate_file.ensures in
+    rw c.in-Validate.is (Performs-meets (λ is. cc) met)
+
+pub returns-in-Reference : goal.returns-in-Reference
+returns-in-Reference g c =
+    let i : c.as_str-in-Reference.result.now ≡ c.in-Reference.isa = c.as_str-in-Reference.ensures in
+    let t : c.as_str-in-Reference-2.result.now ≡ c.in-Reference.test = c.as_str-in-Reference-2.ensures in
+    let s : c.as_str-in-Reference-3.result.now ≡ c.in-Reference.signature = c.as_str-in-Reference-3.ensures in
+    let old = world (g.H.Host.state c.args.host.now) (g.O.Sink.state c.args.out.now) in
+    let new = world (g.H.Host.state c.run_reference.new.host) (g.O.Sink.state c.run_reference.new.out) in
+    let log = c.in-Reference.log in
+    let steps = c.in-Reference.steps in
+    let result = c.run_reference.result in
+    let one = subst (λ (isa : List ℕ). Meets (reference isa c.as_str-in-Reference-2.result.now c.as_str-in-Reference-3.result.now log steps) old new result) i c.run_reference.ensures in
+    let two = subst (λ (test : List ℕ). Meets (reference c.in-Reference.isa test c.as_str-in-Reference-3.result.now log steps) old new result) t one in
+    let met = subst (λ (signature : List ℕ). Meets (reference c.in-Reference.isa c.in-Reference.test signature log steps) old new result) s two in
+    rw c.in-Reference.is (Performs-meets (λ is. cc) met)

@@ -1,0 +1,75 @@
+-- What the words of a command line ask for.
+use Rattle.std.specs.Prelude.{ℕ, ◌+◌, ◌*◌, ◌-◌, ◌&&◌, nat_le, if◌then◌else◌, List, [], ◌∷◌, length, bytes_eq, Option, Some, None, option_map, codes}
+use Rattle.rvs_suite.specs.Words.{is_positional, pairs_of, values_of, are_known, only, at_most_one}
+use Rattle.rvs_suite.specs.declared.words.Pair.{Pair}
+use Rattle.rvs_suite.specs.declared.command.Command.{Command}
+use Rattle.rvs_suite.specs.declared.command.Command.TheVariants.{Unknown, Compare, Validate, Reference}
+
+-- two names of files
+abbrev pub compare_command : List (List ℕ) → Command
+compare_command (left ∷ right ∷ []) = if is_positional left && is_positional right then Compare left right else Unknown
+compare_command words = Unknown
+
+-- the name of an ISA file, behind its option
+abbrev pub validate_command : List (List ℕ) → Command
+validate_command (option ∷ isa ∷ []) = if bytes_eq option (codes "--isa") && is_positional isa then Validate isa else Unknown
+validate_command words = Unknown
+
+-- the number that decimal digits go on from
+abbrev pub number_onto : ℕ → List ℕ → Option ℕ
+number_onto front [] = Some front
+number_onto front (digit ∷ digits) = if nat_le 48 digit && nat_le digit 57 then number_onto (10 * front + (digit - 48)) digits else None
+
+-- a number of one to seven decimal digits
+abbrev pub number_of : List ℕ → Option ℕ
+number_of text = if nat_le 1 (length text) && nat_le (length text) 7 then number_onto 0 text else None
+
+-- a run has at least one step, and 2,000,000 at most
+abbrev pub within_steps : Option ℕ → Option ℕ
+within_steps None = None
+within_steps (Some steps) = if nat_le 1 steps && nat_le steps 2000000 then Some steps else None
+
+-- a number of steps, which needn't stand, and stands once at most
+abbrev pub steps_of : List (List ℕ) → Option (Option ℕ)
+steps_of [] = Some None
+steps_of (text ∷ []) = option_map Some (within_steps (number_of text))
+steps_of texts = None
+
+-- a command of what is given, where it is
+abbrev pub given : {A : Type 0} → Option A → (A → Command) → Command
+given None command = Unknown
+given (Some a) command = command a
+
+-- the options of `reference`
+abbrev pub reference_options : List (List ℕ)
+reference_options = codes "--isa" ∷ codes "--test" ∷ codes "--signature" ∷ codes "--log" ∷ codes "--steps" ∷ []
+
+-- what a run of these inputs may leave and take besides: a log, and a number of steps
+abbrev pub reference_run : List ℕ → List ℕ → List ℕ → List Pair → Command
+reference_run isa test signature pairs =
+    given (at_most_one (values_of (codes "--log") pairs)) (λ log.
+    given (steps_of (values_of (codes "--steps") pairs)) (λ steps. Reference isa test signature log steps))
+
+-- the names of the ISA file, the test and the signature, each once
+abbrev pub reference_of : List Pair → Command
+reference_of pairs =
+    given (only (values_of (codes "--isa") pairs)) (λ isa.
+    given (only (values_of (codes "--test") pairs)) (λ test.
+    given (only (values_of (codes "--signature") pairs)) (λ signature. reference_run isa test signature pairs)))
+
+-- options and their values, in any order
+abbrev pub reference_command : List (List ℕ) → Command
+reference_command words = given (pairs_of words) (λ pairs. if are_known reference_options pairs then reference_of pairs else Unknown)
+
+-- the command of this name, with the words behind it
+abbrev pub named_command : List ℕ → List (List ℕ) → Command
+named_command name words =
+    if bytes_eq name (codes "compare") then compare_command words
+    else (if bytes_eq name (codes "validate") then validate_command words
+    else (if bytes_eq name (codes "reference") then reference_command words
+    else Unknown))
+
+-- the command of the words, the first of which is the program's own name
+abbrev pub command_of : List (List ℕ) → Command
+command_of (program ∷ name ∷ words) = named_command name words
+command_of words = Unknown

@@ -1,0 +1,13 @@
+pub mod Words
+pub mod Commands
+pub mod Texts
+pub mod Compare
+pub mod Specification
+pub mod Validate
+pub mod Plans
+pub mod Spells
+pub mod TestTexts
+pub mod TestRun
+pub mod Reference
+pub mod Says
+pub mod Halting

@@ -1,0 +1,32 @@
+-- What each command line does.
+use Rattle.std.specs.Prelude.{◌≡◌, ◌⊎◌, List, ℕ, Result, Err}
+use Rattle.rvs_plan.specs.World.{World}
+use Rattle.rvs_plan.specs.Plan.{Plan, ends}
+use Rattle.rvs_plan.specs.Meets.{Obeys}
+use Rattle.rvs_plan.specs.declared.stop.Stop.{Stop}
+use Rattle.rvs_plan.specs.declared.stop.Stop.TheVariants as why
+use Rattle.rvs_plan.specs.declared.status.Finish.{Finish}
+use Rattle.rvs_suite.specs.Commands.{command_of}
+use Rattle.rvs_suite.specs.Compare as comparing
+use Rattle.rvs_suite.specs.Validate as validating
+use Rattle.rvs_suite.specs.Reference as running
+use Rattle.rvs_suite.specs.declared.command.Command.{Command}
+use Rattle.rvs_suite.specs.declared.command.Command.TheVariants.{Unknown, Compare, Validate, Reference}
+
+-- the plan of a command
+abbrev pub plan_of : Command → Plan Finish
+plan_of Unknown = ends why.Usage
+plan_of (Compare left right) = comparing.compare left right
+plan_of (Validate isa) = validating.validate isa
+plan_of (Reference isa test signature log steps) = running.reference isa test signature log steps
+
+-- the effects that the words of a command line mean, and the status that they lead to
+abbrev pub effects_of : List (List ℕ) → Plan Finish
+effects_of words = plan_of (command_of words)
+
+-- what was done for a command, and how it ended
+pub record Performs (command : Command) (old new : World) (result : Result Finish Stop) : Type 0 where
+  pub obeys : Obeys (plan_of command) old new result
+  -- it stops for its words where they are no command
+  pub usage : result ≡ Err why.Usage → command ≡ Unknown
+  pub no_command : command ≡ Unknown → (result ≡ Err why.Usage) ⊎ (result ≡ Err why.NoMemory)

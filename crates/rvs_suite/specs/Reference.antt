@@ -1,0 +1,63 @@
+-- What `reference` does.
+use Rattle.std.specs.Prelude.{ℕ, List, [], ◌∷◌, ◌++◌, length, Option, Some, None}
+use Rattle.std.specs.List.{flat_map}
+use Rattle.rvs_plan.specs.Plan.{Plan, gives, prints, writes, ◌>>=◌}
+use Rattle.rvs_plan.specs.Inputs.{input}
+use Rattle.rvs_plan.specs.declared.status.Finish.{Finish}
+use Rattle.rvs_plan.specs.declared.status.Finish.TheVariants.{Done}
+use Rattle.rvs_insn.specs.Isa.{Isa}
+use Rattle.rvs_sig.specs.Words.{text_of_words}
+use Rattle.rvs_machine.specs.declared.event.Executed.{Executed}
+use Rattle.rvs_log.specs.Written.{line_of}
+use Rattle.rvs_suite.specs.Specification.{specification}
+use Rattle.rvs_suite.specs.TestTexts.{ran_line}
+use Rattle.rvs_suite.specs.TestRun.{accepted, test_found}
+use Rattle.rvs_suite.specs.declared.test_run.Run.{Run}
+
+-- a test file has at most this many bytes: 64 MiB
+abbrev pub test_limit : ℕ
+test_limit = 67_108_864
+
+-- a test file is read and run
+abbrev pub trial : Option ℕ → Isa → List ℕ → Plan Run
+trial steps isa test = do
+  bytes ← input test_limit test
+  accepted (test_found steps isa test bytes)
+
+-- a log: one line for each executed instruction
+abbrev pub log_of : List Executed → List ℕ
+log_of trace = flat_map (λ e. line_of e ++ 10 ∷ []) trace
+
+-- the log is written where one is asked for
+abbrev pub writes_log : Option (List ℕ) → List Executed → Plan (Unit {0})
+writes_log None trace = gives tt
+writes_log (Some log) trace = writes log (log_of trace)
+
+-- one line is put
+abbrev pub announces_run : Run → Plan Finish
+announces_run run = do
+  _ ← prints (ran_line (length run.trace) (length run.words))
+  gives Done
+
+abbrev pub records_log : Option (List ℕ) → Run → Plan Finish
+records_log log run = do
+  _ ← writes_log log run.trace
+  announces_run run
+
+-- the signature is written, then the log where one is asked for, and then one line is put
+abbrev pub records : List ℕ → Option (List ℕ) → Run → Plan Finish
+records signature log run = do
+  _ ← writes signature (text_of_words run.words)
+  records_log log run
+
+-- a test is run on a core, and what a run that halted leaves is written
+abbrev pub reference_on : List ℕ → List ℕ → Option (List ℕ) → Option ℕ → Isa → Plan Finish
+reference_on test signature log steps isa = do
+  run ← trial steps isa test
+  records signature log run
+
+-- the ISA file is read and checked, then the test is read and run, and then the files are written
+abbrev pub reference : List ℕ → List ℕ → List ℕ → Option (List ℕ) → Option ℕ → Plan Finish
+reference isa test signature log steps = do
+  said ← specification isa
+  reference_on test signature log steps said.spec

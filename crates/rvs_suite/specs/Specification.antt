@@ -1,0 +1,43 @@
+-- What comes of an ISA file.
+use Rattle.std.specs.Prelude.{ℕ, List, ◌++◌, Result, Ok, Err, codes, decimal}
+use Rattle.rvs_plan.specs.Plan.{Plan, Ends, ◌>>=◌}
+use Rattle.rvs_plan.specs.Inputs.{input}
+use Rattle.rvs_plan.specs.declared.stop.Stop.{Stop}
+use Rattle.rvs_plan.specs.declared.stop.Stop.TheVariants.{Refused}
+use Rattle.rvs_yaml.specs.Answer.{Answer, answer}
+use Rattle.rvs_yaml.specs.Kinds.{number_of}
+use Rattle.rvs_yaml.specs.declared.refusal.YamlKind.{YamlKind}
+use Rattle.rvs_isa.specs.Check.{checked}
+use Rattle.rvs_isa.specs.Print.{refusal_text}
+use Rattle.rvs_isa.specs.declared.checked.Checked.{Checked}
+use Rattle.rvs_isa.specs.declared.refusal.IsaRefusal.{IsaRefusal}
+
+-- an ISA file has at most this many bytes: 64 KiB
+abbrev pub isa_limit : ℕ
+isa_limit = 65536
+
+-- why the named file has no tree: its first faulty line, counted from 1, and the number of the fault's kind
+unfoldable pub yaml_text : List ℕ → ℕ → YamlKind → List ℕ
+yaml_text name line kind = name ++ (codes ": yaml " ++ (decimal (number_of kind) ++ (codes " line " ++ decimal line)))
+
+-- why the tree of the named file is no specification: the first check that fails
+unfoldable pub isa_text : List ℕ → IsaRefusal → List ℕ
+isa_text name refusal = name ++ (codes ": " ++ refusal_text refusal)
+
+abbrev pub checked_end : List ℕ → Result Checked IsaRefusal → Result Checked Stop
+checked_end name (Ok said) = Ok said
+checked_end name (Err refusal) = Err (Refused (isa_text name refusal))
+
+-- what the tree of the named file says, or why the file is refused
+abbrev pub tree_end : List ℕ → Answer → Result Checked Stop
+tree_end name (Ok tree) = checked_end name (checked tree)
+tree_end name (Err fault) = Err (Refused (yaml_text name fault.0 fault.1))
+
+abbrev pub checks : List ℕ → List ℕ → Plan Checked
+checks name bytes = Ends (tree_end name (answer bytes))
+
+-- an ISA file is read and checked
+abbrev pub specification : List ℕ → Plan Checked
+specification name = do
+  bytes ← input isa_limit name
+  checks name bytes

@@ -1,0 +1,20 @@
+-- What `validate` does.
+use Rattle.std.specs.Prelude.{ℕ, List}
+use Rattle.rvs_plan.specs.Plan.{Plan, gives, prints, ◌>>=◌}
+use Rattle.rvs_plan.specs.declared.status.Finish.{Finish}
+use Rattle.rvs_plan.specs.declared.status.Finish.TheVariants.{Done}
+use Rattle.rvs_isa.specs.Print.{checked_text}
+use Rattle.rvs_isa.specs.declared.checked.Checked.{Checked}
+use Rattle.rvs_suite.specs.Specification.{specification}
+
+-- what a specification says is put
+abbrev pub print_said : Checked → Plan Finish
+print_said said = do
+  _ ← prints (checked_text said)
+  gives Done
+
+-- the ISA file is read and checked, and then what it says is put
+abbrev pub validate : List ℕ → Plan Finish
+validate isa = do
+  said ← specification isa
+  print_said said

@@ -1,0 +1,185 @@
+// What a command line asks for.
+ghost use Rattle.std.specs.Prelude.{◌≡◌, IfOk, codes};
+ghost use Rattle.rvs_suite.specs.Words.{texts, values_of, are_known};
+ghost use Rattle.rvs_suite.specs.Commands.{compare_command, validate_command, number_of, within_steps, steps_of, reference_options, reference_run, reference_of, reference_command, named_command, command_of};
+
+use crate::words::{
+    Pair, are_known, is_positional, only_value, optional_value, owned, read_pairs, values,
+};
+use rvs_base::{NoMemory, Text};
+use std::alloc::Global;
+
+/// A command with what it is given.
+#[derive(Debug, Drop)]
+pub enum Command {
+    /// The words are no command.
+    Unknown,
+    /// Compare two signature files.
+    Compare {
+        left: Text,
+        right: Text,
+    },
+    /// Check an ISA file, and print what it says.
+    Validate {
+        isa: Text,
+    },
+    /// Run a test on the reference machine, and write its signature.
+    Reference {
+        isa: Text,
+        test: Text,
+        signature: Text,
+        /// The file for the log, where one is asked for.
+        log: Option<Text>,
+        /// The greatest number of steps, 1 to 2,000,000, where one is given.
+        steps: Option<u64>,
+    },
+}
+
+/// Reads the words of a command line, the first of which is the program's own name.
+///
+/// # Errors
+///
+/// [`NoMemory`].
+pub fn read_command(alloc: Global, words: &[String]) -> Result<Command, NoMemory>
+    ensures { IfOk result (λ command. command ≡ command_of (texts words.now)) }
+{
+    let [_, name, rest @ ..] = words else {
+        return Ok(Command::Unknown);
+    };
+    read_named(alloc, name.as_str(), rest)
+}
+
+fn read_named(alloc: Global, name: &str, words: &[String]) -> Result<Command, NoMemory>
+    ensures { IfOk result (λ command. command ≡ named_command name.now (texts words.now)) }
+{
+    match name {
+        "compare" => read_compare(alloc, words),
+        "validate" => read_validate(alloc, words),
+        "reference" => read_reference(alloc, words),
+        _ => Ok(Command::Unknown),
+    }
+}
+
+fn read_compare(alloc: Global, words: &[String]) -> Result<Command, NoMemory>
+    ensures { IfOk result (λ command. command ≡ compare_command (texts words.now)) }
+{
+    match words {
+        [left, right] if is_positional(left.as_str()) && is_positional(right.as_str()) => {
+            Ok(Command::Compare {
+                left: owned(alloc, left.as_str())?,
+                right: owned(alloc, right.as_str())?,
+            })
+        },
+        _ => Ok(Command::Unknown),
+    }
+}
+
+fn read_validate(alloc: Global, words: &[String]) -> Result<Command, NoMemory>
+    ensures { IfOk result (λ command. command ≡ validate_command (texts words.now)) }
+{
+    match words {
+        [option, isa] if option.as_str() == "--isa" && is_positional(isa.as_str()) => {
+            let isa = owned(alloc, isa.as_str())?;
+            Ok(Command::Validate { isa })
+        },
+        _ => Ok(Command::Unknown),
+    }
+}
+
+fn read_reference(alloc: Global, words: &[String]) -> Result<Command, NoMemory>
+    ensures { IfOk result (λ command. command ≡ reference_command (texts words.now)) }
+{
+    match read_pairs(alloc, words)? {
+        Some(pairs) if are_of_reference(pairs.as_slice()) => {
+            read_inputs(alloc, pairs.as_slice())
+        },
+        _ => Ok(Command::Unknown),
+    }
+}
+
+fn are_of_reference(pairs: &[Pair]) -> bool
+    ensures { result ≡ are_known reference_options pairs.now }
+{
+    are_known(
+        pairs,
+        &["--isa", "--test", "--signature", "--log", "--steps"],
+    )
+}
+
+fn read_inputs(alloc: Global, pairs: &[Pair]) -> Result<Command, NoMemory>
+    ensures { IfOk result (λ command. command ≡ reference_of pairs.now) }
+{
+    let Some(isa) = only_value(alloc, pairs, "--isa")? else {
+        return Ok(Command::Unknown);
+    };
+    let Some(test) = only_value(alloc, pairs, "--test")? else {
+        return Ok(Command::Unknown);
+    };
+    let Some(signature) = only_value(alloc, pairs, "--signature")? else {
+        return Ok(Command::Unknown);
+    };
+    read_run(alloc, isa, test, signature, pairs)
+}
+
+fn read_run(
+    alloc: Global,
+    isa: Text,
+    test: Text,
+    signature: Text,
+    pairs: &[Pair],
+) -> Result<Command, NoMemory>
+    ensures { IfOk result (λ command. command ≡ reference_run isa test signature pairs.now) }
+{
+    let Some(log) = optional_value(alloc, pairs, "--log")? else {
+        return Ok(Command::Unknown);
+    };
+    let Some(steps) = read_steps(alloc, pairs)? else {
+        return Ok(Command::Unknown);
+    };
+    Ok(Command::Reference {
+        isa,
+        test,
+        signature,
+        log,
+        steps,
+    })
+}
+
+/// The value of `--steps`, which needn't stand. There is none where it isn't a number of steps, or stands twice.
+fn read_steps(alloc: Global, pairs: &[Pair]) -> Result<Option<Option<u64>>, NoMemory>
+    ensures { IfOk result (λ steps. steps ≡ steps_of (values_of (codes "--steps") pairs.now)) }
+{
+    match values(alloc, pairs, "--steps")?.as_slice() {
+        [] => Ok(Some(None)),
+        [text] => Ok(steps_in(text.as_str()).map(Some)),
+        _ => Ok(None),
+    }
+}
+
+fn steps_in(text: &str) -> Option<u64>
+    ensures { result ≡ within_steps (number_of text.now) }
+{
+    let steps = read_number(text)?;
+    if steps >= 1 && steps <= 2_000_000 {
+        Some(steps)
+    } else {
+        None
+    }
+}
+
+/// A number of one to seven decimal digits.
+fn read_number(text: &str) -> Option<u64>
+    ensures { result ≡ number_of text.now }
+{
+    if text.is_empty() || text.len() > 7 {
+        return None;
+    }
+    let mut number = 0;
+    for digit in text.as_bytes() {
+        match digit {
+            b'0'..=b'9' => number = 10 * number + u64::from(*digit - b'0'),
+            _ => return None,
+        }
+    }
+    Some(number)
+}

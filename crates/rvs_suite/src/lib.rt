@@ -1,0 +1,21 @@
+//! The whole of what the program does: words in, effects and a status out.
+#![tactic(auto)]
+
+mod command;
+mod comparing;
+mod isa_file;
+mod reference;
+#[cfg(test)]
+mod reference_tests;
+mod suite;
+mod test_file;
+mod test_run;
+#[cfg(test)]
+mod tests;
+mod texts;
+mod validating;
+mod words;
+
+pub use command::Command;
+pub use rvs_plan::Status;
+pub use suite::run_suite;

@@ -1,0 +1,36 @@
+// The command `validate`.
+ghost use Rattle.rvs_base.specs.Host.{HostState};
+ghost use Rattle.rvs_plan.specs.World.{world};
+ghost use Rattle.rvs_plan.specs.Meets.{Meets};
+ghost use Rattle.rvs_suite.specs.Validate.{print_said, validate};
+
+use crate::isa_file::read_isa;
+use rvs_base::{Host, Sink};
+use rvs_isa::{Checked, print_checked};
+use rvs_plan::{Finish, Stop, print};
+use std::alloc::Global;
+
+/// Checks an ISA file, and puts what it says of the core.
+///
+/// # Errors
+///
+/// [`Stop`]; nothing is put before the file is accepted.
+pub fn validate_file<H: Host, O: Sink>(
+    alloc: Global,
+    isa: &str,
+    host: &mut H,
+    out: &mut O,
+) -> Result<Finish, Stop>
+    ensures { Meets (validate isa.now) (world (H.state host.old) (O.state out.old)) (world (H.state host.new) (O.state out.new)) result }
+{
+    let said = read_isa(alloc, host, isa)?;
+    print_said(alloc, &said, out)
+}
+
+fn print_said<O: Sink>(alloc: Global, said: &Checked, out: &mut O) -> Result<Finish, Stop>
+    ensures { (host : HostState) → Meets (print_said said.now) (world host (O.state out.old)) (world host (O.state out.new)) result }
+{
+    let text = print_checked(alloc, said)?;
+    print(out, text.as_str().as_bytes())?;
+    Ok(Finish::Done)
+}
