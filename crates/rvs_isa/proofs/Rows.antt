@@ -1,7 +1,7 @@
 -- The definitions on single texts and trees.
 use Rattle.std.proofs.Common.{◌≡◌, true, false, [], ◌∷◌, Some, None, Ok, Err, codes, refl}
 use Rattle.std.specs.Fmt.{digits}
-use Rattle.rvs_yaml.specs.Data.{Data, Entries, scalar, sequence, mapping, no_items, item, no_entries, entry}
+use Rattle.rvs_tree.specs.Data.{Data, Entries, scalar, sequence, mapping, no_items, item, no_entries, entry}
 use Rattle.rvs_isa.specs.declared.refusal.IsaKind.TheVariants.{BadIsaText, UnsupportedExtension, MisaDisagrees, HartCount}
 use Rattle.rvs_isa.specs.Number.{number}
 use Rattle.rvs_isa.specs.IsaText.{extensions_in}

@@ -3,7 +3,7 @@ use Rattle.std.proofs.Common.{◌≡◌, ℕ, ◌+◌, true, List, [], ◌∷◌
 use Rattle.std.proofs.lemmas.List.{take_more}
 use Rattle.std.proofs.lemmas.Option.{slice_get-map, slice_get_within, get_or_from_slice_get}
 use Rattle.std.proofs.lemmas.Grind.{flat_map-append}
-use Rattle.rvs_yaml.specs.Data.{Data, Pairs, own_pairs, keys_of, members_of, is_map, mapping}
+use Rattle.rvs_tree.specs.Data.{Data, Pairs, own_pairs, keys_of, members_of, is_map, mapping}
 
 -- what the first entries of a map add
 abbrev pub first_entries : (List ℕ → Data → List (List ℕ)) → ℕ → Data → List (List ℕ)

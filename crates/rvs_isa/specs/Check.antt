@@ -1,7 +1,7 @@
 -- The eight checks of an ISA specification, and what an accepted one says.
 use Rattle.std.specs.Prelude.{ℕ, ◌==◌, Bool, false, List, [], ◌∷◌, ◌++◌, Option, Some, None, Result, Ok, Err, codes}
 use Rattle.std.specs.Fmt.{decimal}
-use Rattle.rvs_yaml.specs.Data.{Data, is_map}
+use Rattle.rvs_tree.specs.Data.{Data, is_map}
 use Rattle.rvs_insn.specs.Isa.{Isa}
 use Rattle.rvs_isa.specs.declared.checked.Checked.{Checked}
 use Rattle.rvs_isa.specs.declared.isa_text.Extensions.{Extensions}

@@ -2,7 +2,7 @@
 use Rattle.std.specs.Prelude.{ℕ, Bool, true, false, ◌&&◌, ◌||◌, if◌then◌else◌, List, [], ◌∷◌, Option, Some, None, Result, Err, codes, nat_le}
 use Rattle.std.specs.Option.{option_and_then}
 use Rattle.std.specs.Str.{bytes_eq}
-use Rattle.rvs_yaml.specs.Data.{Data, scalar, sequence, no_items, item, value_at}
+use Rattle.rvs_tree.specs.Data.{Data, scalar, sequence, no_items, item, value_at}
 use Rattle.rvs_isa.specs.declared.isa_text.Extensions.{Extensions}
 use Rattle.rvs_isa.specs.declared.refusal.IsaKind.{IsaKind}
 use Rattle.rvs_isa.specs.declared.refusal.IsaKind.TheVariants.{BadIsaText}

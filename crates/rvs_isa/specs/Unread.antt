@@ -2,7 +2,7 @@
 use Rattle.std.specs.Prelude.{ℕ, Bool, ◌||◌, if◌then◌else◌, List, [], ◌∷◌, codes}
 use Rattle.std.specs.List.{flat_map}
 use Rattle.std.specs.Str.{bytes_eq}
-use Rattle.rvs_yaml.specs.Data.{Data, own_pairs}
+use Rattle.rvs_tree.specs.Data.{Data, own_pairs}
 use Rattle.rvs_isa.specs.Refusal.{path_text}
 
 -- what is unread of each entry of a map

@@ -1,6 +1,6 @@
 // The eight checks of a specification, in order.
 ghost use Rattle.std.specs.Prelude.{◌≡◌, ◌≢◌, IfOk, IfErr, map};
-ghost use Rattle.rvs_yaml.specs.TreeView.{view};
+ghost use Rattle.rvs_tree.specs.TreeView.{view};
 ghost use Rattle.rvs_isa.specs.Check.{checked, checked_hart, hart_number, hart_key, hart_entries, isa_entry, xlen_entry, address_bits, misaligned, misa_entry, reset_value};
 ghost use Rattle.rvs_isa.specs.Refusal.{Answers};
 
@@ -13,7 +13,7 @@ use crate::unread::unread;
 use crate::value::{address_size, is_xlen, isa_in, number_in, only_member, truth_in};
 use rvs_base::{NoMemory, Text};
 use rvs_insn::IsaSpec;
-use rvs_yaml::Tree;
+use rvs_tree::Tree;
 use std::alloc::Global;
 
 /// Checks an ISA specification, as riscv-config has it: one hart, its `ISA`, and its entries

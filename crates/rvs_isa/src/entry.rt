@@ -1,14 +1,14 @@
 // The entries of a specification, and refusals at them.
 ghost use Rattle.std.specs.Prelude.{◌≡◌, ◌≢◌, IfOk, map, option_map};
-ghost use Rattle.rvs_yaml.specs.Data.{value_at};
-ghost use Rattle.rvs_yaml.specs.TreeView.{view};
+ghost use Rattle.rvs_tree.specs.Data.{value_at};
+ghost use Rattle.rvs_tree.specs.TreeView.{view};
 ghost use Rattle.rvs_isa.specs.Entries.{entry_at};
 ghost use Rattle.rvs_isa.specs.Check.{needed, is_a_map};
 ghost use Rattle.rvs_isa.specs.Refusal.{Answers, AnswersWith, path_text, refusal_at};
 
 use crate::refusal::{IsaKind, IsaRefusal};
 use rvs_base::{NoMemory, Text};
-use rvs_yaml::Tree;
+use rvs_tree::Tree;
 use std::alloc::Global;
 
 /// What a tree has at the end of a path of keys.

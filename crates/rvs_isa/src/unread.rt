@@ -1,11 +1,11 @@
 // The entries that no check reads.
 ghost use Rattle.std.specs.Prelude.{◌≡◌, ◌++◌, IfOk, OnOk};
-ghost use Rattle.rvs_yaml.specs.TreeView.{view};
+ghost use Rattle.rvs_tree.specs.TreeView.{view};
 ghost use Rattle.rvs_isa.specs.Unread.{unread, each_entry, is_checked, unread_of_root, unread_of_hart, unread_of_misa};
 
 use crate::entry::path_text;
 use rvs_base::{Items, NoMemory, Text};
-use rvs_yaml::Tree;
+use rvs_tree::Tree;
 use std::alloc::Global;
 
 /// The paths of the entries of a specification that no check reads, in the tree's order.

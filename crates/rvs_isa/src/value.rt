@@ -1,12 +1,12 @@
 // What a single entry says.
 ghost use Rattle.std.specs.Prelude.{◌≡◌, option_map};
-ghost use Rattle.rvs_yaml.specs.TreeView.{view};
+ghost use Rattle.rvs_tree.specs.TreeView.{view};
 ghost use Rattle.rvs_isa.specs.Entries.{only_member, number_in, isa_in, has_text, is_xlen, address_size, truth_in};
 
 use crate::isa_text::{Extensions, read_isa_text};
 use crate::number::read_number;
 use crate::refusal::IsaKind;
-use rvs_yaml::Tree;
+use rvs_tree::Tree;
 
 /// The member of a list of one.
 pub fn only_member(tree: &Tree) -> Option<&Tree>

@@ -8,7 +8,7 @@ use Rattle.rvs_plan.specs.Performed.{performed, end_of}
 use Rattle.rvs_plan.specs.Inputs.{part_end, too_long_text}
 use Rattle.rvs_plan.specs.declared.stop.Stop.{Stop}
 use Rattle.rvs_plan.specs.declared.stop.Stop.TheVariants.{NoFile, Refused}
-use Rattle.rvs_yaml.specs.Data.{Data}
+use Rattle.rvs_tree.specs.Data.{Data}
 use Rattle.rvs_yaml.specs.Answer.{Answer as Tree, answer}
 use Rattle.rvs_isa.specs.Check.{checked}
 use Rattle.rvs_isa.specs.declared.checked.Checked.{Checked}

@@ -5,8 +5,8 @@ use Rattle.rvs_plan.specs.Inputs.{input}
 use Rattle.rvs_plan.specs.declared.stop.Stop.{Stop}
 use Rattle.rvs_plan.specs.declared.stop.Stop.TheVariants.{Refused}
 use Rattle.rvs_yaml.specs.Answer.{Answer, answer}
-use Rattle.rvs_yaml.specs.Kinds.{number_of}
-use Rattle.rvs_yaml.specs.declared.refusal.YamlKind.{YamlKind}
+use Rattle.rvs_yaml_text.specs.Kinds.{number_of}
+use Rattle.rvs_yaml_text.specs.declared.kind.YamlKind.{YamlKind}
 use Rattle.rvs_isa.specs.Check.{checked}
 use Rattle.rvs_isa.specs.Print.{refusal_text}
 use Rattle.rvs_isa.specs.declared.checked.Checked.{Checked}

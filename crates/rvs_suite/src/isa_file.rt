@@ -4,8 +4,8 @@ ghost use Rattle.rvs_base.specs.Sink.{SinkState};
 ghost use Rattle.rvs_plan.specs.World.{World, world};
 ghost use Rattle.rvs_plan.specs.Plan.{Ends};
 ghost use Rattle.rvs_plan.specs.Meets.{Meets};
-ghost use Rattle.rvs_yaml.specs.Kinds.{number_of};
-ghost use Rattle.rvs_yaml.specs.TreeView.{view};
+ghost use Rattle.rvs_yaml_text.specs.Kinds.{number_of};
+ghost use Rattle.rvs_tree.specs.TreeView.{view};
 ghost use Rattle.rvs_isa.specs.Check.{checked};
 ghost use Rattle.rvs_suite.specs.Specification.{yaml_text, isa_text, checked_end, checks, specification};
 

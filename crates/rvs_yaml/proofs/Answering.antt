@@ -2,18 +2,18 @@
 use Rattle.std.proofs.Common.{◌≡◌, ℕ, suc, ◌+◌, ◌<◌, ◌≤◌, Bool, true, false, not, List, [], ◌∷◌, ◌++◌, length, map, Option, Some, None, Ok, Err, refl, sym, ap, ◌∙◌, append_assoc, append-nil, arith, add-zero, length-append}
 use Rattle.std.specs.Prelude.{◌||◌, option_map, IfSome}
 use Rattle.std.specs.Borrow.{Bor}
-use Rattle.rvs_yaml.specs.Data.{Data}
-use Rattle.rvs_yaml.specs.Value.{Value}
+use Rattle.rvs_tree.specs.Data.{Data}
+use Rattle.rvs_tree.specs.Value.{Value}
 use Rattle.rvs_yaml.specs.Checks.{Checked, ◌>>=◌, ◌>>◌}
-use Rattle.rvs_yaml.specs.Word.{Word}
+use Rattle.rvs_yaml_text.specs.Word.{Word}
 use Rattle.rvs_yaml.specs.Block.{tree_of}
 use Rattle.rvs_yaml.specs.Stack.{Open, step, steps}
 use Rattle.rvs_yaml.specs.Front.{front_value, checked_front}
-use Rattle.rvs_yaml.specs.Scalar.{is_blank}
-use Rattle.rvs_yaml.specs.Text.{line_words, words_of, lines_of, cut, cut_behind, without_return}
+use Rattle.rvs_yaml_text.specs.Scalar.{is_blank}
+use Rattle.rvs_yaml_text.specs.Text.{line_words, words_of, lines_of, cut, cut_behind, without_return}
 use Rattle.rvs_yaml.specs.Answer.{Answer, within_limits, front, at_end, answer_after, answer}
 use Rattle.rvs_yaml.specs.Reader.{checked_line}
-use Rattle.rvs_yaml.specs.declared.refusal.YamlKind.{YamlKind}
+use Rattle.rvs_yaml_text.specs.declared.kind.YamlKind.{YamlKind}
 use Rattle.rvs_yaml.proofs.Outlined.{bind_assoc, bind_same, tree_of-steps}
 use Rattle.rvs_yaml.proofs.Fronts.{finished-front}
 

@@ -2,15 +2,15 @@
 use Rattle.std.proofs.Common.{◌≡◌, ℕ, Bool, List, Option, None, Ok, Err, refl, sym, ap, subst, ◌∙◌}
 use Rattle.std.specs.Borrow.{Bor}
 use Rattle.rvs_yaml.specs.Checks.{Checked, ◌>>=◌}
-use Rattle.rvs_yaml.specs.Data.{Data}
-use Rattle.rvs_yaml.specs.Value.{Value}
+use Rattle.rvs_tree.specs.Data.{Data}
+use Rattle.rvs_tree.specs.Value.{Value}
 use Rattle.rvs_yaml.specs.Stack.{Open}
 use Rattle.rvs_yaml.specs.Front.{front_value, checked_front}
 use Rattle.rvs_yaml.specs.Answer.{Answer, within_limits, answer}
 use Rattle.rvs_yaml.specs.Reader.{Refuses, whole}
 use Rattle.rvs_yaml.specs.Gives.{Fails}
-use Rattle.rvs_yaml.specs.declared.refusal.YamlKind.{YamlKind}
-use Rattle.rvs_yaml.specs.declared.refusal.YamlKind.TheVariants.{NoMemory}
+use Rattle.rvs_yaml_text.specs.declared.kind.YamlKind.{YamlKind}
+use Rattle.rvs_yaml_text.specs.declared.kind.YamlKind.TheVariants.{NoMemory}
 use Rattle.rvs_yaml.proofs.Answering.{Reads, Reads-end}
 
 line_refused : {A : Type 0} (kind : YamlKind) (line n : ℕ) (a : Answer) (m : Checked A) → (m ≡ Err kind → a ≡ Err (n, kind)) → Fails kind m → ((b : Answer) → b ≡ Err (n, kind) → Refuses kind line b) → (kind ≡ NoMemory → line ≡ 0) → Refuses kind line a

@@ -1,12 +1,13 @@
 -- Reading a flow collection from left to right gives its value.
 use Rattle.std.proofs.Common.{◌≡◌, ℕ, Bool, true, List, [], ◌∷◌, ◌++◌, Some, Ok, Err, refl, sym, ap, ◌∙◌}
 use Rattle.std.specs.Prelude.{◌&&◌}
-use Rattle.rvs_yaml.specs.Value.{Value, Written}
-use Rattle.rvs_yaml.specs.Word.{Anchors, Bracket, Mark, opening, closing, comma, colon, scalar_mark, key_mark, cut_key, colon_scalar, alias_mark, fault}
+use Rattle.rvs_tree.specs.Value.{Value, Written}
+use Rattle.rvs_yaml.specs.Anchors.{Anchors}
+use Rattle.rvs_yaml_text.specs.Word.{Bracket, Mark, opening, closing, comma, colon, scalar_mark, key_mark, cut_key, colon_scalar, alias_mark, fault}
 use Rattle.rvs_yaml.specs.Checks.{Checked, ◌>>=◌, ◌>>◌}
 use Rattle.rvs_yaml.specs.Flow.{Nest, none, one, group, inside, ending, behind, nest, Place, member, behind_member, key_place, entry_value, behind_entry, first_place, with_value, with_mark, may_open, closes, ends_with, fits, last_fits, entry_fits, collection, only_end, merged_well, flow_value}
 use Rattle.rvs_yaml.specs.FlowSteps.{Reading, open_in, whole, into, moved, flow_step, flow_steps, flow_end}
-use Rattle.rvs_yaml.specs.declared.refusal.YamlKind.TheVariants.{BadFlow}
+use Rattle.rvs_yaml_text.specs.declared.kind.YamlKind.TheVariants.{BadFlow}
 use Rattle.rvs_yaml.specs.FlowParts.{first_reading, ended}
 use Rattle.rvs_yaml.proofs.Outlined.{bind_assoc, bind_same, then_assoc, then_same}
 

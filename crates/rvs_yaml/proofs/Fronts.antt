@@ -2,8 +2,8 @@
 use Rattle.std.proofs.Common.{◌≡◌, ℕ, List, [], ◌∷◌, Some, None, Ok, Err, refl, sym, ap, ◌∙◌}
 use Rattle.std.specs.Prelude.{if◌then◌else◌}
 use Rattle.rvs_yaml.specs.Checks.{Checked, ◌>>=◌}
-use Rattle.rvs_yaml.specs.Value.{Value, scalar_value}
-use Rattle.rvs_yaml.specs.Word.{Name, opens_block}
+use Rattle.rvs_tree.specs.Value.{Value, scalar_value}
+use Rattle.rvs_yaml_text.specs.Word.{Name, opens_block}
 use Rattle.rvs_yaml.specs.Block.{Found, found, named, check_merge}
 use Rattle.rvs_yaml.specs.Stack.{Done, done_items, done_entries, alone, Open, own_found, closed_as, closed, closed_into, unwound, finished}
 use Rattle.rvs_yaml.specs.StepParts.{closed_value}

@@ -2,8 +2,8 @@
 use Rattle.std.proofs.Common.{◌≡◌, Result, Ok, Err, ap, ◌∙◌, sym}
 use Rattle.rvs_yaml.specs.Checks.{Checked, ◌>>=◌}
 use Rattle.rvs_yaml.specs.Gives.{Gives, Fails}
-use Rattle.rvs_yaml.specs.declared.refusal.YamlKind.{YamlKind}
-use Rattle.rvs_yaml.specs.declared.refusal.YamlKind.TheVariants.{NoMemory}
+use Rattle.rvs_yaml_text.specs.declared.kind.YamlKind.{YamlKind}
+use Rattle.rvs_yaml_text.specs.declared.kind.YamlKind.TheVariants.{NoMemory}
 
 pub fails_to : {A B : Type 0} (kind : YamlKind) (m : Checked A) (t : Checked B) → (m ≡ Err kind → t ≡ Err kind) → Fails kind m → Fails kind t
 fails_to NoMemory m t f h = tt

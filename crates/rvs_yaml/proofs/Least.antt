@@ -1,9 +1,9 @@
 -- The answer is the least front that has no tree.
 use Rattle.std.proofs.Common.{◌≡◌, ℕ, zero, suc, ◌+◌, ◌<◌, ◌≤◌, List, [], ◌∷◌, ◌++◌, length, take, Ok, Err, refl, sym, ap, ◌∙◌, subst, append_assoc, append-nil, arith, length-append, inl, inr}
 use Rattle.std.proofs.lemmas.Bool.{cases_lt}
-use Rattle.rvs_yaml.specs.Data.{Data}
+use Rattle.rvs_tree.specs.Data.{Data}
 use Rattle.rvs_yaml.specs.Checks.{Checked}
-use Rattle.rvs_yaml.specs.Text.{lines_of}
+use Rattle.rvs_yaml_text.specs.Text.{lines_of}
 use Rattle.rvs_yaml.specs.Answer.{Answer, front, at_end, answer_after, HasTree, Tells, AnswersAreLeast}
 
 -- each front of lines that is shorter than n has a tree

@@ -1,5 +1,4 @@
 pub mod Answering
-pub mod Cutting
 pub mod Ending
 pub mod FlowRuns
 pub mod Fronts
@@ -8,14 +7,8 @@ pub mod Least
 pub mod Lining
 pub mod Lookups
 pub mod Marking
-pub mod Merging
 pub mod Outlined
-pub mod Quoting
 pub mod Rows
-pub mod Scans
 pub mod Sketching
 pub mod Stepping
-pub mod Sums
-pub mod TreeSizes
-pub mod Views
 pub mod WholeLines

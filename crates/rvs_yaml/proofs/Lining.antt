@@ -2,9 +2,9 @@
 use Rattle.std.proofs.Common.{◌≡◌, ℕ, suc, ◌+◌, ◌-◌, ◌≤◌, Bool, true, false, List, [], ◌∷◌, length, Option, Some, None, refl, sym, ap, ◌∙◌, arith}
 use Rattle.std.specs.Prelude.{◌==◌, ◌&&◌}
 use Rattle.std.proofs.lemmas.Bool.Decides.{nat_tests}
-use Rattle.rvs_yaml.specs.Word.{dash}
-use Rattle.rvs_yaml.specs.Scalar.{without_spaces, ends_mark, is_blank}
-use Rattle.rvs_yaml.specs.Text.{word_at, item_name, words_at, last_words}
+use Rattle.rvs_yaml_text.specs.Word.{dash}
+use Rattle.rvs_yaml_text.specs.Scalar.{without_spaces, ends_mark, is_blank}
+use Rattle.rvs_yaml_text.specs.Text.{word_at, item_name, words_at, last_words}
 use Rattle.rvs_yaml.specs.LineParts.{behind_dash, rest_words}
 
 space-on : (b : ℕ) (bs : List ℕ) → (b == 32) ≡ true → without_spaces (b ∷ bs) ≡ without_spaces bs

@@ -2,11 +2,11 @@
 use Rattle.std.proofs.Common.{◌≡◌, ℕ, ◌+◌, ◌<◌, Bool, true, false, cond, List, [], ◌∷◌, ◌++◌, map, reverse, length, take, get_or, Some, None, refl, ap, ◌∙◌}
 use Rattle.std.specs.Prelude.{bytes_eq}
 use Rattle.std.proofs.lemmas.List.{take_more, reverse-append}
-use Rattle.rvs_yaml.specs.Value.{Value}
-use Rattle.rvs_yaml.specs.Word.{Anchors, lookup}
+use Rattle.rvs_tree.specs.Value.{Value}
+use Rattle.rvs_yaml.specs.Anchors.{Anchors, lookup}
 use Rattle.rvs_yaml.specs.StackView.{open_view, stack_view}
 use Rattle.rvs_yaml.specs.declared.open.Open.{Open}
-use Rattle.rvs_yaml.proofs.Sums.{map-append}
+use Rattle.rvs_tree.proofs.Sums.{map-append}
 
 found-by : (t : Bool) (a v : Value) (name : List ℕ) (more bs : Anchors) → (lookup name more ≡ Some v → lookup name (more ++ bs) ≡ Some v) → cond t (Some a) (lookup name more) ≡ Some v → cond t (Some a) (lookup name (more ++ bs)) ≡ Some v
 found-by true a v name more bs ih h = h

@@ -1,37 +1,13 @@
 -- The marks of a text, one after another.
-use Rattle.std.proofs.Common.{◌≡◌, ℕ, zero, suc, ◌+◌, ◌<◌, Bool, true, false, List, [], ◌∷◌, ◌++◌, length, take, drop, get_or, Ok, refl, sym, ap, ◌∙◌, append-nil, append_assoc, arith}
+use Rattle.std.proofs.Common.{◌≡◌, ℕ, zero, suc, Bool, true, false, List, [], ◌∷◌, Ok, refl, sym, ap, ◌∙◌, arith}
 use Rattle.std.specs.Prelude.{◌==◌, ◌&&◌}
-use Rattle.std.proofs.lemmas.List.{take_more}
 use Rattle.std.proofs.lemmas.Bool.Decides.{nat_tests}
 use Rattle.rvs_yaml.specs.Checks.{Checked, ◌>>=◌}
-use Rattle.rvs_yaml.specs.Word.{Anchors}
-use Rattle.rvs_yaml.specs.Marks.{ends_plain, plain_split, before, marks, first_mark}
+use Rattle.rvs_yaml.specs.Anchors.{Anchors}
+use Rattle.rvs_yaml_text.specs.Marks.{marks, first_mark}
 use Rattle.rvs_yaml.specs.MarkParts.{is_flow_end, next_flowing}
 use Rattle.rvs_yaml.specs.FlowSteps.{Reading, flow_step, flow_steps}
 use Rattle.rvs_yaml.proofs.Outlined.{bind_assoc}
-use Rattle.rvs_yaml.proofs.Scans.{front_too, drop-at}
-
-plain-here : (sp : Bool) (b : ℕ) (bs : List ℕ) → ends_plain sp b bs ≡ true → plain_split sp (b ∷ bs) ≡ ([], b ∷ bs)
-plain-here sp b bs e = rw (e, plain_split) refl
-
-plain-on : (sp : Bool) (b : ℕ) (bs : List ℕ) → ends_plain sp b bs ≡ false → plain_split sp (b ∷ bs) ≡ before b (plain_split (b == 32) bs)
-plain-on sp b bs e = rw (e, plain_split) refl
-
-pub plain-found : (sp : Bool) (bs : List ℕ) (i : ℕ) → i < length bs → ends_plain sp (get_or bs i 0) (drop (i + 1) bs) ≡ true → front_too (take i bs) (plain_split sp (drop i bs)) ≡ (take i bs, drop i bs)
-plain-found sp bs i h e =
-    ap (λ ys. front_too (take i bs) (plain_split sp ys)) (drop-at bs i h)
-    ∙ ap (front_too (take i bs)) (plain-here sp (get_or bs i 0) (drop (i + 1) bs) e)
-    ∙ ap (λ ys. (ys, get_or bs i 0 ∷ drop (i + 1) bs)) (append-nil (take i bs))
-    ∙ ap (λ ys. (take i bs, ys)) (sym (drop-at bs i h))
-
-pub plain-more : (sp : Bool) (bs : List ℕ) (i : ℕ) → i < length bs → ends_plain sp (get_or bs i 0) (drop (i + 1) bs) ≡ false →
-    front_too (take (i + 1) bs) (plain_split (get_or bs i 0 == 32) (drop (i + 1) bs)) ≡ front_too (take i bs) (plain_split sp (drop i bs))
-plain-more sp bs i h e =
-    let rest = plain_split (get_or bs i 0 == 32) (drop (i + 1) bs) in
-    ap (λ xs. (xs ++ rest.0, rest.1)) (take_more bs i 0 h)
-    ∙ ap (λ xs. (xs, rest.1)) (append_assoc (take i bs) (get_or bs i 0 ∷ []) rest.0)
-    ∙ ap (front_too (take i bs)) (sym (plain-on sp (get_or bs i 0) (drop (i + 1) bs) e))
-    ∙ sym (ap (λ ys. front_too (take i bs) (plain_split sp ys)) (drop-at bs i h))
 
 and_left : (x y : Bool) → (x && y) ≡ true → x ≡ true
 and_left true y h = refl

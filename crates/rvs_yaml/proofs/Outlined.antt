@@ -1,12 +1,14 @@
 -- The stack reads the tree of the words.
 use Rattle.std.proofs.Common.{◌≡◌, ℕ, Bool, true, false, cond, List, [], ◌∷◌, ◌++◌, Ok, Err, refl, sym, ap, ◌∙◌, append_assoc, append-nil}
 use Rattle.std.specs.Prelude.{if◌then◌else◌}
-use Rattle.rvs_yaml.specs.Value.{Value, scalar_value, list_value, map_value, Written, explicit_keys}
+use Rattle.rvs_tree.specs.Value.{Value, scalar_value, list_value, map_value, Written, explicit_keys}
 use Rattle.rvs_yaml.specs.Checks.{Checked, ◌>>=◌, ◌>>◌, check}
-use Rattle.rvs_yaml.specs.Block.{is_below, Found, found, named, own_value, value_over, value_of, only_leaf, item_at, key_at, spelled, check_merge, Outline, end, below, children, after, outline, block, items, entries, tree_of}
-use Rattle.rvs_yaml.specs.Word.{Key, Name, Shape, dash, key, leaf, refused, Word, head_of, opens_block, Anchors, written}
+use Rattle.rvs_yaml_text.specs.Word.{is_below, Key, Name, Shape, dash, key, leaf, refused, Word, head_of, opens_block}
+use Rattle.rvs_yaml.specs.Block.{Found, found, named, own_value, value_over, value_of, only_leaf, item_at, key_at, spelled, check_merge, Outline, end, below, children, after, outline, block, items, entries, tree_of}
+use Rattle.rvs_yaml.specs.Anchors.{Anchors}
+use Rattle.rvs_yaml.specs.Entry.{written}
 use Rattle.rvs_yaml.specs.Stack.{Done, done_items, done_entries, alone, Open, begun_done, known_of, begins, own_found, closed_as, closed, closed_into, advanced_as, advanced, settled, step, unwound, finished, steps}
-use Rattle.rvs_yaml.specs.declared.refusal.YamlKind.TheVariants.{Unsupported}
+use Rattle.rvs_yaml_text.specs.declared.kind.YamlKind.TheVariants.{Unsupported}
 
 pub bind_assoc : {A B C : Type 0} (m : Checked A) (f : A → Checked B) (g : B → Checked C) → ((m >>= f) >>= g) ≡ (m >>= (λ x. f x >>= g))
 bind_assoc (Ok x) f g = refl

@@ -3,8 +3,8 @@ use Rattle.std.proofs.Common.{◌≡◌, [], ◌∷◌, Ok, Err, refl}
 use Rattle.std.specs.Str.{is_utf8, chars}
 use lib.Utf8.{encode}
 use Rattle.rvs_yaml.specs.Answer.{answer}
-use Rattle.rvs_yaml.specs.Data.{scalar, sequence, mapping, no_items, item, no_entries, entry}
-use Rattle.rvs_yaml.specs.declared.refusal.YamlKind.TheVariants.{TabIndent, BadIndent, BadScalar, BadFlow, DuplicateKey, UnknownAlias, BadMerge, Unsupported}
+use Rattle.rvs_tree.specs.Data.{scalar, sequence, mapping, no_items, item, no_entries, entry}
+use Rattle.rvs_yaml_text.specs.declared.kind.YamlKind.TheVariants.{TabIndent, BadIndent, BadScalar, BadFlow, DuplicateKey, UnknownAlias, BadMerge, Unsupported}
 
 -- 'x: 1\n"a\\q": 2\n'
 row1 : answer (120 ∷ 58 ∷ 32 ∷ 49 ∷ 10 ∷ 34 ∷ 97 ∷ 92 ∷ 113 ∷ 34 ∷ 58 ∷ 32 ∷ 50 ∷ 10 ∷ []) ≡ Err (2, BadIndent)

@@ -3,19 +3,19 @@ use Rattle.std.proofs.Common.{◌≡◌, ℕ, zero, suc, ◌+◌, ◌-◌, ◌<�
 use Rattle.std.specs.Prelude.{◌&&◌, ◌||◌, not, nat_lt}
 use Rattle.std.proofs.lemmas.Bool.Decides.{nat_tests}
 use Rattle.rvs_yaml.specs.Checks.{Checked, ◌>>=◌, check}
-use Rattle.rvs_yaml.specs.Data.{Data, scalar, sequence, mapping, Items, no_items, item, Entries, no_entries, entry, list_of, pairs_of, members_of, is_scalar, depth, items_depth, entries_depth}
-use Rattle.rvs_yaml.specs.Value.{Value, Written, scalar_value}
-use Rattle.rvs_yaml.specs.Bound.{members_depth, entry_depth}
+use Rattle.rvs_tree.specs.Data.{Data, scalar, sequence, mapping, Items, no_items, item, Entries, no_entries, entry, list_of, pairs_of, members_of, is_scalar, depth, items_depth, entries_depth}
+use Rattle.rvs_tree.specs.Value.{Value, Written, scalar_value}
+use Rattle.rvs_tree.specs.Bound.{members_depth, entry_depth}
 use Rattle.rvs_yaml.specs.StepParts.{closed_value}
 use Rattle.rvs_yaml.specs.Front.{ends, front_value}
 use Rattle.rvs_yaml.specs.Sketched.{IsSketch}
 use Rattle.rvs_yaml.specs.declared.sketch.Sketch.{Sketch}
-use Rattle.rvs_yaml.specs.declared.refusal.YamlKind.{YamlKind}
+use Rattle.rvs_yaml_text.specs.declared.kind.YamlKind.{YamlKind}
 use Rattle.std.proofs.lemmas.Option.{slice_get-get_or}
 use Rattle.rvs_yaml.specs.StackView.{done_view, stack_view}
 use Rattle.rvs_yaml.specs.declared.open.Open.{Open}
-use Rattle.rvs_yaml.specs.declared.refusal.YamlKind.TheVariants.{BadMerge}
-use Rattle.rvs_yaml.proofs.Sums.{merged_shallower}
+use Rattle.rvs_yaml_text.specs.declared.kind.YamlKind.TheVariants.{BadMerge}
+use Rattle.rvs_tree.proofs.Sums.{merged_shallower}
 use Rattle.rvs_yaml.proofs.Lookups.{stack-more}
 use Rattle.std.proofs.Common.{get_or}
 

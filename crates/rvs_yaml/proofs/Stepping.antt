@@ -1,9 +1,10 @@
 -- Steps of the stack, part by part.
 use Rattle.std.proofs.Common.{◌≡◌, ℕ, false, List, [], ◌∷◌, ◌++◌, Ok, refl, sym, ap, ◌∙◌}
 use Rattle.rvs_yaml.specs.Checks.{Checked, ◌>>=◌}
-use Rattle.rvs_yaml.specs.Value.{Value}
-use Rattle.rvs_yaml.specs.Word.{Content, Shape, dash, key, leaf, refused, Word, Head, head_of, Anchors}
-use Rattle.rvs_yaml.specs.Block.{Found, is_below, own_value, content_value}
+use Rattle.rvs_tree.specs.Value.{Value}
+use Rattle.rvs_yaml_text.specs.Word.{Content, Shape, dash, key, leaf, refused, Word, Head, head_of, is_below}
+use Rattle.rvs_yaml.specs.Anchors.{Anchors}
+use Rattle.rvs_yaml.specs.Block.{Found, own_value, content_value}
 use Rattle.rvs_yaml.specs.Stack.{Done, Open, begun_done, known_of, begins, put, advanced_as, advanced, closed_into, settled, own_found, step}
 use Rattle.rvs_yaml.specs.StepParts.{Block, own_content, put_content, advanced_content, opened, own_of, bare}
 use Rattle.rvs_yaml.proofs.Outlined.{bind_assoc, bind_same}

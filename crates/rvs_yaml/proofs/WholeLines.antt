@@ -4,16 +4,16 @@ use Rattle.std.specs.Prelude.{◌==◌, ◌&&◌}
 use Rattle.std.specs.Str.{is_utf8}
 use Rattle.std.proofs.Common.{arith}
 use Rattle.std.proofs.lemmas.Bool.Decides.{nat_tests}
-use Rattle.rvs_yaml.specs.Scalar.{is_blank}
+use Rattle.rvs_yaml_text.specs.Scalar.{is_blank}
 use Rattle.rvs_yaml.specs.Front.{checked_front}
 use Rattle.rvs_yaml.specs.Reader.{checked_line}
 use Rattle.rvs_yaml.proofs.Lining.{words-blank, dash_not_blank}
 use Rattle.std.proofs.lemmas.Str.{IsUtf8-from_is_utf8, is_utf8-from_IsUtf8}
 use Rattle.rvs_yaml.specs.Checks.{Checked, ◌>>=◌, ◌>>◌}
-use Rattle.rvs_yaml.specs.Word.{Word, refused}
+use Rattle.rvs_yaml_text.specs.Word.{Word, refused}
 use Rattle.rvs_yaml.specs.Stack.{Open, step, steps}
-use Rattle.rvs_yaml.specs.Text.{word_at, words_at, is_mark, line_words}
-use Rattle.rvs_yaml.specs.declared.refusal.YamlKind.TheVariants.{NotUtf8, Unsupported}
+use Rattle.rvs_yaml_text.specs.Text.{word_at, words_at, is_mark, line_words}
+use Rattle.rvs_yaml_text.specs.declared.kind.YamlKind.TheVariants.{NotUtf8, Unsupported}
 
 one-more : (m : Checked (List Open)) → m ≡ (m >>= λ cs. let r : Checked (List Open) = Ok cs in r)
 one-more (Ok cs) = refl

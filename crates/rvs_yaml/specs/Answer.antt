@@ -1,12 +1,12 @@
 -- The answer for a text: its tree, or the first line at which the lines so far have none, with the kind of the first check that fails there.
 use Rattle.std.specs.Prelude.{◌≡◌, ℕ, ◌<◌, false, nat_lt, not, List, [], ◌∷◌, ◌++◌, length, take, Result, Ok, Err}
-use Rattle.rvs_yaml.specs.Data.{Data, depth}
-use Rattle.rvs_yaml.specs.Value.{Value}
+use Rattle.rvs_tree.specs.Data.{Data, depth}
+use Rattle.rvs_tree.specs.Value.{Value}
 use Rattle.rvs_yaml.specs.Checks.{Checked, ◌>>=◌, ◌>>◌, check}
 use Rattle.rvs_yaml.specs.Block.{tree_of}
-use Rattle.rvs_yaml.specs.Text.{lines_of, words_of}
-use Rattle.rvs_yaml.specs.declared.refusal.YamlKind.{YamlKind}
-use Rattle.rvs_yaml.specs.declared.refusal.YamlKind.TheVariants.{TooDeep, TooManyNodes}
+use Rattle.rvs_yaml_text.specs.Text.{lines_of, words_of}
+use Rattle.rvs_yaml_text.specs.declared.kind.YamlKind.{YamlKind}
+use Rattle.rvs_yaml_text.specs.declared.kind.YamlKind.TheVariants.{TooDeep, TooManyNodes}
 
 -- the limits on depth and on the number of nodes
 abbrev pub within_limits : Value → Checked (Unit {0})

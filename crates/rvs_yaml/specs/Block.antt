@@ -1,15 +1,13 @@
 -- The tree of a list of words.
-use Rattle.std.specs.Prelude.{ℕ, Bool, true, false, not, ◌&&◌, ◌||◌, ◌==◌, nat_lt, if◌then◌else◌, List, [], ◌∷◌, ◌++◌, Some, None, Ok, Err}
-use Rattle.rvs_yaml.specs.Value.{Value, scalar_value, list_value, map_value, Written, has_key, is_mergeable}
-use Rattle.rvs_yaml.specs.Word.{Key, Content, nothing, text, alias, flow, faulty, Name, Shape, dash, key, leaf, refused, Word, Head, head_of, sort_of, is_dash, is_bare_key, opens_block, Anchors, lookup, known_alias, written}
+use Rattle.std.specs.Prelude.{ℕ, Bool, true, false, not, ◌&&◌, ◌||◌, ◌==◌, if◌then◌else◌, List, [], ◌∷◌, ◌++◌, Some, None, Ok, Err}
+use Rattle.rvs_tree.specs.Value.{Value, scalar_value, list_value, map_value, Written, has_key, is_mergeable}
+use Rattle.rvs_yaml_text.specs.Word.{Key, Content, nothing, text, alias, flow, faulty, Name, Shape, dash, key, leaf, refused, Word, Head, head_of, is_below, sort_of, is_dash, opens_block}
+use Rattle.rvs_yaml.specs.Anchors.{Anchors, lookup, known_alias}
+use Rattle.rvs_yaml.specs.Entry.{written}
 use Rattle.rvs_yaml.specs.Flow.{flow_value}
 use Rattle.rvs_yaml.specs.Checks.{Checked, ◌>>=◌, ◌>>◌, check}
-use Rattle.rvs_yaml.specs.declared.refusal.YamlKind.{YamlKind}
-use Rattle.rvs_yaml.specs.declared.refusal.YamlKind.TheVariants.{BadIndent, BadScalar, DuplicateKey, Unsupported, BadMerge}
-
--- The words below a word are deeper. The dashes below a bare key may also stand right under it.
-abbrev pub is_below : Head → Word → Bool
-is_below h u = nat_lt h.column u.column || (is_bare_key h.sort && is_dash (sort_of u.shape) && h.column == u.column)
+use Rattle.rvs_yaml_text.specs.declared.kind.YamlKind.{YamlKind}
+use Rattle.rvs_yaml_text.specs.declared.kind.YamlKind.TheVariants.{BadIndent, BadScalar, DuplicateKey, Unsupported, BadMerge}
 
 -- A word, the words below it, and the words after those.
 pub data Outline : Type 0 where

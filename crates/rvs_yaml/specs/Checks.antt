@@ -1,6 +1,6 @@
 -- A check that may fail, with the kind of its failure.
 use Rattle.std.specs.Prelude.{Bool, true, false, Result, Ok, Err}
-use Rattle.rvs_yaml.specs.declared.refusal.YamlKind.{YamlKind}
+use Rattle.rvs_yaml_text.specs.declared.kind.YamlKind.{YamlKind}
 
 abbrev pub Checked : Type 0 → Type 0
 Checked A = Result A YamlKind

@@ -1,10 +1,12 @@
 -- Flow collections: `[a, b]` and `{k: v}`, nested.
 use Rattle.std.specs.Prelude.{ℕ, Bool, true, false, not, ◌&&◌, ◌||◌, ◌==◌, if◌then◌else◌, List, [], ◌∷◌, ◌++◌, Option, Some, None, Ok, Err}
-use Rattle.rvs_yaml.specs.Value.{Value, scalar_value, list_value, map_value, Written, has_key, explicit_keys, is_mergeable}
+use Rattle.rvs_tree.specs.Value.{Value, scalar_value, list_value, map_value, Written, has_key, explicit_keys, is_mergeable}
 use Rattle.rvs_yaml.specs.Checks.{Checked, ◌>>=◌, ◌>>◌, check}
-use Rattle.rvs_yaml.specs.Word.{Key, Bracket, square, curly, Mark, opening, closing, comma, colon, scalar_mark, key_mark, cut_key, colon_scalar, alias_mark, fault, Anchors, lookup, known_alias, written}
-use Rattle.rvs_yaml.specs.declared.refusal.YamlKind.{YamlKind}
-use Rattle.rvs_yaml.specs.declared.refusal.YamlKind.TheVariants.{BadFlow, BadScalar, DuplicateKey, Unsupported, BadMerge}
+use Rattle.rvs_yaml_text.specs.Word.{Key, Bracket, square, curly, Mark, opening, closing, comma, colon, scalar_mark, key_mark, cut_key, colon_scalar, alias_mark, fault}
+use Rattle.rvs_yaml.specs.Anchors.{Anchors, lookup, known_alias}
+use Rattle.rvs_yaml.specs.Entry.{written}
+use Rattle.rvs_yaml_text.specs.declared.kind.YamlKind.{YamlKind}
+use Rattle.rvs_yaml_text.specs.declared.kind.YamlKind.TheVariants.{BadFlow, BadScalar, DuplicateKey, Unsupported, BadMerge}
 
 abbrev pub same_bracket : Bracket → Bracket → Bool
 same_bracket square square = true

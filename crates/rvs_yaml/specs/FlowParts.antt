@@ -1,11 +1,12 @@
 -- Parts of a step of the flow reader.
 use Rattle.std.specs.Prelude.{ℕ, Bool, true, not, ◌||◌, List, [], ◌∷◌, Some, Ok, Err}
 use Rattle.rvs_yaml.specs.Checks.{Checked, ◌>>=◌, ◌>>◌}
-use Rattle.rvs_yaml.specs.Value.{Value, Written, has_key, explicit_keys}
-use Rattle.rvs_yaml.specs.Word.{Key, Bracket, Anchors, lookup, known_alias}
+use Rattle.rvs_tree.specs.Value.{Value, Written, has_key, explicit_keys}
+use Rattle.rvs_yaml_text.specs.Word.{Key, Bracket}
+use Rattle.rvs_yaml.specs.Anchors.{Anchors, lookup, known_alias}
 use Rattle.rvs_yaml.specs.Flow.{Place, member, key_place, entry_value, first_place, may_open, closes, ends_with, merged_well}
 use Rattle.rvs_yaml.specs.FlowSteps.{Reading, open_in, into, flow_end}
-use Rattle.rvs_yaml.specs.declared.refusal.YamlKind.TheVariants.{BadFlow, BadScalar}
+use Rattle.rvs_yaml_text.specs.declared.kind.YamlKind.TheVariants.{BadFlow, BadScalar}
 
 -- the value of an alias at a place
 abbrev pub alias_at : Anchors → Place → List ℕ → Checked Value

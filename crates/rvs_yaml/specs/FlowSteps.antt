@@ -1,10 +1,11 @@
 -- Reading a flow collection from left to right, with the collections that are open.
 use Rattle.std.specs.Prelude.{ℕ, Bool, ◌&&◌, List, [], ◌∷◌, Some, Ok, Err}
-use Rattle.rvs_yaml.specs.Value.{Value}
+use Rattle.rvs_tree.specs.Value.{Value}
 use Rattle.rvs_yaml.specs.Checks.{Checked, ◌>>=◌, ◌>>◌}
-use Rattle.rvs_yaml.specs.Word.{Bracket, Mark, opening, closing, colon, Anchors}
+use Rattle.rvs_yaml_text.specs.Word.{Bracket, Mark, opening, closing, colon}
+use Rattle.rvs_yaml.specs.Anchors.{Anchors}
 use Rattle.rvs_yaml.specs.Flow.{Place, first_place, with_value, with_mark, may_open, closes, ends_with, fits}
-use Rattle.rvs_yaml.specs.declared.refusal.YamlKind.TheVariants.{BadFlow, Unsupported}
+use Rattle.rvs_yaml_text.specs.declared.kind.YamlKind.TheVariants.{BadFlow, Unsupported}
 
 pub data Reading : Type 0 where
   open_in : Bool → Bracket → Place → List (Bracket × Place) → Reading

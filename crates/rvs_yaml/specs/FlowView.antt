@@ -1,36 +1,18 @@
 -- What the open flow collections of the code stand for.
-use Rattle.std.specs.Prelude.{ℕ, List, map, reverse}
-use Rattle.std.specs.Borrow.{Bor}
-use Rattle.rvs_yaml.specs.Word as word_spec
-use Rattle.rvs_yaml.specs.Marks.{Marked}
+use Rattle.std.specs.Prelude.{List, map, reverse}
+use Rattle.rvs_yaml_text.specs.Word as word_spec
 use Rattle.rvs_yaml.specs.Flow as spec
 use Rattle.rvs_yaml.specs.FlowSteps as steps_spec
-use Rattle.rvs_yaml.specs.ValueView.{value_view, values_view, key_view, entries_view}
-use Rattle.rvs_yaml.specs.WordView.{bracket_view}
-use Rattle.rvs_yaml.specs.declared.mark.Mark.{Mark}
-use Rattle.rvs_yaml.specs.declared.mark.Mark.TheVariants as mark
-use Rattle.rvs_yaml.specs.declared.mark.Place.{Place}
-use Rattle.rvs_yaml.specs.declared.mark.Place.TheVariants.{Member, BehindMember, KeyPlace, EntryValue, BehindEntry}
-use Rattle.rvs_yaml.specs.declared.mark.Level.{Level}
+use Rattle.rvs_tree.specs.ValueView.{value_view, values_view, entries_view}
+use Rattle.rvs_yaml_text.specs.KeyView.{key_view}
+use Rattle.rvs_yaml_text.specs.WordView.{bracket_view}
+use Rattle.rvs_yaml.specs.declared.reading.Place.{Place}
+use Rattle.rvs_yaml.specs.declared.reading.Place.TheVariants.{Member, BehindMember, KeyPlace, EntryValue, BehindEntry}
+use Rattle.rvs_yaml.specs.declared.reading.Level.{Level}
 use Rattle.rvs_yaml.specs.MarkParts as mark_spec
-use Rattle.rvs_yaml.specs.declared.mark.Flowing.{Flowing}
-use Rattle.rvs_yaml.specs.declared.mark.Reading.{Reading}
-use Rattle.rvs_yaml.specs.declared.mark.Reading.TheVariants.{Inside, Whole}
-
-abbrev pub mark_view : Mark → word_spec.Mark
-mark_view (mark.Opening b) = word_spec.opening (bracket_view b)
-mark_view (mark.Closing b) = word_spec.closing (bracket_view b)
-mark_view mark.Comma = word_spec.comma
-mark_view mark.Colon = word_spec.colon
-mark_view (mark.Scalar k) = word_spec.scalar_mark (key_view k)
-mark_view (mark.Keyed k) = word_spec.key_mark (key_view k)
-mark_view (mark.CutKey k) = word_spec.cut_key (key_view k)
-mark_view (mark.ColonScalar b) = word_spec.colon_scalar b
-mark_view (mark.Alias name) = word_spec.alias_mark name.now
-mark_view (mark.Fault kind) = word_spec.fault kind
-
-abbrev pub marked_view : Mark × Bor (List ℕ) → Marked
-marked_view p = (mark_view p.0, p.1.now)
+use Rattle.rvs_yaml.specs.declared.reading.Flowing.{Flowing}
+use Rattle.rvs_yaml.specs.declared.reading.Reading.{Reading}
+use Rattle.rvs_yaml.specs.declared.reading.Reading.TheVariants.{Inside, Whole}
 
 abbrev pub place_view : Place → spec.Place
 place_view (Member l) = spec.member (values_view l.values.items)

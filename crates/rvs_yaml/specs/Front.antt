@@ -1,8 +1,8 @@
 -- The tree of the lines so far, from the open blocks.
 use Rattle.std.specs.Prelude.{if◌then◌else◌, List, [], ◌∷◌, Ok}
 use Rattle.rvs_yaml.specs.Checks.{Checked, ◌>>=◌}
-use Rattle.rvs_yaml.specs.Value.{Value, scalar_value}
-use Rattle.rvs_yaml.specs.Word.{opens_block}
+use Rattle.rvs_tree.specs.Value.{Value, scalar_value}
+use Rattle.rvs_yaml_text.specs.Word.{opens_block}
 use Rattle.rvs_yaml.specs.Stack.{Open}
 use Rattle.rvs_yaml.specs.StepParts.{closed_value}
 use Rattle.rvs_yaml.specs.Answer.{within_limits}

@@ -1,8 +1,8 @@
 -- What functions that may fail return, against checks.
 use Rattle.std.specs.Prelude.{◌≡◌, Result, Ok, Err}
 use Rattle.rvs_yaml.specs.Checks.{Checked}
-use Rattle.rvs_yaml.specs.declared.refusal.YamlKind.{YamlKind}
-use Rattle.rvs_yaml.specs.declared.refusal.YamlKind.TheVariants.{NoMemory}
+use Rattle.rvs_yaml_text.specs.declared.kind.YamlKind.{YamlKind}
+use Rattle.rvs_yaml_text.specs.declared.kind.YamlKind.TheVariants.{NoMemory}
 
 -- What a function returned, seen by see, is what the check gives, unless memory ran out.
 abbrev pub Fails : {Y : Type 0} → YamlKind → Checked Y → Type 0

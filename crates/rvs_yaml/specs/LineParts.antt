@@ -1,8 +1,8 @@
 -- Parts of the words of a line.
 use Rattle.std.specs.Prelude.{ℕ, Bool, true, false, ◌&&◌, List, [], ◌∷◌, drop, Option, Some, None}
-use Rattle.rvs_yaml.specs.Word.{Word}
-use Rattle.rvs_yaml.specs.Scalar.{starts_with, ends_mark}
-use Rattle.rvs_yaml.specs.Text.{word_of, anchored_shape, anchor_split, last_words}
+use Rattle.rvs_yaml_text.specs.Word.{Word}
+use Rattle.rvs_yaml_text.specs.Scalar.{starts_with, ends_mark}
+use Rattle.rvs_yaml_text.specs.Text.{word_of, anchored_shape, anchor_split, last_words}
 
 -- the text behind the dash of an item
 abbrev pub behind_dash : List ℕ → Option (List ℕ)

@@ -1,10 +1,10 @@
 -- A step of reading the text of a flow collection.
 use Rattle.std.specs.Prelude.{ℕ, Bool, true, false, List, Ok}
 use Rattle.rvs_yaml.specs.Checks.{Checked, ◌>>=◌}
-use Rattle.rvs_yaml.specs.Word.{Anchors}
-use Rattle.rvs_yaml.specs.Scalar.{starts_with, is_empty}
+use Rattle.rvs_yaml.specs.Anchors.{Anchors}
+use Rattle.rvs_yaml_text.specs.Scalar.{starts_with, is_empty}
 use Rattle.std.specs.Prelude.{◌&&◌, ◌||◌, drop}
-use Rattle.rvs_yaml.specs.Marks.{first_mark}
+use Rattle.rvs_yaml_text.specs.Marks.{first_mark}
 use Rattle.rvs_yaml.specs.FlowSteps.{Reading, flow_step}
 
 -- what is read, whether a space was read last, and the text that is left

@@ -2,12 +2,12 @@
 use Rattle.std.specs.Prelude.{◌≡◌, ℕ, Bool, List, Ok, Err}
 use Rattle.rvs_yaml.specs.Checks.{Checked, ◌>>=◌, ◌>>◌}
 use Rattle.rvs_yaml.specs.Stack.{Open, steps}
-use Rattle.rvs_yaml.specs.Text.{line_words}
+use Rattle.rvs_yaml_text.specs.Text.{line_words}
 use Rattle.rvs_yaml.specs.Front.{checked_front, front_value}
-use Rattle.rvs_yaml.specs.Data.{Data}
+use Rattle.rvs_tree.specs.Data.{Data}
 use Rattle.rvs_yaml.specs.Answer.{Answer}
-use Rattle.rvs_yaml.specs.declared.refusal.YamlKind.{YamlKind}
-use Rattle.rvs_yaml.specs.declared.refusal.YamlKind.TheVariants.{NoMemory}
+use Rattle.rvs_yaml_text.specs.declared.kind.YamlKind.{YamlKind}
+use Rattle.rvs_yaml_text.specs.declared.kind.YamlKind.TheVariants.{NoMemory}
 
 abbrev pub checked_line : List Open → ℕ → Bool → List ℕ → Checked (List Open)
 checked_line bs line started bytes = steps bs (line_words line started bytes) >>= λ cs. checked_front cs >> Ok cs

@@ -1,9 +1,9 @@
 -- What a sketch says of a value.
 use Rattle.std.specs.Prelude.{◌≡◌, ◌≤◌, min, Result, Ok, Err}
 use Rattle.rvs_yaml.specs.Checks.{Checked}
-use Rattle.rvs_yaml.specs.Data.{depth}
-use Rattle.rvs_yaml.specs.Value.{Value, is_map_or_empty, is_mergeable}
-use Rattle.rvs_yaml.specs.declared.refusal.YamlKind.{YamlKind}
+use Rattle.rvs_tree.specs.Data.{depth}
+use Rattle.rvs_tree.specs.Value.{Value, is_map_or_empty, is_mergeable}
+use Rattle.rvs_yaml_text.specs.declared.kind.YamlKind.{YamlKind}
 use Rattle.rvs_yaml.specs.declared.sketch.Sketch.{Sketch}
 
 pub record IsSketch (v : Value) (s : Sketch) : Type 0 where

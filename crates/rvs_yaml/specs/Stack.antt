@@ -1,10 +1,12 @@
 -- Reading a list of words from its front, with a stack of open blocks.
 use Rattle.std.specs.Prelude.{ℕ, if◌then◌else◌, List, [], ◌∷◌, ◌++◌, Ok, Err}
-use Rattle.rvs_yaml.specs.Value.{Value, scalar_value, list_value, map_value, Written, explicit_keys}
+use Rattle.rvs_tree.specs.Value.{Value, scalar_value, list_value, map_value, Written, explicit_keys}
 use Rattle.rvs_yaml.specs.Checks.{Checked, ◌>>=◌, ◌>>◌, check}
-use Rattle.rvs_yaml.specs.Block.{Found, found, named, is_below, own_value, no_place, item_at, key_at, check_merge}
-use Rattle.rvs_yaml.specs.Word.{Key, Name, Shape, dash, key, leaf, refused, Word, Head, head_of, Anchors, opens_block, written}
-use Rattle.rvs_yaml.specs.declared.refusal.YamlKind.TheVariants.{Unsupported}
+use Rattle.rvs_yaml.specs.Block.{Found, found, named, own_value, no_place, item_at, key_at, check_merge}
+use Rattle.rvs_yaml_text.specs.Word.{Key, Name, Shape, dash, key, leaf, refused, Word, Head, head_of, is_below, opens_block}
+use Rattle.rvs_yaml.specs.Anchors.{Anchors}
+use Rattle.rvs_yaml.specs.Entry.{written}
+use Rattle.rvs_yaml_text.specs.declared.kind.YamlKind.TheVariants.{Unsupported}
 
 -- the members that a block has so far, without the open one
 pub data Done : Type 0 where

@@ -1,12 +1,13 @@
 -- What the open blocks of the code stand for.
 use Rattle.std.specs.Prelude.{ℕ, ◌++◌, List, map, reverse}
-use Rattle.rvs_yaml.specs.Word as word_spec
-use Rattle.rvs_yaml.specs.Value as value_spec
+use Rattle.rvs_yaml.specs.Anchors as anchors_spec
+use Rattle.rvs_tree.specs.Value as value_spec
 use Rattle.rvs_yaml.specs.Block as block_spec
 use Rattle.rvs_yaml.specs.Stack as spec
 use Rattle.rvs_yaml.specs.StepParts as parts
-use Rattle.rvs_yaml.specs.WordView.{head_view}
-use Rattle.rvs_yaml.specs.ValueView.{value_view, values_view, key_view, entries_view}
+use Rattle.rvs_yaml_text.specs.WordView.{head_view}
+use Rattle.rvs_tree.specs.ValueView.{value_view, values_view, entries_view}
+use Rattle.rvs_yaml_text.specs.KeyView.{key_view}
 use Rattle.rvs_yaml.specs.declared.open.Anchor.{Anchor}
 use Rattle.rvs_yaml.specs.declared.open.Done.{Done}
 use Rattle.rvs_yaml.specs.declared.open.Done.TheVariants.{Items, Entries, Alone}
@@ -19,7 +20,7 @@ abbrev pub anchor_view : Anchor → List ℕ × value_spec.Value
 anchor_view a = (a.name.now, value_view a.value)
 
 -- the code has the earliest first, and the definition the latest
-abbrev pub anchors_view : List Anchor → word_spec.Anchors
+abbrev pub anchors_view : List Anchor → anchors_spec.Anchors
 anchors_view anchors = reverse (map anchor_view anchors)
 
 abbrev pub found_view : Found → block_spec.Found value_spec.Value
@@ -41,5 +42,5 @@ abbrev pub stack_view : List Open → List spec.Open
 stack_view bs = reverse (map open_view bs)
 
 -- the anchors that are known at a place
-abbrev pub known_view : Known → word_spec.Anchors
+abbrev pub known_view : Known → anchors_spec.Anchors
 known_view k = anchors_view k.latest.now ++ spec.known_of (stack_view k.blocks.now)

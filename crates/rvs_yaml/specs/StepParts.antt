@@ -1,11 +1,13 @@
 -- Parts of a step of the stack of open blocks.
 use Rattle.std.specs.Prelude.{ℕ, not, ◌||◌, if◌then◌else◌, List, [], ◌∷◌, ◌++◌, None, Ok}
 use Rattle.rvs_yaml.specs.Checks.{Checked, ◌>>=◌, ◌>>◌, check}
-use Rattle.rvs_yaml.specs.Value.{Value, Written, has_key, scalar_value, list_value, map_value}
-use Rattle.rvs_yaml.specs.Word.{Key, Content, nothing, faulty, Shape, dash, key, leaf, refused, Word, Head, no_opener, opens_block, Anchors, written}
+use Rattle.rvs_tree.specs.Value.{Value, Written, has_key, scalar_value, list_value, map_value}
+use Rattle.rvs_yaml_text.specs.Word.{Key, Content, nothing, faulty, Shape, dash, key, leaf, refused, Word, Head, no_opener, opens_block}
+use Rattle.rvs_yaml.specs.Anchors.{Anchors}
+use Rattle.rvs_yaml.specs.Entry.{written}
 use Rattle.rvs_yaml.specs.Block.{Found, found, named, content_value, key_at, check_merge}
 use Rattle.rvs_yaml.specs.Stack.{Done, done_items, done_entries, alone, Open, known_of, advanced_as}
-use Rattle.rvs_yaml.specs.declared.refusal.YamlKind.TheVariants.{DuplicateKey}
+use Rattle.rvs_yaml_text.specs.declared.kind.YamlKind.TheVariants.{DuplicateKey}
 
 -- what is behind a word
 abbrev pub own_content : Shape → Content

@@ -1,11 +1,11 @@
 -- Parts of a step, as contracts see them.
-use Rattle.rvs_yaml.specs.Word as word_spec
+use Rattle.rvs_yaml_text.specs.Word as word_spec
 use Rattle.rvs_yaml.specs.Stack as spec
-use Rattle.rvs_yaml.specs.ValueView.{key_view}
-use Rattle.rvs_yaml.specs.WordView.{content_view}
+use Rattle.rvs_yaml_text.specs.KeyView.{key_view}
+use Rattle.rvs_yaml_text.specs.WordView.{content_view}
 use Rattle.rvs_yaml.specs.StackView.{done_view}
-use Rattle.rvs_yaml.specs.declared.written.Key.{Key}
-use Rattle.rvs_yaml.specs.declared.word.Content.{Content}
+use Rattle.rvs_yaml_text.specs.declared.key.Key.{Key}
+use Rattle.rvs_yaml_text.specs.declared.word.Content.{Content}
 use Rattle.rvs_yaml.specs.declared.open.Done.{Done}
 
 abbrev pub key_content : Key × Content → word_spec.Key × word_spec.Content

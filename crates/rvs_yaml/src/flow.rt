@@ -1,27 +1,25 @@
 // Reading flow collections from left to right.
 ghost use Rattle.std.specs.Prelude.{◌≡◌, Err, Some, if◌then◌else◌};
-ghost use Rattle.rvs_yaml.specs.Value as value_spec;
+ghost use Rattle.rvs_tree.specs.Value as value_spec;
 ghost use Rattle.rvs_yaml.specs.Flow as spec;
 ghost use Rattle.rvs_yaml.specs.FlowSteps as steps_spec;
 ghost use Rattle.rvs_yaml.specs.FlowParts as parts;
-ghost use Rattle.rvs_yaml.specs.declared.refusal.YamlKind.TheVariants.{BadScalar, BadFlow};
+ghost use Rattle.rvs_yaml_text.specs.declared.kind.YamlKind.TheVariants.{BadScalar, BadFlow};
 ghost use Rattle.rvs_yaml.specs.Gives.{Gives};
 ghost use Rattle.rvs_yaml.specs.StackView.{known_view};
-ghost use Rattle.rvs_yaml.specs.ValueView.{value_view, key_view, written_view, entries_view};
-ghost use Rattle.rvs_yaml.specs.WordView.{bracket_view};
-ghost use Rattle.rvs_yaml.specs.FlowView.{mark_view, place_view, reading_view, levels_view};
+ghost use Rattle.rvs_tree.specs.ValueView.{value_view, written_view, entries_view};
+ghost use Rattle.rvs_yaml_text.specs.KeyView.{key_view};
+ghost use Rattle.rvs_yaml_text.specs.WordView.{bracket_view};
+ghost use Rattle.rvs_yaml_text.specs.MarkView.{mark_view};
+ghost use Rattle.rvs_yaml.specs.FlowView.{place_view, reading_view, levels_view};
 
-use crate::counted::Value;
-use crate::entry_list::EntryList;
+use crate::entry::entry_of;
 use crate::known::Known;
-use crate::mark::{Level, Mark, Place, Reading};
-use crate::members::is_mergeable;
-use crate::merged::{list_value, map_value};
-use crate::refusal::YamlKind;
-use crate::value::scalar_value;
-use crate::value_list::ValueList;
-use crate::word::Bracket;
-use crate::written::{Key, Written};
+use crate::reading::{Level, Place, Reading};
+use rvs_tree::{
+    EntryList, Value, ValueList, Written, is_mergeable, list_value, map_value, scalar_value,
+};
+use rvs_yaml_text::{Bracket, Key, Mark, YamlKind};
 use std::alloc::Global;
 
 /// The place behind a collection's bracket.
@@ -42,7 +40,7 @@ fn with_value(alloc: Global, place: Place, value: Value) -> Result<Place, YamlKi
         Place::Member(list) => Ok(Place::BehindMember(list.with(value)?)),
         Place::EntryValue(list, key) => Ok(Place::BehindEntry(list.with(
             alloc,
-            Written { key, value },
+            entry_of(key, value),
         )?)),
         _ => Err(YamlKind::BadFlow),
     }
@@ -248,7 +246,7 @@ fn last_fits(entries: &[Written]) -> bool
 fn entry_fits(written: &Written) -> bool
     ensures { result ≡ spec.entry_fits (written_view written.now) }
 {
-    !written.key.merges || is_mergeable(&written.value.tree)
+    !written.merges || is_mergeable(&written.value.tree)
 }
 
 /// What is read once a value is whole.

@@ -1,29 +1,27 @@
 // The limits on the tree of the lines so far.
 ghost use Rattle.std.specs.Prelude.{◌≡◌, ◌∷◌, ◌++◌, ◌&&◌, [], ℕ, not, nat_lt, IfOk};
-ghost use Rattle.rvs_yaml.specs.Data as data_spec;
-ghost use Rattle.rvs_yaml.specs.Value as value_spec;
+ghost use Rattle.rvs_tree.specs.Data as data_spec;
+ghost use Rattle.rvs_tree.specs.Value as value_spec;
 ghost use Rattle.rvs_yaml.specs.StepParts as parts;
-ghost use Rattle.rvs_yaml.specs.Word.{written};
+ghost use Rattle.rvs_yaml.specs.Entry.{written};
 ghost use Rattle.rvs_yaml.specs.Stack.{done_entries};
 ghost use Rattle.rvs_yaml.specs.Front as spec;
 ghost use Rattle.rvs_yaml.specs.Gives.{Gives};
 ghost use Rattle.rvs_yaml.specs.Sketched.{IsSketch, SketchedAs};
-ghost use Rattle.rvs_yaml.specs.TreeView.{view};
+ghost use Rattle.rvs_tree.specs.TreeView.{view};
 ghost use Rattle.rvs_yaml.specs.StackView.{done_view, open_view, stack_view};
-ghost use Rattle.rvs_yaml.specs.ValueView.{value_view, values_view, key_view, entries_view, written_view};
+ghost use Rattle.rvs_tree.specs.ValueView.{value_view, values_view, entries_view, written_view};
+ghost use Rattle.rvs_yaml_text.specs.KeyView.{key_view};
 
-use crate::counted::Value;
-use crate::entry_list::EntryList;
-use crate::members::{DEEP, is_map_or_empty, is_mergeable};
-use crate::merged::{list_value, map_value};
+use crate::entry::entry_of;
 use crate::open::{Block, Done, Open};
-use crate::refusal::YamlKind;
 use crate::sketch::Sketch;
 use crate::stack::check_merge;
-use crate::tree::Tree;
-use crate::value::{plus, scalar_value, shared_value, text_nodes};
-use crate::value_list::ValueList;
-use crate::written::{Key, Written};
+use rvs_tree::{
+    DEEP, EntryList, Tree, Value, ValueList, Written, is_map_or_empty, is_mergeable, list_value,
+    map_value, plus, scalar_value, shared_value, text_nodes,
+};
+use rvs_yaml_text::{Key, YamlKind};
 use std::alloc::{AllocError, Global};
 
 /// The greatest depth that is accepted.
@@ -172,7 +170,8 @@ fn copied_written(alloc: Global, written: &Written) -> Result<Written, AllocErro
     ensures { IfOk result (λ w. written_view w ≡ written_view written.now) }
 {
     Ok(Written {
-        key: copied_key(alloc, &written.key)?,
+        key: String::from_str(alloc, written.key.as_str())?,
+        merges: written.merges,
         value: shared_value(&written.value)?,
     })
 }
@@ -217,7 +216,7 @@ fn longer_map(
     ensures { IfOk result (λ v. value_view v ≡ value_spec.map_value line (entries_view entries.now ++ written (key_view key.now) (value_view value) ∷ [])) }
 {
     let key = copied_key(alloc, key)?;
-    let list = copied_entries(alloc, entries)?.with(alloc, Written { key, value })?;
+    let list = copied_entries(alloc, entries)?.with(alloc, entry_of(key, value))?;
     map_value(alloc, line, &list)
 }
 

@@ -1,15 +1,14 @@
 // The anchors that are known at a place.
 ghost use Rattle.std.specs.Prelude.{◌≡◌, ◌++◌, option_map};
-ghost use Rattle.rvs_yaml.specs.Word as spec;
+ghost use Rattle.rvs_yaml.specs.Anchors as spec;
 ghost use Rattle.rvs_yaml.specs.Stack as stack_spec;
 ghost use Rattle.rvs_yaml.specs.Gives.{Gives};
 ghost use Rattle.rvs_yaml.specs.StackView.{anchors_view, stack_view, known_view};
-ghost use Rattle.rvs_yaml.specs.ValueView.{value_view};
+ghost use Rattle.rvs_tree.specs.ValueView.{value_view};
 
-use crate::counted::Value;
 use crate::open::{Anchor, Open};
-use crate::refusal::YamlKind;
-use crate::value::shared_value;
+use rvs_tree::{Value, shared_value};
+use rvs_yaml_text::YamlKind;
 
 /// The anchors in the complete members of a block, and the blocks around it.
 #[derive(Clone, Copy)]

@@ -1,20 +1,19 @@
 // The words of a line.
 ghost use Rattle.std.specs.Prelude.{◌≡◌, ◌<◌, false, length, option_map, IfOk, IfSome};
-ghost use Rattle.rvs_yaml.specs.Text as text_spec;
+ghost use Rattle.rvs_yaml_text.specs.Text as text_spec;
 ghost use Rattle.rvs_yaml.specs.Stack as stack_spec;
 ghost use Rattle.rvs_yaml.specs.LineParts as parts;
 ghost use Rattle.rvs_yaml.specs.Gives.{Gives};
 ghost use Rattle.rvs_yaml.specs.StackView.{stack_view};
-ghost use Rattle.rvs_yaml.specs.Word as word_spec;
-ghost use Rattle.rvs_yaml.specs.WordView.{word_view, shape_view};
+ghost use Rattle.rvs_yaml_text.specs.Word as word_spec;
+ghost use Rattle.rvs_yaml_text.specs.WordView.{word_view, shape_view};
 
-use crate::content::{anchored_item, item_name, shape_of};
 use crate::open::Open;
-use crate::quoted::behind_first;
-use crate::refusal::YamlKind;
-use crate::scan::{ends_mark, is_blank, only_comment, starts_with, without_spaces};
 use crate::stack::step;
-use crate::word::{Shape, Word};
+use rvs_yaml_text::{
+    Shape, Word, YamlKind, anchored_item, behind_first, ends_mark, is_blank, item_name,
+    only_comment, shape_of, starts_with, without_spaces,
+};
 use std::alloc::{AllocError, Global};
 
 /// The text behind the dash of an item, where one comes next.

@@ -1,9 +1,6 @@
 // Blocks that aren't complete.
-use crate::counted::Value;
-use crate::entry_list::EntryList;
-use crate::value_list::ValueList;
-use crate::word::Head;
-use crate::written::Key;
+use rvs_tree::{EntryList, Value, ValueList};
+use rvs_yaml_text::{Head, Key};
 
 /// An anchor's name, and the value of its node.
 #[derive(Drop)]

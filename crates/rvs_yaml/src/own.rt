@@ -2,18 +2,16 @@
 ghost use Rattle.std.specs.Prelude.{◌≡◌};
 ghost use Rattle.rvs_yaml.specs.Block as block_spec;
 ghost use Rattle.rvs_yaml.specs.Flow as flow_spec;
-ghost use Rattle.rvs_yaml.specs.Marks.{marks_of};
+ghost use Rattle.rvs_yaml_text.specs.Marks.{marks_of};
 ghost use Rattle.rvs_yaml.specs.Gives.{Gives};
 ghost use Rattle.rvs_yaml.specs.StackView.{known_view};
-ghost use Rattle.rvs_yaml.specs.ValueView.{value_view};
-ghost use Rattle.rvs_yaml.specs.WordView.{content_view, bracket_view};
+ghost use Rattle.rvs_tree.specs.ValueView.{value_view};
+ghost use Rattle.rvs_yaml_text.specs.WordView.{content_view, bracket_view};
 
-use crate::counted::Value;
 use crate::flow_text::flow_value;
 use crate::known::Known;
-use crate::refusal::YamlKind;
-use crate::value::scalar_value;
-use crate::word::Content;
+use rvs_tree::{Value, scalar_value};
+use rvs_yaml_text::{Content, YamlKind};
 use std::alloc::Global;
 
 /// What an alias stands for, where at most a comment is behind it.

@@ -1,47 +1,23 @@
 // Reading a text line by line.
-ghost use Rattle.std.specs.Prelude.{◌≡◌, ◌<◌, ◌∷◌, ◌||◌, ◌&&◌, not, true, Ok, Err, length, option_map, IfOk, IfErr, IfSome};
+ghost use Rattle.std.specs.Prelude.{◌≡◌, ◌||◌, ◌&&◌, not, true, Ok, Err, IfOk, IfErr};
 ghost use Rattle.rvs_yaml.specs.Answer.{Answer, answer, AnswersAreLeast};
 ghost use Rattle.rvs_yaml.specs.Front as front_spec;
 ghost use Rattle.rvs_yaml.specs.Reader as spec;
-ghost use Rattle.rvs_yaml.specs.Scalar as scalar_spec;
-ghost use Rattle.rvs_yaml.specs.Text as text_spec;
+ghost use Rattle.rvs_yaml_text.specs.Scalar as scalar_spec;
 ghost use Rattle.std.specs.Str.{is_utf8};
-ghost use Rattle.rvs_yaml.specs.declared.refusal.YamlKind.TheVariants.{NoMemory};
+ghost use Rattle.rvs_yaml_text.specs.declared.kind.YamlKind.TheVariants.{NoMemory};
 ghost use Rattle.rvs_yaml.specs.Gives.{Gives};
 ghost use Rattle.rvs_yaml.specs.StackView.{stack_view};
-ghost use Rattle.rvs_yaml.specs.TreeView.{view};
+ghost use Rattle.rvs_tree.specs.TreeView.{view};
 
 use crate::front::{check_front, front_value};
 use crate::line::read_line;
 use crate::open::Open;
-use crate::refusal::{YamlKind, YamlRefusal};
-use crate::scan::is_blank;
-use crate::tree::Tree;
+use crate::refusal::YamlRefusal;
+use rvs_tree::Tree;
+use rvs_yaml_text::{YamlKind, first_line, is_blank, without_return};
 use std::alloc::Global;
 use std::rc::Rc;
-
-/// The first line, and the text behind its line feed, where there is one.
-fn first_line(text: &[u8]) -> (&[u8], Option<&[u8]>)
-    ensures cut { text_spec.cut text.now ≡ result.0.now ∷ text_spec.cut_behind (option_map (λ r. r.now) result.1) }
-    ensures shorter { IfSome result.1 (λ r. length r.now < length text.now) }
-{
-    for (i, byte) in text.iter().enumerate() {
-        if *byte == b'\n' {
-            return (&text[..i], Some(&text[i + 1..]));
-        }
-    }
-    (text, None)
-}
-
-/// The line without a carriage return at its end.
-fn without_return(line: &[u8]) -> &[u8]
-    ensures { result.now ≡ text_spec.without_return line.now }
-{
-    match line {
-        [front @ .., b'\r'] => front,
-        _ => line,
-    }
-}
 
 /// Whether the line is blank and UTF-8. Such a line changes nothing.
 fn is_blank_text(bytes: &[u8]) -> bool

@@ -2,26 +2,23 @@
 ghost use Rattle.std.specs.Prelude.{◌≡◌, ◌++◌, IfOk};
 ghost use Rattle.rvs_yaml.specs.Block as block_spec;
 ghost use Rattle.rvs_yaml.specs.Stack as spec;
-ghost use Rattle.rvs_yaml.specs.Value as value_spec;
+ghost use Rattle.rvs_tree.specs.Value as value_spec;
 ghost use Rattle.rvs_yaml.specs.StepParts as parts;
 ghost use Rattle.rvs_yaml.specs.Gives.{Gives};
 ghost use Rattle.rvs_yaml.specs.StackView.{anchors_view, done_view, found_view, block_view, stack_view};
 ghost use Rattle.rvs_yaml.specs.StepView.{done_content, key_content};
-ghost use Rattle.rvs_yaml.specs.ValueView.{value_view, values_view, key_view, entries_view};
-ghost use Rattle.rvs_yaml.specs.WordView.{content_view, shape_view, word_view, head_view, name_view};
+ghost use Rattle.rvs_tree.specs.ValueView.{value_view, values_view, entries_view};
+ghost use Rattle.rvs_yaml_text.specs.KeyView.{key_view};
+ghost use Rattle.rvs_yaml_text.specs.WordView.{content_view, shape_view, word_view, head_view, name_view};
 
-use crate::counted::Value;
-use crate::entry_list::EntryList;
+use crate::entry::entry_of;
 use crate::known::Known;
-use crate::members::is_mergeable;
-use crate::merged::{list_value, map_value};
 use crate::open::{Anchor, Block, Done, Found, Open};
 use crate::own::content_value;
-use crate::refusal::YamlKind;
-use crate::value::{scalar_value, shared_value};
-use crate::value_list::ValueList;
-use crate::word::{Content, Head, Shape, Word, is_below};
-use crate::written::{Key, Written};
+use rvs_tree::{
+    EntryList, Value, ValueList, is_mergeable, list_value, map_value, scalar_value, shared_value,
+};
+use rvs_yaml_text::{Content, Head, Key, Shape, Word, YamlKind, is_below};
 use std::alloc::{AllocError, Global};
 
 /// Why a word that has no place is refused.
@@ -108,7 +105,7 @@ fn next_entry<'a>(
     ensures { Gives done_content result (parts.next_entry (entries_view entries.entries.items) (key_view key) column (value_view value) (word_view word.entry)) }
 {
     check_merge(&key, &value)?;
-    let entries = entries.with(alloc, Written { key, value })?;
+    let entries = entries.with(alloc, entry_of(key, value))?;
     let (key, content) = key_at(column, &entries, word)?;
     Ok((Done::Entries(entries, key), content))
 }
@@ -299,7 +296,7 @@ fn closed_value(alloc: Global, line: u64, done: Done, value: Value) -> Result<Va
         }
         Done::Entries(entries, key) => {
             check_merge(&key, &value)?;
-            let entries = entries.with(alloc, Written { key, value })?;
+            let entries = entries.with(alloc, entry_of(key, value))?;
             Ok(map_value(alloc, line, &entries)?)
         }
         Done::Alone => Ok(value),

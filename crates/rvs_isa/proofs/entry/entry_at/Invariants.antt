@@ -1,5 +1,5 @@
 use Rattle.std.proofs.Common.{◌≡◌, map, drop}
-use Rattle.rvs_yaml.specs.TreeView.{view}
+use Rattle.rvs_tree.specs.TreeView.{view}
 use Rattle.rvs_isa.specs.Entries.{entry_at}
 use Rattle.rvs_isa.proofs.entry.entry_at.Given as goal
 

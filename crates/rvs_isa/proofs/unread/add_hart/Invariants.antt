@@ -1,5 +1,5 @@
 use Rattle.std.proofs.Common.{◌≡◌, ◌++◌}
-use Rattle.rvs_yaml.specs.TreeView.{view}
+use Rattle.rvs_tree.specs.TreeView.{view}
 use Rattle.rvs_isa.specs.Unread.{unread_of_hart}
 use Rattle.rvs_isa.proofs.Unreads.{first_entries}
 use Rattle.rvs_isa.proofs.unread.add_hart.Given as goal

@@ -1,5 +1,5 @@
 use Rattle.std.proofs.Common.{◌++◌, ap, sym, ◌∙◌, append_assoc}
-use Rattle.rvs_yaml.specs.TreeView.{view}
+use Rattle.rvs_tree.specs.TreeView.{view}
 use Rattle.rvs_isa.specs.Unread.{unread_of_misa}
 use Rattle.rvs_isa.proofs.Unreads.{first_entries, first-more_keys}
 use Rattle.rvs_isa.proofs.unread.add_misa.Goals as goal

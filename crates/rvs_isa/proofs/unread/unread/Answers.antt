@@ -1,5 +1,5 @@
 use Rattle.std.proofs.Common.{◌++◌, ap, sym, ◌∙◌, append_assoc}
-use Rattle.rvs_yaml.specs.TreeView.{view}
+use Rattle.rvs_tree.specs.TreeView.{view}
 use Rattle.rvs_isa.specs.Unread.{unread_of_root}
 use Rattle.rvs_isa.proofs.Unreads.{first_entries, first-more}
 use Rattle.rvs_isa.proofs.unread.unread.Goals as goal

@@ -1,7 +1,7 @@
 use Rattle.std.proofs.lemmas.Result.{err_from_is_err_and}
 use Rattle.rvs_plan.specs.Plan.{Ends}
 use Rattle.rvs_plan.proofs.Sequence.{Meets-no_memory}
-use Rattle.rvs_yaml.specs.TreeView.{view}
+use Rattle.rvs_tree.specs.TreeView.{view}
 use Rattle.rvs_isa.specs.Check.{checked}
 use Rattle.rvs_suite.specs.Specification.{checked_end}
 use Rattle.rvs_suite.proofs.isa_file.check_tree.Goals as goal

@@ -1,8 +1,8 @@
 use Rattle.std.proofs.Common.{◌≡◌, ◌+◌, ◌-◌, ◌<◌, ◌∷◌, ◌++◌, [], ◌∙◌, sym, ap, arith, length, take}
 use Rattle.std.proofs.lemmas.List.{take_more}
 use Rattle.rvs_yaml.specs.Flow.{last_fits}
-use Rattle.rvs_yaml.specs.ValueView.{written_view, entries_view}
-use Rattle.rvs_yaml.proofs.Sums.{map-append, take_whole}
+use Rattle.rvs_tree.specs.ValueView.{written_view, entries_view}
+use Rattle.rvs_tree.proofs.Sums.{map-append, take_whole}
 use Rattle.rvs_yaml.proofs.FlowRuns.{last_fits-push}
 use Rattle.rvs_yaml.proofs.flow.last_fits.Goals as goal
 

@@ -1,9 +1,9 @@
 use Rattle.std.proofs.Common.{◌≡◌}
-use Rattle.rvs_yaml.specs.Marks.{marks, marks_of}
+use Rattle.rvs_yaml_text.specs.Marks.{marks, marks_of}
 use Rattle.rvs_yaml.specs.FlowSteps.{flow_steps}
 use Rattle.rvs_yaml.specs.FlowParts.{first_reading}
 use Rattle.rvs_yaml.specs.StackView.{known_view}
-use Rattle.rvs_yaml.specs.WordView.{bracket_view}
+use Rattle.rvs_yaml_text.specs.WordView.{bracket_view}
 use Rattle.rvs_yaml.specs.FlowView.{reading_view}
 use Rattle.rvs_yaml.proofs.flow_text.flow_value.Given as goal
 

@@ -1,7 +1,7 @@
 use Rattle.std.proofs.Common.{◌≤◌}
-use Rattle.rvs_yaml.specs.Bound.{members_depth}
-use Rattle.rvs_yaml.specs.Data.{members_of}
-use Rattle.rvs_yaml.specs.TreeView.{view}
+use Rattle.rvs_tree.specs.Bound.{members_depth}
+use Rattle.rvs_tree.specs.Data.{members_of}
+use Rattle.rvs_tree.specs.TreeView.{view}
 use Rattle.std.proofs.Common.{take, ◌-◌}
 use Rattle.rvs_yaml.proofs.front.+is_deeper.Given as goal
 

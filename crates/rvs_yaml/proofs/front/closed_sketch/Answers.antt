@@ -1,9 +1,9 @@
 use Rattle.std.proofs.Common.{◌++◌, ◌∷◌, [], sym, ap, subst}
-use Rattle.rvs_yaml.specs.Value.{list_value}
+use Rattle.rvs_tree.specs.Value.{list_value}
 use Rattle.rvs_yaml.specs.StepParts.{closed_value}
 use Rattle.rvs_yaml.specs.Sketched.{SketchedAs}
 use Rattle.rvs_yaml.specs.StackView.{done_view}
-use Rattle.rvs_yaml.specs.ValueView.{values_view}
+use Rattle.rvs_tree.specs.ValueView.{values_view}
 use Rattle.rvs_yaml.proofs.front.closed_sketch.Goals as goal
 
 pub returns-in-Items : goal.returns-in-Items

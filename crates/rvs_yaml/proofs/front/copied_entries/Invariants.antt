@@ -1,5 +1,5 @@
 use Rattle.std.proofs.Common.{◌≡◌, take}
-use Rattle.rvs_yaml.specs.ValueView.{entries_view}
+use Rattle.rvs_tree.specs.ValueView.{entries_view}
 use Rattle.rvs_yaml.proofs.front.copied_entries.Given as goal
 
 abbrev pub invariant-loop-written : goal.invariant-loop-written

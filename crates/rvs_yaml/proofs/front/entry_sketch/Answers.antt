@@ -1,10 +1,11 @@
 use Rattle.std.proofs.Common.{◌++◌, ◌∷◌, [], ◌∙◌, sym, ap, Ok}
 use Rattle.std.specs.Prelude.{◌||◌, not}
 use Rattle.rvs_yaml.specs.Checks.{Checked, ◌>>◌, check}
-use Rattle.rvs_yaml.specs.Value.{Value, map_value}
-use Rattle.rvs_yaml.specs.Word.{written}
-use Rattle.rvs_yaml.specs.ValueView.{entries_view, key_view}
-use Rattle.rvs_yaml.specs.declared.refusal.YamlKind.TheVariants.{BadMerge}
+use Rattle.rvs_tree.specs.Value.{Value, map_value}
+use Rattle.rvs_yaml.specs.Entry.{written}
+use Rattle.rvs_tree.specs.ValueView.{entries_view}
+use Rattle.rvs_yaml_text.specs.KeyView.{key_view}
+use Rattle.rvs_yaml_text.specs.declared.kind.YamlKind.TheVariants.{BadMerge}
 use Rattle.rvs_yaml.proofs.Sketching.{check-bad, check-good}
 use Rattle.rvs_yaml.proofs.front.entry_sketch.Goals as goal
 

@@ -1,7 +1,7 @@
 use Rattle.std.proofs.Common.{◌≡◌, ◌≤◌, length, take}
 use Rattle.rvs_yaml.specs.Front.{ends, front_value}
 use Rattle.rvs_yaml.specs.StackView.{stack_view}
-use Rattle.rvs_yaml.specs.ValueView.{value_view}
+use Rattle.rvs_tree.specs.ValueView.{value_view}
 use Rattle.rvs_yaml.proofs.front.front_value.Given as goal
 
 abbrev pub invariant-loop-i : goal.invariant-loop-i

@@ -1,9 +1,9 @@
 use Rattle.std.proofs.Common.{◌++◌, ◌∷◌, [], ◌∙◌, sym, ap, arith, refl}
 use Rattle.std.specs.Prelude.{◌&&◌}
-use Rattle.rvs_yaml.specs.Value.{plus, is_map_or_empty}
-use Rattle.rvs_yaml.specs.ValueView.{values_view}
-use Rattle.rvs_yaml.proofs.Sums.{nodes_from-push, values_depth-push, are_maps-push}
-use Rattle.rvs_yaml.proofs.Merging.{list-depth}
+use Rattle.rvs_tree.specs.Value.{plus, is_map_or_empty}
+use Rattle.rvs_tree.specs.ValueView.{values_view}
+use Rattle.rvs_tree.proofs.Sums.{nodes_from-push, values_depth-push, are_maps-push}
+use Rattle.rvs_tree.proofs.Merging.{list-depth}
 use Rattle.rvs_yaml.proofs.front.list_sketch.Goals as goal
 
 pub returns : goal.returns

@@ -1,9 +1,10 @@
 use Rattle.std.proofs.Common.{◌++◌, ◌∷◌, [], ◌∙◌, sym, ap, arith, refl}
-use Rattle.rvs_yaml.specs.Value.{plus, text_nodes, explicit_keys}
-use Rattle.rvs_yaml.specs.Word.{written}
-use Rattle.rvs_yaml.specs.ValueView.{entries_view, key_view}
-use Rattle.rvs_yaml.proofs.Sums.{written_nodes_from-push, written_depth-push}
-use Rattle.rvs_yaml.proofs.Merging.{map-depth}
+use Rattle.rvs_tree.specs.Value.{plus, text_nodes, explicit_keys}
+use Rattle.rvs_yaml.specs.Entry.{written}
+use Rattle.rvs_tree.specs.ValueView.{entries_view}
+use Rattle.rvs_yaml_text.specs.KeyView.{key_view}
+use Rattle.rvs_tree.proofs.Sums.{written_nodes_from-push, written_depth-push}
+use Rattle.rvs_tree.proofs.Merging.{map-depth}
 use Rattle.rvs_yaml.proofs.Sketching.{entry-shallow}
 use Rattle.rvs_yaml.proofs.front.map_sketch.Goals as goal
 

@@ -1,10 +1,10 @@
 use Rattle.std.proofs.Common.{◌≡◌, ◌∙◌, sym, ap, subst, true}
 use Rattle.std.specs.Prelude.{if◌then◌else◌, []}
-use Rattle.rvs_yaml.specs.Value.{scalar_value}
-use Rattle.rvs_yaml.specs.Word.{opens_block}
+use Rattle.rvs_tree.specs.Value.{scalar_value}
+use Rattle.rvs_yaml_text.specs.Word.{opens_block}
 use Rattle.rvs_yaml.specs.Sketched.{IsSketch}
-use Rattle.rvs_yaml.specs.ValueView.{value_view}
-use Rattle.rvs_yaml.specs.WordView.{sort_view}
+use Rattle.rvs_tree.specs.ValueView.{value_view}
+use Rattle.rvs_yaml_text.specs.WordView.{sort_view}
 use Rattle.rvs_yaml.proofs.front.own_sketch.Goals as goal
 
 pub returns-then-opens_block : goal.returns-then-opens_block

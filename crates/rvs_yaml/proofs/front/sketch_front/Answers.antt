@@ -1,6 +1,6 @@
 use Rattle.std.proofs.Common.{◌≡◌, ◌+◌, ◌-◌, ◌<◌, subst, arith, length, take, []}
 use Rattle.std.proofs.lemmas.Result.{err_from_is_err_and}
-use Rattle.rvs_yaml.specs.Value.{Value, scalar_value}
+use Rattle.rvs_tree.specs.Value.{Value, scalar_value}
 use Rattle.rvs_yaml.specs.Front.{ends, front_value}
 use Rattle.rvs_yaml.specs.Sketched.{IsSketch}
 use Rattle.rvs_yaml.specs.StackView.{stack_view}

@@ -1,5 +1,5 @@
 use Rattle.std.proofs.Common.{◌≡◌, ◌≤◌, length, take}
-use Rattle.rvs_yaml.specs.Value.{Value}
+use Rattle.rvs_tree.specs.Value.{Value}
 use Rattle.rvs_yaml.specs.Front.{ends, front_value}
 use Rattle.rvs_yaml.specs.Sketched.{IsSketch}
 use Rattle.rvs_yaml.specs.StackView.{stack_view}

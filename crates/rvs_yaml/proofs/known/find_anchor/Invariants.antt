@@ -1,5 +1,5 @@
 use Rattle.std.proofs.Common.{◌≡◌, ◌≤◌, length, take}
-use Rattle.rvs_yaml.specs.Word.{lookup}
+use Rattle.rvs_yaml.specs.Anchors.{lookup}
 use Rattle.rvs_yaml.specs.StackView.{anchors_view}
 use Rattle.rvs_yaml.proofs.known.find_anchor.Given as goal
 

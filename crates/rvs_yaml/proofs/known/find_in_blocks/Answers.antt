@@ -1,8 +1,8 @@
 use Rattle.std.proofs.Common.{◌≡◌, ◌+◌, ◌-◌, ◌<◌, ◌∙◌, sym, ap, arith, length, take, get_or, Some, None}
-use Rattle.rvs_yaml.specs.Word.{lookup}
+use Rattle.rvs_yaml.specs.Anchors.{lookup}
 use Rattle.rvs_yaml.specs.Stack.{known_of}
 use Rattle.rvs_yaml.specs.StackView.{anchors_view, stack_view}
-use Rattle.rvs_yaml.specs.ValueView.{value_view}
+use Rattle.rvs_tree.specs.ValueView.{value_view}
 use Rattle.rvs_yaml.proofs.Lookups.{lookup-found, lookup-missed, stack-more}
 use Rattle.rvs_yaml.proofs.known.find_in_blocks.Goals as goal
 

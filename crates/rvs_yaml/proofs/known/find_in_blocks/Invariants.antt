@@ -1,5 +1,5 @@
 use Rattle.std.proofs.Common.{◌≡◌, ◌≤◌, length, take}
-use Rattle.rvs_yaml.specs.Word.{lookup}
+use Rattle.rvs_yaml.specs.Anchors.{lookup}
 use Rattle.rvs_yaml.specs.Stack.{known_of}
 use Rattle.rvs_yaml.specs.StackView.{stack_view}
 use Rattle.rvs_yaml.proofs.known.find_in_blocks.Given as goal

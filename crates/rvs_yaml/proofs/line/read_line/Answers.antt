@@ -1,7 +1,7 @@
 use Rattle.std.proofs.Common.{◌∙◌, sym, ap, false}
 use Rattle.rvs_yaml.specs.Stack.{step, steps}
 use Rattle.rvs_yaml.specs.StackView.{stack_view}
-use Rattle.rvs_yaml.specs.Text.{words_at}
+use Rattle.rvs_yaml_text.specs.Text.{words_at}
 use Rattle.rvs_yaml.proofs.Giving.{gives_same}
 use Rattle.rvs_yaml.proofs.WholeLines.{steps-one, line-bad, line-again, line-start, line-dots, line-plain}
 use Rattle.rvs_yaml.proofs.line.read_line.Goals as goal

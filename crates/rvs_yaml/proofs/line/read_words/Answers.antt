@@ -1,8 +1,8 @@
 use Rattle.std.proofs.Common.{◌≡◌, ◌-◌, ◌∙◌, sym, ap, arith, length, true, false, Ok}
-use Rattle.rvs_yaml.specs.Scalar.{without_spaces}
-use Rattle.rvs_yaml.specs.Word.{dash}
+use Rattle.rvs_yaml_text.specs.Scalar.{without_spaces}
+use Rattle.rvs_yaml_text.specs.Word.{dash}
 use Rattle.rvs_yaml.specs.Stack.{step, steps}
-use Rattle.rvs_yaml.specs.Text.{word_at, words_at, item_name}
+use Rattle.rvs_yaml_text.specs.Text.{word_at, words_at, item_name}
 use Rattle.rvs_yaml.specs.StackView.{stack_view}
 use Rattle.rvs_yaml.proofs.Lining.{spaces-length, spaces-twice, words-first, words-next, words-rest}
 use Rattle.rvs_yaml.proofs.Giving.{gives_same}

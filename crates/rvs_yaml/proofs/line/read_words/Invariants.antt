@@ -1,9 +1,9 @@
 use Rattle.std.proofs.Common.{◌≡◌, ◌≤◌, ◌-◌, length, false}
 use denote.Shadow.{shadow}
 use denote.Text.{Utf8}
-use Rattle.rvs_yaml.specs.Scalar.{without_spaces}
+use Rattle.rvs_yaml_text.specs.Scalar.{without_spaces}
 use Rattle.rvs_yaml.specs.Stack.{steps}
-use Rattle.rvs_yaml.specs.Text.{words_at}
+use Rattle.rvs_yaml_text.specs.Text.{words_at}
 use Rattle.rvs_yaml.specs.StackView.{stack_view}
 use Rattle.rvs_yaml.proofs.line.read_words.Given as goal
 

@@ -1,7 +1,7 @@
 use Rattle.std.proofs.Common.{◌+◌, sym, subst}
 use Rattle.rvs_yaml.specs.Answer.{answer}
 use Rattle.rvs_yaml.specs.StackView.{stack_view}
-use Rattle.rvs_yaml.specs.TreeView.{view}
+use Rattle.rvs_tree.specs.TreeView.{view}
 use Rattle.rvs_yaml.proofs.Answering.{Reads, Reads-line, Reads-refused}
 use Rattle.rvs_yaml.proofs.Ending.{refused-line, Reads-whole}
 use Rattle.rvs_yaml.proofs.reader.parse.Goals as goal

@@ -1,6 +1,6 @@
 use Rattle.std.proofs.Common.{◌∙◌, sym, true}
 use Rattle.std.specs.Str.{is_utf8}
-use Rattle.rvs_yaml.specs.Scalar.{is_blank}
+use Rattle.rvs_yaml_text.specs.Scalar.{is_blank}
 use Rattle.rvs_yaml.specs.StackView.{stack_view}
 use Rattle.rvs_yaml.proofs.WholeLines.{line-blank, checked-nothing, both_true}
 use Rattle.rvs_yaml.proofs.reader.read_checked_line.Goals as goal

@@ -2,8 +2,8 @@ use Rattle.std.proofs.lemmas.Result.{err_from_is_err_and}
 use Rattle.rvs_yaml.specs.StepParts.{put_content, advanced_content}
 use Rattle.rvs_yaml.specs.StepView.{done_content}
 use Rattle.rvs_yaml.specs.StackView.{anchors_view, stack_view, block_view, found_view}
-use Rattle.rvs_yaml.specs.ValueView.{value_view}
-use Rattle.rvs_yaml.specs.WordView.{word_view, head_view}
+use Rattle.rvs_tree.specs.ValueView.{value_view}
+use Rattle.rvs_yaml_text.specs.WordView.{word_view, head_view}
 use Rattle.rvs_yaml.proofs.Giving.{gives_same, fails_first}
 use Rattle.rvs_yaml.proofs.Stepping.{block_with, advanced-put, then-parts}
 use Rattle.rvs_yaml.proofs.stack.advance.Goals as goal

@@ -2,7 +2,7 @@ use Rattle.std.proofs.Common.{◌∙◌, ap}
 use Rattle.rvs_yaml.specs.StepParts.{put_content}
 use Rattle.rvs_yaml.specs.StepView.{done_content}
 use Rattle.rvs_yaml.specs.StackView.{anchors_view, stack_view}
-use Rattle.rvs_yaml.specs.WordView.{word_view, head_view}
+use Rattle.rvs_yaml_text.specs.WordView.{word_view, head_view}
 use Rattle.rvs_yaml.proofs.Giving.{gives_same}
 use Rattle.rvs_yaml.proofs.Stepping.{block_with, begins-put}
 use Rattle.rvs_yaml.proofs.stack.begin.Goals as goal

@@ -1,10 +1,10 @@
 use Rattle.std.proofs.Common.{◌≡◌, ◌∙◌, sym, ap, false}
-use Rattle.rvs_yaml.specs.Block.{is_below}
+use Rattle.rvs_yaml_text.specs.Word.{is_below}
 use Rattle.rvs_yaml.specs.Stack.{settled}
 use Rattle.rvs_yaml.specs.StepParts.{bare}
 use Rattle.rvs_yaml.specs.StackView.{found_view, block_view, stack_view}
-use Rattle.rvs_yaml.specs.ValueView.{value_view}
-use Rattle.rvs_yaml.specs.WordView.{word_view, head_view}
+use Rattle.rvs_tree.specs.ValueView.{value_view}
+use Rattle.rvs_yaml_text.specs.WordView.{word_view, head_view}
 use Rattle.rvs_yaml.proofs.Lookups.{stack-push}
 use Rattle.rvs_yaml.proofs.Stepping.{settled-next}
 use Rattle.rvs_yaml.proofs.stack.settle.Goals as goal

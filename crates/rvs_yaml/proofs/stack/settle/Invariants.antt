@@ -2,7 +2,7 @@ use Rattle.std.proofs.Common.{◌≡◌, vec_len}
 use Rattle.rvs_yaml.specs.Stack.{settled}
 use Rattle.rvs_yaml.specs.StepParts.{bare}
 use Rattle.rvs_yaml.specs.StackView.{found_view, block_view, stack_view}
-use Rattle.rvs_yaml.specs.WordView.{word_view}
+use Rattle.rvs_yaml_text.specs.WordView.{word_view}
 use Rattle.rvs_yaml.proofs.stack.settle.Given as goal
 
 abbrev pub invariant-loop-outer : goal.invariant-loop-outer

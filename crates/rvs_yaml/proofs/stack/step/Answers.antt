@@ -1,9 +1,9 @@
 use Rattle.std.proofs.Common.{◌≡◌, ◌∙◌, sym, ap, false}
-use Rattle.rvs_yaml.specs.Block.{is_below}
+use Rattle.rvs_yaml_text.specs.Word.{is_below}
 use Rattle.rvs_yaml.specs.Stack.{step}
 use Rattle.rvs_yaml.specs.StackView.{found_view, block_view, stack_view}
-use Rattle.rvs_yaml.specs.ValueView.{value_view}
-use Rattle.rvs_yaml.specs.WordView.{word_view, head_view}
+use Rattle.rvs_tree.specs.ValueView.{value_view}
+use Rattle.rvs_yaml_text.specs.WordView.{word_view, head_view}
 use Rattle.rvs_yaml.proofs.Giving.{gives_same}
 use Rattle.rvs_yaml.proofs.Lookups.{stack-push}
 use Rattle.rvs_yaml.proofs.Stepping.{step-settled}

@@ -1,0 +1,4 @@
+pub mod Merging
+pub mod Sums
+pub mod TreeSizes
+pub mod Views

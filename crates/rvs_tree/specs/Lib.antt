@@ -1,0 +1,7 @@
+pub mod Bound
+pub mod Data
+pub mod PairsView
+pub mod TreeSize
+pub mod TreeView
+pub mod Value
+pub mod ValueView

@@ -1,6 +1,0 @@
-use Rattle.std.proofs.Common.{◌≡◌, drop}
-use Rattle.rvs_yaml.specs.Scalar.{is_blank}
-use Rattle.rvs_yaml.proofs.scan.is_blank.Given as goal
-
-abbrev pub invariant-loop-byte : goal.invariant-loop-byte
-invariant-loop-byte l = is_blank l.spaced (drop l.byte-index l.bytes) ≡ is_blank l.initial.spaced l.bytes

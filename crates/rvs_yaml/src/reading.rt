@@ -1,0 +1,36 @@
+// Flow collections that are open.
+use rvs_tree::{EntryList, Value, ValueList};
+use rvs_yaml_text::{Bracket, Key};
+
+/// What may come next in an open collection.
+#[derive(Drop)]
+pub(crate) enum Place {
+    Member(ValueList),
+    BehindMember(ValueList),
+    KeyPlace(EntryList),
+    EntryValue(EntryList, Key),
+    BehindEntry(EntryList),
+}
+
+/// An open collection: its bracket, and the place in it.
+#[derive(Drop)]
+pub(crate) struct Level {
+    pub bracket: Bracket,
+    pub place: Place,
+}
+
+/// A flow collection that is read: the open collections, the innermost apart, or the whole. `good`
+/// says whether all that it merges so far can be merged.
+#[derive(Drop)]
+pub(crate) enum Reading {
+    Inside(bool, Level, Vec<Level>),
+    Whole(Value, bool),
+}
+
+/// A flow collection that is read: whether a space was read last, and the text that is left.
+#[derive(Drop)]
+pub(crate) struct Flowing<'a> {
+    pub reading: Reading,
+    pub spaced: bool,
+    pub rest: &'a str,
+}

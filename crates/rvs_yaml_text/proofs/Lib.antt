@@ -1,0 +1,4 @@
+pub mod Cutting
+pub mod Plains
+pub mod Quoting
+pub mod Scans

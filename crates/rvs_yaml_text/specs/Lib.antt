@@ -1,0 +1,11 @@
+pub mod KeyView
+pub mod Kinds
+pub mod LineView
+pub mod MarkView
+pub mod Marks
+pub mod Quotes
+pub mod Scalar
+pub mod ScanView
+pub mod Text
+pub mod Word
+pub mod WordView

@@ -1,0 +1,18 @@
+-- A text at the first place of a byte.
+use Rattle.std.specs.Prelude.{ℕ, true, false, ◌==◌, ◌||◌, List, [], ◌∷◌, Option, option_map, Some, None}
+use Rattle.rvs_yaml_text.specs.Scalar.{Split, onto, escaped}
+
+-- what is before the first byte that is this one, and what is behind it
+abbrev pub at_byte : ℕ → List ℕ → Split
+at_byte c [] = None
+at_byte c (b ∷ bs) = elim (b == c) [ true ↦ Some ([], bs) | false ↦ onto b (at_byte c bs) ]
+
+-- what is before the first double quote or backslash, and the text from there on
+abbrev pub at_mark : List ℕ → Split
+at_mark [] = None
+at_mark (b ∷ bs) = elim (b == 34 || b == 92) [ true ↦ Some ([], b ∷ bs) | false ↦ onto b (at_mark bs) ]
+
+-- the text that the character behind a backslash stands for
+abbrev pub escape : List ℕ → Option (List ℕ)
+escape [] = None
+escape (b ∷ bs) = option_map (λ c. c ∷ []) (escaped b)

@@ -1,0 +1,131 @@
+-- Scalars, names and comments in the text of a line.
+use Rattle.std.specs.Prelude.{ℕ, Bool, true, false, ◌&&◌, ◌||◌, ◌==◌, nat_le, if◌then◌else◌, List, [], ◌∷◌, drop, bytes_eq, Option, Some, None, option_map, codes}
+use Rattle.rvs_yaml_text.specs.Word.{Key}
+use Rattle.rvs_yaml_text.specs.declared.kind.YamlKind.{YamlKind}
+use Rattle.rvs_yaml_text.specs.declared.kind.YamlKind.TheVariants.{BadScalar, Unsupported}
+
+-- only spaces, tabs and a comment, which stands first or after a space
+abbrev pub is_blank : Bool → List ℕ → Bool
+is_blank spaced [] = true
+is_blank spaced (b ∷ bs) = (b == 35 && spaced) || ((b == 32 || b == 9) && is_blank (b == 32) bs)
+
+-- only spaces and a comment
+abbrev pub only_comment : Bool → List ℕ → Bool
+only_comment spaced [] = true
+only_comment spaced (b ∷ bs) = (b == 35 && spaced) || (b == 32 && only_comment true bs)
+
+-- the text, up to a comment
+abbrev pub uncommented : Bool → List ℕ → List ℕ
+uncommented spaced [] = []
+uncommented spaced (b ∷ bs) = if b == 35 && spaced then [] else b ∷ uncommented (b == 32) bs
+
+-- the text without the spaces at its end
+abbrev pub push_front : ℕ → List ℕ → List ℕ
+push_front b [] = if b == 32 then [] else b ∷ []
+push_front b (c ∷ bs) = b ∷ c ∷ bs
+
+abbrev pub trimmed : List ℕ → List ℕ
+trimmed [] = []
+trimmed (b ∷ bs) = push_front b (trimmed bs)
+
+-- the text without the spaces at its front
+abbrev pub without_spaces : List ℕ → List ℕ
+without_spaces [] = []
+without_spaces (b ∷ bs) = elim (b == 32) [ true ↦ without_spaces bs | false ↦ b ∷ bs ]
+
+abbrev pub starts_with : ℕ → List ℕ → Bool
+starts_with c [] = false
+starts_with c (b ∷ bs) = b == c
+
+abbrev pub is_empty : List ℕ → Bool
+is_empty [] = true
+is_empty _ = false
+
+-- a space or the line's end comes next
+abbrev pub ends_mark : List ℕ → Bool
+ends_mark bytes = is_empty bytes || starts_with 32 bytes
+
+-- a text at the front, and what is behind it
+abbrev pub Split : Type 0
+Split = Option (List ℕ × List ℕ)
+
+abbrev pub onto : ℕ → Split → Split
+onto b o = option_map (λ p. (b ∷ p.0, p.1)) o
+
+-- the text before the colon that ends a key, and what is behind that
+abbrev pub key_split : Bool → List ℕ → Split
+key_split spaced [] = None
+key_split spaced (b ∷ bs) =
+    elim (b == 35 && spaced) [
+      | true ↦ None
+      | false ↦
+          elim (b == 58 && ends_mark bs) [ true ↦ Some ([], bs) | false ↦ onto b (key_split (b == 32) bs) ]
+    ]
+
+-- The text of a scalar in single quotes, behind the first one, and what is behind the last. Two quotes are one.
+abbrev mutual
+  pub single : List ℕ → Split
+  single [] = None
+  single (b ∷ bs) = elim (b == 39) [ true ↦ behind_quote bs | false ↦ onto b (single bs) ]
+
+  pub behind_quote : List ℕ → Split
+  behind_quote [] = Some ([], [])
+  behind_quote (b ∷ bs) = elim (b == 39) [ true ↦ onto 39 (single bs) | false ↦ Some ([], b ∷ bs) ]
+
+-- what a character behind a backslash stands for
+abbrev pub escaped : ℕ → Option ℕ
+escaped b = if b == 92 || b == 34 then Some b else if b == 110 then Some 10 else if b == 116 then Some 9 else None
+
+-- the text of a scalar in double quotes, behind the first one, and what is behind the last
+abbrev mutual
+  pub double : List ℕ → Split
+  double [] = None
+  double (b ∷ bs) = elim (b == 34) [ true ↦ Some ([], bs) | false ↦ elim (b == 92) [ true ↦ behind_backslash bs | false ↦ onto b (double bs) ] ]
+
+  pub behind_backslash : List ℕ → Split
+  behind_backslash [] = None
+  behind_backslash (b ∷ bs) = elim (escaped b) [ None ↦ None | Some c ↦ onto c (double bs) ]
+
+abbrev pub starts_quoted : List ℕ → Bool
+starts_quoted bytes = starts_with 39 bytes || starts_with 34 bytes
+
+-- the text of a quoted scalar, and what is behind it
+abbrev pub quoted : List ℕ → Split
+quoted bytes = elim (starts_with 39 bytes) [ true ↦ single (drop 1 bytes) | false ↦ double (drop 1 bytes) ]
+
+-- letters, digits, `_` and `-`
+abbrev pub is_name_byte : ℕ → Bool
+is_name_byte b = ((nat_le 48 b && nat_le b 57) || (nat_le 65 b && nat_le b 90)) || ((nat_le 97 b && nat_le b 122) || (b == 95 || b == 45))
+
+abbrev pub name_split : List ℕ → List ℕ × List ℕ
+name_split [] = ([], [])
+name_split (b ∷ bs) = elim (is_name_byte b) [ true ↦ (b ∷ (name_split bs).0, (name_split bs).1) | false ↦ ([], b ∷ bs) ]
+
+-- `! | > %`
+abbrev pub is_unsupported_start : ℕ → Bool
+is_unsupported_start b = b == 33 || (b == 124 || (b == 62 || b == 37))
+
+-- `& * ' " [ { , ] } @` and the backquote, and `#`
+abbrev pub is_reserved_start : ℕ → Bool
+is_reserved_start b = ((b == 38 || b == 42) || (b == 39 || b == 34)) || (((b == 91 || b == 123) || (b == 44 || b == 93)) || ((b == 125 || b == 64) || (b == 96 || b == 35)))
+
+-- `? - :`
+abbrev pub is_mark_byte : ℕ → Bool
+is_mark_byte b = b == 63 || (b == 45 || b == 58)
+
+-- why a plain scalar can't begin so, if it can't
+abbrev pub start_fault : List ℕ → Option YamlKind
+start_fault [] = None
+start_fault (b ∷ bs) =
+    if is_unsupported_start b then Some Unsupported
+    else if is_reserved_start b then Some BadScalar
+    else if b == 63 && starts_with 32 bs then Some Unsupported
+    else if is_mark_byte b && ends_mark bs then Some BadScalar
+    else None
+
+abbrev pub key_name : List ℕ → Key
+key_name name = record { name = name; merges = bytes_eq name (codes "<<") }
+
+-- a quoted key merges nothing
+abbrev pub quoted_name : List ℕ → Key
+quoted_name name = record { name = name; merges = false }
