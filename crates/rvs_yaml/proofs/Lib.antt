@@ -8,6 +8,7 @@ pub mod Lining
 pub mod Lookups
 pub mod Marking
 pub mod Outlined
+pub mod Placing
 pub mod Rows
 pub mod Sketching
 pub mod Stepping

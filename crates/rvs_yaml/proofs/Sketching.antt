@@ -1,11 +1,11 @@
 -- Sketches of collections with one member more, and how deep trees are.
-use Rattle.std.proofs.Common.{◌≡◌, ℕ, zero, suc, ◌+◌, ◌-◌, ◌<◌, ◌≤◌, max, Bool, true, false, cond, List, [], ◌∷◌, map, length, take, slice_get, Some, None, Ok, Err, refl, sym, ap, ◌∙◌, arith}
+use Rattle.std.proofs.Common.{◌≡◌, ℕ, zero, suc, ◌+◌, ◌-◌, ◌<◌, ◌≤◌, max, Bool, true, false, List, [], ◌∷◌, map, length, take, slice_get, Some, None, Ok, Err, refl, sym, ap, ◌∙◌, arith}
 use Rattle.std.specs.Prelude.{◌&&◌, ◌||◌, not, nat_lt}
 use Rattle.std.proofs.lemmas.Bool.Decides.{nat_tests}
 use Rattle.rvs_yaml.specs.Checks.{Checked, ◌>>=◌, check}
 use Rattle.rvs_tree.specs.Data.{Data, scalar, sequence, mapping, Items, no_items, item, Entries, no_entries, entry, list_of, pairs_of, members_of, is_scalar, depth, items_depth, entries_depth}
-use Rattle.rvs_tree.specs.Value.{Value, Written, scalar_value}
-use Rattle.rvs_tree.specs.Bound.{members_depth, entry_depth}
+use Rattle.rvs_tree.specs.Value.{Value, scalar_value, merged_pairs, is_map_or_empty}
+use Rattle.rvs_tree.specs.Bound.{members_depth, pairs_depth}
 use Rattle.rvs_yaml.specs.StepParts.{closed_value}
 use Rattle.rvs_yaml.specs.Front.{ends, front_value}
 use Rattle.rvs_yaml.specs.Sketched.{IsSketch}
@@ -15,16 +15,16 @@ use Rattle.std.proofs.lemmas.Option.{slice_get-get_or}
 use Rattle.rvs_yaml.specs.StackView.{done_view, stack_view}
 use Rattle.rvs_yaml.specs.declared.open.Open.{Open}
 use Rattle.rvs_yaml_text.specs.declared.kind.YamlKind.TheVariants.{BadMerge}
-use Rattle.rvs_tree.proofs.Sums.{merged_shallower}
+use Rattle.rvs_tree.proofs.Sums.{list_shallower}
 use Rattle.rvs_yaml.proofs.Lookups.{stack-more}
 use Rattle.std.proofs.Common.{get_or}
 
-chosen-shallow : (b : Bool) (m n : ℕ) → m < n → cond b m n ≤ n
-chosen-shallow true m n h = omega arith
-chosen-shallow false m n h = omega arith
-
-pub entry-shallow : (w : Written) → entry_depth w ≤ depth w.value.tree
-entry-shallow w = chosen-shallow w.merges _ _ (merged_shallower w.value.tree)
+-- what a list brings is less deep than the maps in it
+pub list-shallower : (d : Data) → is_map_or_empty d ≡ false → pairs_depth (merged_pairs d) ≤ depth d - 2
+list-shallower (scalar [] line) h = cc
+list-shallower (scalar (b ∷ bs) line) h = omega arith
+list-shallower (sequence ds line) h = list_shallower (sequence ds line) refl
+list-shallower (mapping es line) h = cc
 
 pub check-bad : (a b : Bool) → (a && not b) ≡ true → check (not a || b) BadMerge ≡ Err BadMerge
 check-bad true true h = cc

@@ -46,7 +46,7 @@ pub settled-bare : (g : Found Value) (b : Block) (h : Head) (own : Value) (bs : 
 settled-bare g b h own [] w = refl
 settled-bare g b h own (o ∷ bs) w = refl
 
-settled-over : (g : Found Value) (b o : Open) (bs : List Open) (w : Word) → is_below o.head w ≡ false → settled g b (o ∷ bs) w ≡ (closed_into b g o.head.anchor >>= λ h. settled h o bs w)
+pub settled-over : (g : Found Value) (b o : Open) (bs : List Open) (w : Word) → is_below o.head w ≡ false → settled g b (o ∷ bs) w ≡ (closed_into b g o.head.anchor >>= λ h. settled h o bs w)
 settled-over g b o bs w e = rw e refl
 
 -- a block that the word isn't in is closed

@@ -12,6 +12,7 @@ pub mod Gives
 pub mod LineParts
 pub mod MarkParts
 pub mod Reader
+pub mod Places
 pub mod Sketched
 pub mod Stack
 pub mod StackView

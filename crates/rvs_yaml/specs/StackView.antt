@@ -24,7 +24,7 @@ abbrev pub anchors_view : List Anchor → anchors_spec.Anchors
 anchors_view anchors = reverse (map anchor_view anchors)
 
 abbrev pub found_view : Found → block_spec.Found value_spec.Value
-found_view g = block_spec.found (value_view g.value) (anchors_view g.anchors.items)
+found_view g = block_spec.found (value_view g.value) (anchors_view g.anchors.anchors.items)
 
 abbrev pub done_view : Done → spec.Done
 done_view (Items l) = spec.done_items (values_view l.values.items)
@@ -32,7 +32,7 @@ done_view (Entries l key) = spec.done_entries (entries_view l.entries.items) (ke
 done_view Alone = spec.alone
 
 abbrev pub block_view : Block → parts.Block
-block_view b = record { line = b.line; column = b.column; done = done_view b.done; anchors = anchors_view b.anchors.items }
+block_view b = record { line = b.line; column = b.column; done = done_view b.done; anchors = anchors_view b.anchors.anchors.items }
 
 abbrev pub open_view : Open → spec.Open
 open_view b = parts.opened (block_view b.block) (head_view b.head) (value_view b.own)
@@ -43,4 +43,4 @@ stack_view bs = reverse (map open_view bs)
 
 -- the anchors that are known at a place
 abbrev pub known_view : Known → anchors_spec.Anchors
-known_view k = anchors_view k.latest.now ++ spec.known_of (stack_view k.blocks.now)
+known_view k = anchors_view k.latest.now.anchors.items ++ spec.known_of (stack_view k.blocks.now)

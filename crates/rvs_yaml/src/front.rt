@@ -1,8 +1,9 @@
 // The limits on the tree of the lines so far.
-ghost use Rattle.std.specs.Prelude.{◌≡◌, ◌∷◌, ◌++◌, ◌&&◌, [], ℕ, not, nat_lt, IfOk};
+ghost use Rattle.std.specs.Prelude.{◌≡◌, ◌≤◌, ◌∷◌, ◌++◌, ◌&&◌, [], ℕ, min, not, nat_lt, IfOk};
 ghost use Rattle.rvs_tree.specs.Data as data_spec;
 ghost use Rattle.rvs_tree.specs.Value as value_spec;
 ghost use Rattle.rvs_yaml.specs.StepParts as parts;
+ghost use Rattle.rvs_tree.specs.Bound.{entry_depth};
 ghost use Rattle.rvs_yaml.specs.Entry.{written};
 ghost use Rattle.rvs_yaml.specs.Stack.{done_entries};
 ghost use Rattle.rvs_yaml.specs.Front as spec;
@@ -84,12 +85,25 @@ fn list_sketch(list: &ValueList, last: &Sketch) -> Sketch
     }
 }
 
+/// A bound on the depth of what the open entry brings into its map. A map that is merged brings its
+/// values, and a list of maps theirs.
+fn brought_depth(key: &Key, last: &Sketch) -> u64
+    ensures bound { (v : value_spec.Value) → IsSketch v last.now → min (entry_depth (written (key_view key.now) v)) 33 ≤ result }
+    ensures shallow { result ≤ 33 }
+{
+    if !key.merges || last.depth >= DEEP {
+        return last.depth;
+    }
+    let hidden = if last.is_map { 1 } else { 2 };
+    last.depth.saturating_sub(hidden)
+}
+
 /// What is known of a map with one entry more.
 fn map_sketch(entries: &EntryList, key: &Key, last: &Sketch) -> Sketch
     ensures { (line : ℕ) → (v : value_spec.Value) → IsSketch v last.now → IsSketch (value_spec.map_value line (entries_view entries.now.entries.items ++ written (key_view key.now) v ∷ [])) result }
 {
     Sketch {
-        depth: (entries.depth.max(last.depth) + 1).min(DEEP),
+        depth: (entries.depth.max(brought_depth(key, last)) + 1).min(DEEP),
         nodes: plus(
             plus(entries.nodes, text_nodes(key.name.as_str())),
             last.nodes,

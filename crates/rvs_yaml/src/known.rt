@@ -3,32 +3,20 @@ ghost use Rattle.std.specs.Prelude.{◌≡◌, ◌++◌, option_map};
 ghost use Rattle.rvs_yaml.specs.Anchors as spec;
 ghost use Rattle.rvs_yaml.specs.Stack as stack_spec;
 ghost use Rattle.rvs_yaml.specs.Gives.{Gives};
-ghost use Rattle.rvs_yaml.specs.StackView.{anchors_view, stack_view, known_view};
+ghost use Rattle.rvs_yaml.specs.StackView.{stack_view, known_view};
 ghost use Rattle.rvs_tree.specs.ValueView.{value_view};
 
-use crate::open::{Anchor, Open};
+use crate::anchor_list::AnchorList;
+use crate::anchoring::find_anchor;
+use crate::open::Open;
 use rvs_tree::{Value, shared_value};
 use rvs_yaml_text::YamlKind;
 
 /// The anchors in the complete members of a block, and the blocks around it.
 #[derive(Clone, Copy)]
 pub(crate) struct Known<'a, 'b> {
-    pub latest: &'b [Anchor<'a>],
+    pub latest: &'b AnchorList<'a>,
     pub blocks: &'b [Open<'a>],
-}
-
-/// The value of the latest of these anchors with this name.
-fn find_anchor<'b>(name: &str, anchors: &'b [Anchor<'_>]) -> Option<&'b Value>
-    ensures { option_map (λ v. value_view v.now) result ≡ spec.lookup name.now (anchors_view anchors.now) }
-{
-    let mut i = anchors.len();
-    while i > 0 {
-        i -= 1;
-        if anchors[i].name == name {
-            return Some(&anchors[i].value);
-        }
-    }
-    None
 }
 
 /// The value of the latest anchor with this name in these blocks.
@@ -38,7 +26,7 @@ fn find_in_blocks<'b>(name: &str, blocks: &'b [Open<'_>]) -> Option<&'b Value>
     let mut i = blocks.len();
     while i > 0 {
         i -= 1;
-        if let Some(value) = find_anchor(name, blocks[i].block.anchors.as_slice()) {
+        if let Some(value) = find_anchor(name, &blocks[i].block.anchors) {
             return Some(value);
         }
     }

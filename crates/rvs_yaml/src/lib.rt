@@ -2,6 +2,8 @@
 //! scalars, anchors, aliases and merges, as a tree of texts.
 #![tactic(auto)]
 
+mod anchor_list;
+mod anchoring;
 mod entry;
 mod flow;
 mod flow_text;

@@ -1,4 +1,5 @@
 // Blocks that aren't complete.
+use crate::anchor_list::AnchorList;
 use rvs_tree::{EntryList, Value, ValueList};
 use rvs_yaml_text::{Head, Key};
 
@@ -22,7 +23,7 @@ pub(crate) enum Done {
 #[derive(Drop)]
 pub(crate) struct Found<'a> {
     pub value: Value,
-    pub anchors: Vec<Anchor<'a>>,
+    pub anchors: AnchorList<'a>,
 }
 
 /// What a block has so far: its first line and its column, its members, and the anchors in them.
@@ -31,7 +32,7 @@ pub(crate) struct Block<'a> {
     pub line: u64,
     pub column: usize,
     pub done: Done,
-    pub anchors: Vec<Anchor<'a>>,
+    pub anchors: AnchorList<'a>,
 }
 
 /// A block that isn't complete, its last word, and what that word is by itself.

@@ -67,7 +67,7 @@ fn refusal(line: u64, kind: YamlKind) -> YamlRefusal
 }
 
 /// The tree of a text: block lists and maps, flow collections, scalars, with aliases and merges
-/// resolved. It takes memory for the tree and the open blocks, a small multiple of the text.
+/// resolved. It takes memory for the tree, the anchors and the open blocks.
 ///
 /// # Errors
 ///

@@ -11,6 +11,7 @@ ghost use Rattle.rvs_tree.specs.ValueView.{value_view, values_view, entries_view
 ghost use Rattle.rvs_yaml_text.specs.KeyView.{key_view};
 ghost use Rattle.rvs_yaml_text.specs.WordView.{content_view, shape_view, word_view, head_view, name_view};
 
+use crate::anchoring::{joined, no_anchors, with_anchor};
 use crate::entry::entry_of;
 use crate::known::Known;
 use crate::open::{Anchor, Block, Done, Found, Open};
@@ -176,10 +177,10 @@ fn own_of<'a>(
     line: u64,
     content: Content<'a>,
 ) -> Result<Value, YamlKind>
-    ensures { Gives value_view result (block_spec.content_value (anchors_view block.now.anchors.items ++ spec.known_of (stack_view blocks.now)) line (content_view content.entry)) }
+    ensures { Gives value_view result (block_spec.content_value (anchors_view block.now.anchors.anchors.items ++ spec.known_of (stack_view blocks.now)) line (content_view content.entry)) }
 {
     let known = Known {
-        latest: block.anchors.as_slice(),
+        latest: &block.anchors,
         blocks,
     };
     content_value(alloc, &known, line, content)
@@ -195,7 +196,7 @@ fn begin<'a>(alloc: Global, blocks: &mut Vec<Open<'a>>, word: Word<'a>) -> Resul
         line: head.line,
         column: head.column,
         done,
-        anchors: Vec::new(alloc),
+        anchors: no_anchors(alloc),
     };
     put(alloc, blocks, block, head, content)
 }
@@ -221,7 +222,7 @@ fn advance<'a>(
         value,
         anchors: inner,
     } = found;
-    let anchors = joined(anchors, inner)?;
+    let anchors = joined(alloc, anchors, inner)?;
     let (done, content) = advanced(alloc, done, column, value, word)?;
     put(
         alloc,
@@ -237,17 +238,6 @@ fn advance<'a>(
     )
 }
 
-/// The anchors of both, one after another.
-fn joined<'a>(
-    mut first: Vec<Anchor<'a>>,
-    mut second: Vec<Anchor<'a>>,
-) -> Result<Vec<Anchor<'a>>, AllocError>
-    ensures { IfOk result (λ v. anchors_view v.items ≡ anchors_view second.entry.items ++ anchors_view first.entry.items) }
-{
-    first.append(&mut second)?;
-    Ok(first)
-}
-
 /// What is found, with the anchor that names it.
 fn named<'a>(
     alloc: Global,
@@ -260,12 +250,12 @@ fn named<'a>(
         return Ok(found);
     };
     let Found { value, anchors } = found;
-    let mut all = Vec::new(alloc);
-    all.push(Anchor {
+    let own = Anchor {
         name,
         value: shared_value(&value)?,
-    })?;
-    let anchors = joined(all, anchors)?;
+    };
+    let own = with_anchor(alloc, no_anchors(alloc), own)?;
+    let anchors = joined(alloc, own, anchors)?;
     Ok(Found { value, anchors })
 }
 
@@ -280,7 +270,7 @@ fn own_found<'a>(alloc: Global, head: Head<'a>, own: Value) -> Result<Found<'a>,
     };
     let found = Found {
         value,
-        anchors: Vec::new(alloc),
+        anchors: no_anchors(alloc),
     };
     named(alloc, head.anchor, found)
 }
@@ -321,7 +311,7 @@ fn closed<'a>(alloc: Global, block: Block<'a>, found: Found<'a>) -> Result<Found
         anchors: inner,
     } = found;
     let value = closed_value(alloc, line, done, value)?;
-    let anchors = joined(anchors, inner)?;
+    let anchors = joined(alloc, anchors, inner)?;
     Ok(Found { value, anchors })
 }
 

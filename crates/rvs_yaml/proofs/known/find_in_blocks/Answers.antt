@@ -14,10 +14,10 @@ returns-in-Some c =
     let one : m + 1 ≡ c.loop-i.i = omega arith in
     let here : m < length bs = omega (arith, c.loop-i.invariant.inside) in
     let top = get_or bs m c.index-blocks-i.result in
-    let found : lookup name (anchors_view top.block.anchors.items) ≡ Some (value_view c.in-Some.value.now) = ap (λ xs. lookup name (anchors_view xs)) (sym c.as_slice.ensures.value) ∙ sym c.in-Some.ensures in
+    let found : lookup name (anchors_view top.block.anchors.anchors.items) ≡ Some (value_view c.in-Some.value.now) = sym c.in-Some.ensures in
     sym (sym (ap (λ n. lookup name (known_of (stack_view (take n bs)))) one)
     ∙ ap (λ s. lookup name (known_of s)) (stack-more bs m c.index-blocks-i.result here)
-    ∙ lookup-found name (anchors_view top.block.anchors.items) (known_of (stack_view (take m bs))) (value_view c.in-Some.value.now) found)
+    ∙ lookup-found name (anchors_view top.block.anchors.anchors.items) (known_of (stack_view (take m bs))) (value_view c.in-Some.value.now) found)
     ∙ c.loop-i.invariant.same
 
 pub loop-i-preserved : goal.loop-i-preserved
@@ -28,11 +28,11 @@ loop-i-preserved c =
     let one : m + 1 ≡ c.loop-i.i = omega arith in
     let here : m < length bs = omega (arith, c.loop-i.invariant.inside) in
     let top = get_or bs m c.index-blocks-i.result in
-    let missed : lookup name (anchors_view top.block.anchors.items) ≡ None = ap (λ xs. lookup name (anchors_view xs)) (sym c.as_slice.ensures.value) ∙ sym c.in_default.ensures in
+    let missed : lookup name (anchors_view top.block.anchors.anchors.items) ≡ None = sym c.in_default.ensures in
     record {
       inside = omega (arith, c.loop-i.invariant.inside);
       same = sym (sym (ap (λ n. lookup name (known_of (stack_view (take n bs)))) one)
           ∙ ap (λ s. lookup name (known_of s)) (stack-more bs m c.index-blocks-i.result here)
-          ∙ lookup-missed name (anchors_view top.block.anchors.items) (known_of (stack_view (take m bs))) missed)
+          ∙ lookup-missed name (anchors_view top.block.anchors.anchors.items) (known_of (stack_view (take m bs))) missed)
           ∙ c.loop-i.invariant.same;
     }

@@ -1,7 +1,7 @@
 use Rattle.std.proofs.Common.{◌∙◌, ap}
 use Rattle.rvs_yaml.specs.StepParts.{put_content}
 use Rattle.rvs_yaml.specs.StepView.{done_content}
-use Rattle.rvs_yaml.specs.StackView.{anchors_view, stack_view}
+use Rattle.rvs_yaml.specs.StackView.{stack_view}
 use Rattle.rvs_yaml_text.specs.WordView.{word_view, head_view}
 use Rattle.rvs_yaml.proofs.Giving.{gives_same}
 use Rattle.rvs_yaml.proofs.Stepping.{block_with, begins-put}
@@ -12,4 +12,4 @@ returns c =
     let bs = stack_view c.args.blocks.now.items in
     let h = head_view c.head-head.result in
     let p = done_content c.begun-done.result in
-    gives_same _ _ _ _ (ap (λ xs. put_content (block_with h.line h.column p.0 (anchors_view xs)) bs h p.1) c.new.ensures.items ∙ begins-put bs (word_view c.args.word) h p c.head-head.ensures c.begun-done.ensures) c.put.ensures
+    gives_same _ _ _ _ (ap (λ known. put_content (block_with h.line h.column p.0 known) bs h p.1) c.no_anchors.ensures ∙ begins-put bs (word_view c.args.word) h p c.head-head.ensures c.begun-done.ensures) c.put.ensures
