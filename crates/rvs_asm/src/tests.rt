@@ -82,11 +82,13 @@ fn readings(rt: HostRuntime) -> Result<(), Fail> {
         ("addi x1, x0, 010", 0x00a0_0093),
         ("addi x1, x0, -0", 0x0000_0093),
         (".section .data,,x\n.text\nnop", 0x13),
+        (".section .text.init\nnop", 0x13),
         ("foo : nop", 0x13),
         ("nop\r", 0x13),
         ("x3: beq x1, x2, x3", 0x0020_8063),
         ("loop: j loop # again", 0x0000_006f),
         ("ecall", 0x0000_0073),
+        ("nop # \u{e9}", 0x13),
     ] {
         if word == 0 {
             assert_eq!(rt; text_bytes(rt.alloc(), lines)?.len(), 0, "at {lines}");
@@ -94,9 +96,15 @@ fn readings(rt: HostRuntime) -> Result<(), Fail> {
             makes_words(&rt, rt.alloc(), lines, &[word])?;
         }
     }
+    let far = text_bytes(
+        rt.alloc(),
+        "beq x0, x0, far\n.fill 1022, 4, 0x00000013\nfar:",
+    )?;
+    assert!(rt; far.starts_with(&0x7e00_0ee3_u32.to_le_bytes()));
     for (lines, line, kind, value) in [
         ("nop\n: nop", 2, 1, 0),
         ("a b: nop", 1, 1, 0),
+        ("nop \u{e9}", 1, 1, 0),
         ("nop\r\r", 1, 1, 0),
         ("foo x1,", 1, 1, 0),
         (".section ,x", 1, 1, 0),
@@ -105,6 +113,7 @@ fn readings(rt: HostRuntime) -> Result<(), Fail> {
         ("nop,", 1, 2, 0),
         ("a: b: nop", 1, 2, 0),
         (".data\nfoo", 2, 2, 0),
+        ("amoadd.w x1, x3, 0(x2)", 1, 2, 0),
         ("addi x1, x0, - 5", 1, 3, 0),
         ("addi x1, x0, 0X5", 1, 3, 0),
         ("addi x1, x0, 9223372036854775808", 1, 3, 0),
@@ -112,6 +121,7 @@ fn readings(rt: HostRuntime) -> Result<(), Fail> {
         ("lw x1, (x2)", 1, 3, 0),
         ("jalr x1, x2, 0", 1, 3, 0),
         (".globl a b", 1, 3, 0),
+        (".section .bss", 1, 3, 0),
         (".half end_signature", 1, 3, 0),
         (
             "nop\nnop\nnop\nnop\nnop\nnop\naddi x1, x0, 2048",
@@ -133,10 +143,17 @@ fn readings(rt: HostRuntime) -> Result<(), Fail> {
             4,
             4100,
         ),
+        (
+            "beq x0, x0, far\n.fill 1024, 4, 0x00000013\nfar: j away",
+            1,
+            4,
+            4100,
+        ),
         ("a:\na:", 2, 6, 0),
         (".byte 1", 1, 7, 0),
         (".zero 4000000000", 1, 8, 0),
         (".data\n.zero 1048577", 2, 9, 0),
+        (".data\n.zero 4000000000", 2, 9, 0),
         ("tohost: .data", 5, 6, 0),
         ("begin_signature: nop", 3, 6, 0),
     ] {
@@ -154,6 +171,7 @@ fn whole_texts(rt: HostRuntime) {
             "tohost: .data\nbegin_signature:\nend_signature:\n.word 0\n",
             10,
         ),
+        ("beq x0, x0, far\n.fill 1022, 4, 0x00000013\nfar:\n", 10),
         (
             ".data\nend_signature: .word 0\nbegin_signature:\ntohost: .word 0\n",
             12,
@@ -170,10 +188,13 @@ fn whole_texts(rt: HostRuntime) {
             "at {text}"
         );
     }
-    assert_eq!(rt;
-        refusal_of(rt.alloc(), "mul x1, x2, x3", &core(false)),
-        (1, 11, 0)
-    );
+    for (text, line, kind) in [("mul x1, x2, x3", 1, 11), (".data\nmul x1, x2, x3", 2, 1)] {
+        assert_eq!(rt;
+            refusal_of(rt.alloc(), text, &core(false)),
+            (line, kind, 0),
+            "at {text}"
+        );
+    }
 }
 
 #[test]

@@ -468,9 +468,15 @@ fn traps(rt: HostRuntime) -> Result<(), Fail> {
     Ok(())
 }
 
-// lw x1, 1(x4); lw x1, 16(x4); sb x2, -4(x4), which is in the text's range
+// the end of the text; lw x1, 1(x4); lw x1, 16(x4); sb x2, -4(x4), which is in the text's range
 #[test]
 fn traps_at_addresses(rt: HostRuntime) -> Result<(), Fail> {
+    let pc = 0x8000_0010;
+    let kind = TrapKind::AccessFault { addr: pc };
+    assert_eq!(rt;
+        end_of(rt.alloc(), NOP)?,
+        Some(End::Trapped(Trap { pc, kind }))
+    );
     let misaligned = TrapKind::MisalignedAccess { addr: 0x8100_0001 };
     assert_eq!(rt; end_of(rt.alloc(), 0x0012_2083)?, trap(misaligned));
     let above = TrapKind::AccessFault { addr: 0x8100_0010 };
@@ -509,12 +515,16 @@ fn keeps_to_the_core(rt: HostRuntime) -> Result<(), Fail> {
     Ok(())
 }
 
-static IMAGE: &[u8] =
-    b"rvimage 1\ntext 3\n810002b7\n00100313\n0062a023\ndata 2\n00000000\n00000007\ntohost 81000000\nbegin 81000004\nend 81000008\n";
+// the same file twice: the second with carriage returns, leading zeros in its counts, letters of
+// either case, and no last line feed
+static IMAGES: [&[u8]; 2] = [
+    b"rvimage 1\ntext 3\n810002b7\n00100313\n0062a023\ndata 2\n00000000\n00000007\ntohost 81000000\nbegin 81000004\nend 81000008\n",
+    b"rvimage 1\r\ntext 0000003\n810002B7\n00100313\n0062A023\r\ndata 02\n00000000\n00000007\ntohost 81000000\nbegin 81000004\nend 81000008",
+];
 
-// how a run of the image file ends, and how many instructions it has
-fn run_of_image(alloc: Global, limit: u64) -> Result<(End, usize), ImageRefusal> {
-    let mut core = Machine::new(read_image(alloc, IMAGE)?, RV32IM);
+// how a run of an image file ends, and how many instructions it has
+fn run_of_image(alloc: Global, bytes: &[u8], limit: u64) -> Result<(End, usize), ImageRefusal> {
+    let mut core = Machine::new(read_image(alloc, bytes)?, RV32IM);
     let mut trace = Trace::new(alloc);
     let end = core.run(limit, &mut trace);
     Ok((end, trace.as_slice().len()))
@@ -522,11 +532,13 @@ fn run_of_image(alloc: Global, limit: u64) -> Result<(End, usize), ImageRefusal>
 
 #[test]
 fn runs_an_image_file(rt: HostRuntime) -> Result<(), Fail> {
-    assert_eq!(rt; run_of_image(rt.alloc(), 10)?, (End::Halted, 3));
-    assert_eq!(rt; run_of_image(rt.alloc(), 3)?, (End::Halted, 3));
-    assert_eq!(rt; run_of_image(rt.alloc(), 2)?, (End::StepLimit, 2));
-    let core = Machine::new(read_image(rt.alloc(), IMAGE)?, RV32IM);
-    assert_eq!(rt; core.signature(rt.alloc())?.as_slice(), [7].as_slice());
+    for bytes in IMAGES {
+        assert_eq!(rt; run_of_image(rt.alloc(), bytes, 10)?, (End::Halted, 3));
+        assert_eq!(rt; run_of_image(rt.alloc(), bytes, 3)?, (End::Halted, 3));
+        assert_eq!(rt; run_of_image(rt.alloc(), bytes, 2)?, (End::StepLimit, 2));
+        let core = Machine::new(read_image(rt.alloc(), bytes)?, RV32IM);
+        assert_eq!(rt; core.signature(rt.alloc())?.as_slice(), [7].as_slice());
+    }
     Ok(())
 }
 
