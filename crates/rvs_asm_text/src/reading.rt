@@ -99,6 +99,13 @@ pub fn read_line<'t>(in_text: bool, line: &'t [u8]) -> Result<Line<'t>, LineFaul
     ensures ready { IfOk result (λ l. IsReady l.body) }
 {
     let (text, _) = cut(line, b'#');
+    // Empty lines and comments can be many.
+    if text.is_empty() {
+        return Ok(Line {
+            label: None,
+            body: Body::Nothing,
+        });
+    }
     if !all_printable(text) {
         return Err(LineFault::BadLine);
     }
