@@ -6,3 +6,4 @@ pub mod Repeats
 pub mod Short
 pub mod Stands
 pub mod Joins
+pub mod Empty

@@ -29,6 +29,10 @@ fn body_in(in_text: bool, line: &[u8]) -> Body<'_>
     ensures body { result ≡ body_of (read_line in_text line.now) }
     ensures ready { IsReady result }
 {
+    // A statement is long to move, and empty lines can be many.
+    if line.is_empty() {
+        return Body::Nothing;
+    }
     match read_line(in_text, line) {
         Ok(line) => line.body,
         Err(_) => Body::Nothing,
