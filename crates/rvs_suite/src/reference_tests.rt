@@ -88,6 +88,7 @@ fn an_image_is_run(rt: HostRuntime) -> Result<(), Fail> {
     for options in [
         "--test a.img --signature a.sig",
         "--test a.img --signature a.sig --steps 3",
+        "--steps 0000003 --signature a.sig --test a.img",
     ] {
         let run = reference(rt.alloc(), options, "a.img", IMAGE, &[])?;
         expect(&rt, &run, Status::Done, "3 instructions, 1 words\n", "");

@@ -145,11 +145,19 @@ fn words_that_are_no_command(rt: HostRuntime) -> Result<(), Fail> {
         "rvsuite compare a.sig b.sig c.sig",
         "rvsuite compare -a.sig b.sig",
         "rvsuite compare a.sig ",
+        "rvsuite compare a.sig --",
         "rvsuite compared a.sig b.sig",
         "rvsuite validate i.yaml",
         "rvsuite validate --isa=i.yaml",
         "rvsuite validate --isa i.yaml --isa i.yaml",
         "rvsuite validate --isa -i.yaml",
+        "rvsuite reference --isa i.yaml --test t.S",
+        "rvsuite reference --isa i.yaml --test t.S --signature t.sig --log",
+        "rvsuite reference --isa i.yaml --test t.S --signature t.sig --isa i.yaml",
+        "rvsuite reference --isa i.yaml --test t.S --signature t.sig --steps 0",
+        "rvsuite reference --isa i.yaml --test t.S --signature t.sig --steps 2000001",
+        "rvsuite reference --isa i.yaml --test t.S --signature t.sig --steps 00000001",
+        "rvsuite --help",
         "rvsuite",
     ] {
         let run = run(rt.alloc(), words, Items::new(rt.alloc()), &NO_FAULTS)?;
@@ -190,17 +198,18 @@ fn each_fault_is_told(rt: HostRuntime) -> Result<(), Fail> {
     let empty = copied(rt.alloc(), "")?;
     let run = compare(rt.alloc(), empty, Some(copied(rt.alloc(), "")?), &out_fails)?;
     expect(&rt, &run, Status::SinkFault, "", "");
-    for (put, err) in [
-        (0, ""),
-        (1, "rvsuite: "),
-        (2, "rvsuite: no file "),
-        (3, "rvsuite: no file b.sig"),
+    for (left, put, err) in [
+        ("0000001\n", 0, ""),
+        ("", 0, ""),
+        ("", 1, "rvsuite: "),
+        ("", 2, "rvsuite: no file "),
+        ("", 3, "rvsuite: no file b.sig"),
     ] {
         let faults = Faults {
             err: &[put],
             ..NO_FAULTS
         };
-        let run = compare(rt.alloc(), copied(rt.alloc(), "")?, None, &faults)?;
+        let run = compare(rt.alloc(), copied(rt.alloc(), left)?, None, &faults)?;
         expect(&rt, &run, Status::SinkFault, "", err);
     }
     Ok(())
@@ -283,6 +292,35 @@ fn long_specifications_are_refused(rt: HostRuntime) -> Result<(), Fail> {
     let run = validate(rt.alloc(), more)?;
     let err = "rvsuite: i.yaml: length 65536\n";
     expect(&rt, &run, Status::Refused, "", err);
+    Ok(())
+}
+
+#[test]
+fn long_files_are_refused(rt: HostRuntime) -> Result<(), Fail> {
+    // Lines of ten bytes fill a file up to its limit.
+    for (line, end, status, out, err) in [
+        ("0000000f\n", "", Status::Done, "PASS 262144 words\n", ""),
+        (
+            "0000000f\n",
+            "0000000f\n",
+            Status::Refused,
+            "",
+            "rvsuite: a.sig: sig 2\n",
+        ),
+        ("0000000f\r\n", "", Status::Done, "PASS 262144 words\n", ""),
+        (
+            "0000000f\r\n",
+            "0",
+            Status::Refused,
+            "",
+            "rvsuite: a.sig: length 2621440\n",
+        ),
+    ] {
+        let left = lines(rt.alloc(), line, 262_144, end)?;
+        let right = lines(rt.alloc(), "0000000F\n", 262_144, "")?;
+        let run = compare(rt.alloc(), left, Some(right), &NO_FAULTS)?;
+        expect(&rt, &run, status, out, err);
+    }
     Ok(())
 }
 
