@@ -13,3 +13,6 @@ mod ValidateRuns
 mod Verdicts
 mod WordRows
 mod CompareEnds
+mod Untouched
+mod Keeping
+mod Sparing

@@ -149,6 +149,12 @@ fn refused_tests_leave_no_files(rt: HostRuntime) -> Result<(), Fail> {
         (
             "--test t.S --signature a.sig",
             "t.S",
+            ".data\n.zero 4000000000\n",
+            "rvsuite: t.S: asm 9 line 2\n",
+        ),
+        (
+            "--test t.S --signature a.sig",
+            "t.S",
             "nop\n",
             "rvsuite: t.S: asm 10 line 0 name tohost\n",
         ),

@@ -1,8 +1,8 @@
 // The whole of what the program does.
-ghost use Rattle.std.specs.Prelude.{◌≡◌, ◌≢◌, ◌⊎◌, List, ℕ, Option, None, false};
+ghost use Rattle.std.specs.Prelude.{◌≡◌, ◌≢◌, ◌⊎◌, List, ℕ, Option, None, Some, false};
 ghost use Rattle.rvs_base.specs.Faults.{Rose};
 ghost use Rattle.rvs_base.specs.Host.{Files, Tells, is_told};
-ghost use Rattle.rvs_plan.specs.World.{Later, LaterSink, world};
+ghost use Rattle.rvs_plan.specs.World.{Later, LaterSink, contents, world};
 ghost use Rattle.rvs_plan.specs.Performed.{NeverStops};
 ghost use Rattle.rvs_plan.specs.Account.{Accounts, HostRose, NoneRose, Means};
 ghost use Rattle.rvs_isa.specs.declared.checked.Checked.{Checked};
@@ -120,6 +120,21 @@ pub fn run_suite<H: Host, O: Sink, E: Sink>(
         → test_file.FirstMissing files isa test name
         → NoneRose (world (H.state host.old) (O.state out.old)) (world (H.state host.new) (O.state out.new)) (E.state err.old) (E.state err.new)
         → (result ≡ Status.HostFault) ⊎ (result ≡ Status.NoMemory) }
+
+    // A run that is refused, or whose words are no command, has changed nothing; nor has one that lacks an input.
+    ensures untouched { (files : Files) → Tells (H.state host.old) files → (result ≡ Status.Usage) ⊎ (result ≡ Status.Refused)
+        → contents (world (H.state host.new) (O.state out.new)) ≡ contents (world (H.state host.old) (O.state out.old)) }
+    ensures absent_untouched { (files : Files) → Tells (H.state host.old) files → result ≡ Status.HostFault
+        → (contents (world (H.state host.new) (O.state out.new)) ≡ contents (world (H.state host.old) (O.state out.old)))
+        ⊎ HostRose (world (H.state host.old) (O.state out.old)) (world (H.state host.new) (O.state out.new)) }
+
+    // `compare` and `validate` write no file, and `reference` none but those of the signature and the log, however they end.
+    ensures compare_keeps { (files : Files) (left right : List ℕ) → Tells (H.state host.old) files → command_of (texts words.now) ≡ Command.Compare left right
+        → (H.state host.new).files ≡ (H.state host.old).files }
+    ensures validate_keeps { (files : Files) (isa : List ℕ) → Tells (H.state host.old) files → command_of (texts words.now) ≡ Command.Validate isa
+        → (H.state host.new).files ≡ (H.state host.old).files }
+    ensures reference_spares { (files files' : Files) (isa test signature : List ℕ) (log : Option (List ℕ)) (steps : Option ℕ) (other : List ℕ) → Tells (H.state host.old) files → command_of (texts words.now) ≡ Command.Reference isa test signature log steps
+        → other ≢ signature → log ≢ Some other → (H.state host.new).files ≡ Some files' → files' other ≡ files other }
 
     // A command whose inputs are there and accepted comes to its end.
     ensures completes { (files : Files) → Tells (H.state host.old) files

@@ -274,6 +274,8 @@ fn specifications_are_refused(rt: HostRuntime) -> Result<(), Fail> {
         ),
         ("[]", "rvsuite: i.yaml: isa 1 \n"),
         ("a: 0\nb: 0\na: 1\n", "rvsuite: i.yaml: yaml 6 line 3\n"),
+        ("a:\n\tb: 0\n", "rvsuite: i.yaml: yaml 2 line 2\n"),
+        ("a: *z\n", "rvsuite: i.yaml: yaml 7 line 1\n"),
     ] {
         let run = validate(rt.alloc(), copied(rt.alloc(), isa)?)?;
         expect(&rt, &run, Status::Refused, "", err);

@@ -4,6 +4,9 @@ use Rattle.rvs_suite.specs.Commands.{command_of}
 use Rattle.rvs_suite.proofs.Running.{Ran, answers, answered, completes, usage, no_command, compare-passes, compare-fails, compare-spelt, compare-refused, compare-refuses, compare-missed, compare-misses}
 use Rattle.rvs_suite.proofs.ValidateRuns.{validate-done, validate-no_verdict, validate-refused, validate-missed, validate-accepts, validate-refuses, validate-misses}
 use Rattle.rvs_suite.proofs.ReferenceRuns.{reference-done, reference-halts, reference-no_verdict, reference-refused, reference-refuses, reference-missed, reference-misses}
+use Rattle.rvs_suite.proofs.Untouched.{untouched, untouched-absent}
+use Rattle.rvs_suite.proofs.Keeping.{compare-keeps, validate-keeps}
+use Rattle.rvs_suite.proofs.Sparing.{reference-spares}
 use Rattle.rvs_suite.proofs.suite.run_suite.Given as given
 use Rattle.rvs_suite.proofs.suite.run_suite.Goals as goal
 
@@ -99,3 +102,18 @@ returns-clause-lacks_input g c = reference-missed (ran g c)
 
 pub returns-clause-lacking_input : goal.returns-clause-lacking_input
 returns-clause-lacking_input g c = reference-misses (ran g c)
+
+pub returns-clause-untouched : goal.returns-clause-untouched
+returns-clause-untouched g c = untouched (ran g c)
+
+pub returns-clause-absent_untouched : goal.returns-clause-absent_untouched
+returns-clause-absent_untouched g c = untouched-absent (ran g c)
+
+pub returns-clause-compare_keeps : goal.returns-clause-compare_keeps
+returns-clause-compare_keeps g c = compare-keeps (ran g c)
+
+pub returns-clause-validate_keeps : goal.returns-clause-validate_keeps
+returns-clause-validate_keeps g c = validate-keeps (ran g c)
+
+pub returns-clause-reference_spares : goal.returns-clause-reference_spares
+returns-clause-reference_spares g c = reference-spares (ran g c)

@@ -1,0 +1,143 @@
+-- That a command which stops for its words, its inputs or their absence has changed nothing.
+use Rattle.std.proofs.Common.{◌≡◌, ◌⊎◌, inl, inr, ℕ, List, [], ◌∷◌, Option, Some, None, Result, Ok, Err, refl, subst, ◌∙◌}
+use Rattle.std.specs.Prelude.{⊤}
+use Rattle.rvs_base.specs.Host.{Files, Tells}
+use Rattle.rvs_base.specs.Sink.{SinkState}
+use Rattle.rvs_plan.specs.World.{World, Contents, contents}
+use Rattle.rvs_plan.specs.Effect.{Deed, Effect, Read, Device, Did, after}
+use Rattle.rvs_plan.specs.Plan.{Plan, Ends, Does, Asks, Runs, Goes, followed, ◌>>=◌}
+use Rattle.rvs_plan.specs.Inputs.{input}
+use Rattle.rvs_plan.specs.Meets.{Completes, Halts}
+use Rattle.rvs_plan.specs.Account.{Accounts, Reports, status_of, HostRose}
+use Rattle.rvs_plan.specs.declared.stop.Stop.{Stop}
+use Rattle.rvs_plan.specs.declared.stop.Stop.TheVariants as why
+use Rattle.rvs_plan.specs.declared.status.Status.{Status}
+use Rattle.rvs_plan.specs.declared.status.Status.TheVariants as answer
+use Rattle.rvs_plan.specs.declared.status.Finish.{Finish}
+use Rattle.rvs_insn.specs.Isa.{Isa}
+use Rattle.rvs_suite.specs.Compare as comparing
+use Rattle.rvs_suite.specs.Validate.{print_said}
+use Rattle.rvs_suite.specs.Specification.{isa_limit, checks, specification}
+use Rattle.rvs_suite.specs.Reference.{test_limit, trial, records, reference_on}
+use Rattle.rvs_suite.specs.TestRun.{accepted, test_found}
+use Rattle.rvs_suite.specs.Plans.{plan_of}
+use Rattle.rvs_suite.proofs.Ends.{was_refused, WasMissing, was_missing}
+use Rattle.rvs_suite.proofs.Running.{Ran, answers}
+use Rattle.rvs_suite.specs.declared.command.Command.{Command}
+use Rattle.rvs_suite.specs.declared.command.Command.TheVariants.{Unknown, Compare, Validate, Reference}
+use Rattle.rvs_suite.specs.declared.test_run.Run.{Run}
+
+-- a plan that only reads
+abbrev OnlyReads : {A : Type 0} → Plan A → Type 0
+OnlyReads (Ends end) = ⊤
+OnlyReads (Does deed plan) = ⊥
+OnlyReads (Asks name next) = (found : Option (List ℕ)) → OnlyReads (next found)
+OnlyReads (Runs words test signature next) = ⊥
+
+-- a plan of deeds that doesn't stop
+abbrev NeverStops : {A : Type 0} → Plan A → Type 0
+NeverStops (Ends (Ok a)) = ⊤
+NeverStops (Ends (Err stop)) = ⊥
+NeverStops (Does deed plan) = NeverStops plan
+NeverStops (Asks name next) = ⊥
+NeverStops (Runs words test signature next) = ⊥
+
+-- where the plan stops, nothing was changed
+abbrev StopsUntouched : {A : Type 0} → Plan A → Type 0
+StopsUntouched plan = (effects : List Effect) (stop : Stop) (c : Contents) → Goes plan effects (Ends (Err stop)) → after effects c ≡ c
+
+OnlyReads-followed : {A B : Type 0} (end : Result A Stop) (next : A → Plan B) → ((a : A) → OnlyReads (next a)) → OnlyReads (followed end next)
+OnlyReads-followed (Ok a) next reads = reads a
+OnlyReads-followed (Err stop) next reads = tt
+
+OnlyReads-then : {A B : Type 0} (plan : Plan A) (next : A → Plan B) → OnlyReads plan → ((a : A) → OnlyReads (next a)) → OnlyReads (plan >>= next)
+OnlyReads-then (Ends end) next reads then = OnlyReads-followed end next then
+OnlyReads-then (Does deed plan) next reads then = absurd reads
+OnlyReads-then (Asks name rest) next reads then = λ found. OnlyReads-then (rest found) next (reads found) then
+OnlyReads-then (Runs words test signature rest) next reads then = absurd reads
+
+goes-on : {A : Type 0} (plan : Plan A) (effects : List Effect) (stop : Stop) → NeverStops plan → Goes plan effects (Ends (Err stop)) → ⊥
+goes-on (Ends (Ok a)) [] stop never goes = cc
+goes-on (Ends (Ok a)) (effect ∷ effects) stop never goes = goes
+goes-on (Ends (Err s)) effects stop never goes = never
+goes-on (Does deed plan) [] stop never goes = cc
+goes-on (Does deed plan) (Did d ∷ effects) stop never goes = goes-on plan effects stop never goes.1
+goes-on (Does deed plan) (Read name found ∷ effects) stop never goes = goes
+goes-on (Does deed plan) (Device words test signature answer ∷ effects) stop never goes = goes
+goes-on (Asks name next) effects stop never goes = never
+goes-on (Runs words test signature next) effects stop never goes = never
+
+untouched-end : (A : Type 0) (stop : Stop) → StopsUntouched {A = A} (Ends (Err stop))
+untouched-end A stop [] stop' c goes = refl
+untouched-end A stop (effect ∷ effects) stop' c goes = absurd goes
+
+untouched-followed : {A B : Type 0} (end : Result A Stop) (next : A → Plan B) → ((a : A) → StopsUntouched (next a)) → StopsUntouched (followed end next)
+untouched-followed (Ok a) next then = then a
+untouched-followed {B = B} (Err stop) next then = untouched-end B stop
+
+-- what is read first, and what follows from it
+untouched-then : {A B : Type 0} (plan : Plan A) (next : A → Plan B) → OnlyReads plan → ((a : A) → StopsUntouched (next a)) → (effects : List Effect) (stop : Stop) (c : Contents) → Goes (plan >>= next) effects (Ends (Err stop)) → after effects c ≡ c
+untouched-then (Ends end) next reads then effects stop c goes = untouched-followed end next then effects stop c goes
+untouched-then (Does deed plan) next reads then effects stop c goes = absurd reads
+untouched-then (Runs words test signature rest) next reads then effects stop c goes = absurd reads
+untouched-then (Asks name rest) next reads then [] stop c goes = absurd cc
+untouched-then (Asks name rest) next reads then (Read n found ∷ effects) stop c goes = untouched-then (rest found) next (reads found) then effects stop c goes.1
+untouched-then (Asks name rest) next reads then (Device words test signature answer ∷ effects) stop c goes = absurd goes
+untouched-then (Asks name rest) next reads then (Did deed ∷ effects) stop c goes = absurd goes
+
+reads-signature : (name : List ℕ) → OnlyReads (comparing.signature name)
+reads-signature name = OnlyReads-then (input comparing.signature_limit name) (comparing.words name) (λ found. tt) (λ bytes. tt)
+
+reads-specification : (name : List ℕ) → OnlyReads (specification name)
+reads-specification name = OnlyReads-then (input isa_limit name) (checks name) (λ found. tt) (λ bytes. tt)
+
+reads-trial : (steps : Option ℕ) (isa : Isa) (test : List ℕ) → OnlyReads (trial steps isa test)
+reads-trial steps isa test = OnlyReads-then (input test_limit test) (λ bytes. accepted (test_found steps isa test bytes)) (λ found. tt) (λ bytes. tt)
+
+records-on : (signature : List ℕ) (log : Option (List ℕ)) (run : Run) → NeverStops (records signature log run)
+records-on signature None run = tt
+records-on signature (Some log) run = tt
+
+-- no command stops once it has changed anything
+stops_untouched : (command : Command) (effects : List Effect) (stop : Stop) (c : Contents) → Goes (plan_of command) effects (Ends (Err stop)) → after effects c ≡ c
+stops_untouched Unknown = untouched-end Finish why.Usage
+stops_untouched (Compare left right) =
+    untouched-then (comparing.signature left) (comparing.compare_right right) (reads-signature left) (λ lw.
+    untouched-then (comparing.signature right) (comparing.announce lw) (reads-signature right) (λ rw' effects stop c goes.
+    absurd (goes-on (comparing.announce lw rw') effects stop tt goes)))
+stops_untouched (Validate isa) =
+    untouched-then (specification isa) print_said (reads-specification isa) (λ said effects stop c goes.
+    absurd (goes-on (print_said said) effects stop tt goes))
+stops_untouched (Reference isa test signature log steps) =
+    untouched-then (specification isa) (λ said. reference_on test signature log steps said.spec) (reads-specification isa) (λ said.
+    untouched-then (trial steps said.spec test) (records signature log) (reads-trial steps said.spec test) (λ run effects stop c goes.
+    absurd (goes-on (records signature log run) effects stop (records-on signature log run) goes)))
+
+unchanged : (command : Command) (stop : Stop) (old new : Contents) → Completes (plan_of command) (Err stop) old new → new ≡ old
+unchanged command stop old new r = r.did ∙ stops_untouched command r.effects stop old r.goes
+
+used : (command : Command) (old new : World) (reason : Stop) → Halts (plan_of command) (contents old) (contents new) reason → answer.Usage ≡ status_of reason → contents new ≡ contents old
+used command old new why.Usage h is = unchanged command why.Usage (contents old) (contents new) h
+used command old new (why.Refused text) h is = absurd cc
+used command old new (why.NoFile name) h is = absurd cc
+used command old new (why.CannotRead name) h is = absurd cc
+used command old new (why.CannotWrite name) h is = absurd cc
+used command old new (why.CannotRun test) h is = absurd cc
+used command old new why.NoMemory h is = absurd cc
+used command old new why.SinkFault h is = absurd cc
+
+accounts : {command : Command} {old new : World} {err err' : SinkState} {status : Status} → Ran command old new err err' status → (files : Files) (wanted : Status) → Tells old.host files → status ≡ wanted → Accounts (plan_of command) old new err err' wanted
+accounts {command} {old} {new} {err} {err'} r files wanted t is = subst (λ (s : Status). Accounts (plan_of command) old new err err' s) is ((answers r).effects files t)
+
+-- a run that is refused, or whose words are no command
+pub untouched : {command : Command} {old new : World} {err err' : SinkState} {status : Status} → Ran command old new err err' status → (files : Files) → Tells old.host files → (status ≡ answer.Usage) ⊎ (status ≡ answer.Refused) → contents new ≡ contents old
+untouched {command} {old} {new} {err} {err'} r files t (inl is) = let a = accounts r files answer.Usage t is in used command old new a.reason a.halts a.status_is
+untouched {command} {old} {new} {err} {err'} r files t (inr is) = let w = was_refused (plan_of command) old new err err' (accounts r files answer.Refused t is) in unchanged command (why.Refused w.text) (contents old) (contents new) w.completes
+
+absent : (command : Command) (old new : World) (err err' : SinkState) → WasMissing (plan_of command) old new err err' ⊎ HostRose old new → (contents new ≡ contents old) ⊎ HostRose old new
+absent command old new err err' (inl w) = inl (unchanged command (why.NoFile w.name) (contents old) (contents new) w.completes)
+absent command old new err err' (inr rose) = inr rose
+
+-- one that lacks an input
+pub untouched-absent : {command : Command} {old new : World} {err err' : SinkState} {status : Status} → Ran command old new err err' status → (files : Files) → Tells old.host files → status ≡ answer.HostFault → (contents new ≡ contents old) ⊎ HostRose old new
+untouched-absent {command} {old} {new} {err} {err'} r files t is = absent command old new err err' (was_missing (plan_of command) old new err err' (accounts r files answer.HostFault t is))
