@@ -1,7 +1,7 @@
 -- What comes of pieces of work that have no effects.
 use Rattle.std.proofs.Common.{◌≡◌, ℕ, List, Result, Ok, Err, refl, sym, subst}
 use Rattle.rvs_plan.specs.World.{World, contents}
-use Rattle.rvs_plan.specs.Plan.{Plan, Ends}
+use Rattle.rvs_plan.specs.Plan.{Ends}
 use Rattle.rvs_plan.specs.Meets.{Meets}
 use Rattle.rvs_plan.specs.declared.stop.Stop.{Stop}
 use Rattle.rvs_plan.specs.declared.stop.Stop.TheVariants.{Usage, Refused, NoFile, CannotRead, CannotWrite, CannotRun, NoMemory, SinkFault}

@@ -4,7 +4,7 @@ use Rattle.std.proofs.lemmas.List.{append-nil}
 use Rattle.rvs_base.specs.Host.{Files, Tells, with_file, written}
 use Rattle.rvs_base.specs.Sink.{SinkState, appended}
 use Rattle.rvs_plan.specs.World.{World, Contents, contents}
-use Rattle.rvs_plan.specs.Effect.{Answer, Effect, Read, Did, Write, Out, after}
+use Rattle.rvs_plan.specs.Effect.{Answer, Effect, Read, after}
 use Rattle.rvs_plan.specs.Plan.{Plan, Ends}
 use Rattle.rvs_plan.specs.Performed.{performed, end_of, answers_in}
 use Rattle.rvs_plan.specs.Meets.{Completes}
@@ -19,7 +19,6 @@ use Rattle.rvs_plan.specs.declared.status.Finish.{Finish}
 use Rattle.rvs_plan.specs.declared.status.Finish.TheVariants as finish
 use Rattle.rvs_isa.specs.declared.checked.Checked.{Checked}
 use Rattle.rvs_sig.specs.Words.{text_of_words}
-use Rattle.rvs_suite.specs.Says.{Says, IsRefused}
 use Rattle.rvs_suite.specs.TestTexts.{ran_line}
 use Rattle.rvs_suite.specs.Reference.{log_of, records, reference_on, reference}
 use Rattle.rvs_suite.specs.Halting.{BothHalt, with_log, HasRecorded, FirstRefused, FirstMissing, TurnsDown, LacksInput}

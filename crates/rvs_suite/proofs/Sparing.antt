@@ -5,7 +5,7 @@ use Rattle.std.proofs.lemmas.Slice.Eq.{bytes_eq-Decides}
 use Rattle.rvs_base.specs.Host.{Files, Tells, MaySpoil, written}
 use Rattle.rvs_base.specs.Sink.{SinkState}
 use Rattle.rvs_plan.specs.World.{World, Contents, contents}
-use Rattle.rvs_plan.specs.Effect.{Deed, Write, Out, Effect, Read, Device, Did, after, after_deed}
+use Rattle.rvs_plan.specs.Effect.{Write, Out, Effect, Read, Device, Did, after, after_deed}
 use Rattle.rvs_plan.specs.Plan.{Plan, Ends, Does, Asks, Runs, Goes, followed, ◌>>=◌}
 use Rattle.rvs_plan.specs.Inputs.{input}
 use Rattle.rvs_plan.specs.Meets.{Reaches, Halts}

@@ -1,16 +1,16 @@
 -- What comes of a test file.
-use Rattle.std.proofs.Common.{◌≡◌, ◌≤◌, ◌<◌, ◌⊎◌, inl, inr, ℕ, Bool, true, false, List, [], ◌∷◌, length, nat_lt, Option, Some, None, Result, Ok, Err, if◌then◌else◌, refl, sym, ap, subst, ◌∙◌}
+use Rattle.std.proofs.Common.{◌≡◌, ◌≤◌, ◌<◌, inl, inr, ℕ, Bool, true, false, List, [], ◌∷◌, length, nat_lt, Option, Some, None, Result, Ok, Err, if◌then◌else◌, refl, sym, ap, subst, ◌∙◌}
 use Rattle.std.proofs.lemmas.Bool.{lt-ltb, le-ltb, ltb-true, ltb-false}
 use Rattle.rvs_base.specs.Host.{Files}
-use Rattle.rvs_plan.specs.Effect.{Answer, Effect, Read}
-use Rattle.rvs_plan.specs.Plan.{Plan, Ends, ◌>>=◌, followed}
+use Rattle.rvs_plan.specs.Effect.{Answer, Read}
+use Rattle.rvs_plan.specs.Plan.{Plan, ◌>>=◌, followed}
 use Rattle.rvs_plan.specs.Performed.{performed, end_of}
 use Rattle.rvs_plan.specs.Inputs.{part_end, too_long_text}
 use Rattle.rvs_plan.specs.declared.stop.Stop.{Stop}
 use Rattle.rvs_plan.specs.declared.stop.Stop.TheVariants.{NoFile, Refused}
 use Rattle.rvs_insn.specs.Isa.{Isa}
 use Rattle.rvs_machine.specs.Image.{ImageValue}
-use Rattle.rvs_machine.specs.Machine.{Setup, State, started, signature_of}
+use Rattle.rvs_machine.specs.Machine.{State, started}
 use Rattle.rvs_machine.specs.Run.{Outcome, run_of}
 use Rattle.rvs_machine.specs.declared.event.Executed.{Executed}
 use Rattle.rvs_machine.specs.declared.event.End.{End}

@@ -1,5 +1,5 @@
 -- What a call of the machine's `run` makes of an image.
-use Rattle.std.proofs.Common.{◌≡◌, ◌≢◌, ℕ, List, [], Result, refl, sym, ap, ◌∙◌}
+use Rattle.std.proofs.Common.{◌≡◌, ◌≢◌, ℕ, List, [], refl, sym, ap, ◌∙◌}
 use Rattle.rvs_insn.specs.Isa.{Isa}
 use Rattle.rvs_machine.specs.Image.{ImageValue}
 use Rattle.rvs_machine.specs.Machine.{Setup, Whole, started, signature_of}
@@ -8,7 +8,6 @@ use Rattle.rvs_machine.specs.declared.event.Executed.{Executed}
 use Rattle.rvs_machine.specs.declared.event.End.{End}
 use Rattle.rvs_machine.specs.declared.event.End.TheVariants.{Halted, Trapped, StepLimit, NoMemory}
 use Rattle.rvs_suite.specs.TestRun.{run_end, outcome_end, run_found}
-use Rattle.rvs_suite.specs.declared.test_run.Run.{Run}
 
 end_of_run-same : (end : End) → end ≢ NoMemory → end_of_run end ≡ end
 end_of_run-same Halted some = refl

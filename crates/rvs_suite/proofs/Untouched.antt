@@ -4,11 +4,11 @@ use Rattle.std.specs.Prelude.{⊤}
 use Rattle.rvs_base.specs.Host.{Files, Tells}
 use Rattle.rvs_base.specs.Sink.{SinkState}
 use Rattle.rvs_plan.specs.World.{World, Contents, contents}
-use Rattle.rvs_plan.specs.Effect.{Deed, Effect, Read, Device, Did, after}
+use Rattle.rvs_plan.specs.Effect.{Effect, Read, Device, Did, after}
 use Rattle.rvs_plan.specs.Plan.{Plan, Ends, Does, Asks, Runs, Goes, followed, ◌>>=◌}
 use Rattle.rvs_plan.specs.Inputs.{input}
 use Rattle.rvs_plan.specs.Meets.{Completes, Halts}
-use Rattle.rvs_plan.specs.Account.{Accounts, Reports, status_of, HostRose}
+use Rattle.rvs_plan.specs.Account.{Accounts, status_of, HostRose}
 use Rattle.rvs_plan.specs.declared.stop.Stop.{Stop}
 use Rattle.rvs_plan.specs.declared.stop.Stop.TheVariants as why
 use Rattle.rvs_plan.specs.declared.status.Status.{Status}

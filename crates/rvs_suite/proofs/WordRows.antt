@@ -1,5 +1,5 @@
 -- What some command lines ask for.
-use Rattle.std.proofs.Common.{◌≡◌, List, ℕ, [], ◌∷◌, Some, None, codes, refl}
+use Rattle.std.proofs.Common.{◌≡◌, [], ◌∷◌, Some, None, codes, refl}
 use Rattle.rvs_suite.specs.Commands.{command_of, number_of}
 use Rattle.rvs_suite.specs.declared.command.Command.TheVariants.{Unknown, Validate, Reference}
 

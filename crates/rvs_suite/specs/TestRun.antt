@@ -7,7 +7,7 @@ use Rattle.rvs_plan.specs.declared.stop.Stop.TheVariants.{Usage, Refused, NoFile
 use Rattle.rvs_insn.specs.Isa.{Isa}
 use Rattle.rvs_machine.specs.Image.{ImageValue}
 use Rattle.rvs_machine.specs.ImageText.{image_of_bytes}
-use Rattle.rvs_machine.specs.Machine.{Setup, State, started, signature_of}
+use Rattle.rvs_machine.specs.Machine.{Setup, started, signature_of}
 use Rattle.rvs_machine.specs.Run.{Outcome, run_of}
 use Rattle.rvs_machine.specs.declared.reading.ImageRefusal.{ImageRefusal}
 use Rattle.rvs_machine.specs.declared.event.End.{End}

@@ -15,7 +15,7 @@ use std::alloc::Global;
 /// The greatest length of a signature file in bytes: 262,144 lines of ten.
 pub const SIGNATURE_LIMIT: u64 = 2_621_440;
 
-/// Compares two signature files, and puts the verdict. The right file isn't opened before the left one is accepted.
+/// Compares two signature files, and puts the verdict. Where neither is accepted, the left one is told.
 ///
 /// # Errors
 ///

@@ -1,11 +1,6 @@
-use Rattle.std.proofs.Common.{List, ℕ, subst}
 use Rattle.std.proofs.lemmas.Result.{err_from_is_err_and}
-use Rattle.rvs_plan.specs.World.{world}
-use Rattle.rvs_plan.specs.Plan.{writes}
-use Rattle.rvs_plan.specs.Meets.{Meets}
 use Rattle.rvs_plan.proofs.Sequence.{Meets-then, Meets-stop}
-use Rattle.rvs_sig.specs.Words.{text_of_words}
-use Rattle.rvs_suite.specs.Reference.{writes_log, announces_run, records_log}
+use Rattle.rvs_suite.specs.Reference.{announces_run, records_log}
 use Rattle.rvs_suite.proofs.reference.record_run.Goals as goal
 
 pub returns-in_err-write_signature : goal.returns-in_err-write_signature

@@ -1,8 +1,5 @@
-use Rattle.std.proofs.Common.{◌≡◌, [], List, ℕ, Ok, Err, sym, ap, ◌∙◌, subst}
-use Rattle.rvs_machine.specs.Machine.{Whole, started}
-use Rattle.rvs_machine.specs.Run.{HasRun}
-use Rattle.rvs_machine.specs.declared.event.Executed.{Executed}
-use Rattle.rvs_machine.specs.declared.event.End.{End}
+use Rattle.std.proofs.Common.{◌≡◌, []}
+use Rattle.rvs_machine.specs.Machine.{started}
 use Rattle.rvs_machine.specs.declared.event.End.TheVariants.{Halted, Trapped, StepLimit}
 use Rattle.rvs_suite.proofs.TestRuns.{run_found-run}
 use Rattle.rvs_suite.proofs.test_run.run_image.Goals as goal
