@@ -19,6 +19,6 @@ pub use items::{Bytes, Items};
 pub use memory_host::{Files, MemoryHost};
 pub use memory_refusal::NoMemory;
 pub use memory_sink::MemorySink;
-pub use number::{decimal, hex_text, hex_word};
+pub use number::{decimal, hex_text, hex_word, signed32, unsigned32};
 pub use sink::{Sink, put_all};
 pub use text::Text;

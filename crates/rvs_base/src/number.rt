@@ -1,6 +1,7 @@
 // Numbers as text.
-ghost use Rattle.std.specs.Prelude.{◌≡◌, ◌%◌, IfOk};
+ghost use Rattle.std.specs.Prelude.{◌≡◌, ◌%◌, pos, IfOk};
 ghost use Rattle.std.specs.Fmt.{signed_decimal};
+ghost use Rattle.std.specs.Int.{w32, cast_signed};
 ghost use Rattle.rvs_base.specs.Number.{hex_digit_of, hex_word_of};
 
 use crate::{NoMemory, Text};
@@ -47,6 +48,20 @@ pub fn hex_text(alloc: Global, word: u32) -> Result<Text, NoMemory>
         text.push(char::from(digit))?;
     }
     Ok(Text::from(text))
+}
+
+/// The word read as a signed number of 32 bits, -2^31 to 2^31 - 1. It takes no memory.
+pub fn signed32(word: u32) -> i64
+    ensures { result ≡ cast_signed w32 word }
+{
+    i64::from(word.cast_signed())
+}
+
+/// The word read as an unsigned number, 0 to 2^32 - 1. It takes no memory.
+pub fn unsigned32(word: u32) -> i64
+    ensures { result ≡ pos word }
+{
+    i64::from(word)
 }
 
 fn last_digit(word: u32) -> u8

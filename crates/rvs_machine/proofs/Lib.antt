@@ -6,3 +6,9 @@ pub mod WordLines
 pub mod Words
 pub mod Kept
 pub mod FileReads
+pub mod Traces
+pub mod Steps
+pub mod Results
+pub mod Loads
+pub mod Stores
+pub mod Jumps
