@@ -69,7 +69,12 @@ pub fn read_part<H: Host>(
     }
 }
 
-fn too_long(alloc: Global, whole: &str, most: u64) -> Result<Text, NoMemory>
+/// Why an input, named so in the line of its refusal, is too long.
+///
+/// # Errors
+///
+/// [`NoMemory`].
+pub fn too_long(alloc: Global, whole: &str, most: u64) -> Result<Text, NoMemory>
     ensures { IfOk result (λ text. text ≡ too_long_text whole.now most) }
 {
     Ok(Text::from(format!(in alloc; "{whole}: length {most}")?))

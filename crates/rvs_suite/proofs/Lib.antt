@@ -16,3 +16,6 @@ mod CompareEnds
 mod Untouched
 mod Keeping
 mod Sparing
+mod Promises
+mod Finding
+mod Answered

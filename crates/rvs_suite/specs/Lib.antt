@@ -11,3 +11,10 @@ pub mod TestRun
 pub mod Reference
 pub mod Says
 pub mod Halting
+pub mod Call
+pub mod Comparing
+pub mod Validating
+pub mod Referencing
+pub mod Planned
+pub mod Causes
+pub mod Answered

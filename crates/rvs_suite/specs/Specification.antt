@@ -1,7 +1,8 @@
 -- What comes of an ISA file.
 use Rattle.std.specs.Prelude.{ℕ, List, ◌++◌, Result, Ok, Err, codes, decimal}
+use Rattle.rvs_base.specs.Host.{Files}
 use Rattle.rvs_plan.specs.Plan.{Plan, Ends, ◌>>=◌}
-use Rattle.rvs_plan.specs.Inputs.{input}
+use Rattle.rvs_plan.specs.Inputs.{input, part_end}
 use Rattle.rvs_plan.specs.declared.stop.Stop.{Stop}
 use Rattle.rvs_plan.specs.declared.stop.Stop.TheVariants.{Refused}
 use Rattle.rvs_yaml.specs.Answer.{Answer, answer}
@@ -41,3 +42,12 @@ abbrev pub specification : List ℕ → Plan Checked
 specification name = do
   bytes ← input isa_limit name
   checks name bytes
+
+-- what comes of the bytes of a file, or why the command stops there
+abbrev pub bytes_said : List ℕ → Result (List ℕ) Stop → Result Checked Stop
+bytes_said name (Ok bytes) = tree_end name (answer bytes)
+bytes_said name (Err stop) = Err stop
+
+-- over these files, what the named ISA file says, or why the command stops there
+abbrev pub said_in : Files → List ℕ → Result Checked Stop
+said_in files name = bytes_said name (part_end isa_limit name name isa_limit (files name))

@@ -49,7 +49,11 @@ fn check_tree(alloc: Global, name: &str, tree: &Tree) -> Result<Checked, Stop>
 }
 
 /// Why the named file has no tree. There is no text where memory was wanting.
-fn yaml_text(alloc: Global, name: &str, refusal: &YamlRefusal) -> Result<Text, NoMemory>
+///
+/// # Errors
+///
+/// [`NoMemory`].
+pub fn yaml_text(alloc: Global, name: &str, refusal: &YamlRefusal) -> Result<Text, NoMemory>
     ensures fault { IfOk result (λ _. refusal.now.kind ≢ YamlKind.NoMemory) }
     ensures text { IfOk result (λ text. text ≡ yaml_text name.now refusal.now.line refusal.now.kind) }
 {

@@ -5,7 +5,7 @@ mod host;
 mod sink;
 
 use host::RealHost;
-use rvs_plan::Status;
+use rvs_plan::{Status, Stop, conclude};
 use rvs_suite::run_suite;
 use sink::RealSink;
 use std::io::ErrorKind;
@@ -17,15 +17,17 @@ fn main(rt: HostRuntime) -> ExitCode {
 }
 
 fn run(rt: &HostRuntime) -> Status {
+    let mut err = RealSink::new(rt.stderr());
     let words = match words(rt) {
         Ok(words) => words,
-        Err(error) if error.kind() == ErrorKind::OutOfMemory => return Status::NoMemory,
+        Err(error) if error.kind() == ErrorKind::OutOfMemory => {
+            return conclude(Err(Stop::NoMemory), &mut err);
+        },
         // Words that aren't UTF-8 are no command.
         Err(_) => Vec::new(rt.alloc()),
     };
     let mut host = RealHost::new(rt);
     let mut out = RealSink::new(rt.stdout());
-    let mut err = RealSink::new(rt.stderr());
     run_suite(rt.alloc(), words.as_slice(), &mut host, &mut out, &mut err)
 }
 
