@@ -1,3 +1,4 @@
 pub mod Distinct
 pub mod Masks
 pub mod RoundTrip
+pub mod Columns

@@ -15,7 +15,7 @@ mod tests;
 pub use decoding::decode;
 pub use encoding::encode;
 pub use insn::Insn;
-pub use laws::one_row_each;
+pub use laws::{columns_by_name, names_are_found, one_row_each};
 pub use names::{admits, admits_op, isa_text, op_of};
 pub use op::{Format, Op};
 pub use rows::{format, op_name, reads_unsigned};

@@ -12,3 +12,4 @@ pub mod Results
 pub mod Loads
 pub mod Stores
 pub mod Jumps
+pub mod Commits

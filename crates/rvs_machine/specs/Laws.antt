@@ -1,9 +1,16 @@
 -- What no step and no run changes.
-use Rattle.std.specs.Prelude.{◌≡◌, ◌≤◌, ℕ, length, slice_index}
+use Rattle.std.specs.Prelude.{◌≡◌, ◌≤◌, ℕ, zero, suc, ◌-◌, ◌^◌, Bool, true, false, length, slice_index, Option, Some, None, is_some}
+use Rattle.std.specs.Option.{option_and_then}
+use Rattle.rvs_insn.specs.Fields.{Fields, insn_of_word}
+use Rattle.rvs_insn.specs.declared.op.Op.TheVariants.{Div, Divu, Rem, Remu}
+use Rattle.rvs_machine.specs.declared.effect.Effect.TheVariants.{Put}
+use Rattle.rvs_machine.specs.declared.event.Executed.{Executed}
+use Rattle.rvs_machine.specs.declared.event.Event.{Event}
 use Rattle.rvs_machine.specs.declared.event.Trap.{Trap}
-use Rattle.rvs_machine.specs.declared.event.Event.TheVariants.{Trapped}
+use Rattle.rvs_machine.specs.declared.event.Event.TheVariants.{Ran, Halted, Trapped}
 use Rattle.rvs_machine.specs.declared.event.End.TheVariants.{StepLimit}
 use Rattle.rvs_machine.specs.Machine.{Setup, State, step_of}
+use Rattle.rvs_machine.specs.Effects.{effect_of}
 use Rattle.rvs_machine.specs.Run.{run_of}
 
 -- a trap changes nothing
@@ -27,3 +34,35 @@ RunsAreBounded = (setup : Setup) (n : ℕ) (s : State) → length (run_of setup 
 
 abbrev pub LimitsAreExact : Type 0
 LimitsAreExact = (setup : Setup) (n : ℕ) (s : State) → (run_of setup n s).end ≡ StepLimit → length (run_of setup n s).trace ≡ n
+
+-- what a step executed
+abbrev pub executed_in : Event → Option Executed
+executed_in (Ran e) = Some e
+executed_in (Halted e) = Some e
+executed_in (Trapped t) = None
+
+-- a register that can be written: any but x0
+abbrev pub is_written : Option ℕ → Bool
+is_written None = false
+is_written (Some zero) = false
+is_written (Some (suc r)) = true
+
+abbrev pub destination_of : ℕ → Option ℕ
+destination_of word = option_and_then (λ (i : Fields). i.rd) (insn_of_word word)
+
+-- an executed instruction writes a register exactly where its format has rd and rd isn't x0
+abbrev pub CommitsAreDestinations : Type 0
+CommitsAreDestinations = (setup : Setup) (s : State) (e : Executed) → executed_in (step_of setup s).0 ≡ Some e → is_some e.commit ≡ is_written (destination_of e.word)
+
+-- a divisor of 0 gives the quotient 2^32 - 1, and leaves the dividend as remainder
+abbrev pub ZeroDivides : Type 0
+ZeroDivides =
+    (pc v1 imm : ℕ)
+    → (effect_of Div pc v1 0 imm ≡ Put (2 ^ 32 - 1)) × (effect_of Divu pc v1 0 imm ≡ Put (2 ^ 32 - 1))
+    × (effect_of Rem pc v1 0 imm ≡ Put v1) × (effect_of Remu pc v1 0 imm ≡ Put v1)
+
+-- -2^31 by -1 is -2^31 again, and leaves 0
+abbrev pub QuotientsOverflow : Type 0
+QuotientsOverflow =
+    (pc imm : ℕ)
+    → (effect_of Div pc (2 ^ 31) (2 ^ 32 - 1) imm ≡ Put (2 ^ 31)) × (effect_of Rem pc (2 ^ 31) (2 ^ 32 - 1) imm ≡ Put 0)
