@@ -7,3 +7,4 @@ pub mod Short
 pub mod Stands
 pub mod Joins
 pub mod Empty
+pub mod Firsts
