@@ -5,8 +5,9 @@ use Rattle.std.proofs.lemmas.List.Sums.{fails_before_first}
 use Rattle.std.proofs.lemmas.List.Quantifiers.{position-Some}
 use Rattle.std.proofs.lemmas.Bool.Decides.{nat_tests, same_from_decides, Decides-like}
 use Rattle.std.proofs.lemmas.Slice.Eq.{bytes_eq-Decides}
-use Rattle.rvs_base.specs.Host.{with_file}
-use Rattle.rvs_base.specs.Memory.{held}
+use Rattle.std.specs.Prelude.{not, filter}
+use Rattle.rvs_base.specs.Host.{with_file, with_left}
+use Rattle.rvs_base.specs.Memory.{held, without}
 
 abbrev pub File : Type 0
 File = List ℕ × List ℕ
@@ -95,3 +96,37 @@ pub held-push : (files : List File) (name bytes : List ℕ) → position (is_nam
 held-push files name bytes none other =
     let past = none_below (position_or_len (is_named name) files) (length files) none in
     push_at files name bytes ([], []) (λ k below. fails_before_first (is_named name) files k ([], []) (omega (arith, below, past))) other
+
+abbrev nothing : Option (List ℕ)
+nothing = None
+
+none_left : (t : Bool) → nothing ≡ (if t then nothing else nothing)
+none_left true = refl
+none_left false = refl
+
+-- the file is taken away
+taken_choice : (t v : Bool) (b c s : Option (List ℕ)) → v ≡ t → s ≡ (if t then None else c) → s ≡ (if t then None else if v then b else c)
+taken_choice true v b c s same p = p
+taken_choice false v b c s same p = rw same p
+
+-- the files of the name are taken away
+without_head : (file : File) (files : List File) (name other : List ℕ) (b : Bool) → is_named name file ≡ b → held (without name files) other ≡ with_left name None (held files) other
+    → held (cond (not b) (file ∷ without name files) (without name files)) other ≡ with_left name None (held (file ∷ files)) other
+without_head file files name other true here so_far =
+    let same : file.0 ≡ name = (bytes_eq-Decides file.0 name).0 here in
+    taken_choice (bytes_eq other name) (bytes_eq file.0 other) (Some file.1) (held files other) (held (without name files) other) (ap (λ n. bytes_eq n other) same ∙ bytes_eq-turned name other) so_far
+without_head file files name other false differs so_far =
+    let apart : bytes_eq file.0 other ≡ true → bytes_eq other name ≡ true → ⊥ = λ p q. no_both differs ((bytes_eq-Decides file.0 name).1 ((bytes_eq-Decides file.0 other).0 p ∙ (bytes_eq-Decides other name).0 q)) in
+    later_choice (bytes_eq other name) (bytes_eq file.0 other) None (Some file.1) (held files other) (held (without name files) other) apart so_far
+
+pub held-without : (files : List File) (name other : List ℕ) → held (without name files) other ≡ with_left name None (held files) other
+held-without [] name other = none_left (bytes_eq other name)
+held-without (file ∷ files) name other = without_head file files name other (is_named name file) refl (held-without files name other)
+
+-- a file is left as it was
+kept_choice : (t : Bool) (a b : Option (List ℕ)) → (t ≡ true → a ≡ b) → b ≡ (if t then a else b)
+kept_choice true a b same = sym (same refl)
+kept_choice false a b same = refl
+
+pub held-kept : (files : List File) (name other : List ℕ) → held files other ≡ with_left name (held files name) (held files) other
+held-kept files name other = kept_choice (bytes_eq other name) (held files name) (held files other) (λ is. ap (held files) (sym ((bytes_eq-Decides other name).0 is)))

@@ -1,7 +1,11 @@
 -- What a host and a sink in memory hold.
-use Rattle.std.specs.Prelude.{◌≡◌, ◌⊎◌, ℕ, ◌+◌, ◌-◌, ◌^◌, min, Bool, false, List, [], ◌∷◌, Some, None, if◌then◌else◌, bytes_eq, Contains}
+use Rattle.std.specs.Prelude.{◌≡◌, ◌≤◌, ◌<◌, ◌⊎◌, ℕ, ℤ, ◌+◌, ◌-◌, ◌^◌, min, Bool, false, not, List, [], ◌∷◌, filter, length, slice_index_or, Option, Some, None, if◌then◌else◌, bytes_eq, Contains}
 use Rattle.rvs_base.specs.Host.{HostState, Files}
 use Rattle.rvs_base.specs.Sink.{SinkState}
+use Rattle.rvs_base.specs.declared.host.DeviceRun.{DeviceRun}
+use Rattle.rvs_base.specs.declared.answers.Answer.{Answer}
+use Rattle.rvs_base.specs.declared.answers.Leaves.{Leaves}
+use Rattle.rvs_base.specs.declared.answers.Leaves.TheVariants.{Untouched, Absent, Holds}
 
 -- a count with one more, as far as 64 bits hold it
 abbrev pub raised : ℕ → ℕ
@@ -20,6 +24,10 @@ pub record MemoryHostState : Type 0 where
   pub rest : List ℕ
   pub read_faults : ℕ
   pub write_faults : ℕ
+  pub run_faults : ℕ
+  -- what the runs of devices answer, from the first on, and the runs so far
+  pub answers : List Answer
+  pub runs : List DeviceRun
   -- the number of the next call
   pub calls : ℕ
   -- the numbers of the calls that fail
@@ -29,11 +37,33 @@ pub record MemoryHostState : Type 0 where
 
 -- what such a host tells, which is all
 abbrev pub told_by : MemoryHostState → HostState
-told_by h = record { is_open = h.is_open; files = Some (held h.files); rest = Some h.rest; runs = Some []; read_faults = h.read_faults; write_faults = h.write_faults; run_faults = 0 }
+told_by h = record { is_open = h.is_open; files = Some (held h.files); rest = Some h.rest; runs = Some h.runs; read_faults = h.read_faults; write_faults = h.write_faults; run_faults = h.run_faults }
 
 -- before the first call
-abbrev pub new_host : List (List ℕ × List ℕ) → List ℕ → MemoryHostState
-new_host files fail = record { files = files; is_open = false; rest = []; read_faults = 0; write_faults = 0; calls = 0; fail = fail; starved = 0 }
+abbrev pub new_host : List (List ℕ × List ℕ) → List ℕ → List Answer → MemoryHostState
+new_host files fail answers = record {
+  files = files;
+  is_open = false;
+  rest = [];
+  read_faults = 0;
+  write_faults = 0;
+  run_faults = 0;
+  answers = answers;
+  runs = [];
+  calls = 0;
+  fail = fail;
+  starved = 0;
+}
+
+-- what a run leaves in its signature file, which held this before
+abbrev pub left_of : Leaves → Option (List ℕ) → Option (List ℕ)
+left_of Untouched before = before
+left_of Absent before = None
+left_of (Holds bytes) before = Some bytes
+
+-- the files without those of this name
+abbrev pub without : List ℕ → List (List ℕ × List ℕ) → List (List ℕ × List ℕ)
+without name files = filter (λ (file : List ℕ × List ℕ). not (bytes_eq file.0 name)) files
 
 -- a call that wants no memory was made
 pub record IsCounted (old new : MemoryHostState) : Type 0 where
@@ -49,6 +79,18 @@ pub record IsNumbered (old new : MemoryHostState) : Type 0 where
 -- why such a call failed: its number is listed, or it wanted memory and says so
 abbrev pub HasReason : MemoryHostState → MemoryHostState → Type 0
 HasReason old new = (Contains old.fail old.calls × (new.starved ≡ old.starved)) ⊎ (new.starved ≡ raised old.starved)
+
+-- why a run of a device failed: its number is listed, no answer is left for it, or it wanted memory and says so
+abbrev pub HasRunReason : MemoryHostState → MemoryHostState → Type 0
+HasRunReason old new = HasReason old new ⊎ (length old.answers ≤ length old.runs)
+
+-- a run of a device was answered by the first answer that is left
+pub record IsAnswered (signature : List ℕ) (old new : MemoryHostState) (status : ℤ) : Type 0 where
+  pub answer : Answer
+  pub within : length old.runs < length old.answers
+  pub first : answer ≡ slice_index_or old.answers (length old.runs) answer
+  pub status_is : status ≡ answer.status
+  pub left : held new.files signature ≡ left_of answer.leaves (held old.files signature)
 
 pub record MemorySinkState : Type 0 where
   -- what was put

@@ -1,11 +1,13 @@
 //! What every crate of the suite stands on: texts and lists, the outside, files and numbers.
 #![tactic(auto)]
 
+mod answers;
 mod file;
 mod host;
 mod items;
 mod memory_host;
 mod memory_refusal;
+mod memory_run;
 mod memory_sink;
 mod number;
 mod sink;
@@ -13,8 +15,9 @@ mod sink;
 mod tests;
 mod text;
 
+pub use answers::{Answer, Leaves};
 pub use file::{FileRefusal, read_file};
-pub use host::{Failed, Host, OpenFault};
+pub use host::{DeviceRun, Failed, Host, OpenFault};
 pub use items::{Bytes, Items};
 pub use memory_host::{Files, MemoryHost};
 pub use memory_refusal::NoMemory;

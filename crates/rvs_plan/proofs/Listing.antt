@@ -1,8 +1,8 @@
 -- A plan and its effects as a list.
 use Rattle.std.proofs.Common.{◌≡◌, ℕ, List, [], ◌∷◌, Option, Some, Result, refl, sym, ap, subst, ◌∙◌}
-use Rattle.rvs_base.specs.Host.{Files, written}
+use Rattle.rvs_base.specs.Host.{Files, written, with_left}
 use Rattle.rvs_plan.specs.World.{Contents}
-use Rattle.rvs_plan.specs.Effect.{Answer, Deed, Write, Out, Effect, Read, Device, Did, with_left, left_by, after_deed, after_one}
+use Rattle.rvs_plan.specs.Effect.{Answer, Deed, Write, Out, Effect, Read, Device, Did, left_by, after_deed, after_one}
 use Rattle.rvs_plan.specs.Plan.{Plan, Ends, Does, Asks, Runs}
 use Rattle.rvs_plan.specs.Performed.{end_of, files_after}
 use Rattle.rvs_plan.specs.Laws.{IsBeginning, FrontsAreBeginnings, ListsAreGoneThrough}

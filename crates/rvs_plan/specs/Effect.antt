@@ -1,6 +1,7 @@
 -- What a command does to the outside.
-use Rattle.std.specs.Prelude.{◌≡◌, ◌≢◌, ℕ, ℤ, List, [], ◌∷◌, ◌++◌, Option, Some, None, if◌then◌else◌, bytes_eq}
-use Rattle.rvs_base.specs.Host.{Files, DeviceRun, MaySpoil, written}
+use Rattle.std.specs.Prelude.{◌≡◌, ℕ, ℤ, List, [], ◌∷◌, ◌++◌, Option, Some, None}
+use Rattle.rvs_base.specs.Host.{Files, MaySpoil, written, with_left, run_over, ChangesOne}
+use Rattle.rvs_base.specs.declared.host.DeviceRun.{DeviceRun}
 use Rattle.rvs_base.specs.Sink.{appended}
 use Rattle.rvs_plan.specs.World.{Contents}
 
@@ -23,22 +24,14 @@ pub data Effect : Type 0 where
   Device : List (List ℕ) → List ℕ → List ℕ → Answer → Effect
   Did : Deed → Effect
 
--- the files with the named one absent, or holding these bytes
-abbrev pub with_left : List ℕ → Option (List ℕ) → Files → Files
-with_left name left files = λ other. if bytes_eq other name then left else files other
-
--- the same where the files are told
+-- the files after a run, where they are told
 abbrev pub left_by : List ℕ → Answer → Option Files → Option Files
 left_by signature answer None = None
 left_by signature answer (Some files) = Some (with_left signature answer.left files)
 
--- the run of these words over these files
-abbrev pub device_run : List (List ℕ) → List ℕ → List ℕ → Answer → Files → DeviceRun
-device_run words test signature answer files = record { words = words; test = files test; before = files signature; after = answer.left; status = answer.status }
-
 -- the runs with one more, where files and runs are told
 abbrev pub run_added : List (List ℕ) → List ℕ → List ℕ → Answer → Option Files → Option (List DeviceRun) → Option (List DeviceRun)
-run_added words test signature answer (Some files) (Some runs) = Some (runs ++ device_run words test signature answer files ∷ [])
+run_added words test signature answer (Some files) (Some runs) = Some (runs ++ run_over words test signature files answer.left answer.status ∷ [])
 run_added words test signature answer files runs = None
 
 -- what a deed that is done whole makes of the contents
@@ -85,11 +78,6 @@ pub record Spoiling (name bytes : List ℕ) (old new : Contents) : Type 0 where
 abbrev pub Breaks : Deed → Contents → Contents → Type 0
 Breaks (Write name bytes) old new = Spoiling name bytes old new
 Breaks (Out bytes) old new = PutsPart bytes old new
-
--- no file but this one is changed
-abbrev pub ChangesOne : List ℕ → Option Files → Option Files → Type 0
-ChangesOne name None new = new ≡ None
-ChangesOne name (Some files) new = (files' : Files) × (new ≡ Some files') × ((other : List ℕ) → other ≢ name → files' other ≡ files other)
 
 -- what a run of a device that failed may leave
 pub record Changing (signature : List ℕ) (old new : Contents) : Type 0 where

@@ -1,7 +1,7 @@
 -- The effects of a plan as a list, and its end, over given files, where these are the answers of its device runs in order.
 use Rattle.std.specs.Prelude.{◌≡◌, List, [], ◌∷◌, Option, Some, None, Result, Err}
-use Rattle.rvs_base.specs.Host.{Files, with_file}
-use Rattle.rvs_plan.specs.Effect.{Answer, Deed, Write, Out, Effect, Read, Device, Did, with_left}
+use Rattle.rvs_base.specs.Host.{Files, with_file, with_left}
+use Rattle.rvs_plan.specs.Effect.{Answer, Deed, Write, Out, Effect, Read, Device, Did}
 use Rattle.rvs_plan.specs.Plan.{Plan, Ends, Does, Asks, Runs}
 use Rattle.rvs_plan.specs.declared.stop.Stop.{Stop}
 

@@ -3,7 +3,7 @@ use Rattle.std.specs.List.{position}
 use Rattle.std.proofs.lemmas.Result.{on_ok_weaker}
 use Rattle.rvs_base.specs.Memory.{held}
 use Rattle.rvs_base.proofs.Held.{is_named, held-set, held-push}
-use Rattle.rvs_base.proofs.memory_host.store.Goals as goal
+use Rattle.rvs_base.proofs.memory_run.store.Goals as goal
 
 pub returns-in-None-clause-stored : goal.returns-in-None-clause-stored
 returns-in-None-clause-stored c =
