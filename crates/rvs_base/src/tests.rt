@@ -1,7 +1,7 @@
 // What no clause says: calls that have memory succeed, and text is spelt as people write it.
 use crate::{
-    Failed, FileRefusal, Files, Host, Items, MemoryHost, MemorySink, Text, decimal, hex_word,
-    put_all, read_file,
+    Answer, Failed, FileRefusal, Files, Host, Items, Leaves, MemoryHost, MemorySink, Text, decimal,
+    hex_word, put_all, read_file,
 };
 use std::alloc::Global;
 use std::test::Fail;
@@ -12,7 +12,7 @@ fn two_files(alloc: Global, fail: &[u64]) -> Result<MemoryHost, Fail> {
         let bytes = Items::from(name.as_bytes().to_vec(alloc)?);
         files.push((Text::from(String::from_str(alloc, name)?), bytes))?;
     }
-    Ok(MemoryHost::new(files, Items::from(fail.to_vec(alloc)?)))
+    Ok(MemoryHost::new(files, Items::from(fail.to_vec(alloc)?), Items::new(alloc)))
 }
 
 #[test]
@@ -50,6 +50,25 @@ fn a_written_file_is_found(rt: HostRuntime) -> Result<(), Fail> {
     assert_eq!(rt; host.file("a.sig"), Some(b"x".as_slice()));
     assert_eq!(rt; host.file("c.sig"), None);
     assert_eq!(rt; host.starved(), 0);
+    Ok(())
+}
+
+#[test]
+fn a_device_run_is_answered_from_the_list(rt: HostRuntime) -> Result<(), Fail> {
+    let alloc = rt.alloc();
+    let mut answers = Items::new(alloc);
+    let holds = Items::from(b"7".to_vec(alloc)?);
+    for (status, leaves) in [(3, Leaves::Holds(holds)), (-1, Leaves::Absent)] {
+        answers.push(Answer { status, leaves })?;
+    }
+    let mut host = MemoryHost::new(Items::new(alloc), Items::new(alloc), answers);
+    let words = [String::from_str(alloc, "dev")?];
+    assert_eq!(rt; host.run_device(&words, "a.S", "a.sig"), Ok(3));
+    assert_eq!(rt; host.file("a.sig"), Some(b"7".as_slice()));
+    assert_eq!(rt; host.run_device(&words, "a.S", "a.sig"), Ok(-1));
+    assert_eq!(rt; host.file("a.sig"), None);
+    assert_eq!(rt; host.run_device(&words, "a.S", "a.sig"), Err(Failed));
+    assert_eq!(rt; host.runs().len(), 2);
     Ok(())
 }
 

@@ -107,10 +107,8 @@ pub fn run_device<H: Host>(
     signature: &str,
 ) -> Result<i32, Stop>
     requires { 0 < length words.now }
-    ensures {
-        (out : SinkState) → Meets (device (device_words words.now) test signature.now)
-            (world (H.state host.old) out) (world (H.state host.new) out) result
-    }
+    ensures { (out : SinkState) → Meets (device (device_words words.now) test signature.now)
+        (world (H.state host.old) out) (world (H.state host.new) out) result }
 {
     match host.run_device(words, test.as_str(), signature) {
         Ok(status) => Ok(status),

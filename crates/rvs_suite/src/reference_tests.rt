@@ -58,7 +58,7 @@ fn reference(
     let mut files: Files = Items::new(alloc);
     add(alloc, &mut files, "i.yaml", ISA)?;
     add(alloc, &mut files, name, test)?;
-    let mut host = MemoryHost::new(files, Items::from(fail.to_vec(alloc)?));
+    let mut host = MemoryHost::new(files, Items::from(fail.to_vec(alloc)?), Items::new(alloc));
     let mut out = MemorySink::new(Items::new(alloc));
     let mut err = MemorySink::new(Items::new(alloc));
     let status = run_suite(alloc, list.as_slice(), &mut host, &mut out, &mut err);

@@ -41,7 +41,11 @@ fn run(alloc: Global, words: &str, files: Files, faults: &Faults) -> Result<Outc
     for word in words.split(' ') {
         list.push(String::from_str(alloc, word)?)?;
     }
-    let mut host = MemoryHost::new(files, Items::from(faults.host.to_vec(alloc)?));
+    let mut host = MemoryHost::new(
+        files,
+        Items::from(faults.host.to_vec(alloc)?),
+        Items::new(alloc),
+    );
     let mut out = MemorySink::new(Items::from(faults.out.to_vec(alloc)?));
     let mut err = MemorySink::new(Items::from(faults.err.to_vec(alloc)?));
     let status = run_suite(alloc, list.as_slice(), &mut host, &mut out, &mut err);
@@ -351,7 +355,7 @@ fn a_slow_sink_gets_all(rt: HostRuntime) -> Result<(), Fail> {
     let mut files: Files = Items::new(rt.alloc());
     let name = Text::from(String::from_str(rt.alloc(), "a.sig")?);
     files.push((name, copied(rt.alloc(), "0000000c\n")?))?;
-    let mut host = MemoryHost::new(files, Items::new(rt.alloc()));
+    let mut host = MemoryHost::new(files, Items::new(rt.alloc()), Items::new(rt.alloc()));
     let mut out = Trickle {
         sink: MemorySink::new(Items::new(rt.alloc())),
     };
