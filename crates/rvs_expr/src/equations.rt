@@ -1,13 +1,30 @@
 // Formulas that say that a name has one value.
-ghost use Rattle.std.specs.Prelude.{◌≡◌};
+ghost use Rattle.std.specs.Prelude.{◌≡◌, ◌≤◌, ◌^◌, IfOk};
 ghost use Rattle.rvs_expr.specs.TypedView.{num_view, view};
 ghost use Rattle.rvs_expr.specs.Equated as spec;
+ghost use Rattle.rvs_expr.specs.Equation.{number_of};
 ghost use Rattle.rvs_expr.specs.Meaning.{IsNarrow, IsNarrowFormula, nothing, value};
 
 use crate::evaluating::value_of;
 use crate::facts::NoFacts;
 use crate::formula::{Comparison, Formula, Num, NumChain};
+use rvs_base::NoMemory;
 use rvs_expr_text::NumName;
+use std::alloc::Global;
+
+/// A number as a text spells it: one below 0 is the negation of a literal.
+pub(crate) fn signed(alloc: Global, value: i64) -> Result<Num, NoMemory>
+    ensures view { IfOk result (λ n. num_view n ≡ number_of value) }
+    ensures narrow { IfOk result (λ n. IsNarrow (num_view n)) }
+{
+    let value = value as i128;
+    if value < 0 {
+        let part = Box::new(alloc, Num::Literal(-value))?;
+        Ok(Num::Minus(part))
+    } else {
+        Ok(Num::Literal(value))
+    }
+}
 
 /// A number from -2^32 to 2^32.
 fn small(value: i128) -> Option<i64>
