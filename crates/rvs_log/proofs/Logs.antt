@@ -39,10 +39,12 @@ neither false false h = (refl, refl)
 
 plain_join : (a b : List ℕ) → plain a ≡ true → plain b ≡ true → plain (a ++ b) ≡ true
 plain_join [] b g h = h
-plain_join (x ∷ a) b g h = and_true (ok x) (plain (a ++ b)) (both (ok x) (plain a) g).0 (plain_join a b (both (ok x) (plain a) g).1 h)
+plain_join (x ∷ a) b g h =
+    and_true (ok x) (plain (a ++ b)) (both (ok x) (plain a) g).0 (plain_join a b (both (ok x) (plain a) g).1 h)
 
 -- ---- plain lines
-whole_plain : (front l rest : List ℕ) → plain l ≡ true → whole_from front (l ++ 10 ∷ rest) ≡ (front ++ l) ∷ whole_from [] rest
+whole_plain : (front l rest : List ℕ) → plain l ≡ true
+    → whole_from front (l ++ 10 ∷ rest) ≡ (front ++ l) ∷ whole_from [] rest
 whole_plain front [] rest h = ap (λ f. f ∷ whole_from [] rest) (sym (append-nil front))
 whole_plain front (b ∷ l) rest h =
     let p = both (ok b) (plain l) h in
@@ -50,7 +52,8 @@ whole_plain front (b ∷ l) rest h =
     ∙ whole_plain (front ++ b ∷ []) l rest p.1
     ∙ ap (λ f. f ∷ whole_from [] rest) (append_assoc front (b ∷ []) l)
 
-tail_plain : (front l rest : List ℕ) → plain l ≡ true → tail_from front (l ++ 10 ∷ rest) ≡ tail_from [] rest
+tail_plain : (front l rest : List ℕ) → plain l ≡ true
+    → tail_from front (l ++ 10 ∷ rest) ≡ tail_from [] rest
 tail_plain front [] rest h = refl
 tail_plain front (b ∷ l) rest h =
     let p = both (ok b) (plain l) h in
@@ -59,15 +62,19 @@ tail_plain front (b ∷ l) rest h =
 
 return_plain : (l : List ℕ) → plain l ≡ true → without_return l ≡ l
 return_plain [] h = refl
-return_plain (b ∷ []) h = ap (λ t. cond t [] (b ∷ [])) (neither (b == 10) (b == 13) (both (ok b) true h).0).1
-return_plain (b ∷ c ∷ l) h = ap (λ l. b ∷ l) (return_plain (c ∷ l) (both (ok b) (plain (c ∷ l)) h).1)
+return_plain (b ∷ []) h =
+    ap (λ t. cond t [] (b ∷ [])) (neither (b == 10) (b == 13) (both (ok b) true h).0).1
+return_plain (b ∷ c ∷ l) h =
+    ap (λ l. b ∷ l) (return_plain (c ∷ l) (both (ok b) (plain (c ∷ l)) h).1)
 
 -- ---- the parts of a line
 low_ok : (d : ℕ) → ok (48 + d) ≡ true
-low_ok d = and_true (not (48 + d == 10)) (not (48 + d == 13)) (grind (arith, nat_tests)) (grind (arith, nat_tests))
+low_ok d =
+    and_true (not (48 + d == 10)) (not (48 + d == 13)) (grind (arith, nat_tests)) (grind (arith, nat_tests))
 
 high_ok : (d : ℕ) → ok (87 + d) ≡ true
-high_ok d = and_true (not (87 + d == 10)) (not (87 + d == 13)) (grind (arith, nat_tests)) (grind (arith, nat_tests))
+high_ok d =
+    and_true (not (87 + d == 10)) (not (87 + d == 13)) (grind (arith, nat_tests)) (grind (arith, nat_tests))
 
 digit_ok : (d : ℕ) → ok (hex_digit_of d) ≡ true
 digit_ok d = turn (nat_lt d 10)
@@ -78,7 +85,8 @@ digit_ok d = turn (nat_lt d 10)
 
 digits_plain : (w : ℕ) (places : List ℕ) → plain (map (hex_digit_at w) places) ≡ true
 digits_plain w [] = refl
-digits_plain w (p ∷ ps) = and_true (ok (hex_digit_at w p)) (plain (map (hex_digit_at w) ps)) (digit_ok (w / 16 ^ p % 16)) (digits_plain w ps)
+digits_plain w (p ∷ ps) =
+    and_true (ok (hex_digit_at w p)) (plain (map (hex_digit_at w) ps)) (digit_ok (w / 16 ^ p % 16)) (digits_plain w ps)
 
 word_plain : (w : ℕ) → plain (hex_word_of w) ≡ true
 unfolding hex_word_of
@@ -90,21 +98,25 @@ padded_plain r h = turn (nat_lt r 10) refl
     turn : (b : Bool) → nat_lt r 10 ≡ b → plain (padded r) ≡ true
     turn true e =
         let l : r < 10 = grind (arith, nat_tests) in
-        ap (λ l. plain l) (padded_one r l) ∙ and_true (ok (48 + r)) (plain (32 ∷ [])) (low_ok r) refl
+        ap (λ l. plain l) (padded_one r l)
+        ∙ and_true (ok (48 + r)) (plain (32 ∷ [])) (low_ok r) refl
     turn false e =
         let l : 10 ≤ r = grind (arith, nat_tests) in
-        ap (λ l. plain l) (padded_two r l h) ∙ and_true (ok (48 + r / 10)) (plain ((48 + r % 10) ∷ [])) (low_ok (r / 10)) (and_true (ok (48 + r % 10)) true (low_ok (r % 10)) refl)
+        ap (λ l. plain l) (padded_two r l h)
+        ∙ and_true (ok (48 + r / 10)) (plain ((48 + r % 10) ∷ [])) (low_ok (r / 10)) (and_true (ok (48 + r % 10)) true (low_ok (r % 10)) refl)
 
 padded_length : (r : ℕ) → r < 32 → length (padded r) ≡ 2
 padded_length r h = turn (nat_lt r 10) refl
   where
     turn : (b : Bool) → nat_lt r 10 ≡ b → length (padded r) ≡ 2
     turn true e = let l : r < 10 = grind (arith, nat_tests) in ap (λ l. length l) (padded_one r l)
-    turn false e = let l : 10 ≤ r = grind (arith, nat_tests) in ap (λ l. length l) (padded_two r l h)
+    turn false e =
+        let l : 10 ≤ r = grind (arith, nat_tests) in ap (λ l. length l) (padded_two r l h)
 
 commit_plain : (w : Option Write) → IsSmall w → plain (commit_text w) ≡ true
 commit_plain None h = refl
-commit_plain (Some w) h = plain_join (codes " x") (padded w.reg ++ (codes " 0x" ++ hex_word_of w.value)) refl (plain_join (padded w.reg) (codes " 0x" ++ hex_word_of w.value) (padded_plain w.reg h.0) (plain_join (codes " 0x") (hex_word_of w.value) refl (word_plain w.value)))
+commit_plain (Some w) h =
+    plain_join (codes " x") (padded w.reg ++ (codes " 0x" ++ hex_word_of w.value)) refl (plain_join (padded w.reg) (codes " 0x" ++ hex_word_of w.value) (padded_plain w.reg h.0) (plain_join (codes " 0x") (hex_word_of w.value) refl (word_plain w.value)))
 
 commit_length : (w : Option Write) → IsSmall w → length (commit_text w) ≤ 15
 commit_length None h = omega arith
@@ -143,9 +155,16 @@ line_reads e h =
     short : (n : ℕ) → n ≤ 50 → nat_le n 4096 ≡ true
     short n h = grind (arith, nat_tests)
 
-entry_is : (words : List ℕ) (e : Executed) → ReadsAt words e → entry_at words e.pc e.word ≡ as_entry e
+entry_is : (words : List ℕ) (e : Executed) → ReadsAt words e
+    → entry_at words e.pc e.word ≡ as_entry e
 entry_is words e h =
-    ap (λ v. record { pc = e.pc; word = e.word; v1 = v; v2 = word_of words (rs2_of_word e.word) }) (sym h.v1)
+    ap (λ v. record {
+      pc =
+          e.pc;
+      word = e.word;
+      v1 = v;
+      v2 = word_of words (rs2_of_word e.word);
+    }) (sym h.v1)
     ∙ ap (λ v. record { pc = e.pc; word = e.word; v1 = e.v1; v2 = v }) (sym h.v2)
 
 abbrev Each : List Executed → Type 0
@@ -159,7 +178,8 @@ each (e ∷ es) h = (h 0 e (omega arith), each es (λ k d l. h (suc k) d (omega 
 log_next : (e : Executed) (es : List Executed) → log_of (e ∷ es) ≡ line_of e ++ 10 ∷ log_of es
 log_next e es = append_assoc (line_of e) (10 ∷ []) (log_of es)
 
-trace_reads : (es : List Executed) (h : Heard) → Each es → Follows h.words es → entries_in h (map line_says (whole_from [] (log_of es))) ≡ map as_entry es
+trace_reads : (es : List Executed) (h : Heard) → Each es → Follows h.words es
+    → entries_in h (map line_says (whole_from [] (log_of es))) ≡ map as_entry es
 trace_reads [] h w t = refl
 trace_reads (e ∷ es) h w t =
     ap (λ l. entries_in h (map line_says (whole_from [] l))) (log_next e es)
@@ -170,7 +190,8 @@ trace_reads (e ∷ es) h w t =
 
 no_tail : (es : List Executed) → Each es → tail_of (log_of es) ≡ []
 no_tail [] w = refl
-no_tail (e ∷ es) w = ap tail_of (log_next e es) ∙ tail_plain [] (line_of e) (log_of es) (line_plain e w.0.commit) ∙ no_tail es w.1
+no_tail (e ∷ es) w = ap tail_of (log_next e es)
+    ∙ tail_plain [] (line_of e) (log_of es) (line_plain e w.0.commit) ∙ no_tail es w.1
 
 pub logs_read_back : LogsReadBack
 logs_read_back es w t =

@@ -5,4 +5,5 @@ pub mod Lines
 pub mod Logs
 pub mod Read
 pub mod Registers
+pub mod Seen
 pub mod Written

@@ -5,12 +5,20 @@ use Rattle.rvs_log.specs.Grammar.{Reading, Nothing, reading_of}
 -- the lines that a line feed ends, where the first goes on from a front
 abbrev pub whole_from : List ℕ → List ℕ → List (List ℕ)
 whole_from front [] = []
-whole_from front (b ∷ bs) = elim (b == 10) [ true ↦ front ∷ whole_from [] bs | false ↦ whole_from (front ++ b ∷ []) bs ]
+whole_from front (b ∷ bs) =
+    elim (b == 10) [
+      | true ↦ front ∷ whole_from [] bs
+      | false ↦ whole_from (front ++ b ∷ []) bs
+    ]
 
 -- what comes after the last line feed
 abbrev pub tail_from : List ℕ → List ℕ → List ℕ
 tail_from front [] = front
-tail_from front (b ∷ bs) = elim (b == 10) [ true ↦ tail_from [] bs | false ↦ tail_from (front ++ b ∷ []) bs ]
+tail_from front (b ∷ bs) =
+    elim (b == 10) [
+      | true ↦ tail_from [] bs
+      | false ↦ tail_from (front ++ b ∷ []) bs
+    ]
 
 -- the whole lines of a log, and what follows them
 abbrev pub whole_lines : List ℕ → List (List ℕ)
@@ -33,7 +41,8 @@ without_return [] = []
 without_return (b ∷ []) = if b == 13 then [] else b ∷ []
 without_return (b ∷ c ∷ bs) = b ∷ without_return (c ∷ bs)
 
--- what a line of a log says; one of more than 4,096 bytes, its carriage return counted, says nothing
+-- what a line of a log says; one of more than 4,096 bytes, its carriage return counted, says
+-- nothing
 abbrev pub line_says : List ℕ → Reading
 line_says line = if nat_le (length line) 4096 then reading_of (without_return line) else Nothing
 

@@ -14,7 +14,8 @@ log_of trace = flat_map (λ e. line_of e ++ 10 ∷ []) trace
 abbrev pub as_entry : Executed → Entry
 as_entry e = record { pc = e.pc; word = e.word; v1 = e.v1; v2 = e.v2 }
 
--- the log of instructions that ran one after another, from registers of 0 on, has these as its entries
+-- the log of instructions that ran one after another, from registers of 0 on, has these as its
+-- entries
 abbrev pub LogsReadBack : Type 0
 LogsReadBack =
     (trace : List Executed) → All HasWords trace → Follows zeros trace

@@ -85,7 +85,8 @@ fn without_carriage_return(line: &[u8]) -> &[u8]
 
 /// Keeps more bytes of a line.
 fn wait(bytes: &mut ArrayVec<u8, LONGEST>, too_long: &mut bool, more: &[u8])
-    ensures { waiting too_long.new bytes.new.items ≡ held_more (waiting too_long.old bytes.old.items) more.now }
+    ensures { waiting too_long.new bytes.new.items
+        ≡ held_more (waiting too_long.old bytes.old.items) more.now }
 {
     if more.is_empty() {
         return;
@@ -105,7 +106,8 @@ fn clear(bytes: &mut ArrayVec<u8, LONGEST>, too_long: &mut bool)
 
 /// A line ends with these bytes.
 fn end_line(bytes: &mut ArrayVec<u8, LONGEST>, too_long: &mut bool, line: &[u8]) -> Ending
-    ensures { HasEnded (waiting too_long.old bytes.old.items) line.now too_long.new bytes.new.items result }
+    ensures { HasEnded (waiting too_long.old bytes.old.items) line.now
+        too_long.new bytes.new.items result }
 {
     if !*too_long && bytes.is_empty() {
         if line.len() <= LONGEST {
@@ -139,7 +141,8 @@ fn front_of(bytes: &[u8], end: usize) -> &[u8]
 
 /// Goes on to the end of the next line that isn't too long.
 fn advance(bytes: &mut ArrayVec<u8, LONGEST>, too_long: &mut bool, piece: &[u8]) -> Place
-    ensures { IsPlace (waiting too_long.old bytes.old.items) piece.now too_long.new bytes.new.items result }
+    ensures { IsPlace (waiting too_long.old bytes.old.items) piece.now
+        too_long.new bytes.new.items result }
 {
     let mut used: usize = 0;
     'lines: loop {
@@ -160,9 +163,8 @@ fn advance(bytes: &mut ArrayVec<u8, LONGEST>, too_long: &mut bool, piece: &[u8])
 
 /// What was lent as a line waits no more.
 fn begin(bytes: &mut ArrayVec<u8, LONGEST>, too_long: &mut bool, given: &mut bool)
-    ensures waits {
-        waiting too_long.new bytes.new.items ≡ unless_given given.old (waiting too_long.old bytes.old.items)
-    }
+    ensures waits { waiting too_long.new bytes.new.items
+        ≡ unless_given given.old (waiting too_long.old bytes.old.items) }
     ensures given { given.new ≡ false }
 {
     if *given {
@@ -183,18 +185,15 @@ impl Follow {
         }
     }
 
-    /// The next whole line of at most 4,096 bytes that ends in the piece, without a carriage return at
-    /// its end, and how many bytes of the piece were used, up to and with its line feed. Longer lines
-    /// are passed over. Where no line ends, all of the piece is used. It takes no memory.
+    /// The next whole line of at most 4,096 bytes that ends in the piece, without a carriage return
+    /// at its end, and how many bytes of the piece were used, up to and with its line feed. Longer
+    /// lines are passed over. Where no line ends, all of the piece is used. It takes no memory.
     pub fn next<'f>(&'f mut self, piece: &'f [u8]) -> Cut<'f>
-        ensures* leaves {
-            sem 𝓛 (follows_so the_row the_row self.entry.ghost_name none (λ _ _. ⊤)
-                (λ v. v ≡ held_after self.old (take result.used piece.now)))
-        }
+        ensures* leaves { sem 𝓛 (follows_so the_row the_row self.entry.ghost_name none (λ _ _. ⊤)
+            (λ v. v ≡ held_after self.old (take result.used piece.now))) }
         ensures used { result.used ≤ length piece.now }
-        ensures line {
-            lines_after self.old (take result.used piece.now) ≡ one_or_none (option_copied result.line)
-        }
+        ensures line { lines_after self.old (take result.used piece.now)
+            ≡ one_or_none (option_copied result.line) }
         ensures whole { IfNone result.line (result.used ≡ length piece.now) }
     {
         begin(&mut self.bytes, &mut self.too_long, &mut self.given);
@@ -220,12 +219,11 @@ impl Follow {
         }
     }
 
-    /// What waits at the end, without a carriage return at its end; nothing where no byte waits or they
-    /// are more than 4,096. Nothing waits after it. It takes no memory.
+    /// What waits at the end, without a carriage return at its end; nothing where no byte waits or
+    /// they are more than 4,096. Nothing waits after it. It takes no memory.
     pub fn last(&mut self) -> Option<&[u8]>
-        ensures* leaves {
-            sem 𝓛 (follows_so the_row the_row self.entry.ghost_name none (λ _ _. ⊤) (λ v. v ≡ Some []))
-        }
+        ensures* leaves { sem 𝓛 (follows_so the_row the_row self.entry.ghost_name none (λ _ _. ⊤)
+            (λ v. v ≡ Some [])) }
         ensures line { option_copied result ≡ last_of self.old }
     {
         begin(&mut self.bytes, &mut self.too_long, &mut self.given);

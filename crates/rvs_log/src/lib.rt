@@ -5,6 +5,7 @@ mod follow;
 mod laws;
 mod reading;
 mod registers;
+mod view;
 mod words;
 mod written;
 
@@ -12,6 +13,7 @@ pub use follow::{Cut, Follow, LONGEST};
 pub use laws::{lines_differ, logs_read_back};
 pub use reading::{Line, Record, read_line};
 pub use registers::Registers;
+pub use view::{View, facts_of};
 pub use written::log_line;
 
 #[cfg(test)]

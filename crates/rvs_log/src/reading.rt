@@ -313,8 +313,8 @@ fn commit_line(line: &[u8]) -> Option<Commit>
 }
 
 /// What a line of a log says: an instruction, as Spike's commit log or a Sail log writes it; a word
-/// written by the instruction before it, `xN <- 0x..`; or nothing that is read here. The line has no
-/// line feed and no carriage return at its end. It takes no memory.
+/// written by the instruction before it, `xN <- 0x..`; or nothing that is read here. The line has
+/// no line feed and no carriage return at its end. It takes no memory.
 #[tactic(auto, unfolding(crate::specs::Grammar::reading_of))]
 pub fn read_line(line: &[u8]) -> Line<'_>
     ensures said { said result ≡ reading_of line.now }

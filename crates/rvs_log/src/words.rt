@@ -41,10 +41,8 @@ fn digit_value(byte: u8) -> Option<u32>
 
 /// What digits spell, where there is at least one.
 fn spelled(count: u32, value: u32, rest: &[u8]) -> Option<(u32, &[u8])>
-    ensures {
-        option_map {U = ℕ × List ℕ} (λ found. (found.0, found.1.now)) result
-            ≡ (if count == 0 then None else Some (value, rest.now))
-    }
+    ensures { option_map {U = ℕ × List ℕ} (λ found. (found.0, found.1.now)) result
+        ≡ (if count == 0 then None else Some (value, rest.now)) }
 {
     if count == 0 {
         None
@@ -85,4 +83,3 @@ pub(crate) fn word_at(text: &[u8]) -> Option<(u32, &[u8])>
         _ => None,
     }
 }
-
