@@ -1,5 +1,5 @@
 -- The line of an executed instruction in a log.
-use Rattle.std.specs.Prelude.{ℕ, nat_lt, if◌then◌else◌, Option, Some, None, List, [], ◌∷◌, ◌++◌, codes}
+use Rattle.std.specs.Prelude.{ℕ, ◌<◌, ◌^◌, nat_lt, if◌then◌else◌, Option, Some, None, List, [], ◌∷◌, ◌++◌, codes}
 use Rattle.std.specs.Fmt.{decimal}
 use Rattle.rvs_base.specs.Number.{hex_word_of}
 use Rattle.rvs_machine.specs.Written.{Write}
@@ -15,4 +15,17 @@ commit_text (Some w) = codes " x" ++ (padded w.reg ++ (codes " 0x" ++ hex_word_o
 
 -- core   0: 3 0x<pc> (0x<word>), and with a commit its register and its value; no line feed
 abbrev pub line_of : Executed → List ℕ
-line_of e = codes "core   0: 3 0x" ++ (hex_word_of e.pc ++ (codes " (0x" ++ (hex_word_of e.word ++ (codes ")" ++ commit_text e.commit))))
+line_of e =
+    codes "core   0: 3 0x" ++ (hex_word_of e.pc ++ (codes " (0x" ++ (hex_word_of e.word
+    ++ (codes ")" ++ commit_text e.commit))))
+
+-- a register and a word
+abbrev pub IsSmall : Option Write → Type 0
+IsSmall None = Unit {0}
+IsSmall (Some w) = (w.reg < 32) × (w.value < 2 ^ 32)
+
+-- what its numbers are by their types
+pub record HasWords (e : Executed) : Type 0 where
+  pub pc : e.pc < 2 ^ 32
+  pub word : e.word < 2 ^ 32
+  pub commit : IsSmall e.commit

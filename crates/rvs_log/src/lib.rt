@@ -1,8 +1,19 @@
-//! The lines of execution logs.
+//! The lines of execution logs: written, read, and cut out of pieces.
 #![tactic(auto)]
 
+mod follow;
+mod laws;
+mod reading;
+mod registers;
+mod view;
+mod words;
 mod written;
 
+pub use follow::{Cut, Follow, LONGEST};
+pub use laws::{lines_differ, logs_read_back};
+pub use reading::{Line, Record, read_line};
+pub use registers::Registers;
+pub use view::{View, facts_of};
 pub use written::log_line;
 
 #[cfg(test)]

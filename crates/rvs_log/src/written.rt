@@ -3,7 +3,8 @@ ghost use Rattle.std.specs.Prelude.{◌≡◌, ◌≤◌, ◌<◌, ◌+◌, ◌�
 ghost use Rattle.std.specs.Str.{IsAscii};
 ghost use Rattle.arrayvec.specs.ArrayString.{array_string_len};
 ghost use Rattle.rvs_base.specs.Number.{hex_word_of};
-ghost use Rattle.rvs_log.specs.Written.{padded, commit_text, line_of};
+ghost use Rattle.rvs_log.specs.Written.{padded, commit_text, line_of, HasWords, IsSmall};
+ghost use Rattle.rvs_log.specs.Grammar.{reading_of, Says};
 
 use arrayvec::ArrayString;
 use rvs_base::hex_word;
@@ -68,9 +69,18 @@ fn push_commit(line: &mut ArrayString<64>, commit: Commit)
     push_word(line, commit.value);
 }
 
-/// The line of an executed instruction in a log, without its line feed: its address and its word,
-/// and what it wrote to its register. It takes no memory.
-pub fn log_line(e: &Executed) -> ArrayString<64>
+/// What the numbers of a commit are by their types. It reads them, and does nothing.
+fn is_small(commit: Option<Commit>)
+    ensures { IsSmall commit }
+{
+    if let Some(commit) = commit {
+        let _reg = commit.reg;
+        let _value = commit.value;
+    }
+}
+
+/// The line as it is written.
+fn line(e: &Executed) -> ArrayString<64>
     ensures { result.bytes ≡ line_of e.now }
 {
     let mut line = ArrayString::new();
@@ -83,4 +93,18 @@ pub fn log_line(e: &Executed) -> ArrayString<64>
         push_commit(&mut line, commit);
     }
     line
+}
+
+/// The line of an executed instruction in a log, without its line feed: its address and its word,
+/// and what it wrote to its register. It takes no memory.
+#[tactic(auto, using(crate::proofs::Back::reads_back))]
+pub fn log_line(e: &Executed) -> ArrayString<64>
+    ensures line { result.bytes ≡ line_of e.now }
+    ensures back { reading_of result.bytes ≡ Says e.now.pc e.now.word e.now.commit }
+    ensures words { HasWords e.now }
+{
+    let _pc = e.pc;
+    let _word = e.word;
+    is_small(e.commit);
+    line(e)
 }

@@ -1,0 +1,62 @@
+-- The lines of a log.
+use Rattle.std.specs.Prelude.{ℕ, ◌==◌, nat_le, Bool, true, false, if◌then◌else◌, List, [], ◌∷◌, ◌++◌, length, Option, Some, None}
+use Rattle.rvs_log.specs.Grammar.{Reading, Nothing, reading_of}
+
+-- the lines that a line feed ends, where the first goes on from a front
+abbrev pub whole_from : List ℕ → List ℕ → List (List ℕ)
+whole_from front [] = []
+whole_from front (b ∷ bs) =
+    elim (b == 10) [
+      | true ↦ front ∷ whole_from [] bs
+      | false ↦ whole_from (front ++ b ∷ []) bs
+    ]
+
+-- what comes after the last line feed
+abbrev pub tail_from : List ℕ → List ℕ → List ℕ
+tail_from front [] = front
+tail_from front (b ∷ bs) =
+    elim (b == 10) [
+      | true ↦ tail_from [] bs
+      | false ↦ tail_from (front ++ b ∷ []) bs
+    ]
+
+-- the whole lines of a log, and what follows them
+abbrev pub whole_lines : List ℕ → List (List ℕ)
+whole_lines bytes = whole_from [] bytes
+
+abbrev pub tail_of : List ℕ → List ℕ
+tail_of bytes = tail_from [] bytes
+
+-- bytes after the last line feed are a line where there are any
+abbrev pub last_line : List ℕ → List (List ℕ)
+last_line [] = []
+last_line (b ∷ bs) = (b ∷ bs) ∷ []
+
+abbrev pub lines_of : List ℕ → List (List ℕ)
+lines_of bytes = whole_lines bytes ++ last_line (tail_of bytes)
+
+-- without one carriage return at the end
+abbrev pub without_return : List ℕ → List ℕ
+without_return [] = []
+without_return (b ∷ []) = if b == 13 then [] else b ∷ []
+without_return (b ∷ c ∷ bs) = b ∷ without_return (c ∷ bs)
+
+-- what a line of a log says; one of more than 4,096 bytes, its carriage return counted, says
+-- nothing
+abbrev pub line_says : List ℕ → Reading
+line_says line = if nat_le (length line) 4096 then reading_of (without_return line) else Nothing
+
+-- bytes that wait for the rest of their line, or a mark where they are more than 4,096
+abbrev pub held : List ℕ → Option (List ℕ)
+held bytes = if nat_le (length bytes) 4096 then Some bytes else None
+
+-- more bytes of a line
+abbrev pub held_more : Option (List ℕ) → List ℕ → Option (List ℕ)
+held_more waiting [] = waiting
+held_more None (b ∷ bs) = None
+held_more (Some bytes) (b ∷ bs) = held (bytes ++ b ∷ bs)
+
+-- what a line says whose bytes waited
+abbrev pub held_says : Option (List ℕ) → Reading
+held_says None = Nothing
+held_says (Some bytes) = reading_of (without_return bytes)

@@ -1,0 +1,334 @@
+// The lines of a log, each by itself.
+ghost use Rattle.std.specs.Prelude.{◌≡◌, ◌<◌, ◌∷◌, [], IfSome, true};
+ghost use Rattle.std.specs.Option.{option_copied, option_map};
+ghost use Rattle.rvs_insn.specs.Fields.{insn_of_word};
+ghost use Rattle.rvs_log.specs.Grammar.{after_all, after_byte, after_brackets, after_core, after_privilege};
+ghost use Rattle.rvs_log.specs.Grammar.{after_some, after_spaces, after_text, at_end, blank, commit_log};
+ghost use Rattle.rvs_log.specs.Grammar.{first_write, is_capital, is_digit, pc_and_word, reading_of};
+ghost use Rattle.rvs_log.specs.Grammar.{register_at, sail_log, Says, spaced, write_at, write_if, write_line};
+ghost use Rattle.rvs_log.specs.Read.{said, IsDecoded, IsOf};
+
+use crate::words::word_at;
+use rvs_insn::{Insn, decode};
+use rvs_machine::Commit;
+
+/// A line of a log that says an instruction. It borrows the line.
+#[derive(Debug, Clone, Copy)]
+pub struct Record<'l> {
+    pub line: &'l [u8],
+    /// Its address.
+    pub pc: u32,
+    /// Its word.
+    pub word: u32,
+    /// What the word decodes to.
+    pub insn: Option<Insn>,
+    /// What the line itself says was written.
+    pub commit: Option<Commit>,
+}
+
+/// What a line of a log is.
+#[derive(Debug, Clone, Copy)]
+pub enum Line<'l> {
+    /// An instruction.
+    Insn(Record<'l>),
+    /// A word written by the instruction before it.
+    Commit(Commit),
+    /// Anything else.
+    Other,
+}
+
+/// What follows a byte at the front.
+fn byte_at(text: &[u8], byte: u8) -> Option<&[u8]>
+    ensures { option_copied result ≡ after_byte byte text.now }
+{
+    match text {
+        [first, rest @ ..] if *first == byte => Some(rest),
+        _ => None,
+    }
+}
+
+/// The text without the spaces at its front.
+fn without_spaces(text: &[u8]) -> &[u8]
+    ensures { result.now ≡ after_spaces text.now }
+{
+    let mut text = text;
+    while let [first, rest @ ..] = text {
+        if *first != b' ' {
+            break;
+        }
+        text = rest;
+    }
+    text
+}
+
+/// What follows one or more spaces.
+fn spaces(text: &[u8]) -> Option<&[u8]>
+    ensures { option_copied result ≡ spaced text.now }
+{
+    let rest = byte_at(text, b' ')?;
+    Some(without_spaces(rest))
+}
+
+/// What follows one or more decimal digits.
+fn digits(text: &[u8]) -> Option<&[u8]>
+    ensures { option_copied result ≡ after_some is_digit text.now }
+{
+    match text {
+        [b'0'..=b'9', rest @ ..] => Some(without_digits(rest)),
+        _ => None,
+    }
+}
+
+fn without_digits(text: &[u8]) -> &[u8]
+    ensures { result.now ≡ after_all is_digit text.now }
+{
+    let mut text = text;
+    while let [first, rest @ ..] = text {
+        if !(*first >= b'0' && *first <= b'9') {
+            break;
+        }
+        text = rest;
+    }
+    text
+}
+
+/// What follows one or more capital letters.
+fn capitals(text: &[u8]) -> Option<&[u8]>
+    ensures { option_copied result ≡ after_some is_capital text.now }
+{
+    match text {
+        [b'A'..=b'Z', rest @ ..] => Some(without_capitals(rest)),
+        _ => None,
+    }
+}
+
+fn without_capitals(text: &[u8]) -> &[u8]
+    ensures { result.now ≡ after_all is_capital text.now }
+{
+    let mut text = text;
+    while let [first, rest @ ..] = text {
+        if !(*first >= b'A' && *first <= b'Z') {
+            break;
+        }
+        text = rest;
+    }
+    text
+}
+
+/// The text, where it is empty or begins with a space.
+fn token_end(text: &[u8]) -> Option<&[u8]>
+    ensures { option_copied result ≡ at_end text.now }
+{
+    match text {
+        [] => Some(text),
+        [b' ', ..] => Some(text),
+        _ => None,
+    }
+}
+
+/// An instruction's address and word, and what follows.
+#[tactic(auto, unfolding(crate::specs::Grammar::pc_and_word))]
+fn address_and_word(text: &[u8]) -> Option<(u32, u32, &[u8])>
+    ensures { option_map (λ found. (found.0, found.1, found.2.now)) result ≡ pc_and_word text.now }
+{
+    let (pc, rest) = word_at(text)?;
+    let rest = spaces(rest)?;
+    let rest = byte_at(rest, b'(')?;
+    let (word, rest) = word_at(rest)?;
+    let rest = byte_at(rest, b')')?;
+    let rest = token_end(rest)?;
+    Some((pc, word, rest))
+}
+
+/// A register's number, and what follows.
+fn register(text: &[u8]) -> Option<(u8, &[u8])>
+    ensures value { option_map (λ found. (found.0, found.1.now)) result ≡ register_at text.now }
+    ensures low { IfSome result (λ found. found.0 < 32) }
+{
+    match text {
+        [tens @ b'0'..=b'9', ones @ b'0'..=b'9', rest @ ..] => {
+            let number = 10 * (*tens - b'0') + (*ones - b'0');
+            if number >= 10 && number < 32 {
+                Some((number, rest))
+            } else {
+                None
+            }
+        },
+        [ones @ b'0'..=b'9', rest @ ..] => Some((*ones - b'0', rest)),
+        _ => None,
+    }
+}
+
+/// A register and the word written to it, at the front.
+#[tactic(auto, unfolding(crate::specs::Grammar::write_at))]
+fn write(text: &[u8]) -> Option<Commit>
+    ensures { result ≡ write_at text.now }
+{
+    let rest = byte_at(text, b'x')?;
+    let (reg, rest) = register(without_spaces(rest))?;
+    let rest = spaces(rest)?;
+    let (value, rest) = word_at(rest)?;
+    let _ = token_end(rest)?;
+    Some(Commit { reg, value })
+}
+
+/// The same, where a token begins there.
+fn write_if_fresh(fresh: bool, text: &[u8]) -> Option<Commit>
+    ensures { result ≡ write_if fresh text.now }
+{
+    if fresh { write(text) } else { None }
+}
+
+/// The first write among the tokens of a text.
+fn written(text: &[u8]) -> Option<Commit>
+    ensures { result ≡ first_write true text.now }
+{
+    let mut fresh = true;
+    let mut rest = text;
+    while let [first, after @ ..] = rest {
+        match write_if_fresh(fresh, rest) {
+            Some(commit) => return Some(commit),
+            None => {
+                fresh = *first == b' ';
+                rest = after;
+            },
+        }
+    }
+    None
+}
+
+/// What follows the privilege of a commit log's line.
+#[tactic(auto, unfolding(crate::specs::Grammar::after_core))]
+fn core_front(line: &[u8]) -> Option<&[u8]>
+    ensures { option_copied result ≡ after_core line.now }
+{
+    let rest = core_word(line)?;
+    let rest = spaces(rest)?;
+    let rest = digits(rest)?;
+    let rest = byte_at(rest, b':')?;
+    let rest = spaces(rest)?;
+    let rest = privilege(rest)?;
+    spaces(rest)
+}
+
+fn core_word(line: &[u8]) -> Option<&[u8]>
+    ensures { option_copied result ≡ after_text (99 ∷ 111 ∷ 114 ∷ 101 ∷ []) line.now }
+{
+    match line {
+        [b'c', b'o', b'r', b'e', rest @ ..] => Some(rest),
+        _ => None,
+    }
+}
+
+fn privilege(text: &[u8]) -> Option<&[u8]>
+    ensures { option_copied result ≡ after_privilege text.now }
+{
+    match text {
+        [b'0'..=b'3', rest @ ..] => Some(rest),
+        _ => None,
+    }
+}
+
+/// A line of a commit log.
+fn commit_log_line(line: &[u8]) -> Option<Record<'_>>
+    ensures said { option_map (λ r. Says r.pc r.word r.commit) result ≡ commit_log line.now }
+    ensures whole { IfSome result (λ r. r.line.now ≡ line.now) }
+    ensures decoded { IfSome result (λ r. r.insn ≡ insn_of_word r.word) }
+{
+    let rest = core_front(line)?;
+    let (pc, word, rest) = address_and_word(rest)?;
+    Some(Record {
+        line,
+        pc,
+        word,
+        insn: decode(word),
+        commit: written(rest),
+    })
+}
+
+#[tactic(auto, unfolding(crate::specs::Grammar::after_brackets))]
+fn sail_front(line: &[u8]) -> Option<&[u8]>
+    ensures { option_copied result ≡ after_brackets line.now }
+{
+    let rest = byte_at(line, b'[')?;
+    let rest = digits(rest)?;
+    let rest = byte_at(rest, b']')?;
+    let rest = spaces(rest)?;
+    let rest = byte_at(rest, b'[')?;
+    let rest = capitals(rest)?;
+    let rest = byte_at(rest, b']')?;
+    let rest = byte_at(rest, b':')?;
+    spaces(rest)
+}
+
+/// A line of a Sail log.
+fn sail_log_line(line: &[u8]) -> Option<Record<'_>>
+    ensures said { option_map (λ r. Says r.pc r.word r.commit) result ≡ sail_log line.now }
+    ensures whole { IfSome result (λ r. r.line.now ≡ line.now) }
+    ensures decoded { IfSome result (λ r. r.insn ≡ insn_of_word r.word) }
+{
+    let rest = sail_front(line)?;
+    let (pc, word, _) = address_and_word(rest)?;
+    Some(Record {
+        line,
+        pc,
+        word,
+        insn: decode(word),
+        commit: None,
+    })
+}
+
+/// Nothing, where the text is nothing but spaces.
+fn only_spaces(text: &[u8]) -> Option<&[u8]>
+    ensures { option_copied result ≡ blank text.now }
+{
+    match without_spaces(text) {
+        [] => Some(&[]),
+        _ => None,
+    }
+}
+
+fn arrow(text: &[u8]) -> Option<&[u8]>
+    ensures { option_copied result ≡ after_text (60 ∷ 45 ∷ []) text.now }
+{
+    match text {
+        [b'<', b'-', rest @ ..] => Some(rest),
+        _ => None,
+    }
+}
+
+/// A line that says a write alone.
+#[tactic(auto, unfolding(crate::specs::Grammar::write_line))]
+fn commit_line(line: &[u8]) -> Option<Commit>
+    ensures { result ≡ write_line line.now }
+{
+    let rest = byte_at(line, b'x')?;
+    let (reg, rest) = register(rest)?;
+    let rest = spaces(rest)?;
+    let rest = arrow(rest)?;
+    let rest = spaces(rest)?;
+    let (value, rest) = word_at(rest)?;
+    let _ = only_spaces(rest)?;
+    Some(Commit { reg, value })
+}
+
+/// What a line of a log says: an instruction, as Spike's commit log or a Sail log writes it; a word
+/// written by the instruction before it, `xN <- 0x..`; or nothing that is read here. The line has
+/// no line feed and no carriage return at its end. It takes no memory.
+#[tactic(auto, unfolding(crate::specs::Grammar::reading_of))]
+pub fn read_line(line: &[u8]) -> Line<'_>
+    ensures said { said result ≡ reading_of line.now }
+    ensures whole { IsOf line.now result }
+    ensures decoded { IsDecoded result }
+{
+    match commit_log_line(line) {
+        Some(record) => Line::Insn(record),
+        None => match sail_log_line(line) {
+            Some(record) => Line::Insn(record),
+            None => match commit_line(line) {
+                Some(commit) => Line::Commit(commit),
+                None => Line::Other,
+            },
+        },
+    }
+}
