@@ -1,0 +1,13 @@
+//! Choices of operands, and the first one that hits a point.
+#![tactic(auto)]
+
+mod choice;
+mod datasets;
+mod operand;
+mod registers;
+mod solving;
+mod truth;
+mod values;
+mod walk;
+
+pub use choice::Choice;
