@@ -5,7 +5,7 @@ use Rattle.rvs_insn.specs.declared.op.Op.{Op}
 use Rattle.rvs_insn.specs.Isa.{Isa}
 use Rattle.rvs_cgf.specs.declared.group.Kind.{Kind}
 use Rattle.rvs_cgf.specs.Groups.{Meaning}
-use Rattle.rvs_solver.specs.Choices.{Tuple}
+use Rattle.rvs_solver.specs.Choices.{ChoiceValue}
 use Rattle.rvs_solver.specs.Point.{hits, constants_of}
 use Rattle.rvs_solver.specs.First.{all_choices, first_choice, Solvable}
 
@@ -23,7 +23,7 @@ nothing_hits spec ops kind meaning none (c, (k, l, at), hit) =
     let fails : hits kind meaning c ≡ false = ap (hits kind meaning) (sym at) ∙ none_at (hits kind meaning) (all_choices spec ops (constants_of meaning)) none k c l in
     cc
 
-pub none_clause : {E : Type 0} → (spec : Isa) (ops : List Op) (kind : Kind) (meaning : Meaning) (r : Result (Option Tuple) E) → IfOk r (λ c. c ≡ first_choice spec ops kind meaning) → IfOk r (λ c. IfNone c (Solvable spec ops kind meaning → ⊥))
+pub none_clause : {E : Type 0} → (spec : Isa) (ops : List Op) (kind : Kind) (meaning : Meaning) (r : Result (Option ChoiceValue) E) → IfOk r (λ c. c ≡ first_choice spec ops kind meaning) → IfOk r (λ c. IfNone c (Solvable spec ops kind meaning → ⊥))
 none_clause spec ops kind meaning (Ok None) h = nothing_hits spec ops kind meaning (sym h)
 none_clause spec ops kind meaning (Ok (Some c)) h = tt
 none_clause spec ops kind meaning (Err e) h = tt

@@ -13,3 +13,5 @@ pub mod Calls
 pub mod RegisterCalls
 pub mod Others
 pub mod Narrow
+pub mod OneWord
+pub mod Rows

@@ -14,7 +14,7 @@ use Rattle.rvs_solver.specs.Truth.{num_at, holds, only_numbers, holds_within, pa
 use Rattle.rvs_solver.proofs.Framing.{frame_within, whole_within, part_holds, no_part}
 use Rattle.rvs_solver.specs.declared.operand.Operand.{Operand}
 use Rattle.rvs_solver.specs.Datasets.{words, immediates, immediate_numbers, alignments}
-use Rattle.rvs_solver.specs.Choices.{Registers, Tuple, tuple, table_of, w1s, w2s, choices}
+use Rattle.rvs_solver.specs.Choices.{Registers, ChoiceValue, choice_of, table_of, w1s, w2s, choices}
 use Rattle.rvs_solver.specs.Bound.{first_registers, operands, operands_at, fixed_word, fixed_names, passes, seconds}
 use Rattle.rvs_solver.specs.Walk.{is_true_at, with_numbers, at_w1, word_or, at_operand, base_of, front_of, is_part_true_at, MayPassOver, inner_cost, second_w1s, second_w2s}
 use Rattle.rvs_solver.proofs.Search.{Each, flat_one, flat_map_map, flat_flat, flat_same, all_none}
@@ -36,20 +36,20 @@ unfolding not_r
 pairs_are spec op R constants h = cc
 pairs_are spec op _ constants h = refl
 
-by_pairs : (spec : Isa) (op : Op) (form : Format) (constants : List ℤ) (r : Registers) → not_r form ≡ true → flat_map (λ imm. flat_map (λ align. flat_map (λ w1. map (λ w2. tuple op r (record { imm = imm; align = align; w1 = w1; w2 = w2 })) (second_w2s op form constants)) (w1s op form constants imm align)) (alignments spec op form)) (immediates form constants) ≡ flat_map (at_operand (base_of op r) (second_w1s op form constants) (second_w2s op form constants)) (operands spec op form constants)
+by_pairs : (spec : Isa) (op : Op) (form : Format) (constants : List ℤ) (r : Registers) → not_r form ≡ true → flat_map (λ imm. flat_map (λ align. flat_map (λ w1. map (λ w2. choice_of op r (record { imm = imm; align = align; w1 = w1; w2 = w2 })) (second_w2s op form constants)) (w1s op form constants imm align)) (alignments spec op form)) (immediates form constants) ≡ flat_map (at_operand (base_of op r) (second_w1s op form constants) (second_w2s op form constants)) (operands spec op form constants)
 by_pairs spec op form constants r h =
     sym (ap (flat_map (at_operand (base_of op r) (second_w1s op form constants) (second_w2s op form constants))) (pairs_are spec op form constants h)
     ∙ flat_flat (at_operand (base_of op r) (second_w1s op form constants) (second_w2s op form constants)) (λ imm. map (λ align. record { imm = imm; align = align; word = fixed_word form imm align }) (alignments spec op form)) (immediates form constants)
     ∙ flat_same _ _ (λ imm. flat_map_map (at_operand (base_of op r) (second_w1s op form constants) (second_w2s op form constants)) (λ align. record { imm = imm; align = align; word = fixed_word form imm align }) (alignments spec op form)
-    ∙ flat_same _ _ (λ align. ap (flat_map (λ w1. map (λ w2. tuple op r (record { imm = imm; align = align; w1 = w1; w2 = w2 })) (second_w2s op form constants))) (word_is op form constants imm align h)) (alignments spec op form)) (immediates form constants))
+    ∙ flat_same _ _ (λ align. ap (flat_map (λ w1. map (λ w2. choice_of op r (record { imm = imm; align = align; w1 = w1; w2 = w2 })) (second_w2s op form constants))) (word_is op form constants imm align h)) (alignments spec op form)) (immediates form constants))
 
-by_words : (spec : Isa) (op : Op) (constants : List ℤ) (r : Registers) → flat_map (λ imm. flat_map (λ align. flat_map (λ w1. map (λ w2. tuple op r (record { imm = imm; align = align; w1 = w1; w2 = w2 })) (second_w2s op R constants)) (w1s op R constants imm align)) (alignments spec op R)) (immediates R constants) ≡ flat_map (at_operand (base_of op r) (second_w1s op R constants) (second_w2s op R constants)) (operands spec op R constants)
+by_words : (spec : Isa) (op : Op) (constants : List ℤ) (r : Registers) → flat_map (λ imm. flat_map (λ align. flat_map (λ w1. map (λ w2. choice_of op r (record { imm = imm; align = align; w1 = w1; w2 = w2 })) (second_w2s op R constants)) (w1s op R constants imm align)) (alignments spec op R)) (immediates R constants) ≡ flat_map (at_operand (base_of op r) (second_w1s op R constants) (second_w2s op R constants)) (operands spec op R constants)
 by_words spec op constants r =
     append-nil _ ∙ append-nil _
     ∙ sym (flat_map_map (at_operand (base_of op r) [] (second_w2s op R constants)) (λ w. record { imm = None; align = 0; word = Some w }) (words (row op).unsigned1 constants)
-    ∙ flat_same _ _ (λ w. append-nil (map (λ w2. tuple op r (record { imm = None; align = 0; w1 = w; w2 = w2 })) (second_w2s op R constants))) (words (row op).unsigned1 constants))
+    ∙ flat_same _ _ (λ w. append-nil (map (λ w2. choice_of op r (record { imm = None; align = 0; w1 = w; w2 = w2 })) (second_w2s op R constants))) (words (row op).unsigned1 constants))
 
-pub by_operands : (spec : Isa) (op : Op) (form : Format) (constants : List ℤ) (r : Registers) → flat_map (λ imm. flat_map (λ align. flat_map (λ w1. map (λ w2. tuple op r (record { imm = imm; align = align; w1 = w1; w2 = w2 })) (second_w2s op form constants)) (w1s op form constants imm align)) (alignments spec op form)) (immediates form constants) ≡ flat_map (at_operand (base_of op r) (second_w1s op form constants) (second_w2s op form constants)) (operands spec op form constants)
+pub by_operands : (spec : Isa) (op : Op) (form : Format) (constants : List ℤ) (r : Registers) → flat_map (λ imm. flat_map (λ align. flat_map (λ w1. map (λ w2. choice_of op r (record { imm = imm; align = align; w1 = w1; w2 = w2 })) (second_w2s op form constants)) (w1s op form constants imm align)) (alignments spec op form)) (immediates form constants) ≡ flat_map (at_operand (base_of op r) (second_w1s op form constants) (second_w2s op form constants)) (operands spec op form constants)
 unfolding not_r
 by_operands spec op R constants r = by_words spec op constants r
 by_operands spec op form constants r = by_pairs spec op form constants r refl
@@ -88,17 +88,17 @@ operands_fixed spec op R constants = words_each (words (row op).unsigned1 consta
 operands_fixed spec op form constants = pairs_each form (alignments spec op form) (immediates form constants) (λ first. is_fixed form first ≡ true) (fixed_at form refl)
 
 -- the facts that the names of a part look at are those of the first operand
-fixed_some : (op : Op) (form : Format) (r : Registers) (imm : Option ℤ) (align w w2 : ℕ) → (row op).form ≡ form → map (num_at (table_of (tuple op r (record { imm = imm; align = align; w1 = w; w2 = w2 })))) (fixed_names form) ≡ map (num_at (table_of (tuple op r (record { imm = imm; align = align; w1 = w; w2 = 0 })))) (fixed_names form)
+fixed_some : (op : Op) (form : Format) (r : Registers) (imm : Option ℤ) (align w w2 : ℕ) → (row op).form ≡ form → map (num_at (table_of (choice_of op r (record { imm = imm; align = align; w1 = w; w2 = w2 })))) (fixed_names form) ≡ map (num_at (table_of (choice_of op r (record { imm = imm; align = align; w1 = w; w2 = 0 })))) (fixed_names form)
 fixed_some op R r imm align w w2 h = refl
 fixed_some op _ r imm align w w2 h = refl
 
-fixed_none : (op : Op) (form : Format) (r : Registers) (imm : Option ℤ) (align w1 w2 : ℕ) → is_fixed form (record { imm = imm; align = align; word = None }) ≡ true → map (num_at (table_of (tuple op r (record { imm = imm; align = align; w1 = w1; w2 = w2 })))) (fixed_names form) ≡ map (num_at (table_of (tuple op r (record { imm = imm; align = align; w1 = 0; w2 = 0 })))) (fixed_names form)
+fixed_none : (op : Op) (form : Format) (r : Registers) (imm : Option ℤ) (align w1 w2 : ℕ) → is_fixed form (record { imm = imm; align = align; word = None }) ≡ true → map (num_at (table_of (choice_of op r (record { imm = imm; align = align; w1 = w1; w2 = w2 })))) (fixed_names form) ≡ map (num_at (table_of (choice_of op r (record { imm = imm; align = align; w1 = 0; w2 = 0 })))) (fixed_names form)
 fixed_none op R r imm align w1 w2 h = cc
 fixed_none op Load r imm align w1 w2 h = cc
 fixed_none op Store r imm align w1 w2 h = cc
 fixed_none op _ r imm align w1 w2 h = refl
 
-pub part_is : (names : List NumName) (e : Formula) (part : Option Formula) (c : Tuple) → part ≡ part_of names e → is_part_true_at part c ≡ holds_within names e (table_of c)
+pub part_is : (names : List NumName) (e : Formula) (part : Option Formula) (c : ChoiceValue) → part ≡ part_of names e → is_part_true_at part c ≡ holds_within names e (table_of c)
 part_is names e None c h = sym (no_part names e (table_of c) (sym h))
 part_is names e (Some p) c h = part_holds names e p (table_of c) (sym h)
 
@@ -118,13 +118,13 @@ may_pass op e part r w1s w2s imm align None num is fixed fails =
     let failed = sym (part_is (fixed_names (row op).form) e part (front_of (base_of op r) (record { imm = imm; align = align; word = None })) is) ∙ fails in
     all_none (is_true_at e) (at_w1 (base_of op r) (record { imm = imm; align = align; word = None }) w2s) (λ x. Unit {0})
     (λ w1 u. none_of_map (is_true_at e) (with_numbers (base_of op r) (record { imm = imm; align = align; word = None }) w1)
-    (λ w2. not_whole (fixed_names (row op).form) e (table_of (tuple op r (record { imm = imm; align = align; w1 = w1; w2 = w2 }))) (table_of (tuple op r (record { imm = imm; align = align; w1 = 0; w2 = 0 }))) num (fixed_none op (row op).form r imm align w1 w2 fixed) failed) w2s)
+    (λ w2. not_whole (fixed_names (row op).form) e (table_of (choice_of op r (record { imm = imm; align = align; w1 = w1; w2 = w2 }))) (table_of (choice_of op r (record { imm = imm; align = align; w1 = 0; w2 = 0 }))) num (fixed_none op (row op).form r imm align w1 w2 fixed) failed) w2s)
     w1s (each_any w1s)
 may_pass op e part r w1s w2s imm align (Some v) num is fixed fails =
     let failed = sym (part_is (fixed_names (row op).form) e part (front_of (base_of op r) (record { imm = imm; align = align; word = Some v })) is) ∙ fails in
     ap (find (is_true_at e)) (flat_one (at_w1 (base_of op r) (record { imm = imm; align = align; word = Some v }) w2s) v)
     ∙ none_of_map (is_true_at e) (with_numbers (base_of op r) (record { imm = imm; align = align; word = Some v }) v)
-    (λ w2. not_whole (fixed_names (row op).form) e (table_of (tuple op r (record { imm = imm; align = align; w1 = v; w2 = w2 }))) (table_of (tuple op r (record { imm = imm; align = align; w1 = v; w2 = 0 }))) num (fixed_some op (row op).form r imm align v w2 refl) failed) w2s
+    (λ w2. not_whole (fixed_names (row op).form) e (table_of (choice_of op r (record { imm = imm; align = align; w1 = v; w2 = w2 }))) (table_of (choice_of op r (record { imm = imm; align = align; w1 = v; w2 = 0 }))) num (fixed_some op (row op).form r imm align v w2 refl) failed) w2s
 
 -- where the part isn't true, no choice with this first operand makes the whole true
 pub may_pass_over : (op : Op) (e : Formula) (part : Option Formula) (r : Registers) (w1s w2s : List ℕ) (first : Operand) → only_numbers e ≡ true → part ≡ part_of (fixed_names (row op).form) e → is_fixed (row op).form first ≡ true → MayPassOver e part (base_of op r) w1s w2s first

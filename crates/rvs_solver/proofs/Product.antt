@@ -13,7 +13,7 @@ use Rattle.rvs_solver.specs.Facts.{read, alignment}
 use Rattle.rvs_solver.specs.Truth.{num_at, only_numbers}
 use Rattle.rvs_solver.proofs.Framing.{frame}
 use Rattle.rvs_solver.specs.Datasets.{rds, rs1s, rs2s, immediates, alignments}
-use Rattle.rvs_solver.specs.Choices.{Registers, Numbers, Tuple, tuple, table_of, base_value, is_same, is_kept, w1s, w2s, at_word, at_alignment, at_immediate, numbers, registers, with_registers, choices}
+use Rattle.rvs_solver.specs.Choices.{Registers, Numbers, ChoiceValue, choice_of, table_of, base_value, is_same, is_kept, w1s, w2s, at_word, at_alignment, at_immediate, numbers, registers, with_registers, choices}
 use Rattle.rvs_solver.specs.Bound.{first_registers}
 use Rattle.rvs_solver.specs.Walk.{is_true_at, second_w2s}
 use Rattle.rvs_solver.proofs.Search.{Each, map_flat, map_map, flat_same, find_filter, find_alike, first_decides}
@@ -138,22 +138,22 @@ some_same k (Some a) None h = cc
 some_same k None (Some b) h = cc
 some_same k None None h = refl
 
-same_number : (op : Op) (first r : Registers) (n : Numbers) → Shaped first r → (name : NumName) → num_at (table_of (tuple op r n)) name ≡ num_at (table_of (tuple op first n)) name
+same_number : (op : Op) (first r : Registers) (n : Numbers) → Shaped first r → (name : NumName) → num_at (table_of (choice_of op r n)) name ≡ num_at (table_of (choice_of op first n)) name
 same_number op first r n s Rs1Val = ap (base_value (row op).form) (some_same (read (row op).unsigned1 n.w1) r.rs1 first.rs1 s.in_rs1)
 same_number op first r n s Rs2Val = some_same (read (row op).unsigned2 n.w2) r.rs2 first.rs2 s.in_rs2
 same_number op first r n s ImmVal = refl
 same_number op first r n s EaAlign = ap (λ v. alignment (row op).form v n.imm) (some_same (read (row op).unsigned1 n.w1) r.rs1 first.rs1 s.in_rs1)
 
-pub same_truth : (op : Op) (e : Formula) (first r : Registers) (n : Numbers) → only_numbers e ≡ true → Shaped first r → is_true_at e (tuple op r n) ≡ is_true_at e (tuple op first n)
-same_truth op e first r n num s = frame e (table_of (tuple op r n)) (table_of (tuple op first n)) num (λ name used. same_number op first r n s name)
+pub same_truth : (op : Op) (e : Formula) (first r : Registers) (n : Numbers) → only_numbers e ≡ true → Shaped first r → is_true_at e (choice_of op r n) ≡ is_true_at e (choice_of op first n)
+same_truth op e first r n num s = frame e (table_of (choice_of op r n)) (table_of (choice_of op first n)) num (λ name used. same_number op first r n s name)
 
 -- ---- the first registers allow all words
 
-pub first_kept : (op : Op) (form : Format) (n : Numbers) → is_kept (tuple op (first_registers form) n) ≡ true
+pub first_kept : (op : Op) (form : Format) (n : Numbers) → is_kept (choice_of op (first_registers form) n) ≡ true
 first_kept op R n = refl
 first_kept op _ n = refl
 
-abbrev pub is_kept_and_true : Formula → Tuple → Bool
+abbrev pub is_kept_and_true : Formula → ChoiceValue → Bool
 is_kept_and_true e c = is_kept c && is_true_at e c
 
 pub and_true : (k h : Bool) → k ≡ true → (k && h) ≡ h
@@ -163,17 +163,17 @@ pub and_false : (k h : Bool) → h ≡ false → (k && h) ≡ false
 and_false true h e = e
 and_false false h e = refl
 
-pub weaker : (op : Op) (form : Format) (e : Formula) (r : Registers) (n : Numbers) → only_numbers e ≡ true → Shaped (first_registers form) r → is_kept_and_true e (tuple op (first_registers form) n) ≡ false → is_kept_and_true e (tuple op r n) ≡ false
+pub weaker : (op : Op) (form : Format) (e : Formula) (r : Registers) (n : Numbers) → only_numbers e ≡ true → Shaped (first_registers form) r → is_kept_and_true e (choice_of op (first_registers form) n) ≡ false → is_kept_and_true e (choice_of op r n) ≡ false
 weaker op form e r n num s none =
-    and_false (is_kept (tuple op r n)) (is_true_at e (tuple op r n))
-    (same_truth op e (first_registers form) r n num s ∙ sym (and_true (is_kept (tuple op (first_registers form) n)) (is_true_at e (tuple op (first_registers form) n)) (first_kept op form n)) ∙ none)
+    and_false (is_kept (choice_of op r n)) (is_true_at e (choice_of op r n))
+    (same_truth op e (first_registers form) r n num s ∙ sym (and_true (is_kept (choice_of op (first_registers form) n)) (is_true_at e (choice_of op (first_registers form) n)) (first_kept op form n)) ∙ none)
 
 pub find_on_map : {X Y : Type 0} (p q : Y → Bool) (g : X → Y) → ((x : X) → p (g x) ≡ q (g x)) → (xs : List X) → find p (map g xs) ≡ find q (map g xs)
 find_on_map p q g h [] = refl
 find_on_map p q g h (x ∷ xs) = ap (λ t. cond t (Some (g x)) (find p (map g xs))) (h x) ∙ ap (cond (q (g x)) (Some (g x))) (find_on_map p q g h xs)
 
-pub at_first : (op : Op) (form : Format) (e : Formula) (ns : List Numbers) → find (is_kept_and_true e) (map (tuple op (first_registers form)) ns) ≡ find (is_true_at e) (map (tuple op (first_registers form)) ns)
-at_first op form e ns = find_on_map (is_kept_and_true e) (is_true_at e) (tuple op (first_registers form)) (λ n. and_true (is_kept (tuple op (first_registers form) n)) (is_true_at e (tuple op (first_registers form) n)) (first_kept op form n)) ns
+pub at_first : (op : Op) (form : Format) (e : Formula) (ns : List Numbers) → find (is_kept_and_true e) (map (choice_of op (first_registers form)) ns) ≡ find (is_true_at e) (map (choice_of op (first_registers form)) ns)
+at_first op form e ns = find_on_map (is_kept_and_true e) (is_true_at e) (choice_of op (first_registers form)) (λ n. and_true (is_kept (choice_of op (first_registers form) n)) (is_true_at e (choice_of op (first_registers form) n)) (first_kept op form n)) ns
 
 -- ---- formats other than Store: the first registers decide
 
@@ -189,18 +189,18 @@ numbers_any : (spec : Isa) (op : Op) (form : Format) (constants : List ℤ) (s :
 numbers_any spec op form constants s h =
     flat_same _ _ (λ imm. flat_same _ _ (λ align. flat_same _ _ (λ w1. ap (map (λ w2. record { imm = imm; align = align; w1 = w1; w2 = w2 })) (same_w2s op form constants s w1 h ∙ sym (same_w2s op form constants false w1 h))) (w1s op form constants imm align)) (alignments spec op form)) (immediates form constants)
 
-pub registers_decide : (spec : Isa) (op : Op) (e : Formula) (constants : List ℤ) → is_store (row op).form ≡ false → only_numbers e ≡ true → find (is_true_at e) (choices spec op constants) ≡ find (is_true_at e) (map (tuple op (first_registers (row op).form)) (numbers spec op (row op).form constants false))
+pub registers_decide : (spec : Isa) (op : Op) (e : Formula) (constants : List ℤ) → is_store (row op).form ≡ false → only_numbers e ≡ true → find (is_true_at e) (choices spec op constants) ≡ find (is_true_at e) (map (choice_of op (first_registers (row op).form)) (numbers spec op (row op).form constants false))
 unfolding choices
 registers_decide spec op e constants store num =
     let form = (row op).form in
     let first = first_registers form in
     let begins = registers_begin spec.e form in
     let shaped : Each (Shaped first) (first ∷ begins.rest) = subst (Each (Shaped first)) begins.is (registers_shaped spec.e form) in
-    let at = λ (r : Registers). ap (map (tuple op r)) (numbers_any spec op form constants (is_same r.rs1 r.rs2) store) in
+    let at = λ (r : Registers). ap (map (choice_of op r)) (numbers_any spec op form constants (is_same r.rs1 r.rs2) store) in
     find_filter (is_true_at e) is_kept (flat_map (with_registers spec op constants) (registers spec.e form))
     ∙ ap (λ l. find (is_kept_and_true e) (flat_map (with_registers spec op constants) l)) begins.is
     ∙ first_decides (is_kept_and_true e) (with_registers spec op constants) (Shaped first) first begins.rest shaped.1
-    (λ none r s. ap (find (is_kept_and_true e)) (at r) ∙ find_alike (is_kept_and_true e) (is_kept_and_true e) (tuple op first) (tuple op r) (λ n fails. weaker op form e r n num s fails) (numbers spec op form constants false) (sym (ap (find (is_kept_and_true e)) (at first)) ∙ none))
+    (λ none r s. ap (find (is_kept_and_true e)) (at r) ∙ find_alike (is_kept_and_true e) (is_kept_and_true e) (choice_of op first) (choice_of op r) (λ n fails. weaker op form e r n num s fails) (numbers spec op form constants false) (sym (ap (find (is_kept_and_true e)) (at first)) ∙ none))
     ∙ ap (find (is_kept_and_true e)) (at first)
     ∙ at_first op form e (numbers spec op form constants false)
 
@@ -210,10 +210,10 @@ false_w2s : (op : Op) (form : Format) (constants : List ℤ) (w1 : ℕ) → w2s 
 false_w2s op R constants w1 = refl
 false_w2s op _ constants w1 = refl
 
-pub spread : (spec : Isa) (op : Op) (form : Format) (constants : List ℤ) (r : Registers) → map (tuple op r) (numbers spec op form constants false) ≡ flat_map (λ imm. flat_map (λ align. flat_map (λ w1. map (λ w2. tuple op r (record { imm = imm; align = align; w1 = w1; w2 = w2 })) (second_w2s op form constants)) (w1s op form constants imm align)) (alignments spec op form)) (immediates form constants)
+pub spread : (spec : Isa) (op : Op) (form : Format) (constants : List ℤ) (r : Registers) → map (choice_of op r) (numbers spec op form constants false) ≡ flat_map (λ imm. flat_map (λ align. flat_map (λ w1. map (λ w2. choice_of op r (record { imm = imm; align = align; w1 = w1; w2 = w2 })) (second_w2s op form constants)) (w1s op form constants imm align)) (alignments spec op form)) (immediates form constants)
 spread spec op form constants r =
-    map_flat (tuple op r) (at_immediate spec op form constants false) (immediates form constants)
-    ∙ flat_same _ _ (λ imm. map_flat (tuple op r) (at_alignment op form constants false imm) (alignments spec op form)
-    ∙ flat_same _ _ (λ align. map_flat (tuple op r) (at_word op form constants false imm align) (w1s op form constants imm align)
-    ∙ flat_same _ _ (λ w1. map_map (tuple op r) (λ w2. record { imm = imm; align = align; w1 = w1; w2 = w2 }) (w2s op form constants false w1)
-    ∙ ap (map (λ w2. tuple op r (record { imm = imm; align = align; w1 = w1; w2 = w2 }))) (false_w2s op form constants w1)) (w1s op form constants imm align)) (alignments spec op form)) (immediates form constants)
+    map_flat (choice_of op r) (at_immediate spec op form constants false) (immediates form constants)
+    ∙ flat_same _ _ (λ imm. map_flat (choice_of op r) (at_alignment op form constants false imm) (alignments spec op form)
+    ∙ flat_same _ _ (λ align. map_flat (choice_of op r) (at_word op form constants false imm align) (w1s op form constants imm align)
+    ∙ flat_same _ _ (λ w1. map_map (choice_of op r) (λ w2. record { imm = imm; align = align; w1 = w1; w2 = w2 }) (w2s op form constants false w1)
+    ∙ ap (map (λ w2. choice_of op r (record { imm = imm; align = align; w1 = w1; w2 = w2 }))) (false_w2s op form constants w1)) (w1s op form constants imm align)) (alignments spec op form)) (immediates form constants)

@@ -16,7 +16,7 @@ use Rattle.rvs_cgf.specs.declared.group.Kind.TheVariants.{Rd}
 use Rattle.rvs_cgf.specs.Groups.{Meaning}
 use Rattle.rvs_cgf.specs.Groups.{op_is, reg_is, regs, nums}
 use Rattle.rvs_solver.specs.Datasets.{rds, rs1s, rs2s, words, base_words, immediates, alignments, aligned, dataset, distance_list}
-use Rattle.rvs_solver.specs.Choices.{Registers, Numbers, tuple, table_of, is_same, is_zero, has_one_word, is_kept, at_alignment, at_immediate, numbers, registers, with_registers, choices}
+use Rattle.rvs_solver.specs.Choices.{Registers, Numbers, choice_of, table_of, is_same, is_zero, has_one_word, is_kept, at_alignment, at_immediate, numbers, registers, with_registers, choices}
 use Rattle.rvs_solver.specs.Point.{hits, is_valid, is_on_values, is_register, field_of}
 use Rattle.rvs_solver.specs.Least.{least_imm, least_numbers, least, at_rd}
 use Rattle.rvs_solver.proofs.Search.{Each, map_flat, map_map, flat_same, find_filter, find_map, find_same, each_finds, all_none, by_test}
@@ -24,14 +24,14 @@ use Rattle.rvs_solver.proofs.Product.{Begins, each_of, each_flat, each_map, each
 
 -- ---- such a point doesn't depend on the numbers
 
-same_field : (kind : Kind) (op : Op) (r : Registers) (n m : Numbers) → field_of kind (tuple op r n) ≡ field_of kind (tuple op r m)
+same_field : (kind : Kind) (op : Op) (r : Registers) (n m : Numbers) → field_of kind (choice_of op r n) ≡ field_of kind (choice_of op r m)
 same_field Rd op r n m = refl
 same_field _ op r n m = refl
 
-same_hit : (kind : Kind) (meaning : Meaning) (op : Op) (r : Registers) (n m : Numbers) → is_valid meaning ≡ true → is_on_values meaning ≡ false → hits kind meaning (tuple op r n) ≡ hits kind meaning (tuple op r m)
+same_hit : (kind : Kind) (meaning : Meaning) (op : Op) (r : Registers) (n m : Numbers) → is_valid meaning ≡ true → is_on_values meaning ≡ false → hits kind meaning (choice_of op r n) ≡ hits kind meaning (choice_of op r m)
 same_hit kind (op_is key) op r n m valid not_values = refl
 same_hit kind (reg_is key) op r n m valid not_values = ap (is_register key) (same_field kind op r n m)
-same_hit kind (regs e) op r n m valid not_values = register_frame e (table_of (tuple op r n)) (table_of (tuple op r m)) valid (λ name. refl)
+same_hit kind (regs e) op r n m valid not_values = register_frame e (table_of (choice_of op r n)) (table_of (choice_of op r m)) valid (λ name. refl)
 same_hit kind (nums e) op r n m valid not_values = cc
 
 never : {X : Type 0} (xs : List X) → find (λ x. false) xs ≡ None
@@ -203,7 +203,7 @@ unfolding choices
 register_is spec op kind meaning form valid not_values =
     find_filter (hits kind meaning) is_kept (flat_map (with_registers spec op []) (registers spec.e (row op).form))
     ∙ each_finds (λ c. is_kept c && hits kind meaning c) (hits kind meaning) (with_registers spec op []) (least op (row op).form) (AllowedBy (row op).form)
-    (λ r a. finds_kept is_kept (hits kind meaning) (tuple op r) (least_numbers (row op).form (is_zero r.rs1) (is_zero r.rs2) (is_same r.rs1 r.rs2)) (numbers spec op (row op).form [] (is_same r.rs1 r.rs2)) (λ m. same_hit kind meaning op r m (least_numbers (row op).form (is_zero r.rs1) (is_zero r.rs2) (is_same r.rs1 r.rs2)) valid not_values) (least_found spec op (row op).form (is_zero r.rs1) (is_zero r.rs2) (is_same r.rs1 r.rs2) form a))
+    (λ r a. finds_kept is_kept (hits kind meaning) (choice_of op r) (least_numbers (row op).form (is_zero r.rs1) (is_zero r.rs2) (is_same r.rs1 r.rs2)) (numbers spec op (row op).form [] (is_same r.rs1 r.rs2)) (λ m. same_hit kind meaning op r m (least_numbers (row op).form (is_zero r.rs1) (is_zero r.rs2) (is_same r.rs1 r.rs2)) valid not_values) (least_found spec op (row op).form (is_zero r.rs1) (is_zero r.rs2) (is_same r.rs1 r.rs2) form a))
     (registers spec.e (row op).form) (registers_allowed spec.e (row op).form)
     ∙ ap (find (hits kind meaning)) (by_registers spec.e op (row op).form)
 
@@ -211,5 +211,5 @@ pub no_system : (spec : Isa) (op : Op) (kind : Kind) (meaning : Meaning) (consta
 unfolding choices
 no_system spec op kind meaning constants form =
     find_filter (hits kind meaning) is_kept (flat_map (with_registers spec op constants) (registers spec.e (row op).form))
-    ∙ ap (λ f. find (λ c. is_kept c && hits kind meaning c) (flat_map (λ r. map (tuple op r) (numbers spec op f constants (is_same r.rs1 r.rs2))) (registers spec.e f))) form
-    ∙ all_none (λ c. is_kept c && hits kind meaning c) (λ r. map (tuple op r) (numbers spec op System constants (is_same r.rs1 r.rs2))) (λ r. Unit {0}) (λ r u. refl) (registers spec.e System) (each_any (registers spec.e System))
+    ∙ ap (λ f. find (λ c. is_kept c && hits kind meaning c) (flat_map (λ r. map (choice_of op r) (numbers spec op f constants (is_same r.rs1 r.rs2))) (registers spec.e f))) form
+    ∙ all_none (λ c. is_kept c && hits kind meaning c) (λ r. map (choice_of op r) (numbers spec op System constants (is_same r.rs1 r.rs2))) (λ r. Unit {0}) (λ r u. refl) (registers spec.e System) (each_any (registers spec.e System))

@@ -11,7 +11,7 @@ use Rattle.rvs_expr.specs.Typed.{Formula}
 use Rattle.rvs_solver.specs.Truth.{num_at, only_numbers, part_of}
 use Rattle.rvs_solver.specs.declared.operand.Operand.{Operand}
 use Rattle.rvs_solver.specs.Datasets.{words, immediates, alignments, address}
-use Rattle.rvs_solver.specs.Choices.{Registers, Numbers, Tuple, tuple, table_of, is_same, is_zero, has_one_word, is_kept, at_immediate, numbers, registers, with_registers, choices}
+use Rattle.rvs_solver.specs.Choices.{Registers, Numbers, ChoiceValue, choice_of, table_of, is_same, is_zero, has_one_word, is_kept, at_immediate, numbers, registers, with_registers, choices}
 use Rattle.rvs_solver.specs.Bound.{first_registers, operands, fixed_names, passes, seconds}
 use Rattle.rvs_solver.specs.Walk.{is_true_at, at_operand, base_of, front_of, is_part_true_at, second_w2s, same_registers, storing_address, MayPassOverSame, store_cost}
 use Rattle.rvs_solver.proofs.Search.{Each, map_flat, map_map, flat_same, find_filter, find_alike, two_decide}
@@ -19,8 +19,8 @@ use Rattle.rvs_solver.proofs.Product.{registers_begin, registers_shaped, Shaped,
 use Rattle.rvs_solver.proofs.Operands.{by_operands, part_is, not_whole, operands_seconds, seconds_at, sum_is_product, all_from_each, each_then}
 
 -- the choices before any is left out, by the registers
-abbrev pub stores_with : Isa → Op → List ℤ → Registers → List Tuple
-stores_with spec op constants r = map (tuple op r) (numbers spec op Store constants (is_same r.rs1 r.rs2))
+abbrev pub stores_with : Isa → Op → List ℤ → Registers → List ChoiceValue
+stores_with spec op constants r = map (choice_of op r) (numbers spec op Store constants (is_same r.rs1 r.rs2))
 
 abbrev pub shares : Registers → Bool
 shares r = is_same r.rs1 r.rs2
@@ -36,14 +36,14 @@ not_one_word true false w h e = refl
 not_one_word false z2 w h e = refl
 
 -- with one register twice: where the first such registers don't make it, no others do
-same_weaker : (op : Op) (e : Formula) (r : Registers) (n : Numbers) → only_numbers e ≡ true → Shaped same_registers r → shares r ≡ true → is_kept_and_true e (tuple op same_registers n) ≡ false → is_kept_and_true e (tuple op r n) ≡ false
+same_weaker : (op : Op) (e : Formula) (r : Registers) (n : Numbers) → only_numbers e ≡ true → Shaped same_registers r → shares r ≡ true → is_kept_and_true e (choice_of op same_registers n) ≡ false → is_kept_and_true e (choice_of op r n) ≡ false
 same_weaker op e r n num s share fails = by (n.w1 == n.w2) refl fails where
-  kept : is_kept (tuple op r n) ≡ has_one_word (is_zero r.rs1) (is_zero r.rs2) true n.w1 n.w2
+  kept : is_kept (choice_of op r n) ≡ has_one_word (is_zero r.rs1) (is_zero r.rs2) true n.w1 n.w2
   kept = ap (λ b. has_one_word (is_zero r.rs1) (is_zero r.rs2) b n.w1 n.w2) share
 
-  by : (b : Bool) → (n.w1 == n.w2) ≡ b → (b && is_true_at e (tuple op same_registers n)) ≡ false → is_kept_and_true e (tuple op r n) ≡ false
-  by true w f = and_false (is_kept (tuple op r n)) (is_true_at e (tuple op r n)) (same_truth op e same_registers r n num s ∙ f)
-  by false w f = ap (λ k. k && is_true_at e (tuple op r n)) kept ∙ not_one_word (not (is_zero r.rs1) || n.w1 == 0) (not (is_zero r.rs2) || n.w2 == 0) (n.w1 == n.w2) (is_true_at e (tuple op r n)) w
+  by : (b : Bool) → (n.w1 == n.w2) ≡ b → (b && is_true_at e (choice_of op same_registers n)) ≡ false → is_kept_and_true e (choice_of op r n) ≡ false
+  by true w f = and_false (is_kept (choice_of op r n)) (is_true_at e (choice_of op r n)) (same_truth op e same_registers r n num s ∙ f)
+  by false w f = ap (λ k. k && is_true_at e (choice_of op r n)) kept ∙ not_one_word (not (is_zero r.rs1) || n.w1 == 0) (not (is_zero r.rs2) || n.w2 == 0) (n.w1 == n.w2) (is_true_at e (choice_of op r n)) w
 
 store_decides : (spec : Isa) (op : Op) (e : Formula) (constants : List ℤ) → only_numbers e ≡ true → find (is_kept_and_true e) (flat_map (stores_with spec op constants) (registers spec.e Store)) ≡ option_or (find (is_kept_and_true e) (stores_with spec op constants (first_registers Store))) (find (is_kept_and_true e) (stores_with spec op constants same_registers))
 store_decides spec op e constants num =
@@ -53,15 +53,15 @@ store_decides spec op e constants num =
     ap (λ l. find (is_kept_and_true e) (flat_map (stores_with spec op constants) l)) begins.is
     ∙ two_decide (is_kept_and_true e) (stores_with spec op constants) shares (Shaped first) first same_registers begins.rest shaped.1
     (sym (ap (find shares) begins.is) ∙ first_shared spec.e)
-    (λ none r s share. ap (λ b. find (is_kept_and_true e) (map (tuple op r) (numbers spec op Store constants b))) share ∙ find_alike (is_kept_and_true e) (is_kept_and_true e) (tuple op first) (tuple op r) (λ n fails. weaker op Store e r n num s fails) (numbers spec op Store constants false) none)
-    (λ none r s share. ap (λ b. find (is_kept_and_true e) (map (tuple op r) (numbers spec op Store constants b))) share ∙ find_alike (is_kept_and_true e) (is_kept_and_true e) (tuple op same_registers) (tuple op r) (λ n fails. same_weaker op e r n num (record { in_rs1 = s.in_rs1; in_rs2 = s.in_rs2 }) share fails) (numbers spec op Store constants true) none)
+    (λ none r s share. ap (λ b. find (is_kept_and_true e) (map (choice_of op r) (numbers spec op Store constants b))) share ∙ find_alike (is_kept_and_true e) (is_kept_and_true e) (choice_of op first) (choice_of op r) (λ n fails. weaker op Store e r n num s fails) (numbers spec op Store constants false) none)
+    (λ none r s share. ap (λ b. find (is_kept_and_true e) (map (choice_of op r) (numbers spec op Store constants b))) share ∙ find_alike (is_kept_and_true e) (is_kept_and_true e) (choice_of op same_registers) (choice_of op r) (λ n fails. same_weaker op e r n num (record { in_rs1 = s.in_rs1; in_rs2 = s.in_rs2 }) share fails) (numbers spec op Store constants true) none)
 
 -- the stores of their own address, by first operands
 addresses_are : (spec : Isa) (op : Op) (constants : List ℤ) → stores_with spec op constants same_registers ≡ map (storing_address (base_of op same_registers)) (operands spec op Store constants)
 addresses_are spec op constants =
-    map_flat (tuple op same_registers) (at_immediate spec op Store constants true) (immediates Store constants)
-    ∙ flat_same _ _ (λ imm. ap (map (tuple op same_registers)) (flat_map_single (λ align. record { imm = imm; align = align; w1 = address 0x8100_0000 imm align; w2 = address 0x8100_0000 imm align }) (alignments spec op Store))
-    ∙ map_map (tuple op same_registers) (λ align. record { imm = imm; align = align; w1 = address 0x8100_0000 imm align; w2 = address 0x8100_0000 imm align }) (alignments spec op Store)
+    map_flat (choice_of op same_registers) (at_immediate spec op Store constants true) (immediates Store constants)
+    ∙ flat_same _ _ (λ imm. ap (map (choice_of op same_registers)) (flat_map_single (λ align. record { imm = imm; align = align; w1 = address 0x8100_0000 imm align; w2 = address 0x8100_0000 imm align }) (alignments spec op Store))
+    ∙ map_map (choice_of op same_registers) (λ align. record { imm = imm; align = align; w1 = address 0x8100_0000 imm align; w2 = address 0x8100_0000 imm align }) (alignments spec op Store)
     ∙ sym (map_map (storing_address (base_of op same_registers)) (λ align. record { imm = imm; align = align; word = Some (address 0x8100_0000 imm align) }) (alignments spec op Store))) (immediates Store constants)
     ∙ sym (map_flat (storing_address (base_of op same_registers)) (λ imm. map (λ align. record { imm = imm; align = align; word = Some (address 0x8100_0000 imm align) }) (alignments spec op Store)) (immediates Store constants))
 
@@ -84,11 +84,11 @@ pub store_is : (spec : Isa) (op : Op) (e : Formula) (constants : List ℤ) → (
 unfolding choices
 store_is spec op e constants form num =
     find_filter (is_true_at e) is_kept (flat_map (with_registers spec op constants) (registers spec.e (row op).form))
-    ∙ ap (λ f. find (is_kept_and_true e) (flat_map (λ r. map (tuple op r) (numbers spec op f constants (is_same r.rs1 r.rs2))) (registers spec.e f))) form
+    ∙ ap (λ f. find (is_kept_and_true e) (flat_map (λ r. map (choice_of op r) (numbers spec op f constants (is_same r.rs1 r.rs2))) (registers spec.e f))) form
     ∙ store_form_is spec op e constants num
 
 -- where the part isn't true, the store of the address doesn't make the whole true
-same_facts : (op : Op) (imm : Option ℤ) (align w : ℕ) → map (num_at (table_of (tuple op same_registers (record { imm = imm; align = align; w1 = w; w2 = w })))) (fixed_names Store) ≡ map (num_at (table_of (tuple op (first_registers Store) (record { imm = imm; align = align; w1 = w; w2 = 0 })))) (fixed_names Store)
+same_facts : (op : Op) (imm : Option ℤ) (align w : ℕ) → map (num_at (table_of (choice_of op same_registers (record { imm = imm; align = align; w1 = w; w2 = w })))) (fixed_names Store) ≡ map (num_at (table_of (choice_of op (first_registers Store) (record { imm = imm; align = align; w1 = w; w2 = 0 })))) (fixed_names Store)
 same_facts op imm align w = refl
 
 pub may_pass_same : (op : Op) (e : Formula) (part : Option Formula) (first : Operand) → only_numbers e ≡ true → part ≡ part_of (fixed_names Store) e → MayPassOverSame e part (base_of op (first_registers Store)) (base_of op same_registers) first

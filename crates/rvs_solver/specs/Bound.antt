@@ -13,7 +13,7 @@ use Rattle.rvs_solver.specs.declared.operand.Operand.{Operand}
 use Rattle.rvs_cgf.specs.Groups.{Meaning}
 use Rattle.rvs_cgf.specs.Groups.{op_is, reg_is, regs, nums}
 use Rattle.rvs_solver.specs.Datasets.{rds, rs1s, rs2s, words, immediates, alignments, address}
-use Rattle.rvs_solver.specs.Choices.{Registers, Numbers, tuple, table_of}
+use Rattle.rvs_solver.specs.Choices.{Registers, Numbers, choice_of, table_of}
 
 -- the names that the first operand fixes
 abbrev pub fixed_names : Format → List NumName
@@ -65,7 +65,7 @@ numbers_with first w1 w2 = record { imm = first.imm; align = first.align; w1 = w
 
 -- the first operand makes true every conjunct that names nothing but what it fixes. What else the choice has doesn't matter to that
 abbrev pub passes : Op → Format → Formula → Operand → Bool
-passes op form e first = holds_within (fixed_names form) e (table_of (tuple op (first_registers form) (numbers_with first (unwrap_or first.word 0) 0)))
+passes op form e first = holds_within (fixed_names form) e (table_of (choice_of op (first_registers form) (numbers_with first (unwrap_or first.word 0) 0)))
 
 abbrev pub pruned : ℕ → ℕ → ℕ → ℕ
 pruned n1 passed n2 = n1 + passed * n2

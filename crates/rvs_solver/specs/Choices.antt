@@ -13,7 +13,7 @@ use Rattle.rvs_solver.specs.Facts.{facts_of}
 use Rattle.rvs_solver.specs.Datasets.{rds, rs1s, rs2s, words, immediates, alignments, address}
 
 -- a choice
-pub record Tuple : Type 0 where
+pub record ChoiceValue : Type 0 where
   pub op : Op
   pub rd : Option ℕ
   pub rs1 : Option ℕ
@@ -35,8 +35,8 @@ pub record Numbers : Type 0 where
   pub w1 : ℕ
   pub w2 : ℕ
 
-abbrev pub tuple : Op → Registers → Numbers → Tuple
-tuple op r n = record { op = op; rd = r.rd; rs1 = r.rs1; rs2 = r.rs2; imm = n.imm; align = n.align; w1 = n.w1; w2 = n.w2 }
+abbrev pub choice_of : Op → Registers → Numbers → ChoiceValue
+choice_of op r n = record { op = op; rd = r.rd; rs1 = r.rs1; rs2 = r.rs2; imm = n.imm; align = n.align; w1 = n.w1; w2 = n.w2 }
 
 abbrev pub is_same : Option ℕ → Option ℕ → Bool
 is_same (Some a) (Some b) = a == b
@@ -90,19 +90,19 @@ registers few form =
 abbrev pub has_one_word : Bool → Bool → Bool → ℕ → ℕ → Bool
 has_one_word zero1 zero2 same w1 w2 = (not zero1 || w1 == 0) && (not zero2 || w2 == 0) && (not same || w1 == w2)
 
-abbrev pub is_kept : Tuple → Bool
+abbrev pub is_kept : ChoiceValue → Bool
 is_kept c = has_one_word (is_zero c.rs1) (is_zero c.rs2) (is_same c.rs1 c.rs2) c.w1 c.w2
 
-abbrev pub with_registers : Isa → Op → List ℤ → Registers → List Tuple
-with_registers spec op constants r = map (tuple op r) (numbers spec op (row op).form constants (is_same r.rs1 r.rs2))
+abbrev pub with_registers : Isa → Op → List ℤ → Registers → List ChoiceValue
+with_registers spec op constants r = map (choice_of op r) (numbers spec op (row op).form constants (is_same r.rs1 r.rs2))
 
 -- the choices of a mnemonic, in their order
-unfoldable pub choices : Isa → Op → List ℤ → List Tuple
+unfoldable pub choices : Isa → Op → List ℤ → List ChoiceValue
 choices spec op constants = filter is_kept (flat_map (with_registers spec op constants) (registers spec.e (row op).form))
 
 -- ---- the facts of a choice
 
-abbrev pub fields_of : Tuple → Fields
+abbrev pub fields_of : ChoiceValue → Fields
 fields_of c = record { op = c.op; rd = c.rd; rs1 = c.rs1; rs2 = c.rs2; imm = c.imm }
 
 -- jalr has no rs1_val, since its base is set from a label
@@ -115,7 +115,7 @@ seen form Rs1Val value = base_value form value
 seen form _ value = value
 
 -- those of its fields where its registers read its words
-abbrev pub table_of : Tuple → Table
+abbrev pub table_of : ChoiceValue → Table
 table_of c =
     let facts = facts_of (fields_of c) c.w1 c.w2 in
     record { reg = facts.reg; num = λ name. seen (row c.op).form name (facts.num name) }

@@ -7,12 +7,12 @@ use Rattle.rvs_insn.specs.Table.{row}
 use Rattle.rvs_expr.specs.Typed.{Formula}
 use Rattle.rvs_solver.specs.Truth.{constants_in, only_numbers, part_of}
 use Rattle.rvs_solver.specs.declared.operand.Operand.{Operand}
-use Rattle.rvs_solver.specs.Choices.{Tuple}
+use Rattle.rvs_solver.specs.Choices.{ChoiceValue}
 use Rattle.rvs_solver.specs.Bound.{first_registers, operands, fixed_names}
 use Rattle.rvs_solver.specs.Walk.{base_of, second_w1s, second_w2s}
 
 -- the format, the part of the expression, the first registers and the lists of operands of a mnemonic
-pub record Held (spec : Isa) (op : Op) (e : Formula) (form : Format) (part : Option Formula) (base : Tuple) (ops : List Operand) (w1s w2s : List ℕ) : Type 0 where
+pub record Held (spec : Isa) (op : Op) (e : Formula) (form : Format) (part : Option Formula) (base : ChoiceValue) (ops : List Operand) (w1s w2s : List ℕ) : Type 0 where
   pub numbers : only_numbers e ≡ true
   pub form_is : form ≡ (row op).form
   pub part_is : part ≡ part_of (fixed_names form) e

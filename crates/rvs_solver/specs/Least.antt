@@ -8,7 +8,7 @@ use Rattle.rvs_cgf.specs.declared.group.Kind.TheVariants.{Rd, Rs1}
 use Rattle.rvs_cgf.specs.Groups.{Meaning}
 use Rattle.rvs_cgf.specs.Groups.{op_is, reg_is, regs, nums}
 use Rattle.rvs_solver.specs.Point.{is_register}
-use Rattle.rvs_solver.specs.Choices.{Registers, Numbers, Tuple, tuple, is_zero, is_same}
+use Rattle.rvs_solver.specs.Choices.{Registers, Numbers, ChoiceValue, choice_of, is_zero, is_same}
 
 abbrev pub least_imm : Format → Option ℤ
 least_imm R = None
@@ -38,13 +38,13 @@ abbrev pub least_numbers : Format → Bool → Bool → Bool → Numbers
 least_numbers form zero1 zero2 same =
     record { imm = least_imm form; align = 0; w1 = least_w1 form zero1; w2 = least_w2 form zero2 same (least_w1 form zero1) }
 
-abbrev pub least : Op → Format → Registers → Tuple
-least op form r = tuple op r (least_numbers form (is_zero r.rs1) (is_zero r.rs2) (is_same r.rs1 r.rs2))
+abbrev pub least : Op → Format → Registers → ChoiceValue
+least op form r = choice_of op r (least_numbers form (is_zero r.rs1) (is_zero r.rs2) (is_same r.rs1 r.rs2))
 
-abbrev pub at_rs1 : Op → Format → List (Option ℕ) → Option ℕ → Option ℕ → List Tuple
+abbrev pub at_rs1 : Op → Format → List (Option ℕ) → Option ℕ → Option ℕ → List ChoiceValue
 at_rs1 op form rs2s rd rs1 = map (λ rs2. least op form (record { rd = rd; rs1 = rs1; rs2 = rs2 })) rs2s
 
-abbrev pub at_rd : Op → Format → List (Option ℕ) → List (Option ℕ) → Option ℕ → List Tuple
+abbrev pub at_rd : Op → Format → List (Option ℕ) → List (Option ℕ) → Option ℕ → List ChoiceValue
 at_rd op form rs1s rs2s rd = flat_map (at_rs1 op form rs2s rd) rs1s
 
 -- how many evaluations one test of a choice costs

@@ -7,19 +7,19 @@ use Rattle.rvs_cgf.specs.declared.group.Kind.{Kind}
 use Rattle.rvs_cgf.specs.declared.group.Kind.TheVariants.{Rs1, Rs2, Rd}
 use Rattle.rvs_cgf.specs.Groups.{Meaning}
 use Rattle.rvs_cgf.specs.Groups.{op_is, reg_is, regs, nums}
-use Rattle.rvs_solver.specs.Choices.{Tuple, table_of}
+use Rattle.rvs_solver.specs.Choices.{ChoiceValue, table_of}
 
 abbrev pub is_register : ℕ → Option ℕ → Bool
 is_register r (Some field) = field == r
 is_register r None = false
 
-abbrev pub field_of : Kind → Tuple → Option ℕ
+abbrev pub field_of : Kind → ChoiceValue → Option ℕ
 field_of Rd c = c.rd
 field_of Rs1 c = c.rs1
 field_of Rs2 c = c.rs2
 field_of _ c = None
 
-abbrev pub hits : Kind → Meaning → Tuple → Bool
+abbrev pub hits : Kind → Meaning → ChoiceValue → Bool
 hits kind (op_is op) c = bytes_eq (row c.op).name (row op).name
 hits kind (reg_is r) c = is_register r (field_of kind c)
 hits kind (regs e) c = holds e (table_of c)

@@ -27,9 +27,9 @@ pub struct Choice {
 
 impl Model for Choice {
     ghost use Rattle.rvs_insn.specs.Fields.{IsRegister};
-    ghost use Rattle.rvs_solver.specs.Choices.{Tuple};
+    ghost use Rattle.rvs_solver.specs.Choices.{ChoiceValue};
 
-    ghost Value = { Tuple };
+    ghost Value = { ChoiceValue };
 
     ghost view = { λ c. record { op = c.op; rd = c.rd; rs1 = c.rs1; rs2 = c.rs2; imm = c.imm; align = c.align; w1 = c.w1; w2 = c.w2 } };
 

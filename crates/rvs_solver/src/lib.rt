@@ -5,9 +5,11 @@ mod choice;
 mod datasets;
 mod operand;
 mod registers;
+mod solved;
 mod solving;
 mod truth;
 mod values;
 mod walk;
 
 pub use choice::Choice;
+pub use solved::Solved;

@@ -1,10 +1,10 @@
 // The first choice that hits a point.
-ghost use Rattle.std.specs.Prelude.{◌≡◌, [], ◌+◌, ◌*◌, ◌≤◌, true, false, IfOk, IfNone, find, flat_map, sum_by};
+ghost use Rattle.std.specs.Prelude.{◌≡◌, [], ◌+◌, ◌*◌, ◌≤◌, true, false, IfOk, IfNone, IfSome, find, flat_map, sum_by};
 ghost use Rattle.rvs_insn.specs.Table.{row};
 ghost use Rattle.rvs_cgf.specs.GroupView.{meaning_view};
-ghost use Rattle.rvs_solver.specs.Choices.{choices, Tuple};
+ghost use Rattle.rvs_solver.specs.Choices.{choices, ChoiceValue};
 ghost use Rattle.rvs_solver.specs.Point.{hits, is_valid, is_on_values, constants_of};
-ghost use Rattle.rvs_solver.specs.First.{all_choices, first_choice, Solvable};
+ghost use Rattle.rvs_solver.specs.First.{all_choices, first_choice, Solvable, HasOneWordEach};
 ghost use Rattle.rvs_solver.specs.Bound.{bound_of, bound, register_bound};
 
 use crate::choice::Choice;
@@ -12,11 +12,37 @@ use crate::datasets::{rds, rs1s, rs2s};
 use crate::registers::first_over_rds;
 use crate::values::first_value;
 use rvs_base::NoMemory;
-use rvs_cgf::{Kind, Meaning};
+use rvs_cgf::{Kind, Meaning, Point};
 use rvs_expr::Steps;
 use rvs_insn::{Format, IsaSpec, Op, format};
 use std::alloc::Global;
 use std::sync::ledger::Ledger;
+
+/// The first choice over some mnemonics that hits a point.
+pub(crate) fn solve_point<L: Ledger>(
+    alloc: Global,
+    ops: &[Op],
+    point: &Point,
+    spec: &IsaSpec,
+    steps: &mut Steps<L>,
+) -> Result<Option<Choice>, NoMemory>
+    requires { is_valid (meaning_view point.now.meaning) ≡ true }
+    ensures first {
+        IfOk result (λ c.
+            c ≡ first_choice spec.now ops.now point.now.kind (meaning_view point.now.meaning))
+    }
+    ensures none {
+        IfOk result (λ c. IfNone c
+            (Solvable spec.now ops.now point.now.kind (meaning_view point.now.meaning) → ⊥))
+    }
+    ensures words { IfOk result (λ c. IfSome c HasOneWordEach) }
+    ensures cost {
+        IfOk result (λ c.
+            steps.new ≤ steps.old + bound spec.now ops.now (meaning_view point.now.meaning))
+    }
+{
+    first_of_ops(alloc, ops, point.kind, &point.meaning, spec, steps)
+}
 
 fn first_of_ops<L: Ledger>(
     alloc: Global,
