@@ -12,6 +12,5 @@ pub mod Low
 pub mod Calls
 pub mod RegisterCalls
 pub mod Others
-pub mod Narrow
 pub mod OneWord
 pub mod Rows

@@ -10,7 +10,8 @@ use Rattle.rvs_insn.specs.Table.{row}
 use Rattle.rvs_expr_text.specs.declared.lexeme.NumName.{NumName}
 use Rattle.rvs_expr.specs.Typed.{Formula}
 use Rattle.rvs_expr.specs.Meaning.{Table}
-use Rattle.rvs_solver.specs.Truth.{num_at, holds, only_numbers, holds_within, part_of}
+use Rattle.rvs_expr.specs.Only.{only_numbers}
+use Rattle.rvs_solver.specs.Truth.{num_at, holds, holds_within, part_of}
 use Rattle.rvs_solver.proofs.Framing.{frame_within, whole_within, part_holds, no_part}
 use Rattle.rvs_solver.specs.declared.operand.Operand.{Operand}
 use Rattle.rvs_solver.specs.Datasets.{words, immediates, immediate_numbers, alignments}

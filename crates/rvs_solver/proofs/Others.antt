@@ -8,7 +8,8 @@ use Rattle.rvs_cgf.specs.declared.group.Kind.TheVariants.{Rd, Rs1}
 use Rattle.rvs_cgf.specs.Groups.{Meaning}
 use Rattle.rvs_cgf.specs.Groups.{reg_is}
 use Rattle.rvs_solver.specs.Choices.{Registers}
-use Rattle.rvs_solver.specs.Point.{hits, is_register}
+use Rattle.rvs_cgf.specs.Hits.{is_register}
+use Rattle.rvs_solver.specs.Point.{hits}
 use Rattle.rvs_solver.specs.Least.{least, at_rs1, at_rd, asks_other_rd, asks_other_rs1}
 use Rattle.rvs_solver.proofs.Search.{all_none}
 use Rattle.rvs_solver.proofs.Product.{each_any}

@@ -9,8 +9,9 @@ use Rattle.rvs_insn.specs.Table.{row}
 use Rattle.rvs_expr_text.specs.declared.lexeme.NumName.{NumName}
 use Rattle.rvs_expr_text.specs.declared.lexeme.NumName.TheVariants.{Rs1Val, Rs2Val, ImmVal, EaAlign}
 use Rattle.rvs_expr.specs.Typed.{Formula}
-use Rattle.rvs_solver.specs.Facts.{read, alignment}
-use Rattle.rvs_solver.specs.Truth.{num_at, only_numbers}
+use Rattle.rvs_expr.specs.Only.{only_numbers}
+use Rattle.rvs_facts.specs.Facts.{value_of, alignment}
+use Rattle.rvs_solver.specs.Truth.{num_at}
 use Rattle.rvs_solver.proofs.Framing.{frame}
 use Rattle.rvs_solver.specs.Datasets.{rds, rs1s, rs2s, immediates, alignments}
 use Rattle.rvs_solver.specs.Choices.{Registers, Numbers, ChoiceValue, choice_of, table_of, base_value, is_same, is_kept, w1s, w2s, at_word, at_alignment, at_immediate, numbers, registers, with_registers, choices}
@@ -132,17 +133,17 @@ registers_shaped few form =
 
 -- ---- values don't depend on which registers hold them
 
-some_same : {K : Type 0} (k : K) (a b : Option ℕ) → is_some a ≡ is_some b → option_map (λ r. k) a ≡ option_map (λ r. k) b
-some_same k (Some a) (Some b) h = refl
-some_same k (Some a) None h = cc
-some_same k None (Some b) h = cc
-some_same k None None h = refl
+same_value : (unsigned : Bool) (w : ℕ) (a b : Option ℕ) → is_some a ≡ is_some b → value_of unsigned a w ≡ value_of unsigned b w
+same_value unsigned w (Some a) (Some b) h = refl
+same_value unsigned w (Some a) None h = cc
+same_value unsigned w None (Some b) h = cc
+same_value unsigned w None None h = refl
 
 same_number : (op : Op) (first r : Registers) (n : Numbers) → Shaped first r → (name : NumName) → num_at (table_of (choice_of op r n)) name ≡ num_at (table_of (choice_of op first n)) name
-same_number op first r n s Rs1Val = ap (base_value (row op).form) (some_same (read (row op).unsigned1 n.w1) r.rs1 first.rs1 s.in_rs1)
-same_number op first r n s Rs2Val = some_same (read (row op).unsigned2 n.w2) r.rs2 first.rs2 s.in_rs2
+same_number op first r n s Rs1Val = ap (base_value (row op).form) (same_value (row op).unsigned1 n.w1 r.rs1 first.rs1 s.in_rs1)
+same_number op first r n s Rs2Val = same_value (row op).unsigned2 n.w2 r.rs2 first.rs2 s.in_rs2
 same_number op first r n s ImmVal = refl
-same_number op first r n s EaAlign = ap (λ v. alignment (row op).form v n.imm) (some_same (read (row op).unsigned1 n.w1) r.rs1 first.rs1 s.in_rs1)
+same_number op first r n s EaAlign = ap (λ v. alignment (row op).form v n.imm) (same_value (row op).unsigned1 n.w1 r.rs1 first.rs1 s.in_rs1)
 
 pub same_truth : (op : Op) (e : Formula) (first r : Registers) (n : Numbers) → only_numbers e ≡ true → Shaped first r → is_true_at e (choice_of op r n) ≡ is_true_at e (choice_of op first n)
 same_truth op e first r n num s = frame e (table_of (choice_of op r n)) (table_of (choice_of op first n)) num (λ name used. same_number op first r n s name)

@@ -9,11 +9,12 @@ use Rattle.rvs_insn.specs.Table.{row}
 use Rattle.rvs_cgf.specs.declared.group.Kind.{Kind}
 use Rattle.rvs_cgf.specs.Groups.{Meaning}
 use Rattle.rvs_cgf.specs.Groups.{op_is, reg_is, regs, nums}
+use Rattle.rvs_cgf.specs.Hits.{steps_of}
 use Rattle.rvs_solver.specs.Datasets.{rds, rs1s, rs2s}
 use Rattle.rvs_solver.specs.Choices.{choices}
 use Rattle.rvs_solver.specs.Point.{hits, is_valid, is_on_values}
 use Rattle.rvs_solver.specs.Bound.{bound_of, register_bound}
-use Rattle.rvs_solver.specs.Least.{at_rd, test_cost}
+use Rattle.rvs_solver.specs.Least.{at_rd}
 use Rattle.rvs_solver.proofs.RegisterPoints.{register_is, not_system}
 
 has_choice : (form : Format) → (form ≡ System → ⊥) → not_system form ≡ true
@@ -51,7 +52,7 @@ unfolding not_system
 bound_is spec System h = cc
 bound_is spec _ h = refl
 
-pub register_cost_call : (spec : Isa) (op : Op) (form : Format) (a b d : List (Option ℕ)) (meaning : Meaning) → Orders spec op form a b d → is_on_values meaning ≡ false → length a * (length b * (length d * test_cost meaning)) ≤ bound_of spec meaning op
+pub register_cost_call : (spec : Isa) (op : Op) (form : Format) (a b d : List (Option ℕ)) (meaning : Meaning) → Orders spec op form a b d → is_on_values meaning ≡ false → length a * (length b * (length d * steps_of meaning)) ≤ bound_of spec meaning op
 register_cost_call spec op form a b d (op_is key) o not_values = no_cost (length a) (length b) (length d)
 register_cost_call spec op form a b d (reg_is key) o not_values = no_cost (length a) (length b) (length d)
 register_cost_call spec op form a b d (regs e) o not_values =

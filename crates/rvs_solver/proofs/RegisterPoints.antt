@@ -10,21 +10,22 @@ use Rattle.rvs_insn.specs.declared.op.Op.{Op}
 use Rattle.rvs_insn.specs.declared.op.Op.TheVariants.{Lb}
 use Rattle.rvs_insn.specs.Isa.{Isa}
 use Rattle.rvs_insn.specs.Table.{row}
-use Rattle.rvs_solver.proofs.Framing.{register_frame}
+use Rattle.rvs_expr.proofs.Frames.{register_frame}
+use Rattle.rvs_cgf.specs.Hits.{is_register, field_of}
 use Rattle.rvs_cgf.specs.declared.group.Kind.{Kind}
 use Rattle.rvs_cgf.specs.declared.group.Kind.TheVariants.{Rd}
 use Rattle.rvs_cgf.specs.Groups.{Meaning}
 use Rattle.rvs_cgf.specs.Groups.{op_is, reg_is, regs, nums}
 use Rattle.rvs_solver.specs.Datasets.{rds, rs1s, rs2s, words, base_words, immediates, alignments, aligned, dataset, distance_list}
 use Rattle.rvs_solver.specs.Choices.{Registers, Numbers, choice_of, table_of, is_same, is_zero, has_one_word, is_kept, at_alignment, at_immediate, numbers, registers, with_registers, choices}
-use Rattle.rvs_solver.specs.Point.{hits, is_valid, is_on_values, is_register, field_of}
+use Rattle.rvs_solver.specs.Point.{hits, is_valid, is_on_values}
 use Rattle.rvs_solver.specs.Least.{least_imm, least_numbers, least, at_rd}
 use Rattle.rvs_solver.proofs.Search.{Each, map_flat, map_map, flat_same, find_filter, find_map, find_same, each_finds, all_none, by_test}
 use Rattle.rvs_solver.proofs.Product.{Begins, each_of, each_flat, each_map, each_any, all_of, and_false}
 
 -- ---- such a point doesn't depend on the numbers
 
-same_field : (kind : Kind) (op : Op) (r : Registers) (n m : Numbers) → field_of kind (choice_of op r n) ≡ field_of kind (choice_of op r m)
+same_field : (kind : Kind) (op : Op) (r : Registers) (n m : Numbers) → field_of kind (table_of (choice_of op r n)) ≡ field_of kind (table_of (choice_of op r m))
 same_field Rd op r n m = refl
 same_field _ op r n m = refl
 

@@ -8,7 +8,8 @@ use Rattle.rvs_insn.specs.declared.op.Op.{Op}
 use Rattle.rvs_insn.specs.Isa.{Isa}
 use Rattle.rvs_insn.specs.Table.{row}
 use Rattle.rvs_expr.specs.Typed.{Formula}
-use Rattle.rvs_solver.specs.Truth.{num_at, only_numbers, part_of}
+use Rattle.rvs_expr.specs.Only.{only_numbers}
+use Rattle.rvs_solver.specs.Truth.{num_at, part_of}
 use Rattle.rvs_solver.specs.declared.operand.Operand.{Operand}
 use Rattle.rvs_solver.specs.Datasets.{words, immediates, alignments, address}
 use Rattle.rvs_solver.specs.Choices.{Registers, Numbers, ChoiceValue, choice_of, table_of, is_same, is_zero, has_one_word, is_kept, at_immediate, numbers, registers, with_registers, choices}

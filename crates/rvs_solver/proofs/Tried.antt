@@ -12,8 +12,9 @@ use Rattle.rvs_insn.specs.Table.{row}
 use Rattle.rvs_expr_text.specs.declared.lexeme.NumName.{NumName}
 use Rattle.rvs_expr_text.specs.declared.lexeme.NumName.TheVariants.{Rs1Val, Rs2Val, ImmVal, EaAlign}
 use Rattle.rvs_expr.specs.Typed.{Formula}
-use Rattle.rvs_solver.specs.Facts.{alignment}
-use Rattle.rvs_solver.specs.Truth.{num_at, only_numbers, uses}
+use Rattle.rvs_expr.specs.Only.{only_numbers}
+use Rattle.rvs_facts.specs.Facts.{alignment}
+use Rattle.rvs_solver.specs.Truth.{num_at, uses}
 use Rattle.rvs_solver.proofs.Framing.{frame}
 use Rattle.rvs_solver.specs.declared.operand.Operand.{Operand}
 use Rattle.rvs_solver.specs.Datasets.{immediates, alignments}

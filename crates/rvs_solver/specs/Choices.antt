@@ -9,7 +9,7 @@ use Rattle.rvs_insn.specs.Fields.{Fields}
 use Rattle.rvs_expr_text.specs.declared.lexeme.NumName.{NumName}
 use Rattle.rvs_expr_text.specs.declared.lexeme.NumName.TheVariants.{Rs1Val}
 use Rattle.rvs_expr.specs.Meaning.{Table}
-use Rattle.rvs_solver.specs.Facts.{facts_of}
+use Rattle.rvs_facts.specs.Facts.{facts_of}
 use Rattle.rvs_solver.specs.Datasets.{rds, rs1s, rs2s, words, immediates, alignments, address}
 
 -- a choice
@@ -114,8 +114,9 @@ abbrev pub seen : Format → NumName → Option ℤ → Option ℤ
 seen form Rs1Val value = base_value form value
 seen form _ value = value
 
+abbrev pub without_base : Format → Table → Table
+without_base form facts = record { reg = facts.reg; num = λ name. seen form name (facts.num name) }
+
 -- those of its fields where its registers read its words
 abbrev pub table_of : ChoiceValue → Table
-table_of c =
-    let facts = facts_of (fields_of c) c.w1 c.w2 in
-    record { reg = facts.reg; num = λ name. seen (row c.op).form name (facts.num name) }
+table_of c = without_base (row c.op).form (facts_of (fields_of c) c.w1 c.w2)

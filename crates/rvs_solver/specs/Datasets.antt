@@ -8,7 +8,7 @@ use Rattle.rvs_insn.specs.declared.op.Op.{Op}
 use Rattle.rvs_insn.specs.declared.op.Op.TheVariants.{Lb, Lbu, Sb, Lh, Lhu, Sh}
 use Rattle.rvs_insn.specs.Isa.{Isa}
 use Rattle.rvs_insn.specs.Word.{low_bits}
-use Rattle.rvs_solver.specs.Facts.{read}
+use Rattle.rvs_facts.specs.Facts.{number_of}
 
 -- ---- registers
 
@@ -77,7 +77,7 @@ highest false = pos 0x7fff_ffff
 
 -- the values of a register operand, as it reads them
 abbrev pub values : Bool → List ℤ → List ℤ
-values unsigned constants = dataset (map (read unsigned) base_words) (lowest unsigned) (highest unsigned) constants
+values unsigned constants = dataset (map (number_of unsigned) base_words) (lowest unsigned) (highest unsigned) constants
 
 -- their words
 abbrev pub words : Bool → List ℤ → List ℕ

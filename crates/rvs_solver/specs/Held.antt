@@ -5,7 +5,8 @@ use Rattle.rvs_insn.specs.declared.op.Op.{Op}
 use Rattle.rvs_insn.specs.Isa.{Isa}
 use Rattle.rvs_insn.specs.Table.{row}
 use Rattle.rvs_expr.specs.Typed.{Formula}
-use Rattle.rvs_solver.specs.Truth.{constants_in, only_numbers, part_of}
+use Rattle.rvs_expr.specs.Only.{only_numbers}
+use Rattle.rvs_solver.specs.Truth.{constants_in, part_of}
 use Rattle.rvs_solver.specs.declared.operand.Operand.{Operand}
 use Rattle.rvs_solver.specs.Choices.{ChoiceValue}
 use Rattle.rvs_solver.specs.Bound.{first_registers, operands, fixed_names}

@@ -7,7 +7,7 @@ use Rattle.rvs_cgf.specs.declared.group.Kind.{Kind}
 use Rattle.rvs_cgf.specs.declared.group.Kind.TheVariants.{Rd, Rs1}
 use Rattle.rvs_cgf.specs.Groups.{Meaning}
 use Rattle.rvs_cgf.specs.Groups.{op_is, reg_is, regs, nums}
-use Rattle.rvs_solver.specs.Point.{is_register}
+use Rattle.rvs_cgf.specs.Hits.{is_register}
 use Rattle.rvs_solver.specs.Choices.{Registers, Numbers, ChoiceValue, choice_of, is_zero, is_same}
 
 abbrev pub least_imm : Format → Option ℤ
@@ -46,13 +46,6 @@ at_rs1 op form rs2s rd rs1 = map (λ rs2. least op form (record { rd = rd; rs1 =
 
 abbrev pub at_rd : Op → Format → List (Option ℕ) → List (Option ℕ) → Option ℕ → List ChoiceValue
 at_rd op form rs1s rs2s rd = flat_map (at_rs1 op form rs2s rd) rs1s
-
--- how many evaluations one test of a choice costs
-abbrev pub test_cost : Meaning → ℕ
-test_cost (op_is op) = 0
-test_cost (reg_is r) = 0
-test_cost (regs e) = 1
-test_cost (nums e) = 1
 
 -- the point asks for another register than this one
 abbrev pub asks_other_rd : Kind → Meaning → Option ℕ → Bool

@@ -1,5 +1,4 @@
 pub mod Truth
-pub mod Facts
 pub mod Datasets
 pub mod Choices
 pub mod Point

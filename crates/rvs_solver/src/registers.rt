@@ -4,15 +4,15 @@ ghost use Rattle.std.specs.Prelude.{◌≡◌, ◌+◌, ◌*◌, ◌≤◌, ◌<
 ghost use Rattle.rvs_insn.specs.Table.{row};
 ghost use Rattle.rvs_insn.specs.Fields.{IsRegister};
 ghost use Rattle.rvs_cgf.specs.GroupView.{meaning_view};
+ghost use Rattle.rvs_cgf.specs.Hits.{is_register, steps_of};
 ghost use Rattle.rvs_solver.specs.Choices.{is_zero, is_same};
-ghost use Rattle.rvs_solver.specs.Point.{hits, is_register, field_of};
-ghost use Rattle.rvs_solver.specs.Least.{least, least_imm, least_w1, least_w2, at_rs1, at_rd, test_cost, asks_other_rd, asks_other_rs1};
+ghost use Rattle.rvs_solver.specs.Point.{hits};
+ghost use Rattle.rvs_solver.specs.Least.{least, least_imm, least_w1, least_w2, at_rs1, at_rd, asks_other_rd, asks_other_rs1};
 
 use crate::choice::Choice;
-use crate::truth::is_true;
-use rvs_cgf::{Kind, Meaning};
+use rvs_cgf::{Kind, Meaning, is_meant};
 use rvs_expr::Steps;
-use rvs_insn::{Format, Op, format, op_name};
+use rvs_insn::{Format, Op, format};
 use std::sync::ledger::Ledger;
 
 /// The first of these registers with which a choice hits the point.
@@ -29,7 +29,7 @@ pub(crate) fn first_over_rds<L: Ledger>(
     requires rs1 { All IsRegister rs1s.now }
     requires rs2 { All IsRegister rs2s.now }
     ensures first { result ≡ find (hits kind (meaning_view meaning.now)) (flat_map (at_rd op (row op).form rs1s.now rs2s.now) rds.now) }
-    ensures cost { steps.new ≤ steps.old + length rds.now * (length rs1s.now * (length rs2s.now * test_cost (meaning_view meaning.now))) }
+    ensures cost { steps.new ≤ steps.old + length rds.now * (length rs1s.now * (length rs2s.now * steps_of (meaning_view meaning.now))) }
 {
     for rd in rds {
         match first_at_rd(kind, meaning, op, *rd, rs1s, rs2s, steps) {
@@ -54,7 +54,7 @@ fn first_at_rd<L: Ledger>(
     requires rs1 { All IsRegister rs1s.now }
     requires rs2 { All IsRegister rs2s.now }
     ensures first { result ≡ find (hits kind (meaning_view meaning.now)) (at_rd op (row op).form rs1s.now rs2s.now rd) }
-    ensures cost { steps.new ≤ steps.old + length rs1s.now * (length rs2s.now * test_cost (meaning_view meaning.now)) }
+    ensures cost { steps.new ≤ steps.old + length rs1s.now * (length rs2s.now * steps_of (meaning_view meaning.now)) }
 {
     if asks_other_rd(kind, meaning, rd) {
         None
@@ -76,7 +76,7 @@ fn first_over_rs1s<L: Ledger>(
     requires rs1 { All IsRegister rs1s.now }
     requires rs2 { All IsRegister rs2s.now }
     ensures first { result ≡ find (hits kind (meaning_view meaning.now)) (at_rd op (row op).form rs1s.now rs2s.now rd) }
-    ensures cost { steps.new ≤ steps.old + length rs1s.now * (length rs2s.now * test_cost (meaning_view meaning.now)) }
+    ensures cost { steps.new ≤ steps.old + length rs1s.now * (length rs2s.now * steps_of (meaning_view meaning.now)) }
 {
     for rs1 in rs1s {
         match first_at_rs1(kind, meaning, op, rd, *rs1, rs2s, steps) {
@@ -101,7 +101,7 @@ fn first_at_rs1<L: Ledger>(
     requires rs1 { IsRegister rs1 }
     requires rs2 { All IsRegister rs2s.now }
     ensures first { result ≡ find (hits kind (meaning_view meaning.now)) (at_rs1 op (row op).form rs2s.now rd rs1) }
-    ensures cost { steps.new ≤ steps.old + length rs2s.now * test_cost (meaning_view meaning.now) }
+    ensures cost { steps.new ≤ steps.old + length rs2s.now * steps_of (meaning_view meaning.now) }
 {
     if asks_other_rs1(kind, meaning, rs1) {
         None
@@ -141,28 +141,15 @@ fn first_over_rs2s<L: Ledger>(
     requires rs1 { IsRegister rs1 }
     requires rs2 { All IsRegister rs2s.now }
     ensures first { result ≡ find (hits kind (meaning_view meaning.now)) (at_rs1 op (row op).form rs2s.now rd rs1) }
-    ensures cost { steps.new ≤ steps.old + length rs2s.now * test_cost (meaning_view meaning.now) }
+    ensures cost { steps.new ≤ steps.old + length rs2s.now * steps_of (meaning_view meaning.now) }
 {
     for rs2 in rs2s {
         let choice = least(op, rd, rs1, *rs2);
-        if is_hit(kind, meaning, &choice, steps) {
+        if is_meant(kind, meaning, choice.op, &choice, steps) {
             return Some(choice);
         }
     }
     None
-}
-
-/// Whether the choice hits the point.
-fn is_hit<L: Ledger>(kind: Kind, meaning: &Meaning, choice: &Choice, steps: &mut Steps<L>) -> bool
-    ensures value { result ≡ hits kind (meaning_view meaning.now) choice.now }
-    ensures cost { steps.new ≤ steps.old + test_cost (meaning_view meaning.now) }
-{
-    match meaning {
-        Meaning::OpIs(op) => op_name(choice.op) == op_name(*op),
-        Meaning::RegIs(register) => is_register(*register, field_of(kind, choice)),
-        Meaning::Regs(expr) => is_true(expr, choice, steps),
-        Meaning::Nums(expr) => is_true(expr, choice, steps),
-    }
 }
 
 fn is_register(register: u8, field: Option<u8>) -> bool
@@ -171,17 +158,6 @@ fn is_register(register: u8, field: Option<u8>) -> bool
     match field {
         Some(field) => field == register,
         None => false,
-    }
-}
-
-fn field_of(kind: Kind, choice: &Choice) -> Option<u8>
-    ensures { result ≡ field_of kind choice.now }
-{
-    match kind {
-        Kind::Rd => choice.rd,
-        Kind::Rs1 => choice.rs1,
-        Kind::Rs2 => choice.rs2,
-        _ => None,
     }
 }
 

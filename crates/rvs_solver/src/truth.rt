@@ -28,7 +28,7 @@ pub(crate) fn uses(expr: &Expr, name: NumName) -> bool
 }
 
 /// The constants of the expression.
-#[tactic(auto, using(crate::proofs::Narrow::constants_narrow), unfolding(crate::specs::Truth::constants_in))]
+#[tactic(auto, unfolding(crate::specs::Truth::constants_in))]
 pub(crate) fn constants(expr: &Expr) -> &[i64]
     ensures value { result.now ≡ constants_in (view expr.now) }
     ensures narrow { All IsNarrow result.now }

@@ -2,8 +2,9 @@ use Rattle.std.proofs.Common.{◌*◌, length, arith}
 use Rattle.std.specs.Prelude.{find, flat_map}
 use Rattle.rvs_insn.specs.Table.{row}
 use Rattle.rvs_cgf.specs.GroupView.{meaning_view}
+use Rattle.rvs_cgf.specs.Hits.{steps_of}
 use Rattle.rvs_solver.specs.Point.{hits}
-use Rattle.rvs_solver.specs.Least.{at_rd, test_cost}
+use Rattle.rvs_solver.specs.Least.{at_rd}
 use Rattle.rvs_solver.proofs.Turns.{turn_found, turn_none, within_rows}
 use Rattle.rvs_solver.proofs.registers.first_over_rds.Goals as goal
 
@@ -17,4 +18,4 @@ loop-rd-preserved g c = record {
 }
 
 pub returns-in-Some-clause-cost : goal.returns-in-Some-clause-cost
-returns-in-Some-clause-cost g c = within_rows c.first_at_rd.new.steps c.loop-rd.steps c.args.steps.now c.loop-rd.rd-index (length c.args.rds.now) (length c.args.rs1s.now * (length c.args.rs2s.now * test_cost (meaning_view c.args.meaning.now))) (omega arith) c.loop-rd.invariant.cost c.in-Some.ensures.cost
+returns-in-Some-clause-cost g c = within_rows c.first_at_rd.new.steps c.loop-rd.steps c.args.steps.now c.loop-rd.rd-index (length c.args.rds.now) (length c.args.rs1s.now * (length c.args.rs2s.now * steps_of (meaning_view c.args.meaning.now))) (omega arith) c.loop-rd.invariant.cost c.in-Some.ensures.cost
