@@ -14,3 +14,4 @@ pub mod RegisterCalls
 pub mod Others
 pub mod OneWord
 pub mod Rows
+pub mod Labels

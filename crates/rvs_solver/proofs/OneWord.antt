@@ -1,5 +1,5 @@
 -- What is found was kept, and hits.
-use Rattle.std.proofs.Common.{◌≡◌, ℕ, Bool, true, false, not, ◌&&◌, ◌||◌, cond, List, [], ◌∷◌, Option, Some, None, refl, sym, ap, subst, ◌∙◌}
+use Rattle.std.proofs.Common.{◌≡◌, Bool, true, false, not, ◌&&◌, ◌||◌, cond, List, [], ◌∷◌, Option, Some, None, refl, sym, ap, subst, ◌∙◌}
 use Rattle.std.specs.Prelude.{ℤ, ◌==◌, find, filter, flat_map, IfOk, IfSome, Result, Ok, Err}
 use Rattle.std.proofs.lemmas.Bool.{eqb-true, eq-eqb}
 use Rattle.rvs_insn.specs.declared.op.Op.{Op}
@@ -10,7 +10,7 @@ use Rattle.rvs_cgf.specs.Groups.{Meaning}
 use Rattle.rvs_solver.specs.Choices.{ChoiceValue, is_same, is_zero, is_kept, registers, with_registers, choices}
 use Rattle.rvs_solver.specs.Point.{hits, constants_of}
 use Rattle.rvs_solver.specs.First.{all_choices, first_choice, HasOneWordEach}
-use Rattle.rvs_solver.proofs.Search.{Each, by_test}
+use Rattle.rvs_solver.proofs.Search.{Each}
 use Rattle.rvs_solver.proofs.Product.{each_flat, each_any}
 
 -- ---- what a search finds

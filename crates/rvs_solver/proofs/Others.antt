@@ -1,5 +1,5 @@
 -- Where a point asks for another register, nothing is found at this one.
-use Rattle.std.proofs.Common.{◌≡◌, ℕ, Bool, true, false, not, List, Option, Some, None, sym}
+use Rattle.std.proofs.Common.{◌≡◌, ℕ, true, List, Option, None, sym}
 use Rattle.std.specs.Prelude.{find}
 use Rattle.rvs_insn.specs.declared.op.Format.{Format}
 use Rattle.rvs_insn.specs.declared.op.Op.{Op}
@@ -7,7 +7,6 @@ use Rattle.rvs_cgf.specs.declared.group.Kind.{Kind}
 use Rattle.rvs_cgf.specs.declared.group.Kind.TheVariants.{Rd, Rs1}
 use Rattle.rvs_cgf.specs.Groups.{Meaning}
 use Rattle.rvs_cgf.specs.Groups.{reg_is}
-use Rattle.rvs_solver.specs.Choices.{Registers}
 use Rattle.rvs_cgf.specs.Hits.{is_register}
 use Rattle.rvs_solver.specs.Point.{hits}
 use Rattle.rvs_solver.specs.Least.{least, at_rs1, at_rd, asks_other_rd, asks_other_rs1}

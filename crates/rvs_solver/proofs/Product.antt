@@ -1,6 +1,6 @@
 -- The search for a value point in all choices of a mnemonic is a search in the product of its operands.
 use Rattle.std.proofs.Common.{◌≡◌, ℕ, Bool, true, false, not, ◌&&◌, cond, List, [], ◌∷◌, ◌++◌, map, drop, Option, Some, None, refl, sym, ap, ◌∙◌, subst}
-use Rattle.std.specs.Prelude.{ℤ, find, flat_map, option_map, is_some}
+use Rattle.std.specs.Prelude.{ℤ, find, flat_map, is_some}
 use Rattle.rvs_insn.specs.declared.op.Format.{Format}
 use Rattle.rvs_insn.specs.declared.op.Format.TheVariants.{R, Store}
 use Rattle.rvs_insn.specs.declared.op.Op.{Op}

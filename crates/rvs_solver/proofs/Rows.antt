@@ -1,7 +1,7 @@
 -- Bounds of some points, computed.
-use Rattle.std.proofs.Common.{◌≡◌, true, false, List, [], ◌∷◌, refl}
+use Rattle.std.proofs.Common.{◌≡◌, true, false, [], ◌∷◌, refl}
 use Rattle.std.specs.Prelude.{ℤ, pos, negsuc}
-use Rattle.rvs_insn.specs.declared.op.Op.TheVariants.{Mul, Div, Beq, Sw, Sh, Sb, Lb, Addi, Fence, Jalr, Sltiu, Add}
+use Rattle.rvs_insn.specs.declared.op.Op.TheVariants.{Mul, Div, Beq, Sw, Sb, Lb, Addi, Fence, Jalr, Sltiu, Add}
 use Rattle.rvs_insn.specs.Isa.{Isa}
 use Rattle.rvs_expr_text.specs.declared.lexeme.NumName.{NumName}
 use Rattle.rvs_expr_text.specs.declared.lexeme.NumName.TheVariants.{Rs1Val, Rs2Val, ImmVal, EaAlign}

@@ -36,7 +36,17 @@ pub record Numbers : Type 0 where
   pub w2 : ℕ
 
 abbrev pub choice_of : Op → Registers → Numbers → ChoiceValue
-choice_of op r n = record { op = op; rd = r.rd; rs1 = r.rs1; rs2 = r.rs2; imm = n.imm; align = n.align; w1 = n.w1; w2 = n.w2 }
+choice_of op r n =
+    record {
+      op = op;
+      rd = r.rd;
+      rs1 = r.rs1;
+      rs2 = r.rs2;
+      imm = n.imm;
+      align = n.align;
+      w1 = n.w1;
+      w2 = n.w2;
+    }
 
 abbrev pub is_same : Option ℕ → Option ℕ → Bool
 is_same (Some a) (Some b) = a == b
@@ -69,36 +79,44 @@ w2s op _ constants same w1 = 0 ∷ []
 
 abbrev pub at_word : Op → Format → List ℤ → Bool → Option ℤ → ℕ → ℕ → List Numbers
 at_word op form constants same imm align w1 =
-    map (λ w2. record { imm = imm; align = align; w1 = w1; w2 = w2 }) (w2s op form constants same w1)
+    map (λ w2. record { imm = imm; align = align; w1 = w1; w2 = w2 }) (w2s op form constants same
+    w1)
 
 abbrev pub at_alignment : Op → Format → List ℤ → Bool → Option ℤ → ℕ → List Numbers
-at_alignment op form constants same imm align = flat_map (at_word op form constants same imm align) (w1s op form constants imm align)
+at_alignment op form constants same imm align =
+    flat_map (at_word op form constants same imm align) (w1s op form constants imm align)
 
 abbrev pub at_immediate : Isa → Op → Format → List ℤ → Bool → Option ℤ → List Numbers
-at_immediate spec op form constants same imm = flat_map (at_alignment op form constants same imm) (alignments spec op form)
+at_immediate spec op form constants same imm =
+    flat_map (at_alignment op form constants same imm) (alignments spec op form)
 
 -- imm, align, w1, w2, the first being the most significant
 abbrev pub numbers : Isa → Op → Format → List ℤ → Bool → List Numbers
-numbers spec op form constants same = flat_map (at_immediate spec op form constants same) (immediates form constants)
+numbers spec op form constants same =
+    flat_map (at_immediate spec op form constants same) (immediates form constants)
 
 -- rd, rs1, rs2
 unfoldable pub registers : Bool → Format → List Registers
 registers few form =
-    flat_map (λ rd. flat_map (λ rs1. map (λ rs2. record { rd = rd; rs1 = rs1; rs2 = rs2 }) (rs2s few form)) (rs1s few form)) (rds few form)
+    flat_map (λ rd. flat_map (λ rs1. map (λ rs2. record { rd = rd; rs1 = rs1; rs2 = rs2 }) (rs2s few
+    form)) (rs1s few form)) (rds few form)
 
 -- x0 has the word 0, and one register has one word
 abbrev pub has_one_word : Bool → Bool → Bool → ℕ → ℕ → Bool
-has_one_word zero1 zero2 same w1 w2 = (not zero1 || w1 == 0) && (not zero2 || w2 == 0) && (not same || w1 == w2)
+has_one_word zero1 zero2 same w1 w2 =
+    (not zero1 || w1 == 0) && (not zero2 || w2 == 0) && (not same || w1 == w2)
 
 abbrev pub is_kept : ChoiceValue → Bool
 is_kept c = has_one_word (is_zero c.rs1) (is_zero c.rs2) (is_same c.rs1 c.rs2) c.w1 c.w2
 
 abbrev pub with_registers : Isa → Op → List ℤ → Registers → List ChoiceValue
-with_registers spec op constants r = map (choice_of op r) (numbers spec op (row op).form constants (is_same r.rs1 r.rs2))
+with_registers spec op constants r =
+    map (choice_of op r) (numbers spec op (row op).form constants (is_same r.rs1 r.rs2))
 
 -- the choices of a mnemonic, in their order
 unfoldable pub choices : Isa → Op → List ℤ → List ChoiceValue
-choices spec op constants = filter is_kept (flat_map (with_registers spec op constants) (registers spec.e (row op).form))
+choices spec op constants =
+    filter is_kept (flat_map (with_registers spec op constants) (registers spec.e (row op).form))
 
 -- ---- the facts of a choice
 

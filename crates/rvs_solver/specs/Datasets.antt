@@ -56,7 +56,8 @@ is_there kept z = list_any (λ y. int_eq y z) kept
 
 -- a number at the end of a list, where it is in the range and not there already
 unfoldable pub joined : ℤ → ℤ → List ℤ → ℤ → List ℤ
-joined low high kept z = if is_between low high z then (if is_there kept z then kept else (kept ++ z ∷ [])) else kept
+joined low high kept z =
+    if is_between low high z then (if is_there kept z then kept else (kept ++ z ∷ [])) else kept
 
 -- a fixed list, and then what the constants give
 unfoldable pub dataset : List ℤ → ℤ → ℤ → List ℤ → List ℤ
@@ -65,7 +66,9 @@ dataset fixed low high constants = fold (joined low high) fixed (flat_map around
 -- ---- words
 
 abbrev pub base_words : List ℕ
-base_words = 1 ∷ 2 ∷ 3 ∷ 0xffff_ffff ∷ 0xffff_fffe ∷ 0 ∷ 0x7fff_ffff ∷ 0x8000_0000 ∷ 0x5555_5555 ∷ 0xaaaa_aaaa ∷ []
+base_words =
+    1 ∷ 2 ∷ 3 ∷ 0xffff_ffff ∷ 0xffff_fffe ∷ 0 ∷ 0x7fff_ffff ∷ 0x8000_0000 ∷ 0x5555_5555 ∷
+    0xaaaa_aaaa ∷ []
 
 abbrev pub lowest : Bool → ℤ
 lowest true = pos 0
@@ -77,7 +80,8 @@ highest false = pos 0x7fff_ffff
 
 -- the values of a register operand, as it reads them
 abbrev pub values : Bool → List ℤ → List ℤ
-values unsigned constants = dataset (map (number_of unsigned) base_words) (lowest unsigned) (highest unsigned) constants
+values unsigned constants =
+    dataset (map (number_of unsigned) base_words) (lowest unsigned) (highest unsigned) constants
 
 -- their words
 abbrev pub words : Bool → List ℤ → List ℕ
@@ -87,7 +91,9 @@ words unsigned constants = map (low_bits 32) (values unsigned constants)
 
 -- 8, 12 up to 2048; -8, -12 down to -2048; 4; -4
 abbrev pub distance : ℕ → ℤ
-distance k = if nat_lt k 511 then pos (8 + 4 * k) else (if nat_lt k 1022 then neg_ℤ (pos (8 + 4 * (k - 511))) else (if nat_lt k 1023 then pos 4 else negsuc 3))
+distance k =
+    if nat_lt k 511 then pos (8 + 4 * k) else (if nat_lt k 1022 then neg_ℤ (pos (8 + 4 * (k - 511)))
+    else (if nat_lt k 1023 then pos 4 else negsuc 3))
 
 unfoldable pub distance_list : ℕ → List ℤ
 distance_list n = map distance (range_with_len 0 n)
@@ -96,10 +102,14 @@ abbrev pub distances : List ℤ
 distances = distance_list 1024
 
 abbrev pub short_numbers : List ℤ
-short_numbers = pos 1 ∷ pos 2 ∷ pos 3 ∷ negsuc 0 ∷ negsuc 1 ∷ pos 0 ∷ pos 2047 ∷ negsuc 2047 ∷ pos 1365 ∷ negsuc 1365 ∷ []
+short_numbers =
+    pos 1 ∷ pos 2 ∷ pos 3 ∷ negsuc 0 ∷ negsuc 1 ∷ pos 0 ∷ pos 2047 ∷ negsuc 2047 ∷ pos 1365 ∷ negsuc
+    1365 ∷ []
 
 abbrev pub upper_numbers : List ℤ
-upper_numbers = pos 1 ∷ pos 2 ∷ pos 3 ∷ pos 1048575 ∷ pos 0 ∷ pos 524287 ∷ pos 524288 ∷ pos 349525 ∷ pos 699050 ∷ []
+upper_numbers =
+    pos 1 ∷ pos 2 ∷ pos 3 ∷ pos 1048575 ∷ pos 0 ∷ pos 524287 ∷ pos 524288 ∷ pos 349525 ∷ pos 699050
+    ∷ []
 
 abbrev pub shifts : List ℤ
 shifts = map pos (range_with_len 1 31 ++ 0 ∷ [])
@@ -118,7 +128,8 @@ immediate_numbers Branch constants = distances
 immediate_numbers Jump constants = distances
 immediate_numbers _ constants = []
 
--- the immediates of a format; a format without one has the one entry None, and ecall and ebreak have no choice at all
+-- the immediates of a format; a format without one has the one entry None, and ecall and ebreak
+-- have no choice at all
 abbrev pub immediates : Format → List ℤ → List (Option ℤ)
 immediates R constants = None ∷ []
 immediates Fence constants = None ∷ []

@@ -13,11 +13,14 @@ all_choices spec ops constants = flat_map (λ op. choices spec op constants) ops
 
 -- the least by its place
 abbrev pub first_choice : Isa → List Op → Kind → Meaning → Option ChoiceValue
-first_choice spec ops kind meaning = find (hits kind meaning) (all_choices spec ops (constants_of meaning))
+first_choice spec ops kind meaning =
+    find (hits kind meaning) (all_choices spec ops (constants_of meaning))
 
 -- some choice hits the point
 abbrev pub Solvable : Isa → List Op → Kind → Meaning → Type 0
-Solvable spec ops kind meaning = (c : ChoiceValue) × Contains (all_choices spec ops (constants_of meaning)) c × (hits kind meaning c ≡ true)
+Solvable spec ops kind meaning =
+    (c : ChoiceValue) × Contains (all_choices spec ops (constants_of meaning)) c × (hits kind
+    meaning c ≡ true)
 
 -- the words of a choice can stand in its registers at once
 pub record HasOneWordEach (c : ChoiceValue) : Type 0 where

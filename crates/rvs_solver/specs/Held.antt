@@ -12,8 +12,10 @@ use Rattle.rvs_solver.specs.Choices.{ChoiceValue}
 use Rattle.rvs_solver.specs.Bound.{first_registers, operands, fixed_names}
 use Rattle.rvs_solver.specs.Walk.{base_of, second_w1s, second_w2s}
 
--- the format, the part of the expression, the first registers and the lists of operands of a mnemonic
-pub record Held (spec : Isa) (op : Op) (e : Formula) (form : Format) (part : Option Formula) (base : ChoiceValue) (ops : List Operand) (w1s w2s : List ℕ) : Type 0 where
+-- the format, the part of the expression, the first registers and the lists of operands of a
+-- mnemonic
+pub record Held (spec : Isa) (op : Op) (e : Formula) (form : Format) (part : Option Formula) (base :
+    ChoiceValue) (ops : List Operand) (w1s w2s : List ℕ) : Type 0 where
   pub numbers : only_numbers e ≡ true
   pub form_is : form ≡ (row op).form
   pub part_is : part ≡ part_of (fixed_names form) e

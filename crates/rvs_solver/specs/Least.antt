@@ -1,12 +1,12 @@
 -- The choice with the least numbers that its registers allow.
-use Rattle.std.specs.Prelude.{ℕ, ℤ, pos, Bool, if◌then◌else◌, List, map, flat_map, Option, Some, None, true, false, not}
+use Rattle.std.specs.Prelude.{ℕ, ℤ, pos, Bool, if◌then◌else◌, List, map, flat_map, Option, Some, None, false, not}
 use Rattle.rvs_insn.specs.declared.op.Format.{Format}
 use Rattle.rvs_insn.specs.declared.op.Format.TheVariants.{R, I, Shift, Load, Store, Branch, Jump, Fence, System}
 use Rattle.rvs_insn.specs.declared.op.Op.{Op}
 use Rattle.rvs_cgf.specs.declared.group.Kind.{Kind}
 use Rattle.rvs_cgf.specs.declared.group.Kind.TheVariants.{Rd, Rs1}
 use Rattle.rvs_cgf.specs.Groups.{Meaning}
-use Rattle.rvs_cgf.specs.Groups.{op_is, reg_is, regs, nums}
+use Rattle.rvs_cgf.specs.Groups.{reg_is}
 use Rattle.rvs_cgf.specs.Hits.{is_register}
 use Rattle.rvs_solver.specs.Choices.{Registers, Numbers, ChoiceValue, choice_of, is_zero, is_same}
 
@@ -36,13 +36,21 @@ least_w2 _ is_x0 same w1 = 0
 
 abbrev pub least_numbers : Format → Bool → Bool → Bool → Numbers
 least_numbers form zero1 zero2 same =
-    record { imm = least_imm form; align = 0; w1 = least_w1 form zero1; w2 = least_w2 form zero2 same (least_w1 form zero1) }
+    record {
+      imm = least_imm form;
+      align = 0;
+      w1 = least_w1 form zero1;
+      w2 = least_w2 form zero2
+          same (least_w1 form zero1);
+    }
 
 abbrev pub least : Op → Format → Registers → ChoiceValue
-least op form r = choice_of op r (least_numbers form (is_zero r.rs1) (is_zero r.rs2) (is_same r.rs1 r.rs2))
+least op form r =
+    choice_of op r (least_numbers form (is_zero r.rs1) (is_zero r.rs2) (is_same r.rs1 r.rs2))
 
 abbrev pub at_rs1 : Op → Format → List (Option ℕ) → Option ℕ → Option ℕ → List ChoiceValue
-at_rs1 op form rs2s rd rs1 = map (λ rs2. least op form (record { rd = rd; rs1 = rs1; rs2 = rs2 })) rs2s
+at_rs1 op form rs2s rd rs1 =
+    map (λ rs2. least op form (record { rd = rd; rs1 = rs1; rs2 = rs2 })) rs2s
 
 abbrev pub at_rd : Op → Format → List (Option ℕ) → List (Option ℕ) → Option ℕ → List ChoiceValue
 at_rd op form rs1s rs2s rd = flat_map (at_rs1 op form rs2s rd) rs1s

@@ -7,3 +7,4 @@ pub mod Bound
 pub mod Walk
 pub mod Held
 pub mod Least
+pub mod Solving

@@ -1,4 +1,5 @@
--- What the search of a value point asks of its expression. The words are closed, so that goals stay short.
+-- What the search of a value point asks of its expression. The words are closed, so that goals stay
+-- short.
 use Rattle.std.specs.Prelude.{◌≤◌, ◌^◌, ℤ, unsigned_abs, Bool, List, Option}
 use Rattle.rvs_expr_text.specs.declared.lexeme.NumName.{NumName}
 use Rattle.rvs_expr.specs.Typed.{Formula}

@@ -17,7 +17,18 @@ is_true_at e c = holds e (table_of c)
 
 -- a choice with the registers of another one, a first operand and two words
 abbrev pub with_numbers : ChoiceValue → Operand → ℕ → ℕ → ChoiceValue
-with_numbers base first w1 w2 = record { op = base.op; rd = base.rd; rs1 = base.rs1; rs2 = base.rs2; imm = first.imm; align = first.align; w1 = w1; w2 = w2 }
+with_numbers base first w1 w2 =
+    record {
+      op = base.op;
+      rd = base.rd;
+      rs1 = base.rs1;
+      rs2 = base.rs2;
+      imm = first.imm;
+      align =
+          first.align;
+      w1 = w1;
+      w2 = w2;
+    }
 
 abbrev pub at_w1 : ChoiceValue → Operand → List ℕ → ℕ → List ChoiceValue
 at_w1 base first w2s w1 = map (with_numbers base first w1) w2s
@@ -42,14 +53,17 @@ is_part_true_at (Some part) c = holds part (table_of c)
 -- where the part isn't true, no choice with this first operand is one that makes the whole true
 abbrev pub MayPassOver : Formula → Option Formula → ChoiceValue → List ℕ → List ℕ → Operand → Type 0
 MayPassOver e part base w1s w2s first =
-    is_part_true_at part (front_of base first) ≡ false → find (is_true_at e) (at_operand base w1s w2s first) ≡ None
+    is_part_true_at part (front_of base first) ≡ false → find (is_true_at e) (at_operand base w1s
+    w2s first) ≡ None
 
 -- how often the whole is evaluated at a first operand
 abbrev pub inner_cost : Option Formula → ChoiceValue → List ℕ → List ℕ → Operand → ℕ
 inner_cost part base w1s w2s first =
-    if is_part_true_at part (front_of base first) then (length (word_or first.word w1s) * length w2s) else 0
+    if is_part_true_at part (front_of base first) then (length (word_or first.word w1s) * length
+    w2s) else 0
 
--- the expression sees which first operand it is, as it may wherever that fixes more than an immediate
+-- the expression sees which first operand it is, as it may wherever that fixes more than an
+-- immediate
 abbrev pub sees_first : Formula → Format → Bool
 sees_first e I = uses e ImmVal
 sees_first e Shift = uses e ImmVal
@@ -65,14 +79,18 @@ tried false ops = take 1 ops
 
 -- the choice of a store of its own address: rs2 is rs1
 abbrev pub storing_address : ChoiceValue → Operand → ChoiceValue
-storing_address same first = with_numbers same first (unwrap_or first.word 0) (unwrap_or first.word 0)
+storing_address same first =
+    with_numbers same first (unwrap_or first.word 0) (unwrap_or first.word 0)
 
 abbrev pub MayPassOverSame : Formula → Option Formula → ChoiceValue → ChoiceValue → Operand → Type 0
-MayPassOverSame e part base same first = is_part_true_at part (front_of base first) ≡ false → is_true_at e (storing_address same first) ≡ false
+MayPassOverSame e part base same first =
+    is_part_true_at part (front_of base first) ≡ false → is_true_at e (storing_address same first) ≡
+    false
 
 abbrev pub store_cost : Option Formula → ChoiceValue → List ℕ → Operand → ℕ
 store_cost part base w2s first =
-    if is_part_true_at part (front_of base first) then (length (word_or first.word []) * length w2s + 1) else 0
+    if is_part_true_at part (front_of base first) then (length (word_or first.word []) * length w2s
+    + 1) else 0
 
 -- ---- the words of the second operand
 

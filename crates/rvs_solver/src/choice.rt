@@ -11,16 +11,25 @@ use std::marker::Model;
 /// What makes a case: a mnemonic, its registers, and the numbers that they read.
 ///
 /// A register or an immediate is there exactly where the mnemonic's format has it; registers are
-/// below 32, by an invariant of the type. An alignment and a word that the format doesn't use are 0.
+/// below 32, by an invariant of the type. An alignment and a word that the format doesn't use
+/// are 0.
 #[derive(Debug, Clone, Copy)]
 pub struct Choice {
+    /// The mnemonic.
     pub op: Op,
+    /// The register that it writes.
     pub rd: Option<u8>,
+    /// Its first source register.
     pub rs1: Option<u8>,
+    /// Its second source register.
     pub rs2: Option<u8>,
+    /// Its immediate, as in [`Insn`].
     pub imm: Option<i32>,
+    /// How many bytes behind a multiple of 4 a load or a store accesses memory.
     pub align: u8,
+    /// The word of `rs1`.
     pub w1: u32,
+    /// The word of `rs2`.
     pub w2: u32,
 }
 

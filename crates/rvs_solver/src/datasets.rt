@@ -1,277 +1,17 @@
-// Registers, values, immediates and alignments.
+// Values, immediates and alignments.
 ghost use Rattle.std.specs.Prelude.{◌≡◌, ◌++◌, ◌∷◌, [], ◌<◌, ◌≤◌, ◌^◌, ℤ, pos, OnOk, IfOk, All, map, flat_map, fold, not, length, Some, None, if◌then◌else◌};
 ghost use Rattle.std.specs.List.{list_any};
 ghost use Rattle.std.specs.Ordering.{int_eq};
 ghost use Rattle.rvs_insn.specs.Table.{row};
 ghost use Rattle.rvs_insn.specs.Word.{low_bits};
 ghost use Rattle.rvs_solver.specs.Truth.{IsNarrow};
-ghost use Rattle.rvs_solver.specs.Datasets.{rds, rs1s, rs2s, joined, is_between, is_there, around, dataset, values, words, distance, distances, distance_list, alignments, address, immediate_numbers};
+ghost use Rattle.rvs_solver.specs.Datasets.{joined, is_between, is_there, around, dataset, values, words, distance, distances, distance_list, alignments, address, immediate_numbers};
 ghost use Rattle.rvs_solver.specs.Bound.{operands, operands_at, fixed_word};
 
 use crate::operand::Operand;
 use rvs_base::NoMemory;
 use rvs_insn::{Format, IsaSpec, Op, format, reads_unsigned};
 use std::alloc::Global;
-
-/// The registers of `rd`, in order.
-#[tactic(auto, unfolding(crate::specs::Datasets::rds))]
-pub(crate) fn rds(spec: &IsaSpec, form: Format) -> &'static [Option<u8>]
-    ensures { result.now ≡ rds spec.now.e form }
-{
-    match form {
-        Format::Store | Format::Branch | Format::Fence | Format::System => &WITHOUT,
-        _ => choose(spec, &RD, &RD_LOW),
-    }
-}
-
-/// The registers of `rs1`, in order.
-#[tactic(auto, unfolding(crate::specs::Datasets::rs1s))]
-pub(crate) fn rs1s(spec: &IsaSpec, form: Format) -> &'static [Option<u8>]
-    ensures { result.now ≡ rs1s spec.now.e form }
-{
-    match form {
-        Format::Upper | Format::Jump | Format::Fence | Format::System => &WITHOUT,
-        Format::Load | Format::Store | Format::JumpReg => choose(spec, &BASE, &BASE_LOW),
-        _ => choose(spec, &RS1, &RS1_LOW),
-    }
-}
-
-/// The registers of `rs2`, in order.
-#[tactic(auto, unfolding(crate::specs::Datasets::rs2s))]
-pub(crate) fn rs2s(spec: &IsaSpec, form: Format) -> &'static [Option<u8>]
-    ensures { result.now ≡ rs2s spec.now.e form }
-{
-    match form {
-        Format::R | Format::Store | Format::Branch => choose(spec, &RS2, &RS2_LOW),
-        _ => &WITHOUT,
-    }
-}
-
-fn choose(
-    spec: &IsaSpec,
-    all: &'static [Option<u8>],
-    low: &'static [Option<u8>],
-) -> &'static [Option<u8>]
-    ensures { result.now ≡ (if spec.now.e then low.now else all.now) }
-{
-    if spec.e { low } else { all }
-}
-
-static WITHOUT: [Option<u8>; 1] = [None];
-
-static RD: [Option<u8>; 32] = [
-    Some(1),
-    Some(2),
-    Some(3),
-    Some(4),
-    Some(5),
-    Some(6),
-    Some(7),
-    Some(8),
-    Some(9),
-    Some(10),
-    Some(11),
-    Some(12),
-    Some(13),
-    Some(14),
-    Some(15),
-    Some(16),
-    Some(17),
-    Some(18),
-    Some(19),
-    Some(20),
-    Some(21),
-    Some(22),
-    Some(23),
-    Some(24),
-    Some(25),
-    Some(26),
-    Some(27),
-    Some(28),
-    Some(29),
-    Some(30),
-    Some(31),
-    Some(0),
-];
-
-static RD_LOW: [Option<u8>; 16] = [
-    Some(1),
-    Some(2),
-    Some(3),
-    Some(4),
-    Some(5),
-    Some(6),
-    Some(7),
-    Some(8),
-    Some(9),
-    Some(10),
-    Some(11),
-    Some(12),
-    Some(13),
-    Some(14),
-    Some(15),
-    Some(0),
-];
-
-static RS1: [Option<u8>; 32] = [
-    Some(2),
-    Some(3),
-    Some(4),
-    Some(5),
-    Some(6),
-    Some(7),
-    Some(8),
-    Some(9),
-    Some(10),
-    Some(11),
-    Some(12),
-    Some(13),
-    Some(14),
-    Some(15),
-    Some(16),
-    Some(17),
-    Some(18),
-    Some(19),
-    Some(20),
-    Some(21),
-    Some(22),
-    Some(23),
-    Some(24),
-    Some(25),
-    Some(26),
-    Some(27),
-    Some(28),
-    Some(29),
-    Some(30),
-    Some(31),
-    Some(1),
-    Some(0),
-];
-
-static RS1_LOW: [Option<u8>; 16] = [
-    Some(2),
-    Some(3),
-    Some(4),
-    Some(5),
-    Some(6),
-    Some(7),
-    Some(8),
-    Some(9),
-    Some(10),
-    Some(11),
-    Some(12),
-    Some(13),
-    Some(14),
-    Some(15),
-    Some(1),
-    Some(0),
-];
-
-static BASE: [Option<u8>; 31] = [
-    Some(2),
-    Some(3),
-    Some(4),
-    Some(5),
-    Some(6),
-    Some(7),
-    Some(8),
-    Some(9),
-    Some(10),
-    Some(11),
-    Some(12),
-    Some(13),
-    Some(14),
-    Some(15),
-    Some(16),
-    Some(17),
-    Some(18),
-    Some(19),
-    Some(20),
-    Some(21),
-    Some(22),
-    Some(23),
-    Some(24),
-    Some(25),
-    Some(26),
-    Some(27),
-    Some(28),
-    Some(29),
-    Some(30),
-    Some(31),
-    Some(1),
-];
-
-static BASE_LOW: [Option<u8>; 15] = [
-    Some(2),
-    Some(3),
-    Some(4),
-    Some(5),
-    Some(6),
-    Some(7),
-    Some(8),
-    Some(9),
-    Some(10),
-    Some(11),
-    Some(12),
-    Some(13),
-    Some(14),
-    Some(15),
-    Some(1),
-];
-
-static RS2: [Option<u8>; 32] = [
-    Some(3),
-    Some(4),
-    Some(5),
-    Some(6),
-    Some(7),
-    Some(8),
-    Some(9),
-    Some(10),
-    Some(11),
-    Some(12),
-    Some(13),
-    Some(14),
-    Some(15),
-    Some(16),
-    Some(17),
-    Some(18),
-    Some(19),
-    Some(20),
-    Some(21),
-    Some(22),
-    Some(23),
-    Some(24),
-    Some(25),
-    Some(26),
-    Some(27),
-    Some(28),
-    Some(29),
-    Some(30),
-    Some(31),
-    Some(2),
-    Some(1),
-    Some(0),
-];
-
-static RS2_LOW: [Option<u8>; 16] = [
-    Some(3),
-    Some(4),
-    Some(5),
-    Some(6),
-    Some(7),
-    Some(8),
-    Some(9),
-    Some(10),
-    Some(11),
-    Some(12),
-    Some(13),
-    Some(14),
-    Some(15),
-    Some(2),
-    Some(1),
-    Some(0),
-];
 
 /// The words of a register operand, in order.
 pub(crate) fn words(alloc: Global, unsigned: bool, constants: &[i64]) -> Result<Vec<u32>, NoMemory>
@@ -353,7 +93,8 @@ fn wide_dataset(
 #[tactic(auto, unfolding(crate::specs::Datasets::around))]
 fn wide_around(list: &mut Vec<i64>, low: i64, high: i64, constant: i64) -> Result<(), NoMemory>
     requires { IsNarrow constant }
-    ensures { OnOk result (list.new.items ≡ fold (joined low high) list.old.items (around constant)) }
+    ensures { OnOk result (list.new.items ≡ fold (joined low high) list.old.items (around
+        constant)) }
 {
     wide_join(list, low, high, constant - 1)?;
     wide_join(list, low, high, constant)?;
@@ -433,7 +174,8 @@ fn dataset(
 #[tactic(auto, unfolding(crate::specs::Datasets::around))]
 fn join_around(list: &mut Vec<i32>, low: i32, high: i32, constant: i64) -> Result<(), NoMemory>
     requires { IsNarrow constant }
-    ensures { OnOk result (list.new.items ≡ fold (joined low high) list.old.items (around constant)) }
+    ensures { OnOk result (list.new.items ≡ fold (joined low high) list.old.items (around
+        constant)) }
 {
     join(list, low, high, constant - 1)?;
     join(list, low, high, constant)?;
@@ -463,7 +205,8 @@ fn narrowed(low: i32, high: i32, number: i64) -> Option<i32>
 }
 
 fn join_narrow(list: &mut Vec<i32>, number: i32) -> Result<(), NoMemory>
-    ensures { OnOk result (list.new.items ≡ (if is_there list.old.items number then list.old.items else (list.old.items ++ number ∷ []))) }
+    ensures { OnOk result (list.new.items ≡ (if is_there list.old.items number then list.old.items
+        else (list.old.items ++ number ∷ []))) }
 {
     if !is_there(list.as_slice(), number) {
         list.push(number)?;
@@ -547,7 +290,8 @@ pub(crate) fn operands(
 
 fn word_operands(alloc: Global, unsigned: bool, constants: &[i64]) -> Result<Vec<Operand>, NoMemory>
     requires { All IsNarrow constants.now }
-    ensures { IfOk result (λ v. v.items ≡ map (λ w. record { imm = None; align = 0; word = Some w }) (words unsigned constants.now)) }
+    ensures { IfOk result (λ v. v.items ≡ map (λ w. record { imm = None; align = 0; word = Some w })
+        (words unsigned constants.now)) }
 {
     let words = words(alloc, unsigned, constants)?;
     let mut list = Vec::new(alloc);
@@ -582,7 +326,8 @@ fn immediate_operands(
     constants: &[i64],
 ) -> Result<Vec<Operand>, NoMemory>
     requires { All IsNarrow constants.now }
-    ensures { IfOk result (λ v. v.items ≡ flat_map (operands_at form (alignments spec.now op form)) (immediate_numbers form constants.now)) }
+    ensures { IfOk result (λ v. v.items ≡ flat_map (operands_at form (alignments spec.now op form))
+        (immediate_numbers form constants.now)) }
 {
     let numbers = immediate_numbers(alloc, form, constants)?;
     let alignments = alignments(spec, op, form);
@@ -600,7 +345,8 @@ fn push_operands(
     alignments: &[u8],
     imm: &i32,
 ) -> Result<(), NoMemory>
-    ensures { OnOk result (list.new.items ≡ list.old.items ++ operands_at form alignments.now imm.now) }
+    ensures { OnOk result (list.new.items ≡ list.old.items ++ operands_at form alignments.now
+        imm.now) }
 {
     let imm = *imm;
     for align in alignments {

@@ -4,12 +4,16 @@
 mod choice;
 mod datasets;
 mod operand;
+mod orders;
 mod registers;
 mod solved;
 mod solving;
+#[cfg(test)]
+mod tests;
 mod truth;
 mod values;
 mod walk;
 
 pub use choice::Choice;
 pub use solved::Solved;
+pub use solving::solve;

@@ -28,8 +28,10 @@ pub(crate) fn first_over_rds<L: Ledger>(
     requires rd { All IsRegister rds.now }
     requires rs1 { All IsRegister rs1s.now }
     requires rs2 { All IsRegister rs2s.now }
-    ensures first { result ≡ find (hits kind (meaning_view meaning.now)) (flat_map (at_rd op (row op).form rs1s.now rs2s.now) rds.now) }
-    ensures cost { steps.new ≤ steps.old + length rds.now * (length rs1s.now * (length rs2s.now * steps_of (meaning_view meaning.now))) }
+    ensures first { result ≡ find (hits kind (meaning_view meaning.now)) (flat_map (at_rd op (row
+        op).form rs1s.now rs2s.now) rds.now) }
+    ensures cost { steps.new ≤ steps.old + length rds.now * (length rs1s.now * (length rs2s.now *
+        steps_of (meaning_view meaning.now))) }
 {
     for rd in rds {
         match first_at_rd(kind, meaning, op, *rd, rs1s, rs2s, steps) {
@@ -53,8 +55,10 @@ fn first_at_rd<L: Ledger>(
     requires rd { IsRegister rd }
     requires rs1 { All IsRegister rs1s.now }
     requires rs2 { All IsRegister rs2s.now }
-    ensures first { result ≡ find (hits kind (meaning_view meaning.now)) (at_rd op (row op).form rs1s.now rs2s.now rd) }
-    ensures cost { steps.new ≤ steps.old + length rs1s.now * (length rs2s.now * steps_of (meaning_view meaning.now)) }
+    ensures first { result ≡ find (hits kind (meaning_view meaning.now)) (at_rd op (row op).form
+        rs1s.now rs2s.now rd) }
+    ensures cost { steps.new ≤ steps.old + length rs1s.now * (length rs2s.now * steps_of
+        (meaning_view meaning.now)) }
 {
     if asks_other_rd(kind, meaning, rd) {
         None
@@ -75,8 +79,10 @@ fn first_over_rs1s<L: Ledger>(
     requires rd { IsRegister rd }
     requires rs1 { All IsRegister rs1s.now }
     requires rs2 { All IsRegister rs2s.now }
-    ensures first { result ≡ find (hits kind (meaning_view meaning.now)) (at_rd op (row op).form rs1s.now rs2s.now rd) }
-    ensures cost { steps.new ≤ steps.old + length rs1s.now * (length rs2s.now * steps_of (meaning_view meaning.now)) }
+    ensures first { result ≡ find (hits kind (meaning_view meaning.now)) (at_rd op (row op).form
+        rs1s.now rs2s.now rd) }
+    ensures cost { steps.new ≤ steps.old + length rs1s.now * (length rs2s.now * steps_of
+        (meaning_view meaning.now)) }
 {
     for rs1 in rs1s {
         match first_at_rs1(kind, meaning, op, rd, *rs1, rs2s, steps) {
@@ -100,7 +106,8 @@ fn first_at_rs1<L: Ledger>(
     requires rd { IsRegister rd }
     requires rs1 { IsRegister rs1 }
     requires rs2 { All IsRegister rs2s.now }
-    ensures first { result ≡ find (hits kind (meaning_view meaning.now)) (at_rs1 op (row op).form rs2s.now rd rs1) }
+    ensures first { result ≡ find (hits kind (meaning_view meaning.now)) (at_rs1 op (row op).form
+        rs2s.now rd rs1) }
     ensures cost { steps.new ≤ steps.old + length rs2s.now * steps_of (meaning_view meaning.now) }
 {
     if asks_other_rs1(kind, meaning, rs1) {
@@ -140,7 +147,8 @@ fn first_over_rs2s<L: Ledger>(
     requires rd { IsRegister rd }
     requires rs1 { IsRegister rs1 }
     requires rs2 { All IsRegister rs2s.now }
-    ensures first { result ≡ find (hits kind (meaning_view meaning.now)) (at_rs1 op (row op).form rs2s.now rd rs1) }
+    ensures first { result ≡ find (hits kind (meaning_view meaning.now)) (at_rs1 op (row op).form
+        rs2s.now rd rs1) }
     ensures cost { steps.new ≤ steps.old + length rs2s.now * steps_of (meaning_view meaning.now) }
 {
     for rs2 in rs2s {

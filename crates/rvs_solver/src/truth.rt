@@ -38,11 +38,7 @@ pub(crate) fn constants(expr: &Expr) -> &[i64]
 
 /// The conjunction of the conjuncts that name nothing but these.
 #[tactic(auto, unfolding(crate::specs::Truth::part_of))]
-pub(crate) fn part(
-    alloc: Global,
-    expr: &Expr,
-    names: &[NumName],
-) -> Result<Option<Expr>, NoMemory>
+pub(crate) fn part(alloc: Global, expr: &Expr, names: &[NumName]) -> Result<Option<Expr>, NoMemory>
     ensures { IfOk result (λ p. option_map view p ≡ part_of names.now (view expr.now)) }
 {
     expr.part(alloc, names)

@@ -33,8 +33,10 @@ pub(crate) fn first_value<L: Ledger>(
     steps: &mut Steps<L>,
 ) -> Result<Option<Choice>, NoMemory>
     requires { only_numbers (view expr.now) ≡ true }
-    ensures first { IfOk result (λ c. c ≡ find (is_true_at (view expr.now)) (choices spec.now op (constants_in (view expr.now)))) }
-    ensures cost { IfOk result (λ c. steps.new ≤ steps.old + value_bound spec.now (view expr.now) op (row op).form) }
+    ensures first { IfOk result (λ c. c ≡ find (is_true_at (view expr.now)) (choices spec.now op
+        (constants_in (view expr.now)))) }
+    ensures cost { IfOk result (λ c. steps.new ≤ steps.old + value_bound spec.now (view expr.now) op
+        (row op).form) }
 {
     let form = format(op);
     let constants = constants(expr);
@@ -71,8 +73,10 @@ fn first_in_lists<L: Ledger>(
     steps: &mut Steps<L>,
 ) -> Option<Choice>
     requires numbers { only_numbers (view expr.now) ≡ true }
-    requires held { Held _spec.now op (view expr.now) form (option_map view part.now) base.now operands.now w1s.now w2s.now }
-    ensures first { result ≡ find (is_true_at (view expr.now)) (choices _spec.now op (constants_in (view expr.now))) }
+    requires held { Held _spec.now op (view expr.now) form (option_map view part.now) base.now
+        operands.now w1s.now w2s.now }
+    ensures first { result ≡ find (is_true_at (view expr.now)) (choices _spec.now op (constants_in
+        (view expr.now))) }
     ensures cost { steps.new ≤ steps.old + value_bound _spec.now (view expr.now) op (row op).form }
 {
     match form {

@@ -21,9 +21,12 @@ pub(crate) fn first_in_product<L: Ledger>(
     w2s: &[u32],
     steps: &mut Steps<L>,
 ) -> Option<Choice>
-    requires { All (MayPassOver (view expr.now) (option_map view part.now) base.now w1s.now w2s.now) operands.now }
-    ensures first { result ≡ find (is_true_at (view expr.now)) (flat_map (at_operand base.now w1s.now w2s.now) operands.now) }
-    ensures cost { steps.new ≤ steps.old + (length operands.now + sum_by (inner_cost (option_map view part.now) base.now w1s.now w2s.now) operands.now) }
+    requires { All (MayPassOver (view expr.now) (option_map view part.now) base.now w1s.now w2s.now)
+        operands.now }
+    ensures first { result ≡ find (is_true_at (view expr.now)) (flat_map (at_operand base.now
+        w1s.now w2s.now) operands.now) }
+    ensures cost { steps.new ≤ steps.old + (length operands.now + sum_by (inner_cost (option_map
+        view part.now) base.now w1s.now w2s.now) operands.now) }
 {
     for first in operands {
         match first_unless_passed(expr, part, base, first, w1s, w2s, steps) {
@@ -43,9 +46,12 @@ fn first_unless_passed<L: Ledger>(
     w2s: &[u32],
     steps: &mut Steps<L>,
 ) -> Option<Choice>
-    requires { MayPassOver (view expr.now) (option_map view part.now) base.now w1s.now w2s.now first.now }
-    ensures first { result ≡ find (is_true_at (view expr.now)) (at_operand base.now w1s.now w2s.now first.now) }
-    ensures cost { steps.new ≤ steps.old + (1 + inner_cost (option_map view part.now) base.now w1s.now w2s.now first.now) }
+    requires { MayPassOver (view expr.now) (option_map view part.now) base.now w1s.now w2s.now
+        first.now }
+    ensures first { result ≡ find (is_true_at (view expr.now)) (at_operand base.now w1s.now w2s.now
+        first.now) }
+    ensures cost { steps.new ≤ steps.old + (1 + inner_cost (option_map view part.now) base.now
+        w1s.now w2s.now first.now) }
 {
     if passes(part, base, first, steps) {
         first_at_operand(expr, base, first, w1s, w2s, steps)
@@ -64,10 +70,15 @@ pub(crate) fn first_store<L: Ledger>(
     w2s: &[u32],
     steps: &mut Steps<L>,
 ) -> Option<Choice>
-    requires words { All (MayPassOver (view expr.now) (option_map view part.now) base.now [] w2s.now) operands.now }
-    requires addresses { All (MayPassOverSame (view expr.now) (option_map view part.now) base.now same.now) operands.now }
-    ensures first { result ≡ option_or (find (is_true_at (view expr.now)) (flat_map (at_operand base.now [] w2s.now) operands.now)) (find (is_true_at (view expr.now)) (map (storing_address same.now) operands.now)) }
-    ensures cost { steps.new ≤ steps.old + (length operands.now + sum_by (store_cost (option_map view part.now) base.now w2s.now) operands.now) }
+    requires words { All (MayPassOver (view expr.now) (option_map view part.now) base.now []
+        w2s.now) operands.now }
+    requires addresses { All (MayPassOverSame (view expr.now) (option_map view part.now) base.now
+        same.now) operands.now }
+    ensures first { result ≡ option_or (find (is_true_at (view expr.now)) (flat_map (at_operand
+        base.now [] w2s.now) operands.now)) (find (is_true_at (view expr.now)) (map (storing_address
+        same.now) operands.now)) }
+    ensures cost { steps.new ≤ steps.old + (length operands.now + sum_by (store_cost (option_map
+        view part.now) base.now w2s.now) operands.now) }
 {
     let mut kept = None;
     for first in operands {
@@ -92,11 +103,16 @@ fn store_turn<L: Ledger>(
     kept: Option<Choice>,
     steps: &mut Steps<L>,
 ) -> (Option<Choice>, Option<Choice>)
-    requires words { MayPassOver (view expr.now) (option_map view part.now) base.now [] w2s.now first.now }
-    requires addresses { MayPassOverSame (view expr.now) (option_map view part.now) base.now same.now first.now }
-    ensures found { result.0 ≡ find (is_true_at (view expr.now)) (at_operand base.now [] w2s.now first.now) }
-    ensures kept { result.0 ≡ None → result.1 ≡ option_or kept (find (is_true_at (view expr.now)) (storing_address same.now first.now ∷ [])) }
-    ensures cost { steps.new ≤ steps.old + (1 + store_cost (option_map view part.now) base.now w2s.now first.now) }
+    requires words { MayPassOver (view expr.now) (option_map view part.now) base.now [] w2s.now
+        first.now }
+    requires addresses { MayPassOverSame (view expr.now) (option_map view part.now) base.now
+        same.now first.now }
+    ensures found { result.0 ≡ find (is_true_at (view expr.now)) (at_operand base.now [] w2s.now
+        first.now) }
+    ensures kept { result.0 ≡ None → result.1 ≡ option_or kept (find (is_true_at (view expr.now))
+        (storing_address same.now first.now ∷ [])) }
+    ensures cost { steps.new ≤ steps.old + (1 + store_cost (option_map view part.now) base.now
+        w2s.now first.now) }
 {
     if !passes(part, base, first, steps) {
         return (None, kept);
@@ -107,7 +123,8 @@ fn store_turn<L: Ledger>(
     }
 }
 
-/// What was kept, or else the choice that stores its own address, where that makes the expression true.
+/// What was kept, or else the choice that stores its own address, where that makes the
+/// expression true.
 fn kept_or_address<L: Ledger>(
     expr: &Expr,
     same: &Choice,
@@ -115,7 +132,8 @@ fn kept_or_address<L: Ledger>(
     kept: Option<Choice>,
     steps: &mut Steps<L>,
 ) -> Option<Choice>
-    ensures value { result ≡ option_or kept (find (is_true_at (view expr.now)) (storing_address same.now first.now ∷ [])) }
+    ensures value { result ≡ option_or kept (find (is_true_at (view expr.now)) (storing_address
+        same.now first.now ∷ [])) }
     ensures cost { steps.new ≤ steps.old + 1 }
 {
     match kept {
@@ -139,7 +157,8 @@ fn passes<L: Ledger>(
     first: &Operand,
     steps: &mut Steps<L>,
 ) -> bool
-    ensures value { result ≡ is_part_true_at (option_map view part.now) (front_of base.now first.now) }
+    ensures value { result ≡ is_part_true_at (option_map view part.now) (front_of base.now
+        first.now) }
     ensures cost { steps.new ≤ steps.old + 1 }
 {
     match part {
@@ -160,8 +179,10 @@ fn first_at_operand<L: Ledger>(
     w2s: &[u32],
     steps: &mut Steps<L>,
 ) -> Option<Choice>
-    ensures first { result ≡ find (is_true_at (view expr.now)) (at_operand base.now w1s.now w2s.now first.now) }
-    ensures cost { steps.new ≤ steps.old + length (word_or first.now.word w1s.now) * length w2s.now }
+    ensures first { result ≡ find (is_true_at (view expr.now)) (at_operand base.now w1s.now w2s.now
+        first.now) }
+    ensures cost { steps.new ≤ steps.old + length (word_or first.now.word w1s.now) * length
+        w2s.now }
 {
     match first.word {
         Some(word) => first_with_w1(expr, base, first, word, w2s, steps),
@@ -177,7 +198,8 @@ fn first_over_w1s<L: Ledger>(
     w2s: &[u32],
     steps: &mut Steps<L>,
 ) -> Option<Choice>
-    ensures first { result ≡ find (is_true_at (view expr.now)) (flat_map (at_w1 base.now first.now w2s.now) w1s.now) }
+    ensures first { result ≡ find (is_true_at (view expr.now)) (flat_map (at_w1 base.now first.now
+        w2s.now) w1s.now) }
     ensures cost { steps.new ≤ steps.old + length w1s.now * length w2s.now }
 {
     for w1 in w1s {
@@ -197,7 +219,8 @@ fn first_with_w1<L: Ledger>(
     w2s: &[u32],
     steps: &mut Steps<L>,
 ) -> Option<Choice>
-    ensures first { result ≡ find (is_true_at (view expr.now)) (at_w1 base.now first.now w2s.now w1) }
+    ensures first { result ≡ find (is_true_at (view expr.now)) (at_w1 base.now first.now w2s.now
+        w1) }
     ensures cost { steps.new ≤ steps.old + length w2s.now }
 {
     for w2 in w2s {
