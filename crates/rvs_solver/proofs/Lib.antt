@@ -1,0 +1,17 @@
+pub mod Framing
+pub mod Search
+pub mod Turns
+pub mod Sets
+pub mod Product
+pub mod Operands
+pub mod Tried
+pub mod Stores
+pub mod RegisterPoints
+pub mod Answer
+pub mod Low
+pub mod Calls
+pub mod RegisterCalls
+pub mod Others
+pub mod OneWord
+pub mod Rows
+pub mod Labels

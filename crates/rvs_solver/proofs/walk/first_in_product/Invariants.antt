@@ -1,0 +1,12 @@
+use Rattle.std.proofs.Common.{◌≡◌, ◌≤◌, ◌+◌, drop, take}
+use Rattle.std.specs.Prelude.{find, flat_map, sum_by}
+use Rattle.rvs_expr.specs.TypedView.{view}
+use Rattle.std.specs.Option.{option_map}
+use Rattle.rvs_solver.specs.Walk.{is_true_at, at_operand, inner_cost}
+use Rattle.rvs_solver.proofs.walk.first_in_product.Given as goal
+
+abbrev pub invariant-loop-first : goal.invariant-loop-first
+invariant-loop-first g l = record {
+  first : find (is_true_at (view l.expr)) (flat_map (at_operand l.base l.w1s l.w2s) l.operands) ≡ find (is_true_at (view l.expr)) (flat_map (at_operand l.base l.w1s l.w2s) (drop l.first-index l.operands));
+  cost : l.steps ≤ l.fn.steps + (l.first-index + sum_by (inner_cost (option_map view l.part) l.base l.w1s l.w2s) (take l.first-index l.operands));
+}

@@ -1,0 +1,29 @@
+-- The first choice that hits a point.
+use Rattle.std.specs.Prelude.{◌≡◌, true, ℕ, ℤ, List, Option, Some, flat_map, find, Contains}
+use Rattle.rvs_insn.specs.declared.op.Op.{Op}
+use Rattle.rvs_insn.specs.Isa.{Isa}
+use Rattle.rvs_cgf.specs.declared.group.Kind.{Kind}
+use Rattle.rvs_cgf.specs.Groups.{Meaning}
+use Rattle.rvs_solver.specs.Choices.{ChoiceValue, choices}
+use Rattle.rvs_solver.specs.Point.{hits, constants_of}
+
+-- the choices for a point over some mnemonics, in their order
+abbrev pub all_choices : Isa → List Op → List ℤ → List ChoiceValue
+all_choices spec ops constants = flat_map (λ op. choices spec op constants) ops
+
+-- the least by its place
+abbrev pub first_choice : Isa → List Op → Kind → Meaning → Option ChoiceValue
+first_choice spec ops kind meaning =
+    find (hits kind meaning) (all_choices spec ops (constants_of meaning))
+
+-- some choice hits the point
+abbrev pub Solvable : Isa → List Op → Kind → Meaning → Type 0
+Solvable spec ops kind meaning =
+    (c : ChoiceValue) × Contains (all_choices spec ops (constants_of meaning)) c × (hits kind
+    meaning c ≡ true)
+
+-- the words of a choice can stand in its registers at once
+pub record HasOneWordEach (c : ChoiceValue) : Type 0 where
+  pub first_zero : c.rs1 ≡ Some 0 → c.w1 ≡ 0
+  pub second_zero : c.rs2 ≡ Some 0 → c.w2 ≡ 0
+  pub same : (r : ℕ) → c.rs1 ≡ Some r → c.rs2 ≡ Some r → c.w1 ≡ c.w2

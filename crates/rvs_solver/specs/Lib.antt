@@ -1,0 +1,10 @@
+pub mod Truth
+pub mod Datasets
+pub mod Choices
+pub mod Point
+pub mod First
+pub mod Bound
+pub mod Walk
+pub mod Held
+pub mod Least
+pub mod Solving

@@ -1,0 +1,4 @@
+pub mod Sound
+pub mod Statements
+pub mod TestText
+pub mod Claim
