@@ -6,7 +6,7 @@ pub mod Giving
 pub mod Least
 pub mod Lining
 pub mod Lookups
-pub mod Marking
+pub mod Tokens
 pub mod Outlined
 pub mod Placing
 pub mod Rows

@@ -1,8 +1,8 @@
 pub mod KeyView
 pub mod Kinds
 pub mod LineView
-pub mod MarkView
-pub mod Marks
+pub mod TokenView
+pub mod Tokens
 pub mod Quotes
 pub mod Scalar
 pub mod ScanView
