@@ -12,4 +12,5 @@ pub mod Placing
 pub mod Rows
 pub mod Sketching
 pub mod Stepping
+pub mod Telling
 pub mod WholeLines

@@ -5,7 +5,7 @@ ghost use Rattle.rvs_yaml.specs.Flow as spec;
 ghost use Rattle.rvs_yaml.specs.FlowSteps as steps_spec;
 ghost use Rattle.rvs_yaml.specs.FlowParts as parts;
 ghost use Rattle.rvs_yaml_text.specs.declared.kind.YamlKind.TheVariants.{BadScalar, BadFlow};
-ghost use Rattle.rvs_yaml.specs.Gives.{Gives};
+ghost use Rattle.rvs_yaml.specs.Gives.{Agrees, Gives};
 ghost use Rattle.rvs_yaml.specs.StackView.{known_view};
 ghost use Rattle.rvs_tree.specs.ValueView.{value_view, written_view, entries_view};
 ghost use Rattle.rvs_yaml_text.specs.KeyView.{key_view};
@@ -48,7 +48,7 @@ fn with_value(alloc: Global, place: Place, value: Value) -> Result<Place, YamlKi
 
 /// The place behind a comma.
 fn with_comma(place: Place) -> Result<Place, YamlKind>
-    ensures { Gives place_view result (spec.with_comma (place_view place)) }
+    ensures { Agrees place_view result (spec.with_comma (place_view place)) }
 {
     match place {
         Place::BehindMember(list) => Ok(Place::Member(list)),
@@ -66,7 +66,7 @@ fn is_new(list: &EntryList, key: &Key) -> bool
 
 /// The place behind a key and its colon.
 fn with_key(place: Place, key: Key) -> Result<Place, YamlKind>
-    ensures { Gives place_view result (spec.with_key (place_view place) (key_view key)) }
+    ensures { Agrees place_view result (spec.with_key (place_view place) (key_view key)) }
 {
     match place {
         Place::KeyPlace(list) => {
@@ -193,7 +193,7 @@ fn with_token(
 
 /// Whether a collection may begin here.
 fn may_open(place: &Place) -> Result<(), YamlKind>
-    ensures { Gives (λ u. u) result (spec.may_open (place_view place.now)) }
+    ensures { Agrees (λ u. u) result (spec.may_open (place_view place.now)) }
 {
     match place {
         Place::Member(_) | Place::EntryValue(_, _) => Ok(()),
@@ -215,7 +215,7 @@ fn closes(alloc: Global, line: u64, place: &Place) -> Result<Value, YamlKind>
 
 /// Whether the bracket ends a collection with this one.
 fn ends_with(first: Bracket, last: Bracket) -> Result<(), YamlKind>
-    ensures { Gives (λ u. u) result (spec.ends_with (bracket_view first) (Some (bracket_view last))) }
+    ensures { Agrees (λ u. u) result (spec.ends_with (bracket_view first) (Some (bracket_view last))) }
 {
     match (first, last) {
         (Bracket::Square, Bracket::Square) | (Bracket::Curly, Bracket::Curly) => Ok(()),
@@ -364,7 +364,7 @@ pub(crate) fn new_reading(alloc: Global, bracket: Bracket) -> Reading
 
 /// The value of a collection with nothing behind it.
 pub(crate) fn flow_end(reading: Reading) -> Result<Value, YamlKind>
-    ensures { Gives value_view result (parts.ended (reading_view reading)) }
+    ensures { Agrees value_view result (parts.ended (reading_view reading)) }
 {
     match reading {
         Reading::Whole(value, true) => Ok(value),

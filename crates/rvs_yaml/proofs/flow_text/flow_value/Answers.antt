@@ -8,7 +8,7 @@ use Rattle.rvs_yaml.specs.FlowParts.{ended}
 use Rattle.rvs_yaml.specs.StackView.{known_view}
 use Rattle.rvs_yaml_text.specs.WordView.{bracket_view}
 use Rattle.rvs_yaml.specs.FlowView.{reading_view, flowing_view}
-use Rattle.rvs_yaml.proofs.Giving.{gives_same, fails_first}
+use Rattle.rvs_yaml.proofs.Giving.{agrees_gives, fails_first}
 use Rattle.rvs_yaml.proofs.Tokens.{tokens-end, tokens-next}
 use Rattle.rvs_yaml.proofs.Outlined.{bind_assoc}
 use Rattle.rvs_yaml.proofs.Stepping.{then-parts}
@@ -22,7 +22,7 @@ returns-then-is_flow_end c =
     let f = c.loop-left.flowing in
     let r = reading_view f.reading in
     let at_end : is_flow_end f.spaced f.rest.now ≡ true = ap (is_flow_end f.spaced) (sym c.as_bytes.ensures.value) ∙ sym c.is_flow_end.ensures ∙ c.if-is_flow_end.true in
-    gives_same _ _ _ _ (sym (flow-ended known line (bracket_view c.args.bracket) (tokens_of c.args.text.now)
+    agrees_gives _ _ _ _ (sym (flow-ended known line (bracket_view c.args.bracket) (tokens_of c.args.text.now)
     ∙ ap (λ m. m >>= ended) (sym c.loop-left.invariant ∙ ap (flow_steps known line r) (tokens-end c.loop-left.left f.closed f.spaced f.rest.now at_end)))) c.flow_end.ensures
 
 pub returns-in_err-flowing : goal.returns-in_err-flowing
@@ -60,5 +60,5 @@ returns c =
     let f = c.loop-left.flowing in
     let r = reading_view f.reading in
     let none : c.loop-left.left ≡ zero = omega arith in
-    gives_same _ _ _ _ (sym (flow-ended known line (bracket_view c.args.bracket) (tokens_of c.args.text.now)
+    agrees_gives _ _ _ _ (sym (flow-ended known line (bracket_view c.args.bracket) (tokens_of c.args.text.now)
     ∙ ap (λ m. m >>= ended) (sym c.loop-left.invariant ∙ ap (λ k. flow_steps known line r (tokens k f.closed f.spaced f.rest.now)) none))) c.flow_end-2.ensures
