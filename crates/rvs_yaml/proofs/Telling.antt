@@ -1,11 +1,11 @@
 -- What the answer says of the lines.
-use Rattle.std.proofs.Common.{◌≡◌, ℕ, zero, suc, ◌<◌, ◌≤◌, Bool, true, false, List, [], ◌∷◌, take, Result, Ok, Err, refl, sym, ap, ◌∙◌, subst, arith}
+use Rattle.std.proofs.Common.{◌≡◌, ℕ, zero, suc, ◌≤◌, Bool, true, false, List, [], ◌∷◌, take, Result, Ok, Err, refl, sym, ap, ◌∙◌, subst, arith}
 use Rattle.std.specs.Prelude.{min, nat_lt, not, IfOk, IfErr}
 use Rattle.rvs_tree.specs.Data.{Data, depth}
 use Rattle.rvs_tree.specs.Value.{Value}
 use Rattle.rvs_yaml.specs.Checks.{Checked, ◌>>=◌, ◌>>◌, check}
 use Rattle.rvs_yaml.specs.Block.{tree_of}
-use Rattle.rvs_yaml.specs.Answer.{Answer, answer, within_limits, front, HasTree, IsTreeOf, IsFirstFault, Tells, RefusesLines, KeepsNodes, FrontsHaveTrees}
+use Rattle.rvs_yaml.specs.Answer.{answer, within_limits, HasTree, IsTreeOf, IsFirstFault, Tells, RefusesLines, KeepsNodes, FrontsHaveTrees}
 use Rattle.rvs_yaml.specs.Reader.{Refuses}
 use Rattle.rvs_yaml_text.specs.Text.{lines_of, words_of}
 use Rattle.rvs_yaml_text.specs.declared.kind.YamlKind.{YamlKind}

@@ -55,7 +55,7 @@ single-split : (bs : List ℕ) → single bs ≡ then_quote (at_byte 39 bs)
 single-split [] = refl
 single-split (b ∷ bs) = single-by (b == 39) b bs (single-split bs)
 
-quote-end : (bs : List ℕ) → starts_with 39 bs ≡ false → behind_quote bs ≡ Some ([], bs)
+pub quote-end : (bs : List ℕ) → starts_with 39 bs ≡ false → behind_quote bs ≡ Some ([], bs)
 quote-end [] e = refl
 quote-end (b ∷ bs) e = rw (e, behind_quote) refl
 

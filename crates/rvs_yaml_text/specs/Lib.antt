@@ -3,6 +3,7 @@ pub mod Kinds
 pub mod LineView
 pub mod TokenView
 pub mod Tokens
+pub mod Printed
 pub mod Quotes
 pub mod Scalar
 pub mod ScanView
