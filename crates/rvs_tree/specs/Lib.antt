@@ -1,5 +1,6 @@
 pub mod Bound
 pub mod Data
+pub mod OwnKeys
 pub mod PairsView
 pub mod TreeSize
 pub mod TreeView

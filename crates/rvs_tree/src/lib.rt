@@ -16,7 +16,7 @@ mod written;
 pub use counted::Value;
 pub use entry_list::EntryList;
 pub use members::{DEEP, is_map_or_empty, is_mergeable};
-pub use merged::{list_value, map_value};
+pub use merged::{list_value, map_value, own_keys_stay};
 pub use tree::Tree;
 pub use value::{plus, scalar_value, shared_value, text_nodes};
 pub use value_list::ValueList;

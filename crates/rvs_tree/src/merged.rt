@@ -1,6 +1,7 @@
 // The entries of a map, with what is merged into it.
 ghost use Rattle.std.specs.Prelude.{◌≡◌, ◌∷◌, ◌++◌, ◌||◌, [], map, IfOk};
 ghost use Rattle.rvs_tree.specs.Value as spec;
+ghost use Rattle.rvs_tree.specs.OwnKeys.{OwnKeysStay};
 ghost use Rattle.rvs_tree.specs.Data.{own_pairs};
 ghost use Rattle.rvs_tree.specs.TreeView.{view, rc_view};
 ghost use Rattle.rvs_tree.specs.ValueView.{value_view, values_view, written_view, entries_view};
@@ -186,3 +187,8 @@ pub fn list_value(alloc: Global, line: u64, list: &ValueList) -> Result<Value, A
         depth: (list.depth + 1).min(DEEP),
     })
 }
+
+/// An explicit key keeps its value, whatever its map merges.
+pub fn own_keys_stay()
+    ensures { OwnKeysStay }
+{}

@@ -3,15 +3,15 @@ use Rattle.std.proofs.Common.{◌≡◌, ℕ, Bool, true, List, [], ◌∷◌, �
 use Rattle.std.specs.Prelude.{◌&&◌}
 use Rattle.rvs_tree.specs.Value.{Value, Written}
 use Rattle.rvs_yaml.specs.Anchors.{Anchors}
-use Rattle.rvs_yaml_text.specs.Word.{Bracket, Mark, opening, closing, comma, colon, scalar_mark, key_mark, cut_key, colon_scalar, alias_mark, fault}
+use Rattle.rvs_yaml_text.specs.Word.{Bracket, Token, opening, closing, comma, colon, scalar_token, key_token, cut_key, colon_scalar, alias_token, late_colon, fault}
 use Rattle.rvs_yaml.specs.Checks.{Checked, ◌>>=◌, ◌>>◌}
-use Rattle.rvs_yaml.specs.Flow.{Nest, none, one, group, inside, ending, behind, nest, Place, member, behind_member, key_place, entry_value, behind_entry, first_place, with_value, with_mark, may_open, closes, ends_with, fits, last_fits, entry_fits, collection, only_end, merged_well, flow_value}
+use Rattle.rvs_yaml.specs.Flow.{Nest, none, one, group, inside, ending, behind, nest, Place, member, behind_member, key_place, entry_value, behind_entry, first_place, with_value, with_token, may_open, closes, ends_with, fits, last_fits, entry_fits, collection, only_end, merged_well, flow_value}
 use Rattle.rvs_yaml.specs.FlowSteps.{Reading, open_in, whole, into, moved, flow_step, flow_steps, flow_end}
 use Rattle.rvs_yaml_text.specs.declared.kind.YamlKind.TheVariants.{BadFlow}
 use Rattle.rvs_yaml.specs.FlowParts.{first_reading, ended}
 use Rattle.rvs_yaml.proofs.Outlined.{bind_assoc, bind_same, then_assoc, then_same}
 
--- what becomes of the open collections with more marks
+-- what becomes of the open collections with more tokens
 abbrev behind_whole : Value × Bool → Nest → Checked (Value × Bool)
 behind_whole v n = only_end n >> Ok v
 
@@ -48,9 +48,9 @@ close-going known line good b c place outer n =
     ∙ bind_same (closes line place) _ _ (λ v. then_same (ends_with b (Some c)) _ _ (into-rest known line (v, good) outer n) ∙ sym (then_assoc (ends_with b (Some c)) _ _))
     ∙ sym (bind_assoc (closes line place) _ _)
 
-mark-going : (known : Anchors) (line : ℕ) (good : Bool) (b : Bracket) (outer : List (Bracket × Place)) (m : Checked Place) (n : Nest) →
+token-going : (known : Anchors) (line : ℕ) (good : Bool) (b : Bracket) (outer : List (Bracket × Place)) (m : Checked Place) (n : Nest) →
     ((m >>= λ next. collection known line (good && fits next) next (inside n)) >>= λ v. ends_with b (ending n) >> rest_of known line outer (behind n) v) ≡ (moved good b outer m >>= λ r. going known line r n)
-mark-going known line good b outer m n =
+token-going known line good b outer m n =
     bind_assoc m _ _ ∙ bind_same m _ _ (λ next. sym (resumed-rest known line (good && fits next) b next outer n)) ∙ sym (bind_assoc m _ _)
 
 open-going : (known : Anchors) (line : ℕ) (good : Bool) (b c : Bracket) (place : Place) (outer : List (Bracket × Place)) (n : Nest) →
@@ -65,27 +65,29 @@ open-going known line good b c place outer n =
     ∙ then_same (ends_with c (ending n)) _ _ (bind_assoc (with_value place v.0) _ _ ∙ bind_same (with_value place v.0) _ _ (λ next. sym (resumed-rest known line (v.1 && fits next) b next outer (behind n))))))
     ∙ sym (then_assoc (may_open place) _ _)
 
-step-going : (known : Anchors) (line : ℕ) (r : Reading) (m : Mark) (ms : List Mark) → going known line r (nest (m ∷ ms)) ≡ (flow_step known line r m >>= λ s. going known line s (nest ms))
+step-going : (known : Anchors) (line : ℕ) (r : Reading) (m : Token) (ms : List Token) → going known line r (nest (m ∷ ms)) ≡ (flow_step known line r m >>= λ s. going known line s (nest ms))
 step-going known line (open_in good b place outer) (opening c) ms = open-going known line good b c place outer (nest ms)
 step-going known line (open_in good b place outer) (closing c) ms = close-going known line good b c place outer (nest ms)
-step-going known line (open_in good b place outer) comma ms = resumed-rest known line good b place outer _ ∙ mark-going known line good b outer (with_mark known line place comma) (nest ms)
-step-going known line (open_in good b place outer) colon ms = resumed-rest known line good b place outer _ ∙ mark-going known line good b outer (with_mark known line place colon) (nest ms)
-step-going known line (open_in good b place outer) (scalar_mark k) ms = resumed-rest known line good b place outer _ ∙ mark-going known line good b outer (with_mark known line place (scalar_mark k)) (nest ms)
-step-going known line (open_in good b place outer) (key_mark k) ms = resumed-rest known line good b place outer _ ∙ mark-going known line good b outer (with_mark known line place (key_mark k)) (nest ms)
-step-going known line (open_in good b place outer) (cut_key k) ms = resumed-rest known line good b place outer _ ∙ mark-going known line good b outer (with_mark known line place (cut_key k)) (nest ms)
-step-going known line (open_in good b place outer) (colon_scalar k) ms = resumed-rest known line good b place outer _ ∙ mark-going known line good b outer (with_mark known line place (colon_scalar k)) (nest ms)
-step-going known line (open_in good b place outer) (alias_mark k) ms = resumed-rest known line good b place outer _ ∙ mark-going known line good b outer (with_mark known line place (alias_mark k)) (nest ms)
-step-going known line (open_in good b place outer) (fault k) ms = resumed-rest known line good b place outer _ ∙ mark-going known line good b outer (with_mark known line place (fault k)) (nest ms)
+step-going known line (open_in good b place outer) comma ms = resumed-rest known line good b place outer _ ∙ token-going known line good b outer (with_token known line place comma) (nest ms)
+step-going known line (open_in good b place outer) colon ms = resumed-rest known line good b place outer _ ∙ token-going known line good b outer (with_token known line place colon) (nest ms)
+step-going known line (open_in good b place outer) (scalar_token k) ms = resumed-rest known line good b place outer _ ∙ token-going known line good b outer (with_token known line place (scalar_token k)) (nest ms)
+step-going known line (open_in good b place outer) (key_token k) ms = resumed-rest known line good b place outer _ ∙ token-going known line good b outer (with_token known line place (key_token k)) (nest ms)
+step-going known line (open_in good b place outer) (cut_key k) ms = resumed-rest known line good b place outer _ ∙ token-going known line good b outer (with_token known line place (cut_key k)) (nest ms)
+step-going known line (open_in good b place outer) (colon_scalar k) ms = resumed-rest known line good b place outer _ ∙ token-going known line good b outer (with_token known line place (colon_scalar k)) (nest ms)
+step-going known line (open_in good b place outer) (alias_token k) ms = resumed-rest known line good b place outer _ ∙ token-going known line good b outer (with_token known line place (alias_token k)) (nest ms)
+step-going known line (open_in good b place outer) (fault k) ms = resumed-rest known line good b place outer _ ∙ token-going known line good b outer (with_token known line place (fault k)) (nest ms)
+step-going known line (open_in good b place outer) late_colon ms = resumed-rest known line good b place outer _ ∙ token-going known line good b outer (with_token known line place late_colon) (nest ms)
 step-going known line (whole v) (opening c) ms = refl
 step-going known line (whole v) (closing c) ms = refl
 step-going known line (whole v) comma ms = refl
 step-going known line (whole v) colon ms = refl
-step-going known line (whole v) (scalar_mark k) ms = refl
-step-going known line (whole v) (key_mark k) ms = refl
+step-going known line (whole v) (scalar_token k) ms = refl
+step-going known line (whole v) (key_token k) ms = refl
 step-going known line (whole v) (cut_key k) ms = refl
 step-going known line (whole v) (colon_scalar k) ms = refl
-step-going known line (whole v) (alias_mark k) ms = refl
+step-going known line (whole v) (alias_token k) ms = refl
 step-going known line (whole v) (fault k) ms = refl
+step-going known line (whole v) late_colon ms = refl
 
 no_end : {A : Type 0} (line : ℕ) (good : Bool) (place : Place) → ((closes line place >>= λ v. let r : Checked (Value × Bool) = Ok (v, good) in r) >>= λ v. let r : Checked A = Err BadFlow in r) ≡ Err BadFlow
 no_end line good (member vs) = refl
@@ -99,17 +101,17 @@ end-going known line (open_in good b place []) = no_end line good place
 end-going known line (open_in good b place (o ∷ outer)) = no_end line good place
 end-going known line (whole v) = refl
 
-steps-going : (known : Anchors) (line : ℕ) (ms : List Mark) (r : Reading) → going known line r (nest ms) ≡ (flow_steps known line r ms >>= flow_end)
+steps-going : (known : Anchors) (line : ℕ) (ms : List Token) (r : Reading) → going known line r (nest ms) ≡ (flow_steps known line r ms >>= flow_end)
 steps-going known line [] r = end-going known line r
 steps-going known line (m ∷ ms) r =
     step-going known line r m ms ∙ bind_same (flow_step known line r m) _ _ (λ s. steps-going known line ms s) ∙ sym (bind_assoc (flow_step known line r m) _ _)
 
--- Reading the marks from left to right gives the value of the collection.
-pub flow_value-steps : (known : Anchors) (line : ℕ) (b : Bracket) (ms : List Mark) →
+-- Reading the tokens from left to right gives the value of the collection.
+pub flow_value-steps : (known : Anchors) (line : ℕ) (b : Bracket) (ms : List Token) →
     flow_value known line b ms ≡ ((flow_steps known line (open_in true b (first_place b) []) ms >>= flow_end) >>= merged_well)
 flow_value-steps known line b ms = ap (λ m. m >>= merged_well) (steps-going known line ms (open_in true b (first_place b) []))
 
-pub flow-ended : (known : Anchors) (line : ℕ) (b : Bracket) (ms : List Mark) → flow_value known line b ms ≡ (flow_steps known line (first_reading b) ms >>= ended)
+pub flow-ended : (known : Anchors) (line : ℕ) (b : Bracket) (ms : List Token) → flow_value known line b ms ≡ (flow_steps known line (first_reading b) ms >>= ended)
 flow-ended known line b ms = flow_value-steps known line b ms ∙ bind_assoc (flow_steps known line (first_reading b) ms) _ _
 
 pub last_fits-push : (ws : List Written) (w : Written) → last_fits (ws ++ w ∷ []) ≡ entry_fits w

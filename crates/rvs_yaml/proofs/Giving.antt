@@ -1,7 +1,7 @@
 -- Results against checks that go on.
 use Rattle.std.proofs.Common.{◌≡◌, Result, Ok, Err, ap, ◌∙◌, sym}
 use Rattle.rvs_yaml.specs.Checks.{Checked, ◌>>=◌}
-use Rattle.rvs_yaml.specs.Gives.{Gives, Fails}
+use Rattle.rvs_yaml.specs.Gives.{Agrees, Gives, Fails}
 use Rattle.rvs_yaml_text.specs.declared.kind.YamlKind.{YamlKind}
 use Rattle.rvs_yaml_text.specs.declared.kind.YamlKind.TheVariants.{NoMemory}
 
@@ -16,3 +16,12 @@ fails_first kind m f t e h = fails_to kind m t (λ is. sym e ∙ ap (λ n. n >>=
 pub gives_same : {X Y : Type 0} (see : X → Y) (r : Result X YamlKind) (m t : Checked Y) → m ≡ t → Gives see r m → Gives see r t
 gives_same see (Ok x) m t e h = sym e ∙ h
 gives_same see (Err kind) m t e h = fails_to kind m t (λ is. sym e ∙ is) h
+
+fails_with : {A : Type 0} (kind : YamlKind) (m : Checked A) → m ≡ Err kind → Fails kind m
+fails_with NoMemory m is = tt
+fails_with kind m is = is
+
+-- a function that takes no memory, in one that does
+pub agrees_gives : {X Y : Type 0} (see : X → Y) (r : Result X YamlKind) (m t : Checked Y) → m ≡ t → Agrees see r m → Gives see r t
+agrees_gives see (Ok x) m t e h = sym e ∙ h
+agrees_gives see (Err kind) m t e h = fails_with kind t (sym e ∙ h)

@@ -6,10 +6,11 @@ pub mod Giving
 pub mod Least
 pub mod Lining
 pub mod Lookups
-pub mod Marking
+pub mod Tokens
 pub mod Outlined
 pub mod Placing
 pub mod Rows
 pub mod Sketching
 pub mod Stepping
+pub mod Telling
 pub mod WholeLines

@@ -3,7 +3,7 @@ use Rattle.std.proofs.Common.{◌≡◌, ℕ, suc, ◌+◌, ◌-◌, ◌≤◌, 
 use Rattle.std.specs.Prelude.{◌==◌, ◌&&◌}
 use Rattle.std.proofs.lemmas.Bool.Decides.{nat_tests}
 use Rattle.rvs_yaml_text.specs.Word.{dash}
-use Rattle.rvs_yaml_text.specs.Scalar.{without_spaces, ends_mark, is_blank}
+use Rattle.rvs_yaml_text.specs.Scalar.{without_spaces, ends_indicator, is_blank}
 use Rattle.rvs_yaml_text.specs.Text.{word_at, item_name, words_at, last_words}
 use Rattle.rvs_yaml.specs.LineParts.{behind_dash, rest_words}
 
@@ -44,13 +44,13 @@ both false y h = h
 dash_no_space : (b : ℕ) → (b == 45) ≡ true → (b == 32) ≡ false
 dash_no_space b h = grind (arith, nat_tests)
 
-dash-at : (line : ℕ) (item : Bool) (column b : ℕ) (bs : List ℕ) → (b == 45 && ends_mark bs) ≡ true → words_at line item column (b ∷ bs) ≡ word_at line column (dash (item_name bs)) ∷ words_at line true (suc column) bs
-dash-at line item column b bs e = rw (dash_no_space b (both (b == 45) (ends_mark bs) e), words_at) (rw (e, words_at) refl)
+dash-at : (line : ℕ) (item : Bool) (column b : ℕ) (bs : List ℕ) → (b == 45 && ends_indicator bs) ≡ true → words_at line item column (b ∷ bs) ≡ word_at line column (dash (item_name bs)) ∷ words_at line true (suc column) bs
+dash-at line item column b bs e = rw (dash_no_space b (both (b == 45) (ends_indicator bs) e), words_at) (rw (e, words_at) refl)
 
 pub words-dash : (line : ℕ) (item : Bool) (column : ℕ) (bs behind : List ℕ) → Some behind ≡ behind_dash bs → words_at line item column bs ≡ word_at line column (dash (item_name behind)) ∷ words_at line true (suc column) behind
 words-dash line item column [] behind h = cc
 words-dash line item column (b ∷ bs) behind h =
-    elim (b == 45 && ends_mark bs) as (λ t. (b == 45 && ends_mark bs) ≡ t → Some behind ≡ (elim t as (λ _. Option (List ℕ)) [ true ↦ Some bs | false ↦ None ]) → words_at line item column (b ∷ bs) ≡ word_at line column (dash (item_name behind)) ∷ words_at line true (suc column) behind) [
+    elim (b == 45 && ends_indicator bs) as (λ t. (b == 45 && ends_indicator bs) ≡ t → Some behind ≡ (elim t as (λ _. Option (List ℕ)) [ true ↦ Some bs | false ↦ None ]) → words_at line item column (b ∷ bs) ≡ word_at line column (dash (item_name behind)) ∷ words_at line true (suc column) behind) [
       | true ↦ λ e k. let same : behind ≡ bs = cc in rw same (dash-at line item column b bs e)
       | false ↦ λ e k. cc
     ] refl h
@@ -59,7 +59,7 @@ rest-nothing : (line : ℕ) (item : Bool) (column : ℕ) → [] ≡ rest_words l
 rest-nothing line true column = refl
 rest-nothing line false column = refl
 
-rest-at : (line : ℕ) (item : Bool) (column b : ℕ) (bs : List ℕ) → (b == 32) ≡ false → (b == 45 && ends_mark bs) ≡ false → words_at line item column (b ∷ bs) ≡ rest_words line item column (b ∷ bs)
+rest-at : (line : ℕ) (item : Bool) (column b : ℕ) (bs : List ℕ) → (b == 32) ≡ false → (b == 45 && ends_indicator bs) ≡ false → words_at line item column (b ∷ bs) ≡ rest_words line item column (b ∷ bs)
 rest-at line item column b bs e k = rw (e, words_at) (rw (k, words_at) refl)
 
 no_dash : (t : Bool) (bs : List ℕ) → None ≡ (elim t as (λ _. Option (List ℕ)) [ true ↦ Some bs | false ↦ None ]) → t ≡ false
@@ -75,7 +75,7 @@ solid-here b bs h =
 
 pub words-rest : (line : ℕ) (item : Bool) (column : ℕ) (bs : List ℕ) → None ≡ behind_dash bs → without_spaces bs ≡ bs → words_at line item column bs ≡ rest_words line item column bs
 words-rest line item column [] h s = rest-nothing line item column
-words-rest line item column (b ∷ bs) h s = rest-at line item column b bs (solid-here b bs s) (no_dash (b == 45 && ends_mark bs) bs h)
+words-rest line item column (b ∷ bs) h s = rest-at line item column b bs (solid-here b bs s) (no_dash (b == 45 && ends_indicator bs) bs h)
 
 pub spaces-twice : (bs : List ℕ) → without_spaces (without_spaces bs) ≡ without_spaces bs
 spaces-twice [] = refl
@@ -95,14 +95,14 @@ dash_not_blank b bs e =
     let t : (b == 9) ≡ false = grind (arith, nat_tests) in
     rw (k, is_blank) (rw (s, is_blank) (rw (t, is_blank) refl))
 
-blank_no_dash : (b : ℕ) (bs : List ℕ) → is_blank true (b ∷ bs) ≡ true → (b == 45 && ends_mark bs) ≡ false
+blank_no_dash : (b : ℕ) (bs : List ℕ) → is_blank true (b ∷ bs) ≡ true → (b == 45 && ends_indicator bs) ≡ false
 blank_no_dash b bs h =
-    elim (b == 45) as (λ t. (b == 45) ≡ t → (t && ends_mark bs) ≡ false) [
+    elim (b == 45) as (λ t. (b == 45) ≡ t → (t && ends_indicator bs) ≡ false) [
       | true ↦ λ e. let never : false ≡ true = sym (dash_not_blank b bs e) ∙ h in cc
       | false ↦ λ e. refl
     ] refl
 
-blank-at : (line column b : ℕ) (bs : List ℕ) → (b == 32) ≡ false → (b == 45 && ends_mark bs) ≡ false → is_blank true (b ∷ bs) ≡ true → words_at line false column (b ∷ bs) ≡ []
+blank-at : (line column b : ℕ) (bs : List ℕ) → (b == 32) ≡ false → (b == 45 && ends_indicator bs) ≡ false → is_blank true (b ∷ bs) ≡ true → words_at line false column (b ∷ bs) ≡ []
 blank-at line column b bs e k h = rw (e, words_at) (rw (k, words_at) (rw (h, last_words) refl))
 
 -- a blank line has no words
@@ -120,7 +120,7 @@ dash-by false bs behind h = cc
 
 dash-length : (bs behind : List ℕ) → Some behind ≡ behind_dash bs → length bs ≡ suc (length behind)
 dash-length [] behind h = cc
-dash-length (b ∷ bs) behind h = ap (λ ys. suc (length ys)) (sym (dash-by (b == 45 && ends_mark bs) bs behind h))
+dash-length (b ∷ bs) behind h = ap (λ ys. suc (length ys)) (sym (dash-by (b == 45 && ends_indicator bs) bs behind h))
 
 -- a dash, and the words behind it from the next character that is no space
 pub words-next : (line : ℕ) (item : Bool) (n : ℕ) (bs behind : List ℕ) → Some behind ≡ behind_dash bs → length bs ≤ n →

@@ -1,12 +1,12 @@
 -- The answer for a text: its tree, or the first line at which the lines so far have none, with the kind of the first check that fails there.
-use Rattle.std.specs.Prelude.{◌≡◌, ℕ, ◌<◌, false, nat_lt, not, List, [], ◌∷◌, ◌++◌, length, take, Result, Ok, Err}
+use Rattle.std.specs.Prelude.{◌≡◌, ℕ, ◌<◌, ◌≤◌, false, nat_lt, not, List, [], ◌∷◌, ◌++◌, length, take, Result, Ok, Err}
 use Rattle.rvs_tree.specs.Data.{Data, depth}
 use Rattle.rvs_tree.specs.Value.{Value}
 use Rattle.rvs_yaml.specs.Checks.{Checked, ◌>>=◌, ◌>>◌, check}
 use Rattle.rvs_yaml.specs.Block.{tree_of}
 use Rattle.rvs_yaml_text.specs.Text.{lines_of, words_of}
 use Rattle.rvs_yaml_text.specs.declared.kind.YamlKind.{YamlKind}
-use Rattle.rvs_yaml_text.specs.declared.kind.YamlKind.TheVariants.{TooDeep, TooManyNodes}
+use Rattle.rvs_yaml_text.specs.declared.kind.YamlKind.TheVariants.{TooDeep, TooManyNodes, NoMemory}
 
 -- the limits on depth and on the number of nodes
 abbrev pub within_limits : Value → Checked (Unit {0})
@@ -49,6 +49,19 @@ pub record IsTreeOf (lines : List (List ℕ)) (tree : Data) : Type 0 where
 abbrev pub Tells : List (List ℕ) → Answer → Type 0
 Tells lines (Ok tree) = IsTreeOf lines tree
 Tells lines (Err refusal) = IsFirstFault lines refusal.0 refusal.1
+
+-- What a refusal says of the lines: their first fault, and line 0 for want of memory.
+abbrev pub RefusesLines : List (List ℕ) → YamlKind → ℕ → Type 0
+RefusesLines lines NoMemory line = line ≡ 0
+RefusesLines lines kind line = IsFirstFault lines line kind
+
+-- the lines have a value with this tree, for which at most 500,000 nodes count
+abbrev pub KeepsNodes : List (List ℕ) → Data → Type 0
+KeepsNodes lines tree = (v : Value) × (tree_of (words_of 1 false lines) ≡ Ok v) × (v.tree ≡ tree) × (v.nodes ≤ 500000)
+
+-- Where lines have a tree, each front of them has one: a front without a tree has no longer front with one.
+abbrev pub FrontsHaveTrees : Type 0
+FrontsHaveTrees = (lines : List (List ℕ)) (tree : Data) → IsTreeOf lines tree → (m : ℕ) → (d : Data) × IsTreeOf (take m lines) d
 
 -- A text is refused at the least front that has no tree, and has a tree where there is none.
 abbrev pub AnswersAreLeast : Type 0

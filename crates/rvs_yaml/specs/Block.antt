@@ -52,7 +52,7 @@ abbrev pub content_value : Anchors → ℕ → Content → Checked Value
 content_value known line nothing = Ok (scalar_value [] line)
 content_value known line (text bytes) = Ok (scalar_value bytes line)
 content_value known line (alias name ended) = alias_value known name ended
-content_value known line (flow b marks) = flow_value known line b marks
+content_value known line (flow b tokens) = flow_value known line b tokens
 content_value known line (faulty kind) = Err kind
 
 -- the value that a word has by itself, where these anchors are known

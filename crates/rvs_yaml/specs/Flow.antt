@@ -2,7 +2,7 @@
 use Rattle.std.specs.Prelude.{ℕ, Bool, true, false, not, ◌&&◌, ◌||◌, ◌==◌, if◌then◌else◌, List, [], ◌∷◌, ◌++◌, Option, Some, None, Ok, Err}
 use Rattle.rvs_tree.specs.Value.{Value, scalar_value, list_value, map_value, Written, has_key, explicit_keys, is_mergeable}
 use Rattle.rvs_yaml.specs.Checks.{Checked, ◌>>=◌, ◌>>◌, check}
-use Rattle.rvs_yaml_text.specs.Word.{Key, Bracket, square, curly, Mark, opening, closing, comma, colon, scalar_mark, key_mark, cut_key, colon_scalar, alias_mark, fault}
+use Rattle.rvs_yaml_text.specs.Word.{Key, Bracket, square, curly, Token, opening, closing, comma, colon, scalar_token, key_token, cut_key, colon_scalar, alias_token, late_colon, fault}
 use Rattle.rvs_yaml.specs.Anchors.{Anchors, lookup, known_alias}
 use Rattle.rvs_yaml.specs.Entry.{written}
 use Rattle.rvs_yaml_text.specs.declared.kind.YamlKind.{YamlKind}
@@ -13,10 +13,10 @@ same_bracket square square = true
 same_bracket curly curly = true
 same_bracket _ _ = false
 
--- Marks with the marks between two brackets put together. The mark that ends them is there, if there is one.
+-- Tokens with the tokens between two brackets put together. The token that ends them is there, if there is one.
 pub data Nest : Type 0 where
   none : Nest
-  one : Mark → Nest → Nest
+  one : Token → Nest → Nest
   group : Bracket → Nest → Option Bracket → Nest → Nest
 
 abbrev pub inside : Nest → Nest
@@ -37,7 +37,7 @@ behind (one (closing b) rest) = rest
 behind (one m rest) = behind rest
 behind (group b inner end rest) = behind rest
 
-abbrev pub nest : List Mark → Nest
+abbrev pub nest : List Token → Nest
 nest [] = none
 nest (opening b ∷ ms) = group b (inside (nest ms)) (ending (nest ms)) (behind (nest ms))
 nest (m ∷ ms) = one m (nest ms)
@@ -104,17 +104,18 @@ with_fault (behind_member vs) kind = Err BadFlow
 with_fault (behind_entry ws) kind = Err BadFlow
 with_fault _ kind = Err kind
 
--- a mark that is no bracket comes next, where these anchors are known
-abbrev pub with_mark : Anchors → ℕ → Place → Mark → Checked Place
-with_mark known line place comma = with_comma place
-with_mark known line place colon = with_fault place BadScalar
-with_mark known line place (scalar_mark k) = with_value place (scalar_value k.name line)
-with_mark known line place (key_mark k) = with_key place k
-with_mark known line place (cut_key k) = with_cut_key place k
-with_mark known line place (colon_scalar b) = with_colon_scalar place b
-with_mark known line place (alias_mark name) = with_alias known place name
-with_mark known line place (fault kind) = with_fault place kind
-with_mark known line place _ = Err BadFlow
+-- a token that is no bracket comes next, where these anchors are known
+abbrev pub with_token : Anchors → ℕ → Place → Token → Checked Place
+with_token known line place comma = with_comma place
+with_token known line place colon = with_fault place BadScalar
+with_token known line place (scalar_token k) = with_value place (scalar_value k.name line)
+with_token known line place (key_token k) = with_key place k
+with_token known line place (cut_key k) = with_cut_key place k
+with_token known line place (colon_scalar b) = with_colon_scalar place b
+with_token known line place (alias_token name) = with_alias known place name
+with_token known line place (fault kind) = with_fault place kind
+with_token known line place late_colon = Err Unsupported
+with_token known line place _ = Err BadFlow
 
 -- a collection may begin here
 abbrev pub may_open : Place → Checked (Unit {0})
@@ -151,7 +152,7 @@ fits _ = true
 -- A collection from this place on, up to its end, and whether all that it merges so far can be merged.
 abbrev pub collection : Anchors → ℕ → Bool → Place → Nest → Checked (Value × Bool)
 collection known line good place none = closes line place >>= λ v. Ok (v, good)
-collection known line good place (one m rest) = with_mark known line place m >>= λ next. collection known line (good && fits next) next rest
+collection known line good place (one m rest) = with_token known line place m >>= λ next. collection known line (good && fits next) next rest
 collection known line good place (group b inner end rest) = do
   may_open place
   v ← collection known line good (first_place b) inner
@@ -162,10 +163,10 @@ collection known line good place (group b inner end rest) = do
 -- nothing stands behind a whole collection
 abbrev pub only_end : Nest → Checked (Unit {0})
 only_end none = Ok tt
-only_end (one colon rest) = Err Unsupported
+only_end (one late_colon rest) = Err Unsupported
 only_end _ = Err BadFlow
 
--- The value of a flow collection that stands by itself, from the marks behind its first bracket. Its merges are looked at when its text is read.
+-- The value of a flow collection that stands by itself, from the tokens behind its first bracket. Its merges are looked at when its text is read.
 abbrev pub whole_value : Anchors → ℕ → Bracket → Nest → Checked (Value × Bool)
 whole_value known line b n = do
   v ← collection known line true (first_place b) (inside n)
@@ -176,5 +177,5 @@ whole_value known line b n = do
 abbrev pub merged_well : Value × Bool → Checked Value
 merged_well v = check v.1 BadMerge >> Ok v.0
 
-abbrev pub flow_value : Anchors → ℕ → Bracket → List Mark → Checked Value
-flow_value known line b marks = whole_value known line b (nest marks) >>= merged_well
+abbrev pub flow_value : Anchors → ℕ → Bracket → List Token → Checked Value
+flow_value known line b tokens = whole_value known line b (nest tokens) >>= merged_well

@@ -9,7 +9,7 @@ use Rattle.rvs_yaml_text.specs.WordView.{bracket_view}
 use Rattle.rvs_yaml.specs.declared.reading.Place.{Place}
 use Rattle.rvs_yaml.specs.declared.reading.Place.TheVariants.{Member, BehindMember, KeyPlace, EntryValue, BehindEntry}
 use Rattle.rvs_yaml.specs.declared.reading.Level.{Level}
-use Rattle.rvs_yaml.specs.MarkParts as mark_spec
+use Rattle.rvs_yaml.specs.TokenParts as token_spec
 use Rattle.rvs_yaml.specs.declared.reading.Flowing.{Flowing}
 use Rattle.rvs_yaml.specs.declared.reading.Reading.{Reading}
 use Rattle.rvs_yaml.specs.declared.reading.Reading.TheVariants.{Inside, Whole}
@@ -32,5 +32,5 @@ abbrev pub reading_view : Reading → steps_spec.Reading
 reading_view (Inside good level outer) = steps_spec.open_in good (bracket_view level.bracket) (place_view level.place) (levels_view outer.items)
 reading_view (Whole v good) = steps_spec.whole (value_view v, good)
 
-abbrev pub flowing_view : Flowing → mark_spec.Flowing
-flowing_view f = (reading_view f.reading, (f.spaced, f.rest.now))
+abbrev pub flowing_view : Flowing → token_spec.Flowing
+flowing_view f = token_spec.flowing (reading_view f.reading) f.closed f.spaced f.rest.now

@@ -4,11 +4,16 @@ use Rattle.rvs_yaml.specs.Checks.{Checked}
 use Rattle.rvs_yaml_text.specs.declared.kind.YamlKind.{YamlKind}
 use Rattle.rvs_yaml_text.specs.declared.kind.YamlKind.TheVariants.{NoMemory}
 
--- What a function returned, seen by see, is what the check gives, unless memory ran out.
 abbrev pub Fails : {Y : Type 0} → YamlKind → Checked Y → Type 0
 Fails NoMemory read = Unit {0}
 Fails kind read = read ≡ Err kind
 
+-- What a function returned, seen by see, is what the check gives.
+abbrev pub Agrees : {X Y : Type 0} → (X → Y) → Result X YamlKind → Checked Y → Type 0
+Agrees see (Ok x) read = read ≡ Ok (see x)
+Agrees see (Err kind) read = read ≡ Err kind
+
+-- The same of a function that takes memory, unless memory ran out.
 abbrev pub Gives : {X Y : Type 0} → (X → Y) → Result X YamlKind → Checked Y → Type 0
 Gives see (Ok x) read = read ≡ Ok (see x)
 Gives see (Err kind) read = Fails kind read

@@ -10,7 +10,7 @@ pub mod FlowView
 pub mod Front
 pub mod Gives
 pub mod LineParts
-pub mod MarkParts
+pub mod TokenParts
 pub mod Reader
 pub mod Places
 pub mod Sketched

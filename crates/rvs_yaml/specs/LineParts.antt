@@ -1,12 +1,12 @@
 -- Parts of the words of a line.
 use Rattle.std.specs.Prelude.{ℕ, Bool, true, false, ◌&&◌, List, [], ◌∷◌, drop, Option, Some, None}
 use Rattle.rvs_yaml_text.specs.Word.{Word}
-use Rattle.rvs_yaml_text.specs.Scalar.{starts_with, ends_mark}
+use Rattle.rvs_yaml_text.specs.Scalar.{starts_with, ends_indicator}
 use Rattle.rvs_yaml_text.specs.Text.{word_of, anchored_shape, anchor_split, last_words}
 
 -- the text behind the dash of an item
 abbrev pub behind_dash : List ℕ → Option (List ℕ)
-behind_dash bytes = elim (starts_with 45 bytes && ends_mark (drop 1 bytes)) [ true ↦ Some (drop 1 bytes) | false ↦ None ]
+behind_dash bytes = elim (starts_with 45 bytes && ends_indicator (drop 1 bytes)) [ true ↦ Some (drop 1 bytes) | false ↦ None ]
 
 abbrev pub words_in : Option Word → List Word
 words_in None = []

@@ -5,12 +5,12 @@ ghost use Rattle.rvs_yaml.specs.Flow as spec;
 ghost use Rattle.rvs_yaml.specs.FlowSteps as steps_spec;
 ghost use Rattle.rvs_yaml.specs.FlowParts as parts;
 ghost use Rattle.rvs_yaml_text.specs.declared.kind.YamlKind.TheVariants.{BadScalar, BadFlow};
-ghost use Rattle.rvs_yaml.specs.Gives.{Gives};
+ghost use Rattle.rvs_yaml.specs.Gives.{Agrees, Gives};
 ghost use Rattle.rvs_yaml.specs.StackView.{known_view};
 ghost use Rattle.rvs_tree.specs.ValueView.{value_view, written_view, entries_view};
 ghost use Rattle.rvs_yaml_text.specs.KeyView.{key_view};
 ghost use Rattle.rvs_yaml_text.specs.WordView.{bracket_view};
-ghost use Rattle.rvs_yaml_text.specs.MarkView.{mark_view};
+ghost use Rattle.rvs_yaml_text.specs.TokenView.{token_view};
 ghost use Rattle.rvs_yaml.specs.FlowView.{place_view, reading_view, levels_view};
 
 use crate::entry::entry_of;
@@ -19,7 +19,7 @@ use crate::reading::{Level, Place, Reading};
 use rvs_tree::{
     EntryList, Value, ValueList, Written, is_mergeable, list_value, map_value, scalar_value,
 };
-use rvs_yaml_text::{Bracket, Key, Mark, YamlKind};
+use rvs_yaml_text::{Bracket, Key, Token, YamlKind};
 use std::alloc::Global;
 
 /// The place behind a collection's bracket.
@@ -48,7 +48,7 @@ fn with_value(alloc: Global, place: Place, value: Value) -> Result<Place, YamlKi
 
 /// The place behind a comma.
 fn with_comma(place: Place) -> Result<Place, YamlKind>
-    ensures { Gives place_view result (spec.with_comma (place_view place)) }
+    ensures { Agrees place_view result (spec.with_comma (place_view place)) }
 {
     match place {
         Place::BehindMember(list) => Ok(Place::Member(list)),
@@ -66,7 +66,7 @@ fn is_new(list: &EntryList, key: &Key) -> bool
 
 /// The place behind a key and its colon.
 fn with_key(place: Place, key: Key) -> Result<Place, YamlKind>
-    ensures { Gives place_view result (spec.with_key (place_view place) (key_view key)) }
+    ensures { Agrees place_view result (spec.with_key (place_view place) (key_view key)) }
 {
     match place {
         Place::KeyPlace(list) => {
@@ -167,32 +167,33 @@ fn with_scalar(alloc: Global, line: u64, place: Place, key: Key) -> Result<Place
     with_value(alloc, place, value)
 }
 
-/// The place behind a mark that is no bracket.
-fn with_mark(
+/// The place behind a token that is no bracket.
+fn with_token(
     alloc: Global,
     known: &Known<'_, '_>,
     line: u64,
     place: Place,
-    mark: Mark<'_>,
+    token: Token<'_>,
 ) -> Result<Place, YamlKind>
-    ensures { Gives place_view result (spec.with_mark (known_view known.now) line (place_view place) (mark_view mark.entry)) }
+    ensures { Gives place_view result (spec.with_token (known_view known.now) line (place_view place) (token_view token.entry)) }
 {
-    match mark {
-        Mark::Comma => with_comma(place),
-        Mark::Colon => Err(start_fault(&place, YamlKind::BadScalar)),
-        Mark::Scalar(key) => with_scalar(alloc, line, place, key),
-        Mark::Keyed(key) => with_key(place, key),
-        Mark::CutKey(key) => Err(cut_key_fault(&place, &key)),
-        Mark::ColonScalar(byte) => Err(colon_scalar_fault(&place, byte)),
-        Mark::Alias(name) => with_alias(alloc, known, place, name),
-        Mark::Fault(kind) => Err(start_fault(&place, kind)),
+    match token {
+        Token::Comma => with_comma(place),
+        Token::Colon => Err(start_fault(&place, YamlKind::BadScalar)),
+        Token::Scalar(key) => with_scalar(alloc, line, place, key),
+        Token::Keyed(key) => with_key(place, key),
+        Token::CutKey(key) => Err(cut_key_fault(&place, &key)),
+        Token::ColonScalar(byte) => Err(colon_scalar_fault(&place, byte)),
+        Token::Alias(name) => with_alias(alloc, known, place, name),
+        Token::Fault(kind) => Err(start_fault(&place, kind)),
+        Token::LateColon => Err(YamlKind::Unsupported),
         _ => Err(YamlKind::BadFlow),
     }
 }
 
 /// Whether a collection may begin here.
 fn may_open(place: &Place) -> Result<(), YamlKind>
-    ensures { Gives (λ u. u) result (spec.may_open (place_view place.now)) }
+    ensures { Agrees (λ u. u) result (spec.may_open (place_view place.now)) }
 {
     match place {
         Place::Member(_) | Place::EntryValue(_, _) => Ok(()),
@@ -214,7 +215,7 @@ fn closes(alloc: Global, line: u64, place: &Place) -> Result<Value, YamlKind>
 
 /// Whether the bracket ends a collection with this one.
 fn ends_with(first: Bracket, last: Bracket) -> Result<(), YamlKind>
-    ensures { Gives (λ u. u) result (spec.ends_with (bracket_view first) (Some (bracket_view last))) }
+    ensures { Agrees (λ u. u) result (spec.ends_with (bracket_view first) (Some (bracket_view last))) }
 {
     match (first, last) {
         (Bracket::Square, Bracket::Square) | (Bracket::Curly, Bracket::Curly) => Ok(()),
@@ -306,7 +307,7 @@ fn closed(
     into(alloc, value, good, outer)
 }
 
-/// What is read behind another mark.
+/// What is read behind another token.
 fn moved(
     alloc: Global,
     known: &Known<'_, '_>,
@@ -314,11 +315,11 @@ fn moved(
     good: bool,
     level: Level,
     outer: Vec<Level>,
-    mark: Mark<'_>,
+    token: Token<'_>,
 ) -> Result<Reading, YamlKind>
-    ensures { Gives reading_view result (steps_spec.moved good (bracket_view level.bracket) (levels_view outer.items) (spec.with_mark (known_view known.now) line (place_view level.place) (mark_view mark.entry))) }
+    ensures { Gives reading_view result (steps_spec.moved good (bracket_view level.bracket) (levels_view outer.items) (spec.with_token (known_view known.now) line (place_view level.place) (token_view token.entry))) }
 {
-    let place = with_mark(alloc, known, line, level.place, mark)?;
+    let place = with_token(alloc, known, line, level.place, token)?;
     let good = good && fits(&place);
     Ok(Reading::Inside(
         good,
@@ -330,24 +331,24 @@ fn moved(
     ))
 }
 
-/// What is read behind one mark more.
+/// What is read behind one token more.
 pub(crate) fn flow_step(
     alloc: Global,
     known: &Known<'_, '_>,
     line: u64,
     reading: Reading,
-    mark: Mark<'_>,
+    token: Token<'_>,
 ) -> Result<Reading, YamlKind>
-    ensures { Gives reading_view result (steps_spec.flow_step (known_view known.now) line (reading_view reading) (mark_view mark.entry)) }
+    ensures { Gives reading_view result (steps_spec.flow_step (known_view known.now) line (reading_view reading) (token_view token.entry)) }
 {
     match reading {
-        Reading::Inside(good, level, outer) => match mark {
-            Mark::Opening(bracket) => opened(alloc, good, level, outer, bracket),
-            Mark::Closing(bracket) => closed(alloc, line, good, level, outer, bracket),
-            _ => moved(alloc, known, line, good, level, outer, mark),
+        Reading::Inside(good, level, outer) => match token {
+            Token::Opening(bracket) => opened(alloc, good, level, outer, bracket),
+            Token::Closing(bracket) => closed(alloc, line, good, level, outer, bracket),
+            _ => moved(alloc, known, line, good, level, outer, token),
         },
-        Reading::Whole(_, _) => match mark {
-            Mark::Colon => Err(YamlKind::Unsupported),
+        Reading::Whole(_, _) => match token {
+            Token::LateColon => Err(YamlKind::Unsupported),
             _ => Err(YamlKind::BadFlow),
         },
     }
@@ -363,7 +364,7 @@ pub(crate) fn new_reading(alloc: Global, bracket: Bracket) -> Reading
 
 /// The value of a collection with nothing behind it.
 pub(crate) fn flow_end(reading: Reading) -> Result<Value, YamlKind>
-    ensures { Gives value_view result (parts.ended (reading_view reading)) }
+    ensures { Agrees value_view result (parts.ended (reading_view reading)) }
 {
     match reading {
         Reading::Whole(value, true) => Ok(value),

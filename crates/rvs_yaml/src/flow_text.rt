@@ -1,8 +1,8 @@
 // The text of flow collections.
 ghost use Rattle.std.specs.Prelude.{◌≡◌, ◌<◌, length};
-ghost use Rattle.rvs_yaml_text.specs.Marks as spec;
+ghost use Rattle.rvs_yaml_text.specs.Tokens as spec;
 ghost use Rattle.rvs_yaml.specs.Flow as flow_spec;
-ghost use Rattle.rvs_yaml.specs.MarkParts as parts;
+ghost use Rattle.rvs_yaml.specs.TokenParts as parts;
 ghost use Rattle.rvs_yaml.specs.Gives.{Gives};
 ghost use Rattle.rvs_yaml.specs.StackView.{known_view};
 ghost use Rattle.rvs_tree.specs.ValueView.{value_view};
@@ -13,7 +13,7 @@ use crate::flow::{flow_end, flow_step, new_reading};
 use crate::known::Known;
 use crate::reading::Flowing;
 use rvs_tree::Value;
-use rvs_yaml_text::{Bracket, YamlKind, behind_first, first_mark, starts_with};
+use rvs_yaml_text::{Bracket, YamlKind, behind_first, closes, next_token, starts_with};
 use std::alloc::Global;
 
 /// Whether nothing or a comment comes next.
@@ -23,7 +23,7 @@ fn is_flow_end(spaced: bool, bytes: &[u8]) -> bool
     bytes.is_empty() || (starts_with(b'#', bytes) && spaced)
 }
 
-/// Reads one space or one mark more.
+/// Reads one space or one token more.
 fn next_flowing<'a>(
     alloc: Global,
     known: &Known<'_, '_>,
@@ -35,20 +35,24 @@ fn next_flowing<'a>(
 {
     let Flowing {
         reading,
+        closed,
         spaced: _,
         rest,
     } = flowing;
     if starts_with(b' ', rest.as_bytes()) {
         return Ok(Flowing {
             reading,
+            closed,
             spaced: true,
             rest: behind_first(rest),
         });
     }
-    let (mark, behind) = first_mark(alloc, rest)?;
-    let reading = flow_step(alloc, known, line, reading, mark)?;
+    let (token, behind) = next_token(alloc, closed, rest)?;
+    let closed = closes(&token);
+    let reading = flow_step(alloc, known, line, reading, token)?;
     Ok(Flowing {
         reading,
+        closed,
         spaced: false,
         rest: behind,
     })
@@ -62,14 +66,15 @@ pub(crate) fn flow_value(
     bracket: Bracket,
     text: &str,
 ) -> Result<Value, YamlKind>
-    ensures { Gives value_view result (flow_spec.flow_value (known_view known.now) line (bracket_view bracket) (spec.marks_of text.now)) }
+    ensures { Gives value_view result (flow_spec.flow_value (known_view known.now) line (bracket_view bracket) (spec.tokens_of text.now)) }
 {
     let mut flowing = Flowing {
         reading: new_reading(alloc, bracket),
+        closed: false,
         spaced: false,
         rest: text,
     };
-    // A mark takes a byte at least.
+    // A token takes a byte at least.
     let mut left = text.len();
     while left > 0 {
         if is_flow_end(flowing.spaced, flowing.rest.as_bytes()) {

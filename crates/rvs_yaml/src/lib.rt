@@ -18,7 +18,7 @@ mod refusal;
 mod sketch;
 mod stack;
 
-pub use reader::{parse, refusals_are_least};
+pub use reader::{fronts_have_trees, parse, refusals_are_least};
 pub use refusal::YamlRefusal;
 pub use rvs_tree::Tree;
 pub use rvs_yaml_text::YamlKind;

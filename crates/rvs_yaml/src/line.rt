@@ -11,7 +11,7 @@ ghost use Rattle.rvs_yaml_text.specs.WordView.{word_view, shape_view};
 use crate::open::Open;
 use crate::stack::step;
 use rvs_yaml_text::{
-    Shape, Word, YamlKind, anchored_item, behind_first, ends_mark, is_blank, item_name,
+    Shape, Word, YamlKind, anchored_item, behind_first, ends_indicator, is_blank, item_name,
     only_comment, shape_of, starts_with, without_spaces,
 };
 use std::alloc::{AllocError, Global};
@@ -25,7 +25,7 @@ fn behind_dash(text: &str) -> Option<&str>
         return None;
     }
     let behind = behind_first(text);
-    if ends_mark(behind.as_bytes()) {
+    if ends_indicator(behind.as_bytes()) {
         Some(behind)
     } else {
         None
@@ -144,13 +144,13 @@ fn read_words<'a>(
 }
 
 /// Whether the line is three of these bytes, with at most a comment behind them.
-fn is_mark(mark: u8, line: &[u8]) -> bool
-    ensures { result ≡ text_spec.is_mark mark line.now }
+fn is_mark(byte: u8, line: &[u8]) -> bool
+    ensures { result ≡ text_spec.is_mark byte line.now }
 {
     match line {
-        [first, second, third, behind @ ..] => *first == mark
-            && *second == mark
-            && *third == mark
+        [first, second, third, behind @ ..] => *first == byte
+            && *second == byte
+            && *third == byte
             && only_comment(behind),
         _ => false,
     }

@@ -2,7 +2,7 @@
 ghost use Rattle.std.specs.Prelude.{◌≡◌};
 ghost use Rattle.rvs_yaml.specs.Block as block_spec;
 ghost use Rattle.rvs_yaml.specs.Flow as flow_spec;
-ghost use Rattle.rvs_yaml_text.specs.Marks.{marks_of};
+ghost use Rattle.rvs_yaml_text.specs.Tokens.{tokens_of};
 ghost use Rattle.rvs_yaml.specs.Gives.{Gives};
 ghost use Rattle.rvs_yaml.specs.StackView.{known_view};
 ghost use Rattle.rvs_tree.specs.ValueView.{value_view};

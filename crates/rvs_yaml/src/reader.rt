@@ -1,6 +1,6 @@
 // Reading a text line by line.
-ghost use Rattle.std.specs.Prelude.{◌≡◌, ◌||◌, ◌&&◌, not, true, Ok, Err, IfOk, IfErr};
-ghost use Rattle.rvs_yaml.specs.Answer.{Answer, answer, AnswersAreLeast};
+ghost use Rattle.std.specs.Prelude.{◌≡◌, ◌≤◌, ◌||◌, ◌&&◌, not, true, Ok, Err, IfOk, IfErr};
+ghost use Rattle.rvs_yaml.specs.Answer.{Answer, answer, IsTreeOf, RefusesLines, KeepsNodes, FrontsHaveTrees, AnswersAreLeast};
 ghost use Rattle.rvs_yaml.specs.Front as front_spec;
 ghost use Rattle.rvs_yaml.specs.Reader as spec;
 ghost use Rattle.rvs_yaml_text.specs.Scalar as scalar_spec;
@@ -9,6 +9,8 @@ ghost use Rattle.rvs_yaml_text.specs.declared.kind.YamlKind.TheVariants.{NoMemor
 ghost use Rattle.rvs_yaml.specs.Gives.{Gives};
 ghost use Rattle.rvs_yaml.specs.StackView.{stack_view};
 ghost use Rattle.rvs_tree.specs.TreeView.{view};
+ghost use Rattle.rvs_tree.specs.Data.{depth};
+ghost use Rattle.rvs_yaml_text.specs.Text.{lines_of};
 
 use crate::front::{check_front, front_value};
 use crate::line::read_line;
@@ -76,6 +78,18 @@ fn refusal(line: u64, kind: YamlKind) -> YamlRefusal
 pub fn parse(alloc: Global, bytes: &[u8]) -> Result<Tree, YamlRefusal>
     ensures tree { IfOk result (λ t. answer bytes.now ≡ Ok (view t)) }
     ensures refused { IfErr result (λ e. spec.Refuses e.kind e.line (answer bytes.now)) }
+    ensures tree_of_lines { IfOk result (λ t. IsTreeOf (lines_of bytes.now) (view t)) }
+    ensures first_fault { IfErr result (λ e. RefusesLines (lines_of bytes.now) e.kind e.line) }
+    ensures shallow { IfOk result (λ t. depth (view t) ≤ 32) }
+    ensures few { IfOk result (λ t. KeepsNodes (lines_of bytes.now) (view t)) }
+{
+    read_text(alloc, bytes)
+}
+
+/// Reads a text line by line.
+fn read_text(alloc: Global, bytes: &[u8]) -> Result<Tree, YamlRefusal>
+    ensures tree { IfOk result (λ t. answer bytes.now ≡ Ok (view t)) }
+    ensures refused { IfErr result (λ e. spec.Refuses e.kind e.line (answer bytes.now)) }
 {
     let mut blocks = Vec::new(alloc);
     let mut number: u64 = 0;
@@ -113,6 +127,11 @@ fn whole_tree(alloc: Global, blocks: Vec<Open<'_>>) -> Result<Tree, YamlKind>
     // Nothing else holds the root now.
     Rc::into_inner(value.tree).ok_or(YamlKind::NoMemory)
 }
+
+/// Where lines have a tree, each front of them has one.
+pub fn fronts_have_trees()
+    ensures { FrontsHaveTrees }
+{}
 
 /// A text is refused at the least front of its lines that has no tree, and has one where there is none.
 pub fn refusals_are_least()

@@ -27,10 +27,12 @@ pub(crate) enum Reading {
     Whole(Value, bool),
 }
 
-/// A flow collection that is read: whether a space was read last, and the text that is left.
+/// A flow collection that is read: whether a closing bracket was read last, whether a space stands
+/// before the text that is left, and that text.
 #[derive(Drop)]
 pub(crate) struct Flowing<'a> {
     pub reading: Reading,
+    pub closed: bool,
     pub spaced: bool,
     pub rest: &'a str,
 }

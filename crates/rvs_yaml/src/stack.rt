@@ -4,7 +4,7 @@ ghost use Rattle.rvs_yaml.specs.Block as block_spec;
 ghost use Rattle.rvs_yaml.specs.Stack as spec;
 ghost use Rattle.rvs_tree.specs.Value as value_spec;
 ghost use Rattle.rvs_yaml.specs.StepParts as parts;
-ghost use Rattle.rvs_yaml.specs.Gives.{Gives};
+ghost use Rattle.rvs_yaml.specs.Gives.{Agrees, Gives};
 ghost use Rattle.rvs_yaml.specs.StackView.{anchors_view, done_view, found_view, block_view, stack_view};
 ghost use Rattle.rvs_yaml.specs.StepView.{done_content, key_content};
 ghost use Rattle.rvs_tree.specs.ValueView.{value_view, values_view, entries_view};
@@ -34,7 +34,7 @@ fn no_place(shape: &Shape<'_>) -> YamlKind
 
 /// Whether the value can be merged, where its key merges.
 pub(crate) fn check_merge(key: &Key, value: &Value) -> Result<(), YamlKind>
-    ensures { Gives (λ u. u) result (block_spec.check_merge (key_view key.now) (value_view value.now)) }
+    ensures { Agrees (λ u. u) result (block_spec.check_merge (key_view key.now) (value_view value.now)) }
 {
     if key.merges && !is_mergeable(&value.tree) {
         Err(YamlKind::BadMerge)
@@ -45,7 +45,7 @@ pub(crate) fn check_merge(key: &Key, value: &Value) -> Result<(), YamlKind>
 
 /// Whether the word is an item of the list at this column.
 fn item_at(column: usize, word: &Word<'_>) -> Result<(), YamlKind>
-    ensures { Gives (λ u. u) result (block_spec.item_at column (word_view word.now)) }
+    ensures { Agrees (λ u. u) result (block_spec.item_at column (word_view word.now)) }
 {
     if word.sort().is_dash() && word.column == column {
         Ok(())
@@ -56,7 +56,7 @@ fn item_at(column: usize, word: &Word<'_>) -> Result<(), YamlKind>
 
 /// Whether the key is new in the map, or merges.
 fn check_new(entries: &EntryList, key: &Key) -> Result<(), YamlKind>
-    ensures { Gives (λ u. u) result (parts.check_new (value_spec.explicit_keys (entries_view entries.now.entries.items)) (key_view key.now)) }
+    ensures { Agrees (λ u. u) result (parts.check_new (value_spec.explicit_keys (entries_view entries.now.entries.items)) (key_view key.now)) }
 {
     if key.merges {
         return Ok(());
@@ -74,7 +74,7 @@ fn key_at<'a>(
     entries: &EntryList,
     word: Word<'a>,
 ) -> Result<(Key, Content<'a>), YamlKind>
-    ensures { Gives key_content result (parts.keyed_content column (value_spec.explicit_keys (entries_view entries.now.entries.items)) (word_view word.entry)) }
+    ensures { Agrees key_content result (parts.keyed_content column (value_spec.explicit_keys (entries_view entries.now.entries.items)) (word_view word.entry)) }
 {
     let Word {
         line: _,

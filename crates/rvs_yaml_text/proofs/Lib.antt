@@ -1,4 +1,5 @@
 pub mod Cutting
 pub mod Plains
+pub mod Printing
 pub mod Quoting
 pub mod Scans

@@ -2,7 +2,7 @@
 use Rattle.std.proofs.Common.{◌≡◌, ℕ, ◌+◌, ◌<◌, Bool, true, false, List, [], ◌∷◌, ◌++◌, length, take, drop, get_or, sym, ap, ◌∙◌, refl, append-nil, append_assoc}
 use Rattle.std.specs.Prelude.{◌==◌}
 use Rattle.std.proofs.lemmas.List.{take_more}
-use Rattle.rvs_yaml_text.specs.Marks.{ends_plain, plain_split, before}
+use Rattle.rvs_yaml_text.specs.Tokens.{ends_plain, plain_split, before}
 use Rattle.rvs_yaml_text.proofs.Scans.{front_too, drop-at}
 
 plain-here : (sp : Bool) (b : ℕ) (bs : List ℕ) → ends_plain sp b bs ≡ true → plain_split sp (b ∷ bs) ≡ ([], b ∷ bs)

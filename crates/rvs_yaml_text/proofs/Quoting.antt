@@ -3,7 +3,7 @@ use Rattle.std.proofs.Common.{◌≡◌, ℕ, ◌+◌, ◌<◌, Bool, true, fals
 use Rattle.std.proofs.lemmas.Bool.Decides.{nat_tests}
 use Rattle.std.specs.Prelude.{◌==◌, ◌||◌}
 use Rattle.rvs_yaml_text.specs.Scalar.{Split, onto, single, behind_quote, double, behind_backslash, escaped, starts_with}
-use Rattle.rvs_yaml_text.specs.Quotes.{at_byte, at_mark, escape}
+use Rattle.rvs_yaml_text.specs.Quotes.{at_byte, at_stop, escape}
 use Rattle.rvs_yaml_text.proofs.Scans.{onto_all, onto_all-onto, drop-at}
 
 byte-here : (c b : ℕ) (bs : List ℕ) → (b == c) ≡ true → at_byte c (b ∷ bs) ≡ Some ([], bs)
@@ -15,13 +15,13 @@ byte-found c bs i h e =
     ∙ ap (onto_all (take i bs)) (byte-here c (get_or bs i 0) (drop (i + 1) bs) e)
     ∙ ap (λ ys. Some (ys, drop (i + 1) bs)) (append-nil (take i bs))
 
-mark-here : (b : ℕ) (bs : List ℕ) → (b == 34 || b == 92) ≡ true → at_mark (b ∷ bs) ≡ Some ([], b ∷ bs)
-mark-here b bs e = rw (e, at_mark) refl
+stop-here : (b : ℕ) (bs : List ℕ) → (b == 34 || b == 92) ≡ true → at_stop (b ∷ bs) ≡ Some ([], b ∷ bs)
+stop-here b bs e = rw (e, at_stop) refl
 
-pub mark-found : (bs : List ℕ) (i : ℕ) → i < length bs → (get_or bs i 0 == 34 || get_or bs i 0 == 92) ≡ true → onto_all (take i bs) (at_mark (drop i bs)) ≡ Some (take i bs, drop i bs)
-mark-found bs i h e =
-    ap (λ ys. onto_all (take i bs) (at_mark ys)) (drop-at bs i h)
-    ∙ ap (onto_all (take i bs)) (mark-here (get_or bs i 0) (drop (i + 1) bs) e)
+pub stop-found : (bs : List ℕ) (i : ℕ) → i < length bs → (get_or bs i 0 == 34 || get_or bs i 0 == 92) ≡ true → onto_all (take i bs) (at_stop (drop i bs)) ≡ Some (take i bs, drop i bs)
+stop-found bs i h e =
+    ap (λ ys. onto_all (take i bs) (at_stop ys)) (drop-at bs i h)
+    ∙ ap (onto_all (take i bs)) (stop-here (get_or bs i 0) (drop (i + 1) bs) e)
     ∙ ap (λ ys. Some (ys, get_or bs i 0 ∷ drop (i + 1) bs)) (append-nil (take i bs))
     ∙ ap (λ ys. Some (take i bs, ys)) (sym (drop-at bs i h))
 
@@ -55,7 +55,7 @@ single-split : (bs : List ℕ) → single bs ≡ then_quote (at_byte 39 bs)
 single-split [] = refl
 single-split (b ∷ bs) = single-by (b == 39) b bs (single-split bs)
 
-quote-end : (bs : List ℕ) → starts_with 39 bs ≡ false → behind_quote bs ≡ Some ([], bs)
+pub quote-end : (bs : List ℕ) → starts_with 39 bs ≡ false → behind_quote bs ≡ Some ([], bs)
 quote-end [] e = refl
 quote-end (b ∷ bs) e = rw (e, behind_quote) refl
 
@@ -81,13 +81,13 @@ pub single-none : (done text rest : List ℕ) → onto_all done (single rest) �
 single-none done text rest inv e = sym (ap (onto_all done) (single-split rest ∙ ap then_quote (sym e))) ∙ inv
 
 -- the same in double quotes
-abbrev then_mark : Split → Split
-then_mark None = None
-then_mark (Some p) = onto_all p.0 (double p.1)
+abbrev then_stop : Split → Split
+then_stop None = None
+then_stop (Some p) = onto_all p.0 (double p.1)
 
-onto-mark : (b : ℕ) (o : Split) → onto b (then_mark o) ≡ then_mark (onto b o)
-onto-mark b None = refl
-onto-mark b (Some p) = onto-onto_all b p.0 (double p.1)
+onto-stop : (b : ℕ) (o : Split) → onto b (then_stop o) ≡ then_stop (onto b o)
+onto-stop b None = refl
+onto-stop b (Some p) = onto-onto_all b p.0 (double p.1)
 
 or_parts : (x y : Bool) → (x || y) ≡ false → (x ≡ false) × (y ≡ false)
 or_parts true y h = cc
@@ -96,12 +96,12 @@ or_parts false y h = (refl, h)
 double-more : (b : ℕ) (bs : List ℕ) → (b == 34) ≡ false → (b == 92) ≡ false → double (b ∷ bs) ≡ onto b (double bs)
 double-more b bs h k = rw (h, double) (rw (k, double) refl)
 
-double-split : (bs : List ℕ) → double bs ≡ then_mark (at_mark bs)
+double-split : (bs : List ℕ) → double bs ≡ then_stop (at_stop bs)
 double-split [] = refl
 double-split (b ∷ bs) =
-    elim (b == 34 || b == 92) as (λ t. (b == 34 || b == 92) ≡ t → double (b ∷ bs) ≡ then_mark (elim t as (λ _. Split) [ true ↦ Some ([], b ∷ bs) | false ↦ onto b (at_mark bs) ])) [
+    elim (b == 34 || b == 92) as (λ t. (b == 34 || b == 92) ≡ t → double (b ∷ bs) ≡ then_stop (elim t as (λ _. Split) [ true ↦ Some ([], b ∷ bs) | false ↦ onto b (at_stop bs) ])) [
       | true ↦ λ e. sym (onto_nil (double (b ∷ bs)))
-      | false ↦ λ e. double-more b bs (or_parts (b == 34) (b == 92) e).0 (or_parts (b == 34) (b == 92) e).1 ∙ ap (onto b) (double-split bs) ∙ onto-mark b (at_mark bs)
+      | false ↦ λ e. double-more b bs (or_parts (b == 34) (b == 92) e).0 (or_parts (b == 34) (b == 92) e).1 ∙ ap (onto b) (double-split bs) ∙ onto-stop b (at_stop bs)
     ] refl
 
 double-quote : (bs : List ℕ) → starts_with 34 bs ≡ true → double bs ≡ Some ([], drop 1 bs)
@@ -112,10 +112,10 @@ double-escape : (bs : List ℕ) → starts_with 34 bs ≡ false → (starts_with
 double-escape [] e m = cc
 double-escape (b ∷ bs) e m = let k : (b == 92) ≡ true = rw e at m in rw (e, double) (rw (k, double) refl)
 
-double-piece : (rest piece behind : List ℕ) → Some (piece, behind) ≡ at_mark rest → double rest ≡ onto_all piece (double behind)
-double-piece rest piece behind e = double-split rest ∙ ap then_mark (sym e)
+double-piece : (rest piece behind : List ℕ) → Some (piece, behind) ≡ at_stop rest → double rest ≡ onto_all piece (double behind)
+double-piece rest piece behind e = double-split rest ∙ ap then_stop (sym e)
 
-pub double-found : (done text rest piece behind : List ℕ) → onto_all done (double rest) ≡ double text → Some (piece, behind) ≡ at_mark rest → starts_with 34 behind ≡ true → Some (done ++ piece, drop 1 behind) ≡ double text
+pub double-found : (done text rest piece behind : List ℕ) → onto_all done (double rest) ≡ double text → Some (piece, behind) ≡ at_stop rest → starts_with 34 behind ≡ true → Some (done ++ piece, drop 1 behind) ≡ double text
 double-found done text rest piece behind inv e q =
     ap (λ ys. Some (done ++ ys, drop 1 behind)) (sym (append-nil piece)) ∙ sym (ap (λ o. onto_all done (onto_all piece o)) (double-quote behind q)) ∙ sym (ap (onto_all done) (double-piece rest piece behind e)) ∙ inv
 
@@ -139,7 +139,7 @@ backslash-none : (bs : List ℕ) → None ≡ escape bs → behind_backslash bs 
 backslash-none [] e = refl
 backslash-none (b ∷ bs) e = escaped-none (escaped b) bs e
 
-pub double-more_text : (done text rest piece behind xs : List ℕ) → onto_all done (double rest) ≡ double text → Some (piece, behind) ≡ at_mark rest → starts_with 34 behind ≡ false → (starts_with 34 behind || starts_with 92 behind) ≡ true → Some xs ≡ escape (drop 1 behind)
+pub double-more_text : (done text rest piece behind xs : List ℕ) → onto_all done (double rest) ≡ double text → Some (piece, behind) ≡ at_stop rest → starts_with 34 behind ≡ false → (starts_with 34 behind || starts_with 92 behind) ≡ true → Some xs ≡ escape (drop 1 behind)
     → onto_all ((done ++ piece) ++ xs) (double (drop 1 (drop 1 behind))) ≡ double text
 double-more_text done text rest piece behind xs inv e q m x =
     sym (onto_all-onto_all (done ++ piece) xs (double (drop 1 (drop 1 behind))))
@@ -147,12 +147,12 @@ double-more_text done text rest piece behind xs inv e q m x =
     ∙ sym (onto_all-onto_all done piece (double behind))
     ∙ sym (ap (onto_all done) (double-piece rest piece behind e)) ∙ inv
 
-pub double-bad : (done text rest piece behind : List ℕ) → onto_all done (double rest) ≡ double text → Some (piece, behind) ≡ at_mark rest → starts_with 34 behind ≡ false → (starts_with 34 behind || starts_with 92 behind) ≡ true → None ≡ escape (drop 1 behind) → None ≡ double text
+pub double-bad : (done text rest piece behind : List ℕ) → onto_all done (double rest) ≡ double text → Some (piece, behind) ≡ at_stop rest → starts_with 34 behind ≡ false → (starts_with 34 behind || starts_with 92 behind) ≡ true → None ≡ escape (drop 1 behind) → None ≡ double text
 double-bad done text rest piece behind inv e q m x =
     sym (ap (λ o. onto_all done (onto_all piece o)) (double-escape behind q m ∙ backslash-none (drop 1 behind) x)) ∙ sym (ap (onto_all done) (double-piece rest piece behind e)) ∙ inv
 
-pub double-none : (done text rest : List ℕ) → onto_all done (double rest) ≡ double text → None ≡ at_mark rest → None ≡ double text
-double-none done text rest inv e = sym (ap (onto_all done) (double-split rest ∙ ap then_mark (sym e))) ∙ inv
+pub double-none : (done text rest : List ℕ) → onto_all done (double rest) ≡ double text → None ≡ at_stop rest → None ≡ double text
+double-none done text rest inv e = sym (ap (onto_all done) (double-split rest ∙ ap then_stop (sym e))) ∙ inv
 
 pub eq_test : (a b : ℕ) → a ≡ b → (a == b) ≡ true
 eq_test a b h = grind (arith, nat_tests)

@@ -5,7 +5,7 @@ use Rattle.std.proofs.lemmas.List.{take_more}
 use Rattle.std.proofs.Common.{add-one, ◌-◌, length-drop}
 use Rattle.std.proofs.lemmas.Bool.Decides.{nat_tests}
 use Rattle.std.specs.Prelude.{◌==◌, ◌&&◌}
-use Rattle.rvs_yaml_text.specs.Scalar.{Split, onto, trimmed, push_front, key_split, ends_mark, name_split, is_name_byte, without_spaces}
+use Rattle.rvs_yaml_text.specs.Scalar.{Split, onto, trimmed, push_front, key_split, ends_indicator, name_split, is_name_byte, without_spaces}
 
 -- a split with more text at its front
 abbrev pub onto_all : List ℕ → Split → Split
@@ -30,20 +30,20 @@ trimmed-solid (x ∷ y ∷ xs) b h = ap (push_front x) (trimmed-solid (y ∷ xs)
 pub drop-at : (bs : List ℕ) (i : ℕ) → i < length bs → drop i bs ≡ get_or bs i 0 ∷ drop (i + 1) bs
 drop-at bs i h = rw add-one (drop-cons bs i 0 h)
 
-found-here : (sp : Bool) (b : ℕ) (bs : List ℕ) → (b == 35 && sp) ≡ false → (b == 58 && ends_mark bs) ≡ true → key_split sp (b ∷ bs) ≡ Some ([], bs)
+found-here : (sp : Bool) (b : ℕ) (bs : List ℕ) → (b == 35 && sp) ≡ false → (b == 58 && ends_indicator bs) ≡ true → key_split sp (b ∷ bs) ≡ Some ([], bs)
 found-here sp b bs c e = rw (c, key_split) (rw (e, key_split) refl)
 
-more-here : (sp : Bool) (b : ℕ) (bs : List ℕ) → (b == 35 && sp) ≡ false → (b == 58 && ends_mark bs) ≡ false → key_split sp (b ∷ bs) ≡ onto b (key_split (b == 32) bs)
+more-here : (sp : Bool) (b : ℕ) (bs : List ℕ) → (b == 35 && sp) ≡ false → (b == 58 && ends_indicator bs) ≡ false → key_split sp (b ∷ bs) ≡ onto b (key_split (b == 32) bs)
 more-here sp b bs c e = rw (c, key_split) (rw (e, key_split) refl)
 
-pub key-found : (sp : Bool) (bs : List ℕ) (i : ℕ) → i < length bs → (get_or bs i 0 == 35 && sp) ≡ false → (get_or bs i 0 == 58 && ends_mark (drop (i + 1) bs)) ≡ true →
+pub key-found : (sp : Bool) (bs : List ℕ) (i : ℕ) → i < length bs → (get_or bs i 0 == 35 && sp) ≡ false → (get_or bs i 0 == 58 && ends_indicator (drop (i + 1) bs)) ≡ true →
     onto_all (take i bs) (key_split sp (drop i bs)) ≡ Some (take i bs, drop (i + 1) bs)
 key-found sp bs i h c e =
     ap (λ ys. onto_all (take i bs) (key_split sp ys)) (drop-at bs i h)
     ∙ ap (onto_all (take i bs)) (found-here sp (get_or bs i 0) (drop (i + 1) bs) c e)
     ∙ ap (λ ys. Some (ys, drop (i + 1) bs)) (append-nil (take i bs))
 
-pub key-more : (sp : Bool) (bs : List ℕ) (i : ℕ) → i < length bs → (get_or bs i 0 == 35 && sp) ≡ false → (get_or bs i 0 == 58 && ends_mark (drop (i + 1) bs)) ≡ false →
+pub key-more : (sp : Bool) (bs : List ℕ) (i : ℕ) → i < length bs → (get_or bs i 0 == 35 && sp) ≡ false → (get_or bs i 0 == 58 && ends_indicator (drop (i + 1) bs)) ≡ false →
     onto_all (take (i + 1) bs) (key_split (get_or bs i 0 == 32) (drop (i + 1) bs)) ≡ onto_all (take i bs) (key_split sp (drop i bs))
 key-more sp bs i h c e =
     ap (λ xs. onto_all xs (key_split (get_or bs i 0 == 32) (drop (i + 1) bs))) (take_more bs i 0 h)

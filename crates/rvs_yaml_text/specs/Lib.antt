@@ -1,8 +1,9 @@
 pub mod KeyView
 pub mod Kinds
 pub mod LineView
-pub mod MarkView
-pub mod Marks
+pub mod TokenView
+pub mod Tokens
+pub mod Printed
 pub mod Quotes
 pub mod Scalar
 pub mod ScanView

@@ -8,9 +8,9 @@ at_byte c [] = None
 at_byte c (b ∷ bs) = elim (b == c) [ true ↦ Some ([], bs) | false ↦ onto b (at_byte c bs) ]
 
 -- what is before the first double quote or backslash, and the text from there on
-abbrev pub at_mark : List ℕ → Split
-at_mark [] = None
-at_mark (b ∷ bs) = elim (b == 34 || b == 92) [ true ↦ Some ([], b ∷ bs) | false ↦ onto b (at_mark bs) ]
+abbrev pub at_stop : List ℕ → Split
+at_stop [] = None
+at_stop (b ∷ bs) = elim (b == 34 || b == 92) [ true ↦ Some ([], b ∷ bs) | false ↦ onto b (at_stop bs) ]
 
 -- the text that the character behind a backslash stands for
 abbrev pub escape : List ℕ → Option (List ℕ)

@@ -42,8 +42,8 @@ is_empty [] = true
 is_empty _ = false
 
 -- a space or the line's end comes next
-abbrev pub ends_mark : List ℕ → Bool
-ends_mark bytes = is_empty bytes || starts_with 32 bytes
+abbrev pub ends_indicator : List ℕ → Bool
+ends_indicator bytes = is_empty bytes || starts_with 32 bytes
 
 -- a text at the front, and what is behind it
 abbrev pub Split : Type 0
@@ -59,7 +59,7 @@ key_split spaced (b ∷ bs) =
     elim (b == 35 && spaced) [
       | true ↦ None
       | false ↦
-          elim (b == 58 && ends_mark bs) [ true ↦ Some ([], bs) | false ↦ onto b (key_split (b == 32) bs) ]
+          elim (b == 58 && ends_indicator bs) [ true ↦ Some ([], bs) | false ↦ onto b (key_split (b == 32) bs) ]
     ]
 
 -- The text of a scalar in single quotes, behind the first one, and what is behind the last. Two quotes are one.
@@ -110,8 +110,8 @@ abbrev pub is_reserved_start : ℕ → Bool
 is_reserved_start b = ((b == 38 || b == 42) || (b == 39 || b == 34)) || (((b == 91 || b == 123) || (b == 44 || b == 93)) || ((b == 125 || b == 64) || (b == 96 || b == 35)))
 
 -- `? - :`
-abbrev pub is_mark_byte : ℕ → Bool
-is_mark_byte b = b == 63 || (b == 45 || b == 58)
+abbrev pub is_indicator_byte : ℕ → Bool
+is_indicator_byte b = b == 63 || (b == 45 || b == 58)
 
 -- why a plain scalar can't begin so, if it can't
 abbrev pub start_fault : List ℕ → Option YamlKind
@@ -120,7 +120,7 @@ start_fault (b ∷ bs) =
     if is_unsupported_start b then Some Unsupported
     else if is_reserved_start b then Some BadScalar
     else if b == 63 && starts_with 32 bs then Some Unsupported
-    else if is_mark_byte b && ends_mark bs then Some BadScalar
+    else if is_indicator_byte b && ends_indicator bs then Some BadScalar
     else None
 
 abbrev pub key_name : List ℕ → Key

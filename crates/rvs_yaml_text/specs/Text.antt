@@ -2,8 +2,8 @@
 use Rattle.std.specs.Prelude.{ℕ, suc, ◌-◌, Bool, true, false, not, ◌&&◌, ◌||◌, ◌==◌, if◌then◌else◌, List, [], ◌∷◌, ◌++◌, map, take, drop, length, slice_index, bytes_eq, Option, Some, None}
 use Rattle.std.specs.Str.{is_utf8}
 use Rattle.rvs_yaml_text.specs.Word.{Key, square, curly, Content, nothing, text, alias, flow, faulty, Name, Shape, dash, key, leaf, refused, Word}
-use Rattle.rvs_yaml_text.specs.Scalar.{Split, is_blank, only_comment, ends_mark, starts_with, is_empty, without_spaces, trimmed, uncommented, key_split, starts_quoted, quoted, name_split, start_fault, key_name, quoted_name}
-use Rattle.rvs_yaml_text.specs.Marks.{marks_of}
+use Rattle.rvs_yaml_text.specs.Scalar.{Split, is_blank, only_comment, ends_indicator, starts_with, is_empty, without_spaces, trimmed, uncommented, key_split, starts_quoted, quoted, name_split, start_fault, key_name, quoted_name}
+use Rattle.rvs_yaml_text.specs.Tokens.{tokens_of}
 use Rattle.rvs_yaml_text.specs.declared.kind.YamlKind.{YamlKind}
 use Rattle.rvs_yaml_text.specs.declared.kind.YamlKind.TheVariants.{NotUtf8, TabIndent, BadScalar, Unsupported}
 
@@ -55,9 +55,9 @@ content bytes =
             | true ↦ alias_ended (name_split (drop 1 bytes))
             | false ↦
                 elim (starts_with 91 bytes) [
-                  | true ↦ flow square (marks_of (drop 1 bytes))
+                  | true ↦ flow square (tokens_of (drop 1 bytes))
                   | false ↦
-                      elim (starts_with 123 bytes) [ true ↦ flow curly (marks_of (drop 1 bytes)) | false ↦ plain (start_fault bytes) bytes ]
+                      elim (starts_with 123 bytes) [ true ↦ flow curly (tokens_of (drop 1 bytes)) | false ↦ plain (start_fault bytes) bytes ]
                 ]
           ]
     ]
@@ -68,7 +68,7 @@ content_or_comment bytes = elim (is_empty bytes || starts_with 35 bytes) [ true 
 
 -- The name behind a `&`, and what is behind it. There is a name, and a space or the line's end behind it.
 abbrev pub good_anchor : List ℕ × List ℕ → Split
-good_anchor p = if not (is_empty p.0) && ends_mark p.1 then Some p else None
+good_anchor p = if not (is_empty p.0) && ends_indicator p.1 then Some p else None
 
 abbrev pub anchor_split : List ℕ → Split
 anchor_split bytes = good_anchor (name_split bytes)
@@ -84,7 +84,7 @@ inline_part bytes = elim (starts_with 38 bytes) [ true ↦ anchored (anchor_spli
 -- a key and what is behind its colon
 abbrev pub quoted_key : Split → Option (Key × List ℕ)
 quoted_key None = None
-quoted_key (Some p) = if starts_with 58 (without_spaces p.1) && ends_mark (drop 1 (without_spaces p.1)) then Some (quoted_name p.0, drop 1 (without_spaces p.1)) else None
+quoted_key (Some p) = if starts_with 58 (without_spaces p.1) && ends_indicator (drop 1 (without_spaces p.1)) then Some (quoted_name p.0, drop 1 (without_spaces p.1)) else None
 
 abbrev pub plain_key : Option YamlKind → Split → Option (Key × List ℕ)
 plain_key None (Some p) = Some (key_name (trimmed p.0), p.1)
@@ -118,13 +118,27 @@ name_of_split (Some p) = Some p.0
 abbrev pub item_name : List ℕ → Name
 item_name bytes = elim (starts_with 38 (without_spaces bytes)) [ true ↦ name_of_split (anchor_split (drop 1 (without_spaces bytes))) | false ↦ None ]
 
+-- a colon stands behind a quoted scalar, with spaces between at most
+abbrev pub colon_behind : Split → Bool
+colon_behind None = false
+colon_behind (Some p) = starts_with 58 (without_spaces p.1)
+
+-- a colon ends the plain scalar as a key
+abbrev pub has_plain_key : Option YamlKind → Split → Bool
+has_plain_key None (Some p) = true
+has_plain_key _ _ = false
+
+-- a scalar with a colon behind it, which an item with an anchor isn't
+abbrev pub begins_entry : List ℕ → Bool
+begins_entry bytes = elim (starts_quoted bytes) [ true ↦ colon_behind (quoted bytes) | false ↦ has_plain_key (start_fault bytes) (key_split false bytes) ]
+
 -- Behind the anchor of an item stands no entry of a map.
-abbrev pub unkeyed : Option (Key × List ℕ) → Content → Content
-unkeyed None c = c
-unkeyed (Some k) c = faulty Unsupported
+abbrev pub unkeyed : Bool → Content → Content
+unkeyed true c = faulty Unsupported
+unkeyed false c = c
 
 abbrev pub named_item : List ℕ → Option Shape
-named_item bytes = elim (is_empty bytes || starts_with 35 bytes) [ true ↦ None | false ↦ Some (leaf (unkeyed (key_of bytes) (content bytes))) ]
+named_item bytes = elim (is_empty bytes || starts_with 35 bytes) [ true ↦ None | false ↦ Some (leaf (unkeyed (begins_entry bytes) (content bytes))) ]
 
 -- what stands at the anchor of an item, if there is more than the anchor
 abbrev pub anchored_shape : Split → Option Shape
@@ -142,7 +156,7 @@ words_at line behind_dash column (b ∷ bs) =
     elim (b == 32) [
       | true ↦ words_at line behind_dash (suc column) bs
       | false ↦
-          elim (b == 45 && ends_mark bs) [
+          elim (b == 45 && ends_indicator bs) [
             | true ↦ word_at line column (dash (item_name bs)) ∷ words_at line true (suc column) bs
             | false ↦
                 elim (behind_dash && b == 38) [
@@ -155,7 +169,7 @@ words_at line behind_dash column (b ∷ bs) =
 
 -- three dashes or dots, and at most a comment behind them
 abbrev pub is_mark : ℕ → List ℕ → Bool
-is_mark mark bytes = bytes_eq (take 3 bytes) (mark ∷ mark ∷ mark ∷ []) && only_comment false (drop 3 bytes)
+is_mark byte bytes = bytes_eq (take 3 bytes) (byte ∷ byte ∷ byte ∷ []) && only_comment false (drop 3 bytes)
 
 -- The words of a line. Three dashes may stand as the first line that isn't blank.
 abbrev pub line_words : ℕ → Bool → List ℕ → List Word

@@ -12,29 +12,31 @@ pub data Bracket : Type 0 where
   curly : Bracket
 
 -- The words of a flow collection. A fault is where it is met.
-pub data Mark : Type 0 where
-  opening : Bracket → Mark
-  closing : Bracket → Mark
-  comma : Mark
+pub data Token : Type 0 where
+  opening : Bracket → Token
+  closing : Bracket → Token
+  comma : Token
   -- a colon with a space or the line's end behind it, which no scalar stands before
-  colon : Mark
+  colon : Token
   -- a scalar, and behind it no colon that would end it as a key
-  scalar_mark : Key → Mark
+  scalar_token : Key → Token
   -- a scalar with the colon that ends it as a key
-  key_mark : Key → Mark
+  key_token : Key → Token
   -- a quoted scalar with a colon and then more text
-  cut_key : Key → Mark
+  cut_key : Key → Token
   -- a plain scalar whose last character is a colon, and the byte that ends it
-  colon_scalar : ℕ → Mark
-  alias_mark : List ℕ → Mark
-  fault : YamlKind → Mark
+  colon_scalar : ℕ → Token
+  alias_token : List ℕ → Token
+  -- a colon behind a closing bracket, with spaces between at most, whatever follows it
+  late_colon : Token
+  fault : YamlKind → Token
 
 -- What stands behind a key on its line, or in a line by itself; of an alias, whether at most a comment is behind it.
 pub data Content : Type 0 where
   nothing : Content
   text : List ℕ → Content
   alias : List ℕ → Bool → Content
-  flow : Bracket → List Mark → Content
+  flow : Bracket → List Token → Content
   faulty : YamlKind → Content
 
 -- the name of an anchor, where there is one

@@ -2,7 +2,7 @@
 use Rattle.std.specs.Prelude.{ℕ, List, Option, option_map, string_bytes}
 use Rattle.std.specs.Borrow.{Bor}
 use Rattle.rvs_yaml_text.specs.Word as spec
-use Rattle.rvs_yaml_text.specs.Marks.{marks_of}
+use Rattle.rvs_yaml_text.specs.Tokens.{tokens_of}
 use Rattle.rvs_yaml_text.specs.KeyView.{key_view}
 use Rattle.rvs_yaml_text.specs.declared.word.Bracket.{Bracket}
 use Rattle.rvs_yaml_text.specs.declared.word.Bracket.TheVariants.{Square, Curly}
@@ -23,7 +23,7 @@ abbrev pub content_view : Content → spec.Content
 content_view Nothing = spec.nothing
 content_view (Text t) = spec.text (string_bytes t)
 content_view (Alias name ended) = spec.alias name.now ended
-content_view (Flow b text) = spec.flow (bracket_view b) (marks_of text.now)
+content_view (Flow b text) = spec.flow (bracket_view b) (tokens_of text.now)
 content_view (Faulty kind) = spec.faulty kind
 
 abbrev pub name_view : Option (Bor (List ℕ)) → spec.Name

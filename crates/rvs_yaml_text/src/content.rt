@@ -11,7 +11,7 @@ use crate::key::Key;
 use crate::kind::YamlKind;
 use crate::quoted::{behind_first, quoted};
 use crate::scan::{
-    ends_mark, key_split, name_split, only_comment, start_fault, starts_quoted, starts_with,
+    ends_indicator, key_split, name_split, only_comment, start_fault, starts_quoted, starts_with,
     trimmed, without_comment, without_spaces,
 };
 use crate::word::{Bracket, Content, Shape};
@@ -102,7 +102,7 @@ fn anchor_split(text: &str) -> Option<(&str, &str)>
     ensures { split_now result ≡ spec.anchor_split text.now }
 {
     let (name, behind) = name_split(text);
-    if !name.is_empty() && ends_mark(behind.as_bytes()) {
+    if !name.is_empty() && ends_indicator(behind.as_bytes()) {
         Some((name, behind))
     } else {
         None
@@ -158,7 +158,7 @@ fn quoted_key<'a>(split: Option<(String, &'a str)>) -> Option<(Key, &'a str)>
         return None;
     }
     let value = behind_first(behind);
-    if ends_mark(value.as_bytes()) {
+    if ends_indicator(value.as_bytes()) {
         Some((
             Key {
                 name,
@@ -227,11 +227,34 @@ pub fn anchored_item<'a>(alloc: Global, text: &'a str) -> Result<Option<Shape<'a
     Ok(Some(Shape::Leaf(content)))
 }
 
+/// Whether a colon stands behind a quoted scalar, behind whose quotes this stands.
+fn colon_behind(split: Option<(String, &str)>) -> bool
+    ensures { result ≡ spec.colon_behind (owned_split split.entry) }
+{
+    match split {
+        Some((_, behind)) => starts_with(b':', without_spaces(behind).as_bytes()),
+        None => false,
+    }
+}
+
+/// Whether the text is a scalar with a colon behind it.
+fn begins_entry(alloc: Global, text: &str) -> Result<bool, AllocError>
+    ensures { IfOk result (λ b. b ≡ spec.begins_entry text.now) }
+{
+    if starts_quoted(text.as_bytes()) {
+        return Ok(colon_behind(quoted(alloc, text)?));
+    }
+    if start_fault(text.as_bytes()).is_some() {
+        return Ok(false);
+    }
+    Ok(key_split(text).is_some())
+}
+
 /// The content of an item with an anchor, which is no entry of a map.
 fn unkeyed_content<'a>(alloc: Global, text: &'a str) -> Result<Content<'a>, AllocError>
-    ensures { IfOk result (λ c. content_view c ≡ spec.unkeyed (spec.key_of text.now) (spec.content text.now)) }
+    ensures { IfOk result (λ c. content_view c ≡ spec.unkeyed (spec.begins_entry text.now) (spec.content text.now)) }
 {
-    if key_of(alloc, text)?.is_some() {
+    if begins_entry(alloc, text)? {
         return Ok(Content::Faulty(YamlKind::Unsupported));
     }
     content(alloc, text)

@@ -18,7 +18,7 @@ pub returns-in_default-escape : goal.returns-in_default-escape
 returns-in_default-escape c =
     let more : starts_with 34 c.in-Some.behind.now ≡ false = ap (starts_with 34) (sym c.as_bytes.ensures.value) ∙ sym c.starts_with.ensures ∙ c.if-starts_with.false in
     record {
-      value = double-bad (string_bytes c.loop-piece.done) c.args.text.now c.loop-piece.rest.now c.in-Some.piece.now c.in-Some.behind.now c.loop-piece.invariant.0 c.in-Some.ensures.split more c.in-Some.ensures.marked
+      value = double-bad (string_bytes c.loop-piece.done) c.args.text.now c.loop-piece.rest.now c.in-Some.piece.now c.in-Some.behind.now c.loop-piece.invariant.0 c.in-Some.ensures.split more c.in-Some.ensures.stopped
           (c.in_default-escape.ensures.text ∙ ap escape (c.as_bytes-in-Some.ensures.value ∙ c.behind_first-next.ensures));
     }
 
@@ -28,7 +28,7 @@ loop-piece-preserved c =
     let letter : Some c.in-Some-escape.letter.now ≡ escape (drop 1 c.in-Some.behind.now) = c.in-Some-escape.ensures.text ∙ ap escape (c.as_bytes-in-Some.ensures.value ∙ c.behind_first-next.ensures) in (
       ap (λ r. onto_all (string_bytes c.push_str-in-Some.new.self) (double r)) (c.behind_first-rest.ensures ∙ ap (drop 1) c.behind_first-next.ensures)
           ∙ ap (λ ds. onto_all ds (double (drop 1 (drop 1 c.in-Some.behind.now)))) (c.in_ok-push_str-2.ensures.bytes ∙ ap (λ ds. ds ++ c.in-Some-escape.letter.now) c.in_ok-push_str.ensures.bytes)
-          ∙ double-more_text (string_bytes c.loop-piece.done) c.args.text.now c.loop-piece.rest.now c.in-Some.piece.now c.in-Some.behind.now c.in-Some-escape.letter.now c.loop-piece.invariant.0 c.in-Some.ensures.split more c.in-Some.ensures.marked letter,
+          ∙ double-more_text (string_bytes c.loop-piece.done) c.args.text.now c.loop-piece.rest.now c.in-Some.piece.now c.in-Some.behind.now c.in-Some-escape.letter.now c.loop-piece.invariant.0 c.in-Some.ensures.split more c.in-Some.ensures.stopped letter,
       c.behind_first-rest.utf8,
     )
 

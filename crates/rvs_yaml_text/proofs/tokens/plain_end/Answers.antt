@@ -1,8 +1,8 @@
 use Rattle.std.proofs.Common.{◌≡◌, ◌+◌, ◌∙◌, sym, ap, get_or, drop, true, false}
-use Rattle.rvs_yaml_text.specs.Marks.{ends_plain}
+use Rattle.rvs_yaml_text.specs.Tokens.{ends_plain}
 use Rattle.rvs_yaml_text.proofs.Scans.{rest-all}
 use Rattle.rvs_yaml_text.proofs.Plains.{plain-found, plain-more}
-use Rattle.rvs_yaml_text.proofs.marks.plain_end.Goals as goal
+use Rattle.rvs_yaml_text.proofs.tokens.plain_end.Goals as goal
 
 pub returns-then-ends_plain-clause-split : goal.returns-then-ends_plain-clause-split
 returns-then-ends_plain-clause-split c =

@@ -1,6 +1,6 @@
 use Rattle.rvs_yaml.specs.StackView.{stack_view}
 use Rattle.rvs_yaml.proofs.Answering.{Reads, size_left}
-use Rattle.rvs_yaml.proofs.reader.parse.Given as goal
+use Rattle.rvs_yaml.proofs.reader.read_text.Given as goal
 
 abbrev pub invariant-loop-rest : goal.invariant-loop-rest
 invariant-loop-rest l = Reads l.bytes l.number l.started (stack_view l.blocks.items) l.rest

@@ -1,0 +1,60 @@
+-- The tokens of a text, one after another.
+use Rattle.std.proofs.Common.{◌≡◌, ℕ, zero, suc, Bool, true, false, List, [], ◌∷◌, Ok, refl, sym, ap, ◌∙◌, arith}
+use Rattle.std.specs.Prelude.{◌==◌, ◌&&◌}
+use Rattle.std.proofs.lemmas.Bool.Decides.{nat_tests}
+use Rattle.rvs_yaml.specs.Checks.{Checked, ◌>>=◌}
+use Rattle.rvs_yaml.specs.Anchors.{Anchors}
+use Rattle.rvs_yaml_text.specs.Word.{Token}
+use Rattle.rvs_yaml_text.specs.Tokens.{tokens, next_token, closes}
+use Rattle.rvs_yaml.specs.TokenParts.{Flowing, flowing, is_flow_end, next_flowing}
+use Rattle.rvs_yaml.specs.FlowSteps.{Reading, flow_step, flow_steps}
+use Rattle.rvs_yaml.proofs.Outlined.{bind_assoc}
+
+and_left : (x y : Bool) → (x && y) ≡ true → x ≡ true
+and_left true y h = refl
+and_left false y h = h
+
+no_space : (b : ℕ) → (b == 35) ≡ true → (b == 32) ≡ false
+no_space b h = grind (arith, nat_tests)
+
+-- a comment or nothing has no tokens
+pub tokens-end : (n : ℕ) (cl sp : Bool) (bs : List ℕ) → is_flow_end sp bs ≡ true → tokens n cl sp bs ≡ []
+tokens-end zero cl sp bs h = refl
+tokens-end (suc n) cl sp [] h = refl
+tokens-end (suc n) cl sp (b ∷ bs) h = rw (no_space b (and_left (b == 35) sp h), tokens) (rw (h, tokens) refl)
+
+tokens-space : (n : ℕ) (cl sp : Bool) (b : ℕ) (bs : List ℕ) → (b == 32) ≡ true → tokens (suc n) cl sp (b ∷ bs) ≡ tokens n cl true bs
+tokens-space n cl sp b bs e = rw (e, tokens) refl
+
+abbrev token_here : Bool → List ℕ → Token
+token_here cl bs = (next_token cl bs).0
+
+abbrev behind_token : Bool → List ℕ → List ℕ
+behind_token cl bs = (next_token cl bs).1
+
+tokens-word : (n : ℕ) (cl sp : Bool) (b : ℕ) (bs : List ℕ) → (b == 32) ≡ false → (b == 35 && sp) ≡ false →
+    tokens (suc n) cl sp (b ∷ bs) ≡ token_here cl (b ∷ bs) ∷ tokens n (closes (token_here cl (b ∷ bs))) false (behind_token cl (b ∷ bs))
+tokens-word n cl sp b bs e h = rw (e, tokens) (rw (h, tokens) refl)
+
+flowing-space : (known : Anchors) (line : ℕ) (r : Reading) (cl sp : Bool) (b : ℕ) (bs : List ℕ) → (b == 32) ≡ true → next_flowing known line (flowing r cl sp (b ∷ bs)) ≡ Ok (flowing r cl true bs)
+flowing-space known line r cl sp b bs e = rw (e, next_flowing) refl
+
+flowing-word : (known : Anchors) (line : ℕ) (r : Reading) (cl sp : Bool) (b : ℕ) (bs : List ℕ) → (b == 32) ≡ false →
+    next_flowing known line (flowing r cl sp (b ∷ bs)) ≡ (flow_step known line r (token_here cl (b ∷ bs)) >>= λ s. Ok (flowing s (closes (token_here cl (b ∷ bs))) false (behind_token cl (b ∷ bs))))
+flowing-word known line r cl sp b bs e = rw (e, next_flowing) refl
+
+abbrev pub going_on : Anchors → ℕ → ℕ → Checked Flowing → Checked Reading
+going_on known line n m = m >>= λ f. flow_steps known line f.reading (tokens n f.closed f.spaced f.rest)
+
+-- a space or a token more
+pub tokens-next : (known : Anchors) (line : ℕ) (r : Reading) (n : ℕ) (cl sp : Bool) (bs : List ℕ) → is_flow_end sp bs ≡ false →
+    flow_steps known line r (tokens (suc n) cl sp bs) ≡ (next_flowing known line (flowing r cl sp bs) >>= λ f. flow_steps known line f.reading (tokens n f.closed f.spaced f.rest))
+tokens-next known line r n cl sp [] h = cc
+tokens-next known line r n cl sp (b ∷ bs) h =
+    elim (b == 32) as (λ t. (b == 32) ≡ t → flow_steps known line r (tokens (suc n) cl sp (b ∷ bs)) ≡ going_on known line n (next_flowing known line (flowing r cl sp (b ∷ bs)))) [
+      | true ↦ λ e. ap (flow_steps known line r) (tokens-space n cl sp b bs e) ∙ sym (ap (going_on known line n) (flowing-space known line r cl sp b bs e))
+      | false ↦ λ e.
+          ap (flow_steps known line r) (tokens-word n cl sp b bs e h)
+          ∙ sym (bind_assoc (flow_step known line r (token_here cl (b ∷ bs))) _ _)
+          ∙ sym (ap (going_on known line n) (flowing-word known line r cl sp b bs e))
+    ] refl

@@ -1,7 +1,0 @@
-use Rattle.std.proofs.Common.{◌≡◌, take, drop}
-use Rattle.rvs_yaml_text.specs.Quotes.{at_mark}
-use Rattle.rvs_yaml_text.proofs.Scans.{onto_all}
-use Rattle.rvs_yaml_text.proofs.quoted.place_of_mark.Given as goal
-
-abbrev pub invariant-loop-i : goal.invariant-loop-i
-invariant-loop-i l = onto_all (take l.i l.bytes) (at_mark (drop l.i l.bytes)) ≡ at_mark l.bytes
