@@ -18,11 +18,12 @@ use Rattle.rvs_suite.specs.Compare as comparing
 use Rattle.rvs_suite.specs.Validate.{print_said, validate}
 use Rattle.rvs_suite.specs.Specification.{isa_limit, checks, specification}
 use Rattle.rvs_suite.specs.Plans.{plan_of}
+use Rattle.rvs_suite.proofs.Readers.{OnlyReads}
 use Rattle.rvs_suite.proofs.Running.{Ran, answers}
 use Rattle.rvs_suite.specs.declared.command.Command.{Command}
 use Rattle.rvs_suite.specs.declared.command.Command.TheVariants.{Compare, Validate}
 
-abbrev WritesNone : {A : Type 0} → Plan A → Type 0
+abbrev pub WritesNone : {A : Type 0} → Plan A → Type 0
 WritesNone (Ends end) = ⊤
 WritesNone (Does (Write name bytes) plan) = ⊥
 WritesNone (Does (Out bytes) plan) = WritesNone plan
@@ -33,7 +34,7 @@ WritesNone-followed : {A B : Type 0} (end : Result A Stop) (next : A → Plan B)
 WritesNone-followed (Ok a) next none = none a
 WritesNone-followed (Err stop) next none = tt
 
-WritesNone-then : {A B : Type 0} (plan : Plan A) (next : A → Plan B) → WritesNone plan → ((a : A) → WritesNone (next a)) → WritesNone (plan >>= next)
+pub WritesNone-then : {A B : Type 0} (plan : Plan A) (next : A → Plan B) → WritesNone plan → ((a : A) → WritesNone (next a)) → WritesNone (plan >>= next)
 WritesNone-then (Ends end) next none then = WritesNone-followed end next then
 WritesNone-then (Does (Write name bytes) plan) next none then = absurd none
 WritesNone-then (Does (Out bytes) plan) next none then = WritesNone-then plan next none then
@@ -75,6 +76,13 @@ accounted plan old new err err' answer.HostFault none a = halted plan (contents 
 accounted plan old new err err' answer.SinkFault none a = halted plan (contents old) (contents new) a.reason none a.halts
 accounted plan old new err err' answer.NoMemory none a = halted plan (contents old) (contents new) a.reason none a.halts
 
+-- what only reads writes none
+pub reads-none : {A : Type 0} (plan : Plan A) → OnlyReads plan → WritesNone plan
+reads-none (Ends end) reads = tt
+reads-none (Does deed plan) reads = absurd reads
+reads-none (Asks name next) reads = λ found. reads-none (next found) (reads found)
+reads-none (Runs words test signature next) reads = absurd reads
+
 writes-signature : (name : List ℕ) → WritesNone (comparing.signature name)
 writes-signature name = WritesNone-then (input comparing.signature_limit name) (comparing.words name) (λ found. tt) (λ bytes. tt)
 
@@ -87,7 +95,7 @@ writes-validate : (isa : List ℕ) → WritesNone (validate isa)
 writes-validate isa =
     WritesNone-then (specification isa) print_said (WritesNone-then (input isa_limit isa) (checks isa) (λ found. tt) (λ bytes. tt)) (λ said. tt)
 
-keeps : {command : Command} {old new : World} {err err' : SinkState} {status : Status} → Ran command old new err err' status → (files : Files) (asked : Command) → Tells old.host files → command ≡ asked → WritesNone (plan_of asked) → new.host.files ≡ old.host.files
+pub keeps : {command : Command} {old new : World} {err err' : SinkState} {status : Status} → Ran command old new err err' status → (files : Files) (asked : Command) → Tells old.host files → command ≡ asked → WritesNone (plan_of asked) → new.host.files ≡ old.host.files
 keeps {command} {old} {new} {err} {err'} {status} r files asked t is none =
     accounted (plan_of asked) old new err err' status none (subst (λ (c : Command). Accounts (plan_of c) old new err err' status) is ((answers r).effects files t))
 

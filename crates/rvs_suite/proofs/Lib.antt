@@ -19,3 +19,6 @@ mod Sparing
 mod Promises
 mod Finding
 mod Answered
+mod Readers
+mod GroupInputs
+mod NormalizeEnds

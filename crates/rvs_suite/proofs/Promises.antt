@@ -12,6 +12,7 @@ use Rattle.rvs_suite.specs.Commands.{command_of}
 use Rattle.rvs_suite.specs.Call.{Call, call, world_of}
 use Rattle.rvs_suite.specs.Comparing as comparing
 use Rattle.rvs_suite.specs.Validating as validating
+use Rattle.rvs_suite.specs.Normalizing as normalizing
 use Rattle.rvs_suite.specs.Referencing as referencing
 use Rattle.rvs_suite.specs.Planned as planned
 use Rattle.rvs_suite.specs.Causes as causes
@@ -21,6 +22,7 @@ use Rattle.rvs_suite.proofs.ReferenceRuns.{reference-done, reference-halts, refe
 use Rattle.rvs_suite.proofs.Untouched.{untouched, untouched-absent}
 use Rattle.rvs_suite.proofs.Keeping.{compare-keeps, validate-keeps}
 use Rattle.rvs_suite.proofs.Sparing.{reference-spares}
+use Rattle.rvs_suite.proofs.NormalizeEnds.{normalizes}
 
 -- a call whose command ran
 pub record RanCall (call : Call) : Type 0 where
@@ -90,3 +92,6 @@ reference-promise r files isa test signature log steps t is =
       by_absence = λ name. reference-misses r.ran files isa test signature log steps name t is;
       others_kept = λ files' other. reference-spares r.ran files files' isa test signature log steps other t is;
     }
+
+pub normalize-promise : {call : Call} → RanCall call → normalizing.Promise call
+normalize-promise r files isa names t is = normalizes files isa names (record { ran = r.ran; told = t; asks = is })

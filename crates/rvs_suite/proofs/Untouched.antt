@@ -17,22 +17,19 @@ use Rattle.rvs_plan.specs.declared.status.Finish.{Finish}
 use Rattle.rvs_insn.specs.Isa.{Isa}
 use Rattle.rvs_suite.specs.Compare as comparing
 use Rattle.rvs_suite.specs.Validate.{print_said}
-use Rattle.rvs_suite.specs.Specification.{isa_limit, checks, specification}
+use Rattle.rvs_suite.specs.Specification.{specification}
+use Rattle.rvs_suite.specs.GroupFiles.{group_inputs}
+use Rattle.rvs_suite.specs.Normalize.{print_normal}
 use Rattle.rvs_suite.specs.Reference.{test_limit, trial, records, reference_on}
 use Rattle.rvs_suite.specs.TestRun.{accepted, test_found}
 use Rattle.rvs_suite.specs.Plans.{plan_of}
 use Rattle.rvs_suite.proofs.Ends.{was_refused, WasMissing, was_missing}
+use Rattle.rvs_suite.proofs.Readers.{OnlyReads, OnlyReads-then}
+use Rattle.rvs_suite.proofs.GroupInputs.{reads-specification, reads-inputs}
 use Rattle.rvs_suite.proofs.Running.{Ran, answers}
 use Rattle.rvs_suite.specs.declared.command.Command.{Command}
-use Rattle.rvs_suite.specs.declared.command.Command.TheVariants.{Unknown, Compare, Validate, Reference}
+use Rattle.rvs_suite.specs.declared.command.Command.TheVariants.{Unknown, Compare, Validate, Normalize, Reference}
 use Rattle.rvs_suite.specs.declared.test_run.Run.{Run}
-
--- a plan that only reads
-abbrev OnlyReads : {A : Type 0} → Plan A → Type 0
-OnlyReads (Ends end) = ⊤
-OnlyReads (Does deed plan) = ⊥
-OnlyReads (Asks name next) = (found : Option (List ℕ)) → OnlyReads (next found)
-OnlyReads (Runs words test signature next) = ⊥
 
 -- a plan of deeds that doesn't stop
 abbrev NeverStops : {A : Type 0} → Plan A → Type 0
@@ -45,16 +42,6 @@ NeverStops (Runs words test signature next) = ⊥
 -- where the plan stops, nothing was changed
 abbrev StopsUntouched : {A : Type 0} → Plan A → Type 0
 StopsUntouched plan = (effects : List Effect) (stop : Stop) (c : Contents) → Goes plan effects (Ends (Err stop)) → after effects c ≡ c
-
-OnlyReads-followed : {A B : Type 0} (end : Result A Stop) (next : A → Plan B) → ((a : A) → OnlyReads (next a)) → OnlyReads (followed end next)
-OnlyReads-followed (Ok a) next reads = reads a
-OnlyReads-followed (Err stop) next reads = tt
-
-OnlyReads-then : {A B : Type 0} (plan : Plan A) (next : A → Plan B) → OnlyReads plan → ((a : A) → OnlyReads (next a)) → OnlyReads (plan >>= next)
-OnlyReads-then (Ends end) next reads then = OnlyReads-followed end next then
-OnlyReads-then (Does deed plan) next reads then = absurd reads
-OnlyReads-then (Asks name rest) next reads then = λ found. OnlyReads-then (rest found) next (reads found) then
-OnlyReads-then (Runs words test signature rest) next reads then = absurd reads
 
 goes-on : {A : Type 0} (plan : Plan A) (effects : List Effect) (stop : Stop) → NeverStops plan → Goes plan effects (Ends (Err stop)) → ⊥
 goes-on (Ends (Ok a)) [] stop never goes = cc
@@ -88,9 +75,6 @@ untouched-then (Asks name rest) next reads then (Did deed ∷ effects) stop c go
 reads-signature : (name : List ℕ) → OnlyReads (comparing.signature name)
 reads-signature name = OnlyReads-then (input comparing.signature_limit name) (comparing.words name) (λ found. tt) (λ bytes. tt)
 
-reads-specification : (name : List ℕ) → OnlyReads (specification name)
-reads-specification name = OnlyReads-then (input isa_limit name) (checks name) (λ found. tt) (λ bytes. tt)
-
 reads-trial : (steps : Option ℕ) (isa : Isa) (test : List ℕ) → OnlyReads (trial steps isa test)
 reads-trial steps isa test = OnlyReads-then (input test_limit test) (λ bytes. accepted (test_found steps isa test bytes)) (λ found. tt) (λ bytes. tt)
 
@@ -108,6 +92,9 @@ stops_untouched (Compare left right) =
 stops_untouched (Validate isa) =
     untouched-then (specification isa) print_said (reads-specification isa) (λ said effects stop c goes.
     absurd (goes-on (print_said said) effects stop tt goes))
+stops_untouched (Normalize isa names) =
+    untouched-then (group_inputs isa names) print_normal (reads-inputs isa names) (λ inputs effects stop c goes.
+    absurd (goes-on (print_normal inputs) effects stop tt goes))
 stops_untouched (Reference isa test signature log steps) =
     untouched-then (specification isa) (λ said. reference_on test signature log steps said.spec) (reads-specification isa) (λ said.
     untouched-then (trial steps said.spec test) (records signature log) (reads-trial steps said.spec test) (λ run effects stop c goes.

@@ -3,7 +3,7 @@ use Rattle.std.specs.Prelude.{ℕ, ◌+◌, ◌*◌, ◌-◌, ◌&&◌, nat_le, 
 use Rattle.rvs_suite.specs.Words.{is_positional, pairs_of, values_of, are_known, only, at_most_one}
 use Rattle.rvs_suite.specs.declared.words.Pair.{Pair}
 use Rattle.rvs_suite.specs.declared.command.Command.{Command}
-use Rattle.rvs_suite.specs.declared.command.Command.TheVariants.{Unknown, Compare, Validate, Reference}
+use Rattle.rvs_suite.specs.declared.command.Command.TheVariants.{Unknown, Compare, Validate, Normalize, Reference}
 
 -- two names of files
 abbrev pub compare_command : List (List ℕ) → Command
@@ -61,13 +61,34 @@ reference_of pairs =
 abbrev pub reference_command : List (List ℕ) → Command
 reference_command words = given (pairs_of words) (λ pairs. if are_known reference_options pairs then reference_of pairs else Unknown)
 
+-- one value at least, and so many at most
+abbrev pub some_of : ℕ → List (List ℕ) → Option (List (List ℕ))
+some_of most values = if nat_le 1 (length values) && nat_le (length values) most then Some values else None
+
+-- so many group files may be named
+abbrev pub most_groups : ℕ
+most_groups = 64
+
+abbrev pub normalize_options : List (List ℕ)
+normalize_options = codes "--isa" ∷ codes "--cgf" ∷ []
+
+-- the names of the ISA file, which stands once, and of the group files, in order
+abbrev pub normalize_of : List Pair → Command
+normalize_of pairs =
+    given (only (values_of (codes "--isa") pairs)) (λ isa.
+    given (some_of most_groups (values_of (codes "--cgf") pairs)) (λ groups. Normalize isa groups))
+
+abbrev pub normalize_command : List (List ℕ) → Command
+normalize_command words = given (pairs_of words) (λ pairs. if are_known normalize_options pairs then normalize_of pairs else Unknown)
+
 -- the command of this name, with the words behind it
 abbrev pub named_command : List ℕ → List (List ℕ) → Command
 named_command name words =
     if bytes_eq name (codes "compare") then compare_command words
     else (if bytes_eq name (codes "validate") then validate_command words
+    else (if bytes_eq name (codes "normalize") then normalize_command words
     else (if bytes_eq name (codes "reference") then reference_command words
-    else Unknown))
+    else Unknown)))
 
 -- the command of the words, the first of which is the program's own name
 abbrev pub command_of : List (List ℕ) → Command

@@ -18,3 +18,9 @@ pub mod Referencing
 pub mod Planned
 pub mod Causes
 pub mod Answered
+pub mod GroupTexts
+pub mod GroupFiles
+pub mod Seen
+pub mod GroupsView
+pub mod Normalize
+pub mod Normalizing

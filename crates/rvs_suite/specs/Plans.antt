@@ -9,15 +9,17 @@ use Rattle.rvs_plan.specs.declared.status.Finish.{Finish}
 use Rattle.rvs_suite.specs.Commands.{command_of}
 use Rattle.rvs_suite.specs.Compare as comparing
 use Rattle.rvs_suite.specs.Validate as validating
+use Rattle.rvs_suite.specs.Normalize as normalizing
 use Rattle.rvs_suite.specs.Reference as running
 use Rattle.rvs_suite.specs.declared.command.Command.{Command}
-use Rattle.rvs_suite.specs.declared.command.Command.TheVariants.{Unknown, Compare, Validate, Reference}
+use Rattle.rvs_suite.specs.declared.command.Command.TheVariants.{Unknown, Compare, Validate, Normalize, Reference}
 
 -- the plan of a command
 abbrev pub plan_of : Command → Plan Finish
 plan_of Unknown = ends why.Usage
 plan_of (Compare left right) = comparing.compare left right
 plan_of (Validate isa) = validating.validate isa
+plan_of (Normalize isa groups) = normalizing.normalize isa groups
 plan_of (Reference isa test signature log steps) = running.reference isa test signature log steps
 
 -- the effects that the words of a command line mean, and the status that they lead to

@@ -3,10 +3,11 @@ ghost use Rattle.std.specs.Prelude.{◌≡◌, IfOk, codes};
 ghost use Rattle.rvs_suite.specs.Words.{texts, values_of, are_known};
 ghost use Rattle.rvs_suite.specs.Commands.{compare_command, validate_command, number_of, within_steps, steps_of, reference_options, reference_run, reference_of, reference_command, named_command, command_of};
 
+use crate::group_commands::read_normalize;
 use crate::words::{
     Pair, are_known, is_positional, only_value, optional_value, owned, read_pairs, values,
 };
-use rvs_base::{NoMemory, Text};
+use rvs_base::{Items, NoMemory, Text};
 use std::alloc::Global;
 
 /// A command with what it is given.
@@ -22,6 +23,12 @@ pub enum Command {
     /// Check an ISA file, and print what it says.
     Validate {
         isa: Text,
+    },
+    /// Read coverage groups, and print them with all points written out.
+    Normalize {
+        isa: Text,
+        /// The group files, one to 64, in the order in which they are joined.
+        groups: Items<Text>,
     },
     /// Run a test on the reference machine, and write its signature.
     Reference {
@@ -55,6 +62,7 @@ fn read_named(alloc: Global, name: &str, words: &[String]) -> Result<Command, No
     match name {
         "compare" => read_compare(alloc, words),
         "validate" => read_validate(alloc, words),
+        "normalize" => read_normalize(alloc, words),
         "reference" => read_reference(alloc, words),
         _ => Ok(Command::Unknown),
     }

@@ -3,7 +3,10 @@
 
 mod command;
 mod comparing;
+mod group_commands;
+mod group_files;
 mod isa_file;
+mod normalizing;
 mod reference;
 #[cfg(test)]
 mod reference_tests;

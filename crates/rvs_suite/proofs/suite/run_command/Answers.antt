@@ -3,6 +3,7 @@ use Rattle.rvs_plan.specs.World.{world}
 use Rattle.rvs_plan.specs.Meets.{Meets}
 use Rattle.rvs_suite.specs.Compare.{compare}
 use Rattle.rvs_suite.specs.Validate.{validate}
+use Rattle.rvs_suite.specs.Normalize.{normalize}
 use Rattle.rvs_suite.specs.Reference.{reference}
 use Rattle.rvs_suite.proofs.Running.{Performs-meets, Performs-unknown}
 use Rattle.rvs_suite.proofs.suite.run_command.Goals as goal
@@ -26,6 +27,16 @@ returns-in-Validate g c =
     let new = world (g.H.Host.state c.validate_file.new.host) (g.O.Sink.state c.validate_file.new.out) in
     let met = subst (λ (isa : List ℕ). Meets (validate isa) old new c.validate_file.result) name c.validate_file.ensures in
     rw c.in-Validate.is (Performs-meets (λ is. cc) met)
+
+pub returns-in-Normalize : goal.returns-in-Normalize
+returns-in-Normalize g c =
+    let i : c.as_str-in-Normalize.result.now ≡ c.in-Normalize.isa = c.as_str-in-Normalize.ensures in
+    let n : c.as_slice.result.now ≡ c.in-Normalize.groups = c.as_slice.ensures in
+    let old = world (g.H.Host.state c.args.host.now) (g.O.Sink.state c.args.out.now) in
+    let new = world (g.H.Host.state c.normalize_files.new.host) (g.O.Sink.state c.normalize_files.new.out) in
+    let one = subst (λ (isa : List ℕ). Meets (normalize isa c.as_slice.result.now) old new c.normalize_files.result) i c.normalize_files.ensures in
+    let met = subst (λ (names : List (List ℕ)). Meets (normalize c.in-Normalize.isa names) old new c.normalize_files.result) n one in
+    rw c.in-Normalize.is (Performs-meets (λ is. cc) met)
 
 pub returns-in-Reference : goal.returns-in-Reference
 returns-in-Reference g c =

@@ -1,0 +1,12 @@
+-- Why coverage groups are refused.
+use Rattle.std.specs.Prelude.{ℕ, List, ◌++◌, codes}
+use Rattle.rvs_cgf.specs.Groups.{Refusal}
+use Rattle.rvs_cgf.specs.Print.{refusal_text}
+
+-- what the joined group files are called in a line for errors
+abbrev pub groups_name : List ℕ
+groups_name = codes "coverage files"
+
+-- why the groups are refused: the first rule that is broken, and where
+unfoldable pub group_text : Refusal → List ℕ
+group_text r = groups_name ++ (codes ": " ++ refusal_text r)

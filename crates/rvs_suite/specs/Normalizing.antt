@@ -1,0 +1,26 @@
+-- What every call of `normalize` promises.
+use Rattle.std.specs.Prelude.{◌≡◌, List, ℕ}
+use Rattle.rvs_base.specs.Host.{Files, Tells}
+use Rattle.rvs_base.specs.Sink.{appended}
+use Rattle.rvs_cgf.specs.Print.{normal_text}
+use Rattle.rvs_suite.specs.Answered.{Answered}
+use Rattle.rvs_suite.specs.Call.{Call, Asks}
+use Rattle.rvs_suite.specs.GroupFiles.{Inputs, inputs_in}
+use Rattle.rvs_suite.specs.declared.command.Command.TheVariants.{Normalize}
+
+-- the output has the groups with all points written out
+abbrev pub HasPrinted : Call → Inputs → Type 0
+HasPrinted call inputs = call.new.out.bytes ≡ appended call.old.out.bytes (normal_text inputs.groups)
+
+-- a call of `normalize` on these of these files
+pub record Normalizes (call : Call) (files : Files) (isa : List ℕ) (names : List (List ℕ)) : Type 0 where
+  -- it is done where the ISA file and the groups are accepted, and has put the groups; it is refused, or the host fails, at the first file that isn't
+  pub answered : Answered call (inputs_in files isa names) (HasPrinted call)
+  -- it writes no file, however it ends
+  pub files_kept : call.new.host.files ≡ call.old.host.files
+
+-- the same of every call: over told files, where its words ask for `normalize`
+abbrev pub Promise : Call → Type 0
+Promise call =
+    (files : Files) (isa : List ℕ) (names : List (List ℕ))
+    → Tells call.old.host files → Asks call (Normalize isa names) → Normalizes call files isa names

@@ -1,0 +1,59 @@
+// The command lines that name coverage group files.
+ghost use Rattle.std.specs.Prelude.{◌≡◌, IfOk, codes};
+ghost use Rattle.rvs_suite.specs.Words.{texts, values_of, are_known};
+ghost use Rattle.rvs_suite.specs.Commands.{some_of, most_groups, normalize_options, normalize_of, normalize_command};
+
+use crate::command::Command;
+use crate::words::{Pair, are_known, only_value, read_pairs, values};
+use rvs_base::{Items, NoMemory, Text};
+use std::alloc::Global;
+
+/// The most group files that may be named.
+const MOST_GROUPS: usize = 64;
+
+/// Reads the words behind `normalize`.
+///
+/// # Errors
+///
+/// [`NoMemory`].
+pub fn read_normalize(alloc: Global, words: &[String]) -> Result<Command, NoMemory>
+    ensures { IfOk result (λ command. command ≡ normalize_command (texts words.now)) }
+{
+    match read_pairs(alloc, words)? {
+        Some(pairs) if are_of_normalize(pairs.as_slice()) => {
+            read_inputs(alloc, pairs.as_slice())
+        },
+        _ => Ok(Command::Unknown),
+    }
+}
+
+fn are_of_normalize(pairs: &[Pair]) -> bool
+    ensures { result ≡ are_known normalize_options pairs.now }
+{
+    are_known(pairs, &["--isa", "--cgf"])
+}
+
+fn read_inputs(alloc: Global, pairs: &[Pair]) -> Result<Command, NoMemory>
+    ensures { IfOk result (λ command. command ≡ normalize_of pairs.now) }
+{
+    let Some(isa) = only_value(alloc, pairs, "--isa")? else {
+        return Ok(Command::Unknown);
+    };
+    let Some(groups) = group_files(alloc, pairs)? else {
+        return Ok(Command::Unknown);
+    };
+    Ok(Command::Normalize { isa, groups })
+}
+
+/// The values of `--cgf`, which stands one to 64 times. There are none where it doesn't.
+fn group_files(alloc: Global, pairs: &[Pair]) -> Result<Option<Items<Text>>, NoMemory>
+    ensures { IfOk result (λ files. files ≡ some_of most_groups (values_of (codes "--cgf") pairs.now)) }
+{
+    let files = values(alloc, pairs, "--cgf")?;
+    let count = files.as_slice().len();
+    if count >= 1 && count <= MOST_GROUPS {
+        Ok(Some(files))
+    } else {
+        Ok(None)
+    }
+}

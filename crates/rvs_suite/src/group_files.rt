@@ -1,0 +1,194 @@
+// Reading coverage group files.
+ghost use Rattle.std.specs.Prelude.{◌≡◌, ◌≢◌, Option, IfOk};
+ghost use Rattle.rvs_base.specs.Sink.{SinkState};
+ghost use Rattle.rvs_plan.specs.World.{World, world};
+ghost use Rattle.rvs_plan.specs.Plan.{Ends};
+ghost use Rattle.rvs_plan.specs.Meets.{Meets};
+ghost use Rattle.rvs_tree.specs.TreeView.{view};
+ghost use Rattle.rvs_cgf.specs.GroupView.{refusal_view};
+ghost use Rattle.rvs_cgf.specs.Groups.{groups_of};
+ghost use Rattle.rvs_suite.specs.Seen.{seen};
+ghost use Rattle.rvs_suite.specs.GroupsView.{groups_view, inputs_view};
+ghost use Rattle.rvs_suite.specs.GroupTexts.{group_text};
+ghost use Rattle.rvs_suite.specs.GroupFiles.{joined, joins, joins_all, room, within_limit, checked_groups, groups_found, group_files, group_inputs};
+
+use crate::isa_file::{read_isa, yaml_text};
+use rvs_base::{Bytes, Host, Items, NoMemory, Text};
+use rvs_cgf::{CgfKind, CgfRefusal, Groups, read_groups, refusal_text};
+use rvs_insn::IsaSpec;
+use rvs_plan::{Stop, read_part, too_long};
+use rvs_yaml::{Tree, parse};
+use std::alloc::Global;
+
+/// The greatest length in bytes of all group files together, with the line feeds between them:
+/// 4 MiB.
+pub const GROUPS_LIMIT: u64 = 4_194_304;
+
+/// What the joined group files are called in a line for errors.
+const GROUPS_NAME: &str = "coverage files";
+
+/// A core, and coverage groups that were read for it.
+#[derive(Drop)]
+pub struct Inputs {
+    pub isa: IsaSpec,
+    pub groups: Groups,
+}
+
+/// Reads an ISA file, and then coverage group files for its core.
+///
+/// # Errors
+///
+/// [`Stop`]: a file isn't there, can't be read, or isn't accepted.
+pub fn read_inputs<H: Host>(
+    alloc: Global,
+    host: &mut H,
+    isa: &str,
+    names: &[Text],
+) -> Result<Inputs, Stop>
+    ensures {
+        (out : SinkState) → Meets (group_inputs isa.now names.now) (world (H.state host.old) out)
+            (world (H.state host.new) out) (seen inputs_view result)
+    }
+{
+    let said = read_isa(alloc, host, isa)?;
+    let isa = said.spec;
+    let groups = read_group_files(alloc, host, &isa, names)?;
+    Ok(Inputs { isa, groups })
+}
+
+/// Reads the named group files, joins them in order with a line feed between, and reads the groups
+/// of that text for a core.
+///
+/// # Errors
+///
+/// [`Stop`]: a file isn't there or can't be read, all of them are longer than [`GROUPS_LIMIT`], the
+/// text has no tree, or the tree breaks a rule of coverage groups.
+fn read_group_files<H: Host>(
+    alloc: Global,
+    host: &mut H,
+    isa: &IsaSpec,
+    names: &[Text],
+) -> Result<Groups, Stop>
+    ensures {
+        (out : SinkState) → Meets (group_files isa.now names.now) (world (H.state host.old) out)
+            (world (H.state host.new) out) (seen groups_view result)
+    }
+{
+    let text = read_joined(alloc, host, names)?;
+    check_text(alloc, isa, text.as_slice())
+}
+
+/// The text of the named files.
+fn read_joined<H: Host>(alloc: Global, host: &mut H, names: &[Text]) -> Result<Bytes, Stop>
+    ensures {
+        (out : SinkState) → Meets (joins_all Option.None names.now) (world (H.state host.old) out)
+            (world (H.state host.new) out) result
+    }
+{
+    let mut front = None;
+    for name in names {
+        front = Some(join_file(alloc, host, front, name.as_str())?);
+    }
+    match front {
+        Some(text) => Ok(text),
+        None => Ok(Items::new(alloc)),
+    }
+}
+
+/// The files so far, with the named one behind a line feed.
+fn join_file<H: Host>(
+    alloc: Global,
+    host: &mut H,
+    front: Option<Bytes>,
+    name: &str,
+) -> Result<Bytes, Stop>
+    ensures {
+        (out : SinkState) → Meets (joins front name.now) (world (H.state host.old) out)
+            (world (H.state host.new) out) result
+    }
+{
+    let limit = room(&front);
+    let bytes = read_part(alloc, host, name, limit, GROUPS_NAME, GROUPS_LIMIT)?;
+    let text = joined(front, bytes)?;
+    within_limit(alloc, text)
+}
+
+/// What the files so far leave of the limit.
+fn room(front: &Option<Bytes>) -> u64
+    ensures { result ≡ room front.now }
+{
+    match front {
+        None => GROUPS_LIMIT,
+        Some(text) => GROUPS_LIMIT.saturating_sub(text.as_slice().len() as u64 + 1),
+    }
+}
+
+fn joined(front: Option<Bytes>, bytes: Bytes) -> Result<Bytes, NoMemory>
+    ensures { IfOk result (λ text. text ≡ joined front bytes) }
+{
+    match front {
+        None => Ok(bytes),
+        Some(text) => joined_behind(text, bytes.as_slice()),
+    }
+}
+
+fn joined_behind(front: Bytes, bytes: &[u8]) -> Result<Bytes, NoMemory>
+    ensures { IfOk result (λ text. text ≡ joined (Option.Some front) bytes.now) }
+{
+    let mut text = front.into_vec();
+    text.push(b'\n')?;
+    text.extend_from_slice(bytes)?;
+    Ok(Items::from(text))
+}
+
+fn within_limit(alloc: Global, text: Bytes) -> Result<Bytes, Stop>
+    ensures { (w : World) → Meets (Ends (within_limit text)) w w result }
+{
+    if text.as_slice().len() as u64 > GROUPS_LIMIT {
+        Err(Stop::Refused(too_long(alloc, GROUPS_NAME, GROUPS_LIMIT)?))
+    } else {
+        Ok(text)
+    }
+}
+
+fn check_text(alloc: Global, isa: &IsaSpec, text: &[u8]) -> Result<Groups, Stop>
+    ensures {
+        (w : World) → Meets (Ends (groups_found isa.now text.now)) w w (seen groups_view result)
+    }
+{
+    match parse(alloc, text) {
+        Ok(tree) => check_tree(alloc, isa, &tree),
+        Err(refusal) => Err(Stop::Refused(yaml_text(alloc, GROUPS_NAME, &refusal)?)),
+    }
+}
+
+fn check_tree(alloc: Global, isa: &IsaSpec, tree: &Tree) -> Result<Groups, Stop>
+    ensures {
+        (w : World) → Meets (Ends (checked_groups (groups_of isa.now (view tree.now)))) w w
+            (seen groups_view result)
+    }
+{
+    match read_groups(alloc, tree, isa) {
+        Ok(groups) => Ok(groups),
+        Err(refusal) => Err(Stop::Refused(group_text(alloc, &refusal)?)),
+    }
+}
+
+/// Why the groups are refused. There is no text where memory was wanting.
+fn group_text(alloc: Global, refusal: &CgfRefusal) -> Result<Text, NoMemory>
+    ensures fault { IfOk result (λ _. refusal.now.kind ≢ CgfKind.NoMemory) }
+    ensures text { IfOk result (λ text. text ≡ group_text (refusal_view refusal.now)) }
+{
+    match refusal.kind {
+        CgfKind::NoMemory => Err(NoMemory),
+        _ => group_line(alloc, refusal),
+    }
+}
+
+#[tactic(auto, unfolding(crate::specs::GroupTexts::group_text))]
+fn group_line(alloc: Global, refusal: &CgfRefusal) -> Result<Text, NoMemory>
+    ensures { IfOk result (λ text. text ≡ group_text (refusal_view refusal.now)) }
+{
+    let text = refusal_text(alloc, refusal)?;
+    Ok(Text::from(format!(in alloc; "{GROUPS_NAME}: {text}")?))
+}
