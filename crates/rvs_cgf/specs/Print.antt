@@ -2,11 +2,8 @@
 use Rattle.std.specs.Prelude.{ℕ, suc, ◌==◌, Bool, true, false, List, [], ◌∷◌, ◌++◌, Option, Some, None, if◌then◌else◌, codes}
 use Rattle.std.specs.List.{flat_map}
 use Rattle.std.specs.Fmt.{decimal}
-use Rattle.rvs_abstract.specs.declared.call.AbstractRefusal.{AbstractRefusal}
-use Rattle.rvs_abstract.specs.declared.call.AbstractRefusal.TheVariants.{BadCall, UnknownFunction, BadSize}
-use Rattle.rvs_expr_text.specs.declared.refusal.ExprKind.{ExprKind}
-use Rattle.rvs_expr_text.specs.declared.refusal.ExprKind.TheVariants as expr
-use Rattle.rvs_expr_text.specs.declared.refusal.ExprRefusal.{ExprRefusal}
+use Rattle.rvs_abstract.specs.Refusals as calls
+use Rattle.rvs_expr_text.specs.Refusal as expr
 use Rattle.rvs_cgf.specs.Groups.{Label, Point, Skipped, Refusal, same_kind}
 use Rattle.rvs_cgf.specs.declared.group.Kind.{Kind}
 use Rattle.rvs_cgf.specs.declared.group.Kind.TheVariants as kind
@@ -59,25 +56,6 @@ abbrev pub normal_text : List Label → List ℕ
 normal_text groups = flat_map label_text groups
 
 -- ---- refusals
-abbrev pub expr_number : ExprKind → ℕ
-expr_number expr.BadCharacter = 1
-expr_number expr.Unexpected = 2
-expr_number expr.UnknownName = 3
-expr_number expr.WrongName = 4
-expr_number expr.WrongSort = 5
-expr_number expr.TooWide = 6
-expr_number expr.BadDivisor = 7
-expr_number expr.BadPower = 8
-expr_number expr.TooDeep = 9
-expr_number expr.TooLong = 10
-expr_number expr.TooManyConstants = 11
-expr_number expr.NoMemory = 12
-
-abbrev pub abstract_number : AbstractRefusal → ℕ
-abstract_number BadCall = 1
-abstract_number UnknownFunction = 2
-abstract_number BadSize = 3
-
 abbrev pub number_of : CgfKind → ℕ
 number_of BadLabelName = 1
 number_of BadShape = 2
@@ -97,8 +75,8 @@ or_dash [] = codes "-"
 or_dash (c ∷ cs) = c ∷ cs
 
 abbrev pub inner_text : CgfKind → List ℕ
-inner_text (BadExpr why) = codes " expr " ++ (decimal (expr_number why.kind) ++ (codes " column " ++ decimal why.column))
-inner_text (BadAbstract why) = codes " abstract " ++ decimal (abstract_number why)
+inner_text (BadExpr why) = codes " expr " ++ (decimal (expr.number_of why.kind) ++ (codes " column " ++ decimal why.column))
+inner_text (BadAbstract why) = codes " abstract " ++ decimal (calls.number_of why)
 inner_text _ = []
 
 -- the number of the rule, the label, the node and the key, and why an expression or a call is refused

@@ -25,13 +25,11 @@ fn size(label: &Label) -> u128
 }
 
 /// The labels with one more.
-#[tactic(auto, using(crate::proofs::Points::map_label))]
+#[tactic(auto, using(crate::proofs::Pointwise::map_label))]
 fn pushed(label: Label, total: u128, listed: Listed) -> Result<Listed, NoMemory>
     requires { total ≤ 65536 }
-    ensures labels {
-        IfOk result (λ l. map label_view l.labels
-            ≡ map label_view listed.labels ++ label_view label ∷ [])
-    }
+    ensures labels { IfOk result (λ l. map label_view l.labels
+        ≡ map label_view listed.labels ++ label_view label ∷ []) }
     ensures total { IfOk result (λ l. l.total ≡ total) }
 {
     let Listed {
@@ -43,16 +41,9 @@ fn pushed(label: Label, total: u128, listed: Listed) -> Result<Listed, NoMemory>
 }
 
 /// The labels with one more, where the sum of points times mnemonics stays at most 65,536.
-fn with_label(
-    alloc: Global,
-    name: &str,
-    label: Label,
-    listed: Listed,
-) -> Result<Listed, CgfRefusal>
-    ensures {
-        AnswersWith listed_view result
-            (spec.with_label name.now (label_view label) (listed_view listed))
-    }
+fn with_label(alloc: Global, name: &str, label: Label, listed: Listed) -> Result<Listed, CgfRefusal>
+    ensures { AnswersWith listed_view result
+        (spec.with_label name.now (label_view label) (listed_view listed)) }
 {
     let total = listed.total + size(&label);
     if total > 65536 {
@@ -72,10 +63,8 @@ fn label_step(
     entries: &Tree,
     listed: Listed,
 ) -> Result<Listed, CgfRefusal>
-    ensures {
-        AnswersWith listed_view result
-            (spec.label_step isa.now name.now (trees.view entries.now) (listed_view listed))
-    }
+    ensures { AnswersWith listed_view result
+        (spec.label_step isa.now name.now (trees.view entries.now) (listed_view listed)) }
 {
     if name == "datasets" {
         return Ok(listed);
@@ -98,10 +87,8 @@ fn nothing_listed(alloc: Global) -> Listed
 /// The labels of a map.
 fn list_labels(alloc: Global, isa: &IsaSpec, root: &Tree) -> Result<Listed, CgfRefusal>
     requires { IsTrue (is_map (trees.view root.now)) }
-    ensures {
-        AnswersWith listed_view result
-            (spec.each_label isa.now (own_pairs (trees.view root.now)) spec.nothing_listed)
-    }
+    ensures { AnswersWith listed_view result
+        (spec.each_label isa.now (own_pairs (trees.view root.now)) spec.nothing_listed) }
 {
     let mut listed = nothing_listed(alloc);
     for i in 0..root.len() {
@@ -124,9 +111,7 @@ fn list_labels(alloc: Global, isa: &IsaSpec, root: &Tree) -> Result<Listed, CgfR
 /// that the check looks at; or `NoMemory`.
 #[tactic(auto, unfolding(crate::specs::Groups::groups_of))]
 pub fn read_groups(alloc: Global, tree: &Tree, isa: &IsaSpec) -> Result<Groups, CgfRefusal>
-    ensures {
-        AnswersWith (map label_view) result (spec.groups_of isa.now (trees.view tree.now))
-    }
+    ensures { AnswersWith (map label_view) result (spec.groups_of isa.now (trees.view tree.now)) }
 {
     if is_empty_scalar(tree) {
         return Ok(Items::new(alloc));

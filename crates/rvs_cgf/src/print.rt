@@ -9,7 +9,7 @@ use crate::refusal::{CgfKind, CgfRefusal};
 use crate::walk::same_kind;
 use rvs_abstract::AbstractRefusal;
 use rvs_base::{NoMemory, Text};
-use rvs_expr::{ExprKind, ExprRefusal};
+use rvs_expr::ExprRefusal;
 use std::alloc::Global;
 
 impl Kind {
@@ -30,12 +30,10 @@ impl Kind {
 
 /// What stands before and behind the first single quote.
 fn at_quote(text: &str) -> Option<(&str, &str)>
-    ensures {
-        MatchOption result (position_or_len (λ b. b == 39) text.now ≡ length text.now)
-            (λ parts. (parts.0.now ≡ before_first (λ b. b == 39) text.now)
-            × (parts.1.now ≡ after_first (λ b. b == 39) text.now)
-            × (position_or_len (λ b. b == 39) text.now < length text.now))
-    }
+    ensures { MatchOption result (position_or_len (λ b. b == 39) text.now ≡ length text.now)
+        (λ parts. (parts.0.now ≡ before_first (λ b. b == 39) text.now)
+        × (parts.1.now ≡ after_first (λ b. b == 39) text.now)
+        × (position_or_len (λ b. b == 39) text.now < length text.now)) }
 {
     text.split_once('\'')
 }
@@ -95,10 +93,8 @@ fn push_point_line(text: &mut Text, key: &str) -> Result<(), NoMemory>
 }
 
 fn push_point(text: &mut Text, before: Option<Kind>, point: &Point) -> Result<(), NoMemory>
-    ensures {
-        OnOk result (text.new ≡ text.old
-            ++ (spec.head_line before point.now.kind ++ spec.point_line point.now.key))
-    }
+    ensures { OnOk result (text.new ≡ text.old
+        ++ (spec.head_line before point.now.kind ++ spec.point_line point.now.key)) }
 {
     push_head_line(text, before, point.kind)?;
     push_point_line(text, point.key.as_str())
@@ -107,9 +103,8 @@ fn push_point(text: &mut Text, before: Option<Kind>, point: &Point) -> Result<()
 /// Adds the lines of points, a line of their kind before the first of each.
 #[tactic(auto, using(crate::proofs::Texts::points_more, crate::proofs::Texts::points_all))]
 fn push_points(text: &mut Text, points: &[Point]) -> Result<(), NoMemory>
-    ensures {
-        OnOk result (text.new ≡ text.old ++ spec.points_text None (map point_view points.now))
-    }
+    ensures { OnOk result
+        (text.new ≡ text.old ++ spec.points_text None (map point_view points.now)) }
 {
     let mut before = None;
     for point in points {
@@ -120,10 +115,8 @@ fn push_points(text: &mut Text, points: &[Point]) -> Result<(), NoMemory>
 }
 
 fn push_line_of(text: &mut Text, node: &str, key: &str) -> Result<(), NoMemory>
-    ensures {
-        OnOk result (text.new
-            ≡ text.old ++ (node.now ++ (codes " " ++ (key.now ++ codes "\n"))))
-    }
+    ensures { OnOk result (text.new
+        ≡ text.old ++ (node.now ++ (codes " " ++ (key.now ++ codes "\n")))) }
 {
     text.push_str(node)?;
     text.push_str(" ")?;
@@ -140,10 +133,8 @@ fn push_skipped_line(text: &mut Text, skipped: &Skipped) -> Result<(), NoMemory>
 
 #[tactic(auto, using(crate::proofs::Texts::skipped_more, crate::proofs::Texts::skipped_all))]
 fn push_skipped(text: &mut Text, skipped: &[Skipped]) -> Result<(), NoMemory>
-    ensures {
-        OnOk result (text.new ≡ text.old
-            ++ flat_map spec.skipped_line (map skipped_view skipped.now))
-    }
+    ensures { OnOk result (text.new ≡ text.old
+        ++ flat_map spec.skipped_line (map skipped_view skipped.now)) }
 {
     for one in skipped {
         push_skipped_line(text, one)?;
@@ -190,53 +181,6 @@ pub fn normal_text(alloc: Global, groups: &Groups) -> Result<Text, NoMemory>
     Ok(text)
 }
 
-fn expr_number(kind: ExprKind) -> u8
-    ensures { result ≡ spec.expr_number kind }
-{
-    match kind {
-        ExprKind::BadCharacter => 1,
-        ExprKind::Unexpected => 2,
-        ExprKind::UnknownName => 3,
-        ExprKind::WrongName => 4,
-        ExprKind::WrongSort => 5,
-        ExprKind::TooWide => 6,
-        ExprKind::BadDivisor => 7,
-        ExprKind::BadPower => 8,
-        ExprKind::TooDeep => 9,
-        ExprKind::TooLong => 10,
-        ExprKind::TooManyConstants => 11,
-        ExprKind::NoMemory => 12,
-    }
-}
-
-fn abstract_number(why: AbstractRefusal) -> u8
-    ensures { result ≡ spec.abstract_number why }
-{
-    match why {
-        AbstractRefusal::BadCall => 1,
-        AbstractRefusal::UnknownFunction => 2,
-        AbstractRefusal::BadSize => 3,
-    }
-}
-
-fn number(kind: CgfKind) -> u8
-    ensures { result ≡ spec.number_of kind }
-{
-    match kind {
-        CgfKind::BadLabelName => 1,
-        CgfKind::BadShape => 2,
-        CgfKind::UnknownNode => 3,
-        CgfKind::UnknownMnemonic => 4,
-        CgfKind::BadRegister => 5,
-        CgfKind::BadExpr(_) => 6,
-        CgfKind::BadAbstract(_) => 7,
-        CgfKind::BadConfig => 9,
-        CgfKind::TooManyLabels => 10,
-        CgfKind::TooManyPoints => 11,
-        CgfKind::NoMemory => 12,
-    }
-}
-
 fn or_dash(text: &str) -> &str
     ensures { result.now ≡ spec.or_dash text.now }
 {
@@ -246,7 +190,7 @@ fn or_dash(text: &str) -> &str
 fn expr_text(alloc: Global, why: ExprRefusal) -> Result<Text, NoMemory>
     ensures { IfOk result (λ text. text ≡ spec.inner_text (CgfKind.BadExpr why)) }
 {
-    let number = expr_number(why.kind);
+    let number = why.kind.number();
     let column = why.column;
     Ok(Text::from(format!(in alloc; " expr {number} column {column}")?))
 }
@@ -254,7 +198,7 @@ fn expr_text(alloc: Global, why: ExprRefusal) -> Result<Text, NoMemory>
 fn abstract_text(alloc: Global, why: AbstractRefusal) -> Result<Text, NoMemory>
     ensures { IfOk result (λ text. text ≡ spec.inner_text (CgfKind.BadAbstract why)) }
 {
-    let number = abstract_number(why);
+    let number = why.number();
     Ok(Text::from(format!(in alloc; " abstract {number}")?))
 }
 
@@ -278,7 +222,7 @@ fn inner_text(alloc: Global, kind: CgfKind) -> Result<Text, NoMemory>
 pub fn refusal_text(alloc: Global, refusal: &CgfRefusal) -> Result<Text, NoMemory>
     ensures { IfOk result (λ text. text ≡ spec.refusal_text (refusal_view refusal.now)) }
 {
-    let number = number(refusal.kind);
+    let number = refusal.kind.number();
     let label = or_dash(refusal.label.as_str());
     let node = or_dash(refusal.node.as_str());
     let key = or_dash(refusal.key.as_str());
