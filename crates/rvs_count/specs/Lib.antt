@@ -1,0 +1,6 @@
+pub mod Bounds
+pub mod Counting
+pub mod Feeds
+pub mod Index
+pub mod Sound
+pub mod State

@@ -1,0 +1,18 @@
+//! Counting how often coverage points are hit by the instructions of a log.
+#![tactic(auto)]
+
+mod counter;
+mod file;
+mod hits;
+mod index;
+mod slots;
+mod tally;
+mod whole;
+mod window;
+mod windows;
+mod zeros;
+
+pub use counter::{Counter, LogTooLong};
+pub use file::{LogFault, count_file};
+pub use whole::{Counted, count_log};
+pub use window::Window;
