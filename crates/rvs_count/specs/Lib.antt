@@ -2,5 +2,6 @@ pub mod Bounds
 pub mod Counting
 pub mod Feeds
 pub mod Index
+pub mod Report
 pub mod Sound
 pub mod State

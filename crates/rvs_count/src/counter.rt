@@ -1,15 +1,17 @@
 // Counting while a log comes.
 ghost use Rattle.std.specs.Prelude.{◌≡◌, ◌<◌, ◌≤◌, ◌+◌, ◌^◌, ◌↔◌, ℕ, List, Some, [], ◌++◌};
-ghost use Rattle.std.specs.Prelude.{IfOk, IsErr, OnOk, OnErr, drop, length};
+ghost use Rattle.std.specs.Prelude.{IfOk, IsErr, OnOk, OnErr, drop, length, map};
+ghost use Rattle.rvs_cgf.specs.GroupView.{label_view};
 ghost use Rattle.rvs_cgf.specs.declared.group.Label.{Label as Group};
 ghost use Rattle.rvs_count.specs.Bounds.{waiting_len};
 ghost use Rattle.rvs_count.specs.declared.window.Window.{Window as Span};
+ghost use Rattle.rvs_count.specs.Report.{report_of};
 ghost use Rattle.rvs_count.specs.State.{ended, state_of, state_with, with_all, with_reading};
 ghost use Rattle.rvs_log.specs.Lines.{held_says};
 
 use crate::tally::Tally;
 use crate::window::Window;
-use rvs_base::{Items, NoMemory};
+use rvs_base::{Items, NoMemory, Text};
 use rvs_cgf::Groups;
 use rvs_log::Follow;
 use std::alloc::Global;
@@ -146,6 +148,19 @@ impl<'g> Counter<'g> {
         ensures { result.now ≡ self.now.tally.counts }
     {
         self.tally.counts()
+    }
+
+    /// The report of what was counted: that of [`report_text`](crate::report_text) for its groups,
+    /// counts and number of instructions.
+    ///
+    /// # Errors
+    ///
+    /// [`NoMemory`].
+    pub fn report(&self, alloc: Global) -> Result<Text, NoMemory>
+        ensures { IfOk result (λ text. text ≡ report_of (map label_view self.now.tally.labels)
+            self.now.tally.counts self.now.tally.instructions) }
+    {
+        self.tally.report(alloc)
     }
 
     /// How many instructions there were.

@@ -64,6 +64,13 @@ impl<'g> Index<'g> {
         Ok(Index { labels, slots })
     }
 
+    /// The labels.
+    pub(crate) fn labels(&self) -> &[Label]
+        ensures { result.now ≡ self.now }
+    {
+        self.labels
+    }
+
     /// Adds one to the counts of the points that an instruction hits whose registers held these
     /// words before it.
     pub(crate) fn add(&self, insn: &Insn, before: &Registers, counts: &mut Vec<u64>)

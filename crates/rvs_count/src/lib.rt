@@ -5,6 +5,7 @@ mod counter;
 mod file;
 mod hits;
 mod index;
+mod report;
 mod slots;
 mod tally;
 mod whole;
@@ -14,5 +15,9 @@ mod zeros;
 
 pub use counter::{Counter, LogTooLong};
 pub use file::{LogFault, count_file};
+pub use report::report_text;
 pub use whole::{Counted, count_log};
 pub use window::Window;
+
+#[cfg(test)]
+mod tests;

@@ -1,16 +1,19 @@
 // What is counted, line by line.
-ghost use Rattle.std.specs.Prelude.{◌≡◌, ◌<◌, ◌^◌, [], IfOk};
+ghost use Rattle.std.specs.Prelude.{◌≡◌, ◌<◌, ◌^◌, [], IfOk, map};
+ghost use Rattle.rvs_cgf.specs.GroupView.{label_view};
 ghost use Rattle.rvs_insn.specs.Fields.{insn_of_word};
 ghost use Rattle.rvs_log.specs.Entries.{entry_at};
 ghost use Rattle.rvs_log.specs.Grammar.{Says, Writes, reading_of};
 ghost use Rattle.rvs_count.specs.Counting.{is_in};
+ghost use Rattle.rvs_count.specs.Report.{report_of};
 ghost use Rattle.rvs_count.specs.State.{tally_of, with_entry, with_reading};
 
 use crate::index::Index;
+use crate::report::report;
 use crate::window::Window;
 use crate::windows::leaves;
 use crate::zeros::zeros;
-use rvs_base::{Items, NoMemory};
+use rvs_base::{Items, NoMemory, Text};
 use rvs_cgf::Groups;
 use rvs_log::{Line, Record, Registers, read_line};
 use rvs_machine::Commit;
@@ -75,6 +78,15 @@ impl<'g> Tally<'g> {
         ensures { result ≡ self.now.instructions }
     {
         self.instructions
+    }
+
+    /// What was counted, as a report.
+    pub(crate) fn report(&self, alloc: Global) -> Result<Text, NoMemory>
+        ensures { IfOk result (λ text. text ≡ report_of (map label_view self.now.labels)
+            self.now.counts self.now.instructions) }
+    {
+        let labels = self.index.labels();
+        report(alloc, labels, self.counts.as_slice(), self.instructions)
     }
 
     /// Counts an instruction.
