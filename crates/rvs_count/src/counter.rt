@@ -85,7 +85,7 @@ fn take_last(tally: &mut Tally<'_>, follow: &mut Follow)
 {
     match follow.last() {
         None => {},
-        Some(line) => tally.take_line(line),
+        Some(rest) => tally.take_line(rest),
     }
 }
 
