@@ -55,3 +55,7 @@ counted_instructions labels windows log n = ap (λ ls. length (kept windows (ent
 pub fed_of : (labels : List Label) (windows : List Window) (bytes : List ℕ) (n : ℕ) → (state_of labels windows bytes n).fed ≡ n
 unfolding state_of
 fed_of labels windows bytes n = refl
+
+pub counted_labels : (labels : List Label) (windows : List Window) (bytes : List ℕ) (n : ℕ) → (state_of labels windows bytes n).tally.labels ≡ labels
+unfolding state_of
+counted_labels labels windows bytes n = refl
