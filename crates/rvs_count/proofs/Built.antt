@@ -1,0 +1,179 @@
+-- The lists are built label by label.
+use Rattle.std.proofs.Common.{◌≡◌, ℕ, zero, suc, ◌+◌, ◌<◌, Bool, true, false, cond, List, [], ◌∷◌, ◌++◌, refl, sym, ap, ◌∙◌, length, drop, get_or, replicate, arith, append_assoc, length-append}
+use Rattle.std.proofs.lemmas.List.{length-map, map-append}
+use Rattle.std.specs.Prelude.{map}
+use Rattle.rvs_cgf.specs.Groups as group
+use Rattle.rvs_cgf.specs.GroupView.{label_view, point_view}
+use Rattle.rvs_cgf.specs.declared.group.Label.{Label}
+use Rattle.rvs_cgf.specs.declared.group.Point.{Point}
+use Rattle.rvs_insn.specs.declared.op.Op.{Op}
+use Rattle.rvs_count.specs.Counting.{Aim, count, aims_in, aims_of_label, aims_of_points}
+use Rattle.rvs_count.specs.Index.{Place, place_of, places, has_number, is_for, places_for, places_from, index_of}
+use Rattle.rvs_count.specs.State.{Tallied, tally_of}
+use Rattle.rvs_count.specs.declared.slots.Slot.{Slot}
+use Rattle.rvs_count.specs.declared.window.Window.{Window}
+use Rattle.rvs_log.specs.Registers.{zeros}
+
+-- the next label
+pub aims_more : (labels : List Label) (k : ℕ) (d : Label) → k < length labels
+    → aims_in (drop k labels) ≡ aims_of_label (label_view (get_or labels k d)) ++ aims_in (drop (k + 1) labels)
+aims_more [] k d h = absurd (omega arith)
+aims_more (l ∷ labels) zero d h = refl
+aims_more (l ∷ labels) (suc k) d h =
+    let e : suc k + 1 ≡ suc (k + 1) = omega arith in
+    aims_more labels k d (omega arith)
+    ∙ ap (λ n. aims_of_label (label_view (get_or labels k d)) ++ aims_in (drop n (l ∷ labels))) (sym e)
+
+zeros-append : (m n z : ℕ) → replicate m z ++ replicate n z ≡ replicate (m + n) z
+zeros-append zero n z = let e : 0 + n ≡ n = omega arith in ap (λ k. replicate k z) (sym e)
+zeros-append (suc m) n z =
+    let e : suc m + n ≡ suc (m + n) = omega arith in
+    ap (λ l. z ∷ l) (zeros-append m n z) ∙ ap (λ k. replicate k z) (sym e)
+
+-- counts of one more label
+pub zeros_more : (labels : List Label) (counts counts' : List ℕ) (k : ℕ) (d : Label) → k < length labels
+    → counts' ≡ counts ++ replicate {A = ℕ} (length (aims_of_label (label_view (get_or labels k d)))) 0
+    → counts' ++ replicate {A = ℕ} (length (aims_in (drop (k + 1) labels))) 0
+    ≡ counts ++ replicate {A = ℕ} (length (aims_in (drop k labels))) 0
+zeros_more labels counts counts' k d h e =
+    let here = aims_of_label (label_view (get_or labels k d)) in
+    let rest = aims_in (drop (k + 1) labels) in
+    ap (λ l. l ++ replicate (length rest) 0) e
+    ∙ append_assoc counts (replicate (length here) 0) (replicate (length rest) 0)
+    ∙ ap (λ l. counts ++ l) (zeros-append (length here) (length rest) 0)
+    ∙ ap (λ n. counts ++ replicate n 0) (sym (ap (λ l. length l) (aims_more labels k d h) ∙ length-append here rest))
+
+-- the points of a label, where it has the mnemonic and where it doesn't
+places_has : (n : ℕ) (ops : List Op) (at : ℕ) (points : List group.Point) → has_number n ops ≡ true
+    → places_for (is_for n) at (aims_of_points ops points) ≡ places_from at points
+places_has n ops at [] h = refl
+places_has n ops at (p ∷ ps) h =
+    ap (λ b. elim b as (λ _. List Place) [
+      | true ↦ (p, at) ∷ places_for (is_for n) (at + 1) (aims_of_points ops ps)
+      | false ↦ places_for (is_for n) (at + 1) (aims_of_points ops ps)
+    ]) h
+    ∙ ap (λ l. (p, at) ∷ l) (places_has n ops (at + 1) ps h)
+
+places_lacks : (n : ℕ) (ops : List Op) (at : ℕ) (points : List group.Point) → has_number n ops ≡ false
+    → places_for (is_for n) at (aims_of_points ops points) ≡ []
+places_lacks n ops at [] h = refl
+places_lacks n ops at (p ∷ ps) h =
+    ap (λ b. elim b as (λ _. List Place) [
+      | true ↦ (p, at) ∷ places_for (is_for n) (at + 1) (aims_of_points ops ps)
+      | false ↦ places_for (is_for n) (at + 1) (aims_of_points ops ps)
+    ]) h
+    ∙ places_lacks n ops (at + 1) ps h
+
+places-append : (passes : Aim → Bool) (at m : ℕ) (xs ys : List Aim) → m ≡ at + length xs
+    → places_for passes at (xs ++ ys) ≡ places_for passes at xs ++ places_for passes m ys
+places-append passes at m [] ys e =
+    let f : at ≡ m = omega arith in ap (λ n. places_for passes n ys) f
+places-append passes at m (x ∷ xs) ys e = turn (passes x) (places-append passes (at + 1) m xs ys (omega arith))
+  where
+    turn : (b : Bool)
+        → places_for passes (at + 1) (xs ++ ys) ≡ places_for passes (at + 1) xs ++ places_for passes m ys
+        → (elim b as (λ _. List Place) [
+          | true ↦ (x.point, at) ∷ places_for passes (at + 1) (xs ++ ys)
+          | false ↦ places_for passes (at + 1) (xs ++ ys)
+        ])
+        ≡ (elim b as (λ _. List Place) [
+          | true ↦ (x.point, at) ∷ places_for passes (at + 1) xs
+          | false ↦ places_for passes (at + 1) xs
+        ]) ++ places_for passes m ys
+    turn true p = ap (λ l. (x.point, at) ∷ l) p
+    turn false p = p
+
+-- slots of one more label
+pub slots_more : (passes : Aim → Bool) (labels : List Label) (slots slots' : List Slot) (k first next : ℕ) (d : Label)
+    → k < length labels
+    → places slots' ≡ places slots ++ places_for passes first (aims_of_label (label_view (get_or labels k d)))
+    → next ≡ first + length (aims_of_label (label_view (get_or labels k d)))
+    → places slots' ++ places_for passes next (aims_in (drop (k + 1) labels))
+    ≡ places slots ++ places_for passes first (aims_in (drop k labels))
+slots_more passes labels slots slots' k first next d h e n =
+    let here = aims_of_label (label_view (get_or labels k d)) in
+    let rest = aims_in (drop (k + 1) labels) in
+    ap (λ l. l ++ places_for passes next rest) e
+    ∙ append_assoc (places slots) (places_for passes first here) (places_for passes next rest)
+    ∙ ap (λ l. places slots ++ l) (sym (places-append passes first next here rest n))
+    ∙ ap (λ l. places slots ++ places_for passes first l) (sym (aims_more labels k d h))
+
+from_more : (points : List Point) (k at : ℕ) (d : Point) → k < length points
+    → places_from at (map point_view (drop k points))
+    ≡ (point_view (get_or points k d), at) ∷ places_from (at + 1) (map point_view (drop (k + 1) points))
+from_more [] k at d h = absurd (omega arith)
+from_more (p ∷ ps) zero at d h = refl
+from_more (p ∷ ps) (suc k) at d h =
+    let e : suc k + 1 ≡ suc (k + 1) = omega arith in
+    from_more ps k at d (omega arith)
+    ∙ ap (λ n. (point_view (get_or ps k d), at) ∷ places_from (at + 1) (map point_view (drop n (p ∷ ps)))) (sym e)
+
+-- one more point
+pub points_more : (points : List Point) (slots slots' : List Slot) (s : Slot) (k at : ℕ) (d : Point)
+    → k < length points → slots' ≡ slots ++ s ∷ [] → s.point.now ≡ get_or points k d → s.at ≡ at
+    → places slots' ++ places_from (at + 1) (map point_view (drop (k + 1) points))
+    ≡ places slots ++ places_from at (map point_view (drop k points))
+points_more points slots slots' s k at d h e m a =
+    let rest = places_from (at + 1) (map point_view (drop (k + 1) points)) in
+    ap (λ l. places l ++ rest) e
+    ∙ ap (λ l. l ++ rest) (map-append place_of slots (s ∷ []))
+    ∙ append_assoc (places slots) (place_of s ∷ []) rest
+    ∙ ap (λ n. places slots ++ (point_view s.point.now, n) ∷ rest) a
+    ∙ ap (λ x. places slots ++ (point_view x, at) ∷ rest) m
+    ∙ ap (λ l. places slots ++ l) (sym (from_more points k at d h))
+
+-- the points of one label by its mnemonics
+pub places_label : (n : ℕ) (label : Label) (first : ℕ) (has : Bool) → label.selected ≡ true
+    → has ≡ has_number n label.ops
+    → cond has (places_from first (map point_view label.points)) []
+    ≡ places_for (is_for n) first (aims_of_label (label_view label))
+places_label n label first has s h =
+    let points = map point_view label.points in
+    ap (λ b. cond b (places_from first points) []) h
+    ∙ turn (has_number n label.ops) refl
+    ∙ ap (λ b. places_for (is_for n) first (cond b (aims_of_points label.ops points) [])) (sym s)
+  where
+    turn : (b : Bool) → has_number n label.ops ≡ b
+        → cond b (places_from first (map point_view label.points)) []
+        ≡ places_for (is_for n) first (aims_of_points label.ops (map point_view label.points))
+    turn true e = sym (places_has n label.ops first (map point_view label.points) e)
+    turn false e = sym (places_lacks n label.ops first (map point_view label.points) e)
+
+-- how many points a label has
+pub label_length : (label : Label) → label.selected ≡ true
+    → length (aims_of_label (label_view label)) ≡ length label.points
+label_length label s =
+    let points = map point_view label.points in
+    let aim : group.Point → Aim = λ p. record { ops = label.ops; point = p } in
+    ap (λ b. length (cond b (aims_of_points label.ops points) [])) s
+    ∙ length-map points aim
+    ∙ length-map label.points point_view
+
+-- before the first line
+pub zero_counts : (aims : List Aim) → replicate {A = ℕ} (length aims) 0 ≡ map (count []) aims
+zero_counts [] = refl
+zero_counts (a ∷ aims) = ap (λ l. 0 ∷ l) (zero_counts aims)
+
+-- one more mnemonic
+pub index_more : (labels : List Label) (lists lists' : List (List Slot)) (slots : List Slot) (n : ℕ)
+    → lists' ≡ lists ++ slots ∷ [] → places slots ≡ places_for (is_for n) 0 (aims_in labels)
+    → map places lists ≡ index_of labels n → map places lists' ≡ index_of labels (n + 1)
+index_more labels lists lists' slots n e p same =
+    let s : suc n ≡ n + 1 = omega arith in
+    ap (λ l. map places l) e
+    ∙ map-append places lists (slots ∷ [])
+    ∙ ap (λ l. l ++ places slots ∷ []) same
+    ∙ ap (λ x. index_of labels n ++ x ∷ []) p
+    ∙ ap (λ m. index_of labels m) s
+
+-- a new tally
+pub new_tally : (labels index : List Label) (windows : List Window) (counts words : List ℕ) → index ≡ labels
+    → counts ≡ replicate {A = ℕ} (length (aims_in labels)) 0 → words ≡ zeros
+    → record { labels = index; windows = windows; counts = counts; instructions = 0; heard = record { words = words; started = false } }
+    ≡ tally_of labels windows []
+new_tally labels index windows counts words i n w =
+    let with : List Label → List ℕ → List ℕ → Tallied =
+    λ ls cs ws. record { labels = ls; windows = windows; counts = cs; instructions = 0; heard = record { words = ws; started = false } } in
+    ap (λ ls. with ls counts words) i
+    ∙ ap (λ cs. with labels cs words) (n ∙ zero_counts (aims_in labels))
+    ∙ ap (λ ws. with labels (map (count []) (aims_in labels)) ws) w

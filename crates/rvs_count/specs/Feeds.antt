@@ -1,0 +1,47 @@
+-- A file that was fed to a counter.
+use Rattle.std.specs.Prelude.{◌≡◌, ℕ, ◌+◌, ◌^◌, ◌<◌, List, ◌++◌, length, Some}
+use Rattle.rvs_base.specs.Faults.{Rose}
+use Rattle.rvs_base.specs.Host.{HostState, Files, Tells, LacksFile}
+use Rattle.rvs_base.specs.declared.host.OpenFault.{OpenFault}
+use Rattle.rvs_base.specs.declared.host.OpenFault.TheVariants as fault
+use Rattle.rvs_cgf.specs.declared.group.Label.{Label}
+use Rattle.rvs_count.specs.declared.file.LogFault.{LogFault}
+use Rattle.rvs_count.specs.declared.file.LogFault.TheVariants.{NoFile, Failed, TooLong}
+use Rattle.rvs_count.specs.declared.window.Window.{Window}
+use Rattle.rvs_count.specs.State.{CountState, state_of}
+
+-- these bytes were fed after all that came before
+pub record Fed (c c' : CountState) (bytes : List ℕ) : Type 0 where
+  pub state : (labels : List Label) (windows : List Window) (before : List ℕ) (n : ℕ)
+      → c ≡ state_of labels windows before n
+      → c' ≡ state_of labels windows (before ++ bytes) (n + length bytes)
+  pub fed : c'.fed ≡ c.fed + length bytes
+
+-- all the bytes of the file were
+pub record FeedsFile (name : List ℕ) (old : HostState) (c c' : CountState) : Type 0 where
+  pub bytes : List ℕ
+  pub fed : Fed c c' bytes
+  pub whole : (files : Files) → Tells old files → files name ≡ Some bytes
+
+-- a front of them was
+pub record FeedsFront (name : List ℕ) (old : HostState) (c c' : CountState) : Type 0 where
+  pub bytes : List ℕ
+  pub fed : Fed c c' bytes
+  pub front : (files : Files) (file : List ℕ) → Tells old files → files name ≡ Some file
+      → (rest : List ℕ) × (file ≡ bytes ++ rest)
+
+-- the file's bytes would be more than may be fed
+pub record IsLong (name : List ℕ) (old : HostState) (c : CountState) : Type 0 where
+  pub longer : (files : Files) → Tells old files
+      → (file : List ℕ) × (files name ≡ Some file) × (2 ^ 40 < c.fed + length file)
+
+-- when a log isn't fed to its end
+abbrev pub FeedCause : List ℕ → HostState → HostState → CountState → CountState → LogFault → Type 0
+FeedCause name old new c c' NoFile = LacksFile name old new × (c' ≡ c)
+FeedCause name old new c c' Failed = Rose old.read_faults new.read_faults
+FeedCause name old new c c' TooLong = IsLong name old c × (new.read_faults ≡ old.read_faults)
+
+-- the fault that a fault in opening leads to
+abbrev pub fault_of : OpenFault → LogFault
+fault_of fault.NoFile = NoFile
+fault_of fault.Failed = Failed

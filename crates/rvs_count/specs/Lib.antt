@@ -1,0 +1,7 @@
+pub mod Bounds
+pub mod Counting
+pub mod Feeds
+pub mod Index
+pub mod Report
+pub mod Sound
+pub mod State

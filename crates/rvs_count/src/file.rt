@@ -1,0 +1,94 @@
+// Counting in a file.
+ghost use Rattle.std.specs.Prelude.{◌≡◌, ◌≤◌, IfErr, OnOk, OnErr, length, take};
+ghost use Rattle.rvs_base.specs.Host.{ReadsOnly};
+ghost use Rattle.rvs_count.specs.Feeds.{FeedCause, FeedsFile, FeedsFront};
+
+use crate::counter::{Counter, LogTooLong};
+use rvs_base::{Failed, Host, OpenFault};
+use thiserror::Error;
+
+/// The longest piece that is read at once. It stands on the stack, so it is kept small.
+const PIECE: usize = 16_384;
+
+/// Why a log wasn't counted to its end.
+#[derive(Debug, Drop, Clone, Copy, PartialEq, Eq, Error)]
+pub enum LogFault {
+    /// There is no file of this name.
+    #[error("no such file")]
+    NoFile,
+    /// Opening or reading failed.
+    #[error("reading failed")]
+    Failed,
+    /// More than 2^40 bytes would be fed.
+    #[error("longer than 1099511627776 bytes")]
+    TooLong,
+}
+
+impl From<OpenFault> for LogFault {
+    ghost use Rattle.rvs_count.specs.Feeds.{fault_of};
+
+    ghost from_gives = { λ fault refusal. refusal ≡ fault_of fault };
+
+    fn from(fault: OpenFault) -> Self {
+        match fault {
+            OpenFault::NoFile => LogFault::NoFile,
+            OpenFault::Failed => LogFault::Failed,
+        }
+    }
+}
+
+impl From<Failed> for LogFault {
+    ghost use Rattle.rvs_count.specs.declared.file.LogFault.TheVariants.{Failed};
+
+    ghost from_gives = { λ _ refusal. refusal ≡ Failed };
+
+    fn from(_: Failed) -> Self {
+        LogFault::Failed
+    }
+}
+
+impl From<LogTooLong> for LogFault {
+    ghost use Rattle.rvs_count.specs.declared.file.LogFault.TheVariants.{TooLong};
+
+    ghost from_gives = { λ _ refusal. refusal ≡ TooLong };
+
+    fn from(_: LogTooLong) -> Self {
+        LogFault::TooLong
+    }
+}
+
+/// The first bytes of a buffer.
+fn front_of(buffer: &[u8], count: usize) -> &[u8]
+    requires { count ≤ length buffer.now }
+    ensures { result.now ≡ take count buffer.now }
+{
+    &buffer[..count]
+}
+
+/// Feeds the bytes of a file to its end, in pieces of at most 16 KiB; it doesn't finish the log. It
+/// takes no memory.
+///
+/// # Errors
+///
+/// [`LogFault`]; a front of the file was fed.
+pub fn count_file<H: Host>(
+    host: &mut H,
+    name: &str,
+    counter: &mut Counter<'_>,
+) -> Result<(), LogFault>
+    ensures reads_only { ReadsOnly (H.state host.old) (H.state host.new) }
+    ensures whole { OnOk result (FeedsFile name.now (H.state host.old) counter.old counter.new) }
+    ensures unfaulted { OnOk result ((H.state host.new).read_faults ≡ (H.state host.old).read_faults) }
+    ensures front { OnErr result (FeedsFront name.now (H.state host.old) counter.old counter.new) }
+    ensures cause { IfErr result (FeedCause name.now (H.state host.old) (H.state host.new) counter.old counter.new) }
+{
+    host.open_read(name)?;
+    let mut buffer = [0u8; PIECE];
+    'pieces: loop {
+        let count = host.take(&mut buffer)?;
+        if count == 0 {
+            return Ok(());
+        }
+        counter.feed(front_of(&buffer, count))?;
+    }
+}

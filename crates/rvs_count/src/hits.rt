@@ -1,0 +1,75 @@
+// Counting the hits of one instruction.
+ghost use Rattle.std.specs.Prelude.{◌≡◌, ◌<◌, ◌≤◌, ◌+◌, ◌^◌, All, length, vec_len};
+ghost use Rattle.rvs_facts.specs.Facts.{facts_of};
+ghost use Rattle.rvs_count.specs.Index.{places, raised, raised_all};
+
+use crate::slots::Slot;
+use rvs_expr::{Facts, Steps};
+use rvs_facts::InsnFacts;
+use rvs_insn::Op;
+use std::marker::Brand;
+use std::sync::ledger::{Blank, Ledger};
+
+/// Adds one to a count, where its point is hit.
+fn raise(counts: &mut Vec<u64>, at: usize, hit: bool)
+    requires within { at < vec_len counts.old }
+    requires room { All (λ n. n + 1 < 2 ^ 64) counts.old.items }
+    ensures items { counts.new.items ≡ raised hit at counts.old.items }
+    ensures len { vec_len counts.new ≡ vec_len counts.old }
+{
+    if hit {
+        counts[at] += 1;
+    }
+}
+
+/// Adds one to the counts of the points that are hit.
+fn add_hits<F: Facts, L: Ledger>(
+    slots: &[Slot<'_>],
+    op: Op,
+    facts: &F,
+    counts: &mut Vec<u64>,
+    steps: &mut Steps<L>,
+)
+    requires within { All (λ s. s.at < vec_len counts.old) slots.now }
+    requires few { length slots.now ≤ vec_len counts.old }
+    requires low { All (λ n. n ≤ 2 ^ 40) counts.old.items }
+    ensures { counts.new.items
+        ≡ raised_all op (F.table facts.now) (places slots.now) counts.old.items }
+{
+    for slot in slots {
+        let hit = slot.point.holds(op, facts, steps);
+        raise(counts, slot.at, hit);
+    }
+}
+
+/// The same, with a counter of evaluations that no one reads.
+fn add_counted<L: Ledger>(
+    blank: Blank,
+    slots: &[Slot<'_>],
+    facts: InsnFacts<'_>,
+    counts: &mut Vec<u64>,
+)
+    requires name { blank.name ≡ L.name }
+    requires parts { blank.parts ≡ L.parts }
+    requires some { 0 < blank.parts }
+    requires within { All (λ s. s.at < vec_len counts.old) slots.now }
+    requires few { length slots.now ≤ vec_len counts.old }
+    requires low { All (λ n. n ≤ 2 ^ 40) counts.old.items }
+    ensures { counts.new.items ≡ raised_all facts.entry.insn.now.op
+        (facts_of facts.entry.insn.now facts.entry.first facts.entry.second) (places slots.now) counts.old.items }
+{
+    let mut steps: Steps<L> = Steps::new(blank);
+    let insn = facts.insn;
+    add_hits(slots, insn.op, &facts, counts, &mut steps);
+}
+
+/// Adds one to the counts of the points that an instruction hits.
+pub(crate) fn add_insn(slots: &[Slot<'_>], facts: InsnFacts<'_>, counts: &mut Vec<u64>)
+    requires within { All (λ s. s.at < vec_len counts.old) slots.now }
+    requires few { length slots.now ≤ vec_len counts.old }
+    requires low { All (λ n. n ≤ 2 ^ 40) counts.old.items }
+    ensures { counts.new.items ≡ raised_all facts.entry.insn.now.op
+        (facts_of facts.entry.insn.now facts.entry.first facts.entry.second) (places slots.now) counts.old.items }
+{
+    add_counted::<Brand>(Blank::new(1), slots, facts, counts);
+}

@@ -1,0 +1,23 @@
+//! Counting how often coverage points are hit by the instructions of a log.
+#![tactic(auto)]
+
+mod counter;
+mod file;
+mod hits;
+mod index;
+mod report;
+mod slots;
+mod tally;
+mod whole;
+mod window;
+mod windows;
+mod zeros;
+
+pub use counter::{Counter, LogTooLong};
+pub use file::{LogFault, count_file};
+pub use report::report_text;
+pub use whole::{Counted, count_log};
+pub use window::Window;
+
+#[cfg(test)]
+mod tests;
