@@ -946,7 +946,7 @@ branch_entry_is c pc slot near =
       place = e.place;
       word = e.word;
       more = e.more;
-      facts = subst (λ x. Extends (facts_of (fields_of c) c.w1 c.w2) (facts_of (fields_of c) x entry'.v2)) (sym e.v1) (subst (λ y. Extends (facts_of (fields_of c) c.w1 c.w2) (facts_of (fields_of c) c.w1 y)) (sym e.v2) (without_extends Branch (facts_of (fields_of c) c.w1 c.w2)));
+      facts = subst (λ x. Extends (without_base Branch (facts_of (fields_of c) c.w1 c.w2)) (facts_of (fields_of c) x entry'.v2)) (sym e.v1) (subst (λ y. Extends (without_base Branch (facts_of (fields_of c) c.w1 c.w2)) (facts_of (fields_of c) c.w1 y)) (sym e.v2) (without_extends Branch (facts_of (fields_of c) c.w1 c.w2)));
       first = e.first ∙ ap (mark_of (imm_of c)) same;
       second = e.second;
     }
@@ -959,7 +959,7 @@ jal_entry_is c pc slot near =
       place = e.place;
       word = e.word;
       more = e.more;
-      facts = subst (λ x. Extends (facts_of (fields_of c) c.w1 c.w2) (facts_of (fields_of c) x entry'.v2)) (sym e.v1) (subst (λ y. Extends (facts_of (fields_of c) c.w1 c.w2) (facts_of (fields_of c) c.w1 y)) (sym e.v2) (without_extends Jump (facts_of (fields_of c) c.w1 c.w2)));
+      facts = subst (λ x. Extends (without_base Jump (facts_of (fields_of c) c.w1 c.w2)) (facts_of (fields_of c) x entry'.v2)) (sym e.v1) (subst (λ y. Extends (without_base Jump (facts_of (fields_of c) c.w1 c.w2)) (facts_of (fields_of c) c.w1 y)) (sym e.v2) (without_extends Jump (facts_of (fields_of c) c.w1 c.w2)));
       first = e.first;
       second = e.second;
     }
