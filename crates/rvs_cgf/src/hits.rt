@@ -39,9 +39,7 @@ pub fn is_meant<F: Facts, L: Ledger>(
     facts: &F,
     steps: &mut Steps<L>,
 ) -> bool
-    ensures value {
-        result ≡ spec.is_meant kind (meaning_view meaning.now) op (F.table facts.now)
-    }
+    ensures value { result ≡ spec.is_meant kind (meaning_view meaning.now) op (F.table facts.now) }
     ensures steps { steps.new ≡ steps.old + spec.steps_of (meaning_view meaning.now) }
 {
     match meaning {
@@ -58,9 +56,7 @@ impl Point {
     /// memory, and one step where the point has an expression.
     pub fn holds<F: Facts, L: Ledger>(&self, op: Op, facts: &F, steps: &mut Steps<L>) -> bool
         ensures value { result ≡ spec.holds (point_view self.now) op (F.table facts.now) }
-        ensures steps {
-            steps.new ≡ steps.old + spec.steps_of (point_view self.now).meaning
-        }
+        ensures steps { steps.new ≡ steps.old + spec.steps_of (point_view self.now).meaning }
     {
         is_meant(self.kind, &self.meaning, op, facts, steps)
     }

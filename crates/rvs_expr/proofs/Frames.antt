@@ -1,13 +1,13 @@
 -- What an expression depends on, and what its parts say.
-use Rattle.std.proofs.Common.{◌≡◌, ℕ, Bool, true, false, not, ◌&&◌, ◌||◌, Option, Some, None, Ok, Err, option_map, refl, sym, ap, ◌∙◌, List, [], ◌∷◌, map}
-use Rattle.std.specs.Prelude.{if◌then◌else◌, ℤ, pos, ◌+ℤ◌, ◌-ℤ◌, ◌*ℤ◌, neg_ℤ}
+use Rattle.std.proofs.Common.{◌≡◌, Bool, true, false, not, ◌&&◌, ◌||◌, Option, Some, None, option_map, refl, sym, ap, ◌∙◌, List, [], ◌∷◌, map}
+use Rattle.std.specs.Prelude.{if◌then◌else◌, pos, ◌+ℤ◌, ◌-ℤ◌, ◌*ℤ◌, neg_ℤ}
 use Rattle.std.specs.Int.{int_rem_euclid}
 use Rattle.rvs_expr_text.specs.declared.lexeme.NumName.{NumName}
 use Rattle.rvs_expr_text.specs.declared.lexeme.NumName.TheVariants.{Rs1Val, Rs2Val, ImmVal, EaAlign}
 use Rattle.rvs_expr_text.specs.declared.lexeme.RegName.{RegName}
 use Rattle.rvs_expr.specs.Typed.{Num, literal, named, minus, sum, difference, product, remainder, Reg, fixed, register, NumChain, pair, more, RegChain, reg_pair, reg_more, Formula, numbers, registers, negation, conjunction, disjunction}
 use Rattle.rvs_expr.specs.Meaning.{Table, both, value, chain, reg_value, reg_chain, truth, is_true, holds, compare, equation}
-use Rattle.rvs_expr.specs.Parts.{same_name, among, num_within, chain_within, within, part, joined, whole, num_uses, chain_uses, uses}
+use Rattle.rvs_expr.specs.Parts.{same_name, among, num_within, chain_within, within, part, joined, num_uses, chain_uses, uses}
 use Rattle.rvs_expr.specs.Only.{only_numbers, only_registers, holds_within}
 
 -- ---- truth values
@@ -69,27 +69,27 @@ value-frame t u (named n) h = h n (same_name-self n)
 value-frame t u (minus a) h = ap (option_map neg_ℤ) (value-frame t u a h)
 value-frame t u (sum a b) h =
     both-by (λ x y. x +ℤ y) _ _ _ _
-      (value-frame t u a (λ n e. h n (or-left (num_uses a n) (num_uses b n) e)))
-      (value-frame t u b (λ n e. h n (or-right (num_uses a n) (num_uses b n) e)))
+    (value-frame t u a (λ n e. h n (or-left (num_uses a n) (num_uses b n) e)))
+    (value-frame t u b (λ n e. h n (or-right (num_uses a n) (num_uses b n) e)))
 value-frame t u (difference a b) h =
     both-by (λ x y. x -ℤ y) _ _ _ _
-      (value-frame t u a (λ n e. h n (or-left (num_uses a n) (num_uses b n) e)))
-      (value-frame t u b (λ n e. h n (or-right (num_uses a n) (num_uses b n) e)))
+    (value-frame t u a (λ n e. h n (or-left (num_uses a n) (num_uses b n) e)))
+    (value-frame t u b (λ n e. h n (or-right (num_uses a n) (num_uses b n) e)))
 value-frame t u (product a b) h =
     both-by (λ x y. x *ℤ y) _ _ _ _
-      (value-frame t u a (λ n e. h n (or-left (num_uses a n) (num_uses b n) e)))
-      (value-frame t u b (λ n e. h n (or-right (num_uses a n) (num_uses b n) e)))
+    (value-frame t u a (λ n e. h n (or-left (num_uses a n) (num_uses b n) e)))
+    (value-frame t u b (λ n e. h n (or-right (num_uses a n) (num_uses b n) e)))
 value-frame t u (remainder a m) h = ap (option_map (λ x. int_rem_euclid x (pos m))) (value-frame t u a h)
 
 chain-frame : (t u : Table) (c : NumChain) → Agree (chain_uses c) t u → chain t c ≡ chain u c
 chain-frame t u (pair a op b) h =
     both-by (λ x y. (compare op x y, y)) _ _ _ _
-      (value-frame t u a (λ n e. h n (or-left (num_uses a n) (num_uses b n) e)))
-      (value-frame t u b (λ n e. h n (or-right (num_uses a n) (num_uses b n) e)))
+    (value-frame t u a (λ n e. h n (or-left (num_uses a n) (num_uses b n) e)))
+    (value-frame t u b (λ n e. h n (or-right (num_uses a n) (num_uses b n) e)))
 chain-frame t u (more c op b) h =
     both-by (λ p y. (p.0 && compare op p.1 y, y)) _ _ _ _
-      (chain-frame t u c (λ n e. h n (or-left (chain_uses c n) (num_uses b n) e)))
-      (value-frame t u b (λ n e. h n (or-right (chain_uses c n) (num_uses b n) e)))
+    (chain-frame t u c (λ n e. h n (or-left (chain_uses c n) (num_uses b n) e)))
+    (value-frame t u b (λ n e. h n (or-right (chain_uses c n) (num_uses b n) e)))
 
 truth-frame : (t u : Table) (f : Formula) → only_numbers f ≡ true → Agree (uses f) t u → truth t f ≡ truth u f
 truth-frame t u (numbers c) o h = ap (option_map (λ p. p.0)) (chain-frame t u c h)
@@ -97,12 +97,12 @@ truth-frame t u (registers c) o h = cc
 truth-frame t u (negation a) o h = ap (option_map not) (truth-frame t u a o h)
 truth-frame t u (conjunction a b) o h =
     both-by (λ x y. x && y) _ _ _ _
-      (truth-frame t u a (and-left (only_numbers a) (only_numbers b) o) (λ n e. h n (or-left (uses a n) (uses b n) e)))
-      (truth-frame t u b (and-right (only_numbers a) (only_numbers b) o) (λ n e. h n (or-right (uses a n) (uses b n) e)))
+    (truth-frame t u a (and-left (only_numbers a) (only_numbers b) o) (λ n e. h n (or-left (uses a n) (uses b n) e)))
+    (truth-frame t u b (and-right (only_numbers a) (only_numbers b) o) (λ n e. h n (or-right (uses a n) (uses b n) e)))
 truth-frame t u (disjunction a b) o h =
     both-by (λ x y. x || y) _ _ _ _
-      (truth-frame t u a (and-left (only_numbers a) (only_numbers b) o) (λ n e. h n (or-left (uses a n) (uses b n) e)))
-      (truth-frame t u b (and-right (only_numbers a) (only_numbers b) o) (λ n e. h n (or-right (uses a n) (uses b n) e)))
+    (truth-frame t u a (and-left (only_numbers a) (only_numbers b) o) (λ n e. h n (or-left (uses a n) (uses b n) e)))
+    (truth-frame t u b (and-right (only_numbers a) (only_numbers b) o) (λ n e. h n (or-right (uses a n) (uses b n) e)))
 
 pub frame : (f : Formula) (t u : Table) → only_numbers f ≡ true → ((n : NumName) → uses f n ≡ true → t.num n ≡ u.num n) → holds t f ≡ holds u f
 frame f t u o h = ap is_true (truth-frame t u f o h)
@@ -124,12 +124,12 @@ reg-truth-frame t u h (registers c) o = ap (option_map (λ p. p.0)) (reg-chain-f
 reg-truth-frame t u h (negation a) o = ap (option_map not) (reg-truth-frame t u h a o)
 reg-truth-frame t u h (conjunction a b) o =
     both-by (λ x y. x && y) _ _ _ _
-      (reg-truth-frame t u h a (and-left (only_registers a) (only_registers b) o))
-      (reg-truth-frame t u h b (and-right (only_registers a) (only_registers b) o))
+    (reg-truth-frame t u h a (and-left (only_registers a) (only_registers b) o))
+    (reg-truth-frame t u h b (and-right (only_registers a) (only_registers b) o))
 reg-truth-frame t u h (disjunction a b) o =
     both-by (λ x y. x || y) _ _ _ _
-      (reg-truth-frame t u h a (and-left (only_registers a) (only_registers b) o))
-      (reg-truth-frame t u h b (and-right (only_registers a) (only_registers b) o))
+    (reg-truth-frame t u h a (and-left (only_registers a) (only_registers b) o))
+    (reg-truth-frame t u h b (and-right (only_registers a) (only_registers b) o))
 
 pub register_frame : (f : Formula) (t u : Table) → only_registers f ≡ true → ((r : RegName) → t.reg r ≡ u.reg r) → holds t f ≡ holds u f
 register_frame f t u o h = ap is_true (reg-truth-frame t u h f o)
@@ -142,10 +142,6 @@ head-is x y xs ys e = cc
 rest-is : {A : Type 0} (x y : A) (xs ys : List A) → x ∷ xs ≡ y ∷ ys → xs ≡ ys
 rest-is x y xs ys e = cc
 
-
-
-
-
 same-num : (t u : Table) (m n : NumName) → same_name m n ≡ true → t.num m ≡ u.num m → t.num n ≡ u.num n
 same-num t u m n s e = ap (λ k. t.num k) (sym (same_name-is m n s)) ∙ e ∙ ap (λ k. u.num k) (same_name-is m n s)
 
@@ -157,8 +153,8 @@ agree-among : (t u : Table) (ns : List NumName) → map t.num ns ≡ map u.num n
 agree-among t u [] e n h = cc
 agree-among t u (m ∷ ms) e n h =
     or-cases (same_name m n) (among ms n) h
-      (λ s. same-num t u m n s (head-is (t.num m) (u.num m) (map t.num ms) (map u.num ms) e))
-      (λ s. agree-among t u ms (rest-is (t.num m) (u.num m) (map t.num ms) (map u.num ms) e) n s)
+    (λ s. same-num t u m n s (head-is (t.num m) (u.num m) (map t.num ms) (map u.num ms) e))
+    (λ s. agree-among t u ms (rest-is (t.num m) (u.num m) (map t.num ms) (map u.num ms) e) n s)
 
 among-is : (ns : List NumName) (m n : NumName) → among ns m ≡ true → same_name m n ≡ true → among ns n ≡ true
 among-is ns m n h e = ap (among ns) (sym (same_name-is m n e)) ∙ h
@@ -169,27 +165,27 @@ num-among ns (named m) w n h = among-is ns m n w h
 num-among ns (minus a) w n h = num-among ns a w n h
 num-among ns (sum a b) w n h =
     or-cases (num_uses a n) (num_uses b n) h
-      (num-among ns a (and-left (num_within ns a) (num_within ns b) w) n)
-      (num-among ns b (and-right (num_within ns a) (num_within ns b) w) n)
+    (num-among ns a (and-left (num_within ns a) (num_within ns b) w) n)
+    (num-among ns b (and-right (num_within ns a) (num_within ns b) w) n)
 num-among ns (difference a b) w n h =
     or-cases (num_uses a n) (num_uses b n) h
-      (num-among ns a (and-left (num_within ns a) (num_within ns b) w) n)
-      (num-among ns b (and-right (num_within ns a) (num_within ns b) w) n)
+    (num-among ns a (and-left (num_within ns a) (num_within ns b) w) n)
+    (num-among ns b (and-right (num_within ns a) (num_within ns b) w) n)
 num-among ns (product a b) w n h =
     or-cases (num_uses a n) (num_uses b n) h
-      (num-among ns a (and-left (num_within ns a) (num_within ns b) w) n)
-      (num-among ns b (and-right (num_within ns a) (num_within ns b) w) n)
+    (num-among ns a (and-left (num_within ns a) (num_within ns b) w) n)
+    (num-among ns b (and-right (num_within ns a) (num_within ns b) w) n)
 num-among ns (remainder a m) w n h = num-among ns a w n h
 
 chain-among : (ns : List NumName) (c : NumChain) → chain_within ns c ≡ true → (n : NumName) → chain_uses c n ≡ true → among ns n ≡ true
 chain-among ns (pair a op b) w n h =
     or-cases (num_uses a n) (num_uses b n) h
-      (num-among ns a (and-left (num_within ns a) (num_within ns b) w) n)
-      (num-among ns b (and-right (num_within ns a) (num_within ns b) w) n)
+    (num-among ns a (and-left (num_within ns a) (num_within ns b) w) n)
+    (num-among ns b (and-right (num_within ns a) (num_within ns b) w) n)
 chain-among ns (more c op b) w n h =
     or-cases (chain_uses c n) (num_uses b n) h
-      (chain-among ns c (and-left (chain_within ns c) (num_within ns b) w) n)
-      (num-among ns b (and-right (chain_within ns c) (num_within ns b) w) n)
+    (chain-among ns c (and-left (chain_within ns c) (num_within ns b) w) n)
+    (num-among ns b (and-right (chain_within ns c) (num_within ns b) w) n)
 
 -- what a formula names is among the names that it keeps within
 uses-among : (ns : List NumName) (f : Formula) → within ns f ≡ true → (n : NumName) → uses f n ≡ true → among ns n ≡ true
@@ -198,12 +194,12 @@ uses-among ns (registers c) w n h = cc
 uses-among ns (negation a) w n h = uses-among ns a w n h
 uses-among ns (conjunction a b) w n h =
     or-cases (uses a n) (uses b n) h
-      (uses-among ns a (and-left (within ns a) (within ns b) w) n)
-      (uses-among ns b (and-right (within ns a) (within ns b) w) n)
+    (uses-among ns a (and-left (within ns a) (within ns b) w) n)
+    (uses-among ns b (and-right (within ns a) (within ns b) w) n)
 uses-among ns (disjunction a b) w n h =
     or-cases (uses a n) (uses b n) h
-      (uses-among ns a (and-left (within ns a) (within ns b) w) n)
-      (uses-among ns b (and-right (within ns a) (within ns b) w) n)
+    (uses-among ns a (and-left (within ns a) (within ns b) w) n)
+    (uses-among ns b (and-right (within ns a) (within ns b) w) n)
 
 whole-frame : (ns : List NumName) (f : Formula) (t u : Table) → only_numbers f ≡ true → Agree (among ns) t u → (b : Bool) → within ns f ≡ b → (if b then holds t f else true) ≡ (if b then holds u f else true)
 whole-frame ns f t u o h true w = frame f t u o (λ n e. h n (uses-among ns f w n e))
@@ -245,8 +241,8 @@ whole_within ns (registers c) t h = whole-true t (registers c) (within ns (regis
 whole_within ns (negation a) t h = whole-true t (negation a) (within ns (negation a)) h
 whole_within ns (conjunction a b) t h =
     and-is (holds_within ns t a) (holds_within ns t b)
-      (whole_within ns a t (and-left (holds t a) (holds t b) (sym (holds-both t a b) ∙ h)))
-      (whole_within ns b t (and-right (holds t a) (holds t b) (sym (holds-both t a b) ∙ h)))
+    (whole_within ns a t (and-left (holds t a) (holds t b) (sym (holds-both t a b) ∙ h)))
+    (whole_within ns b t (and-right (holds t a) (holds t b) (sym (holds-both t a b) ∙ h)))
 whole_within ns (disjunction a b) t h = whole-true t (disjunction a b) (within ns (disjunction a b)) h
 
 -- ---- a part says what its conjuncts say

@@ -81,8 +81,8 @@ parse-passes : (l : Language) (test : Formula → Bool) → ((t : Tree) → pass
 unfolding parse
 parse-passes l test h vs text =
     bind-passes test (tree_of l vs text) (λ t. known t >> (well_sorted l t >> (formula_of l t >>= counted)))
-      (λ t. then-passes test (known t) (well_sorted l t >> (formula_of l t >>= counted))
-        (then-passes test (well_sorted l t) (formula_of l t >>= counted) (counted-passes test (formula_of l t) (h t))))
+    (λ t. then-passes test (known t) (well_sorted l t >> (formula_of l t >>= counted))
+    (then-passes test (well_sorted l t) (formula_of l t >>= counted) (counted-passes test (formula_of l t) (h t))))
 
 pub numbers_alone : (vs : List (List ℕ)) (text : List ℕ) (f : Formula) → parse Numbers vs text ≡ Ok f → only_numbers f ≡ true
 numbers_alone vs text f e = found-passes only_numbers (parse Numbers vs text) f (parse-passes Numbers only_numbers formula-numbers vs text) e

@@ -1,17 +1,15 @@
 -- Formulas that say that a name has one value, and the size of constants.
-use Rattle.std.proofs.Common.{◌≡◌, ◌<◌, ◌≤◌, ◌^◌, ℕ, Bool, true, false, Option, Some, None, option_map, IfSome, refl, sym, ap, ◌∙◌, List, [], ◌∷◌, ◌++◌, All, get_or, length, arith}
+use Rattle.std.proofs.Common.{◌≡◌, ◌≤◌, ◌^◌, Bool, true, false, Option, Some, None, option_map, IfSome, refl, sym, ap, ◌∙◌, List, [], ◌∷◌, All, arith}
 use Rattle.std.specs.Prelude.{nat_le, if◌then◌else◌, ℤ, unsigned_abs}
 use Rattle.std.proofs.lemmas.Bool.Decides.{nat_tests}
 use Rattle.std.proofs.lemmas.List.Elements.{All-cons, All-append}
 use Rattle.rvs_expr_text.specs.declared.lexeme.NumName.{NumName}
-use Rattle.rvs_expr_text.specs.declared.lexeme.RegName.{RegName}
-use Rattle.rvs_expr.specs.declared.formula.Comparison.{Comparison}
-use Rattle.rvs_expr.specs.declared.formula.Comparison.TheVariants.{Equal, Unequal, AtMost, AtLeast, Below, Above}
-use Rattle.rvs_expr.specs.Typed.{Num, literal, named, minus, sum, difference, product, remainder, NumChain, pair, more, Formula, numbers, registers, negation, conjunction, disjunction}
-use Rattle.rvs_expr.specs.Meaning.{Table, both, value, nothing, truth, holds, is_true, compare}
+use Rattle.rvs_expr.specs.declared.formula.Comparison.TheVariants.{Equal}
+use Rattle.rvs_expr.specs.Typed.{Num, named, pair, Formula, numbers}
+use Rattle.rvs_expr.specs.Meaning.{Table, both, value, nothing, holds, is_true, compare}
 use Rattle.rvs_expr.specs.Facts.{Extends}
 use Rattle.rvs_expr.specs.Constants.{kept, kept_one}
-use Rattle.rvs_expr.specs.Equated.{equated, with_name, small, small_one, is_value}
+use Rattle.rvs_expr.specs.Equated.{equated, with_name, small, is_value}
 use Rattle.rvs_expr.proofs.Meanings.{value-more}
 
 -- every table has what the empty one has
@@ -52,7 +50,7 @@ compared-is (Some x) z = refl
 pair-is : (t : Table) (n m : NumName) (b : Num) (z : ℤ) → with_name n (small (value nothing b)) ≡ Some (m, z) → holds t (numbers (pair (named n) Equal b)) ≡ is_value z (t.num m)
 pair-is t n m b z e =
     ap (λ o. is_true (option_map (λ (p : Bool × ℤ). p.0) (both (λ x y. (compare Equal x y, y)) (t.num n) o)))
-      (constant-everywhere t b z (small-is (value nothing b) z (valued-is n m (small (value nothing b)) z e)))
+    (constant-everywhere t b z (small-is (value nothing b) z (valued-is n m (small (value nothing b)) z e)))
     ∙ compared-is (t.num n) z
     ∙ ap (λ k. is_value z (t.num k)) (named-is n m (small (value nothing b)) z e)
 

@@ -1,10 +1,9 @@
 -- Formulas that say that a name has one value.
-use Rattle.std.specs.Prelude.{ℕ, ◌^◌, nat_le, Bool, true, false, ℤ, unsigned_abs, Option, Some, None, if◌then◌else◌}
+use Rattle.std.specs.Prelude.{◌^◌, nat_le, Bool, false, ℤ, unsigned_abs, Option, Some, None, if◌then◌else◌}
 use Rattle.std.specs.Ordering.{int_eq}
 use Rattle.rvs_expr_text.specs.declared.lexeme.NumName.{NumName}
-use Rattle.rvs_expr.specs.declared.formula.Comparison.{Comparison}
 use Rattle.rvs_expr.specs.declared.formula.Comparison.TheVariants.{Equal}
-use Rattle.rvs_expr.specs.Typed.{Num, named, NumChain, pair, Formula, numbers}
+use Rattle.rvs_expr.specs.Typed.{named, pair, Formula, numbers}
 use Rattle.rvs_expr.specs.Meaning.{value, nothing}
 
 -- one from -2 ^ 32 to 2 ^ 32

@@ -1,7 +1,6 @@
 -- A mnemonic is known by its place in the table.
-use Rattle.std.proofs.Common.{◌≡◌, ℕ, suc, Option, Some, None, refl, sym, ap, ◌∙◌, true}
-use Rattle.std.specs.Prelude.{slice_get, List, ◌==◌}
-use Rattle.std.proofs.lemmas.Bool.Decides.{nat_tests}
+use Rattle.std.proofs.Common.{◌≡◌, Some, refl, sym, ap, ◌∙◌}
+use Rattle.std.specs.Prelude.{slice_get}
 use Rattle.rvs_insn.specs.declared.op.Op.{Op}
 use Rattle.rvs_insn.specs.declared.op.Op.TheVariants.{Lui}
 use Rattle.rvs_insn.specs.Table.{all_ops}

@@ -84,9 +84,8 @@ fn place_in_word(base: Option<i64>, offset: Option<i64>) -> Option<i64>
 
 /// The place of the address within its word, for loads and stores.
 fn alignment(insn: &Insn, word: u32) -> Option<i64>
-    ensures value {
-        result ≡ spec.alignment (row insn.now.op).form (spec.first_value insn.now word) insn.now.imm
-    }
+    ensures value { result ≡ spec.alignment (row insn.now.op).form
+        (spec.first_value insn.now word) insn.now.imm }
     ensures small { IfSome result (λ n. unsigned_abs n < 2 ^ 32) }
 {
     match format(insn.op) {

@@ -1,0 +1,86 @@
+-- The texts of groups and of their refusals.
+use Rattle.std.specs.Prelude.{ℕ, suc, ◌==◌, Bool, true, false, List, [], ◌∷◌, ◌++◌, Option, Some, None, if◌then◌else◌, codes}
+use Rattle.std.specs.List.{flat_map}
+use Rattle.std.specs.Fmt.{decimal}
+use Rattle.rvs_abstract.specs.Refusals as calls
+use Rattle.rvs_expr_text.specs.Refusal as expr
+use Rattle.rvs_cgf.specs.Groups.{Label, Point, Skipped, Refusal, same_kind}
+use Rattle.rvs_cgf.specs.declared.group.Kind.{Kind}
+use Rattle.rvs_cgf.specs.declared.group.Kind.TheVariants as kind
+use Rattle.rvs_cgf.specs.declared.refusal.CgfKind.{CgfKind}
+use Rattle.rvs_cgf.specs.declared.refusal.CgfKind.TheVariants.{BadLabelName, BadShape, UnknownNode, UnknownMnemonic, BadRegister, BadExpr, BadAbstract, BadConfig, TooManyLabels, TooManyPoints, NoMemory}
+
+-- ---- groups with all their points written out
+abbrev pub kind_name : Kind → List ℕ
+kind_name kind.Mnemonic = codes "mnemonics"
+kind_name kind.Rs1 = codes "rs1"
+kind_name kind.Rs2 = codes "rs2"
+kind_name kind.Rd = codes "rd"
+kind_name kind.OpComb = codes "op_comb"
+kind_name kind.ValComb = codes "val_comb"
+
+abbrev pub doubled_byte : ℕ → List ℕ
+doubled_byte c = if c == 39 then 39 ∷ 39 ∷ [] else c ∷ []
+
+-- each single quote twice
+abbrev pub doubled : List ℕ → List ℕ
+doubled key = flat_map doubled_byte key
+
+abbrev pub kind_line : Kind → List ℕ
+kind_line k = codes "  " ++ (kind_name k ++ codes ":\n")
+
+abbrev pub point_line : List ℕ → List ℕ
+point_line key = codes "    '" ++ (doubled key ++ codes "': 0\n")
+
+abbrev pub goes_on : Option Kind → Kind → Bool
+goes_on None k = false
+goes_on (Some before) k = same_kind before k
+
+-- the line of a kind stands before its first point
+abbrev pub head_line : Option Kind → Kind → List ℕ
+head_line before k = if goes_on before k then [] else kind_line k
+
+abbrev pub points_text : Option Kind → List Point → List ℕ
+points_text before [] = []
+points_text before (p ∷ ps) = (head_line before p.kind ++ point_line p.key) ++ points_text (Some p.kind) ps
+
+abbrev pub skipped_line : Skipped → List ℕ
+skipped_line s = codes "  # skipped " ++ (s.node ++ (codes " " ++ (s.key ++ codes "\n")))
+
+abbrev pub label_text : Label → List ℕ
+label_text l =
+    if l.selected then (l.name ++ codes ":\n") ++ (points_text None l.points ++ flat_map skipped_line l.skipped)
+    else codes "# unselected " ++ (l.name ++ codes "\n")
+
+abbrev pub normal_text : List Label → List ℕ
+normal_text groups = flat_map label_text groups
+
+-- ---- refusals
+abbrev pub number_of : CgfKind → ℕ
+number_of BadLabelName = 1
+number_of BadShape = 2
+number_of UnknownNode = 3
+number_of UnknownMnemonic = 4
+number_of BadRegister = 5
+number_of (BadExpr why) = 6
+number_of (BadAbstract why) = 7
+number_of BadConfig = 9
+number_of TooManyLabels = 10
+number_of TooManyPoints = 11
+number_of NoMemory = 12
+
+-- an empty text is written `-`
+abbrev pub or_dash : List ℕ → List ℕ
+or_dash [] = codes "-"
+or_dash (c ∷ cs) = c ∷ cs
+
+abbrev pub inner_text : CgfKind → List ℕ
+inner_text (BadExpr why) = codes " expr " ++ (decimal (expr.number_of why.kind) ++ (codes " column " ++ decimal why.column))
+inner_text (BadAbstract why) = codes " abstract " ++ decimal (calls.number_of why)
+inner_text _ = []
+
+-- the number of the rule, the label, the node and the key, and why an expression or a call is refused
+abbrev pub refusal_text : Refusal → List ℕ
+refusal_text r =
+    codes "cgf " ++ (decimal (number_of r.kind) ++ (codes " " ++ (or_dash r.place.label ++ (codes " " ++ (or_dash r.place.node
+    ++ (codes " " ++ (or_dash r.place.key ++ inner_text r.kind)))))))

@@ -1,0 +1,124 @@
+// The labels of a tree.
+ghost use Rattle.std.specs.Prelude.{◌≡◌, ◌≤◌, ◌-◌, ◌*◌, ◌^◌, ◌∷◌, ◌++◌, [], map, IsTrue, IfOk};
+ghost use Rattle.rvs_tree.specs.Data.{own_pairs, is_map};
+ghost use Rattle.rvs_tree.specs.TreeView as trees;
+ghost use Rattle.rvs_cgf.specs.Groups as spec;
+ghost use Rattle.rvs_cgf.specs.GroupView.{AnswersWith, label_view, listed_view};
+
+use crate::entries::is_empty_scalar;
+use crate::group::{Groups, Label};
+use crate::labelling::label_of;
+use crate::listed::Listed;
+use crate::refusal::{CgfKind, CgfRefusal};
+use crate::walk::{holds, no_memory, refusal};
+use rvs_base::{Items, NoMemory};
+use rvs_insn::IsaSpec;
+use rvs_tree::Tree;
+use std::alloc::Global;
+
+/// A label's points times its mnemonics.
+fn size(label: &Label) -> u128
+    ensures value { result ≡ spec.size_of (label_view label.now) }
+    ensures small { result ≤ (2 ^ 64 - 1) * (2 ^ 64 - 1) }
+{
+    label.points.as_slice().len() as u128 * label.ops.as_slice().len() as u128
+}
+
+/// The labels with one more.
+#[tactic(auto, using(crate::proofs::Points::map_label))]
+fn pushed(label: Label, total: u128, listed: Listed) -> Result<Listed, NoMemory>
+    requires { total ≤ 65536 }
+    ensures labels { IfOk result (λ l. map label_view l.labels
+        ≡ map label_view listed.labels ++ label_view label ∷ []) }
+    ensures total { IfOk result (λ l. l.total ≡ total) }
+{
+    let Listed {
+        mut labels,
+        total: _,
+    } = listed;
+    labels.push(label)?;
+    Ok(Listed { labels, total })
+}
+
+/// The labels with one more, where the sum of points times mnemonics stays at most 65,536.
+fn with_label(alloc: Global, name: &str, label: Label, listed: Listed) -> Result<Listed, CgfRefusal>
+    ensures { AnswersWith listed_view result
+        (spec.with_label name.now (label_view label) (listed_view listed)) }
+{
+    let total = listed.total + size(&label);
+    if total > 65536 {
+        return Err(refusal(alloc, name, "", "", CgfKind::TooManyPoints));
+    }
+    match pushed(label, total, listed) {
+        Ok(listed) => Ok(listed),
+        Err(NoMemory) => Err(no_memory(alloc)),
+    }
+}
+
+/// One entry of the file: `datasets` is passed over, every other is a label.
+fn label_step(
+    alloc: Global,
+    isa: &IsaSpec,
+    name: &str,
+    entries: &Tree,
+    listed: Listed,
+) -> Result<Listed, CgfRefusal>
+    ensures { AnswersWith listed_view result
+        (spec.label_step isa.now name.now (trees.view entries.now) (listed_view listed)) }
+{
+    if name == "datasets" {
+        return Ok(listed);
+    }
+    let few = listed.labels.as_slice().len() < 256;
+    holds(alloc, few, name, "", "", CgfKind::TooManyLabels)?;
+    let label = label_of(alloc, isa, name, entries)?;
+    with_label(alloc, name, label, listed)
+}
+
+fn nothing_listed(alloc: Global) -> Listed
+    ensures { listed_view result ≡ spec.nothing_listed }
+{
+    Listed {
+        labels: Items::new(alloc),
+        total: 0,
+    }
+}
+
+/// The labels of a map.
+fn list_labels(alloc: Global, isa: &IsaSpec, root: &Tree) -> Result<Listed, CgfRefusal>
+    requires { IsTrue (is_map (trees.view root.now)) }
+    ensures { AnswersWith listed_view result
+        (spec.each_label isa.now (own_pairs (trees.view root.now)) spec.nothing_listed) }
+{
+    let mut listed = nothing_listed(alloc);
+    for i in 0..root.len() {
+        match label_step(alloc, isa, root.key(i), root.item(i), listed) {
+            Ok(next) => listed = next,
+            Err(why) => return Err(why),
+        }
+    }
+    Ok(listed)
+}
+
+/// Reads coverage groups, as riscv-ctg and riscv-isac have them, for a core: each label with its
+/// mnemonics, its points in the file's order, a repeated pair of kind and key at its first place
+/// only, and the entries that are listed and not counted. Of a label whose `config` doesn't hold
+/// for the core only the name is read.
+///
+/// # Errors
+///
+/// The first rule that an entry breaks, in the file's order, with the label, the node and the key
+/// that the check looks at; or `NoMemory`.
+#[tactic(auto, unfolding(crate::specs::Groups::groups_of))]
+pub fn read_groups(alloc: Global, tree: &Tree, isa: &IsaSpec) -> Result<Groups, CgfRefusal>
+    ensures { AnswersWith (map label_view) result (spec.groups_of isa.now (trees.view tree.now)) }
+{
+    if is_empty_scalar(tree) {
+        return Ok(Items::new(alloc));
+    }
+    if tree.is_map() {
+        let Listed { labels, total: _ } = list_labels(alloc, isa, tree)?;
+        return Ok(labels);
+    }
+    Err(refusal(alloc, "", "", "", CgfKind::BadShape))
+}

@@ -1,0 +1,231 @@
+// The texts of groups and of their refusals.
+ghost use Rattle.std.specs.Prelude.{◌≡◌, ◌<◌, ◌==◌, ◌∷◌, ◌++◌, [], map, length, Some, None, IfOk, IsTrue, OnOk, MatchOption, codes};
+ghost use Rattle.std.specs.List.{flat_map, before_first, after_first, position_or_len};
+ghost use Rattle.rvs_cgf.specs.GroupView.{label_view, point_view, skipped_view, refusal_view};
+ghost use Rattle.rvs_cgf.specs.Print as spec;
+
+use crate::group::{Groups, Kind, Label, Point, Skipped};
+use crate::refusal::{CgfKind, CgfRefusal};
+use crate::walk::same_kind;
+use rvs_abstract::AbstractRefusal;
+use rvs_base::{NoMemory, Text};
+use rvs_expr::ExprRefusal;
+use std::alloc::Global;
+
+impl Kind {
+    /// The node that points of the kind stand under, as a group file has it.
+    pub fn name(self) -> &'static str
+        ensures { result.now ≡ spec.kind_name self }
+    {
+        match self {
+            Kind::Mnemonic => "mnemonics",
+            Kind::Rs1 => "rs1",
+            Kind::Rs2 => "rs2",
+            Kind::Rd => "rd",
+            Kind::OpComb => "op_comb",
+            Kind::ValComb => "val_comb",
+        }
+    }
+}
+
+/// What stands before and behind the first single quote.
+fn at_quote(text: &str) -> Option<(&str, &str)>
+    ensures { MatchOption result (position_or_len (λ b. b == 39) text.now ≡ length text.now)
+        (λ parts. (parts.0.now ≡ before_first (λ b. b == 39) text.now)
+        × (parts.1.now ≡ after_first (λ b. b == 39) text.now)
+        × (position_or_len (λ b. b == 39) text.now < length text.now)) }
+{
+    text.split_once('\'')
+}
+
+fn push_front(text: &mut Text, front: &str) -> Result<(), NoMemory>
+    ensures { OnOk result (text.new ≡ text.old ++ (front.now ++ (39 ∷ 39 ∷ []))) }
+{
+    text.push_str(front)?;
+    text.push_str("''")
+}
+
+/// Adds a key with each single quote twice.
+#[tactic(auto, using(crate::proofs::Quotes::doubled_more, crate::proofs::Quotes::doubled_all))]
+fn push_doubled(text: &mut Text, key: &str) -> Result<(), NoMemory>
+    ensures { OnOk result (text.new ≡ text.old ++ spec.doubled key.now) }
+{
+    let mut rest = key;
+    while let Some((front, after)) = at_quote(rest) {
+        push_front(text, front)?;
+        rest = after;
+    }
+    text.push_str(rest)
+}
+
+fn push_kind_line(text: &mut Text, kind: Kind) -> Result<(), NoMemory>
+    ensures { OnOk result (text.new ≡ text.old ++ spec.kind_line kind) }
+{
+    text.push_str("  ")?;
+    text.push_str(kind.name())?;
+    text.push_str(":\n")
+}
+
+fn goes_on(before: Option<Kind>, kind: Kind) -> bool
+    ensures { result ≡ spec.goes_on before kind }
+{
+    match before {
+        None => false,
+        Some(before) => same_kind(before, kind),
+    }
+}
+
+fn push_head_line(text: &mut Text, before: Option<Kind>, kind: Kind) -> Result<(), NoMemory>
+    ensures { OnOk result (text.new ≡ text.old ++ spec.head_line before kind) }
+{
+    if goes_on(before, kind) {
+        return Ok(());
+    }
+    push_kind_line(text, kind)
+}
+
+fn push_point_line(text: &mut Text, key: &str) -> Result<(), NoMemory>
+    ensures { OnOk result (text.new ≡ text.old ++ spec.point_line key.now) }
+{
+    text.push_str("    '")?;
+    push_doubled(text, key)?;
+    text.push_str("': 0\n")
+}
+
+fn push_point(text: &mut Text, before: Option<Kind>, point: &Point) -> Result<(), NoMemory>
+    ensures { OnOk result (text.new ≡ text.old
+        ++ (spec.head_line before point.now.kind ++ spec.point_line point.now.key)) }
+{
+    push_head_line(text, before, point.kind)?;
+    push_point_line(text, point.key.as_str())
+}
+
+/// Adds the lines of points, a line of their kind before the first of each.
+#[tactic(auto, using(crate::proofs::Texts::points_more, crate::proofs::Texts::points_all))]
+fn push_points(text: &mut Text, points: &[Point]) -> Result<(), NoMemory>
+    ensures { OnOk result
+        (text.new ≡ text.old ++ spec.points_text None (map point_view points.now)) }
+{
+    let mut before = None;
+    for point in points {
+        push_point(text, before, point)?;
+        before = Some(point.kind);
+    }
+    Ok(())
+}
+
+fn push_line_of(text: &mut Text, node: &str, key: &str) -> Result<(), NoMemory>
+    ensures { OnOk result (text.new
+        ≡ text.old ++ (node.now ++ (codes " " ++ (key.now ++ codes "\n")))) }
+{
+    text.push_str(node)?;
+    text.push_str(" ")?;
+    text.push_str(key)?;
+    text.push_str("\n")
+}
+
+fn push_skipped_line(text: &mut Text, skipped: &Skipped) -> Result<(), NoMemory>
+    ensures { OnOk result (text.new ≡ text.old ++ spec.skipped_line (skipped_view skipped.now)) }
+{
+    text.push_str("  # skipped ")?;
+    push_line_of(text, skipped.node.as_str(), skipped.key.as_str())
+}
+
+#[tactic(auto, using(crate::proofs::Texts::skipped_more, crate::proofs::Texts::skipped_all))]
+fn push_skipped(text: &mut Text, skipped: &[Skipped]) -> Result<(), NoMemory>
+    ensures { OnOk result (text.new ≡ text.old
+        ++ flat_map spec.skipped_line (map skipped_view skipped.now)) }
+{
+    for one in skipped {
+        push_skipped_line(text, one)?;
+    }
+    Ok(())
+}
+
+fn push_selected(text: &mut Text, label: &Label) -> Result<(), NoMemory>
+    requires { IsTrue label.now.selected }
+    ensures { OnOk result (text.new ≡ text.old ++ spec.label_text (label_view label.now)) }
+{
+    text.push_str(label.name.as_str())?;
+    text.push_str(":\n")?;
+    push_points(text, label.points.as_slice())?;
+    push_skipped(text, label.skipped.as_slice())
+}
+
+fn push_label(text: &mut Text, label: &Label) -> Result<(), NoMemory>
+    ensures { OnOk result (text.new ≡ text.old ++ spec.label_text (label_view label.now)) }
+{
+    if label.selected {
+        return push_selected(text, label);
+    }
+    text.push_str("# unselected ")?;
+    text.push_str(label.name.as_str())?;
+    text.push_str("\n")
+}
+
+/// The groups as a group file with all points written out: a comment for a label that isn't
+/// selected; for a selected one its points in order, under a line of their kind, and a comment
+/// for each entry that isn't counted.
+///
+/// # Errors
+///
+/// [`NoMemory`].
+#[tactic(auto, using(crate::proofs::Texts::labels_more, crate::proofs::Texts::labels_all))]
+pub fn normal_text(alloc: Global, groups: &Groups) -> Result<Text, NoMemory>
+    ensures { IfOk result (λ text. text ≡ spec.normal_text (map label_view groups.now)) }
+{
+    let mut text = Text::new(alloc);
+    for label in groups.as_slice() {
+        push_label(&mut text, label)?;
+    }
+    Ok(text)
+}
+
+fn or_dash(text: &str) -> &str
+    ensures { result.now ≡ spec.or_dash text.now }
+{
+    if text.is_empty() { "-" } else { text }
+}
+
+fn expr_text(alloc: Global, why: ExprRefusal) -> Result<Text, NoMemory>
+    ensures { IfOk result (λ text. text ≡ spec.inner_text (CgfKind.BadExpr why)) }
+{
+    let number = why.kind.number();
+    let column = why.column;
+    Ok(Text::from(format!(in alloc; " expr {number} column {column}")?))
+}
+
+fn abstract_text(alloc: Global, why: AbstractRefusal) -> Result<Text, NoMemory>
+    ensures { IfOk result (λ text. text ≡ spec.inner_text (CgfKind.BadAbstract why)) }
+{
+    let number = why.number();
+    Ok(Text::from(format!(in alloc; " abstract {number}")?))
+}
+
+fn inner_text(alloc: Global, kind: CgfKind) -> Result<Text, NoMemory>
+    ensures { IfOk result (λ text. text ≡ spec.inner_text kind) }
+{
+    match kind {
+        CgfKind::BadExpr(why) => expr_text(alloc, why),
+        CgfKind::BadAbstract(why) => abstract_text(alloc, why),
+        _ => Ok(Text::new(alloc)),
+    }
+}
+
+/// A refusal as a fault line has it behind the file's name: `cgf`, the number of the rule, the
+/// label, the node and the key, each `-` where it is empty, and why an expression or a call of a
+/// family is refused.
+///
+/// # Errors
+///
+/// [`NoMemory`].
+pub fn refusal_text(alloc: Global, refusal: &CgfRefusal) -> Result<Text, NoMemory>
+    ensures { IfOk result (λ text. text ≡ spec.refusal_text (refusal_view refusal.now)) }
+{
+    let number = refusal.kind.number();
+    let label = or_dash(refusal.label.as_str());
+    let node = or_dash(refusal.node.as_str());
+    let key = or_dash(refusal.key.as_str());
+    let inner = inner_text(alloc, refusal.kind)?;
+    Ok(Text::from(format!(in alloc; "cgf {number} {label} {node} {key}{inner}")?))
+}
