@@ -1,0 +1,167 @@
+// The text of a test.
+ghost use Rattle.std.specs.Prelude.{◌≡◌, ◌<◌, ◌≤◌, ◌+◌, ◌++◌, ◌∷◌, [], All, IfOk, OnOk, MatchOption, Some, length, map, false, codes};
+ghost use Rattle.rvs_cgf.specs.GroupView.{label_view, point_view};
+ghost use Rattle.rvs_test.specs.TestText as spec;
+ghost use Rattle.rvs_test.specs.TestText.{text_of, ended};
+ghost use Rattle.rvs_test.specs.Claim.{AreReady};
+ghost use Rattle.rvs_test.specs.Made.{named, named_at};
+
+use crate::case_lines::case_statements;
+use crate::made::Claim;
+use crate::printing::{push_line, push_statements};
+use crate::shorthands::{addi, jal, sw};
+use crate::statement::{Fixed, Name, Statement};
+use rvs_base::{NoMemory, Text};
+use rvs_cgf::{Label, Point};
+use rvs_insn::{IsaSpec, isa_text};
+use rvs_solver::Solved;
+use std::alloc::Global;
+
+static BEGIN: [Statement; 5] = [
+    Statement::Fixed(Fixed::NoRvc),
+    Statement::Fixed(Fixed::NoRelax),
+    Statement::Fixed(Fixed::ToText),
+    Statement::Fixed(Fixed::Globl),
+    Statement::Label(Name::Start),
+];
+
+static DATA: [Statement; 11] = [
+    Statement::Fixed(Fixed::ToData),
+    Statement::Fixed(Fixed::Align),
+    Statement::Label(Name::Scratch),
+    Statement::Fixed(Fixed::Zeros),
+    Statement::Label(Name::Pattern),
+    Statement::Fixed(Fixed::FirstPattern),
+    Statement::Fixed(Fixed::SecondPattern),
+    Statement::Label(Name::ToHost),
+    Statement::Fixed(Fixed::Zeros),
+    Statement::Fixed(Fixed::Align),
+    Statement::Label(Name::BeginSignature),
+];
+
+/// The halt, and the endless loop behind it.
+fn halt() -> [Statement; 6]
+    ensures { result ≡ spec.halt ++ spec.loop }
+{
+    [
+        Statement::High(15, Name::ToHost),
+        Statement::Low(15, Name::ToHost),
+        Statement::Plain(addi(14, 0, 1)),
+        Statement::Plain(sw(14, 15, 0)),
+        Statement::Label(Name::Halt),
+        Statement::To(jal(), Name::Halt),
+    ]
+}
+
+fn label_line(alloc: Global, name: &str) -> Result<Text, NoMemory>
+    ensures { IfOk result (λ text. text ≡ codes "#! label " ++ name.now) }
+{
+    Ok(Text::from(format!(in alloc; "#! label {name}")?))
+}
+
+fn isa_line(alloc: Global, name: &str) -> Result<Text, NoMemory>
+    ensures { IfOk result (λ text. text ≡ codes "#! isa " ++ name.now) }
+{
+    Ok(Text::from(format!(in alloc; "#! isa {name}")?))
+}
+
+fn steps_line(alloc: Global, steps: u64) -> Result<Text, NoMemory>
+    ensures { IfOk result (λ text. text ≡ spec.steps_line steps) }
+{
+    Ok(Text::from(format!(in alloc; "#! steps {steps}")?))
+}
+
+fn claim_line(alloc: Global, case: usize, point: &Point) -> Result<Text, NoMemory>
+    ensures { IfOk result (λ text. text ≡ spec.claim_line case (named (point_view point.now))) }
+{
+    let kind = point.kind.name();
+    let key = point.key.as_str();
+    Ok(Text::from(format!(in alloc; "#! case {case} {kind} {key}")?))
+}
+
+/// The first four lines.
+fn push_front(
+    alloc: Global,
+    out: &mut Text,
+    name: &str,
+    spec: &IsaSpec,
+    steps: u64,
+) -> Result<(), NoMemory>
+    ensures { OnOk result (out.new ≡ out.old ++ ended (spec.front name.now spec.now steps)) }
+{
+    push_line(out, "#! rvsuite test 1")?;
+    push_line(out, label_line(alloc, name)?.as_str())?;
+    push_line(out, isa_line(alloc, isa_text(alloc, spec)?.as_str())?.as_str())?;
+    push_line(out, steps_line(alloc, steps)?.as_str())
+}
+
+/// One line for each claim.
+fn push_claims(
+    alloc: Global,
+    out: &mut Text,
+    label: &Label,
+    claims: &[Claim],
+) -> Result<(), NoMemory>
+    requires { All (λ c. c.point < length label.now.points) claims.now }
+    ensures { OnOk result (out.new ≡ out.old ++
+        ended (map (spec.line_of_claim (named_at (label_view label.now))) claims.now)) }
+{
+    for claim in claims {
+        let point = &label.points.as_slice()[claim.point];
+        let line = claim_line(alloc, claim.case, point)?;
+        push_line(out, line.as_str())?;
+    }
+    Ok(())
+}
+
+/// The registers get 0.
+fn push_clear(alloc: Global, out: &mut Text) -> Result<(), NoMemory>
+    ensures { OnOk result (out.new ≡ out.old ++ text_of (spec.clear 1 31)) }
+{
+    for n in 0..31u8 {
+        push_statements(alloc, out, &[Statement::Plain(addi(1 + n, 0, 0))])?;
+    }
+    Ok(())
+}
+
+fn push_case(
+    alloc: Global,
+    out: &mut Text,
+    spec: &IsaSpec,
+    k: usize,
+    solved: &Solved,
+) -> Result<(), NoMemory>
+    requires few { k < 2048 }
+    requires ready { IsReady spec.now solved.now }
+    ensures { OnOk result (out.new ≡ out.old ++ text_of (spec.case_statements k solved.now)) }
+{
+    let statements = case_statements(alloc, k as u32, solved)?;
+    push_statements(alloc, out, statements.as_slice())
+}
+
+fn push_cases(
+    alloc: Global,
+    out: &mut Text,
+    spec: &IsaSpec,
+    cases: &[Solved],
+) -> Result<(), NoMemory>
+    requires few { length cases.now ≤ 2048 }
+    requires ready { AreReady spec.now cases.now }
+    ensures { OnOk result (out.new ≡ out.old ++ text_of (spec.cases 0 cases.now)) }
+{
+    for (k, solved) in cases.iter().enumerate() {
+        push_case(alloc, out, spec, k, solved)?;
+    }
+    Ok(())
+}
+
+fn push_slots(alloc: Global, out: &mut Text, count: usize) -> Result<(), NoMemory>
+    requires { count ≤ 2048 }
+    ensures { OnOk result (out.new ≡ out.old ++ text_of (spec.slots 0 count)) }
+{
+    for k in 0..count {
+        let slot = Statement::Label(Name::Slot(k as u32));
+        push_statements(alloc, out, &[slot, Statement::Fixed(Fixed::Unset)])?;
+    }
+    Ok(())
+}
