@@ -11,6 +11,7 @@ use Rattle.rvs_insn.specs.Table.{row}
 use Rattle.rvs_insn.specs.Fields.{Fields}
 use Rattle.rvs_asm.specs.Bytes.{high, low}
 use Rattle.rvs_solver.specs.Choices.{ChoiceValue, fields_of}
+use Rattle.rvs_test.specs.declared.made.Claim.{Claim}
 use Rattle.rvs_test.specs.declared.statement.Name.{Name}
 use Rattle.rvs_test.specs.declared.statement.Name.TheVariants.{Start, Case, Target, Done, Halt, Scratch, Pattern, ToHost, BeginSignature, Slot, EndSignature}
 use Rattle.rvs_test.specs.declared.statement.Fixed.TheVariants.{NoRvc, NoRelax, ToText, Globl, ToData, Align, Zeros, FirstPattern, SecondPattern, Unset}
@@ -277,9 +278,20 @@ abbrev pub claim_lines : ℕ → List Point → List (List ℕ)
 claim_lines k [] = []
 claim_lines k (p ∷ ps) = claim_line k p ∷ claim_lines (k + 1) ps
 
+-- the line of a claim, by what its point is called
+abbrev pub line_of_claim : (ℕ → Point) → Claim → List ℕ
+line_of_claim named c = claim_line c.case (named c.point)
+
+abbrev pub steps_line : ℕ → List ℕ
+steps_line steps = codes "#! steps " ++ decimal steps
+
+abbrev pub front : List ℕ → Isa → ℕ → List (List ℕ)
+front label isa steps =
+    codes "#! rvsuite test 1" ∷ (codes "#! label " ++ label) ∷ (codes "#! isa " ++ isa_name isa)
+    ∷ steps_line steps ∷ []
+
 abbrev pub header : List ℕ → Isa → ℕ → List Point → List (List ℕ)
-header label isa steps points =
-    codes "#! rvsuite test 1" ∷ (codes "#! label " ++ label) ∷ (codes "#! isa " ++ isa_name isa) ∷ (codes "#! steps " ++ decimal steps) ∷ claim_lines 0 points
+header label isa steps points = front label isa steps ++ claim_lines 0 points
 
 -- ---- the whole text
 -- each line with a line feed

@@ -145,7 +145,8 @@ fn choice_case(alloc: Global, k: u32, choice: &Choice) -> Result<Vec<Statement>,
     }
 }
 
-/// The eight registers of a window get their words.
+
+#[tactic(auto, using(crate::proofs::Loops::words_more))]
 fn add_words(list: &mut Vec<Statement>) -> Result<(), NoMemory>
     ensures { OnOk result (list.new.items ≡ list.old.items ++ spec.load_words 8 8) }
 {
@@ -155,6 +156,7 @@ fn add_words(list: &mut Vec<Statement>) -> Result<(), NoMemory>
     Ok(())
 }
 
+#[tactic(auto, using(std::proofs::lemmas::List::map_more))]
 fn add_places(list: &mut Vec<Statement>, places: &[Insn]) -> Result<(), NoMemory>
     ensures { OnOk result (list.new.items ≡ list.old.items ++ spec.plains places.now) }
 {

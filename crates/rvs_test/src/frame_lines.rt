@@ -110,7 +110,7 @@ pub(crate) fn add_frame(
     jump: Insn,
 ) -> Result<(), NoMemory>
     requires { m < 32 }
-    ensures { OnOk result (list.new.items ≡ list.old.items ++ spec.frame imm k m jump []) }
+    ensures { OnOk result (list.new.items ≡ list.old.items ++ spec.bare_frame imm k m jump) }
 {
     if imm < 0 {
         add_backward(list, between(imm), k, m, jump)

@@ -2,11 +2,15 @@
 #![tactic(auto)]
 
 mod case_lines;
+mod finding;
 mod frame_lines;
 mod laws;
+mod made;
 mod printing;
 mod shorthands;
 mod statement;
+mod writing;
 
 pub use laws::tests_run;
+pub use made::{Claim, Made};
 pub use statement::{Fixed, Name, Statement};

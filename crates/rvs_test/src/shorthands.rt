@@ -1,5 +1,5 @@
 // The shorthands that the cases of a test are written in.
-ghost use Rattle.std.specs.Prelude.{◌≡◌, ◌<◌, ◌+◌, pos, unwrap_or, Some, None};
+ghost use Rattle.std.specs.Prelude.{◌≡◌, ◌<◌, ◌+◌, not, find, pos, unwrap_or, Some, None};
 ghost use Rattle.rvs_insn.specs.Fields.{IsRegister};
 ghost use Rattle.rvs_asm.specs.Bytes.{high, low};
 ghost use Rattle.rvs_test.specs.Statements.{lui, addi};
@@ -161,14 +161,16 @@ fn is_operand(choice: &Choice, r: u8) -> bool
     number(choice.rd) == r || number(choice.rs1) == r || number(choice.rs2) == r
 }
 
-fn first_helper(choice: &Choice) -> u8
-    ensures { result ≡ spec.pointer choice.now }
+fn is_free(choice: &Choice, r: u8) -> bool
+    ensures { result ≡ not (spec.is_operand choice.now r) }
 {
-    HELPERS
-        .iter()
-        .copied()
-        .find(|r| !is_operand(choice, *r))
-        .unwrap_or(0)
+    !is_operand(choice, r)
+}
+
+fn first_free(choice: &Choice, helpers: &[u8]) -> Option<u8>
+    ensures { result ≡ find (λ r. not (spec.is_operand choice.now r)) helpers.now }
+{
+    helpers.iter().copied().find(|r| is_free(choice, *r))
 }
 
 /// The first helper register that is no operand.
@@ -176,7 +178,10 @@ pub(crate) fn pointer(choice: &Choice) -> u8
     ensures value { result ≡ spec.pointer choice.now }
     ensures low { result < 32 }
 {
-    first_helper(choice)
+    match first_free(choice, &HELPERS) {
+        Some(r) => r,
+        None => 0,
+    }
 }
 
 fn is_mark(choice: &Choice, p: u8, r: u8) -> bool
@@ -185,14 +190,10 @@ fn is_mark(choice: &Choice, p: u8, r: u8) -> bool
     !is_operand(choice, r) && r != p
 }
 
-fn second_helper(choice: &Choice, p: u8) -> u8
-    ensures { result ≡ spec.other_helper choice.now p }
+fn first_mark(choice: &Choice, p: u8, helpers: &[u8]) -> Option<u8>
+    ensures { result ≡ find (spec.is_mark choice.now p) helpers.now }
 {
-    HELPERS
-        .iter()
-        .copied()
-        .find(|r| is_mark(choice, p, *r))
-        .unwrap_or(0)
+    helpers.iter().copied().find(|r| is_mark(choice, p, *r))
 }
 
 /// The second.
@@ -200,5 +201,8 @@ pub(crate) fn marker(choice: &Choice) -> u8
     ensures value { result ≡ spec.marker choice.now }
     ensures low { result < 32 }
 {
-    second_helper(choice, first_helper(choice))
+    match first_mark(choice, pointer(choice), &HELPERS) {
+        Some(r) => r,
+        None => 0,
+    }
 }

@@ -1,9 +1,9 @@
 // The text of a test.
 ghost use Rattle.std.specs.Prelude.{◌≡◌, ◌<◌, ◌≤◌, ◌+◌, ◌++◌, ◌∷◌, [], All, IfOk, OnOk, MatchOption, Some, length, map, false, codes};
 ghost use Rattle.rvs_cgf.specs.GroupView.{label_view, point_view};
-ghost use Rattle.rvs_test.specs.TestText as spec;
+ghost use Rattle.rvs_test.specs.TestText as layout;
 ghost use Rattle.rvs_test.specs.TestText.{text_of, ended};
-ghost use Rattle.rvs_test.specs.Claim.{AreReady};
+ghost use Rattle.rvs_test.specs.Claim.{IsReady, AreReady};
 ghost use Rattle.rvs_test.specs.Made.{named, named_at};
 
 use crate::case_lines::case_statements;
@@ -17,31 +17,39 @@ use rvs_insn::{IsaSpec, isa_text};
 use rvs_solver::Solved;
 use std::alloc::Global;
 
-static BEGIN: [Statement; 5] = [
-    Statement::Fixed(Fixed::NoRvc),
-    Statement::Fixed(Fixed::NoRelax),
-    Statement::Fixed(Fixed::ToText),
-    Statement::Fixed(Fixed::Globl),
-    Statement::Label(Name::Start),
-];
+fn begin() -> [Statement; 5]
+    ensures { result ≡ layout.begin }
+{
+    [
+        Statement::Fixed(Fixed::NoRvc),
+        Statement::Fixed(Fixed::NoRelax),
+        Statement::Fixed(Fixed::ToText),
+        Statement::Fixed(Fixed::Globl),
+        Statement::Label(Name::Start),
+    ]
+}
 
-static DATA: [Statement; 11] = [
-    Statement::Fixed(Fixed::ToData),
-    Statement::Fixed(Fixed::Align),
-    Statement::Label(Name::Scratch),
-    Statement::Fixed(Fixed::Zeros),
-    Statement::Label(Name::Pattern),
-    Statement::Fixed(Fixed::FirstPattern),
-    Statement::Fixed(Fixed::SecondPattern),
-    Statement::Label(Name::ToHost),
-    Statement::Fixed(Fixed::Zeros),
-    Statement::Fixed(Fixed::Align),
-    Statement::Label(Name::BeginSignature),
-];
+fn fixed_data() -> [Statement; 11]
+    ensures { result ≡ layout.fixed_data }
+{
+    [
+        Statement::Fixed(Fixed::ToData),
+        Statement::Fixed(Fixed::Align),
+        Statement::Label(Name::Scratch),
+        Statement::Fixed(Fixed::Zeros),
+        Statement::Label(Name::Pattern),
+        Statement::Fixed(Fixed::FirstPattern),
+        Statement::Fixed(Fixed::SecondPattern),
+        Statement::Label(Name::ToHost),
+        Statement::Fixed(Fixed::Zeros),
+        Statement::Fixed(Fixed::Align),
+        Statement::Label(Name::BeginSignature),
+    ]
+}
 
 /// The halt, and the endless loop behind it.
 fn halt() -> [Statement; 6]
-    ensures { result ≡ spec.halt ++ spec.loop }
+    ensures { result ≡ layout.halt ++ layout.loop }
 {
     [
         Statement::High(15, Name::ToHost),
@@ -66,13 +74,13 @@ fn isa_line(alloc: Global, name: &str) -> Result<Text, NoMemory>
 }
 
 fn steps_line(alloc: Global, steps: u64) -> Result<Text, NoMemory>
-    ensures { IfOk result (λ text. text ≡ spec.steps_line steps) }
+    ensures { IfOk result (λ text. text ≡ layout.steps_line steps) }
 {
     Ok(Text::from(format!(in alloc; "#! steps {steps}")?))
 }
 
 fn claim_line(alloc: Global, case: usize, point: &Point) -> Result<Text, NoMemory>
-    ensures { IfOk result (λ text. text ≡ spec.claim_line case (named (point_view point.now))) }
+    ensures { IfOk result (λ text. text ≡ layout.claim_line case (named (point_view point.now))) }
 {
     let kind = point.kind.name();
     let key = point.key.as_str();
@@ -87,7 +95,7 @@ fn push_front(
     spec: &IsaSpec,
     steps: u64,
 ) -> Result<(), NoMemory>
-    ensures { OnOk result (out.new ≡ out.old ++ ended (spec.front name.now spec.now steps)) }
+    ensures { OnOk result (out.new ≡ out.old ++ ended (layout.front name.now spec.now steps)) }
 {
     push_line(out, "#! rvsuite test 1")?;
     push_line(out, label_line(alloc, name)?.as_str())?;
@@ -104,7 +112,7 @@ fn push_claims(
 ) -> Result<(), NoMemory>
     requires { All (λ c. c.point < length label.now.points) claims.now }
     ensures { OnOk result (out.new ≡ out.old ++
-        ended (map (spec.line_of_claim (named_at (label_view label.now))) claims.now)) }
+        ended (map (layout.line_of_claim (named_at (label_view label.now))) claims.now)) }
 {
     for claim in claims {
         let point = &label.points.as_slice()[claim.point];
@@ -116,7 +124,7 @@ fn push_claims(
 
 /// The registers get 0.
 fn push_clear(alloc: Global, out: &mut Text) -> Result<(), NoMemory>
-    ensures { OnOk result (out.new ≡ out.old ++ text_of (spec.clear 1 31)) }
+    ensures { OnOk result (out.new ≡ out.old ++ text_of (layout.clear 1 31)) }
 {
     for n in 0..31u8 {
         push_statements(alloc, out, &[Statement::Plain(addi(1 + n, 0, 0))])?;
@@ -133,7 +141,7 @@ fn push_case(
 ) -> Result<(), NoMemory>
     requires few { k < 2048 }
     requires ready { IsReady spec.now solved.now }
-    ensures { OnOk result (out.new ≡ out.old ++ text_of (spec.case_statements k solved.now)) }
+    ensures { OnOk result (out.new ≡ out.old ++ text_of (layout.case_statements k solved.now)) }
 {
     let statements = case_statements(alloc, k as u32, solved)?;
     push_statements(alloc, out, statements.as_slice())
@@ -147,7 +155,7 @@ fn push_cases(
 ) -> Result<(), NoMemory>
     requires few { length cases.now ≤ 2048 }
     requires ready { AreReady spec.now cases.now }
-    ensures { OnOk result (out.new ≡ out.old ++ text_of (spec.cases 0 cases.now)) }
+    ensures { OnOk result (out.new ≡ out.old ++ text_of (layout.cases 0 cases.now)) }
 {
     for (k, solved) in cases.iter().enumerate() {
         push_case(alloc, out, spec, k, solved)?;
@@ -157,7 +165,7 @@ fn push_cases(
 
 fn push_slots(alloc: Global, out: &mut Text, count: usize) -> Result<(), NoMemory>
     requires { count ≤ 2048 }
-    ensures { OnOk result (out.new ≡ out.old ++ text_of (spec.slots 0 count)) }
+    ensures { OnOk result (out.new ≡ out.old ++ text_of (layout.slots 0 count)) }
 {
     for k in 0..count {
         let slot = Statement::Label(Name::Slot(k as u32));
