@@ -863,8 +863,8 @@ pub record EntryIs (f : Format) (c : ChoiceValue) (pc slot : ℕ) : Type 0 where
   pub word : (case_of_by f c pc slot).entry.word ≡ word_of (fields_of c)
   pub more : (case_of_by f c pc slot).more ≡ []
   pub facts : Extends (without_base f (facts_of (fields_of c) c.w1 c.w2)) (facts_of (fields_of c) (case_of_by f c pc slot).entry.v1 (case_of_by f c pc slot).entry.v2)
-  pub first : (case_of_by f c pc slot).first ≡ (outcome_by f c (case_of_by f c pc slot).entry).0
-  pub second : (case_of_by f c pc slot).second ≡ (outcome_by f c (case_of_by f c pc slot).entry).1
+  pub first : (case_of_by f c pc slot).first ≡ (outcome_by f (fields_of c) (case_of_by f c pc slot).entry).0
+  pub second : (case_of_by f c pc slot).second ≡ (outcome_by f (fields_of c) (case_of_by f c pc slot).entry).1
 
 store_entry_is : (isa : Isa) (c : ChoiceValue) (pc slot : ℕ) → (row c.op).form ≡ Store → Accesses isa c Store → EntryIs Store c pc slot
 store_entry_is isa c pc slot form acc =

@@ -122,11 +122,12 @@ fn push_claims(
     Ok(())
 }
 
-/// The registers get 0.
-fn push_clear(alloc: Global, out: &mut Text) -> Result<(), NoMemory>
-    ensures { OnOk result (out.new ≡ out.old ++ text_of (layout.clear 1 31)) }
+/// So many registers from x1 on get 0.
+fn push_clear(alloc: Global, out: &mut Text, count: u8) -> Result<(), NoMemory>
+    requires { count < 32 }
+    ensures { OnOk result (out.new ≡ out.old ++ text_of (layout.clear 1 count)) }
 {
-    for n in 0..31u8 {
+    for n in 0..count {
         push_statements(alloc, out, &[Statement::Plain(addi(1 + n, 0, 0))])?;
     }
     Ok(())
@@ -135,12 +136,13 @@ fn push_clear(alloc: Global, out: &mut Text) -> Result<(), NoMemory>
 fn push_case(
     alloc: Global,
     out: &mut Text,
-    spec: &IsaSpec,
+    _spec: &IsaSpec,
     k: usize,
     solved: &Solved,
 ) -> Result<(), NoMemory>
     requires few { k < 2048 }
-    requires ready { IsReady spec.now solved.now }
+    requires base { _spec.now.e ≡ false }
+    requires ready { IsReady _spec.now solved.now }
     ensures { OnOk result (out.new ≡ out.old ++ text_of (layout.case_statements k solved.now)) }
 {
     let statements = case_statements(alloc, k as u32, solved)?;
@@ -154,6 +156,7 @@ fn push_cases(
     cases: &[Solved],
 ) -> Result<(), NoMemory>
     requires few { length cases.now ≤ 2048 }
+    requires base { spec.now.e ≡ false }
     requires ready { AreReady spec.now cases.now }
     ensures { OnOk result (out.new ≡ out.old ++ text_of (layout.cases 0 cases.now)) }
 {
@@ -172,4 +175,33 @@ fn push_slots(alloc: Global, out: &mut Text, count: usize) -> Result<(), NoMemor
         push_statements(alloc, out, &[slot, Statement::Fixed(Fixed::Unset)])?;
     }
     Ok(())
+}
+
+/// The cases, with what stands before and behind them.
+fn push_code(
+    alloc: Global,
+    out: &mut Text,
+    spec: &IsaSpec,
+    cases: &[Solved],
+) -> Result<(), NoMemory>
+    requires few { length cases.now ≤ 2048 }
+    requires base { spec.now.e ≡ false }
+    requires ready { AreReady spec.now cases.now }
+    ensures { OnOk result (out.new ≡ out.old ++
+        text_of (layout.begin ++ layout.code_part spec.now cases.now)) }
+{
+    push_statements(alloc, out, &begin())?;
+    push_clear(alloc, out, if spec.e { 15 } else { 31 })?;
+    push_cases(alloc, out, spec, cases)?;
+    push_statements(alloc, out, &halt())
+}
+
+/// The data of so many cases.
+fn push_data(alloc: Global, out: &mut Text, count: usize) -> Result<(), NoMemory>
+    requires { count ≤ 2048 }
+    ensures { OnOk result (out.new ≡ out.old ++ text_of (layout.data_part count)) }
+{
+    push_statements(alloc, out, &fixed_data())?;
+    push_slots(alloc, out, count)?;
+    push_statements(alloc, out, &[Statement::Label(Name::EndSignature)])
 }
