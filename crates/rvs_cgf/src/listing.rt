@@ -25,7 +25,7 @@ fn size(label: &Label) -> u128
 }
 
 /// The labels with one more.
-#[tactic(auto, using(crate::proofs::Points::map_label))]
+#[tactic(auto, using(crate::proofs::Pointwise::map_label))]
 fn pushed(label: Label, total: u128, listed: Listed) -> Result<Listed, NoMemory>
     requires { total ≤ 65536 }
     ensures labels { IfOk result (λ l. map label_view l.labels

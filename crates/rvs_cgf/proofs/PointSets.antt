@@ -1,0 +1,86 @@
+-- The set of the pairs of kind and key.
+use Rattle.std.proofs.Common.{◌≡◌, ℕ, Bool, true, false, ◌&&◌, List, [], ◌∷◌, ◌++◌, map, refl, sym, ap, ◌∙◌, bytes_eq, ◌+◌, ◌<◌, ◌≤◌, arith, length, take, get_or, add-one, append_assoc}
+use Rattle.std.proofs.Math.Seq.{take-suc}
+use Rattle.std.specs.Prelude.{◌||◌, String}
+use Rattle.std.specs.BTreeSet.{BTreeSet, contains_text}
+use Rattle.rvs_cgf.specs.Groups.{has, is_point, same_kind, Point as Seen}
+use Rattle.rvs_cgf.specs.PointView.{point_view}
+use Rattle.rvs_cgf.specs.PointKeys.{mark, AreKeysOf}
+use Rattle.rvs_cgf.specs.declared.group.Kind.{Kind}
+use Rattle.rvs_cgf.specs.declared.group.Kind.TheVariants.{Mnemonic, Rs1, Rs2, Rd, OpComb, ValComb}
+use Rattle.rvs_cgf.specs.declared.group.Point.{Point}
+
+or-false : (a : Bool) → (a || false) ≡ a
+or-false true = refl
+or-false false = refl
+
+or-assoc : (a b c : Bool) → (a || (b || c)) ≡ ((a || b) || c)
+or-assoc true b c = refl
+or-assoc false b c = refl
+
+has-more : (k : Kind) (key : List ℕ) (ps : List Point) (p : Point) → has k key (map point_view (ps ++ p ∷ [])) ≡ (has k key (map point_view ps) || is_point k key (point_view p))
+has-more k key [] p = or-false (is_point k key (point_view p))
+has-more k key (q ∷ qs) p = ap (λ b. is_point k key (point_view q) || b) (has-more k key qs p) ∙ or-assoc (is_point k key (point_view q)) (has k key (map point_view qs)) (is_point k key (point_view p))
+
+-- two marked texts are one exactly where kind and key are
+marks : (a b : Kind) (x y : List ℕ) → bytes_eq (mark a ∷ x) (mark b ∷ y) ≡ (same_kind a b && bytes_eq x y)
+marks Mnemonic Mnemonic x y = refl
+marks Mnemonic Rs1 x y = refl
+marks Mnemonic Rs2 x y = refl
+marks Mnemonic Rd x y = refl
+marks Mnemonic OpComb x y = refl
+marks Mnemonic ValComb x y = refl
+marks Rs1 Mnemonic x y = refl
+marks Rs1 Rs1 x y = refl
+marks Rs1 Rs2 x y = refl
+marks Rs1 Rd x y = refl
+marks Rs1 OpComb x y = refl
+marks Rs1 ValComb x y = refl
+marks Rs2 Mnemonic x y = refl
+marks Rs2 Rs1 x y = refl
+marks Rs2 Rs2 x y = refl
+marks Rs2 Rd x y = refl
+marks Rs2 OpComb x y = refl
+marks Rs2 ValComb x y = refl
+marks Rd Mnemonic x y = refl
+marks Rd Rs1 x y = refl
+marks Rd Rs2 x y = refl
+marks Rd Rd x y = refl
+marks Rd OpComb x y = refl
+marks Rd ValComb x y = refl
+marks OpComb Mnemonic x y = refl
+marks OpComb Rs1 x y = refl
+marks OpComb Rs2 x y = refl
+marks OpComb Rd x y = refl
+marks OpComb OpComb x y = refl
+marks OpComb ValComb x y = refl
+marks ValComb Mnemonic x y = refl
+marks ValComb Rs1 x y = refl
+marks ValComb Rs2 x y = refl
+marks ValComb Rd x y = refl
+marks ValComb OpComb x y = refl
+marks ValComb ValComb x y = refl
+
+pub keys_more : {Y : Type 0} (known s : BTreeSet (String Y)) (p : Point) (text : List ℕ) → text ≡ mark p.kind ∷ p.key
+    → ((bs : List ℕ) → contains_text s bs ≡ (contains_text known bs || bytes_eq text bs))
+    → (ps : List Point) → AreKeysOf known ps → AreKeysOf s (ps ++ p ∷ [])
+keys_more known s p text e h ps keys k key =
+    h (mark k ∷ key)
+    ∙ ap (λ bs. contains_text known (mark k ∷ key) || bytes_eq bs (mark k ∷ key)) e
+    ∙ ap (λ b. contains_text known (mark k ∷ key) || b) (marks p.kind k p.key key)
+    ∙ ap (λ b. b || is_point k key (point_view p)) (keys k key)
+    ∙ sym (has-more k key ps p)
+
+-- one more of the points behind
+pub next : (ps more : List Point) (i : ℕ) (d : Point) → i < length more → (ps ++ take i more) ++ (get_or more i d ∷ []) ≡ ps ++ take (i + 1) more
+next ps more i d h = append_assoc ps (take i more) (get_or more i d ∷ []) ∙ ap (λ xs. ps ++ xs) (sym (rw add-one (take-suc more i d h)))
+
+take-all : (xs : List Point) → take (length xs) xs ≡ xs
+take-all [] = refl
+take-all (x ∷ xs) = ap (λ ys. x ∷ ys) (take-all xs)
+
+all : (ps more : List Point) → ps ++ take (length more) more ≡ ps ++ more
+all ps more = ap (λ xs. ps ++ xs) (take-all more)
+
+pub whole : (ps more : List Point) (i : ℕ) → length more ≤ i → i ≤ length more → ps ++ take i more ≡ ps ++ more
+whole ps more i h k = ap (λ n. ps ++ take n more) (omega arith) ∙ all ps more
