@@ -60,7 +60,7 @@ asked : (z t : Bool) → (not z || t) ≡ true → z ≡ true → t ≡ true
 asked true t h e = h
 asked false t h e = cc
 
-one_word_each : (c : ChoiceValue) → is_kept c ≡ true → HasOneWordEach c
+pub one_word_each : (c : ChoiceValue) → is_kept c ≡ true → HasOneWordEach c
 one_word_each c h =
     let k = three (not (is_zero c.rs1) || c.w1 == 0) (not (is_zero c.rs2) || c.w2 == 0) (not (is_same c.rs1 c.rs2) || c.w1 == c.w2) h in
     record {

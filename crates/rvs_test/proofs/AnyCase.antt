@@ -863,8 +863,8 @@ pub record EntryIs (f : Format) (c : ChoiceValue) (pc slot : ℕ) : Type 0 where
   pub word : (case_of_by f c pc slot).entry.word ≡ word_of (fields_of c)
   pub more : (case_of_by f c pc slot).more ≡ []
   pub facts : Extends (without_base f (facts_of (fields_of c) c.w1 c.w2)) (facts_of (fields_of c) (case_of_by f c pc slot).entry.v1 (case_of_by f c pc slot).entry.v2)
-  pub first : (case_of_by f c pc slot).first ≡ (outcome_by f c (case_of_by f c pc slot).entry).0
-  pub second : (case_of_by f c pc slot).second ≡ (outcome_by f c (case_of_by f c pc slot).entry).1
+  pub first : (case_of_by f c pc slot).first ≡ (outcome_by f (fields_of c) (case_of_by f c pc slot).entry).0
+  pub second : (case_of_by f c pc slot).second ≡ (outcome_by f (fields_of c) (case_of_by f c pc slot).entry).1
 
 store_entry_is : (isa : Isa) (c : ChoiceValue) (pc slot : ℕ) → (row c.op).form ≡ Store → Accesses isa c Store → EntryIs Store c pc slot
 store_entry_is isa c pc slot form acc =
@@ -946,7 +946,7 @@ branch_entry_is c pc slot near =
       place = e.place;
       word = e.word;
       more = e.more;
-      facts = subst (λ x. Extends (facts_of (fields_of c) c.w1 c.w2) (facts_of (fields_of c) x entry'.v2)) (sym e.v1) (subst (λ y. Extends (facts_of (fields_of c) c.w1 c.w2) (facts_of (fields_of c) c.w1 y)) (sym e.v2) (without_extends Branch (facts_of (fields_of c) c.w1 c.w2)));
+      facts = subst (λ x. Extends (without_base Branch (facts_of (fields_of c) c.w1 c.w2)) (facts_of (fields_of c) x entry'.v2)) (sym e.v1) (subst (λ y. Extends (without_base Branch (facts_of (fields_of c) c.w1 c.w2)) (facts_of (fields_of c) c.w1 y)) (sym e.v2) (without_extends Branch (facts_of (fields_of c) c.w1 c.w2)));
       first = e.first ∙ ap (mark_of (imm_of c)) same;
       second = e.second;
     }
@@ -959,7 +959,7 @@ jal_entry_is c pc slot near =
       place = e.place;
       word = e.word;
       more = e.more;
-      facts = subst (λ x. Extends (facts_of (fields_of c) c.w1 c.w2) (facts_of (fields_of c) x entry'.v2)) (sym e.v1) (subst (λ y. Extends (facts_of (fields_of c) c.w1 c.w2) (facts_of (fields_of c) c.w1 y)) (sym e.v2) (without_extends Jump (facts_of (fields_of c) c.w1 c.w2)));
+      facts = subst (λ x. Extends (without_base Jump (facts_of (fields_of c) c.w1 c.w2)) (facts_of (fields_of c) x entry'.v2)) (sym e.v1) (subst (λ y. Extends (without_base Jump (facts_of (fields_of c) c.w1 c.w2)) (facts_of (fields_of c) c.w1 y)) (sym e.v2) (without_extends Jump (facts_of (fields_of c) c.w1 c.w2)));
       first = e.first;
       second = e.second;
     }

@@ -55,8 +55,8 @@ written_value None = 0
 written_value (Some w) = w.value
 
 -- the data from the start of scratch on after a store, where there were zeros
-abbrev pub scratch_after : ChoiceValue → Executed → List ℕ
-scratch_after c e = store_bytes (access_size c.op) (replicate 8 0) (add32 e.v1 (imm_word (fields_of c)) - data_base) e.v2
+abbrev pub scratch_after : Fields → Executed → List ℕ
+scratch_after i e = store_bytes (access_size i.op) (replicate 8 0) (add32 e.v1 (imm_word i) - data_base) e.v2
 
 -- whether a branch is taken
 abbrev pub is_taken : Op → ℕ → ℕ → Bool
@@ -74,12 +74,16 @@ mark_of (pos n) t = if t then 1 else (if nat_le 8 n then 3 else 1)
 mark_of (negsuc n) t = if t then (if nat_le 7 n then 3 else 1) else 1
 
 -- the two words of a case, by its executed instruction
-abbrev pub outcome_by : Format → ChoiceValue → Executed → ℕ × ℕ
-outcome_by Store c e = (word_at (scratch_after c e) 0, word_at (scratch_after c e) 4)
-outcome_by JumpReg c e = (1, written_value e.commit)
-outcome_by Branch c e = (mark_of (unwrap_or c.imm (pos 0)) (is_taken c.op e.v1 e.v2), written_value e.commit)
-outcome_by Jump c e = (mark_of (unwrap_or c.imm (pos 0)) true, written_value e.commit)
-outcome_by _ c e = (written_value e.commit, 0)
+abbrev pub outcome_by : Format → Fields → Executed → ℕ × ℕ
+outcome_by Store i e = (word_at (scratch_after i e) 0, word_at (scratch_after i e) 4)
+outcome_by JumpReg i e = (1, written_value e.commit)
+outcome_by Branch i e = (mark_of (unwrap_or i.imm (pos 0)) (is_taken i.op e.v1 e.v2), written_value e.commit)
+outcome_by Jump i e = (mark_of (unwrap_or i.imm (pos 0)) true, written_value e.commit)
+outcome_by _ i e = (written_value e.commit, 0)
+
+-- those of an instruction
+abbrev pub outcome_at : Fields → Executed → ℕ × ℕ
+outcome_at i e = outcome_by (row i.op).form i e
 
 -- the word of a register that held w, behind instructions that were executed one after the other
 abbrev pub after_commit : Option Write → ℕ → ℕ → ℕ
@@ -96,7 +100,7 @@ last_word r es = register_after r 0 es
 
 -- the two words of a case, by its executed instruction and those of its window behind it
 abbrev pub outcome_of : Solved → Executed → List Executed → ℕ × ℕ
-outcome_of (One c) e more = outcome_by (row c.op).form c e
+outcome_of (One c) e more = outcome_at (fields_of c) e
 outcome_of (Many is) e more = (last_word (first_rd is) (e ∷ more), last_word (last_rd is) (e ∷ more))
 
 -- the words of the signature when a run of the image has ended

@@ -11,6 +11,7 @@ use Rattle.rvs_insn.specs.Table.{row}
 use Rattle.rvs_insn.specs.Fields.{Fields}
 use Rattle.rvs_asm.specs.Bytes.{high, low}
 use Rattle.rvs_solver.specs.Choices.{ChoiceValue, fields_of}
+use Rattle.rvs_test.specs.declared.made.Claim.{Claim}
 use Rattle.rvs_test.specs.declared.statement.Name.{Name}
 use Rattle.rvs_test.specs.declared.statement.Name.TheVariants.{Start, Case, Target, Done, Halt, Scratch, Pattern, ToHost, BeginSignature, Slot, EndSignature}
 use Rattle.rvs_test.specs.declared.statement.Fixed.TheVariants.{NoRvc, NoRelax, ToText, Globl, ToData, Align, Zeros, FirstPattern, SecondPattern, Unset}
@@ -51,8 +52,14 @@ abbrev pub pointer : ChoiceValue → ℕ
 pointer c = unwrap_or (find (λ r. not (is_operand c r)) helpers) 0
 
 -- the second
+abbrev pub is_mark : ChoiceValue → ℕ → ℕ → Bool
+is_mark c p r = not (is_operand c r) && not (r == p)
+
+abbrev pub other_helper : ChoiceValue → ℕ → ℕ
+other_helper c p = unwrap_or (find (is_mark c p) helpers) 0
+
 abbrev pub marker : ChoiceValue → ℕ
-marker c = unwrap_or (find (λ r. not (is_operand c r) && not (r == pointer c)) helpers) 0
+marker c = other_helper c (pointer c)
 
 -- ---- the cases
 abbrev pub source : Option ℕ → ℕ → List Statement
@@ -69,11 +76,13 @@ plain_case k c =
 abbrev pub copy_word : ℕ → ℕ → ℕ → ℤ → List Statement
 copy_word p m k o = load_address p Scratch ++ Plain (lw m p o) ∷ (load_address p (Slot k) ++ Plain (sw m p o) ∷ [])
 
+abbrev pub clear_scratch : ℕ → List Statement
+clear_scratch p = load_address p Scratch ++ Plain (sw 0 p (pos 0)) ∷ Plain (sw 0 p (pos 4)) ∷ []
+
 -- a case of a store: scratch is cleared, and its two words are the outcome
 abbrev pub store_case : ℕ → ChoiceValue → List Statement
 store_case k c =
-    load_address (pointer c) Scratch ++ Plain (sw 0 (pointer c) (pos 0)) ∷ Plain (sw 0 (pointer c) (pos 4))
-    ∷ (source c.rs1 c.w1 ++ (source c.rs2 c.w2
+    clear_scratch (pointer c) ++ (source c.rs1 c.w1 ++ (source c.rs2 c.w2
     ++ (Label (Case k) ∷ Plain (fields_of c) ∷ (copy_word (pointer c) (marker c) k (pos 0) ++ copy_word (pointer c) (marker c) k (pos 4)))))
 
 -- minus a number
@@ -90,14 +99,17 @@ abbrev pub second_part : ℤ → ℤ
 second_part (pos n) = minus (n - n / 2)
 second_part (negsuc n) = pos (suc n - suc n / 2)
 
--- a case of jalr: rs1 gets the address of a label less the immediate, and the marker is 1
-abbrev pub jalr_case : ℕ → ChoiceValue → List Statement
-jalr_case k c =
+abbrev pub jalr_body : ℕ → ChoiceValue → ℕ → List Statement
+jalr_body k c m =
     load_address (unwrap_or c.rs1 0) (Target k)
     ++ Plain (addi (unwrap_or c.rs1 0) (unwrap_or c.rs1 0) (first_part (unwrap_or c.imm (pos 0))))
     ∷ Plain (addi (unwrap_or c.rs1 0) (unwrap_or c.rs1 0) (second_part (unwrap_or c.imm (pos 0))))
-    ∷ Plain (addi (marker c) 0 (pos 1)) ∷ Label (Case k) ∷ Plain (fields_of c)
-    ∷ Plain (addi (marker c) (marker c) (pos 2)) ∷ Label (Target k) ∷ save (pointer c) k (marker c) (unwrap_or c.rd 0)
+    ∷ Plain (addi m 0 (pos 1)) ∷ Label (Case k) ∷ Plain (fields_of c)
+    ∷ Plain (addi m m (pos 2)) ∷ Label (Target k) ∷ []
+
+-- a case of jalr: rs1 gets the address of a label less the immediate, and the marker is 1
+abbrev pub jalr_case : ℕ → ChoiceValue → List Statement
+jalr_case k c = jalr_body k c (marker c) ++ save (pointer c) k (marker c) (unwrap_or c.rd 0)
 
 abbrev pub jal : ℕ → Fields
 jal r = record { op = Jal; rd = Some r; rs1 = None; rs2 = None; imm = Some (pos 0) }
@@ -124,7 +136,21 @@ abbrev pub back_body : ℕ → ℕ → ℕ → List Statement
 back_body k m zero = To (jal 0) (Done k) ∷ []
 back_body k m (suc n) = Plain (addi m m (pos 2)) ∷ To (jal 0) (Done k) ∷ filler n
 
--- the frame forwards or backwards, and what comes behind it
+-- the frame of a jump forwards or backwards over so many words
+abbrev pub forward_frame : ℕ → ℕ → ℕ → Fields → List Statement
+forward_frame words k m j =
+    Plain (addi m 0 (pos 1)) ∷ Label (Case k) ∷ To j (Target k) ∷ (skip m words ++ Label (Target k) ∷ [])
+
+abbrev pub backward_frame : ℕ → ℕ → ℕ → Fields → List Statement
+backward_frame words k m j =
+    Plain (addi m 0 (pos 1)) ∷ To (jal 0) (Case k) ∷ Label (Target k)
+    ∷ (back_body k m words ++ Label (Case k) ∷ To j (Target k) ∷ Label (Done k) ∷ [])
+
+abbrev pub bare_frame : ℤ → ℕ → ℕ → Fields → List Statement
+bare_frame (pos n) k m j = forward_frame (between (pos n)) k m j
+bare_frame (negsuc n) k m j = backward_frame (between (negsuc n)) k m j
+
+-- the frame, and what comes behind it
 abbrev pub frame : ℤ → ℕ → ℕ → Fields → List Statement → List Statement
 frame (pos n) k m j rest =
     Plain (addi m 0 (pos 1)) ∷ Label (Case k) ∷ To j (Target k) ∷ (skip m (between (pos n)) ++ Label (Target k) ∷ rest)
@@ -252,15 +278,30 @@ abbrev pub claim_lines : ℕ → List Point → List (List ℕ)
 claim_lines k [] = []
 claim_lines k (p ∷ ps) = claim_line k p ∷ claim_lines (k + 1) ps
 
+-- the line of a claim, by what its point is called
+abbrev pub line_of_claim : (ℕ → Point) → Claim → List ℕ
+line_of_claim named c = claim_line c.case (named c.point)
+
+abbrev pub steps_line : ℕ → List ℕ
+steps_line steps = codes "#! steps " ++ decimal steps
+
+abbrev pub front : List ℕ → Isa → ℕ → List (List ℕ)
+front label isa steps =
+    codes "#! rvsuite test 1" ∷ (codes "#! label " ++ label) ∷ (codes "#! isa " ++ isa_name isa)
+    ∷ steps_line steps ∷ []
+
 abbrev pub header : List ℕ → Isa → ℕ → List Point → List (List ℕ)
-header label isa steps points =
-    codes "#! rvsuite test 1" ∷ (codes "#! label " ++ label) ∷ (codes "#! isa " ++ isa_name isa) ∷ (codes "#! steps " ++ decimal steps) ∷ claim_lines 0 points
+header label isa steps points = front label isa steps ++ claim_lines 0 points
 
 -- ---- the whole text
 -- each line with a line feed
 abbrev pub ended : List (List ℕ) → List ℕ
 ended [] = []
 ended (t ∷ ts) = t ++ 10 ∷ ended ts
+
+-- the text of statements
+unfoldable pub text_of : List Statement → List ℕ
+text_of ss = ended (map printed ss)
 
 abbrev pub text_lines : List ℕ → Isa → List Point → List Solved → List (List ℕ)
 text_lines label isa points cs = header label isa (step_limit cs) points ++ map printed (statements isa cs)

@@ -1,0 +1,14 @@
+use Rattle.std.proofs.Common.{take, arith}
+use Rattle.rvs_test.specs.TestText.{text_of}
+use Rattle.rvs_test.proofs.Grows.{begins_text, grows}
+use Rattle.rvs_test.proofs.Loops.{text_more}
+use Rattle.rvs_test.proofs.printing.push_statements.Goals as goal
+
+pub loop-statement-init : goal.loop-statement-init
+loop-statement-init c = begins_text c.args.out.now
+
+pub loop-statement-preserved : goal.loop-statement-preserved
+loop-statement-preserved c =
+    let i = c.loop-statement.statement-index in
+    grows c.args.out.now c.loop-statement.out c.push_statement.new.out (text_of (take i c.args.statements.now)) _ _ c.loop-statement.invariant c.in_ok-push_statement.ensures
+    (text_more c.args.statements.now i _ (omega arith))
