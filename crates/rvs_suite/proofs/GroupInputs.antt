@@ -57,7 +57,7 @@ finds-join : (files : Files) (front : Option (List ℕ)) (name : List ℕ) → F
 finds-join files front name = join-found files front name (files name)
 
 -- a piece of reading, and what follows from it
-finds-and_then : {A B : Type 0} (files : Files) (plan : Plan A) (next : A → Plan B) (found : Result A Stop) (after : A → Result B Stop) → Finds files plan found → ((a : A) → Finds files (next a) (after a)) → Finds files (plan >>= next) (and_then found after)
+pub finds-and_then : {A B : Type 0} (files : Files) (plan : Plan A) (next : A → Plan B) (found : Result A Stop) (after : A → Result B Stop) → Finds files plan found → ((a : A) → Finds files (next a) (after a)) → Finds files (plan >>= next) (and_then found after)
 finds-and_then files plan next (Ok a) after is later = finds-then files plan next (Ok a) (after a) is (later a)
 finds-and_then files plan next (Err stop) after is later = finds-then files plan next (Err stop) (Err stop) is refl
 

@@ -22,3 +22,5 @@ mod Answered
 mod Readers
 mod GroupInputs
 mod NormalizeEnds
+mod LogReads
+mod CoverageEnds

@@ -20,15 +20,17 @@ use Rattle.rvs_suite.specs.Validate.{print_said}
 use Rattle.rvs_suite.specs.Specification.{specification}
 use Rattle.rvs_suite.specs.GroupFiles.{group_inputs}
 use Rattle.rvs_suite.specs.Normalize.{print_normal}
+use Rattle.rvs_suite.specs.Coverage.{reported, print_report}
 use Rattle.rvs_suite.specs.Reference.{test_limit, trial, records, reference_on}
 use Rattle.rvs_suite.specs.TestRun.{accepted, test_found}
 use Rattle.rvs_suite.specs.Plans.{plan_of}
 use Rattle.rvs_suite.proofs.Ends.{was_refused, WasMissing, was_missing}
 use Rattle.rvs_suite.proofs.Readers.{OnlyReads, OnlyReads-then}
 use Rattle.rvs_suite.proofs.GroupInputs.{reads-specification, reads-inputs}
+use Rattle.rvs_suite.proofs.LogReads.{reads-reported}
 use Rattle.rvs_suite.proofs.Running.{Ran, answers}
 use Rattle.rvs_suite.specs.declared.command.Command.{Command}
-use Rattle.rvs_suite.specs.declared.command.Command.TheVariants.{Unknown, Compare, Validate, Normalize, Reference}
+use Rattle.rvs_suite.specs.declared.command.Command.TheVariants.{Unknown, Compare, Validate, Normalize, Reference, Coverage}
 use Rattle.rvs_suite.specs.declared.test_run.Run.{Run}
 
 -- a plan of deeds that doesn't stop
@@ -95,6 +97,9 @@ stops_untouched (Validate isa) =
 stops_untouched (Normalize isa names) =
     untouched-then (group_inputs isa names) print_normal (reads-inputs isa names) (λ inputs effects stop c goes.
     absurd (goes-on (print_normal inputs) effects stop tt goes))
+stops_untouched (Coverage isa names log windows) =
+    untouched-then (reported isa names log windows) print_report (reads-reported isa names log windows) (λ report effects stop c goes.
+    absurd (goes-on (print_report report) effects stop tt goes))
 stops_untouched (Reference isa test signature log steps) =
     untouched-then (specification isa) (λ said. reference_on test signature log steps said.spec) (reads-specification isa) (λ said.
     untouched-then (trial steps said.spec test) (records signature log) (reads-trial steps said.spec test) (λ run effects stop c goes.

@@ -1,9 +1,10 @@
 -- What the words of a command line ask for.
 use Rattle.std.specs.Prelude.{ℕ, ◌+◌, ◌*◌, ◌-◌, ◌&&◌, nat_le, if◌then◌else◌, List, [], ◌∷◌, length, bytes_eq, Option, Some, None, option_map, codes}
 use Rattle.rvs_suite.specs.Words.{is_positional, pairs_of, values_of, are_known, only, at_most_one}
+use Rattle.rvs_suite.specs.Windows.{windows_of}
 use Rattle.rvs_suite.specs.declared.words.Pair.{Pair}
 use Rattle.rvs_suite.specs.declared.command.Command.{Command}
-use Rattle.rvs_suite.specs.declared.command.Command.TheVariants.{Unknown, Compare, Validate, Normalize, Reference}
+use Rattle.rvs_suite.specs.declared.command.Command.TheVariants.{Unknown, Compare, Validate, Normalize, Reference, Coverage}
 
 -- two names of files
 abbrev pub compare_command : List (List ℕ) → Command
@@ -81,6 +82,24 @@ normalize_of pairs =
 abbrev pub normalize_command : List (List ℕ) → Command
 normalize_command words = given (pairs_of words) (λ pairs. if are_known normalize_options pairs then normalize_of pairs else Unknown)
 
+abbrev pub coverage_options : List (List ℕ)
+coverage_options = codes "--isa" ∷ codes "--cgf" ∷ codes "--log" ∷ codes "--window" ∷ []
+
+-- the name of the log, and the windows
+abbrev pub coverage_log : List ℕ → List (List ℕ) → List Pair → Command
+coverage_log isa groups pairs =
+    given (only (values_of (codes "--log") pairs)) (λ log.
+    given (windows_of (values_of (codes "--window") pairs)) (λ windows. Coverage isa groups log windows))
+
+-- the names of the ISA file, of the group files and of the log, and windows, which needn't stand
+abbrev pub coverage_of : List Pair → Command
+coverage_of pairs =
+    given (only (values_of (codes "--isa") pairs)) (λ isa.
+    given (some_of most_groups (values_of (codes "--cgf") pairs)) (λ groups. coverage_log isa groups pairs))
+
+abbrev pub coverage_command : List (List ℕ) → Command
+coverage_command words = given (pairs_of words) (λ pairs. if are_known coverage_options pairs then coverage_of pairs else Unknown)
+
 -- the command of this name, with the words behind it
 abbrev pub named_command : List ℕ → List (List ℕ) → Command
 named_command name words =
@@ -88,7 +107,8 @@ named_command name words =
     else (if bytes_eq name (codes "validate") then validate_command words
     else (if bytes_eq name (codes "normalize") then normalize_command words
     else (if bytes_eq name (codes "reference") then reference_command words
-    else Unknown)))
+    else (if bytes_eq name (codes "coverage") then coverage_command words
+    else Unknown))))
 
 -- the command of the words, the first of which is the program's own name
 abbrev pub command_of : List (List ℕ) → Command

@@ -24,3 +24,6 @@ pub mod Seen
 pub mod GroupsView
 pub mod Normalize
 pub mod Normalizing
+pub mod Windows
+pub mod Coverage
+pub mod Covering

@@ -9,10 +9,11 @@ use Rattle.rvs_plan.specs.declared.status.Finish.{Finish}
 use Rattle.rvs_suite.specs.Commands.{command_of}
 use Rattle.rvs_suite.specs.Compare as comparing
 use Rattle.rvs_suite.specs.Validate as validating
+use Rattle.rvs_suite.specs.Coverage as covering
 use Rattle.rvs_suite.specs.Normalize as normalizing
 use Rattle.rvs_suite.specs.Reference as running
 use Rattle.rvs_suite.specs.declared.command.Command.{Command}
-use Rattle.rvs_suite.specs.declared.command.Command.TheVariants.{Unknown, Compare, Validate, Normalize, Reference}
+use Rattle.rvs_suite.specs.declared.command.Command.TheVariants.{Unknown, Compare, Validate, Normalize, Reference, Coverage}
 
 -- the plan of a command
 abbrev pub plan_of : Command → Plan Finish
@@ -21,6 +22,7 @@ plan_of (Compare left right) = comparing.compare left right
 plan_of (Validate isa) = validating.validate isa
 plan_of (Normalize isa groups) = normalizing.normalize isa groups
 plan_of (Reference isa test signature log steps) = running.reference isa test signature log steps
+plan_of (Coverage isa groups log windows) = covering.coverage isa groups log windows
 
 -- the effects that the words of a command line mean, and the status that they lead to
 abbrev pub effects_of : List (List ℕ) → Plan Finish

@@ -3,11 +3,12 @@ ghost use Rattle.std.specs.Prelude.{◌≡◌, IfOk, codes};
 ghost use Rattle.rvs_suite.specs.Words.{texts, values_of, are_known};
 ghost use Rattle.rvs_suite.specs.Commands.{compare_command, validate_command, number_of, within_steps, steps_of, reference_options, reference_run, reference_of, reference_command, named_command, command_of};
 
-use crate::group_commands::read_normalize;
+use crate::group_commands::{read_coverage, read_normalize};
 use crate::words::{
     Pair, are_known, is_positional, only_value, optional_value, owned, read_pairs, values,
 };
 use rvs_base::{Items, NoMemory, Text};
+use rvs_count::Window;
 use std::alloc::Global;
 
 /// A command with what it is given.
@@ -40,6 +41,15 @@ pub enum Command {
         /// The greatest number of steps, 1 to 2,000,000, where one is given.
         steps: Option<u64>,
     },
+    /// Count which coverage points the instructions of a log hit.
+    Coverage {
+        isa: Text,
+        /// The group files, one to 64, in the order in which they are joined.
+        groups: Items<Text>,
+        log: Text,
+        /// The windows of addresses whose instructions are counted, up to 16; all where there are none.
+        windows: Items<Window>,
+    },
 }
 
 /// Reads the words of a command line, the first of which is the program's own name.
@@ -64,6 +74,7 @@ fn read_named(alloc: Global, name: &str, words: &[String]) -> Result<Command, No
         "validate" => read_validate(alloc, words),
         "normalize" => read_normalize(alloc, words),
         "reference" => read_reference(alloc, words),
+        "coverage" => read_coverage(alloc, words),
         _ => Ok(Command::Unknown),
     }
 }

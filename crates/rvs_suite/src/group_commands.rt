@@ -1,9 +1,10 @@
 // The command lines that name coverage group files.
 ghost use Rattle.std.specs.Prelude.{◌≡◌, IfOk, codes};
 ghost use Rattle.rvs_suite.specs.Words.{texts, values_of, are_known};
-ghost use Rattle.rvs_suite.specs.Commands.{some_of, most_groups, normalize_options, normalize_of, normalize_command};
+ghost use Rattle.rvs_suite.specs.Commands.{some_of, most_groups, normalize_options, normalize_of, normalize_command, coverage_options, coverage_log, coverage_of, coverage_command};
 
 use crate::command::Command;
+use crate::windows::read_windows;
 use crate::words::{Pair, are_known, only_value, read_pairs, values};
 use rvs_base::{Items, NoMemory, Text};
 use std::alloc::Global;
@@ -56,4 +57,61 @@ fn group_files(alloc: Global, pairs: &[Pair]) -> Result<Option<Items<Text>>, NoM
     } else {
         Ok(None)
     }
+}
+
+/// Reads the words behind `coverage`.
+///
+/// # Errors
+///
+/// [`NoMemory`].
+pub fn read_coverage(alloc: Global, words: &[String]) -> Result<Command, NoMemory>
+    ensures { IfOk result (λ command. command ≡ coverage_command (texts words.now)) }
+{
+    match read_pairs(alloc, words)? {
+        Some(pairs) if are_of_coverage(pairs.as_slice()) => {
+            read_counted(alloc, pairs.as_slice())
+        },
+        _ => Ok(Command::Unknown),
+    }
+}
+
+fn are_of_coverage(pairs: &[Pair]) -> bool
+    ensures { result ≡ are_known coverage_options pairs.now }
+{
+    are_known(pairs, &["--isa", "--cgf", "--log", "--window"])
+}
+
+fn read_counted(alloc: Global, pairs: &[Pair]) -> Result<Command, NoMemory>
+    ensures { IfOk result (λ command. command ≡ coverage_of pairs.now) }
+{
+    let Some(isa) = only_value(alloc, pairs, "--isa")? else {
+        return Ok(Command::Unknown);
+    };
+    let Some(groups) = group_files(alloc, pairs)? else {
+        return Ok(Command::Unknown);
+    };
+    read_log(alloc, isa, groups, pairs)
+}
+
+fn read_log(
+    alloc: Global,
+    isa: Text,
+    groups: Items<Text>,
+    pairs: &[Pair],
+) -> Result<Command, NoMemory>
+    ensures { IfOk result (λ command. command ≡ coverage_log isa groups pairs.now) }
+{
+    let Some(log) = only_value(alloc, pairs, "--log")? else {
+        return Ok(Command::Unknown);
+    };
+    let texts = values(alloc, pairs, "--window")?;
+    let Some(windows) = read_windows(alloc, texts.as_slice())? else {
+        return Ok(Command::Unknown);
+    };
+    Ok(Command::Coverage {
+        isa,
+        groups,
+        log,
+        windows,
+    })
 }

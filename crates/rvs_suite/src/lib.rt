@@ -3,6 +3,7 @@
 
 mod command;
 mod comparing;
+mod covering;
 mod group_commands;
 mod group_files;
 mod isa_file;
@@ -17,6 +18,7 @@ mod test_run;
 mod tests;
 mod texts;
 mod validating;
+mod windows;
 mod words;
 
 pub use command::Command;

@@ -3,6 +3,8 @@ use Rattle.rvs_plan.specs.World.{world}
 use Rattle.rvs_plan.specs.Meets.{Meets}
 use Rattle.rvs_suite.specs.Compare.{compare}
 use Rattle.rvs_suite.specs.Validate.{validate}
+use Rattle.rvs_count.specs.declared.window.Window.{Window}
+use Rattle.rvs_suite.specs.Coverage.{coverage}
 use Rattle.rvs_suite.specs.Normalize.{normalize}
 use Rattle.rvs_suite.specs.Reference.{reference}
 use Rattle.rvs_suite.proofs.Running.{Performs-meets, Performs-unknown}
@@ -52,3 +54,18 @@ returns-in-Reference g c =
     let two = subst (λ (test : List ℕ). Meets (reference c.in-Reference.isa test c.as_str-in-Reference-3.result.now log steps) old new result) t one in
     let met = subst (λ (signature : List ℕ). Meets (reference c.in-Reference.isa c.in-Reference.test signature log steps) old new result) s two in
     rw c.in-Reference.is (Performs-meets (λ is. cc) met)
+
+pub returns-in-Coverage : goal.returns-in-Coverage
+returns-in-Coverage g c =
+    let i : c.as_str-in-Coverage.result.now ≡ c.in-Coverage.isa = c.as_str-in-Coverage.ensures in
+    let n : c.as_slice-in-Coverage.result.now ≡ c.in-Coverage.groups = c.as_slice-in-Coverage.ensures in
+    let l : c.as_str-in-Coverage-2.result.now ≡ c.in-Coverage.log = c.as_str-in-Coverage-2.ensures in
+    let w : c.as_slice-in-Coverage-2.result.now ≡ c.in-Coverage.windows = c.as_slice-in-Coverage-2.ensures in
+    let old = world (g.H.Host.state c.args.host.now) (g.O.Sink.state c.args.out.now) in
+    let new = world (g.H.Host.state c.cover_log.new.host) (g.O.Sink.state c.cover_log.new.out) in
+    let result = c.cover_log.result in
+    let one = subst (λ (isa : List ℕ). Meets (coverage isa c.as_slice-in-Coverage.result.now c.as_str-in-Coverage-2.result.now c.as_slice-in-Coverage-2.result.now) old new result) i c.cover_log.ensures in
+    let two = subst (λ (names : List (List ℕ)). Meets (coverage c.in-Coverage.isa names c.as_str-in-Coverage-2.result.now c.as_slice-in-Coverage-2.result.now) old new result) n one in
+    let three = subst (λ (log : List ℕ). Meets (coverage c.in-Coverage.isa c.in-Coverage.groups log c.as_slice-in-Coverage-2.result.now) old new result) l two in
+    let met = subst (λ (windows : List Window). Meets (coverage c.in-Coverage.isa c.in-Coverage.groups c.in-Coverage.log windows) old new result) w three in
+    rw c.in-Coverage.is (Performs-meets (λ is. cc) met)

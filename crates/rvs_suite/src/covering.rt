@@ -1,0 +1,115 @@
+// The command `coverage`.
+ghost use Rattle.std.specs.Prelude.{◌≡◌, ℕ, List, IfOk};
+ghost use Rattle.rvs_base.specs.Host.{HostState};
+ghost use Rattle.rvs_base.specs.Sink.{SinkState};
+ghost use Rattle.rvs_plan.specs.World.{world};
+ghost use Rattle.rvs_plan.specs.Plan.{Asks, Ends};
+ghost use Rattle.rvs_plan.specs.Meets.{Meets};
+ghost use Rattle.rvs_cgf.specs.declared.group.Label.{Label};
+ghost use Rattle.rvs_count.specs.State.{state_of};
+ghost use Rattle.rvs_count.specs.declared.window.Window.{Window as Span};
+ghost use Rattle.rvs_suite.specs.GroupsView.{groups_view};
+ghost use Rattle.rvs_suite.specs.Coverage.{report_on, report_found, reported, print_report, coverage};
+
+use crate::group_files::read_inputs;
+use crate::words::owned;
+use rvs_base::{Host, Items, NoMemory, Sink, Text};
+use rvs_cgf::Groups;
+use rvs_count::{Counter, LogFault, Window, count_file};
+use rvs_plan::{Finish, Stop, print, too_long};
+use std::alloc::Global;
+
+/// The greatest length of a log in bytes: 2^40.
+const LOG_LIMIT: u64 = 1 << 40;
+
+/// Counts which points of coverage groups the instructions of a log hit, and puts the report. Where
+/// windows are given, the instructions in them alone are counted. The log is read in one pass, in
+/// memory that doesn't depend on its length.
+///
+/// # Errors
+///
+/// [`Stop`]; nothing is put before the log has been read to its end.
+pub fn cover_log<H: Host, O: Sink>(
+    alloc: Global,
+    isa: &str,
+    names: &[Text],
+    log: &str,
+    windows: &[Window],
+    host: &mut H,
+    out: &mut O,
+) -> Result<Finish, Stop>
+    ensures {
+        Meets (coverage isa.now names.now log.now windows.now)
+            (world (H.state host.old) (O.state out.old))
+            (world (H.state host.new) (O.state out.new)) result
+    }
+{
+    let report = read_report(alloc, host, isa, names, log, windows)?;
+    print_report(&report, out)
+}
+
+fn print_report<O: Sink>(report: &Text, out: &mut O) -> Result<Finish, Stop>
+    ensures {
+        (host : HostState) → Meets (print_report report.now)
+            (world host (O.state out.old)) (world host (O.state out.new)) result
+    }
+{
+    print(out, report.as_str().as_bytes())?;
+    Ok(Finish::Done)
+}
+
+/// Reads all files, and makes the report.
+fn read_report<H: Host>(
+    alloc: Global,
+    host: &mut H,
+    isa: &str,
+    names: &[Text],
+    log: &str,
+    windows: &[Window],
+) -> Result<Text, Stop>
+    ensures {
+        (out : SinkState) → Meets (reported isa.now names.now log.now windows.now)
+            (world (H.state host.old) out) (world (H.state host.new) out) result
+    }
+{
+    let inputs = read_inputs(alloc, host, isa, names)?;
+    count_named(alloc, host, &inputs.groups, windows, log)
+}
+
+/// Counts in the named log, and makes the report.
+fn count_named<H: Host>(
+    alloc: Global,
+    host: &mut H,
+    groups: &Groups,
+    windows: &[Window],
+    log: &str,
+) -> Result<Text, Stop>
+    ensures {
+        (out : SinkState) → Meets
+            (Asks log.now (λ found. Ends (report_found (groups_view groups.now) windows.now log.now found)))
+            (world (H.state host.old) out) (world (H.state host.new) out) result
+    }
+{
+    let name = owned(alloc, log)?;
+    let windows = Items::from(windows.to_vec(alloc)?);
+    let mut counter = Counter::new(alloc, groups, windows)?;
+    match count_file(host, log, &mut counter) {
+        Ok(()) => Ok(report_at_end(alloc, counter)?),
+        Err(LogFault::NoFile) => Err(Stop::NoFile(name)),
+        Err(LogFault::Failed) => Err(Stop::CannotRead(name)),
+        Err(LogFault::TooLong) => Err(Stop::Refused(too_long(alloc, log, LOG_LIMIT)?)),
+    }
+}
+
+/// The report of a counter at the end of its log.
+fn report_at_end(alloc: Global, counter: Counter<'_>) -> Result<Text, NoMemory>
+    ensures {
+        IfOk result (λ text. (labels : List Label) (windows : List Span) (bytes : List ℕ) (n : ℕ)
+            → counter ≡ state_of labels windows bytes n
+            → text ≡ report_on (groups_view labels) windows bytes)
+    }
+{
+    let mut counter = counter;
+    counter.finish();
+    counter.report(alloc)
+}
