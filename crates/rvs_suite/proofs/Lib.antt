@@ -24,3 +24,4 @@ mod GroupInputs
 mod NormalizeEnds
 mod LogReads
 mod CoverageEnds
+mod Lines

@@ -20,6 +20,7 @@ use Rattle.rvs_suite.specs.Causes as causes
 use Rattle.rvs_suite.proofs.Running.{Ran, answers, answered, completes, usage, no_command, compare-passes, compare-fails, compare-spelt, compare-refused, compare-refuses, compare-missed, compare-misses}
 use Rattle.rvs_suite.proofs.ValidateRuns.{validate-done, validate-no_verdict, validate-refused, validate-missed, validate-accepts, validate-refuses, validate-misses}
 use Rattle.rvs_suite.proofs.ReferenceRuns.{reference-done, reference-halts, reference-no_verdict, reference-refused, reference-refuses, reference-missed, reference-misses}
+use Rattle.rvs_suite.proofs.Lines.{says-usage, says-no_memory, says-refused, says-host, says-nothing}
 use Rattle.rvs_suite.proofs.Untouched.{untouched, untouched-absent}
 use Rattle.rvs_suite.proofs.Keeping.{compare-keeps, validate-keeps}
 use Rattle.rvs_suite.proofs.Sparing.{reference-spares}
@@ -44,7 +45,7 @@ planned-promise r files t =
     }
 
 pub causes-promise : {call : Call} → RanCall call → causes.Promise call
-causes-promise r =
+causes-promise {call} r =
     record {
       usage = usage r.ran;
       by_words = no_command r.ran;
@@ -52,6 +53,11 @@ causes-promise r =
       sink_fault = (answers r.ran).sink_fault;
       unfaulted = (answers r.ran).unfaulted;
       missing = (answers r.ran).missing;
+      line_usage = says-usage call.status call.old.err call.new.err r.ran.result r.ran.concludes;
+      line_no_memory = says-no_memory call.status call.old.err call.new.err r.ran.result r.ran.concludes;
+      line_refused = says-refused call.status call.old.err call.new.err r.ran.result r.ran.concludes;
+      line_host_fault = says-host call.status call.old.err call.new.err r.ran.result r.ran.concludes;
+      quiet = says-nothing call.status call.old.err call.new.err r.ran.result r.ran.concludes;
       later = (answers r.ran).later;
       errors_later = (answers r.ran).errors_later;
     }

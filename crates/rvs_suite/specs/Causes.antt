@@ -1,12 +1,22 @@
 -- What every call promises of its answer, over any host and any sinks.
-use Rattle.std.specs.Prelude.{◌≡◌, ◌≢◌, ◌⊎◌, true, false}
+use Rattle.std.specs.Prelude.{◌≡◌, ◌≢◌, ◌⊎◌, true, false, List, ℕ, [], codes}
 use Rattle.rvs_base.specs.Faults.{Rose}
 use Rattle.rvs_base.specs.Host.{is_told}
 use Rattle.rvs_plan.specs.World.{Later, LaterSink}
-use Rattle.rvs_plan.specs.Account.{NoneChanged}
+use Rattle.rvs_base.specs.Sink.{appended}
+use Rattle.rvs_plan.specs.Account.{NoneChanged, fault_line}
 use Rattle.rvs_plan.specs.declared.status.Status.TheVariants as answer
 use Rattle.rvs_suite.specs.Call.{Call, world_of, Asks, HostRose}
 use Rattle.rvs_suite.specs.declared.command.Command.TheVariants.{Unknown}
+
+-- the sink for errors has this line more
+abbrev pub HasLine : Call → List ℕ → List ℕ → Type 0
+HasLine call what which = call.new.err.bytes ≡ appended call.old.err.bytes (fault_line what which)
+
+-- the line of a host fault names a file, or the test file of a device run
+abbrev pub HasHostLine : Call → Type 0
+HasHostLine call = (name : List ℕ) × (HasLine call (codes "no file ") name ⊎ HasLine call (codes "cannot read ") name
+    ⊎ HasLine call (codes "cannot write ") name ⊎ HasLine call (codes "cannot run ") name)
 
 pub record Promise (call : Call) : Type 0 where
   -- it says how it is used where its words are no command
@@ -21,3 +31,9 @@ pub record Promise (call : Call) : Type 0 where
   -- no count falls, and what was told is told
   pub later : Later (world_of call.old) (world_of call.new)
   pub errors_later : LaterSink call.old.err call.new.err
+  -- the one line that each answer has, and no other
+  pub line_usage : call.status ≡ answer.Usage → HasLine call (codes "usage: rvsuite <command> <options>") []
+  pub line_no_memory : call.status ≡ answer.NoMemory → HasLine call (codes "out of memory") []
+  pub line_refused : call.status ≡ answer.Refused → (text : List ℕ) × HasLine call text []
+  pub line_host_fault : call.status ≡ answer.HostFault → HasHostLine call
+  pub quiet : (call.status ≡ answer.Done) ⊎ (call.status ≡ answer.NotPassed) → call.new.err ≡ call.old.err

@@ -1,0 +1,122 @@
+-- The line on the sink for errors, by the status.
+use Rattle.std.proofs.Common.{◌≡◌, ◌≢◌, ◌⊎◌, inl, inr, ℕ, List, [], Result, Ok, Err, refl, sym, ap, codes, ◌∙◌}
+use Rattle.rvs_base.specs.Sink.{SinkState, appended}
+use Rattle.rvs_plan.specs.Account.{status_of, finish_status, line_of, fault_line, Concludes}
+use Rattle.rvs_plan.specs.declared.stop.Stop.{Stop}
+use Rattle.rvs_plan.specs.declared.stop.Stop.TheVariants as why
+use Rattle.rvs_plan.specs.declared.status.Status.{Status}
+use Rattle.rvs_plan.specs.declared.status.Status.TheVariants as answer
+use Rattle.rvs_plan.specs.declared.status.Finish.{Finish}
+use Rattle.rvs_plan.specs.declared.status.Finish.TheVariants.{Done, NotPassed}
+
+-- a stop of this status, whose line was put
+pub record Stopped (wanted : Status) (err err' : SinkState) : Type 0 where
+  pub reason : Stop
+  pub is : status_of reason ≡ wanted
+  pub line : err'.bytes ≡ appended err.bytes (line_of reason)
+
+pub stopped : (status wanted : Status) (err err' : SinkState) (result : Result Finish Stop) → Concludes result status err err' → status ≡ wanted → wanted ≢ answer.Done → wanted ≢ answer.NotPassed → wanted ≢ answer.SinkFault → Stopped wanted err err'
+stopped status wanted err err' (Ok Done) c is done not_passed sink = absurd (done (sym is ∙ c.0))
+stopped status wanted err err' (Ok NotPassed) c is done not_passed sink = absurd (not_passed (sym is ∙ c.0))
+stopped status wanted err err' (Err reason) c is done not_passed sink = elim c.outcome [
+  | inl whole ↦ record { reason = reason; is = sym whole.0 ∙ is; line = whole.1 }
+  | inr lost ↦ absurd (sink (sym is ∙ lost.0))
+]
+
+usage-line : (reason : Stop) → status_of reason ≡ answer.Usage → line_of reason ≡ line_of why.Usage
+usage-line why.Usage e = refl
+usage-line (why.Refused text) e = absurd cc
+usage-line (why.NoFile name) e = absurd cc
+usage-line (why.CannotRead name) e = absurd cc
+usage-line (why.CannotWrite name) e = absurd cc
+usage-line (why.CannotRun test) e = absurd cc
+usage-line why.NoMemory e = absurd cc
+usage-line why.SinkFault e = absurd cc
+
+memory-line : (reason : Stop) → status_of reason ≡ answer.NoMemory → line_of reason ≡ line_of why.NoMemory
+memory-line why.Usage e = absurd cc
+memory-line (why.Refused text) e = absurd cc
+memory-line (why.NoFile name) e = absurd cc
+memory-line (why.CannotRead name) e = absurd cc
+memory-line (why.CannotWrite name) e = absurd cc
+memory-line (why.CannotRun test) e = absurd cc
+memory-line why.NoMemory e = refl
+memory-line why.SinkFault e = absurd cc
+
+refused-line : (reason : Stop) → status_of reason ≡ answer.Refused → (text : List ℕ) × (line_of reason ≡ fault_line text [])
+refused-line why.Usage e = absurd cc
+refused-line (why.Refused text) e = (text, refl)
+refused-line (why.NoFile name) e = absurd cc
+refused-line (why.CannotRead name) e = absurd cc
+refused-line (why.CannotWrite name) e = absurd cc
+refused-line (why.CannotRun test) e = absurd cc
+refused-line why.NoMemory e = absurd cc
+refused-line why.SinkFault e = absurd cc
+
+-- a line that names a file
+abbrev Names : List ℕ → List ℕ → Type 0
+Names line name = (line ≡ fault_line (codes "no file ") name) ⊎ (line ≡ fault_line (codes "cannot read ") name) ⊎ (line ≡ fault_line (codes "cannot write ") name) ⊎ (line ≡ fault_line (codes "cannot run ") name)
+
+host-line : (reason : Stop) → status_of reason ≡ answer.HostFault → (name : List ℕ) × Names (line_of reason) name
+host-line why.Usage e = absurd cc
+host-line (why.Refused text) e = absurd cc
+host-line (why.NoFile name) e = (name, inl refl)
+host-line (why.CannotRead name) e = (name, inr (inl refl))
+host-line (why.CannotWrite name) e = (name, inr (inr (inl refl)))
+host-line (why.CannotRun test) e = (test, inr (inr (inr refl)))
+host-line why.NoMemory e = absurd cc
+host-line why.SinkFault e = absurd cc
+
+-- ---- what each status says
+pub says-usage : (status : Status) (err err' : SinkState) (result : Result Finish Stop) → Concludes result status err err' → status ≡ answer.Usage → err'.bytes ≡ appended err.bytes (fault_line (codes "usage: rvsuite <command> <options>") [])
+says-usage status err err' result c is = let s = stopped status answer.Usage err err' result c is (λ e. cc) (λ e. cc) (λ e. cc) in s.line ∙ ap (appended err.bytes) (usage-line s.reason s.is)
+
+pub says-no_memory : (status : Status) (err err' : SinkState) (result : Result Finish Stop) → Concludes result status err err' → status ≡ answer.NoMemory → err'.bytes ≡ appended err.bytes (fault_line (codes "out of memory") [])
+says-no_memory status err err' result c is = let s = stopped status answer.NoMemory err err' result c is (λ e. cc) (λ e. cc) (λ e. cc) in s.line ∙ ap (appended err.bytes) (memory-line s.reason s.is)
+
+pub says-refused : (status : Status) (err err' : SinkState) (result : Result Finish Stop) → Concludes result status err err' → status ≡ answer.Refused → (text : List ℕ) × (err'.bytes ≡ appended err.bytes (fault_line text []))
+says-refused status err err' result c is =
+    let s = stopped status answer.Refused err err' result c is (λ e. cc) (λ e. cc) (λ e. cc) in
+    let line = refused-line s.reason s.is in
+    (line.0, s.line ∙ ap (appended err.bytes) line.1)
+
+pub says-host : (status : Status) (err err' : SinkState) (result : Result Finish Stop) → Concludes result status err err' → status ≡ answer.HostFault
+    → (name : List ℕ) × ((err'.bytes ≡ appended err.bytes (fault_line (codes "no file ") name)) ⊎ (err'.bytes ≡ appended err.bytes (fault_line (codes "cannot read ") name)) ⊎ (err'.bytes ≡ appended err.bytes (fault_line (codes "cannot write ") name)) ⊎ (err'.bytes ≡ appended err.bytes (fault_line (codes "cannot run ") name)))
+says-host status err err' result c is =
+    let s = stopped status answer.HostFault err err' result c is (λ e. cc) (λ e. cc) (λ e. cc) in
+    let line = host-line s.reason s.is in
+    (line.0, elim line.1 [
+      | inl absent ↦ inl (s.line ∙ ap (appended err.bytes) absent)
+      | inr more ↦ elim more [
+        | inl read ↦ inr (inl (s.line ∙ ap (appended err.bytes) read))
+        | inr most ↦ elim most [
+          | inl write ↦ inr (inr (inl (s.line ∙ ap (appended err.bytes) write)))
+          | inr run ↦ inr (inr (inr (s.line ∙ ap (appended err.bytes) run)))
+        ]
+      ]
+    ])
+
+unsaid : (end : Status) → (end ≡ answer.Done) ⊎ (end ≡ answer.NotPassed) → end ≡ answer.SinkFault → ⊥
+unsaid end (inl done) e = let both : answer.Done ≡ answer.SinkFault = sym done ∙ e in cc
+unsaid end (inr failed) e = let both : answer.NotPassed ≡ answer.SinkFault = sym failed ∙ e in cc
+
+not-stopped : (reason : Stop) (end : Status) → (end ≡ answer.Done) ⊎ (end ≡ answer.NotPassed) → end ≡ status_of reason → ⊥
+not-stopped why.Usage end (inl d) e = let both : answer.Done ≡ answer.Usage = sym d ∙ e in cc
+not-stopped why.Usage end (inr d) e = let both : answer.NotPassed ≡ answer.Usage = sym d ∙ e in cc
+not-stopped (why.Refused text) end (inl d) e = let both : answer.Done ≡ answer.Refused = sym d ∙ e in cc
+not-stopped (why.Refused text) end (inr d) e = let both : answer.NotPassed ≡ answer.Refused = sym d ∙ e in cc
+not-stopped (why.NoFile name) end (inl d) e = let both : answer.Done ≡ answer.HostFault = sym d ∙ e in cc
+not-stopped (why.NoFile name) end (inr d) e = let both : answer.NotPassed ≡ answer.HostFault = sym d ∙ e in cc
+not-stopped (why.CannotRead name) end (inl d) e = let both : answer.Done ≡ answer.HostFault = sym d ∙ e in cc
+not-stopped (why.CannotRead name) end (inr d) e = let both : answer.NotPassed ≡ answer.HostFault = sym d ∙ e in cc
+not-stopped (why.CannotWrite name) end (inl d) e = let both : answer.Done ≡ answer.HostFault = sym d ∙ e in cc
+not-stopped (why.CannotWrite name) end (inr d) e = let both : answer.NotPassed ≡ answer.HostFault = sym d ∙ e in cc
+not-stopped (why.CannotRun test) end (inl d) e = let both : answer.Done ≡ answer.HostFault = sym d ∙ e in cc
+not-stopped (why.CannotRun test) end (inr d) e = let both : answer.NotPassed ≡ answer.HostFault = sym d ∙ e in cc
+not-stopped why.NoMemory end (inl d) e = let both : answer.Done ≡ answer.NoMemory = sym d ∙ e in cc
+not-stopped why.NoMemory end (inr d) e = let both : answer.NotPassed ≡ answer.NoMemory = sym d ∙ e in cc
+not-stopped why.SinkFault end d e = unsaid end d e
+
+pub says-nothing : (status : Status) (err err' : SinkState) (result : Result Finish Stop) → Concludes result status err err' → (status ≡ answer.Done) ⊎ (status ≡ answer.NotPassed) → err' ≡ err
+says-nothing status err err' (Ok end) c is = c.1
+says-nothing status err err' (Err reason) c is = elim c.outcome [ inl whole ↦ absurd (not-stopped reason status is whole.0) | inr lost ↦ absurd (unsaid status is lost.0) ]
