@@ -6,6 +6,8 @@ mod comparing;
 mod covering;
 mod group_commands;
 mod group_files;
+#[cfg(test)]
+mod group_tests;
 mod isa_file;
 mod normalizing;
 mod reference;
