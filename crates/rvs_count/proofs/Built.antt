@@ -1,6 +1,9 @@
 -- The lists are built label by label.
-use Rattle.std.proofs.Common.{◌≡◌, ℕ, zero, suc, ◌+◌, ◌<◌, Bool, true, false, cond, List, [], ◌∷◌, ◌++◌, refl, sym, ap, ◌∙◌, length, drop, get_or, replicate, arith, append_assoc, length-append}
-use Rattle.std.proofs.lemmas.List.{length-map, map-append}
+use Rattle.std.proofs.Common.{◌≡◌, ℕ, zero, suc, ◌+◌, ◌/◌, ◌%◌, ◌<◌, ◌≤◌, ◌⊎◌, inl, inr, Bool, true, false, cond, ◌&&◌, subst, List, [], ◌∷◌, ◌++◌, refl, sym, ap, ◌∙◌, length, drop, get_or, replicate, arith, append_assoc, length-append}
+use Rattle.std.proofs.lemmas.Bool.{cases_lt}
+use Rattle.std.proofs.lemmas.List.{length-map, get_or_at, get_or_append_left}
+use Rattle.std.specs.Prelude.{◌==◌}
+use Rattle.rvs_count.specs.Buckets.{bucket_of}
 use Rattle.std.specs.Prelude.{map}
 use Rattle.rvs_cgf.specs.Groups as group
 use Rattle.rvs_cgf.specs.GroupView.{label_view, point_view}
@@ -8,7 +11,7 @@ use Rattle.rvs_cgf.specs.declared.group.Label.{Label}
 use Rattle.rvs_cgf.specs.declared.group.Point.{Point}
 use Rattle.rvs_insn.specs.declared.op.Op.{Op}
 use Rattle.rvs_count.specs.Counting.{Aim, count, aims_in, aims_of_label, aims_of_points}
-use Rattle.rvs_count.specs.Index.{Place, place_of, places, has_number, is_for, places_for, places_from, index_of}
+use Rattle.rvs_count.specs.Index.{Place, places, has_number, is_for, places_for, places_in, IsIndex}
 use Rattle.rvs_count.specs.State.{Tallied, tally_of}
 use Rattle.rvs_count.specs.declared.slots.Slot.{Slot}
 use Rattle.rvs_count.specs.declared.window.Window.{Window}
@@ -44,25 +47,26 @@ zeros_more labels counts counts' k d h e =
     ∙ ap (λ n. counts ++ replicate n 0) (sym (ap (λ l. length l) (aims_more labels k d h) ∙ length-append here rest))
 
 -- the points of a label, where it has the mnemonic and where it doesn't
-places_has : (n : ℕ) (ops : List Op) (at : ℕ) (points : List group.Point) → has_number n ops ≡ true
-    → places_for (is_for n) at (aims_of_points ops points) ≡ places_from at points
-places_has n ops at [] h = refl
-places_has n ops at (p ∷ ps) h =
-    ap (λ b. elim b as (λ _. List Place) [
-      | true ↦ (p, at) ∷ places_for (is_for n) (at + 1) (aims_of_points ops ps)
-      | false ↦ places_for (is_for n) (at + 1) (aims_of_points ops ps)
+places_has : (key : ℕ) (ops : List Op) (at : ℕ) (points : List group.Point) → has_number (key / 365) ops ≡ true
+    → places_for (is_for key) at (aims_of_points ops points) ≡ places_in (key % 365) at points
+places_has key ops at [] h = refl
+places_has key ops at (p ∷ ps) h =
+    ap (λ b. elim (b && (bucket_of p == key % 365)) as (λ _. List Place) [
+      | true ↦ (p, at) ∷ places_for (is_for key) (at + 1) (aims_of_points ops ps)
+      | false ↦ places_for (is_for key) (at + 1) (aims_of_points ops ps)
     ]) h
-    ∙ ap (λ l. (p, at) ∷ l) (places_has n ops (at + 1) ps h)
+    ∙ ap (λ l. elim (bucket_of p == key % 365) as (λ _. List Place) [ true ↦ (p, at) ∷ l | false ↦ l ])
+    (places_has key ops (at + 1) ps h)
 
-places_lacks : (n : ℕ) (ops : List Op) (at : ℕ) (points : List group.Point) → has_number n ops ≡ false
-    → places_for (is_for n) at (aims_of_points ops points) ≡ []
-places_lacks n ops at [] h = refl
-places_lacks n ops at (p ∷ ps) h =
-    ap (λ b. elim b as (λ _. List Place) [
-      | true ↦ (p, at) ∷ places_for (is_for n) (at + 1) (aims_of_points ops ps)
-      | false ↦ places_for (is_for n) (at + 1) (aims_of_points ops ps)
+places_lacks : (key : ℕ) (ops : List Op) (at : ℕ) (points : List group.Point) → has_number (key / 365) ops ≡ false
+    → places_for (is_for key) at (aims_of_points ops points) ≡ []
+places_lacks key ops at [] h = refl
+places_lacks key ops at (p ∷ ps) h =
+    ap (λ b. elim (b && (bucket_of p == key % 365)) as (λ _. List Place) [
+      | true ↦ (p, at) ∷ places_for (is_for key) (at + 1) (aims_of_points ops ps)
+      | false ↦ places_for (is_for key) (at + 1) (aims_of_points ops ps)
     ]) h
-    ∙ places_lacks n ops (at + 1) ps h
+    ∙ places_lacks key ops (at + 1) ps h
 
 places-append : (passes : Aim → Bool) (at m : ℕ) (xs ys : List Aim) → m ≡ at + length xs
     → places_for passes at (xs ++ ys) ≡ places_for passes at xs ++ places_for passes m ys
@@ -98,46 +102,52 @@ slots_more passes labels slots slots' k first next d h e n =
     ∙ ap (λ l. places slots ++ l) (sym (places-append passes first next here rest n))
     ∙ ap (λ l. places slots ++ places_for passes first l) (sym (aims_more labels k d h))
 
-from_more : (points : List Point) (k at : ℕ) (d : Point) → k < length points
-    → places_from at (map point_view (drop k points))
-    ≡ (point_view (get_or points k d), at) ∷ places_from (at + 1) (map point_view (drop (k + 1) points))
-from_more [] k at d h = absurd (omega arith)
-from_more (p ∷ ps) zero at d h = refl
-from_more (p ∷ ps) (suc k) at d h =
+-- the next point
+in_more : (bucket : ℕ) (points : List Point) (k at : ℕ) (d : Point) → k < length points
+    → places_in bucket at (map point_view (drop k points))
+    ≡ places_in bucket at (point_view (get_or points k d) ∷ []) ++ places_in bucket (at + 1) (map point_view (drop (k + 1) points))
+in_more bucket [] k at d h = absurd (omega arith)
+in_more bucket (p ∷ ps) zero at d h = turn (bucket_of (point_view p) == bucket)
+  where
+    rest : List Place
+    rest = places_in bucket (at + 1) (map point_view ps)
+
+    turn : (b : Bool) → (elim b as (λ _. List Place) [ true ↦ (point_view p, at) ∷ places_in bucket (at + 1) (map point_view ps) | false ↦ places_in bucket (at + 1) (map point_view ps) ])
+        ≡ (elim b as (λ _. List Place) [ true ↦ (point_view p, at) ∷ [] | false ↦ [] ]) ++ places_in bucket (at + 1) (map point_view ps)
+    turn true = refl
+    turn false = refl
+in_more bucket (p ∷ ps) (suc k) at d h =
     let e : suc k + 1 ≡ suc (k + 1) = omega arith in
-    from_more ps k at d (omega arith)
-    ∙ ap (λ n. (point_view (get_or ps k d), at) ∷ places_from (at + 1) (map point_view (drop n (p ∷ ps)))) (sym e)
+    in_more bucket ps k at d (omega arith)
+    ∙ ap (λ n. places_in bucket at (point_view (get_or ps k d) ∷ []) ++ places_in bucket (at + 1) (map point_view (drop n (p ∷ ps)))) (sym e)
 
 -- one more point
-pub points_more : (points : List Point) (slots slots' : List Slot) (s : Slot) (k at : ℕ) (d : Point)
-    → k < length points → slots' ≡ slots ++ s ∷ [] → s.point.now ≡ get_or points k d → s.at ≡ at
-    → places slots' ++ places_from (at + 1) (map point_view (drop (k + 1) points))
-    ≡ places slots ++ places_from at (map point_view (drop k points))
-points_more points slots slots' s k at d h e m a =
-    let rest = places_from (at + 1) (map point_view (drop (k + 1) points)) in
-    ap (λ l. places l ++ rest) e
-    ∙ ap (λ l. l ++ rest) (map-append place_of slots (s ∷ []))
-    ∙ append_assoc (places slots) (place_of s ∷ []) rest
-    ∙ ap (λ n. places slots ++ (point_view s.point.now, n) ∷ rest) a
-    ∙ ap (λ x. places slots ++ (point_view x, at) ∷ rest) m
-    ∙ ap (λ l. places slots ++ l) (sym (from_more points k at d h))
+pub points_more : (bucket : ℕ) (points : List Point) (slots slots' : List Slot) (k at : ℕ) (d : Point) → k < length points
+    → places slots' ≡ places slots ++ places_in bucket at (point_view (get_or points k d) ∷ [])
+    → places slots' ++ places_in bucket (at + 1) (map point_view (drop (k + 1) points))
+    ≡ places slots ++ places_in bucket at (map point_view (drop k points))
+points_more bucket points slots slots' k at d h e =
+    let rest = places_in bucket (at + 1) (map point_view (drop (k + 1) points)) in
+    ap (λ l. l ++ rest) e
+    ∙ append_assoc (places slots) (places_in bucket at (point_view (get_or points k d) ∷ [])) rest
+    ∙ ap (λ l. places slots ++ l) (sym (in_more bucket points k at d h))
 
 -- the points of one label by its mnemonics
-pub places_label : (n : ℕ) (label : Label) (first : ℕ) (has : Bool) → label.selected ≡ true
-    → has ≡ has_number n label.ops
-    → cond has (places_from first (map point_view label.points)) []
-    ≡ places_for (is_for n) first (aims_of_label (label_view label))
-places_label n label first has s h =
+pub places_label : (key : ℕ) (label : Label) (first : ℕ) (has : Bool) → label.selected ≡ true
+    → has ≡ has_number (key / 365) label.ops
+    → cond has (places_in (key % 365) first (map point_view label.points)) []
+    ≡ places_for (is_for key) first (aims_of_label (label_view label))
+places_label key label first has s h =
     let points = map point_view label.points in
-    ap (λ b. cond b (places_from first points) []) h
-    ∙ turn (has_number n label.ops) refl
-    ∙ ap (λ b. places_for (is_for n) first (cond b (aims_of_points label.ops points) [])) (sym s)
+    ap (λ b. cond b (places_in (key % 365) first points) []) h
+    ∙ turn (has_number (key / 365) label.ops) refl
+    ∙ ap (λ b. places_for (is_for key) first (cond b (aims_of_points label.ops points) [])) (sym s)
   where
-    turn : (b : Bool) → has_number n label.ops ≡ b
-        → cond b (places_from first (map point_view label.points)) []
-        ≡ places_for (is_for n) first (aims_of_points label.ops (map point_view label.points))
-    turn true e = sym (places_has n label.ops first (map point_view label.points) e)
-    turn false e = sym (places_lacks n label.ops first (map point_view label.points) e)
+    turn : (b : Bool) → has_number (key / 365) label.ops ≡ b
+        → cond b (places_in (key % 365) first (map point_view label.points)) []
+        ≡ places_for (is_for key) first (aims_of_points label.ops (map point_view label.points))
+    turn true e = sym (places_has key label.ops first (map point_view label.points) e)
+    turn false e = sym (places_lacks key label.ops first (map point_view label.points) e)
 
 -- how many points a label has
 pub label_length : (label : Label) → label.selected ≡ true
@@ -154,17 +164,21 @@ pub zero_counts : (aims : List Aim) → replicate {A = ℕ} (length aims) 0 ≡ 
 zero_counts [] = refl
 zero_counts (a ∷ aims) = ap (λ l. 0 ∷ l) (zero_counts aims)
 
--- one more mnemonic
-pub index_more : (labels : List Label) (lists lists' : List (List Slot)) (slots : List Slot) (n : ℕ)
-    → lists' ≡ lists ++ slots ∷ [] → places slots ≡ places_for (is_for n) 0 (aims_in labels)
-    → map places lists ≡ index_of labels n → map places lists' ≡ index_of labels (n + 1)
-index_more labels lists lists' slots n e p same =
-    let s : suc n ≡ n + 1 = omega arith in
-    ap (λ l. map places l) e
-    ∙ map-append places lists (slots ∷ [])
-    ∙ ap (λ l. l ++ places slots ∷ []) same
-    ∙ ap (λ x. index_of labels n ++ x ∷ []) p
-    ∙ ap (λ m. index_of labels m) s
+-- one more list
+pub IsIndex-more : (labels : List Label) (lists lists' : List (List Slot)) (slots : List Slot) → lists' ≡ lists ++ slots ∷ []
+    → places slots ≡ places_for (is_for (length lists)) 0 (aims_in labels) → IsIndex labels lists → IsIndex labels lists'
+IsIndex-more labels lists lists' slots e p h =
+    let P : List (List Slot) → Type 0 = λ ls. IsIndex labels ls in
+    subst P (sym e) (record { each = λ key d l. pick key d l (cases_lt key (length lists)) })
+  where
+    pick : (key : ℕ) (d : List Slot) → key < length (lists ++ slots ∷ []) → (key < length lists) ⊎ (length lists ≤ key)
+        → places (get_or (lists ++ slots ∷ []) key d) ≡ places_for (is_for key) 0 (aims_in labels)
+    pick key d l (inl below) = ap places (get_or_append_left lists (slots ∷ []) d key below) ∙ h.each key d below
+    pick key d l (inr above) =
+        let same : key ≡ length lists = omega (arith, l, above, length-append lists (slots ∷ [])) in
+        ap places (get_or_at lists slots [] d key (sym same))
+        ∙ p
+        ∙ ap (λ k. places_for (is_for k) 0 (aims_in labels)) (sym same)
 
 -- a new tally
 pub new_tally : (labels index : List Label) (windows : List Window) (counts words : List ℕ) → index ≡ labels

@@ -4,4 +4,6 @@ pub mod Feeding
 pub mod Hitting
 pub mod Places
 pub mod Reports
+pub mod Seen
 pub mod Streams
+pub mod Sums

@@ -1,8 +1,7 @@
 -- The lists give the points that an instruction may hit, and no others count.
-use Rattle.std.proofs.Common.{◌≡◌, ℕ, zero, suc, ◌+◌, ◌<◌, ◌≤◌, Bool, true, false, cond, ◌&&◌, ◌⊎◌, inl, inr, List, [], ◌∷◌, ◌++◌, Option, Some, None, refl, sym, ap, ◌∙◌, length, drop, get_or, set, arith, append_assoc, length-append, All}
-use Rattle.std.proofs.lemmas.List.{get_or_at, get_or_append_left, set_at, length_push, length-map, get_or-map}
-use Rattle.std.proofs.lemmas.Bool.{cases_lt}
-use Rattle.std.specs.Prelude.{map}
+use Rattle.std.proofs.Common.{◌≡◌, ℕ, zero, suc, ◌+◌, ◌*◌, ◌/◌, ◌%◌, ◌<◌, ◌≤◌, Bool, true, false, cond, ◌&&◌, List, [], ◌∷◌, ◌++◌, Option, Some, None, refl, sym, ap, ◌∙◌, length, drop, get_or, set, arith, append_assoc, length-append, All}
+use Rattle.std.proofs.lemmas.List.{get_or_at, set_at, length_push, length-map}
+use Rattle.std.specs.Prelude.{◌==◌, map}
 use Rattle.rvs_cgf.specs.Hits.{has_op, holds}
 use Rattle.rvs_cgf.specs.declared.group.Label.{Label}
 use Rattle.rvs_expr.specs.Meaning.{Table}
@@ -10,8 +9,9 @@ use Rattle.rvs_facts.specs.Facts.{facts_of}
 use Rattle.rvs_facts.specs.Mnemonics.{number}
 use Rattle.rvs_insn.specs.Fields.{Fields}
 use Rattle.rvs_insn.specs.declared.op.Op.{Op}
+use Rattle.rvs_count.specs.Buckets.{bucket_of, is_seen}
 use Rattle.rvs_count.specs.Counting.{Aim, aims_in, hits_insn}
-use Rattle.rvs_count.specs.Index.{Place, place_of, places, is_for, places_for, raised, raised_all, index_of}
+use Rattle.rvs_count.specs.Index.{Place, place_of, places, has_number, is_for, places_for, IsIndex, raised, raised_all}
 use Rattle.rvs_count.specs.State.{added}
 use Rattle.rvs_count.specs.declared.slots.Slot.{Slot}
 
@@ -69,57 +69,53 @@ raised_from passes op t (a ∷ aims) front (c ∷ cs) k f l =
         ap (λ n. raised_all op t (places_for passes (k + 1) aims) (front ++ n ∷ cs)) z
         ∙ rest false (p false)
 
--- the lists at a mnemonic
-index_length : (labels : List Label) (n : ℕ) → length (index_of labels n) ≡ n
-index_length labels zero = refl
-index_length labels (suc n) =
-    omega (arith, index_length labels n, length-append (index_of labels n) (places_for (is_for n) 0 (aims_in labels) ∷ []))
+-- the list at a number
+pub slots_at : (labels : List Label) (lists got : List (List Slot)) (key : ℕ) (d slots : List Slot)
+    → IsIndex labels lists → key < length lists → got ≡ lists → slots ≡ d → d ≡ get_or got key d
+    → places slots ≡ places_for (is_for key) 0 (aims_in labels)
+slots_at labels lists got key d slots index h all s at =
+    ap places (s ∙ at ∙ ap (λ ls. get_or ls key d) all) ∙ index.each key d h
 
-at_end : (labels : List Label) (m n : ℕ) (d : List Place) → n ≡ m
-    → get_or (index_of labels m ++ places_for (is_for m) 0 (aims_in labels) ∷ []) n d
-    ≡ places_for (is_for n) 0 (aims_in labels)
-at_end labels m n d e =
-    get_or_at (index_of labels m) (places_for (is_for m) 0 (aims_in labels)) [] d n (index_length labels m ∙ sym e)
-    ∙ ap (λ k. places_for (is_for k) 0 (aims_in labels)) (sym e)
+-- what the points of a bucket add
+same_hit : (n b : ℕ) (i : Fields) (v1 v2 : ℕ) (a : Aim) → n ≡ number i.op → b < 365
+    → hit_by (is_for (n * 365 + b)) i.op (facts_of i v1 v2) a ≡ (is_seen (Some b) a.point && hits_insn a (Some i) v1 v2)
+same_hit n b i v1 v2 a same low =
+    let mnemonic : (n * 365 + b) / 365 ≡ number i.op = omega (arith, same, low) in
+    let bucket : (n * 365 + b) % 365 ≡ b = omega (arith, low) in
+    ap (λ m. (has_number m a.ops && (bucket_of a.point == (n * 365 + b) % 365)) && holds a.point i.op (facts_of i v1 v2)) mnemonic
+    ∙ ap (λ m. (has_number (number i.op) a.ops && (bucket_of a.point == m)) && holds a.point i.op (facts_of i v1 v2)) bucket
+    ∙ turned (has_op a.ops i.op) (bucket_of a.point == b) (holds a.point i.op (facts_of i v1 v2))
+  where
+    turned : (p q r : Bool) → ((p && q) && r) ≡ (q && (p && r))
+    turned true true r = refl
+    turned true false r = refl
+    turned false true r = refl
+    turned false false r = refl
 
-index_at : (labels : List Label) (m n : ℕ) (d : List Place) → n < m
-    → get_or (index_of labels m) n d ≡ places_for (is_for n) 0 (aims_in labels)
-index_at labels zero n d h = absurd (omega arith)
-index_at labels (suc m) n d h =
-    let list = places_for (is_for m) 0 (aims_in labels) in
-    elim (cases_lt n m) as (λ _. get_or (index_of labels m ++ list ∷ []) n d ≡ places_for (is_for n) 0 (aims_in labels)) [
-      | inl l ↦
-          get_or_append_left (index_of labels m) (list ∷ []) d n (omega (arith, index_length labels m))
-          ∙ index_at labels m n d l
-      | inr g ↦ at_end labels m n d (omega arith)
-    ]
+added_same : (p q : Aim → Bool) (aims : List Aim) (cs : List ℕ) → ((a : Aim) → p a ≡ q a) → added p aims cs ≡ added q aims cs
+added_same p q [] cs h = refl
+added_same p q (a ∷ aims) [] h = refl
+added_same p q (a ∷ aims) (c ∷ cs) h =
+    ap (λ b. (c + cond b 1 0) ∷ added p aims cs) (h a) ∙ ap (λ l. (c + cond (q a) 1 0) ∷ l) (added_same p q aims cs h)
 
-pub lists_length : (lists : List (List Slot)) (labels : List Label) → map places lists ≡ index_of labels 48 → length lists ≡ 48
-lists_length lists labels e = sym (length-map lists places) ∙ ap (λ l. length l) e ∙ index_length labels 48
-
-pub slots_at : (labels : List Label) (lists got : List (List Slot)) (n m : ℕ) (d slots : List Slot)
-    → map places lists ≡ index_of labels 48 → n < 48 → n ≡ m → got ≡ lists → slots ≡ d → d ≡ get_or got n d
-    → places slots ≡ places_for (is_for m) 0 (aims_in labels)
-slots_at labels lists got n m d slots e h same all s at =
-    ap places (s ∙ at ∙ ap (λ ls. get_or ls n d) all)
-    ∙ sym (get_or-map places lists n d [] (omega (arith, lists_length lists labels e)))
-    ∙ ap (λ l. get_or l n []) e
-    ∙ index_at labels 48 n [] h
-    ∙ ap (λ k. places_for (is_for k) 0 (aims_in labels)) same
-
--- what an instruction adds
-pub added_by : (labels : List Label) (i i' : Fields) (v1 v2 w1 w2 : ℕ) (slots : List Slot) (cs cs' : List ℕ)
-    → i' ≡ i → v1 ≡ w1 → v2 ≡ w2
-    → places slots ≡ places_for (is_for (number i.op)) 0 (aims_in labels) → length cs ≡ length (aims_in labels)
-    → cs' ≡ raised_all i'.op (facts_of i' v1 v2) (places slots) cs
-    → cs' ≡ added (λ a. hits_insn a (Some i) w1 w2) (aims_in labels) cs
-added_by labels i i' v1 v2 w1 w2 slots cs cs' same first second p l e =
+pub added_bucket : (labels : List Label) (i : Fields) (v1 v2 n b : ℕ) (slots : List Slot) (cs cs' : List ℕ)
+    → n ≡ number i.op → b < 365 → places slots ≡ places_for (is_for (n * 365 + b)) 0 (aims_in labels) → length cs ≡ length (aims_in labels)
+    → cs' ≡ raised_all i.op (facts_of i v1 v2) (places slots) cs
+    → cs' ≡ added (λ a. is_seen (Some b) a.point && hits_insn a (Some i) v1 v2) (aims_in labels) cs
+added_bucket labels i v1 v2 n b slots cs cs' same low p l e =
     e
-    ∙ ap (λ (i : Fields). raised_all i.op (facts_of i v1 v2) (places slots) cs) same
-    ∙ ap (λ v. raised_all i.op (facts_of i v v2) (places slots) cs) first
-    ∙ ap (λ v. raised_all i.op (facts_of i w1 v) (places slots) cs) second
-    ∙ ap (λ ps. raised_all i.op (facts_of i w1 w2) ps cs) p
-    ∙ raised_from (is_for (number i.op)) i.op (facts_of i w1 w2) (aims_in labels) [] cs 0 refl l
+    ∙ ap (λ ps. raised_all i.op (facts_of i v1 v2) ps cs) p
+    ∙ raised_from (is_for (n * 365 + b)) i.op (facts_of i v1 v2) (aims_in labels) [] cs 0 refl l
+    ∙ added_same _ _ (aims_in labels) cs (λ a. same_hit n b i v1 v2 a same low)
+
+pub none_added : (aims : List Aim) (hit : Aim → Bool) (cs : List ℕ) → length cs ≡ length aims
+    → cs ≡ added (λ a. is_seen None a.point && hit a) aims cs
+none_added [] hit [] l = refl
+none_added [] hit (c ∷ cs) l = absurd (omega arith)
+none_added (a ∷ aims) hit [] l = absurd (omega arith)
+none_added (a ∷ aims) hit (c ∷ cs) l =
+    let z : c ≡ c + 0 = omega arith in
+    ap (λ n. n ∷ cs) z ∙ ap (λ l. (c + 0) ∷ l) (none_added aims hit cs (omega arith))
 
 -- ---- bounds
 -- no place is past the counts

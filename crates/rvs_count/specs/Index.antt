@@ -1,5 +1,5 @@
 -- The points by mnemonic.
-use Rattle.std.specs.Prelude.{ℕ, zero, suc, ◌+◌, ◌==◌, Bool, true, false, List, [], ◌∷◌, ◌++◌, map, slice_index, slice_set}
+use Rattle.std.specs.Prelude.{◌≡◌, ℕ, ◌+◌, ◌/◌, ◌%◌, ◌<◌, ◌==◌, ◌&&◌, Bool, true, false, List, [], ◌∷◌, length, map, Option, slice_index, slice_index_or, slice_set}
 use Rattle.std.specs.List.{list_any}
 use Rattle.rvs_cgf.specs.Groups.{Point}
 use Rattle.rvs_cgf.specs.GroupView.{point_view}
@@ -8,6 +8,8 @@ use Rattle.rvs_cgf.specs.declared.group.Label.{Label}
 use Rattle.rvs_expr.specs.Meaning.{Table}
 use Rattle.rvs_facts.specs.Mnemonics.{number}
 use Rattle.rvs_insn.specs.declared.op.Op.{Op}
+use Rattle.rvs_count.specs.Buckets.{bucket_of, is_seen}
+use Rattle.rvs_count.specs.State.{added}
 use Rattle.rvs_count.specs.Counting.{Aim, aims_in}
 use Rattle.rvs_count.specs.declared.slots.Slot.{Slot}
 
@@ -25,9 +27,9 @@ places slots = map place_of slots
 abbrev pub has_number : ℕ → List Op → Bool
 has_number n ops = list_any (λ op. n == number op) ops
 
--- the point is one of a label with the mnemonic of this number
+-- a list's number says its mnemonic and its bucket; the point stands in that bucket, under a label with the mnemonic
 abbrev pub is_for : ℕ → Aim → Bool
-is_for n a = has_number n a.ops
+is_for key a = has_number (key / 365) a.ops && (bucket_of a.point == key % 365)
 
 -- the points that pass, counted from a place
 abbrev pub places_for : (Aim → Bool) → ℕ → List Aim → List Place
@@ -38,15 +40,19 @@ places_for passes at (a ∷ aims) =
       | false ↦ places_for passes (at + 1) aims
     ]
 
--- points one after another, counted from a place
-abbrev pub places_from : ℕ → List Point → List Place
-places_from at [] = []
-places_from at (p ∷ ps) = (p, at) ∷ places_from (at + 1) ps
+-- the points of a bucket, counted from a place
+abbrev pub places_in : ℕ → ℕ → List Point → List Place
+places_in bucket at [] = []
+places_in bucket at (p ∷ ps) =
+    elim (bucket_of p == bucket) [
+      | true ↦ (p, at) ∷ places_in bucket (at + 1) ps
+      | false ↦ places_in bucket (at + 1) ps
+    ]
 
--- the points that an instruction may hit, for each of the first n mnemonics
-abbrev pub index_of : List Label → ℕ → List (List Place)
-index_of labels zero = []
-index_of labels (suc n) = index_of labels n ++ places_for (is_for n) 0 (aims_in labels) ∷ []
+-- lists for the first mnemonics and buckets
+pub record IsIndex (labels : List Label) (lists : List (List Slot)) : Type 0 where
+  pub each : (key : ℕ) (d : List Slot) → key < length lists
+      → places (slice_index_or lists key d) ≡ places_for (is_for key) 0 (aims_in labels)
 
 -- one more at a place
 abbrev pub raised : Bool → ℕ → List ℕ → List ℕ
@@ -57,3 +63,9 @@ raised false at counts = counts
 abbrev pub raised_all : Op → Table → List Place → List ℕ → List ℕ
 raised_all op t [] counts = counts
 raised_all op t (p ∷ ps) counts = raised_all op t ps (raised (holds p.0 op t) p.1 counts)
+
+-- one more for each point that passes, list by list
+abbrev pub added_all : (Aim → Bool) → List (Option ℕ) → List Aim → List ℕ → List ℕ
+added_all passes [] aims cs = cs
+added_all passes (o ∷ os) aims cs =
+    added_all passes os aims (added (λ a. is_seen o a.point && passes a) aims cs)

@@ -1,4 +1,5 @@
 pub mod Bounds
+pub mod Buckets
 pub mod Counting
 pub mod Feeds
 pub mod Index

@@ -32,7 +32,7 @@ fn add_hits<F: Facts, L: Ledger>(
 )
     requires within { All (λ s. s.at < vec_len counts.old) slots.now }
     requires few { length slots.now ≤ vec_len counts.old }
-    requires low { All (λ n. n ≤ 2 ^ 40) counts.old.items }
+    requires low { All (λ n. n ≤ 2 ^ 41) counts.old.items }
     ensures { counts.new.items
         ≡ raised_all op (F.table facts.now) (places slots.now) counts.old.items }
 {
@@ -54,7 +54,7 @@ fn add_counted<L: Ledger>(
     requires some { 0 < blank.parts }
     requires within { All (λ s. s.at < vec_len counts.old) slots.now }
     requires few { length slots.now ≤ vec_len counts.old }
-    requires low { All (λ n. n ≤ 2 ^ 40) counts.old.items }
+    requires low { All (λ n. n ≤ 2 ^ 41) counts.old.items }
     ensures { counts.new.items ≡ raised_all facts.entry.insn.now.op
         (facts_of facts.entry.insn.now facts.entry.first facts.entry.second) (places slots.now) counts.old.items }
 {
@@ -67,7 +67,7 @@ fn add_counted<L: Ledger>(
 pub(crate) fn add_insn(slots: &[Slot<'_>], facts: InsnFacts<'_>, counts: &mut Vec<u64>)
     requires within { All (λ s. s.at < vec_len counts.old) slots.now }
     requires few { length slots.now ≤ vec_len counts.old }
-    requires low { All (λ n. n ≤ 2 ^ 40) counts.old.items }
+    requires low { All (λ n. n ≤ 2 ^ 41) counts.old.items }
     ensures { counts.new.items ≡ raised_all facts.entry.insn.now.op
         (facts_of facts.entry.insn.now facts.entry.first facts.entry.second) (places slots.now) counts.old.items }
 {

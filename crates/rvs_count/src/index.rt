@@ -1,37 +1,39 @@
-// The points by mnemonic.
-ghost use Rattle.std.specs.Prelude.{◌≡◌, ◌≤◌, ◌<◌, ◌^◌, All, IfOk, Some, length, map};
-ghost use Rattle.rvs_count.specs.Counting.{aims_in, hits_insn};
-ghost use Rattle.rvs_count.specs.Index.{index_of, places};
-ghost use Rattle.rvs_count.specs.State.{added};
+// The points by mnemonic and by shape.
+ghost use Rattle.std.specs.Prelude.{◌≡◌, ◌≤◌, ◌<◌, ◌^◌, ◌&&◌, All, IfOk, IfSome, Some, length};
 ghost use Rattle.rvs_machine.specs.Traces.{word_of};
+ghost use Rattle.rvs_count.specs.Buckets.{is_seen};
+ghost use Rattle.rvs_count.specs.Counting.{aims_in, hits_insn};
+ghost use Rattle.rvs_count.specs.Index.{IsIndex, added_all};
+ghost use Rattle.rvs_count.specs.State.{added};
 
+use crate::buckets::{BUCKETS, visited};
 use crate::hits::add_insn;
 use crate::slots::{Slot, slots_of};
 use rvs_base::{Items, NoMemory};
 use rvs_cgf::Label;
-use rvs_facts::number;
+use rvs_facts::{InsnFacts, number};
 use rvs_insn::Insn;
 use rvs_log::{Registers, facts_of};
 use std::alloc::Global;
 use std::marker::Model;
 
-/// How many mnemonics there are.
-const MNEMONICS: usize = 48;
+/// How many lists there are: for each of the 48 mnemonics one a bucket.
+const LISTS: usize = 48 * BUCKETS;
 
-/// The points of the selected labels by mnemonic, in the table's order: an instruction is held
-/// against the points of its own mnemonic's labels alone.
+/// The points of the selected labels by mnemonic and by shape: an instruction is held against few of
+/// the points of its own mnemonic's labels.
 #[derive(Drop)]
 pub(crate) struct Index<'g> {
     labels: &'g [Label],
-    slots: Items<Items<Slot<'g>>>,
+    lists: Items<Items<Slot<'g>>>,
 }
 
 impl<'g> Model for Index<'g> {
-    ghost use Rattle.std.specs.Prelude.{◌≡◌, List, map};
+    ghost use Rattle.std.specs.Prelude.{◌≡◌, List, length};
     ghost use Rattle.std.specs.Coded.{codes};
     ghost use Rattle.rvs_expr.specs.contracts.expr.Expr as expr;
     ghost use Rattle.rvs_cgf.specs.declared.group.Label as group;
-    ghost use Rattle.rvs_count.specs.Index.{index_of, places};
+    ghost use Rattle.rvs_count.specs.Index.{IsIndex};
 
     ghost Value = { List group.Label };
 
@@ -39,17 +41,18 @@ impl<'g> Model for Index<'g> {
 
     ghost view = { λ i. i.labels.now };
 
-    ghost invariant = { λ i. map places i.slots ≡ index_of i.labels.now 48 };
+    ghost invariant = { λ i. IsIndex i.labels.now i.lists × (length i.lists ≡ 17520) };
 }
 
-/// The lists of all mnemonics.
+/// The lists of all mnemonics and buckets.
 fn lists<'g>(alloc: Global, labels: &'g [Label]) -> Result<Items<Items<Slot<'g>>>, NoMemory>
     requires room { length (aims_in labels.now) < 2 ^ 63 }
-    ensures { IfOk result (λ lists. map places lists ≡ index_of labels.now 48) }
+    ensures index { IfOk result (IsIndex labels.now) }
+    ensures all { IfOk result (λ lists. length lists ≡ 17520) }
 {
     let mut lists = Items::new(alloc);
-    for mnemonic in 0..MNEMONICS {
-        lists.push(slots_of(alloc, labels, mnemonic)?)?;
+    for key in 0..LISTS {
+        lists.push(slots_of(alloc, labels, key)?)?;
     }
     Ok(lists)
 }
@@ -60,8 +63,8 @@ impl<'g> Index<'g> {
         requires room { length (aims_in labels.now) < 2 ^ 63 }
         ensures { IfOk result (λ i. i ≡ labels.now) }
     {
-        let slots = lists(alloc, labels)?;
-        Ok(Index { labels, slots })
+        let lists = lists(alloc, labels)?;
+        Ok(Index { labels, lists })
     }
 
     /// The labels.
@@ -71,16 +74,58 @@ impl<'g> Index<'g> {
         self.labels
     }
 
+    /// Adds one to the counts of the points of a bucket that an instruction hits.
+    fn add_bucket(&self, bucket: Option<usize>, facts: InsnFacts<'_>, counts: &mut Vec<u64>)
+        requires bucket { IfSome bucket (λ b. b < 365) }
+        requires count { length counts.old.items ≡ length (aims_in self.now) }
+        requires low { All (λ n. n ≤ 2 ^ 41) counts.old.items }
+        ensures {
+            counts.new.items ≡ added (λ a. is_seen bucket a.point
+                && hits_insn a (Some facts.entry.insn.now) facts.entry.first facts.entry.second)
+                (aims_in self.now) counts.old.items
+        }
+    {
+        match bucket {
+            None => {},
+            Some(bucket) => {
+                let insn = facts.insn;
+                let key = number(insn.op) * BUCKETS + bucket;
+                let slots = self.lists.as_slice()[key].as_slice();
+                add_insn(slots, facts, counts);
+            },
+        }
+    }
+
+    /// The same for several buckets.
+    fn add_buckets(&self, buckets: &[Option<usize>], facts: InsnFacts<'_>, counts: &mut Vec<u64>)
+        requires buckets { All (λ o. IfSome o (λ b. b < 365)) buckets.now }
+        requires few { length buckets.now ≤ 8 }
+        requires count { length counts.old.items ≡ length (aims_in self.now) }
+        requires low { All (λ n. n ≤ 2 ^ 40) counts.old.items }
+        ensures {
+            counts.new.items ≡ added_all
+                (λ a. hits_insn a (Some facts.entry.insn.now) facts.entry.first facts.entry.second)
+                buckets.now (aims_in self.now) counts.old.items
+        }
+    {
+        for bucket in buckets {
+            self.add_bucket(*bucket, facts, counts);
+        }
+    }
+
     /// Adds one to the counts of the points that an instruction hits whose registers held these
     /// words before it.
     pub(crate) fn add(&self, insn: &Insn, before: &Registers, counts: &mut Vec<u64>)
         requires count { length counts.old.items ≡ length (aims_in self.now) }
         requires low { All (λ n. n ≤ 2 ^ 40) counts.old.items }
-        ensures { counts.new.items ≡ added (λ a. hits_insn a (Some insn.now)
-            (word_of before.now insn.now.rs1) (word_of before.now insn.now.rs2))
-            (aims_in self.now) counts.old.items }
+        ensures {
+            counts.new.items ≡ added (λ a. hits_insn a (Some insn.now)
+                (word_of before.now insn.now.rs1) (word_of before.now insn.now.rs2))
+                (aims_in self.now) counts.old.items
+        }
     {
-        let slots = self.slots.as_slice()[number(insn.op)].as_slice();
-        add_insn(slots, facts_of(insn, before), counts);
+        let facts = facts_of(insn, before);
+        let buckets = visited(&facts);
+        self.add_buckets(&buckets, facts, counts);
     }
 }

@@ -1,6 +1,7 @@
 //! Counting how often coverage points are hit by the instructions of a log.
 #![tactic(auto)]
 
+mod buckets;
 mod counter;
 mod file;
 mod hits;

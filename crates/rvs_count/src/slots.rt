@@ -1,9 +1,10 @@
 // The points that an instruction of a mnemonic may hit.
-ghost use Rattle.std.specs.Prelude.{◌≡◌, ◌<◌, ◌+◌, ◌^◌, ◌++◌, [], IfOk, OnOk, if◌then◌else◌, length, map};
+ghost use Rattle.std.specs.Prelude.{◌≡◌, ◌<◌, ◌+◌, ◌^◌, ◌++◌, ◌∷◌, [], IfOk, OnOk, if◌then◌else◌, length, map};
 ghost use Rattle.rvs_cgf.specs.GroupView.{label_view, point_view};
 ghost use Rattle.rvs_count.specs.Counting.{aims_in, aims_of_label};
-ghost use Rattle.rvs_count.specs.Index.{has_number, is_for, places, places_for, places_from};
+ghost use Rattle.rvs_count.specs.Index.{has_number, is_for, places, places_for, places_in};
 
+use crate::buckets::{BUCKETS, bucket_of};
 use rvs_base::{Items, NoMemory};
 use rvs_cgf::{Label, Point};
 use rvs_facts::number;
@@ -17,19 +18,41 @@ pub struct Slot<'g> {
     pub at: usize,
 }
 
-/// Adds the points of a label to the list of a mnemonic that it has.
+/// Adds a point, where it stands in the bucket.
+fn add_point<'g>(
+    slots: &mut Items<Slot<'g>>,
+    point: &'g Point,
+    bucket: usize,
+    at: usize,
+) -> Result<(), NoMemory>
+    ensures {
+        OnOk result (places slots.new ≡ places slots.old
+            ++ places_in bucket at (point_view point.now ∷ []))
+    }
+{
+    if bucket_of(point) == bucket {
+        slots.push(Slot { point, at })
+    } else {
+        Ok(())
+    }
+}
+
+/// Adds the points of a label that stand in the bucket.
 fn add_points<'g>(
     slots: &mut Items<Slot<'g>>,
     points: &'g [Point],
+    bucket: usize,
     first: usize,
 ) -> Result<(), NoMemory>
     requires room { first + length points.now < 2 ^ 63 }
-    ensures { OnOk result (places slots.new
-        ≡ places slots.old ++ places_from first (map point_view points.now)) }
+    ensures {
+        OnOk result (places slots.new ≡ places slots.old
+            ++ places_in bucket first (map point_view points.now))
+    }
 {
     let mut at = first;
     for point in points {
-        slots.push(Slot { point, at })?;
+        add_point(slots, point, bucket, at)?;
         at += 1;
     }
     Ok(())
@@ -40,14 +63,17 @@ fn add_if<'g>(
     slots: &mut Items<Slot<'g>>,
     points: &'g [Point],
     has: bool,
+    bucket: usize,
     first: usize,
 ) -> Result<(), NoMemory>
     requires room { first + length points.now < 2 ^ 63 }
-    ensures { OnOk result (places slots.new ≡ places slots.old
-        ++ (if has then places_from first (map point_view points.now) else [])) }
+    ensures {
+        OnOk result (places slots.new ≡ places slots.old
+            ++ (if has then places_in bucket first (map point_view points.now) else []))
+    }
 {
     if has {
-        add_points(slots, points, first)
+        add_points(slots, points, bucket, first)
     } else {
         Ok(())
     }
@@ -60,42 +86,45 @@ fn has(ops: &[Op], mnemonic: usize) -> bool
     ops.iter().any(|op| mnemonic == number(*op))
 }
 
-/// Adds the points of a label to the list of a mnemonic, and gives the place of the next label's.
+/// Adds the points of a label to the list of this number, and gives the place of the next label's.
 #[tactic(auto, using(crate::proofs::Built::places_label, crate::proofs::Built::label_length))]
 fn add_label<'g>(
     slots: &mut Items<Slot<'g>>,
     label: &'g Label,
-    mnemonic: usize,
+    key: usize,
     first: usize,
 ) -> Result<usize, NoMemory>
     requires room { first + length (aims_of_label (label_view label.now)) < 2 ^ 63 }
-    ensures slots { OnOk result (places slots.new
-        ≡ places slots.old ++ places_for (is_for mnemonic) first (aims_of_label (label_view label.now))) }
-    ensures next { IfOk result (λ next. next
-        ≡ first + length (aims_of_label (label_view label.now))) }
+    ensures slots {
+        OnOk result (places slots.new
+            ≡ places slots.old ++ places_for (is_for key) first (aims_of_label (label_view label.now)))
+    }
+    ensures next {
+        IfOk result (λ next. next ≡ first + length (aims_of_label (label_view label.now)))
+    }
 {
     if !label.selected {
         return Ok(first);
     }
     let points = label.points.as_slice();
-    let has = has(label.ops.as_slice(), mnemonic);
-    add_if(slots, points, has, first)?;
+    let has = has(label.ops.as_slice(), key / BUCKETS);
+    add_if(slots, points, has, key % BUCKETS, first)?;
     Ok(first + points.len())
 }
 
-/// The points that an instruction of this mnemonic may hit.
+/// The list of this number.
 pub(crate) fn slots_of<'g>(
     alloc: Global,
     labels: &'g [Label],
-    mnemonic: usize,
+    key: usize,
 ) -> Result<Items<Slot<'g>>, NoMemory>
     requires room { length (aims_in labels.now) < 2 ^ 63 }
-    ensures { IfOk result (λ slots. places slots ≡ places_for (is_for mnemonic) 0 (aims_in labels.now)) }
+    ensures { IfOk result (λ slots. places slots ≡ places_for (is_for key) 0 (aims_in labels.now)) }
 {
     let mut slots = Items::new(alloc);
     let mut first: usize = 0;
     for label in labels {
-        first = add_label(&mut slots, label, mnemonic, first)?;
+        first = add_label(&mut slots, label, key, first)?;
     }
     Ok(slots)
 }

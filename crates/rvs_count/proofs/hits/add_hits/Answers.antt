@@ -17,9 +17,9 @@ loop-slot-preserved g c =
     let rest = places (drop (c.loop-slot.slot-index + 1) c.args.slots.now) in
     let e : c.raise.new.counts.items ≡ raised hit s.at c.loop-slot.counts.items =
     c.raise.ensures.items ∙ ap (λ h. raised h s.at c.loop-slot.counts.items) c.holds-hit.ensures.value in
-    let P : List ℕ → Type 0 = λ l. All (λ (n : ℕ). n ≤ 2 ^ 40 + c.loop-slot.slot-index + 1) l in
+    let P : List ℕ → Type 0 = λ l. All (λ (n : ℕ). n ≤ 2 ^ 41 + c.loop-slot.slot-index + 1) l in
     let low : P c.raise.new.counts.items =
-    subst P (sym e) (raised_low hit c.loop-slot.counts.items s.at (2 ^ 40 + c.loop-slot.slot-index) c.loop-slot.invariant.low) in
+    subst P (sym e) (raised_low hit c.loop-slot.counts.items s.at (2 ^ 41 + c.loop-slot.slot-index) c.loop-slot.invariant.low) in
     record {
       same =
           c.loop-slot.invariant.same

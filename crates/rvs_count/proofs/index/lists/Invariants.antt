@@ -1,7 +1,9 @@
-use Rattle.std.proofs.Common.{◌≡◌}
-use Rattle.std.specs.Prelude.{map}
-use Rattle.rvs_count.specs.Index.{places, index_of}
+use Rattle.std.proofs.Common.{◌≡◌, length}
+use Rattle.rvs_count.specs.Index.{IsIndex}
 use Rattle.rvs_count.proofs.index.lists.Given as goal
 
-abbrev pub invariant-loop-mnemonic : goal.invariant-loop-mnemonic
-invariant-loop-mnemonic l = map places l.lists ≡ index_of l.labels l.mnemonic
+abbrev pub invariant-loop-key : goal.invariant-loop-key
+invariant-loop-key l = record {
+  index : IsIndex l.labels l.lists;
+  count : length l.lists ≡ l.key;
+}

@@ -6,6 +6,6 @@ use Rattle.rvs_count.proofs.slots.slots_of.Given as goal
 abbrev pub invariant-loop-label : goal.invariant-loop-label
 invariant-loop-label l = record {
   room : l.first + length (aims_in (drop l.label-index l.labels)) ≡ length (aims_in l.labels);
-  same : places l.slots ++ places_for (is_for l.mnemonic) l.first (aims_in (drop l.label-index l.labels))
-      ≡ places_for (is_for l.mnemonic) 0 (aims_in l.labels);
+  same : places l.slots ++ places_for (is_for l.key) l.first (aims_in (drop l.label-index l.labels))
+      ≡ places_for (is_for l.key) 0 (aims_in l.labels);
 }

@@ -1,0 +1,108 @@
+// Where a point is looked for.
+ghost use Rattle.std.specs.Prelude.{◌≡◌, ◌<◌, All, IfSome, option_map};
+ghost use Rattle.rvs_cgf.specs.GroupView.{point_view};
+ghost use Rattle.rvs_facts.specs.Facts.{facts_of};
+ghost use Rattle.rvs_count.specs.Buckets as spec;
+
+use rvs_cgf::{Kind, Meaning, Point};
+use rvs_expr::{Facts, NumName, RegName};
+use rvs_facts::InsnFacts;
+
+/// How many lists there are for a mnemonic.
+pub(crate) const BUCKETS: usize = 365;
+
+/// A number's remainder by a prime.
+#[tactic(auto, using(crate::proofs::Seen::residue_low))]
+fn residue(value: i64) -> usize
+    ensures value { result ≡ spec.residue value }
+    ensures low { result < 67 }
+{
+    value.rem_euclid(67).unsigned_abs() as usize
+}
+
+fn register_bucket(kind: Kind, register: u8) -> usize
+    ensures value { result ≡ spec.register_bucket kind register }
+    ensures low { result < 97 }
+{
+    let place = usize::from(register % 32);
+    match kind {
+        Kind::Rd => 1 + place,
+        Kind::Rs1 => 33 + place,
+        Kind::Rs2 => 65 + place,
+        _ => 0,
+    }
+}
+
+fn number_bucket(name: NumName, value: i64) -> usize
+    ensures value { result ≡ spec.number_bucket name value }
+    ensures low { result < 365 }
+{
+    let place = residue(value);
+    match name {
+        NumName::Rs1Val => 97 + place,
+        NumName::Rs2Val => 164 + place,
+        NumName::ImmVal => 231 + place,
+        NumName::EaAlign => 298 + place,
+    }
+}
+
+fn equation_bucket(equation: Option<(NumName, i64)>) -> usize
+    ensures { result ≡ spec.equation_bucket equation }
+{
+    match equation {
+        None => 0,
+        Some((name, value)) => number_bucket(name, value),
+    }
+}
+
+/// The list that a point stands in, by its shape: a register by its field and number, `name ==
+/// constant` by the name and the constant's remainder, and all others in the first.
+pub(crate) fn bucket_of(point: &Point) -> usize
+    ensures { result ≡ spec.bucket_of (point_view point.now) }
+{
+    match &point.meaning {
+        Meaning::OpIs(_) => 0,
+        Meaning::RegIs(register) => register_bucket(point.kind, *register),
+        Meaning::Regs(_) => 0,
+        Meaning::Nums(expr) => equation_bucket(expr.equation()),
+    }
+}
+
+fn of_register(kind: Kind, register: Option<u8>) -> Option<usize>
+    ensures value { result ≡ option_map (spec.register_bucket kind) register }
+    ensures low { IfSome result (λ b. b < 365) }
+{
+    match register {
+        None => None,
+        Some(register) => Some(register_bucket(kind, register)),
+    }
+}
+
+fn of_number(name: NumName, value: Option<i64>) -> Option<usize>
+    ensures value { result ≡ option_map (spec.number_bucket name) value }
+    ensures low { IfSome result (λ b. b < 365) }
+{
+    match value {
+        None => None,
+        Some(value) => Some(number_bucket(name, value)),
+    }
+}
+
+/// The lists that an instruction is held against.
+pub(crate) fn visited(facts: &InsnFacts<'_>) -> [Option<usize>; 8]
+    ensures lists {
+        result ≡ spec.visited (facts_of facts.now.insn.now facts.now.first facts.now.second)
+    }
+    ensures low { All (λ o. IfSome o (λ b. b < 365)) result }
+{
+    [
+        Some(0),
+        of_register(Kind::Rd, facts.reg(RegName::Rd)),
+        of_register(Kind::Rs1, facts.reg(RegName::Rs1)),
+        of_register(Kind::Rs2, facts.reg(RegName::Rs2)),
+        of_number(NumName::Rs1Val, facts.num(NumName::Rs1Val)),
+        of_number(NumName::Rs2Val, facts.num(NumName::Rs2Val)),
+        of_number(NumName::ImmVal, facts.num(NumName::ImmVal)),
+        of_number(NumName::EaAlign, facts.num(NumName::EaAlign)),
+    ]
+}
