@@ -1,5 +1,5 @@
 -- A small value in the place of one: it counts as many nodes, and can be merged or not as the other can.
-use Rattle.std.specs.Prelude.{if◌then◌else◌, [], ◌∷◌}
+use Rattle.std.specs.Prelude.{Bool, true, false, if◌then◌else◌, [], ◌∷◌}
 use Rattle.rvs_tree.specs.Data.{Data, scalar, sequence, mapping, no_items, no_entries}
 use Rattle.rvs_tree.specs.Value.{Value, are_maps_or_empty}
 
@@ -11,3 +11,8 @@ thin (mapping es line) = mapping no_entries line
 
 abbrev pub standin : Value → Value
 standin v = record { tree = thin v.tree; nodes = v.nodes }
+
+-- the value itself, or what stands for it
+abbrev pub formed_value : Bool → Value → Value
+formed_value false v = v
+formed_value true v = standin v

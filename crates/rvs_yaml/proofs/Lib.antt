@@ -13,4 +13,5 @@ pub mod Rows
 pub mod Sketching
 pub mod Stepping
 pub mod Telling
+pub mod Thinning
 pub mod WholeLines
