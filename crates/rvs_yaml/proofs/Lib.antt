@@ -1,8 +1,10 @@
 pub mod Answering
 pub mod Ending
+pub mod Filling
 pub mod FlowRuns
 pub mod Fronts
 pub mod Giving
+pub mod Heights
 pub mod Least
 pub mod Lining
 pub mod Lookups

@@ -23,16 +23,16 @@ tokens-end zero cl sp bs h = refl
 tokens-end (suc n) cl sp [] h = refl
 tokens-end (suc n) cl sp (b ∷ bs) h = rw (no_space b (and_left (b == 35) sp h), tokens) (rw (h, tokens) refl)
 
-tokens-space : (n : ℕ) (cl sp : Bool) (b : ℕ) (bs : List ℕ) → (b == 32) ≡ true → tokens (suc n) cl sp (b ∷ bs) ≡ tokens n cl true bs
+pub tokens-space : (n : ℕ) (cl sp : Bool) (b : ℕ) (bs : List ℕ) → (b == 32) ≡ true → tokens (suc n) cl sp (b ∷ bs) ≡ tokens n cl true bs
 tokens-space n cl sp b bs e = rw (e, tokens) refl
 
-abbrev token_here : Bool → List ℕ → Token
+abbrev pub token_here : Bool → List ℕ → Token
 token_here cl bs = (next_token cl bs).0
 
-abbrev behind_token : Bool → List ℕ → List ℕ
+abbrev pub behind_token : Bool → List ℕ → List ℕ
 behind_token cl bs = (next_token cl bs).1
 
-tokens-word : (n : ℕ) (cl sp : Bool) (b : ℕ) (bs : List ℕ) → (b == 32) ≡ false → (b == 35 && sp) ≡ false →
+pub tokens-word : (n : ℕ) (cl sp : Bool) (b : ℕ) (bs : List ℕ) → (b == 32) ≡ false → (b == 35 && sp) ≡ false →
     tokens (suc n) cl sp (b ∷ bs) ≡ token_here cl (b ∷ bs) ∷ tokens n (closes (token_here cl (b ∷ bs))) false (behind_token cl (b ∷ bs))
 tokens-word n cl sp b bs e h = rw (e, tokens) (rw (h, tokens) refl)
 

@@ -20,7 +20,7 @@ use rvs_yaml_text::{Bracket, YamlKind, behind_first, closes, next_token, starts_
 use std::alloc::Global;
 
 /// Whether nothing or a comment comes next.
-fn is_flow_end(spaced: bool, bytes: &[u8]) -> bool
+pub(crate) fn is_flow_end(spaced: bool, bytes: &[u8]) -> bool
     ensures { result ≡ parts.is_flow_end spaced bytes.now }
 {
     bytes.is_empty() || (starts_with(b'#', bytes) && spaced)

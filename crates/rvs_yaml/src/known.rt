@@ -1,8 +1,9 @@
 // The anchors that are known at a place.
-ghost use Rattle.std.specs.Prelude.{◌≡◌, ◌++◌, option_map, IfOk};
+ghost use Rattle.std.specs.Prelude.{◌≡◌, ◌≤◌, ◌++◌, min, option_map, IfOk};
 ghost use Rattle.rvs_yaml.specs.Anchors as spec;
 ghost use Rattle.rvs_yaml.specs.Stack as stack_spec;
 ghost use Rattle.rvs_yaml.specs.Gives.{Gives};
+ghost use Rattle.rvs_yaml.specs.Heights.{found_depth};
 ghost use Rattle.rvs_yaml.specs.StackView.{stack_view, all_known, known_view};
 ghost use Rattle.rvs_tree.specs.Standin.{formed_value};
 ghost use Rattle.rvs_tree.specs.ValueView.{value_view};
@@ -57,6 +58,18 @@ impl<'a, 'b> Known<'a, 'b> {
             return Some(value);
         }
         find_in_blocks(name, self.blocks)
+    }
+
+    /// A bound on the depth of what an alias with this name stands for. From 33 on depths are counted
+    /// as 33.
+    pub(crate) fn alias_depth(&self, name: &str) -> u64
+        ensures bound { min (found_depth (spec.lookup name.now (all_known self.now))) 33 ≤ result }
+        ensures shallow { result ≤ 33 }
+    {
+        match self.find(name) {
+            Some(value) => value.depth,
+            None => 0,
+        }
     }
 
     /// What an alias with this name stands for.

@@ -8,6 +8,7 @@ mod entry;
 mod flow;
 mod flow_text;
 mod front;
+mod height;
 mod known;
 mod line;
 mod open;
