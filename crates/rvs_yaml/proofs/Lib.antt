@@ -10,6 +10,7 @@ pub mod Lining
 pub mod Lookups
 pub mod Tokens
 pub mod Outlined
+pub mod Paying
 pub mod Placing
 pub mod Rows
 pub mod Sketching

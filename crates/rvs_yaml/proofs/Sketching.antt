@@ -67,15 +67,18 @@ some-last (b ∷ bs) top h = omega arith
 abbrev pub top_closed : Open → Checked Value
 top_closed top = closed_value (done_view top.block.done) top.block.line (own_value (open_view top))
 
--- the value of the open blocks, from the block on top
-pub front-top : (bs : List Open) (top : Open) → Some top ≡ slice_get bs (length bs - 1) → (top_closed top >>= λ w. ends w (stack_view (take (length bs - 1) bs))) ≡ front_value (stack_view bs)
-front-top bs top h =
+-- the block on top, and those below it
+pub stack-top : (bs : List Open) (top : Open) → Some top ≡ slice_get bs (length bs - 1) → stack_view bs ≡ open_view top ∷ stack_view (take (length bs - 1) bs)
+stack-top bs top h =
     let m = length bs - 1 in
     let inside = some-last bs top h in
     let one : m + 1 ≡ length bs = omega arith in
-    let split : stack_view bs ≡ open_view top ∷ stack_view (take m bs) =
-    sym (ap stack_view (ap (λ n. take n bs) one ∙ take_whole bs)) ∙ stack-more bs m top inside ∙ ap (λ b. open_view b ∷ stack_view (take m bs)) (last-here bs top h inside) in
-    sym (ap front_value split)
+    sym (ap stack_view (ap (λ n. take n bs) one ∙ take_whole bs)) ∙ stack-more bs m top inside ∙ ap (λ b. open_view b ∷ stack_view (take m bs)) (last-here bs top h inside)
+
+-- the value of the open blocks, from the block on top
+pub front-top : (bs : List Open) (top : Open) → Some top ≡ slice_get bs (length bs - 1) → (top_closed top >>= λ w. ends w (stack_view (take (length bs - 1) bs))) ≡ front_value (stack_view bs)
+front-top bs top h =
+    sym (ap front_value (stack-top bs top h))
 
 pub top-ok : (bs : List Open) (top : Open) (sk : Sketch) → Some top ≡ slice_get bs (length bs - 1) → ((v : Value) × (top_closed top ≡ Ok v) × IsSketch v sk) →
     (v : Value) × IsSketch v sk × (ends v (stack_view (take (length bs - 1) bs)) ≡ front_value (stack_view bs))
@@ -99,3 +102,7 @@ pub sketch-ok : (bs : List Open) (m : ℕ) (b : Open) (sk new : Sketch) (t : Che
     ((v : Value) × IsSketch v sk × (ends v (stack_view (take (m + 1) bs)) ≡ t)) → ((v : Value) → IsSketch v sk → (w : Value) × (closing (get_or bs m b) v ≡ Ok w) × IsSketch w new) →
     (w : Value) × IsSketch w new × (ends w (stack_view (take m bs)) ≡ t)
 sketch-ok bs m b sk new t h (v, s, e) f = sketch-next bs m b new t v h e (f v s)
+
+-- with no block left, the value is what was looked at
+pub ended-sketch : (bs : List Open) (n : ℕ) (sk : Sketch) (t : Checked Value) → n ≡ 0 → ((w : Value) × IsSketch w sk × (ends w (stack_view (take n bs)) ≡ t)) → (w : Value) × (t ≡ Ok w) × IsSketch w sk
+ended-sketch bs n sk t z (w, s, e) = (w, sym e ∙ ap (λ m. ends w (stack_view (take m bs))) z, s)

@@ -22,7 +22,7 @@ map-by : (b : Bool) (line : ℕ) → is_map_or_empty (if b then sequence no_item
 map-by true line = refl
 map-by false line = refl
 
-thin-map : (d : Data) → is_map_or_empty (thin d) ≡ is_map_or_empty d
+pub thin-map : (d : Data) → is_map_or_empty (thin d) ≡ is_map_or_empty d
 thin-map (scalar text line) = refl
 thin-map (sequence ds line) = map-by (are_maps_or_empty ds) line
 thin-map (mapping es line) = refl
@@ -31,7 +31,7 @@ merge-by : (b : Bool) (line : ℕ) → is_mergeable (if b then sequence no_items
 merge-by true line = refl
 merge-by false line = refl
 
-thin-mergeable : (d : Data) → is_mergeable (thin d) ≡ is_mergeable d
+pub thin-mergeable : (d : Data) → is_mergeable (thin d) ≡ is_mergeable d
 thin-mergeable (scalar text line) = refl
 thin-mergeable (sequence ds line) = merge-by (are_maps_or_empty ds) line
 thin-mergeable (mapping es line) = refl

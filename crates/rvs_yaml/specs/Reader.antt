@@ -5,7 +5,8 @@ use Rattle.rvs_yaml.specs.Stack.{Open, steps}
 use Rattle.rvs_yaml_text.specs.Text.{line_words}
 use Rattle.rvs_yaml.specs.Front.{checked_front, front_value}
 use Rattle.rvs_tree.specs.Data.{Data}
-use Rattle.rvs_yaml.specs.Answer.{Answer}
+use Rattle.rvs_yaml.specs.Answer.{Answer, within_limits}
+use Rattle.rvs_tree.specs.Value.{Value}
 use Rattle.rvs_yaml.specs.Gives.{Fails}
 use Rattle.rvs_yaml_text.specs.declared.kind.YamlKind.{YamlKind}
 use Rattle.rvs_yaml_text.specs.declared.kind.YamlKind.TheVariants.{NoMemory}
@@ -22,6 +23,11 @@ Passes see (Err kind) m = Fails kind (m >>= kept)
 abbrev pub Denies : Result (Unit {0}) YamlKind → Checked (List Open) → Type 0
 Denies (Ok x) m = Unit {0}
 Denies (Err kind) m = Fails kind (m >>= kept)
+
+-- the same of the front
+abbrev pub DeniesFront : Result (Unit {0}) YamlKind → Checked Value → Type 0
+DeniesFront (Ok x) m = Unit {0}
+DeniesFront (Err kind) m = Fails kind (m >>= within_limits)
 
 abbrev pub checked_line : List Open → ℕ → Bool → List ℕ → Checked (List Open)
 checked_line bs line started bytes = steps bs (line_words line started bytes) >>= kept

@@ -5,6 +5,7 @@ ghost use Rattle.rvs_tree.specs.Value as value_spec;
 ghost use Rattle.rvs_yaml.specs.StepParts as parts;
 ghost use Rattle.rvs_tree.specs.Bound.{brought};
 ghost use Rattle.rvs_yaml.specs.Entry.{written};
+ghost use Rattle.rvs_tree.specs.Standin.{standin};
 ghost use Rattle.rvs_yaml.specs.Stack.{done_entries};
 ghost use Rattle.rvs_yaml.specs.Front as spec;
 ghost use Rattle.rvs_yaml.specs.Gives.{Gives};
@@ -26,10 +27,10 @@ use rvs_yaml_text::{Key, YamlKind};
 use std::alloc::{AllocError, Global};
 
 /// The greatest depth that is accepted.
-const MOST_DEPTH: u64 = 32;
+pub(crate) const MOST_DEPTH: u64 = 32;
 
 /// The greatest number of nodes that is accepted.
-const MOST_NODES: u64 = 500_000;
+pub(crate) const MOST_NODES: u64 = 500_000;
 
 /// What is known of a value without looking through it.
 fn sketch_of(value: &Value) -> Sketch
@@ -40,6 +41,19 @@ fn sketch_of(value: &Value) -> Sketch
         nodes: value.nodes,
         is_map: is_map_or_empty(&value.tree),
         mergeable: is_mergeable(&value.tree),
+    }
+}
+
+/// What is known of a value for which this one stands, where it is at most so deep.
+pub(crate) fn thin_sketch(thin: &Value, deepest: u64) -> Sketch
+    requires { deepest ≤ 33 }
+    ensures { (v : value_spec.Value) → value_view thin.now ≡ standin v → min (data_spec.depth v.tree) 33 ≤ deepest → IsSketch v result }
+{
+    Sketch {
+        depth: deepest,
+        nodes: thin.nodes,
+        is_map: is_map_or_empty(&thin.tree),
+        mergeable: is_mergeable(&thin.tree),
     }
 }
 
@@ -171,6 +185,19 @@ fn sketch_front(blocks: &[Open<'_>]) -> Result<Sketch, YamlKind>
     let first = top_sketch(top)?;
     let mut sketch = first;
     let mut i = blocks.len() - 1;
+    while i > 0 {
+        i -= 1;
+        sketch = closed_sketch(&blocks[i].block, sketch)?;
+    }
+    Ok(sketch)
+}
+
+/// What is known of the tree of the lines so far, where this is known of the last word.
+pub(crate) fn sketch_with(blocks: &[Open<'_>], own: Sketch) -> Result<Sketch, YamlKind>
+    ensures { (v : value_spec.Value) → IsSketch v own → SketchedAs result (spec.ends v (stack_view blocks.now)) }
+{
+    let mut sketch = own;
+    let mut i = blocks.len();
     while i > 0 {
         i -= 1;
         sketch = closed_sketch(&blocks[i].block, sketch)?;

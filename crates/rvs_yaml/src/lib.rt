@@ -5,6 +5,7 @@
 mod anchor_list;
 mod anchoring;
 mod entry;
+mod fill;
 mod flow;
 mod flow_text;
 mod front;
