@@ -1,8 +1,8 @@
 -- A word without its flow collection, and then that, are what the word is.
-use Rattle.std.proofs.Common.{◌≡◌, ℕ, Bool, true, false, List, [], ◌∷◌, ◌++◌, Option, Some, None, Ok, Err, refl, sym, ap, ◌∙◌}
+use Rattle.std.proofs.Common.{◌≡◌, ℕ, Bool, true, false, List, [], ◌∷◌, ◌++◌, Some, None, Ok, Err, refl, sym, ap, ◌∙◌}
 use Rattle.std.specs.Prelude.{if◌then◌else◌}
 use Rattle.rvs_tree.specs.Value.{Value}
-use Rattle.rvs_yaml_text.specs.Word.{Key, Bracket, Token, Content, nothing, text, alias, flow, faulty, Name, Shape, dash, key, leaf, refused, Word, Head, is_below, opens_block}
+use Rattle.rvs_yaml_text.specs.Word.{Key, Bracket, Token, nothing, text, alias, flow, faulty, Name, Shape, dash, key, leaf, refused, Word, Head, is_below, opens_block}
 use Rattle.rvs_yaml_text.specs.Text.{word_at}
 use Rattle.rvs_yaml.specs.Checks.{Checked, ◌>>=◌, ◌>>◌, check}
 use Rattle.rvs_yaml.specs.Anchors.{Anchors}

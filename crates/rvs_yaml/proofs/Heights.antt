@@ -1,9 +1,9 @@
 -- No flow collection is deeper than its tokens reach.
-use Rattle.std.proofs.Common.{◌≡◌, ℕ, zero, suc, ◌+◌, ◌-◌, ◌≤◌, max, Bool, true, false, List, [], ◌∷◌, ◌++◌, length, Option, Some, None, Ok, Err, refl, sym, ap, subst, ◌∙◌, arith}
+use Rattle.std.proofs.Common.{◌≡◌, ℕ, suc, ◌+◌, ◌≤◌, max, Bool, false, List, [], ◌∷◌, ◌++◌, length, Option, Some, None, Ok, Err, refl, sym, ap, subst, ◌∙◌, arith}
 use Rattle.std.specs.Prelude.{◌&&◌}
-use Rattle.rvs_tree.specs.Data.{Data, depth, items_depth, entries_depth}
+use Rattle.rvs_tree.specs.Data.{depth}
 use Rattle.rvs_tree.specs.Value.{Value, Written, scalar_value, list_value, map_value, explicit_keys}
-use Rattle.rvs_tree.specs.Bound.{values_depth, written_depth, brought}
+use Rattle.rvs_tree.specs.Bound.{values_depth, written_depth}
 use Rattle.rvs_tree.proofs.Sums.{values_depth-push, brought_small}
 use Rattle.rvs_tree.proofs.Merging.{list-depth, map-depth}
 use Rattle.rvs_tree.proofs.Depths.{written_depth-push}
@@ -13,8 +13,8 @@ use Rattle.rvs_yaml_text.specs.declared.kind.YamlKind.TheVariants.{BadFlow, BadS
 use Rattle.rvs_yaml.specs.Checks.{Checked, ◌>>=◌, ◌>>◌, check}
 use Rattle.rvs_yaml.specs.Anchors.{Anchors, lookup, known_alias}
 use Rattle.rvs_yaml.specs.Entry.{written}
-use Rattle.rvs_yaml.specs.Flow.{Place, member, behind_member, key_place, entry_value, behind_entry, first_place, new_key, with_value, with_comma, with_key, with_cut_key, with_colon_scalar, with_alias, with_fault, with_token, may_open, closes, ends_with, fits, merged_well, flow_value}
-use Rattle.rvs_yaml.specs.FlowSteps.{Reading, open_in, whole, into, moved, flow_step, flow_steps, flow_end}
+use Rattle.rvs_yaml.specs.Flow.{Place, member, behind_member, key_place, entry_value, behind_entry, first_place, new_key, with_value, with_comma, with_key, with_cut_key, with_colon_scalar, with_alias, with_fault, with_token, may_open, closes, ends_with, fits, flow_value}
+use Rattle.rvs_yaml.specs.FlowSteps.{Reading, open_in, whole, into, moved, flow_step, flow_steps}
 use Rattle.rvs_yaml.specs.FlowParts.{first_reading, ended}
 use Rattle.rvs_yaml.specs.Heights.{found_depth, level_behind, reach, height}
 use Rattle.rvs_yaml.proofs.FlowRuns.{flow-ended}

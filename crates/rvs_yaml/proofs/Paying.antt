@@ -1,5 +1,5 @@
 -- Refusing a line for its front before the value of its flow collection is made.
-use Rattle.std.proofs.Common.{◌≡◌, ℕ, ◌<◌, ◌≤◌, Bool, true, false, List, [], ◌∷◌, ◌++◌, Some, None, Result, Ok, Err, refl, sym, ap, ◌∙◌, arith, min}
+use Rattle.std.proofs.Common.{◌≡◌, ◌<◌, ◌≤◌, Bool, true, false, List, [], ◌∷◌, ◌++◌, Some, Result, Ok, Err, refl, sym, ap, ◌∙◌, arith}
 use Rattle.std.specs.Prelude.{if◌then◌else◌, not, nat_lt}
 use Rattle.rvs_tree.specs.Data.{depth}
 use Rattle.rvs_tree.specs.Value.{Value, scalar_value}
@@ -9,11 +9,11 @@ use Rattle.rvs_yaml.specs.Checks.{Checked, ◌>>=◌, ◌>>◌, check, mapped}
 use Rattle.rvs_yaml.specs.Flow.{flow_value}
 use Rattle.rvs_yaml.specs.Stack.{Open, known_of}
 use Rattle.rvs_yaml.specs.Filling.{with_own, filled}
-use Rattle.rvs_yaml.specs.Front.{ends, front_value, checked_front}
+use Rattle.rvs_yaml.specs.Front.{ends}
 use Rattle.rvs_yaml.specs.Answer.{within_limits}
 use Rattle.rvs_yaml.specs.Reader.{kept, DeniesFront, Denies}
-use Rattle.rvs_yaml.specs.Sketched.{IsSketch, SketchedAs}
-use Rattle.rvs_yaml.specs.Gives.{Fails, Gives}
+use Rattle.rvs_yaml.specs.Sketched.{SketchedAs}
+use Rattle.rvs_yaml.specs.Gives.{Fails}
 use Rattle.rvs_yaml.specs.declared.sketch.Sketch.{Sketch}
 use Rattle.rvs_yaml_text.specs.declared.kind.YamlKind.{YamlKind}
 use Rattle.rvs_yaml_text.specs.declared.kind.YamlKind.TheVariants.{TooDeep, TooManyNodes}

@@ -1,7 +1,7 @@
 -- What is read where other values stand for those of the anchors.
 use Rattle.std.proofs.Common.{◌≡◌, ℕ, Bool, true, false, cond, List, [], ◌∷◌, ◌++◌, map, Option, Some, None, Ok, Err, refl, sym, ap, ◌∙◌}
-use Rattle.std.specs.Prelude.{◌&&◌, ◌||◌, ◌==◌, not, option_map, bytes_eq, if◌then◌else◌}
-use Rattle.rvs_tree.specs.Data.{Data, scalar, sequence, mapping, Items, no_items, item, items_of}
+use Rattle.std.specs.Prelude.{◌&&◌, ◌||◌, not, option_map, bytes_eq, if◌then◌else◌}
+use Rattle.rvs_tree.specs.Data.{Data, scalar, sequence, mapping, no_items, items_of}
 use Rattle.rvs_tree.specs.Value.{Value, Written, scalar_value, list_value, map_value, trees, plus, nodes_from, written_nodes_from, text_nodes, is_map_or_empty, are_maps_or_empty, is_mergeable, has_key, explicit_keys}
 use Rattle.rvs_tree.specs.Standin.{thin, standin, formed_value}
 use Rattle.rvs_tree.proofs.Sums.{map-append}
@@ -10,7 +10,7 @@ use Rattle.rvs_yaml.specs.Checks.{Checked, ◌>>=◌, ◌>>◌, check, mapped}
 use Rattle.rvs_yaml.specs.Anchors.{Anchors, lookup, known_alias, thinned, formed}
 use Rattle.rvs_yaml.specs.Entry.{written}
 use Rattle.rvs_yaml.specs.Flow.{Place, member, behind_member, key_place, entry_value, behind_entry, first_place, new_key, with_value, with_comma, with_key, with_cut_key, with_colon_scalar, with_alias, with_fault, with_token, may_open, closes, ends_with, entry_fits, last_fits, fits, merged_well, flow_value}
-use Rattle.rvs_yaml.specs.FlowSteps.{Reading, open_in, whole, closed_by, into, moved, flow_step, flow_steps, flow_end}
+use Rattle.rvs_yaml.specs.FlowSteps.{Reading, open_in, whole, closed_by, into, moved, flow_step, flow_steps}
 use Rattle.rvs_yaml.specs.FlowParts.{first_reading, ended, formed_flow}
 use Rattle.rvs_yaml_text.specs.declared.kind.YamlKind.{YamlKind}
 use Rattle.rvs_yaml_text.specs.declared.kind.YamlKind.TheVariants.{BadFlow, BadScalar, DuplicateKey}

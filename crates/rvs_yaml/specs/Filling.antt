@@ -1,7 +1,7 @@
 -- A word is put on the stack without its flow collection, whose value is filled in behind.
-use Rattle.std.specs.Prelude.{ℕ, List, [], ◌∷◌, ◌++◌, Option, Some, None, Ok}
+use Rattle.std.specs.Prelude.{List, [], ◌∷◌, ◌++◌, Option, Some, None, Ok}
 use Rattle.rvs_tree.specs.Value.{Value}
-use Rattle.rvs_yaml_text.specs.Word.{Bracket, Token, Content, nothing, text, alias, flow, faulty, Shape, dash, key, leaf, refused, Word}
+use Rattle.rvs_yaml_text.specs.Word.{Bracket, Token, Content, text, flow, Shape, key, leaf, Word}
 use Rattle.rvs_yaml.specs.Checks.{Checked, ◌>>=◌}
 use Rattle.rvs_yaml.specs.Flow.{flow_value}
 use Rattle.rvs_yaml.specs.Stack.{Open, known_of}

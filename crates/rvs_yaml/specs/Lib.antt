@@ -3,6 +3,7 @@ pub mod Answer
 pub mod Block
 pub mod Checks
 pub mod Entry
+pub mod FillView
 pub mod Filling
 pub mod Flow
 pub mod FlowParts

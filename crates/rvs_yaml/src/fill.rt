@@ -6,7 +6,8 @@ ghost use Rattle.rvs_tree.specs.Value as value_spec;
 ghost use Rattle.rvs_tree.specs.ValueView.{value_view};
 ghost use Rattle.rvs_yaml_text.specs.Tokens.{tokens_of};
 ghost use Rattle.rvs_yaml_text.specs.Word as word_spec;
-ghost use Rattle.rvs_yaml_text.specs.WordView.{bracket_view};
+ghost use Rattle.rvs_yaml_text.specs.WordView.{bracket_view, content_view, shape_view};
+ghost use Rattle.rvs_yaml.specs.FillView.{flow_view, content_parts, shape_parts};
 ghost use Rattle.rvs_yaml.specs.Filling as spec;
 ghost use Rattle.rvs_yaml.specs.Flow.{flow_value};
 ghost use Rattle.rvs_yaml.specs.Front.{ends};
@@ -21,7 +22,7 @@ use crate::height::flow_height;
 use crate::known::Known;
 use crate::open::{Block, Open};
 use rvs_tree::{DEEP, Value};
-use rvs_yaml_text::{Bracket, YamlKind};
+use rvs_yaml_text::{Bracket, Content, Shape, YamlKind};
 use std::alloc::Global;
 
 /// Refuses a line whose front has too many nodes and can't be too deep, where this stands for the
@@ -108,7 +109,7 @@ fn has_star(text: &str) -> bool {
 
 /// Fills in the value of a flow collection as that of the last word. An alias is counted before what
 /// it stands for is taken.
-pub(crate) fn fill<'a>(
+fn fill<'a>(
     alloc: Global,
     blocks: &mut Vec<Open<'a>>,
     bracket: Bracket,
@@ -130,4 +131,55 @@ pub(crate) fn fill<'a>(
     let own = value_in(alloc, blocks.as_slice(), &block, head.line, bracket, text)?;
     blocks.push(Open { block, head, own })?;
     Ok(())
+}
+
+/// What stands on a line without its flow collection, and that.
+fn hollow_content<'a>(
+    alloc: Global,
+    content: Content<'a>,
+) -> (Content<'a>, Option<(Bracket, &'a str)>)
+    ensures { content_parts result ≡ (spec.hollow_content (content_view content.entry), spec.flow_in (content_view content.entry)) }
+{
+    match content {
+        Content::Flow(bracket, text) => (Content::Text(String::new(alloc)), Some((bracket, text))),
+        Content::Nothing => (Content::Nothing, None),
+        Content::Text(text) => (Content::Text(text), None),
+        Content::Alias(name, ended) => (Content::Alias(name, ended), None),
+        Content::Faulty(kind) => (Content::Faulty(kind), None),
+    }
+}
+
+/// What a word is without its flow collection, and that.
+pub(crate) fn hollow_shape<'a>(
+    alloc: Global,
+    shape: Shape<'a>,
+) -> (Shape<'a>, Option<(Bracket, &'a str)>)
+    ensures { shape_parts result ≡ (spec.hollow_shape (shape_view shape.entry), spec.flow_of (shape_view shape.entry)) }
+{
+    match shape {
+        Shape::Key(key, anchor, content) => {
+            let (content, flow) = hollow_content(alloc, content);
+            (Shape::Key(key, anchor, content), flow)
+        }
+        Shape::Leaf(content) => {
+            let (content, flow) = hollow_content(alloc, content);
+            (Shape::Leaf(content), flow)
+        }
+        Shape::Dash(anchor) => (Shape::Dash(anchor), None),
+        Shape::Refused(kind) => (Shape::Refused(kind), None),
+    }
+}
+
+/// Fills in the value of a flow collection, where there is one.
+pub(crate) fn fill_flow<'a>(
+    alloc: Global,
+    blocks: &mut Vec<Open<'a>>,
+    flow: Option<(Bracket, &'a str)>,
+) -> Result<(), YamlKind>
+    ensures { Passes (λ u. stack_view blocks.new.items) result (spec.filled (flow_view flow.entry) (stack_view blocks.old.items)) }
+{
+    match flow {
+        Some((bracket, text)) => fill(alloc, blocks, bracket, text),
+        None => Ok(()),
+    }
 }

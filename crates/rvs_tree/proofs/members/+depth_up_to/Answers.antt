@@ -1,5 +1,5 @@
 use Rattle.std.proofs.Common.{◌≡◌, ◌+◌, ◌-◌, ◌∙◌, sym, ap, arith, length, min, take, add-one, false}
-use Rattle.rvs_tree.specs.Data.{depth, members_of, is_scalar}
+use Rattle.rvs_tree.specs.Data.{members_of, is_scalar}
 use Rattle.rvs_tree.specs.Bound.{members_depth}
 use Rattle.rvs_tree.specs.TreeView.{view}
 use Rattle.rvs_tree.proofs.Sums.{take_whole}

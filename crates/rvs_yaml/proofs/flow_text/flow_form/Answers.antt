@@ -1,12 +1,11 @@
 use Rattle.std.proofs.Common.{◌≡◌, ◌-◌, zero, suc, ◌∙◌, sym, ap, arith, true, false}
 use Rattle.std.proofs.lemmas.Result.{err_from_is_err_and}
 use Rattle.rvs_yaml.specs.Checks.{◌>>=◌}
-use Rattle.rvs_yaml_text.specs.Tokens.{tokens, tokens_of}
+use Rattle.rvs_yaml_text.specs.Tokens.{tokens}
 use Rattle.rvs_yaml.specs.TokenParts.{flowing, is_flow_end, next_flowing}
 use Rattle.rvs_yaml.specs.FlowSteps.{flow_steps}
 use Rattle.rvs_yaml.specs.FlowParts.{ended}
 use Rattle.rvs_yaml.specs.StackView.{known_view}
-use Rattle.rvs_yaml_text.specs.WordView.{bracket_view}
 use Rattle.rvs_yaml.specs.FlowView.{reading_view, flowing_view}
 use Rattle.rvs_yaml.proofs.Giving.{agrees_gives, fails_first}
 use Rattle.rvs_yaml.proofs.Tokens.{tokens-end, tokens-next}

@@ -1,4 +1,4 @@
-use Rattle.std.proofs.Common.{◌∙◌, sym, ap, true}
+use Rattle.std.proofs.Common.{◌∙◌, ap}
 use Rattle.rvs_yaml_text.specs.Tokens.{tokens_of}
 use Rattle.rvs_yaml_text.specs.WordView.{bracket_view}
 use Rattle.rvs_yaml.specs.Anchors.{formed}

@@ -1,4 +1,4 @@
-use Rattle.std.proofs.Common.{◌≡◌, ◌≤◌, ◌+◌, max, min, length}
+use Rattle.std.proofs.Common.{◌≤◌, ◌+◌, max, min, length}
 use Rattle.rvs_yaml_text.specs.Tokens.{tokens, tokens_of}
 use Rattle.rvs_yaml.specs.Heights.{height}
 use Rattle.rvs_yaml.specs.StackView.{all_known}
