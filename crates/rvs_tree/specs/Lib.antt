@@ -2,6 +2,8 @@ pub mod Bound
 pub mod Data
 pub mod OwnKeys
 pub mod PairsView
+pub mod Sifted
+pub mod Standin
 pub mod TreeSize
 pub mod TreeView
 pub mod Value

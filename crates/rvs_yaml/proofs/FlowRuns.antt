@@ -1,5 +1,5 @@
 -- Reading a flow collection from left to right gives its value.
-use Rattle.std.proofs.Common.{◌≡◌, ℕ, Bool, true, List, [], ◌∷◌, ◌++◌, Some, Ok, Err, refl, sym, ap, ◌∙◌}
+use Rattle.std.proofs.Common.{◌≡◌, ℕ, Bool, true, false, List, [], ◌∷◌, ◌++◌, Some, Ok, Err, refl, sym, ap, ◌∙◌}
 use Rattle.std.specs.Prelude.{◌&&◌}
 use Rattle.rvs_tree.specs.Value.{Value, Written}
 use Rattle.rvs_yaml.specs.Anchors.{Anchors}
@@ -41,7 +41,7 @@ into-rest known line v [] n = refl
 into-rest known line v (o ∷ outer) n = sym (bind_assoc (with_value o.1 v.0) _ _)
 
 close-going : (known : Anchors) (line : ℕ) (good : Bool) (b c : Bracket) (place : Place) (outer : List (Bracket × Place)) (n : Nest) →
-    resumed known line good b place outer (one (closing c) n) ≡ (flow_step known line (open_in good b place outer) (closing c) >>= λ r. going known line r n)
+    resumed known line good b place outer (one (closing c) n) ≡ (flow_step false known line (open_in good b place outer) (closing c) >>= λ r. going known line r n)
 close-going known line good b c place outer n =
     resumed-rest known line good b place outer (one (closing c) n)
     ∙ bind_assoc (closes line place) _ _
@@ -54,7 +54,7 @@ token-going known line good b outer m n =
     bind_assoc m _ _ ∙ bind_same m _ _ (λ next. sym (resumed-rest known line (good && fits next) b next outer n)) ∙ sym (bind_assoc m _ _)
 
 open-going : (known : Anchors) (line : ℕ) (good : Bool) (b c : Bracket) (place : Place) (outer : List (Bracket × Place)) (n : Nest) →
-    resumed known line good b place outer (group c (inside n) (ending n) (behind n)) ≡ (flow_step known line (open_in good b place outer) (opening c) >>= λ r. going known line r n)
+    resumed known line good b place outer (group c (inside n) (ending n) (behind n)) ≡ (flow_step false known line (open_in good b place outer) (opening c) >>= λ r. going known line r n)
 open-going known line good b c place outer n =
     resumed-rest known line good b place outer (group c (inside n) (ending n) (behind n))
     ∙ then_assoc (may_open place) _ _
@@ -65,7 +65,7 @@ open-going known line good b c place outer n =
     ∙ then_same (ends_with c (ending n)) _ _ (bind_assoc (with_value place v.0) _ _ ∙ bind_same (with_value place v.0) _ _ (λ next. sym (resumed-rest known line (v.1 && fits next) b next outer (behind n))))))
     ∙ sym (then_assoc (may_open place) _ _)
 
-step-going : (known : Anchors) (line : ℕ) (r : Reading) (m : Token) (ms : List Token) → going known line r (nest (m ∷ ms)) ≡ (flow_step known line r m >>= λ s. going known line s (nest ms))
+step-going : (known : Anchors) (line : ℕ) (r : Reading) (m : Token) (ms : List Token) → going known line r (nest (m ∷ ms)) ≡ (flow_step false known line r m >>= λ s. going known line s (nest ms))
 step-going known line (open_in good b place outer) (opening c) ms = open-going known line good b c place outer (nest ms)
 step-going known line (open_in good b place outer) (closing c) ms = close-going known line good b c place outer (nest ms)
 step-going known line (open_in good b place outer) comma ms = resumed-rest known line good b place outer _ ∙ token-going known line good b outer (with_token known line place comma) (nest ms)
@@ -101,18 +101,18 @@ end-going known line (open_in good b place []) = no_end line good place
 end-going known line (open_in good b place (o ∷ outer)) = no_end line good place
 end-going known line (whole v) = refl
 
-steps-going : (known : Anchors) (line : ℕ) (ms : List Token) (r : Reading) → going known line r (nest ms) ≡ (flow_steps known line r ms >>= flow_end)
+steps-going : (known : Anchors) (line : ℕ) (ms : List Token) (r : Reading) → going known line r (nest ms) ≡ (flow_steps false known line r ms >>= flow_end)
 steps-going known line [] r = end-going known line r
 steps-going known line (m ∷ ms) r =
-    step-going known line r m ms ∙ bind_same (flow_step known line r m) _ _ (λ s. steps-going known line ms s) ∙ sym (bind_assoc (flow_step known line r m) _ _)
+    step-going known line r m ms ∙ bind_same (flow_step false known line r m) _ _ (λ s. steps-going known line ms s) ∙ sym (bind_assoc (flow_step false known line r m) _ _)
 
 -- Reading the tokens from left to right gives the value of the collection.
 pub flow_value-steps : (known : Anchors) (line : ℕ) (b : Bracket) (ms : List Token) →
-    flow_value known line b ms ≡ ((flow_steps known line (open_in true b (first_place b) []) ms >>= flow_end) >>= merged_well)
+    flow_value known line b ms ≡ ((flow_steps false known line (open_in true b (first_place b) []) ms >>= flow_end) >>= merged_well)
 flow_value-steps known line b ms = ap (λ m. m >>= merged_well) (steps-going known line ms (open_in true b (first_place b) []))
 
-pub flow-ended : (known : Anchors) (line : ℕ) (b : Bracket) (ms : List Token) → flow_value known line b ms ≡ (flow_steps known line (first_reading b) ms >>= ended)
-flow-ended known line b ms = flow_value-steps known line b ms ∙ bind_assoc (flow_steps known line (first_reading b) ms) _ _
+pub flow-ended : (known : Anchors) (line : ℕ) (b : Bracket) (ms : List Token) → flow_value known line b ms ≡ (flow_steps false known line (first_reading b) ms >>= ended)
+flow-ended known line b ms = flow_value-steps known line b ms ∙ bind_assoc (flow_steps false known line (first_reading b) ms) _ _
 
 pub last_fits-push : (ws : List Written) (w : Written) → last_fits (ws ++ w ∷ []) ≡ entry_fits w
 last_fits-push [] w = refl

@@ -1,7 +1,9 @@
 -- Results against checks that go on.
-use Rattle.std.proofs.Common.{◌≡◌, Result, Ok, Err, ap, ◌∙◌, sym}
+use Rattle.std.proofs.Common.{◌≡◌, List, Result, Ok, Err, ap, subst, ◌∙◌, sym}
 use Rattle.rvs_yaml.specs.Checks.{Checked, ◌>>=◌}
 use Rattle.rvs_yaml.specs.Gives.{Agrees, Gives, Fails}
+use Rattle.rvs_yaml.specs.Reader.{kept, Passes}
+use Rattle.rvs_yaml.specs.Stack.{Open}
 use Rattle.rvs_yaml_text.specs.declared.kind.YamlKind.{YamlKind}
 use Rattle.rvs_yaml_text.specs.declared.kind.YamlKind.TheVariants.{NoMemory}
 
@@ -25,3 +27,14 @@ fails_with kind m is = is
 pub agrees_gives : {X Y : Type 0} (see : X → Y) (r : Result X YamlKind) (m t : Checked Y) → m ≡ t → Agrees see r m → Gives see r t
 agrees_gives see (Ok x) m t e h = sym e ∙ h
 agrees_gives see (Err kind) m t e h = fails_with kind t (sym e ∙ h)
+
+pub passes_same : {X : Type 0} (see : X → List Open) (r : Result X YamlKind) (m t : Checked (List Open)) → m ≡ t → Passes see r m → Passes see r t
+passes_same see r m t e h = subst (Passes see r) e h
+
+pub gives_passes : {X : Type 0} (see : X → List Open) (r : Result X YamlKind) (m t : Checked (List Open)) → m ≡ t → Gives see r m → Passes see r t
+gives_passes see (Ok x) m t e h = sym e ∙ h
+gives_passes see (Err kind) m t e h = fails_to kind m (t >>= kept) (λ is. ap (λ n. n >>= kept) (sym e ∙ is)) h
+
+-- what fails at first fails in the end
+pub fails_kept : (kind : YamlKind) (m t : Checked (List Open)) (f : List Open → Checked (List Open)) → (m >>= f) ≡ t → Fails kind m → Fails kind (t >>= kept)
+fails_kept kind m t f e h = fails_to kind m (t >>= kept) (λ is. ap (λ n. n >>= kept) (sym e ∙ ap (λ n. n >>= f) is)) h

@@ -1,21 +1,21 @@
 -- Sketches of collections with one member more, and how deep trees are.
-use Rattle.std.proofs.Common.{◌≡◌, ℕ, zero, suc, ◌+◌, ◌-◌, ◌<◌, ◌≤◌, max, Bool, true, false, List, [], ◌∷◌, map, length, take, slice_get, Some, None, Ok, Err, refl, sym, ap, ◌∙◌, arith}
+use Rattle.std.proofs.Common.{◌≡◌, ℕ, ◌+◌, ◌-◌, ◌<◌, ◌≤◌, Bool, true, false, List, [], ◌∷◌, length, take, slice_get, Some, None, Ok, Err, refl, sym, ap, ◌∙◌, arith}
 use Rattle.std.specs.Prelude.{◌&&◌, ◌||◌, not, nat_lt}
 use Rattle.std.proofs.lemmas.Bool.Decides.{nat_tests}
 use Rattle.rvs_yaml.specs.Checks.{Checked, ◌>>=◌, check}
-use Rattle.rvs_tree.specs.Data.{Data, scalar, sequence, mapping, Items, no_items, item, Entries, no_entries, entry, list_of, pairs_of, members_of, is_scalar, depth, items_depth, entries_depth}
+use Rattle.rvs_tree.specs.Data.{Data, scalar, sequence, mapping, depth}
 use Rattle.rvs_tree.specs.Value.{Value, scalar_value, merged_pairs, is_map_or_empty}
-use Rattle.rvs_tree.specs.Bound.{members_depth, pairs_depth}
+use Rattle.rvs_tree.specs.Bound.{pairs_depth}
 use Rattle.rvs_yaml.specs.StepParts.{closed_value}
-use Rattle.rvs_yaml.specs.Front.{ends, front_value}
+use Rattle.rvs_yaml.specs.Front.{own_value, ends, front_value}
 use Rattle.rvs_yaml.specs.Sketched.{IsSketch}
 use Rattle.rvs_yaml.specs.declared.sketch.Sketch.{Sketch}
 use Rattle.rvs_yaml_text.specs.declared.kind.YamlKind.{YamlKind}
 use Rattle.std.proofs.lemmas.Option.{slice_get-get_or}
-use Rattle.rvs_yaml.specs.StackView.{done_view, stack_view}
+use Rattle.rvs_yaml.specs.StackView.{done_view, open_view, stack_view}
 use Rattle.rvs_yaml.specs.declared.open.Open.{Open}
 use Rattle.rvs_yaml_text.specs.declared.kind.YamlKind.TheVariants.{BadMerge}
-use Rattle.rvs_tree.proofs.Sums.{list_shallower}
+use Rattle.rvs_tree.proofs.Sums.{list_shallower, take_whole}
 use Rattle.rvs_yaml.proofs.Lookups.{stack-more}
 use Rattle.std.proofs.Common.{get_or}
 
@@ -40,34 +40,6 @@ pub ends-top : (bs : List Open) (m : ℕ) (b : Open) (v : Value) → m < length 
     ends v (stack_view (take (m + 1) bs)) ≡ (closed_value (done_view (get_or bs m b).block.done) (get_or bs m b).block.line v >>= λ w. ends w (stack_view (take m bs)))
 ends-top bs m b v h = ap (ends v) (stack-more bs m b h)
 
-items-depth : (ds : Items) → items_depth ds ≡ members_depth (list_of ds)
-items-depth no_items = refl
-items-depth (item d ds) = ap (max (depth d)) (items-depth ds)
-
-entries-depth : (es : Entries) → entries_depth es ≡ members_depth (map (λ p. p.1) (pairs_of es))
-entries-depth no_entries = refl
-entries-depth (entry k d es) = ap (max (depth d)) (entries-depth es)
-
-pub depth-members : (d : Data) → is_scalar d ≡ false → depth d ≡ suc (members_depth (members_of d))
-depth-members (scalar text line) h = cc
-depth-members (sequence ds line) h = ap suc (items-depth ds)
-depth-members (mapping es line) h = ap suc (entries-depth es)
-
-member-depth : (ds : List Data) (i : ℕ) (m : Data) → slice_get ds i ≡ Some m → depth m ≤ members_depth ds
-member-depth [] zero m h = cc
-member-depth [] (suc i) m h = cc
-member-depth (d ∷ ds) zero m h = let same : d ≡ m = cc in omega (arith, ap depth same)
-member-depth (d ∷ ds) (suc i) m h = omega (arith, member-depth ds i m h)
-
-pub member-shallower : (d : Data) (i : ℕ) (m : Data) → is_scalar d ≡ false → slice_get (members_of d) i ≡ Some m → depth m < depth d
-member-shallower d i m s h = omega (arith, depth-members d s, member-depth (members_of d) i m h)
-
-pub take-get : (ds : List Data) (i : ℕ) (m : Data) → slice_get ds i ≡ Some m → members_depth (take (suc i) ds) ≡ max (members_depth (take i ds)) (depth m)
-take-get [] zero m h = cc
-take-get [] (suc i) m h = cc
-take-get (d ∷ ds) zero m h = let same : d ≡ m = cc in omega (arith, ap depth same)
-take-get (d ∷ ds) (suc i) m h = omega (arith, take-get ds i m h)
-
 pub lt_test : (a b : ℕ) → a < b → true ≡ nat_lt a b
 lt_test a b h = grind (arith, nat_tests)
 
@@ -85,6 +57,36 @@ pub no_last : (bs : List Open) → None ≡ slice_get bs (length bs - 1) → fro
 no_last [] h = refl
 no_last (x ∷ bs) h = let there : slice_get (x ∷ bs) (length (x ∷ bs) - 1) ≡ Some (get_or (x ∷ bs) (length (x ∷ bs) - 1) x) = slice_get-get_or (x ∷ bs) _ x (omega arith) in cc
 
+last-here : (bs : List Open) (top : Open) → Some top ≡ slice_get bs (length bs - 1) → length bs - 1 < length bs → get_or bs (length bs - 1) top ≡ top
+last-here bs top h n = let there : slice_get bs (length bs - 1) ≡ Some (get_or bs (length bs - 1) top) = slice_get-get_or bs (length bs - 1) top n in cc
+
+pub some-last : (bs : List Open) (top : Open) → Some top ≡ slice_get bs (length bs - 1) → length bs - 1 < length bs
+some-last [] top h = cc
+some-last (b ∷ bs) top h = omega arith
+
+abbrev pub top_closed : Open → Checked Value
+top_closed top = closed_value (done_view top.block.done) top.block.line (own_value (open_view top))
+
+-- the block on top, and those below it
+pub stack-top : (bs : List Open) (top : Open) → Some top ≡ slice_get bs (length bs - 1) → stack_view bs ≡ open_view top ∷ stack_view (take (length bs - 1) bs)
+stack-top bs top h =
+    let m = length bs - 1 in
+    let inside = some-last bs top h in
+    let one : m + 1 ≡ length bs = omega arith in
+    sym (ap stack_view (ap (λ n. take n bs) one ∙ take_whole bs)) ∙ stack-more bs m top inside ∙ ap (λ b. open_view b ∷ stack_view (take m bs)) (last-here bs top h inside)
+
+-- the value of the open blocks, from the block on top
+pub front-top : (bs : List Open) (top : Open) → Some top ≡ slice_get bs (length bs - 1) → (top_closed top >>= λ w. ends w (stack_view (take (length bs - 1) bs))) ≡ front_value (stack_view bs)
+front-top bs top h =
+    sym (ap front_value (stack-top bs top h))
+
+pub top-ok : (bs : List Open) (top : Open) (sk : Sketch) → Some top ≡ slice_get bs (length bs - 1) → ((v : Value) × (top_closed top ≡ Ok v) × IsSketch v sk) →
+    (v : Value) × IsSketch v sk × (ends v (stack_view (take (length bs - 1) bs)) ≡ front_value (stack_view bs))
+top-ok bs top sk h (v, e, s) = (v, s, sym (ap (λ m. m >>= λ w. ends w (stack_view (take (length bs - 1) bs))) e) ∙ front-top bs top h)
+
+pub top-err : (bs : List Open) (top : Open) (kind : YamlKind) → Some top ≡ slice_get bs (length bs - 1) → top_closed top ≡ Err kind → front_value (stack_view bs) ≡ Err kind
+top-err bs top kind h e = sym (front-top bs top h) ∙ ap (λ m. m >>= λ w. ends w (stack_view (take (length bs - 1) bs))) e
+
 abbrev pub closing : Open → Value → Checked Value
 closing b v = closed_value (done_view b.block.done) b.block.line v
 
@@ -100,3 +102,7 @@ pub sketch-ok : (bs : List Open) (m : ℕ) (b : Open) (sk new : Sketch) (t : Che
     ((v : Value) × IsSketch v sk × (ends v (stack_view (take (m + 1) bs)) ≡ t)) → ((v : Value) → IsSketch v sk → (w : Value) × (closing (get_or bs m b) v ≡ Ok w) × IsSketch w new) →
     (w : Value) × IsSketch w new × (ends w (stack_view (take m bs)) ≡ t)
 sketch-ok bs m b sk new t h (v, s, e) f = sketch-next bs m b new t v h e (f v s)
+
+-- with no block left, the value is what was looked at
+pub ended-sketch : (bs : List Open) (n : ℕ) (sk : Sketch) (t : Checked Value) → n ≡ 0 → ((w : Value) × IsSketch w sk × (ends w (stack_view (take n bs)) ≡ t)) → (w : Value) × (t ≡ Ok w) × IsSketch w sk
+ended-sketch bs n sk t z (w, s, e) = (w, sym e ∙ ap (λ m. ends w (stack_view (take m bs))) z, s)

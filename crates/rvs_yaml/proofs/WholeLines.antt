@@ -12,6 +12,8 @@ use Rattle.std.proofs.lemmas.Str.{IsUtf8-from_is_utf8, is_utf8-from_IsUtf8}
 use Rattle.rvs_yaml.specs.Checks.{Checked, ◌>>=◌, ◌>>◌}
 use Rattle.rvs_yaml_text.specs.Word.{Word, refused}
 use Rattle.rvs_yaml.specs.Stack.{Open, step, steps}
+use Rattle.rvs_yaml.specs.Filling.{Flow, flow_of, hollow, filled}
+use Rattle.rvs_yaml.proofs.Filling.{step-hollow}
 use Rattle.rvs_yaml_text.specs.Text.{word_at, words_at, is_mark, line_words}
 use Rattle.rvs_yaml_text.specs.declared.kind.YamlKind.TheVariants.{NotUtf8, Unsupported}
 
@@ -75,3 +77,8 @@ checked-nothing bs after line started bytes none kept e =
 pub both_true : (x y : Bool) → (x && y) ≡ true → (x ≡ true) × (y ≡ true)
 both_true true y h = (refl, h)
 both_true false y h = cc
+
+-- a word alone, from what it is without its flow collection
+pub word-parts : (bs : List Open) (w u : Word) (f : Flow) (ws : List Word) → ws ≡ w ∷ [] → u ≡ hollow w → f ≡ flow_of w.shape → (step bs u >>= filled f) ≡ steps bs ws
+word-parts bs w u f ws e h k =
+    ap (λ x. step bs x >>= filled f) h ∙ ap (λ g. step bs (hollow w) >>= filled g) k ∙ sym (step-hollow bs w) ∙ steps-one bs w ∙ sym (ap (steps bs) e)

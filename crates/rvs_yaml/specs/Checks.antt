@@ -19,3 +19,8 @@ infixl 10 ◌>>◌
 abbrev pub ◌>>◌ : {A B : Type 0} → Checked A → Checked B → Checked B
 (Ok x) >> next = next
 (Err e) >> next = Err e
+
+-- what is checked, seen by a function
+abbrev pub mapped : {A B : Type 0} → (A → B) → Checked A → Checked B
+mapped see (Ok x) = Ok (see x)
+mapped see (Err e) = Err e

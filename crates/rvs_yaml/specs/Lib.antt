@@ -3,12 +3,15 @@ pub mod Answer
 pub mod Block
 pub mod Checks
 pub mod Entry
+pub mod FillView
+pub mod Filling
 pub mod Flow
 pub mod FlowParts
 pub mod FlowSteps
 pub mod FlowView
 pub mod Front
 pub mod Gives
+pub mod Heights
 pub mod LineParts
 pub mod TokenParts
 pub mod Reader

@@ -41,6 +41,10 @@ open_view b = parts.opened (block_view b.block) (head_view b.head) (value_view b
 abbrev pub stack_view : List Open → List spec.Open
 stack_view bs = reverse (map open_view bs)
 
--- the anchors that are known at a place
+-- the anchors in these blocks
+abbrev pub all_known : Known → anchors_spec.Anchors
+all_known k = anchors_view k.latest.now.anchors.items ++ spec.known_of (stack_view k.blocks.now)
+
+-- the anchors that are known at a place, or what stands for their values
 abbrev pub known_view : Known → anchors_spec.Anchors
-known_view k = anchors_view k.latest.now.anchors.items ++ spec.known_of (stack_view k.blocks.now)
+known_view k = anchors_spec.formed k.poor (all_known k)

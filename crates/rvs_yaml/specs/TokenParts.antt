@@ -22,9 +22,9 @@ abbrev pub is_flow_end : Bool → List ℕ → Bool
 is_flow_end spaced bytes = is_empty bytes || (starts_with 35 bytes && spaced)
 
 -- one space or one token more
-abbrev pub next_flowing : Anchors → ℕ → Flowing → Checked Flowing
-next_flowing known line f =
+abbrev pub next_flowing : Bool → Anchors → ℕ → Flowing → Checked Flowing
+next_flowing poor known line f =
     elim (starts_with 32 f.rest) [
       | true ↦ Ok (flowing f.reading f.closed true (drop 1 f.rest))
-      | false ↦ flow_step known line f.reading (next_token f.closed f.rest).0 >>= λ r. Ok (flowing r (closes (next_token f.closed f.rest).0) false (next_token f.closed f.rest).1)
+      | false ↦ flow_step poor known line f.reading (next_token f.closed f.rest).0 >>= λ r. Ok (flowing r (closes (next_token f.closed f.rest).0) false (next_token f.closed f.rest).1)
     ]

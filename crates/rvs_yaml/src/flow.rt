@@ -1,5 +1,5 @@
 // Reading flow collections from left to right.
-ghost use Rattle.std.specs.Prelude.{◌≡◌, Err, Some, if◌then◌else◌};
+ghost use Rattle.std.specs.Prelude.{◌≡◌, true, Err, Some, if◌then◌else◌};
 ghost use Rattle.rvs_tree.specs.Value as value_spec;
 ghost use Rattle.rvs_yaml.specs.Flow as spec;
 ghost use Rattle.rvs_yaml.specs.FlowSteps as steps_spec;
@@ -18,6 +18,7 @@ use crate::known::Known;
 use crate::reading::{Level, Place, Reading};
 use rvs_tree::{
     EntryList, Value, ValueList, Written, is_mergeable, list_value, map_value, scalar_value,
+    thin_list_value, thin_map_value,
 };
 use rvs_yaml_text::{Bracket, Key, Token, YamlKind};
 use std::alloc::Global;
@@ -131,7 +132,12 @@ fn start_fault(place: &Place, kind: YamlKind) -> YamlKind
 }
 
 /// The value of an alias that stands here.
-fn alias_here(known: &Known<'_, '_>, place: &Place, name: &str) -> Result<Value, YamlKind>
+fn alias_here(
+    alloc: Global,
+    known: &Known<'_, '_>,
+    place: &Place,
+    name: &str,
+) -> Result<Value, YamlKind>
     ensures { Gives value_view result (parts.alias_at (known_view known.now) (place_view place.now) name.now) }
 {
     match place {
@@ -139,7 +145,7 @@ fn alias_here(known: &Known<'_, '_>, place: &Place, name: &str) -> Result<Value,
             if name.is_empty() {
                 return Err(YamlKind::BadFlow);
             }
-            known.alias_value(name)
+            known.alias_value(alloc, name)
         }
         Place::KeyPlace(_) => Err(YamlKind::BadScalar),
         _ => Err(YamlKind::BadFlow),
@@ -155,7 +161,7 @@ fn with_alias(
 ) -> Result<Place, YamlKind>
     ensures { Gives place_view result (spec.with_alias (known_view known.now) (place_view place) name.now) }
 {
-    let value = alias_here(known, &place, name)?;
+    let value = alias_here(alloc, known, &place, name)?;
     with_value(alloc, place, value)
 }
 
@@ -210,6 +216,28 @@ fn closes(alloc: Global, line: u64, place: &Place) -> Result<Value, YamlKind>
         Place::Member(list) | Place::BehindMember(list) => Ok(list_value(alloc, line, list)?),
         Place::KeyPlace(list) | Place::BehindEntry(list) => Ok(map_value(alloc, line, list)?),
         _ => Err(YamlKind::BadFlow),
+    }
+}
+
+/// What stands for the value of a collection that ends here.
+fn thin_closes(alloc: Global, line: u64, place: &Place) -> Result<Value, YamlKind>
+    ensures { Gives value_view result (steps_spec.closed_by true line (place_view place.now)) }
+{
+    match place {
+        Place::Member(list) | Place::BehindMember(list) => Ok(thin_list_value(alloc, line, list)?),
+        Place::KeyPlace(list) | Place::BehindEntry(list) => Ok(thin_map_value(alloc, line, list)?),
+        _ => Err(YamlKind::BadFlow),
+    }
+}
+
+/// The value of a collection that ends here, or what stands for it.
+fn closed_by(alloc: Global, poor: bool, line: u64, place: &Place) -> Result<Value, YamlKind>
+    ensures { Gives value_view result (steps_spec.closed_by poor line (place_view place.now)) }
+{
+    if poor {
+        thin_closes(alloc, line, place)
+    } else {
+        closes(alloc, line, place)
     }
 }
 
@@ -294,15 +322,16 @@ fn opened(
 /// What is read behind a closing bracket.
 fn closed(
     alloc: Global,
+    poor: bool,
     line: u64,
     good: bool,
     level: Level,
     outer: Vec<Level>,
     bracket: Bracket,
 ) -> Result<Reading, YamlKind>
-    ensures { Gives reading_view result (parts.closed line good (bracket_view level.bracket) (place_view level.place) (levels_view outer.items) (bracket_view bracket)) }
+    ensures { Gives reading_view result (parts.closed poor line good (bracket_view level.bracket) (place_view level.place) (levels_view outer.items) (bracket_view bracket)) }
 {
-    let value = closes(alloc, line, &level.place)?;
+    let value = closed_by(alloc, poor, line, &level.place)?;
     ends_with(level.bracket, bracket)?;
     into(alloc, value, good, outer)
 }
@@ -339,12 +368,12 @@ pub(crate) fn flow_step(
     reading: Reading,
     token: Token<'_>,
 ) -> Result<Reading, YamlKind>
-    ensures { Gives reading_view result (steps_spec.flow_step (known_view known.now) line (reading_view reading) (token_view token.entry)) }
+    ensures { Gives reading_view result (steps_spec.flow_step known.now.poor (known_view known.now) line (reading_view reading) (token_view token.entry)) }
 {
     match reading {
         Reading::Inside(good, level, outer) => match token {
             Token::Opening(bracket) => opened(alloc, good, level, outer, bracket),
-            Token::Closing(bracket) => closed(alloc, line, good, level, outer, bracket),
+            Token::Closing(bracket) => closed(alloc, known.poor, line, good, level, outer, bracket),
             _ => moved(alloc, known, line, good, level, outer, token),
         },
         Reading::Whole(_, _) => match token {

@@ -1,10 +1,13 @@
 // The text of flow collections.
-ghost use Rattle.std.specs.Prelude.{◌≡◌, ◌<◌, length};
+ghost use Rattle.std.specs.Prelude.{◌≡◌, ◌<◌, true, false, length};
 ghost use Rattle.rvs_yaml_text.specs.Tokens as spec;
 ghost use Rattle.rvs_yaml.specs.Flow as flow_spec;
 ghost use Rattle.rvs_yaml.specs.TokenParts as parts;
+ghost use Rattle.rvs_yaml.specs.FlowParts as flow_parts;
+ghost use Rattle.rvs_yaml.specs.Checks.{mapped};
+ghost use Rattle.rvs_tree.specs.Standin.{standin};
 ghost use Rattle.rvs_yaml.specs.Gives.{Gives};
-ghost use Rattle.rvs_yaml.specs.StackView.{known_view};
+ghost use Rattle.rvs_yaml.specs.StackView.{all_known, known_view};
 ghost use Rattle.rvs_tree.specs.ValueView.{value_view};
 ghost use Rattle.rvs_yaml_text.specs.WordView.{bracket_view};
 ghost use Rattle.rvs_yaml.specs.FlowView.{flowing_view};
@@ -17,7 +20,7 @@ use rvs_yaml_text::{Bracket, YamlKind, behind_first, closes, next_token, starts_
 use std::alloc::Global;
 
 /// Whether nothing or a comment comes next.
-fn is_flow_end(spaced: bool, bytes: &[u8]) -> bool
+pub(crate) fn is_flow_end(spaced: bool, bytes: &[u8]) -> bool
     ensures { result ≡ parts.is_flow_end spaced bytes.now }
 {
     bytes.is_empty() || (starts_with(b'#', bytes) && spaced)
@@ -31,7 +34,7 @@ fn next_flowing<'a>(
     flowing: Flowing<'a>,
 ) -> Result<Flowing<'a>, YamlKind>
     requires { 0 < length flowing.rest.now }
-    ensures { Gives flowing_view result (parts.next_flowing (known_view known.now) line (flowing_view flowing.entry)) }
+    ensures { Gives flowing_view result (parts.next_flowing known.now.poor (known_view known.now) line (flowing_view flowing.entry)) }
 {
     let Flowing {
         reading,
@@ -58,15 +61,15 @@ fn next_flowing<'a>(
     })
 }
 
-/// The value of a flow collection from behind its first bracket.
-pub(crate) fn flow_value(
+/// The value of a flow collection from behind its first bracket, or what stands for it.
+fn flow_form(
     alloc: Global,
     known: &Known<'_, '_>,
     line: u64,
     bracket: Bracket,
     text: &str,
 ) -> Result<Value, YamlKind>
-    ensures { Gives value_view result (flow_spec.flow_value (known_view known.now) line (bracket_view bracket) (spec.tokens_of text.now)) }
+    ensures { Gives value_view result (flow_parts.formed_flow known.now.poor (known_view known.now) line (bracket_view bracket) (spec.tokens_of text.now)) }
 {
     let mut flowing = Flowing {
         reading: new_reading(alloc, bracket),
@@ -84,4 +87,33 @@ pub(crate) fn flow_value(
         left -= 1;
     }
     flow_end(flowing.reading)
+}
+
+/// The value of a flow collection from behind its first bracket.
+pub(crate) fn flow_value(
+    alloc: Global,
+    known: &Known<'_, '_>,
+    line: u64,
+    bracket: Bracket,
+    text: &str,
+) -> Result<Value, YamlKind>
+    requires { known.now.poor ≡ false }
+    ensures { Gives value_view result (flow_spec.flow_value (known_view known.now) line (bracket_view bracket) (spec.tokens_of text.now)) }
+{
+    flow_form(alloc, known, line, bracket, text)
+}
+
+/// What stands for the value of a flow collection, from behind its first bracket. It takes time and
+/// memory for the text alone, whatever its aliases stand for.
+pub(crate) fn thin_flow_value(
+    alloc: Global,
+    known: &Known<'_, '_>,
+    line: u64,
+    bracket: Bracket,
+    text: &str,
+) -> Result<Value, YamlKind>
+    requires { known.now.poor ≡ true }
+    ensures { Gives value_view result (mapped standin (flow_spec.flow_value (all_known known.now) line (bracket_view bracket) (spec.tokens_of text.now))) }
+{
+    flow_form(alloc, known, line, bracket, text)
 }

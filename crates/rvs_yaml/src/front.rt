@@ -1,14 +1,15 @@
 // The limits on the tree of the lines so far.
-ghost use Rattle.std.specs.Prelude.{◌≡◌, ◌≤◌, ◌∷◌, ◌++◌, ◌&&◌, [], ℕ, min, not, nat_lt, IfOk};
+ghost use Rattle.std.specs.Prelude.{◌≡◌, ◌≤◌, ◌∷◌, ◌++◌, ◌&&◌, [], ℕ, List, min, not, nat_lt, IfOk};
 ghost use Rattle.rvs_tree.specs.Data as data_spec;
 ghost use Rattle.rvs_tree.specs.Value as value_spec;
 ghost use Rattle.rvs_yaml.specs.StepParts as parts;
-ghost use Rattle.rvs_tree.specs.Bound.{entry_depth};
+ghost use Rattle.rvs_tree.specs.Bound.{brought};
 ghost use Rattle.rvs_yaml.specs.Entry.{written};
+ghost use Rattle.rvs_tree.specs.Standin.{standin};
 ghost use Rattle.rvs_yaml.specs.Stack.{done_entries};
 ghost use Rattle.rvs_yaml.specs.Front as spec;
 ghost use Rattle.rvs_yaml.specs.Gives.{Gives};
-ghost use Rattle.rvs_yaml.specs.Sketched.{IsSketch, SketchedAs};
+ghost use Rattle.rvs_yaml.specs.Sketched.{IsSketch, Brings, SketchedAs};
 ghost use Rattle.rvs_tree.specs.TreeView.{view};
 ghost use Rattle.rvs_yaml.specs.StackView.{done_view, open_view, stack_view};
 ghost use Rattle.rvs_tree.specs.ValueView.{value_view, values_view, entries_view, written_view};
@@ -26,10 +27,10 @@ use rvs_yaml_text::{Key, YamlKind};
 use std::alloc::{AllocError, Global};
 
 /// The greatest depth that is accepted.
-const MOST_DEPTH: u64 = 32;
+pub(crate) const MOST_DEPTH: u64 = 32;
 
 /// The greatest number of nodes that is accepted.
-const MOST_NODES: u64 = 500_000;
+pub(crate) const MOST_NODES: u64 = 500_000;
 
 /// What is known of a value without looking through it.
 fn sketch_of(value: &Value) -> Sketch
@@ -43,6 +44,19 @@ fn sketch_of(value: &Value) -> Sketch
     }
 }
 
+/// What is known of a value for which this one stands, where it is at most so deep.
+pub(crate) fn thin_sketch(thin: &Value, deepest: u64) -> Sketch
+    requires { deepest ≤ 33 }
+    ensures { (v : value_spec.Value) → value_view thin.now ≡ standin v → min (data_spec.depth v.tree) 33 ≤ deepest → IsSketch v result }
+{
+    Sketch {
+        depth: deepest,
+        nodes: thin.nodes,
+        is_map: is_map_or_empty(&thin.tree),
+        mergeable: is_mergeable(&thin.tree),
+    }
+}
+
 /// What is known of an empty scalar.
 fn empty_sketch() -> Sketch
     ensures { (line : ℕ) → IsSketch (value_spec.scalar_value [] line) result }
@@ -52,17 +66,6 @@ fn empty_sketch() -> Sketch
         nodes: 1,
         is_map: true,
         mergeable: true,
-    }
-}
-
-/// What is known of the last word of a block with nothing below it.
-fn own_sketch(top: &Open<'_>) -> Sketch
-    ensures { IsSketch (spec.own_value (open_view top.now)) result }
-{
-    if top.head.sort.opens_block() {
-        empty_sketch()
-    } else {
-        sketch_of(&top.own)
     }
 }
 
@@ -88,7 +91,7 @@ fn list_sketch(list: &ValueList, last: &Sketch) -> Sketch
 /// A bound on the depth of what the open entry brings into its map. A map that is merged brings its
 /// values, and a list of maps theirs.
 fn brought_depth(key: &Key, last: &Sketch) -> u64
-    ensures bound { (v : value_spec.Value) → IsSketch v last.now → min (entry_depth (written (key_view key.now) v)) 33 ≤ result }
+    ensures bound { (taken : List (List ℕ)) → (v : value_spec.Value) → IsSketch v last.now → min (brought taken key.now.merges v.tree) 33 ≤ result }
     ensures shallow { result ≤ 33 }
 {
     if !key.merges || last.depth >= DEEP {
@@ -98,12 +101,13 @@ fn brought_depth(key: &Key, last: &Sketch) -> u64
     last.depth.saturating_sub(hidden)
 }
 
-/// What is known of a map with one entry more.
-fn map_sketch(entries: &EntryList, key: &Key, last: &Sketch) -> Sketch
-    ensures { (line : ℕ) → (v : value_spec.Value) → IsSketch v last.now → IsSketch (value_spec.map_value line (entries_view entries.now.entries.items ++ written (key_view key.now) v ∷ [])) result }
+/// What is known of a map with one entry more, which brings values of at most this depth.
+fn map_sketch(entries: &EntryList, key: &Key, last: &Sketch, deepest: u64) -> Sketch
+    requires { deepest ≤ 33 }
+    ensures { (line : ℕ) → (v : value_spec.Value) → IsSketch v last.now → Brings entries.now (key_view key.now) v deepest → IsSketch (value_spec.map_value line (entries_view entries.now.entries.items ++ written (key_view key.now) v ∷ [])) result }
 {
     Sketch {
-        depth: (entries.depth.max(brought_depth(key, last)) + 1).min(DEEP),
+        depth: (entries.depth.max(deepest) + 1).min(DEEP),
         nodes: plus(
             plus(entries.nodes, text_nodes(key.name.as_str())),
             last.nodes,
@@ -120,14 +124,20 @@ fn is_bad_merge(key: &Key, last: &Sketch) -> bool
     key.merges && !last.mergeable
 }
 
-/// What is known of a map with its open entry.
-fn entry_sketch(entries: &EntryList, key: &Key, last: &Sketch) -> Result<Sketch, YamlKind>
-    ensures { (line : ℕ) → (v : value_spec.Value) → IsSketch v last.now → SketchedAs result (parts.closed_value (done_entries (entries_view entries.now.entries.items) (key_view key.now)) line v) }
+/// What is known of a map with its open entry, which brings values of at most this depth.
+fn entry_sketch(
+    entries: &EntryList,
+    key: &Key,
+    last: &Sketch,
+    deepest: u64,
+) -> Result<Sketch, YamlKind>
+    requires { deepest ≤ 33 }
+    ensures { (line : ℕ) → (v : value_spec.Value) → IsSketch v last.now → Brings entries.now (key_view key.now) v deepest → SketchedAs result (parts.closed_value (done_entries (entries_view entries.now.entries.items) (key_view key.now)) line v) }
 {
     if is_bad_merge(key, last) {
         return Err(YamlKind::BadMerge);
     }
-    Ok(map_sketch(entries, key, last))
+    Ok(map_sketch(entries, key, last, deepest))
 }
 
 /// What is known of a block with its open member.
@@ -136,8 +146,32 @@ fn closed_sketch(block: &Block<'_>, last: Sketch) -> Result<Sketch, YamlKind>
 {
     match &block.done {
         Done::Items(list) => Ok(list_sketch(list, &last)),
-        Done::Entries(entries, key) => entry_sketch(entries, key, &last),
+        Done::Entries(entries, key) => {
+            entry_sketch(entries, key, &last, brought_depth(key, &last))
+        }
         Done::Alone => Ok(last),
+    }
+}
+
+/// What is known of a map whose open entry has this value.
+fn own_entry_sketch(entries: &EntryList, key: &Key, own: &Value) -> Result<Sketch, YamlKind>
+    ensures { (line : ℕ) → SketchedAs result (parts.closed_value (done_entries (entries_view entries.now.entries.items) (key_view key.now)) line (value_view own.now)) }
+{
+    let deepest = entries.brought(key.merges, own);
+    entry_sketch(entries, key, &sketch_of(own), deepest)
+}
+
+/// What is known of the block on top with its last word. What that merges is whole, so only what the
+/// keys leave visible counts.
+fn top_sketch(top: &Open<'_>) -> Result<Sketch, YamlKind>
+    ensures { SketchedAs result (parts.closed_value (done_view top.now.block.done) top.now.block.line (spec.own_value (open_view top.now))) }
+{
+    if top.head.sort.opens_block() {
+        return closed_sketch(&top.block, empty_sketch());
+    }
+    match &top.block.done {
+        Done::Entries(entries, key) => own_entry_sketch(entries, key, &top.own),
+        _ => closed_sketch(&top.block, sketch_of(&top.own)),
     }
 }
 
@@ -148,7 +182,21 @@ fn sketch_front(blocks: &[Open<'_>]) -> Result<Sketch, YamlKind>
     let Some(top) = blocks.last() else {
         return Ok(empty_sketch());
     };
-    let mut sketch = own_sketch(top);
+    let first = top_sketch(top)?;
+    let mut sketch = first;
+    let mut i = blocks.len() - 1;
+    while i > 0 {
+        i -= 1;
+        sketch = closed_sketch(&blocks[i].block, sketch)?;
+    }
+    Ok(sketch)
+}
+
+/// What is known of the tree of the lines so far, where this is known of the last word.
+pub(crate) fn sketch_with(blocks: &[Open<'_>], own: Sketch) -> Result<Sketch, YamlKind>
+    ensures { (v : value_spec.Value) → IsSketch v own → SketchedAs result (spec.ends v (stack_view blocks.now)) }
+{
+    let mut sketch = own;
     let mut i = blocks.len();
     while i > 0 {
         i -= 1;

@@ -1,20 +1,25 @@
 // The anchors that are known at a place.
-ghost use Rattle.std.specs.Prelude.{◌≡◌, ◌++◌, option_map};
+ghost use Rattle.std.specs.Prelude.{◌≡◌, ◌≤◌, ◌++◌, min, option_map, IfOk};
 ghost use Rattle.rvs_yaml.specs.Anchors as spec;
 ghost use Rattle.rvs_yaml.specs.Stack as stack_spec;
 ghost use Rattle.rvs_yaml.specs.Gives.{Gives};
-ghost use Rattle.rvs_yaml.specs.StackView.{stack_view, known_view};
+ghost use Rattle.rvs_yaml.specs.Heights.{found_depth};
+ghost use Rattle.rvs_yaml.specs.StackView.{stack_view, all_known, known_view};
+ghost use Rattle.rvs_tree.specs.Standin.{formed_value};
 ghost use Rattle.rvs_tree.specs.ValueView.{value_view};
 
 use crate::anchor_list::AnchorList;
 use crate::anchoring::find_anchor;
 use crate::open::Open;
-use rvs_tree::{Value, shared_value};
+use rvs_tree::{Value, shared_value, thin_value};
 use rvs_yaml_text::YamlKind;
+use std::alloc::{AllocError, Global};
 
-/// The anchors in the complete members of a block, and the blocks around it.
+/// The anchors in the complete members of a block, and the blocks around it. Where `poor` is true, what
+/// stands for their values serves.
 #[derive(Clone, Copy)]
 pub(crate) struct Known<'a, 'b> {
+    pub poor: bool,
     pub latest: &'b AnchorList<'a>,
     pub blocks: &'b [Open<'a>],
 }
@@ -33,10 +38,21 @@ fn find_in_blocks<'b>(name: &str, blocks: &'b [Open<'_>]) -> Option<&'b Value>
     None
 }
 
+/// The same value, or what stands for it.
+fn formed(alloc: Global, poor: bool, value: &Value) -> Result<Value, AllocError>
+    ensures { IfOk result (λ v. value_view v ≡ formed_value poor (value_view value.now)) }
+{
+    if poor {
+        thin_value(alloc, value)
+    } else {
+        shared_value(value)
+    }
+}
+
 impl<'a, 'b> Known<'a, 'b> {
     /// The value of the latest anchor with this name.
     fn find(&self, name: &str) -> Option<&'b Value>
-        ensures { option_map (λ v. value_view v.now) result ≡ spec.lookup name.now (known_view self.now) }
+        ensures { option_map (λ v. value_view v.now) result ≡ spec.lookup name.now (all_known self.now) }
     {
         if let Some(value) = find_anchor(name, self.latest) {
             return Some(value);
@@ -44,12 +60,24 @@ impl<'a, 'b> Known<'a, 'b> {
         find_in_blocks(name, self.blocks)
     }
 
+    /// A bound on the depth of what an alias with this name stands for. From 33 on depths are counted
+    /// as 33.
+    pub(crate) fn alias_depth(&self, name: &str) -> u64
+        ensures bound { min (found_depth (spec.lookup name.now (all_known self.now))) 33 ≤ result }
+        ensures shallow { result ≤ 33 }
+    {
+        match self.find(name) {
+            Some(value) => value.depth,
+            None => 0,
+        }
+    }
+
     /// What an alias with this name stands for.
-    pub(crate) fn alias_value(&self, name: &str) -> Result<Value, YamlKind>
+    pub(crate) fn alias_value(&self, alloc: Global, name: &str) -> Result<Value, YamlKind>
         ensures { Gives value_view result (spec.known_alias (spec.lookup name.now (known_view self.now))) }
     {
         match self.find(name) {
-            Some(value) => Ok(shared_value(value)?),
+            Some(value) => Ok(formed(alloc, self.poor, value)?),
             None => Err(YamlKind::UnknownAlias),
         }
     }

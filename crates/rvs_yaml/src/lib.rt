@@ -5,9 +5,11 @@
 mod anchor_list;
 mod anchoring;
 mod entry;
+mod fill;
 mod flow;
 mod flow_text;
 mod front;
+mod height;
 mod known;
 mod line;
 mod open;

@@ -3,11 +3,12 @@ ghost use Rattle.std.specs.Prelude.{◌≡◌, ◌<◌, false, length, option_ma
 ghost use Rattle.rvs_yaml_text.specs.Text as text_spec;
 ghost use Rattle.rvs_yaml.specs.Stack as stack_spec;
 ghost use Rattle.rvs_yaml.specs.LineParts as parts;
-ghost use Rattle.rvs_yaml.specs.Gives.{Gives};
+ghost use Rattle.rvs_yaml.specs.Reader.{Passes};
 ghost use Rattle.rvs_yaml.specs.StackView.{stack_view};
 ghost use Rattle.rvs_yaml_text.specs.Word as word_spec;
 ghost use Rattle.rvs_yaml_text.specs.WordView.{word_view, shape_view};
 
+use crate::fill::{fill_flow, hollow_shape};
 use crate::open::Open;
 use crate::stack::step;
 use rvs_yaml_text::{
@@ -105,12 +106,27 @@ fn read_last<'a>(
     item: bool,
     text: &'a str,
 ) -> Result<(), YamlKind>
-    ensures { Gives (λ u. stack_view blocks.new.items) result (stack_spec.steps (stack_view blocks.old.items) (parts.rest_words line item column text.now)) }
+    ensures { Passes (λ u. stack_view blocks.new.items) result (stack_spec.steps (stack_view blocks.old.items) (parts.rest_words line item column text.now)) }
 {
     let Some(word) = last_word(alloc, line, column, item, text)? else {
         return Ok(());
     };
-    step(alloc, blocks, word)
+    let Word {
+        line: at,
+        column,
+        shape,
+    } = word;
+    let (shape, flow) = hollow_shape(alloc, shape);
+    step(
+        alloc,
+        blocks,
+        Word {
+            line: at,
+            column,
+            shape,
+        },
+    )?;
+    fill_flow(alloc, blocks, flow)
 }
 
 /// A dash of an item, behind which this stands.
@@ -131,7 +147,7 @@ fn read_words<'a>(
     line: u64,
     text: &'a str,
 ) -> Result<(), YamlKind>
-    ensures { Gives (λ u. stack_view blocks.new.items) result (stack_spec.steps (stack_view blocks.old.items) (text_spec.words_at line false 0 text.now)) }
+    ensures { Passes (λ u. stack_view blocks.new.items) result (stack_spec.steps (stack_view blocks.old.items) (text_spec.words_at line false 0 text.now)) }
 {
     let mut rest = without_spaces(text);
     let mut item = false;
@@ -164,7 +180,7 @@ pub(crate) fn read_line<'a>(
     started: bool,
     bytes: &'a [u8],
 ) -> Result<(), YamlKind>
-    ensures { Gives (λ u. stack_view blocks.new.items) result (stack_spec.steps (stack_view blocks.old.items) (text_spec.line_words line started bytes.now)) }
+    ensures { Passes (λ u. stack_view blocks.new.items) result (stack_spec.steps (stack_view blocks.old.items) (text_spec.line_words line started bytes.now)) }
 {
     let Ok(text) = str::from_utf8(bytes) else {
         return step(alloc, blocks, refused(line, YamlKind::NotUtf8));

@@ -1,5 +1,5 @@
 // What a word is by itself.
-ghost use Rattle.std.specs.Prelude.{◌≡◌};
+ghost use Rattle.std.specs.Prelude.{◌≡◌, false};
 ghost use Rattle.rvs_yaml.specs.Block as block_spec;
 ghost use Rattle.rvs_yaml.specs.Flow as flow_spec;
 ghost use Rattle.rvs_yaml_text.specs.Tokens.{tokens_of};
@@ -15,10 +15,15 @@ use rvs_yaml_text::{Content, YamlKind};
 use std::alloc::Global;
 
 /// What an alias stands for, where at most a comment is behind it.
-fn alias_content_value(known: &Known<'_, '_>, name: &str, ended: bool) -> Result<Value, YamlKind>
+fn alias_content_value(
+    alloc: Global,
+    known: &Known<'_, '_>,
+    name: &str,
+    ended: bool,
+) -> Result<Value, YamlKind>
     ensures { Gives value_view result (block_spec.alias_value (known_view known.now) name.now ended) }
 {
-    let value = known.alias_value(name)?;
+    let value = known.alias_value(alloc, name)?;
     if ended {
         Ok(value)
     } else {
@@ -33,12 +38,13 @@ pub(crate) fn content_value<'a>(
     line: u64,
     content: Content<'a>,
 ) -> Result<Value, YamlKind>
+    requires { known.now.poor ≡ false }
     ensures { Gives value_view result (block_spec.content_value (known_view known.now) line (content_view content.entry)) }
 {
     match content {
         Content::Nothing => Ok(scalar_value(alloc, String::new(alloc), line)?),
         Content::Text(text) => Ok(scalar_value(alloc, text, line)?),
-        Content::Alias(name, ended) => alias_content_value(known, name, ended),
+        Content::Alias(name, ended) => alias_content_value(alloc, known, name, ended),
         Content::Flow(bracket, text) => flow_value(alloc, known, line, bracket, text),
         Content::Faulty(kind) => Err(kind),
     }

@@ -180,6 +180,7 @@ fn own_of<'a>(
     ensures { Gives value_view result (block_spec.content_value (anchors_view block.now.anchors.anchors.items ++ spec.known_of (stack_view blocks.now)) line (content_view content.entry)) }
 {
     let known = Known {
+        poor: false,
         latest: &block.anchors,
         blocks,
     };

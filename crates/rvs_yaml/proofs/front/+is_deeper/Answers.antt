@@ -3,7 +3,8 @@ use Rattle.rvs_tree.specs.Data.{depth, members_of, is_scalar}
 use Rattle.rvs_tree.specs.Bound.{members_depth}
 use Rattle.rvs_tree.specs.TreeView.{view}
 use Rattle.rvs_tree.proofs.Sums.{take_whole}
-use Rattle.rvs_yaml.proofs.Sketching.{member-shallower, depth-members, take-get, lt_test, lt_fact, ge_test, ge_fact}
+use Rattle.rvs_tree.proofs.Depths.{member-shallower, depth-members, take-get}
+use Rattle.rvs_yaml.proofs.Sketching.{lt_test, lt_fact, ge_test, ge_fact}
 use Rattle.rvs_yaml.proofs.front.+is_deeper.Goals as goal
 
 pub returns-then-is_deeper : goal.returns-then-is_deeper

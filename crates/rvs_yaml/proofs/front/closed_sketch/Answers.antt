@@ -14,4 +14,4 @@ returns-in-Items c = λ v s.
 pub returns-in-Entries : goal.returns-in-Entries
 returns-in-Entries c = λ v s.
     let line = c.args.block.now.line in
-    subst (λ d. SketchedAs c.entry_sketch.result (closed_value (done_view d) line v)) (sym c.in-Entries.is) (c.entry_sketch.ensures line v s)
+    subst (λ d. SketchedAs c.entry_sketch.result (closed_value (done_view d) line v)) (sym c.in-Entries.is) (c.entry_sketch.ensures line v s (c.brought_depth.ensures.bound _ v s))

@@ -5,7 +5,7 @@ use Rattle.rvs_yaml.specs.Stack.{step, steps}
 use Rattle.rvs_yaml_text.specs.Text.{word_at, words_at, item_name}
 use Rattle.rvs_yaml.specs.StackView.{stack_view}
 use Rattle.rvs_yaml.proofs.Lining.{spaces-length, spaces-twice, words-first, words-next, words-rest}
-use Rattle.rvs_yaml.proofs.Giving.{gives_same}
+use Rattle.rvs_yaml.proofs.Giving.{passes_same}
 use Rattle.rvs_yaml.proofs.WholeLines.{steps-next}
 use Rattle.rvs_yaml.proofs.line.read_words.Goals as goal
 
@@ -47,4 +47,4 @@ returns c =
     let n = length c.args.text.now in
     let here = stack_view c.loop-behind.blocks.items in
     let rest = c.loop-behind.rest.now in
-    gives_same _ _ _ _ (sym (ap (steps here) (words-rest c.args.line c.loop-behind.item (n - length rest) rest c.in_default.ensures.split c.loop-behind.invariant.1)) ∙ c.loop-behind.invariant.0) c.read_last.ensures
+    passes_same _ _ _ _ (sym (ap (steps here) (words-rest c.args.line c.loop-behind.item (n - length rest) rest c.in_default.ensures.split c.loop-behind.invariant.1)) ∙ c.loop-behind.invariant.0) c.read_last.ensures

@@ -1,0 +1,40 @@
+use Rattle.std.proofs.Common.{◌≡◌, ◌∙◌, ◌∷◌, [], sym, ap, option_map}
+use Rattle.std.proofs.lemmas.Result.{err_from_is_err_and}
+use Rattle.rvs_yaml_text.specs.Text.{word_at}
+use Rattle.rvs_yaml_text.specs.WordView.{shape_view, word_view}
+use Rattle.rvs_yaml.specs.Checks.{◌>>=◌}
+use Rattle.rvs_yaml.specs.Filling.{hollow, flow_of, filled}
+use Rattle.rvs_yaml.specs.FillView.{flow_view}
+use Rattle.rvs_yaml.specs.LineParts.{words_in, rest_words}
+use Rattle.rvs_yaml.specs.Stack.{step}
+use Rattle.rvs_yaml.specs.StackView.{stack_view}
+use Rattle.rvs_yaml.proofs.Giving.{passes_same, fails_kept}
+use Rattle.rvs_yaml.proofs.WholeLines.{word-parts}
+use Rattle.rvs_yaml.proofs.line.read_last.Goals as goal
+
+pub returns-in_err-step : goal.returns-in_err-step
+returns-in_err-step c =
+    let bs = stack_view c.args.blocks.now.items in
+    let word = c.in-Some.word in
+    let w = word_view word in
+    let parts = c.hollow_shape-shape.result in
+    let f = flow_view parts.1 in
+    let u = word_at word.line word.column (shape_view parts.0) in
+    let words : rest_words c.args.line c.args.item c.args.column c.args.text.now ≡ w ∷ [] = sym c.in_ok-word.ensures ∙ ap (λ o. words_in (option_map word_view o)) c.in-Some.is in
+    let hollowed : u ≡ hollow w = ap (λ p. word_at word.line word.column p.0) c.hollow_shape-shape.ensures in
+    let flow : f ≡ flow_of w.shape = ap (λ p. p.1) c.hollow_shape-shape.ensures in
+    let p = err_from_is_err_and c.from_residual-in_err-step.result c.from_residual-in_err-step.ensures.1 in
+    rw (p.1, p.2) (fails_kept _ (step bs u) _ (filled f) (word-parts bs w u f _ words hollowed flow) c.in_err-step.ensures)
+
+pub returns : goal.returns
+returns c =
+    let bs = stack_view c.args.blocks.now.items in
+    let word = c.in-Some.word in
+    let w = word_view word in
+    let parts = c.hollow_shape-shape.result in
+    let f = flow_view parts.1 in
+    let u = word_at word.line word.column (shape_view parts.0) in
+    let words : rest_words c.args.line c.args.item c.args.column c.args.text.now ≡ w ∷ [] = sym c.in_ok-word.ensures ∙ ap (λ o. words_in (option_map word_view o)) c.in-Some.is in
+    let hollowed : u ≡ hollow w = ap (λ p. word_at word.line word.column p.0) c.hollow_shape-shape.ensures in
+    let flow : f ≡ flow_of w.shape = ap (λ p. p.1) c.hollow_shape-shape.ensures in
+    passes_same _ _ _ _ (sym (ap (λ m. m >>= filled f) c.in_ok-step.ensures) ∙ word-parts bs w u f _ words hollowed flow) c.fill_flow.ensures
