@@ -1,6 +1,0 @@
-pub mod Sound
-pub mod Statements
-pub mod TestText
-pub mod Claim
-pub mod Made
-pub mod Found
