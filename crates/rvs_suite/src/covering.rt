@@ -94,7 +94,7 @@ fn count_named<H: Host>(
     let windows = Items::from(windows.to_vec(alloc)?);
     let mut counter = Counter::new(alloc, groups, windows)?;
     match count_file(host, log, &mut counter) {
-        Ok(()) => Ok(report_at_end(alloc, counter)?),
+        Ok(()) => Ok(report_at_end(alloc, &mut counter)?),
         Err(LogFault::NoFile) => Err(Stop::NoFile(name)),
         Err(LogFault::Failed) => Err(Stop::CannotRead(name)),
         Err(LogFault::TooLong) => Err(Stop::Refused(too_long(alloc, log, LOG_LIMIT)?)),
@@ -102,14 +102,13 @@ fn count_named<H: Host>(
 }
 
 /// The report of a counter at the end of its log.
-fn report_at_end(alloc: Global, counter: Counter<'_>) -> Result<Text, NoMemory>
+fn report_at_end(alloc: Global, counter: &mut Counter<'_>) -> Result<Text, NoMemory>
     ensures {
         IfOk result (λ text. (labels : List Label) (windows : List Span) (bytes : List ℕ) (n : ℕ)
-            → counter ≡ state_of labels windows bytes n
+            → counter.old ≡ state_of labels windows bytes n
             → text ≡ report_on (groups_view labels) windows bytes)
     }
 {
-    let mut counter = counter;
     counter.finish();
     counter.report(alloc)
 }

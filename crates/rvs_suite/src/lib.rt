@@ -3,6 +3,8 @@
 
 mod command;
 mod comparing;
+#[cfg(test)]
+mod coverage_tests;
 mod covering;
 mod group_commands;
 mod group_files;

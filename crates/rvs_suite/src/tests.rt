@@ -6,26 +6,26 @@ use std::process::Abort;
 use std::test::Fail;
 
 #[derive(Clone, Copy)]
-struct Faults<'f> {
+pub struct Faults<'f> {
     host: &'f [u64],
     out: &'f [u64],
     err: &'f [u64],
 }
 
-const NO_FAULTS: Faults<'static> = Faults {
+pub const NO_FAULTS: Faults<'static> = Faults {
     host: &[],
     out: &[],
     err: &[],
 };
 
 #[derive(Drop)]
-struct Outcome {
-    status: Status,
-    out: MemorySink,
-    err: MemorySink,
+pub struct Outcome {
+    pub status: Status,
+    pub out: MemorySink,
+    pub err: MemorySink,
 }
 
-fn expect(rt: &impl Abort, run: &Outcome, status: Status, out: &str, err: &str) {
+pub fn expect(rt: &impl Abort, run: &Outcome, status: Status, out: &str, err: &str) {
     assert_eq!(rt; run.out.bytes(), out.as_bytes());
     assert_eq!(rt; run.err.bytes(), err.as_bytes());
     assert_eq!(rt; run.status, status);
@@ -36,7 +36,7 @@ fn copied(alloc: Global, text: &str) -> Result<Bytes, Fail> {
 }
 
 // Words have one space between them.
-fn run(alloc: Global, words: &str, files: Files, faults: &Faults) -> Result<Outcome, Fail> {
+pub fn run(alloc: Global, words: &str, files: Files, faults: &Faults) -> Result<Outcome, Fail> {
     let mut list = Vec::new(alloc);
     for word in words.split(' ') {
         list.push(String::from_str(alloc, word)?)?;
