@@ -3,7 +3,6 @@ use Rattle.std.proofs.Common.{◌≡◌, ℕ, zero, suc, ◌+◌, ◌/◌, ◌%�
 use Rattle.std.proofs.lemmas.Bool.{cases_lt}
 use Rattle.std.proofs.lemmas.List.{length-map, get_or_at, get_or_append_left}
 use Rattle.std.specs.Prelude.{◌==◌}
-use Rattle.rvs_count.specs.Buckets.{bucket_of}
 use Rattle.std.specs.Prelude.{map}
 use Rattle.rvs_cgf.specs.Groups as group
 use Rattle.rvs_cgf.specs.GroupView.{label_view, point_view}
@@ -11,9 +10,9 @@ use Rattle.rvs_cgf.specs.declared.group.Label.{Label}
 use Rattle.rvs_cgf.specs.declared.group.Point.{Point}
 use Rattle.rvs_insn.specs.declared.op.Op.{Op}
 use Rattle.rvs_count.specs.Counting.{Aim, count, aims_in, aims_of_label, aims_of_points}
-use Rattle.rvs_count.specs.Index.{Place, places, has_number, is_for, places_for, places_in, IsIndex}
+use Rattle.rvs_count.specs.Index.{Place, places, has_number, is_for, stands, places_for, places_in, IsIndex}
 use Rattle.rvs_count.specs.State.{Tallied, tally_of}
-use Rattle.rvs_count.specs.declared.slots.Slot.{Slot}
+use Rattle.rvs_count.specs.declared.slot.Slot.{Slot}
 use Rattle.rvs_count.specs.declared.window.Window.{Window}
 use Rattle.rvs_log.specs.Registers.{zeros}
 
@@ -48,21 +47,21 @@ zeros_more labels counts counts' k d h e =
 
 -- the points of a label, where it has the mnemonic and where it doesn't
 places_has : (key : ℕ) (ops : List Op) (at : ℕ) (points : List group.Point) → has_number (key / 365) ops ≡ true
-    → places_for (is_for key) at (aims_of_points ops points) ≡ places_in (key % 365) at points
+    → places_for (is_for key) at (aims_of_points ops points) ≡ places_in key at points
 places_has key ops at [] h = refl
 places_has key ops at (p ∷ ps) h =
-    ap (λ b. elim (b && (bucket_of p == key % 365)) as (λ _. List Place) [
+    ap (λ b. elim (b && stands key p) as (λ _. List Place) [
       | true ↦ (p, at) ∷ places_for (is_for key) (at + 1) (aims_of_points ops ps)
       | false ↦ places_for (is_for key) (at + 1) (aims_of_points ops ps)
     ]) h
-    ∙ ap (λ l. elim (bucket_of p == key % 365) as (λ _. List Place) [ true ↦ (p, at) ∷ l | false ↦ l ])
+    ∙ ap (λ l. elim (stands key p) as (λ _. List Place) [ true ↦ (p, at) ∷ l | false ↦ l ])
     (places_has key ops (at + 1) ps h)
 
 places_lacks : (key : ℕ) (ops : List Op) (at : ℕ) (points : List group.Point) → has_number (key / 365) ops ≡ false
     → places_for (is_for key) at (aims_of_points ops points) ≡ []
 places_lacks key ops at [] h = refl
 places_lacks key ops at (p ∷ ps) h =
-    ap (λ b. elim (b && (bucket_of p == key % 365)) as (λ _. List Place) [
+    ap (λ b. elim (b && stands key p) as (λ _. List Place) [
       | true ↦ (p, at) ∷ places_for (is_for key) (at + 1) (aims_of_points ops ps)
       | false ↦ places_for (is_for key) (at + 1) (aims_of_points ops ps)
     ]) h
@@ -107,7 +106,7 @@ in_more : (bucket : ℕ) (points : List Point) (k at : ℕ) (d : Point) → k < 
     → places_in bucket at (map point_view (drop k points))
     ≡ places_in bucket at (point_view (get_or points k d) ∷ []) ++ places_in bucket (at + 1) (map point_view (drop (k + 1) points))
 in_more bucket [] k at d h = absurd (omega arith)
-in_more bucket (p ∷ ps) zero at d h = turn (bucket_of (point_view p) == bucket)
+in_more bucket (p ∷ ps) zero at d h = turn (stands bucket (point_view p))
   where
     rest : List Place
     rest = places_in bucket (at + 1) (map point_view ps)
@@ -135,16 +134,16 @@ points_more bucket points slots slots' k at d h e =
 -- the points of one label by its mnemonics
 pub places_label : (key : ℕ) (label : Label) (first : ℕ) (has : Bool) → label.selected ≡ true
     → has ≡ has_number (key / 365) label.ops
-    → cond has (places_in (key % 365) first (map point_view label.points)) []
+    → cond has (places_in key first (map point_view label.points)) []
     ≡ places_for (is_for key) first (aims_of_label (label_view label))
 places_label key label first has s h =
     let points = map point_view label.points in
-    ap (λ b. cond b (places_in (key % 365) first points) []) h
+    ap (λ b. cond b (places_in key first points) []) h
     ∙ turn (has_number (key / 365) label.ops) refl
     ∙ ap (λ b. places_for (is_for key) first (cond b (aims_of_points label.ops points) [])) (sym s)
   where
     turn : (b : Bool) → has_number (key / 365) label.ops ≡ b
-        → cond b (places_in (key % 365) first (map point_view label.points)) []
+        → cond b (places_in key first (map point_view label.points)) []
         ≡ places_for (is_for key) first (aims_of_points label.ops (map point_view label.points))
     turn true e = sym (places_has key label.ops first (map point_view label.points) e)
     turn false e = sym (places_lacks key label.ops first (map point_view label.points) e)

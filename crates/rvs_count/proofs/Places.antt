@@ -1,8 +1,11 @@
 -- The lists give the points that an instruction may hit, and no others count.
 use Rattle.std.proofs.Common.{◌≡◌, ℕ, zero, suc, ◌+◌, ◌*◌, ◌/◌, ◌%◌, ◌<◌, ◌≤◌, Bool, true, false, cond, ◌&&◌, List, [], ◌∷◌, ◌++◌, Option, Some, None, refl, sym, ap, ◌∙◌, length, drop, get_or, set, arith, append_assoc, length-append, All}
 use Rattle.std.proofs.lemmas.List.{get_or_at, set_at, length_push, length-map}
+use Rattle.std.proofs.lemmas.Bool.Decides.{nat_tests}
 use Rattle.std.specs.Prelude.{◌==◌, map}
-use Rattle.rvs_cgf.specs.Hits.{has_op, holds}
+use Rattle.rvs_cgf.specs.Groups.{Meaning, op_is, reg_is, regs, nums}
+use Rattle.rvs_cgf.specs.Hits.{has_op, holds, is_meant}
+use Rattle.rvs_cgf.specs.declared.group.Kind.{Kind}
 use Rattle.rvs_cgf.specs.declared.group.Label.{Label}
 use Rattle.rvs_expr.specs.Meaning.{Table}
 use Rattle.rvs_facts.specs.Facts.{facts_of}
@@ -11,9 +14,9 @@ use Rattle.rvs_insn.specs.Fields.{Fields}
 use Rattle.rvs_insn.specs.declared.op.Op.{Op}
 use Rattle.rvs_count.specs.Buckets.{bucket_of, is_seen}
 use Rattle.rvs_count.specs.Counting.{Aim, aims_in, hits_insn}
-use Rattle.rvs_count.specs.Index.{Place, place_of, places, has_number, is_for, places_for, IsIndex, raised, raised_all}
+use Rattle.rvs_count.specs.Index.{Place, place_of, places, has_number, is_for, meaning_fits, places_for, IsIndex, raised, raised_all}
 use Rattle.rvs_count.specs.State.{added}
-use Rattle.rvs_count.specs.declared.slots.Slot.{Slot}
+use Rattle.rvs_count.specs.declared.slot.Slot.{Slot}
 
 raised_at : (h : Bool) (front cs : List ℕ) (c k : ℕ) → length front ≡ k
     → raised h k (front ++ c ∷ cs) ≡ front ++ (c + cond h 1 0) ∷ cs
@@ -77,20 +80,33 @@ slots_at labels lists got key d slots index h all s at =
     ap places (s ∙ at ∙ ap (λ ls. get_or ls key d) all) ∙ index.each key d h
 
 -- what the points of a bucket add
+fits_hit : (m : Meaning) (k : Kind) (op : Op) (t : Table) → is_meant k m op t ≡ true → meaning_fits (number op) m ≡ true
+fits_hit (op_is o) k op t h = turned (number o) (number op) h
+  where
+    turned : (a b : ℕ) → (a == b) ≡ true → (b == a) ≡ true
+    turned a b h = grind (arith, nat_tests)
+fits_hit (reg_is n) k op t h = refl
+fits_hit (regs f) k op t h = refl
+fits_hit (nums f) k op t h = refl
+
 same_hit : (n b : ℕ) (i : Fields) (v1 v2 : ℕ) (a : Aim) → n ≡ number i.op → b < 365
     → hit_by (is_for (n * 365 + b)) i.op (facts_of i v1 v2) a ≡ (is_seen (Some b) a.point && hits_insn a (Some i) v1 v2)
 same_hit n b i v1 v2 a same low =
+    let h = holds a.point i.op (facts_of i v1 v2) in
     let mnemonic : (n * 365 + b) / 365 ≡ number i.op = omega (arith, same, low) in
     let bucket : (n * 365 + b) % 365 ≡ b = omega (arith, low) in
-    ap (λ m. (has_number m a.ops && (bucket_of a.point == (n * 365 + b) % 365)) && holds a.point i.op (facts_of i v1 v2)) mnemonic
-    ∙ ap (λ m. (has_number (number i.op) a.ops && (bucket_of a.point == m)) && holds a.point i.op (facts_of i v1 v2)) bucket
-    ∙ turned (has_op a.ops i.op) (bucket_of a.point == b) (holds a.point i.op (facts_of i v1 v2))
+    ap (λ m. (has_number m a.ops && (bucket_of a.point == (n * 365 + b) % 365 && meaning_fits m a.point.meaning)) && h) mnemonic
+    ∙ ap (λ m. (has_number (number i.op) a.ops && (bucket_of a.point == m && meaning_fits (number i.op) a.point.meaning)) && h) bucket
+    ∙ turned (has_op a.ops i.op) (bucket_of a.point == b) (meaning_fits (number i.op) a.point.meaning) h
+    (fits_hit a.point.meaning a.point.kind i.op (facts_of i v1 v2))
   where
-    turned : (p q r : Bool) → ((p && q) && r) ≡ (q && (p && r))
-    turned true true r = refl
-    turned true false r = refl
-    turned false true r = refl
-    turned false false r = refl
+    turned : (p q f r : Bool) → (r ≡ true → f ≡ true) → ((p && (q && f)) && r) ≡ (q && (p && r))
+    turned true true true r h = refl
+    turned true true false true h = h refl
+    turned true true false false h = refl
+    turned true false f r h = refl
+    turned false true f r h = refl
+    turned false false f r h = refl
 
 added_same : (p q : Aim → Bool) (aims : List Aim) (cs : List ℕ) → ((a : Aim) → p a ≡ q a) → added p aims cs ≡ added q aims cs
 added_same p q [] cs h = refl

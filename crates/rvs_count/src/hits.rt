@@ -3,7 +3,7 @@ ghost use Rattle.std.specs.Prelude.{◌≡◌, ◌<◌, ◌≤◌, ◌+◌, ◌^
 ghost use Rattle.rvs_facts.specs.Facts.{facts_of};
 ghost use Rattle.rvs_count.specs.Index.{places, raised, raised_all};
 
-use crate::slots::Slot;
+use crate::slot::Slot;
 use rvs_expr::{Facts, Steps};
 use rvs_facts::InsnFacts;
 use rvs_insn::Op;
@@ -37,7 +37,7 @@ fn add_hits<F: Facts, L: Ledger>(
         ≡ raised_all op (F.table facts.now) (places slots.now) counts.old.items }
 {
     for slot in slots {
-        let hit = slot.point.holds(op, facts, steps);
+        let hit = slot.holds(op, facts, steps);
         raise(counts, slot.at, hit);
     }
 }

@@ -8,7 +8,8 @@ ghost use Rattle.rvs_count.specs.State.{added};
 
 use crate::buckets::{BUCKETS, visited};
 use crate::hits::add_insn;
-use crate::slots::{Slot, slots_of};
+use crate::slot::Slot;
+use crate::slots::slots_of;
 use rvs_base::{Items, NoMemory};
 use rvs_cgf::Label;
 use rvs_facts::{InsnFacts, number};

@@ -7,6 +7,7 @@ mod file;
 mod hits;
 mod index;
 mod report;
+mod slot;
 mod slots;
 mod tally;
 mod whole;
