@@ -3,9 +3,9 @@ ghost use Rattle.std.specs.Prelude.{◌≡◌, ◌<◌, ◌≤◌, ◌+◌, ◌^
 ghost use Rattle.rvs_facts.specs.Facts.{facts_of};
 ghost use Rattle.rvs_count.specs.Index.{places, raised, raised_all};
 
+use crate::known_facts::Known;
 use crate::slot::Slot;
 use rvs_expr::{Facts, Steps};
-use rvs_facts::InsnFacts;
 use rvs_insn::Op;
 use std::marker::Brand;
 use std::sync::ledger::{Blank, Ledger};
@@ -46,7 +46,7 @@ fn add_hits<F: Facts, L: Ledger>(
 fn add_counted<L: Ledger>(
     blank: Blank,
     slots: &[Slot<'_>],
-    facts: InsnFacts<'_>,
+    facts: Known<'_>,
     counts: &mut Vec<u64>,
 )
     requires name { blank.name ≡ L.name }
@@ -64,7 +64,7 @@ fn add_counted<L: Ledger>(
 }
 
 /// Adds one to the counts of the points that an instruction hits.
-pub(crate) fn add_insn(slots: &[Slot<'_>], facts: InsnFacts<'_>, counts: &mut Vec<u64>)
+pub(crate) fn add_insn(slots: &[Slot<'_>], facts: Known<'_>, counts: &mut Vec<u64>)
     requires within { All (λ s. s.at < vec_len counts.old) slots.now }
     requires few { length slots.now ≤ vec_len counts.old }
     requires low { All (λ n. n ≤ 2 ^ 41) counts.old.items }

@@ -8,11 +8,12 @@ ghost use Rattle.rvs_count.specs.State.{added};
 
 use crate::buckets::{BUCKETS, visited};
 use crate::hits::add_insn;
+use crate::known_facts::{Known, take_facts};
 use crate::slot::Slot;
 use crate::slots::slots_of;
 use rvs_base::{Items, NoMemory};
 use rvs_cgf::Label;
-use rvs_facts::{InsnFacts, number};
+use rvs_facts::number;
 use rvs_insn::Insn;
 use rvs_log::{Registers, facts_of};
 use std::alloc::Global;
@@ -76,7 +77,7 @@ impl<'g> Index<'g> {
     }
 
     /// Adds one to the counts of the points of a bucket that an instruction hits.
-    fn add_bucket(&self, bucket: Option<usize>, facts: InsnFacts<'_>, counts: &mut Vec<u64>)
+    fn add_bucket(&self, bucket: Option<usize>, facts: Known<'_>, counts: &mut Vec<u64>)
         requires bucket { IfSome bucket (λ b. b < 365) }
         requires count { length counts.old.items ≡ length (aims_in self.now) }
         requires low { All (λ n. n ≤ 2 ^ 41) counts.old.items }
@@ -98,7 +99,7 @@ impl<'g> Index<'g> {
     }
 
     /// The same for several buckets.
-    fn add_buckets(&self, buckets: &[Option<usize>], facts: InsnFacts<'_>, counts: &mut Vec<u64>)
+    fn add_buckets(&self, buckets: &[Option<usize>], facts: Known<'_>, counts: &mut Vec<u64>)
         requires buckets { All (λ o. IfSome o (λ b. b < 365)) buckets.now }
         requires few { length buckets.now ≤ 8 }
         requires count { length counts.old.items ≡ length (aims_in self.now) }
@@ -125,7 +126,7 @@ impl<'g> Index<'g> {
                 (aims_in self.now) counts.old.items
         }
     {
-        let facts = facts_of(insn, before);
+        let facts = take_facts(facts_of(insn, before));
         let buckets = visited(&facts);
         self.add_buckets(&buckets, facts, counts);
     }

@@ -6,6 +6,7 @@ mod counter;
 mod file;
 mod hits;
 mod index;
+mod known_facts;
 mod report;
 mod slot;
 mod slots;
