@@ -90,9 +90,8 @@ fn of_number(name: NumName, value: Option<i64>) -> Option<usize>
 
 /// The lists that an instruction is held against.
 pub(crate) fn visited(facts: &Known<'_>) -> [Option<usize>; 8]
-    ensures lists {
-        result ≡ spec.visited (facts_of facts.now.insn.now facts.now.first facts.now.second)
-    }
+    ensures lists { result
+        ≡ spec.visited (facts_of facts.now.insn.now facts.now.first facts.now.second) }
     ensures low { All (λ o. IfSome o (λ b. b < 365)) result }
 {
     [

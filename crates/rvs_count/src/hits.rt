@@ -43,12 +43,7 @@ fn add_hits<F: Facts, L: Ledger>(
 }
 
 /// The same, with a counter of evaluations that no one reads.
-fn add_counted<L: Ledger>(
-    blank: Blank,
-    slots: &[Slot<'_>],
-    facts: Known<'_>,
-    counts: &mut Vec<u64>,
-)
+fn add_counted<L: Ledger>(blank: Blank, slots: &[Slot<'_>], facts: Known<'_>, counts: &mut Vec<u64>)
     requires name { blank.name ≡ L.name }
     requires parts { blank.parts ≡ L.parts }
     requires some { 0 < blank.parts }
@@ -56,7 +51,8 @@ fn add_counted<L: Ledger>(
     requires few { length slots.now ≤ vec_len counts.old }
     requires low { All (λ n. n ≤ 2 ^ 41) counts.old.items }
     ensures { counts.new.items ≡ raised_all facts.entry.insn.now.op
-        (facts_of facts.entry.insn.now facts.entry.first facts.entry.second) (places slots.now) counts.old.items }
+        (facts_of facts.entry.insn.now facts.entry.first facts.entry.second)
+        (places slots.now) counts.old.items }
 {
     let mut steps: Steps<L> = Steps::new(blank);
     let insn = facts.insn;
@@ -69,7 +65,8 @@ pub(crate) fn add_insn(slots: &[Slot<'_>], facts: Known<'_>, counts: &mut Vec<u6
     requires few { length slots.now ≤ vec_len counts.old }
     requires low { All (λ n. n ≤ 2 ^ 41) counts.old.items }
     ensures { counts.new.items ≡ raised_all facts.entry.insn.now.op
-        (facts_of facts.entry.insn.now facts.entry.first facts.entry.second) (places slots.now) counts.old.items }
+        (facts_of facts.entry.insn.now facts.entry.first facts.entry.second)
+        (places slots.now) counts.old.items }
 {
     add_counted::<Brand>(Blank::new(1), slots, facts, counts);
 }

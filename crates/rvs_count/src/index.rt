@@ -22,8 +22,8 @@ use std::marker::Model;
 /// How many lists there are: for each of the 48 mnemonics one a bucket.
 const LISTS: usize = 48 * BUCKETS;
 
-/// The points of the selected labels by mnemonic and by shape: an instruction is held against few of
-/// the points of its own mnemonic's labels.
+/// The points of the selected labels by mnemonic and by shape: an instruction is held against few
+/// of the points of its own mnemonic's labels.
 #[derive(Drop)]
 pub(crate) struct Index<'g> {
     labels: &'g [Label],
@@ -81,11 +81,9 @@ impl<'g> Index<'g> {
         requires bucket { IfSome bucket (λ b. b < 365) }
         requires count { length counts.old.items ≡ length (aims_in self.now) }
         requires low { All (λ n. n ≤ 2 ^ 41) counts.old.items }
-        ensures {
-            counts.new.items ≡ added (λ a. is_seen bucket a.point
-                && hits_insn a (Some facts.entry.insn.now) facts.entry.first facts.entry.second)
-                (aims_in self.now) counts.old.items
-        }
+        ensures { counts.new.items ≡ added (λ a. is_seen bucket a.point
+            && hits_insn a (Some facts.entry.insn.now) facts.entry.first facts.entry.second)
+            (aims_in self.now) counts.old.items }
     {
         match bucket {
             None => {},
@@ -104,11 +102,9 @@ impl<'g> Index<'g> {
         requires few { length buckets.now ≤ 8 }
         requires count { length counts.old.items ≡ length (aims_in self.now) }
         requires low { All (λ n. n ≤ 2 ^ 40) counts.old.items }
-        ensures {
-            counts.new.items ≡ added_all
-                (λ a. hits_insn a (Some facts.entry.insn.now) facts.entry.first facts.entry.second)
-                buckets.now (aims_in self.now) counts.old.items
-        }
+        ensures { counts.new.items ≡ added_all
+            (λ a. hits_insn a (Some facts.entry.insn.now) facts.entry.first facts.entry.second)
+            buckets.now (aims_in self.now) counts.old.items }
     {
         for bucket in buckets {
             self.add_bucket(*bucket, facts, counts);
@@ -120,11 +116,9 @@ impl<'g> Index<'g> {
     pub(crate) fn add(&self, insn: &Insn, before: &Registers, counts: &mut Vec<u64>)
         requires count { length counts.old.items ≡ length (aims_in self.now) }
         requires low { All (λ n. n ≤ 2 ^ 40) counts.old.items }
-        ensures {
-            counts.new.items ≡ added (λ a. hits_insn a (Some insn.now)
-                (word_of before.now insn.now.rs1) (word_of before.now insn.now.rs2))
-                (aims_in self.now) counts.old.items
-        }
+        ensures { counts.new.items ≡ added (λ a. hits_insn a (Some insn.now)
+            (word_of before.now insn.now.rs1) (word_of before.now insn.now.rs2))
+            (aims_in self.now) counts.old.items }
     {
         let facts = take_facts(facts_of(insn, before));
         let buckets = visited(&facts);

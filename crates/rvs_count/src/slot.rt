@@ -20,16 +20,14 @@ pub struct Slot<'g> {
     pub at: usize,
     pub equation: Option<(NumName, i64)>,
     ghost same: { IfSome equation (λ e. (op : mnemonic.Op) (t : Table) →
-        hit.holds (point_view point.now) op t ≡ equated.is_value e.1 (t.num e.0)) }
-        by { Prim.hlevel props },
+        hit.holds (point_view point.now) op t
+        ≡ equated.is_value e.1 (t.num e.0)) } by { Prim.hlevel props },
 }
 
 /// The name and the number, where the point says that they are equal.
 fn equation_of(point: &Point) -> Option<(NumName, i64)>
-    ensures {
-        IfSome result (λ e. (op : mnemonic.Op) (t : Table) →
-            hit.holds (point_view point.now) op t ≡ equated.is_value e.1 (t.num e.0))
-    }
+    ensures { IfSome result (λ e. (op : mnemonic.Op) (t : Table) →
+        hit.holds (point_view point.now) op t ≡ equated.is_value e.1 (t.num e.0)) }
 {
     match &point.meaning {
         Meaning::Nums(expr) => expr.equation(),
@@ -62,15 +60,8 @@ impl<'g> Slot<'g> {
     }
 
     /// Whether the point is hit by an instruction of this mnemonic and with these facts.
-    pub(crate) fn holds<F: Facts, L: Ledger>(
-        &self,
-        op: Op,
-        facts: &F,
-        steps: &mut Steps<L>,
-    ) -> bool
-        ensures {
-            result ≡ hit.holds (point_view self.now.point.now) op (F.table facts.now)
-        }
+    pub(crate) fn holds<F: Facts, L: Ledger>(&self, op: Op, facts: &F, steps: &mut Steps<L>) -> bool
+        ensures { result ≡ hit.holds (point_view self.now.point.now) op (F.table facts.now) }
     {
         match self.equation {
             None => self.point.holds(op, facts, steps),

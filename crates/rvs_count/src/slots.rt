@@ -44,10 +44,8 @@ fn add_point<'g>(
     key: usize,
     at: usize,
 ) -> Result<(), NoMemory>
-    ensures {
-        OnOk result (places slots.new ≡ places slots.old
-            ++ places_in key at (point_view point.now ∷ []))
-    }
+    ensures { OnOk result (places slots.new ≡ places slots.old
+        ++ places_in key at (point_view point.now ∷ [])) }
 {
     if stands_in(key, point) {
         slots.push(Slot::new(point, at))
@@ -64,10 +62,8 @@ fn add_points<'g>(
     first: usize,
 ) -> Result<(), NoMemory>
     requires room { first + length points.now < 2 ^ 63 }
-    ensures {
-        OnOk result (places slots.new ≡ places slots.old
-            ++ places_in key first (map point_view points.now))
-    }
+    ensures { OnOk result (places slots.new ≡ places slots.old
+        ++ places_in key first (map point_view points.now)) }
 {
     let mut at = first;
     for point in points {
@@ -86,10 +82,8 @@ fn add_if<'g>(
     first: usize,
 ) -> Result<(), NoMemory>
     requires room { first + length points.now < 2 ^ 63 }
-    ensures {
-        OnOk result (places slots.new ≡ places slots.old
-            ++ (if has then places_in key first (map point_view points.now) else []))
-    }
+    ensures { OnOk result (places slots.new ≡ places slots.old
+        ++ (if has then places_in key first (map point_view points.now) else [])) }
 {
     if has {
         add_points(slots, points, key, first)
@@ -114,13 +108,11 @@ fn add_label<'g>(
     first: usize,
 ) -> Result<usize, NoMemory>
     requires room { first + length (aims_of_label (label_view label.now)) < 2 ^ 63 }
-    ensures slots {
-        OnOk result (places slots.new
-            ≡ places slots.old ++ places_for (is_for key) first (aims_of_label (label_view label.now)))
-    }
-    ensures next {
-        IfOk result (λ next. next ≡ first + length (aims_of_label (label_view label.now)))
-    }
+    ensures slots { OnOk result (places slots.new
+        ≡ places slots.old
+        ++ places_for (is_for key) first (aims_of_label (label_view label.now))) }
+    ensures next { IfOk result (λ next. next
+        ≡ first + length (aims_of_label (label_view label.now))) }
 {
     if !label.selected {
         return Ok(first);
