@@ -3,7 +3,6 @@ use Rattle.std.proofs.Common.{◌≡◌, ℕ, zero, suc, ◌+◌, ◌/◌, ◌%�
 use Rattle.std.proofs.lemmas.Bool.{cases_lt}
 use Rattle.std.proofs.lemmas.List.{length-map, get_or_at, get_or_append_left}
 use Rattle.std.specs.Prelude.{◌==◌}
-use Rattle.rvs_count.specs.Buckets.{bucket_of}
 use Rattle.std.specs.Prelude.{map}
 use Rattle.rvs_cgf.specs.Groups as group
 use Rattle.rvs_cgf.specs.GroupView.{label_view, point_view}
@@ -11,15 +10,16 @@ use Rattle.rvs_cgf.specs.declared.group.Label.{Label}
 use Rattle.rvs_cgf.specs.declared.group.Point.{Point}
 use Rattle.rvs_insn.specs.declared.op.Op.{Op}
 use Rattle.rvs_count.specs.Counting.{Aim, count, aims_in, aims_of_label, aims_of_points}
-use Rattle.rvs_count.specs.Index.{Place, places, has_number, is_for, places_for, places_in, IsIndex}
+use Rattle.rvs_count.specs.Index.{Place, places, has_number, is_for, stands, places_for, places_in, IsIndex}
 use Rattle.rvs_count.specs.State.{Tallied, tally_of}
-use Rattle.rvs_count.specs.declared.slots.Slot.{Slot}
+use Rattle.rvs_count.specs.declared.slot.Slot.{Slot}
 use Rattle.rvs_count.specs.declared.window.Window.{Window}
 use Rattle.rvs_log.specs.Registers.{zeros}
 
 -- the next label
 pub aims_more : (labels : List Label) (k : ℕ) (d : Label) → k < length labels
-    → aims_in (drop k labels) ≡ aims_of_label (label_view (get_or labels k d)) ++ aims_in (drop (k + 1) labels)
+    → aims_in (drop k labels)
+    ≡ aims_of_label (label_view (get_or labels k d)) ++ aims_in (drop (k + 1) labels)
 aims_more [] k d h = absurd (omega arith)
 aims_more (l ∷ labels) zero d h = refl
 aims_more (l ∷ labels) (suc k) d h =
@@ -34,8 +34,10 @@ zeros-append (suc m) n z =
     ap (λ l. z ∷ l) (zeros-append m n z) ∙ ap (λ k. replicate k z) (sym e)
 
 -- counts of one more label
-pub zeros_more : (labels : List Label) (counts counts' : List ℕ) (k : ℕ) (d : Label) → k < length labels
-    → counts' ≡ counts ++ replicate {A = ℕ} (length (aims_of_label (label_view (get_or labels k d)))) 0
+pub zeros_more : (labels : List Label) (counts counts' : List ℕ) (k : ℕ) (d : Label)
+    → k < length labels
+    → counts'
+    ≡ counts ++ replicate {A = ℕ} (length (aims_of_label (label_view (get_or labels k d)))) 0
     → counts' ++ replicate {A = ℕ} (length (aims_in (drop (k + 1) labels))) 0
     ≡ counts ++ replicate {A = ℕ} (length (aims_in (drop k labels))) 0
 zeros_more labels counts counts' k d h e =
@@ -47,22 +49,24 @@ zeros_more labels counts counts' k d h e =
     ∙ ap (λ n. counts ++ replicate n 0) (sym (ap (λ l. length l) (aims_more labels k d h) ∙ length-append here rest))
 
 -- the points of a label, where it has the mnemonic and where it doesn't
-places_has : (key : ℕ) (ops : List Op) (at : ℕ) (points : List group.Point) → has_number (key / 365) ops ≡ true
-    → places_for (is_for key) at (aims_of_points ops points) ≡ places_in (key % 365) at points
+places_has : (key : ℕ) (ops : List Op) (at : ℕ) (points : List group.Point)
+    → has_number (key / 365) ops ≡ true
+    → places_for (is_for key) at (aims_of_points ops points) ≡ places_in key at points
 places_has key ops at [] h = refl
 places_has key ops at (p ∷ ps) h =
-    ap (λ b. elim (b && (bucket_of p == key % 365)) as (λ _. List Place) [
+    ap (λ b. elim (b && stands key p) as (λ _. List Place) [
       | true ↦ (p, at) ∷ places_for (is_for key) (at + 1) (aims_of_points ops ps)
       | false ↦ places_for (is_for key) (at + 1) (aims_of_points ops ps)
     ]) h
-    ∙ ap (λ l. elim (bucket_of p == key % 365) as (λ _. List Place) [ true ↦ (p, at) ∷ l | false ↦ l ])
+    ∙ ap (λ l. elim (stands key p) as (λ _. List Place) [ true ↦ (p, at) ∷ l | false ↦ l ])
     (places_has key ops (at + 1) ps h)
 
-places_lacks : (key : ℕ) (ops : List Op) (at : ℕ) (points : List group.Point) → has_number (key / 365) ops ≡ false
+places_lacks : (key : ℕ) (ops : List Op) (at : ℕ) (points : List group.Point)
+    → has_number (key / 365) ops ≡ false
     → places_for (is_for key) at (aims_of_points ops points) ≡ []
 places_lacks key ops at [] h = refl
 places_lacks key ops at (p ∷ ps) h =
-    ap (λ b. elim (b && (bucket_of p == key % 365)) as (λ _. List Place) [
+    ap (λ b. elim (b && stands key p) as (λ _. List Place) [
       | true ↦ (p, at) ∷ places_for (is_for key) (at + 1) (aims_of_points ops ps)
       | false ↦ places_for (is_for key) (at + 1) (aims_of_points ops ps)
     ]) h
@@ -72,10 +76,12 @@ places-append : (passes : Aim → Bool) (at m : ℕ) (xs ys : List Aim) → m �
     → places_for passes at (xs ++ ys) ≡ places_for passes at xs ++ places_for passes m ys
 places-append passes at m [] ys e =
     let f : at ≡ m = omega arith in ap (λ n. places_for passes n ys) f
-places-append passes at m (x ∷ xs) ys e = turn (passes x) (places-append passes (at + 1) m xs ys (omega arith))
+places-append passes at m (x ∷ xs) ys e =
+    turn (passes x) (places-append passes (at + 1) m xs ys (omega arith))
   where
     turn : (b : Bool)
-        → places_for passes (at + 1) (xs ++ ys) ≡ places_for passes (at + 1) xs ++ places_for passes m ys
+        → places_for passes (at + 1) (xs ++ ys)
+        ≡ places_for passes (at + 1) xs ++ places_for passes m ys
         → (elim b as (λ _. List Place) [
           | true ↦ (x.point, at) ∷ places_for passes (at + 1) (xs ++ ys)
           | false ↦ places_for passes (at + 1) (xs ++ ys)
@@ -90,7 +96,8 @@ places-append passes at m (x ∷ xs) ys e = turn (passes x) (places-append passe
 -- slots of one more label
 pub slots_more : (passes : Aim → Bool) (labels : List Label) (slots slots' : List Slot) (k first next : ℕ) (d : Label)
     → k < length labels
-    → places slots' ≡ places slots ++ places_for passes first (aims_of_label (label_view (get_or labels k d)))
+    → places slots'
+    ≡ places slots ++ places_for passes first (aims_of_label (label_view (get_or labels k d)))
     → next ≡ first + length (aims_of_label (label_view (get_or labels k d)))
     → places slots' ++ places_for passes next (aims_in (drop (k + 1) labels))
     ≡ places slots ++ places_for passes first (aims_in (drop k labels))
@@ -107,12 +114,13 @@ in_more : (bucket : ℕ) (points : List Point) (k at : ℕ) (d : Point) → k < 
     → places_in bucket at (map point_view (drop k points))
     ≡ places_in bucket at (point_view (get_or points k d) ∷ []) ++ places_in bucket (at + 1) (map point_view (drop (k + 1) points))
 in_more bucket [] k at d h = absurd (omega arith)
-in_more bucket (p ∷ ps) zero at d h = turn (bucket_of (point_view p) == bucket)
+in_more bucket (p ∷ ps) zero at d h = turn (stands bucket (point_view p))
   where
     rest : List Place
     rest = places_in bucket (at + 1) (map point_view ps)
 
-    turn : (b : Bool) → (elim b as (λ _. List Place) [ true ↦ (point_view p, at) ∷ places_in bucket (at + 1) (map point_view ps) | false ↦ places_in bucket (at + 1) (map point_view ps) ])
+    turn : (b : Bool)
+        → (elim b as (λ _. List Place) [ true ↦ (point_view p, at) ∷ places_in bucket (at + 1) (map point_view ps) | false ↦ places_in bucket (at + 1) (map point_view ps) ])
         ≡ (elim b as (λ _. List Place) [ true ↦ (point_view p, at) ∷ [] | false ↦ [] ]) ++ places_in bucket (at + 1) (map point_view ps)
     turn true = refl
     turn false = refl
@@ -122,7 +130,8 @@ in_more bucket (p ∷ ps) (suc k) at d h =
     ∙ ap (λ n. places_in bucket at (point_view (get_or ps k d) ∷ []) ++ places_in bucket (at + 1) (map point_view (drop n (p ∷ ps)))) (sym e)
 
 -- one more point
-pub points_more : (bucket : ℕ) (points : List Point) (slots slots' : List Slot) (k at : ℕ) (d : Point) → k < length points
+pub points_more : (bucket : ℕ) (points : List Point) (slots slots' : List Slot) (k at : ℕ) (d : Point)
+    → k < length points
     → places slots' ≡ places slots ++ places_in bucket at (point_view (get_or points k d) ∷ [])
     → places slots' ++ places_in bucket (at + 1) (map point_view (drop (k + 1) points))
     ≡ places slots ++ places_in bucket at (map point_view (drop k points))
@@ -135,16 +144,16 @@ points_more bucket points slots slots' k at d h e =
 -- the points of one label by its mnemonics
 pub places_label : (key : ℕ) (label : Label) (first : ℕ) (has : Bool) → label.selected ≡ true
     → has ≡ has_number (key / 365) label.ops
-    → cond has (places_in (key % 365) first (map point_view label.points)) []
+    → cond has (places_in key first (map point_view label.points)) []
     ≡ places_for (is_for key) first (aims_of_label (label_view label))
 places_label key label first has s h =
     let points = map point_view label.points in
-    ap (λ b. cond b (places_in (key % 365) first points) []) h
+    ap (λ b. cond b (places_in key first points) []) h
     ∙ turn (has_number (key / 365) label.ops) refl
     ∙ ap (λ b. places_for (is_for key) first (cond b (aims_of_points label.ops points) [])) (sym s)
   where
     turn : (b : Bool) → has_number (key / 365) label.ops ≡ b
-        → cond b (places_in (key % 365) first (map point_view label.points)) []
+        → cond b (places_in key first (map point_view label.points)) []
         ≡ places_for (is_for key) first (aims_of_points label.ops (map point_view label.points))
     turn true e = sym (places_has key label.ops first (map point_view label.points) e)
     turn false e = sym (places_lacks key label.ops first (map point_view label.points) e)
@@ -165,15 +174,19 @@ zero_counts [] = refl
 zero_counts (a ∷ aims) = ap (λ l. 0 ∷ l) (zero_counts aims)
 
 -- one more list
-pub IsIndex-more : (labels : List Label) (lists lists' : List (List Slot)) (slots : List Slot) → lists' ≡ lists ++ slots ∷ []
-    → places slots ≡ places_for (is_for (length lists)) 0 (aims_in labels) → IsIndex labels lists → IsIndex labels lists'
+pub IsIndex-more : (labels : List Label) (lists lists' : List (List Slot)) (slots : List Slot)
+    → lists' ≡ lists ++ slots ∷ []
+    → places slots ≡ places_for (is_for (length lists)) 0 (aims_in labels) → IsIndex labels lists
+    → IsIndex labels lists'
 IsIndex-more labels lists lists' slots e p h =
     let P : List (List Slot) → Type 0 = λ ls. IsIndex labels ls in
     subst P (sym e) (record { each = λ key d l. pick key d l (cases_lt key (length lists)) })
   where
-    pick : (key : ℕ) (d : List Slot) → key < length (lists ++ slots ∷ []) → (key < length lists) ⊎ (length lists ≤ key)
+    pick : (key : ℕ) (d : List Slot) → key < length (lists ++ slots ∷ [])
+        → (key < length lists) ⊎ (length lists ≤ key)
         → places (get_or (lists ++ slots ∷ []) key d) ≡ places_for (is_for key) 0 (aims_in labels)
-    pick key d l (inl below) = ap places (get_or_append_left lists (slots ∷ []) d key below) ∙ h.each key d below
+    pick key d l (inl below) = ap places (get_or_append_left lists (slots ∷ []) d key below)
+        ∙ h.each key d below
     pick key d l (inr above) =
         let same : key ≡ length lists = omega (arith, l, above, length-append lists (slots ∷ [])) in
         ap places (get_or_at lists slots [] d key (sym same))
@@ -181,13 +194,30 @@ IsIndex-more labels lists lists' slots e p h =
         ∙ ap (λ k. places_for (is_for k) 0 (aims_in labels)) (sym same)
 
 -- a new tally
-pub new_tally : (labels index : List Label) (windows : List Window) (counts words : List ℕ) → index ≡ labels
+pub new_tally : (labels index : List Label) (windows : List Window) (counts words : List ℕ)
+    → index ≡ labels
     → counts ≡ replicate {A = ℕ} (length (aims_in labels)) 0 → words ≡ zeros
-    → record { labels = index; windows = windows; counts = counts; instructions = 0; heard = record { words = words; started = false } }
+    → record {
+      labels =
+          index;
+      windows =
+          windows;
+      counts = counts;
+      instructions = 0;
+      heard = record { words = words; started = false };
+    }
     ≡ tally_of labels windows []
 new_tally labels index windows counts words i n w =
     let with : List Label → List ℕ → List ℕ → Tallied =
-    λ ls cs ws. record { labels = ls; windows = windows; counts = cs; instructions = 0; heard = record { words = ws; started = false } } in
+    λ ls cs ws. record {
+      labels =
+          ls;
+      windows =
+          windows;
+      counts = cs;
+      instructions = 0;
+      heard = record { words = ws; started = false };
+    } in
     ap (λ ls. with ls counts words) i
     ∙ ap (λ cs. with labels cs words) (n ∙ zero_counts (aims_in labels))
     ∙ ap (λ ws. with labels (map (count []) (aims_in labels)) ws) w

@@ -14,7 +14,9 @@ no_line : reading_of [] ≡ Nothing
 unfolding reading_of after_core after_brackets write_line
 no_line = refl
 
-nothing_more : (labels : List Label) (windows : List Window) (bytes : List ℕ) (n : ℕ) → tail_of bytes ≡ [] → with_end (state_of labels windows bytes n) ≡ state_of labels windows bytes n
+nothing_more : (labels : List Label) (windows : List Window) (bytes : List ℕ) (n : ℕ)
+    → tail_of bytes ≡ []
+    → with_end (state_of labels windows bytes n) ≡ state_of labels windows bytes n
 unfolding state_of
 nothing_more labels windows bytes n e =
     let t = tally_of labels windows (map line_says (whole_lines bytes)) in
@@ -23,10 +25,12 @@ nothing_more labels windows bytes n e =
     ∙ ap (λ l. state_with t (held l) n) (sym e)
 
 -- the state after the end
-pub finished : (labels : List Label) (windows : List Window) (bytes : List ℕ) (n : ℕ) (s : CountState) → s ≡ state_of labels windows bytes n → with_end s ≡ state_of labels windows (ended bytes) n
+pub finished : (labels : List Label) (windows : List Window) (bytes : List ℕ) (n : ℕ) (s : CountState)
+    → s ≡ state_of labels windows bytes n → with_end s ≡ state_of labels windows (ended bytes) n
 finished labels windows bytes n s e = ap with_end e ∙ turn (tail_of bytes) refl
   where
-    turn : (t : List ℕ) → tail_of bytes ≡ t → with_end (state_of labels windows bytes n) ≡ state_of labels windows (ended_by t bytes) n
+    turn : (t : List ℕ) → tail_of bytes ≡ t
+        → with_end (state_of labels windows bytes n) ≡ state_of labels windows (ended_by t bytes) n
     turn [] h = nothing_more labels windows bytes n h
     turn (x ∷ xs) h = state_all labels windows bytes (10 ∷ []) n
 
@@ -40,22 +44,31 @@ ended_again s h =
 whole_ended : (bytes : List ℕ) → whole_lines (ended bytes) ≡ lines_of bytes
 whole_ended bytes = turn (tail_of bytes) refl
   where
-    turn : (t : List ℕ) → tail_of bytes ≡ t → whole_lines (ended_by t bytes) ≡ whole_lines bytes ++ last_line t
+    turn : (t : List ℕ) → tail_of bytes ≡ t
+        → whole_lines (ended_by t bytes) ≡ whole_lines bytes ++ last_line t
     turn [] e = sym (append-nil (whole_lines bytes))
     turn (x ∷ xs) e = whole_snoc [] bytes 10 ∙ ap (λ l. whole_lines bytes ++ l ∷ []) e
 
-pub counted_all : (labels : List Label) (windows : List Window) (log : List ℕ) (n : ℕ) → (state_of labels windows (ended log) n).tally.counts ≡ map (count (kept windows (entries_of log))) (aims_in labels)
+pub counted_all : (labels : List Label) (windows : List Window) (log : List ℕ) (n : ℕ)
+    → (state_of labels windows (ended log) n).tally.counts
+    ≡ map (count (kept windows (entries_of log))) (aims_in labels)
 unfolding state_of
-counted_all labels windows log n = ap (λ ls. map (count (kept windows (entries_in unheard (map line_says ls)))) (aims_in labels)) (whole_ended log)
+counted_all labels windows log n =
+    ap (λ ls. map (count (kept windows (entries_in unheard (map line_says ls)))) (aims_in labels)) (whole_ended log)
 
-pub counted_instructions : (labels : List Label) (windows : List Window) (log : List ℕ) (n : ℕ) → (state_of labels windows (ended log) n).tally.instructions ≡ length (kept windows (entries_of log))
+pub counted_instructions : (labels : List Label) (windows : List Window) (log : List ℕ) (n : ℕ)
+    → (state_of labels windows (ended log) n).tally.instructions
+    ≡ length (kept windows (entries_of log))
 unfolding state_of
-counted_instructions labels windows log n = ap (λ ls. length (kept windows (entries_in unheard (map line_says ls)))) (whole_ended log)
+counted_instructions labels windows log n =
+    ap (λ ls. length (kept windows (entries_in unheard (map line_says ls)))) (whole_ended log)
 
-pub fed_of : (labels : List Label) (windows : List Window) (bytes : List ℕ) (n : ℕ) → (state_of labels windows bytes n).fed ≡ n
+pub fed_of : (labels : List Label) (windows : List Window) (bytes : List ℕ) (n : ℕ)
+    → (state_of labels windows bytes n).fed ≡ n
 unfolding state_of
 fed_of labels windows bytes n = refl
 
-pub counted_labels : (labels : List Label) (windows : List Window) (bytes : List ℕ) (n : ℕ) → (state_of labels windows bytes n).tally.labels ≡ labels
+pub counted_labels : (labels : List Label) (windows : List Window) (bytes : List ℕ) (n : ℕ)
+    → (state_of labels windows bytes n).tally.labels ≡ labels
 unfolding state_of
 counted_labels labels windows bytes n = refl

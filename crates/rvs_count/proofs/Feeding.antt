@@ -32,9 +32,11 @@ pub record HasFed (name : List ℕ) (old now : HostState) (c c' : CountState) : 
   pub opened : now.is_open ≡ true
   pub bytes : List ℕ
   pub fed : Fed c c' bytes
-  pub rest : (files : Files) (r : List ℕ) → Tells old files → now.rest ≡ Some r → files name ≡ Some (bytes ++ r)
+  pub rest : (files : Files) (r : List ℕ) → Tells old files → now.rest ≡ Some r
+      → files name ≡ Some (bytes ++ r)
 
-pub HasFed-start : {name : List ℕ} {old now : HostState} (c : CountState) → ReadsOnly old now → now.read_faults ≡ old.read_faults → Opens name old now → HasFed name old now c c
+pub HasFed-start : {name : List ℕ} {old now : HostState} (c : CountState) → ReadsOnly old now
+    → now.read_faults ≡ old.read_faults → Opens name old now → HasFed name old now c c
 HasFed-start c q u o = record {
   reads = q;
   unfaulted = u;
@@ -44,7 +46,8 @@ HasFed-start c q u o = record {
   rest = λ files r t e. o.at_start files r t.files e;
 }
 
-pub both_read : {old now next : HostState} → ReadsOnly old now → ReadsOnly now next → ReadsOnly old next
+pub both_read : {old now next : HostState} → ReadsOnly old now → ReadsOnly now next
+    → ReadsOnly old next
 both_read p q = record {
   files = q.files ∙ p.files;
   runs = q.runs ∙ p.runs;
@@ -62,15 +65,18 @@ inner : {X : Type 0} (x y : X) → Some x ≡ Some y → x ≡ y
 inner x y e = cc
 
 -- the file is what was fed, what was just taken, and the rest
-file_is : {name buffer : List ℕ} {old now next : HostState} {c c' : CountState} {n : ℕ} (h : HasFed name old now c c') → ReadsOnly now next → Takes buffer now next n
-    → (files : Files) (r : List ℕ) → Tells old files → next.rest ≡ Some r → files name ≡ Some (h.bytes ++ (take n buffer ++ r))
+file_is : {name buffer : List ℕ} {old now next : HostState} {c c' : CountState} {n : ℕ} (h : HasFed name old now c c')
+    → ReadsOnly now next → Takes buffer now next n
+    → (files : Files) (r : List ℕ) → Tells old files → next.rest ≡ Some r
+    → files name ≡ Some (h.bytes ++ (take n buffer ++ r))
 file_is {name} {buffer} {old} {now} {next} {c} {c'} {n} h q t files r told e =
     let o = some_of now.rest (sym q.told ∙ ap (λ (o : Option (List ℕ)). is_some o) e) in
     h.rest files o.0 told o.1
     ∙ ap (λ l. Some (h.bytes ++ l)) (t.next o.0 o.1)
     ∙ ap (λ l. Some (h.bytes ++ (take n buffer ++ l))) (inner (drop n o.0) r (sym (t.left o.0 o.1) ∙ e))
 
-pub HasFed-more : {name buffer : List ℕ} {old now next : HostState} {c c' : CountState} {n : ℕ} (c'' : CountState) → HasFed name old now c c' → ReadsOnly now next → next.read_faults ≡ now.read_faults
+pub HasFed-more : {name buffer : List ℕ} {old now next : HostState} {c c' : CountState} {n : ℕ} (c'' : CountState)
+    → HasFed name old now c c' → ReadsOnly now next → next.read_faults ≡ now.read_faults
     → Takes buffer now next n → Fed c' c'' (take n buffer) → HasFed name old next c c''
 HasFed-more {name} {buffer} {old} {now} {next} {c} {c'} {n} c'' h q u t f = record {
   reads = both_read h.reads q;
@@ -78,22 +84,27 @@ HasFed-more {name} {buffer} {old} {now} {next} {c} {c'} {n} c'' h q u t f = reco
   opened = t.still_open;
   bytes = h.bytes ++ take n buffer;
   fed = Fed-more c c' c'' h.bytes (take n buffer) h.fed f;
-  rest = λ files r told e. file_is h q t files r told e ∙ ap (λ l. Some l) (sym (append_assoc h.bytes (take n buffer) r));
+  rest = λ files r told e. file_is h q t files r told e
+      ∙ ap (λ l. Some l) (sym (append_assoc h.bytes (take n buffer) r));
 }
 
-told_rest : {old now : HostState} (files : Files) → ReadsOnly old now → Tells old files → (r : List ℕ) × (now.rest ≡ Some r)
+told_rest : {old now : HostState} (files : Files) → ReadsOnly old now → Tells old files
+    → (r : List ℕ) × (now.rest ≡ Some r)
 told_rest {old} {now} files q t = some_of now.rest (q.told ∙ t.rest)
 
-pub HasFed-whole : {name buffer : List ℕ} {old now next : HostState} {c c' : CountState} {n : ℕ} → HasFed name old now c c' → Takes buffer now next n → n ≡ 0 → FeedsFile name old c c'
+pub HasFed-whole : {name buffer : List ℕ} {old now next : HostState} {c c' : CountState} {n : ℕ}
+    → HasFed name old now c c' → Takes buffer now next n → n ≡ 0 → FeedsFile name old c c'
 HasFed-whole h t z = record {
   bytes = h.bytes;
   fed = h.fed;
   whole = λ files told.
       let o = told_rest files h.reads told in
-      h.rest files o.0 told o.1 ∙ ap (λ l. Some (h.bytes ++ l)) (t.at_end z o.0 o.1) ∙ ap (λ l. Some l) (append-nil h.bytes);
+      h.rest files o.0 told o.1 ∙ ap (λ l. Some (h.bytes ++ l)) (t.at_end z o.0 o.1)
+      ∙ ap (λ l. Some l) (append-nil h.bytes);
 }
 
-pub HasFed-front : {name : List ℕ} {old now : HostState} {c c' : CountState} → HasFed name old now c c' → FeedsFront name old c c'
+pub HasFed-front : {name : List ℕ} {old now : HostState} {c c' : CountState}
+    → HasFed name old now c c' → FeedsFront name old c c'
 HasFed-front h = record {
   bytes = h.bytes;
   fed = h.fed;
@@ -103,10 +114,12 @@ HasFed-front h = record {
 }
 
 pub FeedsFront-none : (name : List ℕ) (old : HostState) (c : CountState) → FeedsFront name old c c
-FeedsFront-none name old c = record { bytes = []; fed = Fed-none c; front = λ files file told e. (file, refl) }
+FeedsFront-none name old c =
+    record { bytes = []; fed = Fed-none c; front = λ files file told e. (file, refl) }
 
 -- one piece too much
-pub HasFed-long : {name buffer : List ℕ} {old now next : HostState} {c c' : CountState} {n : ℕ} → HasFed name old now c c' → ReadsOnly now next → Takes buffer now next n
+pub HasFed-long : {name buffer : List ℕ} {old now next : HostState} {c c' : CountState} {n : ℕ}
+    → HasFed name old now c c' → ReadsOnly now next → Takes buffer now next n
     → 2 ^ 40 < c'.fed + length (take n buffer) → IsLong name old c
 HasFed-long {name} {buffer} {old} {now} {next} {c} {c'} {n} h q t l = record {
   longer = λ files told.

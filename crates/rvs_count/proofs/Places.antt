@@ -1,8 +1,11 @@
 -- The lists give the points that an instruction may hit, and no others count.
 use Rattle.std.proofs.Common.{◌≡◌, ℕ, zero, suc, ◌+◌, ◌*◌, ◌/◌, ◌%◌, ◌<◌, ◌≤◌, Bool, true, false, cond, ◌&&◌, List, [], ◌∷◌, ◌++◌, Option, Some, None, refl, sym, ap, ◌∙◌, length, drop, get_or, set, arith, append_assoc, length-append, All}
 use Rattle.std.proofs.lemmas.List.{get_or_at, set_at, length_push, length-map}
+use Rattle.std.proofs.lemmas.Bool.Decides.{nat_tests}
 use Rattle.std.specs.Prelude.{◌==◌, map}
-use Rattle.rvs_cgf.specs.Hits.{has_op, holds}
+use Rattle.rvs_cgf.specs.Groups.{Meaning, op_is, reg_is, regs, nums}
+use Rattle.rvs_cgf.specs.Hits.{has_op, holds, is_meant}
+use Rattle.rvs_cgf.specs.declared.group.Kind.{Kind}
 use Rattle.rvs_cgf.specs.declared.group.Label.{Label}
 use Rattle.rvs_expr.specs.Meaning.{Table}
 use Rattle.rvs_facts.specs.Facts.{facts_of}
@@ -11,14 +14,15 @@ use Rattle.rvs_insn.specs.Fields.{Fields}
 use Rattle.rvs_insn.specs.declared.op.Op.{Op}
 use Rattle.rvs_count.specs.Buckets.{bucket_of, is_seen}
 use Rattle.rvs_count.specs.Counting.{Aim, aims_in, hits_insn}
-use Rattle.rvs_count.specs.Index.{Place, place_of, places, has_number, is_for, places_for, IsIndex, raised, raised_all}
+use Rattle.rvs_count.specs.Index.{Place, place_of, places, has_number, is_for, meaning_fits, places_for, IsIndex, raised, raised_all}
 use Rattle.rvs_count.specs.State.{added}
-use Rattle.rvs_count.specs.declared.slots.Slot.{Slot}
+use Rattle.rvs_count.specs.declared.slot.Slot.{Slot}
 
 raised_at : (h : Bool) (front cs : List ℕ) (c k : ℕ) → length front ≡ k
     → raised h k (front ++ c ∷ cs) ≡ front ++ (c + cond h 1 0) ∷ cs
 raised_at true front cs c k e =
-    ap (λ n. set (front ++ c ∷ cs) k (n + 1)) (get_or_at front c cs 0 k e) ∙ set_at front c cs (c + 1) k e
+    ap (λ n. set (front ++ c ∷ cs) k (n + 1)) (get_or_at front c cs 0 k e)
+    ∙ set_at front c cs (c + 1) k e
 raised_at false front cs c k e = let z : c ≡ c + 0 = omega arith in ap (λ n. front ++ n ∷ cs) z
 
 -- an instruction that points of some mnemonics are held against hits those that hold
@@ -28,7 +32,8 @@ hit_by passes op t a = passes a && holds a.point op t
 -- the counts after the places of a list
 raised_from : (passes : Aim → Bool) (op : Op) (t : Table) (aims : List Aim) (front cs : List ℕ) (k : ℕ)
     → length front ≡ k → length cs ≡ length aims
-    → raised_all op t (places_for passes k aims) (front ++ cs) ≡ front ++ added (hit_by passes op t) aims cs
+    → raised_all op t (places_for passes k aims) (front ++ cs)
+    ≡ front ++ added (hit_by passes op t) aims cs
 raised_from passes op t [] front [] k f l = refl
 raised_from passes op t [] front (c ∷ cs) k f l = absurd (omega arith)
 raised_from passes op t (a ∷ aims) front [] k f l = absurd (omega arith)
@@ -77,29 +82,48 @@ slots_at labels lists got key d slots index h all s at =
     ap places (s ∙ at ∙ ap (λ ls. get_or ls key d) all) ∙ index.each key d h
 
 -- what the points of a bucket add
+fits_hit : (m : Meaning) (k : Kind) (op : Op) (t : Table) → is_meant k m op t ≡ true
+    → meaning_fits (number op) m ≡ true
+fits_hit (op_is o) k op t h = turned (number o) (number op) h
+  where
+    turned : (a b : ℕ) → (a == b) ≡ true → (b == a) ≡ true
+    turned a b h = grind (arith, nat_tests)
+fits_hit (reg_is n) k op t h = refl
+fits_hit (regs f) k op t h = refl
+fits_hit (nums f) k op t h = refl
+
 same_hit : (n b : ℕ) (i : Fields) (v1 v2 : ℕ) (a : Aim) → n ≡ number i.op → b < 365
-    → hit_by (is_for (n * 365 + b)) i.op (facts_of i v1 v2) a ≡ (is_seen (Some b) a.point && hits_insn a (Some i) v1 v2)
+    → hit_by (is_for (n * 365 + b)) i.op (facts_of i v1 v2) a
+    ≡ (is_seen (Some b) a.point && hits_insn a (Some i) v1 v2)
 same_hit n b i v1 v2 a same low =
+    let h = holds a.point i.op (facts_of i v1 v2) in
     let mnemonic : (n * 365 + b) / 365 ≡ number i.op = omega (arith, same, low) in
     let bucket : (n * 365 + b) % 365 ≡ b = omega (arith, low) in
-    ap (λ m. (has_number m a.ops && (bucket_of a.point == (n * 365 + b) % 365)) && holds a.point i.op (facts_of i v1 v2)) mnemonic
-    ∙ ap (λ m. (has_number (number i.op) a.ops && (bucket_of a.point == m)) && holds a.point i.op (facts_of i v1 v2)) bucket
-    ∙ turned (has_op a.ops i.op) (bucket_of a.point == b) (holds a.point i.op (facts_of i v1 v2))
+    ap (λ m. (has_number m a.ops && (bucket_of a.point == (n * 365 + b) % 365 && meaning_fits m a.point.meaning)) && h) mnemonic
+    ∙ ap (λ m. (has_number (number i.op) a.ops && (bucket_of a.point == m && meaning_fits (number i.op) a.point.meaning)) && h) bucket
+    ∙ turned (has_op a.ops i.op) (bucket_of a.point == b) (meaning_fits (number i.op) a.point.meaning) h
+    (fits_hit a.point.meaning a.point.kind i.op (facts_of i v1 v2))
   where
-    turned : (p q r : Bool) → ((p && q) && r) ≡ (q && (p && r))
-    turned true true r = refl
-    turned true false r = refl
-    turned false true r = refl
-    turned false false r = refl
+    turned : (p q f r : Bool) → (r ≡ true → f ≡ true) → ((p && (q && f)) && r) ≡ (q && (p && r))
+    turned true true true r h = refl
+    turned true true false true h = h refl
+    turned true true false false h = refl
+    turned true false f r h = refl
+    turned false true f r h = refl
+    turned false false f r h = refl
 
-added_same : (p q : Aim → Bool) (aims : List Aim) (cs : List ℕ) → ((a : Aim) → p a ≡ q a) → added p aims cs ≡ added q aims cs
+added_same : (p q : Aim → Bool) (aims : List Aim) (cs : List ℕ) → ((a : Aim) → p a ≡ q a)
+    → added p aims cs ≡ added q aims cs
 added_same p q [] cs h = refl
 added_same p q (a ∷ aims) [] h = refl
 added_same p q (a ∷ aims) (c ∷ cs) h =
-    ap (λ b. (c + cond b 1 0) ∷ added p aims cs) (h a) ∙ ap (λ l. (c + cond (q a) 1 0) ∷ l) (added_same p q aims cs h)
+    ap (λ b. (c + cond b 1 0) ∷ added p aims cs) (h a)
+    ∙ ap (λ l. (c + cond (q a) 1 0) ∷ l) (added_same p q aims cs h)
 
 pub added_bucket : (labels : List Label) (i : Fields) (v1 v2 n b : ℕ) (slots : List Slot) (cs cs' : List ℕ)
-    → n ≡ number i.op → b < 365 → places slots ≡ places_for (is_for (n * 365 + b)) 0 (aims_in labels) → length cs ≡ length (aims_in labels)
+    → n ≡ number i.op → b < 365
+    → places slots ≡ places_for (is_for (n * 365 + b)) 0 (aims_in labels)
+    → length cs ≡ length (aims_in labels)
     → cs' ≡ raised_all i.op (facts_of i v1 v2) (places slots) cs
     → cs' ≡ added (λ a. is_seen (Some b) a.point && hits_insn a (Some i) v1 v2) (aims_in labels) cs
 added_bucket labels i v1 v2 n b slots cs cs' same low p l e =
@@ -120,7 +144,8 @@ none_added (a ∷ aims) hit (c ∷ cs) l =
 -- ---- bounds
 -- no place is past the counts
 low_places : (passes : Aim → Bool) (at n : ℕ) (aims : List Aim) (slots : List Slot)
-    → places slots ≡ places_for passes at aims → at + length aims ≡ n → All (λ (s : Slot). s.at < n) slots
+    → places slots ≡ places_for passes at aims → at + length aims ≡ n
+    → All (λ (s : Slot). s.at < n) slots
 low_places passes at n [] [] p e k d l = absurd (omega arith)
 low_places passes at n [] (s ∷ slots) p e k d l = cc
 low_places passes at n (a ∷ aims) slots p e k d l =
@@ -140,10 +165,13 @@ low_places passes at n (a ∷ aims) slots p e k d l =
     turn false slots p k l next = next slots p k d l
     turn true [] p k l next = absurd (omega arith)
     turn true (s ∷ slots) p zero l next =
-        let q : s.at ≡ at = ap (λ (ps : List Place). (get_or {A = Place} ps 0 (a.point, at)).1) p in omega arith
+        let q : s.at
+        ≡ at =
+        ap (λ (ps : List Place). (get_or {A = Place} ps 0 (a.point, at)).1) p in omega arith
     turn true (s ∷ slots) p (suc k) l next = next slots (ap (λ ps. drop 1 ps) p) k d (omega arith)
 
-few_places : (passes : Aim → Bool) (at : ℕ) (aims : List Aim) → length (places_for passes at aims) ≤ length aims
+few_places : (passes : Aim → Bool) (at : ℕ) (aims : List Aim)
+    → length (places_for passes at aims) ≤ length aims
 few_places passes at [] = omega arith
 few_places passes at (a ∷ aims) = turn (passes a) (few_places passes (at + 1) aims)
   where
@@ -162,7 +190,8 @@ slots_low passes aims slots n p e = low_places passes 0 n aims slots p (omega ar
 pub slots_few : (passes : Aim → Bool) (aims : List Aim) (slots : List Slot)
     → places slots ≡ places_for passes 0 aims → length slots ≤ length aims
 slots_few passes aims slots p =
-    let e : length slots ≡ length (places_for passes 0 aims) = sym (length-map slots place_of) ∙ ap (λ l. length l) p in
+    let e : length slots ≡ length (places_for passes 0 aims) = sym (length-map slots place_of)
+    ∙ ap (λ l. length l) p in
     omega (arith, few_places passes 0 aims)
 
 -- ---- going over the slots of an instruction
@@ -172,15 +201,19 @@ slots_next [] k d h = absurd (omega arith)
 slots_next (s ∷ slots) zero d h = refl
 slots_next (s ∷ slots) (suc k) d h =
     let e : suc k + 1 ≡ suc (k + 1) = omega arith in
-    slots_next slots k d (omega arith) ∙ ap (λ n. place_of (get_or slots k d) ∷ places (drop n (s ∷ slots))) (sym e)
+    slots_next slots k d (omega arith)
+    ∙ ap (λ n. place_of (get_or slots k d) ∷ places (drop n (s ∷ slots))) (sym e)
 
-set_low : (cs : List ℕ) (at m : ℕ) → All (λ n. n ≤ m) cs → All (λ n. n ≤ m + 1) (set cs at (get_or cs at 0 + 1))
+set_low : (cs : List ℕ) (at m : ℕ) → All (λ n. n ≤ m) cs
+    → All (λ n. n ≤ m + 1) (set cs at (get_or cs at 0 + 1))
 set_low [] at m h k d l = absurd (omega arith)
 set_low (c ∷ cs) zero m h zero d l = omega (arith, h 0 d (omega arith))
 set_low (c ∷ cs) zero m h (suc k) d l = omega (arith, h (suc k) d (omega arith))
 set_low (c ∷ cs) (suc at) m h zero d l = omega (arith, h 0 d (omega arith))
-set_low (c ∷ cs) (suc at) m h (suc k) d l = set_low cs at m (λ k d l. h (suc k) d (omega arith)) k d (omega arith)
+set_low (c ∷ cs) (suc at) m h (suc k) d l =
+    set_low cs at m (λ k d l. h (suc k) d (omega arith)) k d (omega arith)
 
-pub raised_low : (b : Bool) (cs : List ℕ) (at m : ℕ) → All (λ n. n ≤ m) cs → All (λ n. n ≤ m + 1) (raised b at cs)
+pub raised_low : (b : Bool) (cs : List ℕ) (at m : ℕ) → All (λ n. n ≤ m) cs
+    → All (λ n. n ≤ m + 1) (raised b at cs)
 raised_low true cs at m h = set_low cs at m h
 raised_low false cs at m h = λ k d l. omega (arith, h k d l)

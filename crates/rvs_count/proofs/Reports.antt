@@ -9,7 +9,8 @@ use Rattle.rvs_count.specs.Counting.{aims_in, aims_of_label, aims_of_points}
 use Rattle.rvs_count.specs.Report.{point_line, points_text, skipped_line, label_text, width, labels_text}
 use Rattle.rvs_count.proofs.Built.{aims_more, label_length}
 
-drop-at : {A : Type 0} (xs : List A) (i : ℕ) (d : A) → i < length xs → drop i xs ≡ get_or xs i d ∷ drop (i + 1) xs
+drop-at : {A : Type 0} (xs : List A) (i : ℕ) (d : A) → i < length xs
+    → drop i xs ≡ get_or xs i d ∷ drop (i + 1) xs
 drop-at [] i d h = absurd (omega arith)
 drop-at (x ∷ xs) zero d h = refl
 drop-at (x ∷ xs) (suc i) d h =
@@ -20,7 +21,8 @@ drop-all : {A : Type 0} (xs : List A) → drop (length xs) xs ≡ []
 drop-all [] = refl
 drop-all (x ∷ xs) = drop-all xs
 
-pub points_more : (text counts : List ℕ) (ps : List Point) (i : ℕ) (d : Point) → i < length ps → length counts ≡ length ps
+pub points_more : (text counts : List ℕ) (ps : List Point) (i : ℕ) (d : Point) → i < length ps
+    → length counts ≡ length ps
     → (text ++ point_line (get_or counts i 0) (point_view (get_or ps i d))) ++ points_text (drop (i + 1) counts) (map point_view (drop (i + 1) ps))
     ≡ text ++ points_text (drop i counts) (map point_view (drop i ps))
 points_more text counts ps i d h l =
@@ -42,16 +44,20 @@ skipped_more text ss i d h =
     append_assoc text (skipped_line (skipped_view (get_or ss i d))) (flat_map skipped_line (map skipped_view (drop (i + 1) ss)))
     ∙ sym (ap (λ xs. text ++ flat_map skipped_line (map skipped_view xs)) (drop-at ss i d h))
 
-pub skipped_all : (text : List ℕ) (ss : List Skipped) → text ++ flat_map skipped_line (map skipped_view (drop (length ss) ss)) ≡ text
-skipped_all text ss = ap (λ xs. text ++ flat_map skipped_line (map skipped_view xs)) (drop-all ss) ∙ append-nil text
+pub skipped_all : (text : List ℕ) (ss : List Skipped)
+    → text ++ flat_map skipped_line (map skipped_view (drop (length ss) ss)) ≡ text
+skipped_all text ss = ap (λ xs. text ++ flat_map skipped_line (map skipped_view xs)) (drop-all ss)
+    ∙ append-nil text
 
 -- a label's counts are as many as its points that count
 width_is : (label : Label) → length (aims_of_label (label_view label)) ≡ width (label_view label)
 width_is label = turn label.selected refl
   where
     turn : (b : Bool) → label.selected ≡ b
-        → length (cond b (aims_of_points label.ops (map point_view label.points)) []) ≡ cond b (length (map point_view label.points)) 0
-    turn true e = length-map (map point_view label.points) (λ p. record { ops = label.ops; point = p })
+        → length (cond b (aims_of_points label.ops (map point_view label.points)) [])
+        ≡ cond b (length (map point_view label.points)) 0
+    turn true e =
+        length-map (map point_view label.points) (λ p. record { ops = label.ops; point = p })
     turn false e = refl
 
 pub labels_more : (text rest : List ℕ) (ls : List Label) (i : ℕ) (d : Label) → i < length ls
@@ -64,12 +70,15 @@ labels_more text rest ls i d h =
     ∙ sym (ap (λ xs. text ++ labels_text rest (map label_view xs)) (drop-at ls i d h))
 
 pub widths_more : (ls : List Label) (i : ℕ) (d : Label) → i < length ls
-    → length (aims_in (drop i ls)) ≡ width (label_view (get_or ls i d)) + length (aims_in (drop (i + 1) ls))
+    → length (aims_in (drop i ls))
+    ≡ width (label_view (get_or ls i d)) + length (aims_in (drop (i + 1) ls))
 widths_more ls i d h =
     let l = label_view (get_or ls i d) in
     ap (λ l. length l) (aims_more ls i d h)
     ∙ length-append (aims_of_label l) (aims_in (drop (i + 1) ls))
     ∙ ap (λ n. n + length (aims_in (drop (i + 1) ls))) (width_is (get_or ls i d))
 
-pub labels_all : (text rest : List ℕ) (ls : List Label) → text ++ labels_text rest (map label_view (drop (length ls) ls)) ≡ text
-labels_all text rest ls = ap (λ xs. text ++ labels_text rest (map label_view xs)) (drop-all ls) ∙ append-nil text
+pub labels_all : (text rest : List ℕ) (ls : List Label)
+    → text ++ labels_text rest (map label_view (drop (length ls) ls)) ≡ text
+labels_all text rest ls = ap (λ xs. text ++ labels_text rest (map label_view xs)) (drop-all ls)
+    ∙ append-nil text

@@ -36,7 +36,8 @@ abbrev Within : ℕ → ℕ → Option ℕ → Type 0
 Within low high None = Unit {0}
 Within low high (Some b) = (low ≤ b) × (b < high)
 
-apart : (b low high : ℕ) (o : Option ℕ) → Within low high o → (b < low) ⊎ (high ≤ b) → bit (sees b o) ≡ 0
+apart : (b low high : ℕ) (o : Option ℕ) → Within low high o → (b < low) ⊎ (high ≤ b)
+    → bit (sees b o) ≡ 0
 apart b low high None w h = refl
 apart b low high (Some c) w (inl h) = ap bit (differ b c (omega (arith, w.0, h)))
   where
@@ -65,7 +66,8 @@ rs2_within : (o : Option ℕ) → Within 65 97 (option_map (register_bucket kind
 rs2_within None = tt
 rs2_within (Some n) = (omega arith, omega arith)
 
-num_within : (name : NumName) (o : Option ℤ) → Within (name_bucket name) (name_bucket name + 67) (option_map (number_bucket name) o)
+num_within : (name : NumName) (o : Option ℤ)
+    → Within (name_bucket name) (name_bucket name + 67) (option_map (number_bucket name) o)
 num_within name None = tt
 num_within name (Some z) = (omega arith, omega (arith, residue_low z))
 
@@ -89,7 +91,8 @@ zero_once t =
     )
 
 -- a bucket of rd, of rs1, of rs2 or of a name is the one of its place alone
-rd_once : (t : Table) (n : ℕ) → t.reg register.Rd ≡ Some n → seen (register_bucket kind.Rd n) (visited t) ≡ 1
+rd_once : (t : Table) (n : ℕ) → t.reg register.Rd ≡ Some n
+    → seen (register_bucket kind.Rd n) (visited t) ≡ 1
 rd_once t n e =
     let b = register_bucket kind.Rd n in
     omega (
@@ -104,7 +107,8 @@ rd_once t n e =
       apart b 298 365 _ (num_within EaAlign (t.num EaAlign)) (inl (omega arith)),
     )
 
-rs1_once : (t : Table) (n : ℕ) → t.reg register.Rs1 ≡ Some n → seen (register_bucket kind.Rs1 n) (visited t) ≡ 1
+rs1_once : (t : Table) (n : ℕ) → t.reg register.Rs1 ≡ Some n
+    → seen (register_bucket kind.Rs1 n) (visited t) ≡ 1
 rs1_once t n e =
     let b = register_bucket kind.Rs1 n in
     omega (
@@ -119,7 +123,8 @@ rs1_once t n e =
       apart b 298 365 _ (num_within EaAlign (t.num EaAlign)) (inl (omega arith)),
     )
 
-rs2_once : (t : Table) (n : ℕ) → t.reg register.Rs2 ≡ Some n → seen (register_bucket kind.Rs2 n) (visited t) ≡ 1
+rs2_once : (t : Table) (n : ℕ) → t.reg register.Rs2 ≡ Some n
+    → seen (register_bucket kind.Rs2 n) (visited t) ≡ 1
 rs2_once t n e =
     let b = register_bucket kind.Rs2 n in
     omega (
@@ -148,7 +153,8 @@ no_register t b h =
       apart b 65 97 _ (rs2_within (t.reg register.Rs2)) (inr (omega arith)),
     )
 
-number_once : (name : NumName) (t : Table) (z : ℤ) → t.num name ≡ Some z → seen (number_bucket name z) (visited t) ≡ 1
+number_once : (name : NumName) (t : Table) (z : ℤ) → t.num name ≡ Some z
+    → seen (number_bucket name z) (visited t) ≡ 1
 number_once Rs1Val t z e =
     let b = number_bucket Rs1Val z in
     let low = residue_low z in
@@ -206,7 +212,8 @@ value_there : (z : ℤ) (o : Option ℤ) → is_value z o ≡ true → o ≡ Som
 value_there z None h = cc
 value_there z (Some x) h = ap (λ y. Some y) ((Decides-int_eq x z).0 h)
 
-nums_once : (f : Formula) (t : Table) (e : Option (NumName × ℤ)) → equated f ≡ e → expr.holds t f ≡ true
+nums_once : (f : Formula) (t : Table) (e : Option (NumName × ℤ)) → equated f ≡ e
+    → expr.holds t f ≡ true
     → seen (equation_bucket e) (visited t) ≡ 1
 nums_once f t None e h = zero_once t
 nums_once f t (Some (name, z)) e h =
@@ -224,5 +231,6 @@ meant_once kind.ValComb (reg_is n) op t h = cc
 meant_once k (regs f) op t h = zero_once t
 meant_once k (nums f) op t h = nums_once f t (equated f) refl h
 
-pub seen_once : (p : Point) (op : Op) (t : Table) → holds p op t ≡ true → seen (bucket_of p) (visited t) ≡ 1
+pub seen_once : (p : Point) (op : Op) (t : Table) → holds p op t ≡ true
+    → seen (bucket_of p) (visited t) ≡ 1
 seen_once p op t h = meant_once p.kind p.meaning op t h

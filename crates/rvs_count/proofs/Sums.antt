@@ -24,21 +24,28 @@ total hit (o ∷ os) a = bit (is_seen o a.point && hit a) + total hit os a
 plus_none : (aims : List Aim) (cs : List ℕ) → plus (λ a. 0) aims cs ≡ cs
 plus_none [] cs = refl
 plus_none (a ∷ aims) [] = refl
-plus_none (a ∷ aims) (c ∷ cs) = let z : c + 0 ≡ c = omega arith in ap (λ n. n ∷ plus (λ a. 0) aims cs) z ∙ ap (λ l. c ∷ l) (plus_none aims cs)
+plus_none (a ∷ aims) (c ∷ cs) =
+    let z : c + 0 ≡ c = omega arith in ap (λ n. n ∷ plus (λ a. 0) aims cs) z
+    ∙ ap (λ l. c ∷ l) (plus_none aims cs)
 
-plus_after : (p : Aim → Bool) (f : Aim → ℕ) (aims : List Aim) (cs : List ℕ) → plus f aims (added p aims cs) ≡ plus (λ a. bit (p a) + f a) aims cs
+plus_after : (p : Aim → Bool) (f : Aim → ℕ) (aims : List Aim) (cs : List ℕ)
+    → plus f aims (added p aims cs) ≡ plus (λ a. bit (p a) + f a) aims cs
 plus_after p f [] cs = refl
 plus_after p f (a ∷ aims) [] = refl
 plus_after p f (a ∷ aims) (c ∷ cs) =
     let e : c + bit (p a) + f a ≡ c + (bit (p a) + f a) = omega arith in
-    ap (λ n. n ∷ plus f aims (added p aims cs)) e ∙ ap (λ l. (c + (bit (p a) + f a)) ∷ l) (plus_after p f aims cs)
+    ap (λ n. n ∷ plus f aims (added p aims cs)) e
+    ∙ ap (λ l. (c + (bit (p a) + f a)) ∷ l) (plus_after p f aims cs)
 
-plus_is : (f : Aim → ℕ) (p : Aim → Bool) (aims : List Aim) (cs : List ℕ) → ((a : Aim) → f a ≡ bit (p a)) → plus f aims cs ≡ added p aims cs
+plus_is : (f : Aim → ℕ) (p : Aim → Bool) (aims : List Aim) (cs : List ℕ)
+    → ((a : Aim) → f a ≡ bit (p a)) → plus f aims cs ≡ added p aims cs
 plus_is f p [] cs h = refl
 plus_is f p (a ∷ aims) [] h = refl
-plus_is f p (a ∷ aims) (c ∷ cs) h = ap (λ n. (c + n) ∷ plus f aims cs) (h a) ∙ ap (λ l. (c + bit (p a)) ∷ l) (plus_is f p aims cs h)
+plus_is f p (a ∷ aims) (c ∷ cs) h = ap (λ n. (c + n) ∷ plus f aims cs) (h a)
+    ∙ ap (λ l. (c + bit (p a)) ∷ l) (plus_is f p aims cs h)
 
-all_total : (hit : Aim → Bool) (os : List (Option ℕ)) (aims : List Aim) (cs : List ℕ) → added_all hit os aims cs ≡ plus (total hit os) aims cs
+all_total : (hit : Aim → Bool) (os : List (Option ℕ)) (aims : List Aim) (cs : List ℕ)
+    → added_all hit os aims cs ≡ plus (total hit os) aims cs
 all_total hit [] aims cs = sym (plus_none aims cs)
 all_total hit (o ∷ os) aims cs =
     all_total hit os aims (added (λ a. is_seen o a.point && hit a) aims cs)
@@ -60,14 +67,16 @@ unseen_bit o p = turn (is_seen o p)
     turn true = refl
     turn false = refl
 
-total_hit : (hit : Aim → Bool) (os : List (Option ℕ)) (a : Aim) → hit a ≡ true → total hit os a ≡ seen (bucket_of a.point) os
+total_hit : (hit : Aim → Bool) (os : List (Option ℕ)) (a : Aim) → hit a ≡ true
+    → total hit os a ≡ seen (bucket_of a.point) os
 total_hit hit [] a h = refl
 total_hit hit (o ∷ os) a h =
     ap (λ b. bit (is_seen o a.point && b) + total hit os a) h
     ∙ ap (λ n. n + total hit os a) (seen_bit o a.point)
     ∙ ap (λ n. bit (sees (bucket_of a.point) o) + n) (total_hit hit os a h)
 
-total_missed : (hit : Aim → Bool) (os : List (Option ℕ)) (a : Aim) → hit a ≡ false → total hit os a ≡ 0
+total_missed : (hit : Aim → Bool) (os : List (Option ℕ)) (a : Aim) → hit a ≡ false
+    → total hit os a ≡ 0
 total_missed hit [] a h = refl
 total_missed hit (o ∷ os) a h =
     ap (λ b. bit (is_seen o a.point && b) + total hit os a) h
@@ -79,10 +88,12 @@ both true false h = cc
 both false b h = cc
 
 total_one : (i : Fields) (v1 v2 : ℕ) (a : Aim)
-    → total (λ a. hits_insn a (Some i) v1 v2) (visited (facts_of i v1 v2)) a ≡ bit (hits_insn a (Some i) v1 v2)
+    → total (λ a. hits_insn a (Some i) v1 v2) (visited (facts_of i v1 v2)) a
+    ≡ bit (hits_insn a (Some i) v1 v2)
 total_one i v1 v2 a = turn (hits_insn a (Some i) v1 v2) refl
   where
-    turn : (b : Bool) → hits_insn a (Some i) v1 v2 ≡ b → total (λ a. hits_insn a (Some i) v1 v2) (visited (facts_of i v1 v2)) a ≡ bit b
+    turn : (b : Bool) → hits_insn a (Some i) v1 v2 ≡ b
+        → total (λ a. hits_insn a (Some i) v1 v2) (visited (facts_of i v1 v2)) a ≡ bit b
     turn true h =
         total_hit (λ a. hits_insn a (Some i) v1 v2) (visited (facts_of i v1 v2)) a h
         ∙ seen_once a.point i.op (facts_of i v1 v2) (both (has_op a.ops i.op) (holds a.point i.op (facts_of i v1 v2)) h)
@@ -90,12 +101,14 @@ total_one i v1 v2 a = turn (hits_insn a (Some i) v1 v2) refl
 
 -- all lists together add what the instruction hits
 pub all_added : (i : Fields) (v1 v2 : ℕ) (aims : List Aim) (cs : List ℕ)
-    → added_all (λ a. hits_insn a (Some i) v1 v2) (visited (facts_of i v1 v2)) aims cs ≡ added (λ a. hits_insn a (Some i) v1 v2) aims cs
+    → added_all (λ a. hits_insn a (Some i) v1 v2) (visited (facts_of i v1 v2)) aims cs
+    ≡ added (λ a. hits_insn a (Some i) v1 v2) aims cs
 all_added i v1 v2 aims cs =
     all_total (λ a. hits_insn a (Some i) v1 v2) (visited (facts_of i v1 v2)) aims cs
     ∙ plus_is (total (λ a. hits_insn a (Some i) v1 v2) (visited (facts_of i v1 v2))) (λ a. hits_insn a (Some i) v1 v2) aims cs (total_one i v1 v2)
 
-drop-at : (os : List (Option ℕ)) (k : ℕ) (d : Option ℕ) → k < length os → drop k os ≡ get_or os k d ∷ drop (k + 1) os
+drop-at : (os : List (Option ℕ)) (k : ℕ) (d : Option ℕ) → k < length os
+    → drop k os ≡ get_or os k d ∷ drop (k + 1) os
 drop-at [] k d h = absurd (omega arith)
 drop-at (o ∷ os) zero d h = refl
 drop-at (o ∷ os) (suc k) d h =
@@ -109,11 +122,14 @@ drop-all (o ∷ os) zero h = absurd (omega arith)
 drop-all (o ∷ os) (suc k) h = drop-all os k (omega arith)
 
 -- one list more
-pub all_more : (hit : Aim → Bool) (os : List (Option ℕ)) (aims : List Aim) (cs cs' : List ℕ) (k : ℕ) (d : Option ℕ) → k < length os
+pub all_more : (hit : Aim → Bool) (os : List (Option ℕ)) (aims : List Aim) (cs cs' : List ℕ) (k : ℕ) (d : Option ℕ)
+    → k < length os
     → cs' ≡ added (λ a. is_seen (get_or os k d) a.point && hit a) aims cs
     → added_all hit (drop (k + 1) os) aims cs' ≡ added_all hit (drop k os) aims cs
 all_more hit os aims cs cs' k d h e =
-    ap (λ c. added_all hit (drop (k + 1) os) aims c) e ∙ ap (λ l. added_all hit l aims cs) (sym (drop-at os k d h))
+    ap (λ c. added_all hit (drop (k + 1) os) aims c) e
+    ∙ ap (λ l. added_all hit l aims cs) (sym (drop-at os k d h))
 
-pub all_done : (hit : Aim → Bool) (os : List (Option ℕ)) (aims : List Aim) (cs : List ℕ) (k : ℕ) → length os ≤ k → added_all hit (drop k os) aims cs ≡ cs
+pub all_done : (hit : Aim → Bool) (os : List (Option ℕ)) (aims : List Aim) (cs : List ℕ) (k : ℕ)
+    → length os ≤ k → added_all hit (drop k os) aims cs ≡ cs
 all_done hit os aims cs k h = ap (λ l. added_all hit l aims cs) (drop-all os k h)

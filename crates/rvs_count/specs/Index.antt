@@ -1,7 +1,7 @@
 -- The points by mnemonic.
 use Rattle.std.specs.Prelude.{◌≡◌, ℕ, ◌+◌, ◌/◌, ◌%◌, ◌<◌, ◌==◌, ◌&&◌, Bool, true, false, List, [], ◌∷◌, length, map, Option, slice_index, slice_index_or, slice_set}
 use Rattle.std.specs.List.{list_any}
-use Rattle.rvs_cgf.specs.Groups.{Point}
+use Rattle.rvs_cgf.specs.Groups.{Meaning, op_is, Point}
 use Rattle.rvs_cgf.specs.GroupView.{point_view}
 use Rattle.rvs_cgf.specs.Hits.{holds}
 use Rattle.rvs_cgf.specs.declared.group.Label.{Label}
@@ -11,7 +11,7 @@ use Rattle.rvs_insn.specs.declared.op.Op.{Op}
 use Rattle.rvs_count.specs.Buckets.{bucket_of, is_seen}
 use Rattle.rvs_count.specs.State.{added}
 use Rattle.rvs_count.specs.Counting.{Aim, aims_in}
-use Rattle.rvs_count.specs.declared.slots.Slot.{Slot}
+use Rattle.rvs_count.specs.declared.slot.Slot.{Slot}
 
 -- a point, and its place among the counts
 abbrev pub Place : Type 0
@@ -27,9 +27,18 @@ places slots = map place_of slots
 abbrev pub has_number : ℕ → List Op → Bool
 has_number n ops = list_any (λ op. n == number op) ops
 
--- a list's number says its mnemonic and its bucket; the point stands in that bucket, under a label with the mnemonic
+-- an instruction of the mnemonic of this number may hit the point
+abbrev pub meaning_fits : ℕ → Meaning → Bool
+meaning_fits n (op_is op) = n == number op
+meaning_fits n _ = true
+
+-- a list's number says a mnemonic and a bucket
+abbrev pub stands : ℕ → Point → Bool
+stands key p = bucket_of p == key % 365 && meaning_fits (key / 365) p.meaning
+
+-- the point stands in the list of this number, under a label with the mnemonic
 abbrev pub is_for : ℕ → Aim → Bool
-is_for key a = has_number (key / 365) a.ops && (bucket_of a.point == key % 365)
+is_for key a = has_number (key / 365) a.ops && stands key a.point
 
 -- the points that pass, counted from a place
 abbrev pub places_for : (Aim → Bool) → ℕ → List Aim → List Place
@@ -40,13 +49,13 @@ places_for passes at (a ∷ aims) =
       | false ↦ places_for passes (at + 1) aims
     ]
 
--- the points of a bucket, counted from a place
+-- the points of a list, counted from a place
 abbrev pub places_in : ℕ → ℕ → List Point → List Place
-places_in bucket at [] = []
-places_in bucket at (p ∷ ps) =
-    elim (bucket_of p == bucket) [
-      | true ↦ (p, at) ∷ places_in bucket (at + 1) ps
-      | false ↦ places_in bucket (at + 1) ps
+places_in key at [] = []
+places_in key at (p ∷ ps) =
+    elim (stands key p) [
+      | true ↦ (p, at) ∷ places_in key (at + 1) ps
+      | false ↦ places_in key (at + 1) ps
     ]
 
 -- lists for the first mnemonics and buckets

@@ -7,7 +7,8 @@ use Rattle.rvs_cgf.specs.declared.group.Label.{Label}
 use Rattle.rvs_count.specs.Counting.{Aim, aims_in, hits, count, is_in, kept}
 use Rattle.rvs_count.specs.declared.window.Window.{Window}
 
--- what was counted in some lines: for these labels and windows, how often each point was hit and how many
+-- what was counted in some lines: for these labels and windows, how often each point was hit and
+-- how many
 -- instructions there were; and what of the lines matters for those that follow
 pub record Tallied : Type 0 where
   pub labels : List Label
@@ -25,16 +26,26 @@ pub record CountState : Type 0 where
 
 -- what these instructions and these lines lead to
 abbrev pub tally_from : List Label → List Window → List Entry → Heard → Tallied
-tally_from labels windows es h = record { labels = labels; windows = windows; counts = map (count es) (aims_in labels); instructions = length es; heard = h }
+tally_from labels windows es h =
+    record {
+      labels =
+          labels;
+      windows = windows;
+      counts = map (count es) (aims_in labels);
+      instructions = length es;
+      heard = h;
+    }
 
 abbrev pub tally_of : List Label → List Window → List Reading → Tallied
-tally_of labels windows readings = tally_from labels windows (kept windows (entries_in unheard readings)) (heard unheard readings)
+tally_of labels windows readings =
+    tally_from labels windows (kept windows (entries_in unheard readings)) (heard unheard readings)
 
 abbrev pub state_with : Tallied → Option (List ℕ) → ℕ → CountState
 state_with tally waiting fed = record { tally = tally; waiting = waiting; fed = fed }
 
 abbrev pub state_at : List Label → List Window → List (List ℕ) → List ℕ → ℕ → CountState
-state_at labels windows lines tail n = state_with (tally_of labels windows (map line_says lines)) (held tail) n
+state_at labels windows lines tail n =
+    state_with (tally_of labels windows (map line_says lines)) (held tail) n
 
 -- the state of some bytes, after n were fed
 unfoldable pub state_of : List Label → List Window → List ℕ → ℕ → CountState
@@ -53,11 +64,20 @@ counts_with aims e cs = added (λ a. hits a e) aims cs
 -- after one more instruction, where the windows leave it
 abbrev pub with_entry : Tallied → Bool → Entry → Tallied
 with_entry t false e = t
-with_entry t true e = record t { counts = counts_with (aims_in t.labels) e t.counts; instructions = t.instructions + 1 }
+with_entry t true e =
+    record t {
+      counts =
+          counts_with (aims_in t.labels) e t.counts;
+      instructions = t.instructions + 1;
+    }
 
 -- after one more line
 abbrev pub with_reading : Tallied → Reading → Tallied
-with_reading t (Says pc word w) = record (with_entry t (is_in t.windows pc) (entry_at t.heard.words pc word)) { heard = hear t.heard (Says pc word w) }
+with_reading t (Says pc word w) =
+    record (with_entry t (is_in t.windows pc) (entry_at t.heard.words pc word)) {
+      heard =
+          hear t.heard (Says pc word w);
+    }
 with_reading t (Writes w) = record t { heard = heard_write t.heard w }
 with_reading t Nothing = t
 
@@ -72,7 +92,8 @@ with_bytes s more = state_with s.tally (held_more s.waiting more) s.fed
 -- after more bytes, which aren't counted as fed
 abbrev pub with_all : CountState → List ℕ → CountState
 with_all s [] = s
-with_all s (b ∷ bs) = elim (b == 10) [ true ↦ with_all (with_end s) bs | false ↦ with_all (with_bytes s (b ∷ [])) bs ]
+with_all s (b ∷ bs) =
+    elim (b == 10) [ true ↦ with_all (with_end s) bs | false ↦ with_all (with_bytes s (b ∷ [])) bs ]
 
 -- bytes ended by a line feed, where the last line lacks one
 abbrev pub ended_by : List ℕ → List ℕ → List ℕ

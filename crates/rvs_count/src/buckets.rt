@@ -4,9 +4,9 @@ ghost use Rattle.rvs_cgf.specs.GroupView.{point_view};
 ghost use Rattle.rvs_facts.specs.Facts.{facts_of};
 ghost use Rattle.rvs_count.specs.Buckets as spec;
 
+use crate::known_facts::Known;
 use rvs_cgf::{Kind, Meaning, Point};
 use rvs_expr::{Facts, NumName, RegName};
-use rvs_facts::InsnFacts;
 
 /// How many lists there are for a mnemonic.
 pub(crate) const BUCKETS: usize = 365;
@@ -89,10 +89,9 @@ fn of_number(name: NumName, value: Option<i64>) -> Option<usize>
 }
 
 /// The lists that an instruction is held against.
-pub(crate) fn visited(facts: &InsnFacts<'_>) -> [Option<usize>; 8]
-    ensures lists {
-        result ≡ spec.visited (facts_of facts.now.insn.now facts.now.first facts.now.second)
-    }
+pub(crate) fn visited(facts: &Known<'_>) -> [Option<usize>; 8]
+    ensures lists { result
+        ≡ spec.visited (facts_of facts.now.insn.now facts.now.first facts.now.second) }
     ensures low { All (λ o. IfSome o (λ b. b < 365)) result }
 {
     [

@@ -46,7 +46,8 @@ impl<'g> Model for Counter<'g> {
 
     ghost view = { λ c. record { tally = c.tally; waiting = c.follow; fed = c.fed } };
 
-    ghost invariant = { λ c. (c.tally.instructions + waiting_len c.follow ≤ c.fed) × (c.fed ≤ 2 ^ 40) };
+    ghost invariant = { λ c. (c.tally.instructions + waiting_len c.follow ≤ c.fed)
+        × (c.fed ≤ 2 ^ 40) };
 }
 
 /// The bytes from a place on.
@@ -116,7 +117,8 @@ impl<'g> Counter<'g> {
     ///
     /// [`LogTooLong`] where more than 2^40 bytes would be fed; nothing changes.
     pub fn feed(&mut self, piece: &[u8]) -> Result<(), LogTooLong>
-        ensures state { OnOk result ((labels : List Group) (windows : List Span) (bytes : List ℕ) (n : ℕ) →
+        ensures state { OnOk result (
+            (labels : List Group) (windows : List Span) (bytes : List ℕ) (n : ℕ) →
             self.old ≡ state_of labels windows bytes n →
             self.new ≡ state_of labels windows (bytes ++ piece.now) (n + length piece.now)) }
         ensures fed { OnOk result (self.new.fed ≡ self.old.fed + length piece.now) }
@@ -131,8 +133,8 @@ impl<'g> Counter<'g> {
         Ok(())
     }
 
-    /// Takes the bytes after the last line feed as a line, where there are any; the next bytes begin
-    /// a new line. It takes no memory.
+    /// Takes the bytes after the last line feed as a line, where there are any; the next bytes
+    /// begin a new line. It takes no memory.
     pub fn finish(&mut self)
         ensures state { (labels : List Group) (windows : List Span) (bytes : List ℕ) (n : ℕ) →
             self.old ≡ state_of labels windows bytes n →

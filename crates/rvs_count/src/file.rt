@@ -78,9 +78,11 @@ pub fn count_file<H: Host>(
 ) -> Result<(), LogFault>
     ensures reads_only { ReadsOnly (H.state host.old) (H.state host.new) }
     ensures whole { OnOk result (FeedsFile name.now (H.state host.old) counter.old counter.new) }
-    ensures unfaulted { OnOk result ((H.state host.new).read_faults ≡ (H.state host.old).read_faults) }
+    ensures unfaulted { OnOk result
+        ((H.state host.new).read_faults ≡ (H.state host.old).read_faults) }
     ensures front { OnErr result (FeedsFront name.now (H.state host.old) counter.old counter.new) }
-    ensures cause { IfErr result (FeedCause name.now (H.state host.old) (H.state host.new) counter.old counter.new) }
+    ensures cause { IfErr result
+        (FeedCause name.now (H.state host.old) (H.state host.new) counter.old counter.new) }
 {
     host.open_read(name)?;
     let mut buffer = [0u8; PIECE];

@@ -3,9 +3,9 @@ ghost use Rattle.std.specs.Prelude.{◌≡◌, ◌<◌, ◌≤◌, ◌+◌, ◌^
 ghost use Rattle.rvs_facts.specs.Facts.{facts_of};
 ghost use Rattle.rvs_count.specs.Index.{places, raised, raised_all};
 
-use crate::slots::Slot;
+use crate::known_facts::Known;
+use crate::slot::Slot;
 use rvs_expr::{Facts, Steps};
-use rvs_facts::InsnFacts;
 use rvs_insn::Op;
 use std::marker::Brand;
 use std::sync::ledger::{Blank, Ledger};
@@ -37,18 +37,13 @@ fn add_hits<F: Facts, L: Ledger>(
         ≡ raised_all op (F.table facts.now) (places slots.now) counts.old.items }
 {
     for slot in slots {
-        let hit = slot.point.holds(op, facts, steps);
+        let hit = slot.holds(op, facts, steps);
         raise(counts, slot.at, hit);
     }
 }
 
 /// The same, with a counter of evaluations that no one reads.
-fn add_counted<L: Ledger>(
-    blank: Blank,
-    slots: &[Slot<'_>],
-    facts: InsnFacts<'_>,
-    counts: &mut Vec<u64>,
-)
+fn add_counted<L: Ledger>(blank: Blank, slots: &[Slot<'_>], facts: Known<'_>, counts: &mut Vec<u64>)
     requires name { blank.name ≡ L.name }
     requires parts { blank.parts ≡ L.parts }
     requires some { 0 < blank.parts }
@@ -56,7 +51,8 @@ fn add_counted<L: Ledger>(
     requires few { length slots.now ≤ vec_len counts.old }
     requires low { All (λ n. n ≤ 2 ^ 41) counts.old.items }
     ensures { counts.new.items ≡ raised_all facts.entry.insn.now.op
-        (facts_of facts.entry.insn.now facts.entry.first facts.entry.second) (places slots.now) counts.old.items }
+        (facts_of facts.entry.insn.now facts.entry.first facts.entry.second)
+        (places slots.now) counts.old.items }
 {
     let mut steps: Steps<L> = Steps::new(blank);
     let insn = facts.insn;
@@ -64,12 +60,13 @@ fn add_counted<L: Ledger>(
 }
 
 /// Adds one to the counts of the points that an instruction hits.
-pub(crate) fn add_insn(slots: &[Slot<'_>], facts: InsnFacts<'_>, counts: &mut Vec<u64>)
+pub(crate) fn add_insn(slots: &[Slot<'_>], facts: Known<'_>, counts: &mut Vec<u64>)
     requires within { All (λ s. s.at < vec_len counts.old) slots.now }
     requires few { length slots.now ≤ vec_len counts.old }
     requires low { All (λ n. n ≤ 2 ^ 41) counts.old.items }
     ensures { counts.new.items ≡ raised_all facts.entry.insn.now.op
-        (facts_of facts.entry.insn.now facts.entry.first facts.entry.second) (places slots.now) counts.old.items }
+        (facts_of facts.entry.insn.now facts.entry.first facts.entry.second)
+        (places slots.now) counts.old.items }
 {
     add_counted::<Brand>(Blank::new(1), slots, facts, counts);
 }

@@ -8,10 +8,12 @@ ghost use Rattle.rvs_count.specs.State.{added};
 
 use crate::buckets::{BUCKETS, visited};
 use crate::hits::add_insn;
-use crate::slots::{Slot, slots_of};
+use crate::known_facts::{Known, take_facts};
+use crate::slot::Slot;
+use crate::slots::slots_of;
 use rvs_base::{Items, NoMemory};
 use rvs_cgf::Label;
-use rvs_facts::{InsnFacts, number};
+use rvs_facts::number;
 use rvs_insn::Insn;
 use rvs_log::{Registers, facts_of};
 use std::alloc::Global;
@@ -20,8 +22,8 @@ use std::marker::Model;
 /// How many lists there are: for each of the 48 mnemonics one a bucket.
 const LISTS: usize = 48 * BUCKETS;
 
-/// The points of the selected labels by mnemonic and by shape: an instruction is held against few of
-/// the points of its own mnemonic's labels.
+/// The points of the selected labels by mnemonic and by shape: an instruction is held against few
+/// of the points of its own mnemonic's labels.
 #[derive(Drop)]
 pub(crate) struct Index<'g> {
     labels: &'g [Label],
@@ -75,15 +77,13 @@ impl<'g> Index<'g> {
     }
 
     /// Adds one to the counts of the points of a bucket that an instruction hits.
-    fn add_bucket(&self, bucket: Option<usize>, facts: InsnFacts<'_>, counts: &mut Vec<u64>)
+    fn add_bucket(&self, bucket: Option<usize>, facts: Known<'_>, counts: &mut Vec<u64>)
         requires bucket { IfSome bucket (λ b. b < 365) }
         requires count { length counts.old.items ≡ length (aims_in self.now) }
         requires low { All (λ n. n ≤ 2 ^ 41) counts.old.items }
-        ensures {
-            counts.new.items ≡ added (λ a. is_seen bucket a.point
-                && hits_insn a (Some facts.entry.insn.now) facts.entry.first facts.entry.second)
-                (aims_in self.now) counts.old.items
-        }
+        ensures { counts.new.items ≡ added (λ a. is_seen bucket a.point
+            && hits_insn a (Some facts.entry.insn.now) facts.entry.first facts.entry.second)
+            (aims_in self.now) counts.old.items }
     {
         match bucket {
             None => {},
@@ -97,16 +97,14 @@ impl<'g> Index<'g> {
     }
 
     /// The same for several buckets.
-    fn add_buckets(&self, buckets: &[Option<usize>], facts: InsnFacts<'_>, counts: &mut Vec<u64>)
+    fn add_buckets(&self, buckets: &[Option<usize>], facts: Known<'_>, counts: &mut Vec<u64>)
         requires buckets { All (λ o. IfSome o (λ b. b < 365)) buckets.now }
         requires few { length buckets.now ≤ 8 }
         requires count { length counts.old.items ≡ length (aims_in self.now) }
         requires low { All (λ n. n ≤ 2 ^ 40) counts.old.items }
-        ensures {
-            counts.new.items ≡ added_all
-                (λ a. hits_insn a (Some facts.entry.insn.now) facts.entry.first facts.entry.second)
-                buckets.now (aims_in self.now) counts.old.items
-        }
+        ensures { counts.new.items ≡ added_all
+            (λ a. hits_insn a (Some facts.entry.insn.now) facts.entry.first facts.entry.second)
+            buckets.now (aims_in self.now) counts.old.items }
     {
         for bucket in buckets {
             self.add_bucket(*bucket, facts, counts);
@@ -118,13 +116,11 @@ impl<'g> Index<'g> {
     pub(crate) fn add(&self, insn: &Insn, before: &Registers, counts: &mut Vec<u64>)
         requires count { length counts.old.items ≡ length (aims_in self.now) }
         requires low { All (λ n. n ≤ 2 ^ 40) counts.old.items }
-        ensures {
-            counts.new.items ≡ added (λ a. hits_insn a (Some insn.now)
-                (word_of before.now insn.now.rs1) (word_of before.now insn.now.rs2))
-                (aims_in self.now) counts.old.items
-        }
+        ensures { counts.new.items ≡ added (λ a. hits_insn a (Some insn.now)
+            (word_of before.now insn.now.rs1) (word_of before.now insn.now.rs2))
+            (aims_in self.now) counts.old.items }
     {
-        let facts = facts_of(insn, before);
+        let facts = take_facts(facts_of(insn, before));
         let buckets = visited(&facts);
         self.add_buckets(&buckets, facts, counts);
     }

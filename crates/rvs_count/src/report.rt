@@ -27,7 +27,8 @@ fn push_points(
     points: &[Point],
 ) -> Result<(), NoMemory>
     requires { length counts.now ≡ length points.now }
-    ensures { OnOk result (text.new ≡ text.old ++ spec.points_text counts.now (map point_view points.now)) }
+    ensures { OnOk result (text.new
+        ≡ text.old ++ spec.points_text counts.now (map point_view points.now)) }
 {
     for (index, point) in points.iter().enumerate() {
         push_point(alloc, text, counts[index], point)?;
@@ -47,7 +48,8 @@ fn push_skipped_line(alloc: Global, text: &mut Text, skipped: &Skipped) -> Resul
 /// Adds the lines of entries that aren't counted.
 #[tactic(auto, using(crate::proofs::Reports::skipped_more, crate::proofs::Reports::skipped_all))]
 fn push_skipped(alloc: Global, text: &mut Text, skipped: &[Skipped]) -> Result<(), NoMemory>
-    ensures { OnOk result (text.new ≡ text.old ++ flat_map spec.skipped_line (map skipped_view skipped.now)) }
+    ensures { OnOk result (text.new
+        ≡ text.old ++ flat_map spec.skipped_line (map skipped_view skipped.now)) }
 {
     for one in skipped {
         push_skipped_line(alloc, text, one)?;
@@ -86,7 +88,8 @@ fn push_selected(
 ) -> Result<(), NoMemory>
     requires selected { IsTrue label.now.selected }
     requires own { length counts.now ≡ length label.now.points }
-    ensures { OnOk result (text.new ≡ text.old ++ spec.label_text counts.now (label_view label.now)) }
+    ensures { OnOk result (text.new
+        ≡ text.old ++ spec.label_text counts.now (label_view label.now)) }
 {
     push_hit_line(alloc, text, counts, label)?;
     push_points(alloc, text, counts, label.points.as_slice())?;
@@ -96,7 +99,8 @@ fn push_selected(
 /// Adds a label with its own counts.
 fn push_label(alloc: Global, text: &mut Text, counts: &[u64], label: &Label) -> Result<(), NoMemory>
     requires { length counts.now ≡ spec.width (label_view label.now) }
-    ensures { OnOk result (text.new ≡ text.old ++ spec.label_text counts.now (label_view label.now)) }
+    ensures { OnOk result (text.new
+        ≡ text.old ++ spec.label_text counts.now (label_view label.now)) }
 {
     if label.selected {
         return push_selected(alloc, text, counts, label);
@@ -125,7 +129,8 @@ fn push_labels(
     labels: &[Label],
 ) -> Result<(), NoMemory>
     requires { length counts.now ≡ length (aims_in labels.now) }
-    ensures { OnOk result (text.new ≡ text.old ++ spec.labels_text counts.now (map label_view labels.now)) }
+    ensures { OnOk result (text.new
+        ≡ text.old ++ spec.labels_text counts.now (map label_view labels.now)) }
 {
     let mut rest = counts;
     for label in labels {

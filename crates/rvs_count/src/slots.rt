@@ -1,58 +1,73 @@
 // The points that an instruction of a mnemonic may hit.
-ghost use Rattle.std.specs.Prelude.{◌≡◌, ◌<◌, ◌+◌, ◌^◌, ◌++◌, ◌∷◌, [], IfOk, OnOk, if◌then◌else◌, length, map};
-ghost use Rattle.rvs_cgf.specs.GroupView.{label_view, point_view};
+ghost use Rattle.std.specs.Prelude.{◌≡◌, ◌==◌, ◌<◌, ◌+◌, ◌^◌, ◌++◌, ◌∷◌, [], IfOk, OnOk, if◌then◌else◌, length, map};
+ghost use Rattle.rvs_cgf.specs.GroupView.{label_view, meaning_view, point_view};
+ghost use Rattle.rvs_facts.specs.Mnemonics as spec;
 ghost use Rattle.rvs_count.specs.Counting.{aims_in, aims_of_label};
-ghost use Rattle.rvs_count.specs.Index.{has_number, is_for, places, places_for, places_in};
+ghost use Rattle.rvs_count.specs.Index.{has_number, is_for, meaning_fits, places, places_for, places_in, stands};
 
 use crate::buckets::{BUCKETS, bucket_of};
+use crate::slot::Slot;
 use rvs_base::{Items, NoMemory};
-use rvs_cgf::{Label, Point};
+use rvs_cgf::{Label, Meaning, Point};
 use rvs_facts::number;
 use rvs_insn::Op;
 use std::alloc::Global;
 
-/// A point and its place among the counts.
-#[derive(Clone, Copy)]
-pub struct Slot<'g> {
-    pub point: &'g Point,
-    pub at: usize,
+/// Whether a mnemonic is the one of this number.
+fn is_number(mnemonic: usize, op: Op) -> bool
+    ensures { result ≡ (mnemonic == spec.number op) }
+{
+    mnemonic == number(op)
 }
 
-/// Adds a point, where it stands in the bucket.
+/// Whether an instruction of the mnemonic of this number may hit the point.
+fn fits(mnemonic: usize, point: &Point) -> bool
+    ensures { result ≡ meaning_fits mnemonic (meaning_view point.now.meaning) }
+{
+    match &point.meaning {
+        Meaning::OpIs(op) => is_number(mnemonic, *op),
+        _ => true,
+    }
+}
+
+/// Whether a point stands in the list of this number, under a label with its mnemonic.
+fn stands_in(key: usize, point: &Point) -> bool
+    ensures { result ≡ stands key (point_view point.now) }
+{
+    bucket_of(point) == key % BUCKETS && fits(key / BUCKETS, point)
+}
+
+/// Adds a point, where it stands in the list.
 fn add_point<'g>(
     slots: &mut Items<Slot<'g>>,
     point: &'g Point,
-    bucket: usize,
+    key: usize,
     at: usize,
 ) -> Result<(), NoMemory>
-    ensures {
-        OnOk result (places slots.new ≡ places slots.old
-            ++ places_in bucket at (point_view point.now ∷ []))
-    }
+    ensures { OnOk result (places slots.new ≡ places slots.old
+        ++ places_in key at (point_view point.now ∷ [])) }
 {
-    if bucket_of(point) == bucket {
-        slots.push(Slot { point, at })
+    if stands_in(key, point) {
+        slots.push(Slot::new(point, at))
     } else {
         Ok(())
     }
 }
 
-/// Adds the points of a label that stand in the bucket.
+/// Adds the points of a label that stand in the list.
 fn add_points<'g>(
     slots: &mut Items<Slot<'g>>,
     points: &'g [Point],
-    bucket: usize,
+    key: usize,
     first: usize,
 ) -> Result<(), NoMemory>
     requires room { first + length points.now < 2 ^ 63 }
-    ensures {
-        OnOk result (places slots.new ≡ places slots.old
-            ++ places_in bucket first (map point_view points.now))
-    }
+    ensures { OnOk result (places slots.new ≡ places slots.old
+        ++ places_in key first (map point_view points.now)) }
 {
     let mut at = first;
     for point in points {
-        add_point(slots, point, bucket, at)?;
+        add_point(slots, point, key, at)?;
         at += 1;
     }
     Ok(())
@@ -63,17 +78,15 @@ fn add_if<'g>(
     slots: &mut Items<Slot<'g>>,
     points: &'g [Point],
     has: bool,
-    bucket: usize,
+    key: usize,
     first: usize,
 ) -> Result<(), NoMemory>
     requires room { first + length points.now < 2 ^ 63 }
-    ensures {
-        OnOk result (places slots.new ≡ places slots.old
-            ++ (if has then places_in bucket first (map point_view points.now) else []))
-    }
+    ensures { OnOk result (places slots.new ≡ places slots.old
+        ++ (if has then places_in key first (map point_view points.now) else [])) }
 {
     if has {
-        add_points(slots, points, bucket, first)
+        add_points(slots, points, key, first)
     } else {
         Ok(())
     }
@@ -95,20 +108,18 @@ fn add_label<'g>(
     first: usize,
 ) -> Result<usize, NoMemory>
     requires room { first + length (aims_of_label (label_view label.now)) < 2 ^ 63 }
-    ensures slots {
-        OnOk result (places slots.new
-            ≡ places slots.old ++ places_for (is_for key) first (aims_of_label (label_view label.now)))
-    }
-    ensures next {
-        IfOk result (λ next. next ≡ first + length (aims_of_label (label_view label.now)))
-    }
+    ensures slots { OnOk result (places slots.new
+        ≡ places slots.old
+        ++ places_for (is_for key) first (aims_of_label (label_view label.now))) }
+    ensures next { IfOk result (λ next. next
+        ≡ first + length (aims_of_label (label_view label.now))) }
 {
     if !label.selected {
         return Ok(first);
     }
     let points = label.points.as_slice();
     let has = has(label.ops.as_slice(), key / BUCKETS);
-    add_if(slots, points, has, key % BUCKETS, first)?;
+    add_if(slots, points, has, key, first)?;
     Ok(first + points.len())
 }
 

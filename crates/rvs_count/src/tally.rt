@@ -109,7 +109,8 @@ impl<'g> Tally<'g> {
     fn instruction(&mut self, entry: &Record<'_>)
         requires decoded { entry.now.insn ≡ insn_of_word entry.now.word }
         requires low { self.old.instructions < 2 ^ 40 }
-        ensures { self.new ≡ with_reading self.old (Says entry.now.pc entry.now.word entry.now.commit) }
+        ensures { self.new
+            ≡ with_reading self.old (Says entry.now.pc entry.now.word entry.now.commit) }
     {
         self.count(entry);
         self.started = true;

@@ -12,17 +12,22 @@ use std::test::Fail;
 static LOGS: [(&[u8], u64, [u64; 2]); 6] = [
     (b"", 0, [0, 0]),
     (
-        b"core   0: 0x80000000 (0x00600293) li t0, 6\ncore   0: 3 0x80000000 (0x00600293) x5  0x00000006\ncore   0: 3 0x80000004 (0x005282b3) x5  0x0000000c\n",
+        b"core   0: 0x80000000 (0x00600293) li t0, 6\n\
+core   0: 3 0x80000000 (0x00600293) x5  0x00000006\n\
+core   0: 3 0x80000004 (0x005282b3) x5  0x0000000c\n",
         2,
         [1, 0],
     ),
     (
-        b"core   0: 3 0x80000000 (0x00600293) x5  0x00000006\r\n\r\ncore   0: 3 0x80000004 (0x005282b3) x5  0x0000000c\r\n",
+        b"core   0: 3 0x80000000 (0x00600293) x5  0x00000006\r\n\r\n\
+core   0: 3 0x80000004 (0x005282b3) x5  0x0000000c\r\n",
         2,
         [1, 0],
     ),
     (
-        b"[0] [M]: 0x80000000 (0x00600293) addi t0, zero, 6\r\nx5 <- 0x00000006\r\nmem[0x80001000] <- 0x06\r\n[1] [M]: 0x80000004 (0x005282b3) add t0, t0, t0\r\nx5 <- 0x0000000C",
+        b"[0] [M]: 0x80000000 (0x00600293) addi t0, zero, 6\r\n\
+x5 <- 0x00000006\r\nmem[0x80001000] <- 0x06\r\n\
+[1] [M]: 0x80000004 (0x005282b3) add t0, t0, t0\r\nx5 <- 0x0000000C",
         2,
         [1, 0],
     ),
@@ -32,7 +37,8 @@ static LOGS: [(&[u8], u64, [u64; 2]); 6] = [
         [0, 1],
     ),
     (
-        b"core 0: 3 0x80000000 (0xffffffff) x5 0x6\ncore 0: 3 0x80000004 (0x005282b3) x0 0x6",
+        b"core 0: 3 0x80000000 (0xffffffff) x5 0x6\n\
+core 0: 3 0x80000004 (0x005282b3) x0 0x6",
         2,
         [1, 0],
     ),
@@ -133,7 +139,8 @@ fn a_log_of_a_file_is_reported(rt: HostRuntime) -> Result<(), Fail> {
     let report = counter.report(alloc)?;
     assert_eq!(rt;
         report.as_str(),
-        "instructions 1\nlabel a hit 1 of 2\n1 val_comb rs1_val == 6\n0 val_comb rs1_val == 0\ntotal hit 1 of 2\n"
+        "instructions 1\nlabel a hit 1 of 2\n1 val_comb rs1_val == 6\n\
+0 val_comb rs1_val == 0\ntotal hit 1 of 2\n"
     );
     let counted = count_log(alloc, &groups, Items::new(alloc), LOGS[3].0)?;
     assert_eq!(rt; counted.counts.as_slice(), [1, 0].as_slice());

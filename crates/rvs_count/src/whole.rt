@@ -24,7 +24,8 @@ fn feed_whole(counter: &mut Counter<'_>, log: &[u8])
     requires new { counter.old.fed ≡ 0 }
     requires short { length log.now ≤ 2 ^ 40 }
     ensures { (labels : List Group) (windows : List Span) (bytes : List ℕ) (n : ℕ) →
-        counter.old ≡ state_of labels windows bytes n → counter.new ≡ state_of labels windows (bytes ++ log.now) (n + length log.now) }
+        counter.old ≡ state_of labels windows bytes n →
+        counter.new ≡ state_of labels windows (bytes ++ log.now) (n + length log.now) }
 {
     match counter.feed(log) {
         Ok(()) => {},
@@ -44,8 +45,10 @@ pub fn count_log(
     log: &[u8],
 ) -> Result<Counted, NoMemory>
     requires { length log.now ≤ 2 ^ 40 }
-    ensures counts { IfOk result (λ c. c.counts ≡ map (count (kept windows (entries_of log.now))) (aims_in groups.now)) }
-    ensures instructions { IfOk result (λ c. c.instructions ≡ length (kept windows (entries_of log.now))) }
+    ensures counts { IfOk result (λ c. c.counts
+        ≡ map (count (kept windows (entries_of log.now))) (aims_in groups.now)) }
+    ensures instructions { IfOk result (λ c. c.instructions
+        ≡ length (kept windows (entries_of log.now))) }
 {
     let mut counter = Counter::new(alloc, groups, windows)?;
     feed_whole(&mut counter, log);

@@ -9,7 +9,8 @@ use Rattle.rvs_count.proofs.counter.take_all.Goals as goal
 
 pub returns-in-None-clause-state : goal.returns-in-None-clause-state
 returns-in-None-clause-state c = λ fed.
-    let used : c.next-cut.result.used ≡ length c.lines.rest.now = rw c.in-None.is at c.next-cut.ensures.whole in
+    let used : c.next-cut.result.used
+    ≡ length c.lines.rest.now = rw c.in-None.is at c.next-cut.ensures.whole in
     let none : lines_after c.lines.follow (take c.next-cut.result.used c.lines.rest.now) ≡ [] =
     c.next-cut.ensures.line ∙ ap (λ o. one_or_none (option_copied o)) c.in-None.is in
     c.lines.invariant.state fed
@@ -26,9 +27,12 @@ returns-in-None-clause-low c =
 
 pub lines-smaller : goal.lines-smaller
 lines-smaller c =
-    let line : lines_after c.lines.follow (take c.next-cut.result.used c.lines.rest.now) ≡ c.in-Some.line.now ∷ [] =
+    let line : lines_after c.lines.follow (take c.next-cut.result.used c.lines.rest.now)
+    ≡ c.in-Some.line.now ∷ [] =
     c.next-cut.ensures.line ∙ ap (λ o. one_or_none (option_copied o)) c.in-Some.is in
-    let left : length c.back_of-rest.result.now ≡ length (drop c.next-cut.result.used c.lines.rest.now) = ap (λ l. length l) c.back_of-rest.ensures in
+    let left : length c.back_of-rest.result.now
+    ≡ length (drop c.next-cut.result.used c.lines.rest.now) =
+    ap (λ l. length l) c.back_of-rest.ensures in
     omega (
       arith,
       some_used c.lines.follow c.lines.rest.now c.in-Some.line.now c.next-cut.result.used line,
@@ -39,10 +43,12 @@ lines-smaller c =
 
 pub lines-preserved : goal.lines-preserved
 lines-preserved c =
-    let line : lines_after c.lines.follow (take c.next-cut.result.used c.lines.rest.now) ≡ c.in-Some.line.now ∷ [] =
+    let line : lines_after c.lines.follow (take c.next-cut.result.used c.lines.rest.now)
+    ≡ c.in-Some.line.now ∷ [] =
     c.next-cut.ensures.line ∙ ap (λ o. one_or_none (option_copied o)) c.in-Some.is in
     record {
-      low = line_low c.lines.tally c.take_line.new.self c.lines.follow c.next-cut.follows.lender-at-none
+      low =
+          line_low c.lines.tally c.take_line.new.self c.lines.follow c.next-cut.follows.lender-at-none
           c.lines.rest.now c.back_of-rest.result.now c.in-Some.line.now c.next-cut.result.used _
           line c.next-cut.follows.holds-at-none c.take_line.ensures c.back_of-rest.ensures c.lines.invariant.low;
       state = λ fed.

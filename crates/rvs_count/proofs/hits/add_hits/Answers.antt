@@ -2,7 +2,7 @@ use Rattle.std.proofs.Common.{◌≡◌, ◌≤◌, ◌+◌, ◌^◌, ℕ, List,
 use Rattle.rvs_cgf.specs.GroupView.{point_view}
 use Rattle.rvs_cgf.specs.Hits.{holds}
 use Rattle.rvs_count.specs.Index.{Place, place_of, places, raised, raised_all}
-use Rattle.rvs_count.specs.declared.slots.Slot.{Slot}
+use Rattle.rvs_count.specs.declared.slot.Slot.{Slot}
 use Rattle.rvs_count.proofs.Places.{slots_next, raised_low}
 use Rattle.rvs_count.proofs.hits.add_hits.Goals as goal
 
@@ -16,7 +16,7 @@ loop-slot-preserved g c =
     let hit = holds (point_view s.point.now) c.args.op t in
     let rest = places (drop (c.loop-slot.slot-index + 1) c.args.slots.now) in
     let e : c.raise.new.counts.items ≡ raised hit s.at c.loop-slot.counts.items =
-    c.raise.ensures.items ∙ ap (λ h. raised h s.at c.loop-slot.counts.items) c.holds-hit.ensures.value in
+    c.raise.ensures.items ∙ ap (λ h. raised h s.at c.loop-slot.counts.items) c.holds-hit.ensures in
     let P : List ℕ → Type 0 = λ l. All (λ (n : ℕ). n ≤ 2 ^ 41 + c.loop-slot.slot-index + 1) l in
     let low : P c.raise.new.counts.items =
     subst P (sym e) (raised_low hit c.loop-slot.counts.items s.at (2 ^ 41 + c.loop-slot.slot-index) c.loop-slot.invariant.low) in

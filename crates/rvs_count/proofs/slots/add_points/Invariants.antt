@@ -7,6 +7,6 @@ use Rattle.rvs_count.proofs.slots.add_points.Given as goal
 abbrev pub invariant-loop-point : goal.invariant-loop-point
 invariant-loop-point l = record {
   place : l.at ≡ l.first + l.point-index;
-  same : places l.slots ++ places_in l.bucket l.at (map point_view (drop l.point-index l.points))
-      ≡ places l.initial.slots ++ places_in l.bucket l.first (map point_view l.points);
+  same : places l.slots ++ places_in l.key l.at (map point_view (drop l.point-index l.points))
+      ≡ places l.initial.slots ++ places_in l.key l.first (map point_view l.points);
 }

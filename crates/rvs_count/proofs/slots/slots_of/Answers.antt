@@ -20,7 +20,8 @@ loop-label-preserved c =
     ∙ length-append (aims_of_label (label_view label)) (aims_in (drop (c.loop-label.label-index + 1) c.args.labels.now)) in
     record {
       room = omega (arith, n, m, c.loop-label.invariant.room);
-      same = slots_more (is_for c.args.key) c.args.labels.now c.loop-label.slots c.add_label.new.slots
+      same =
+          slots_more (is_for c.args.key) c.args.labels.now c.loop-label.slots c.add_label.new.slots
           c.loop-label.label-index c.loop-label.first c.in_ok-first.first c.label-item.result c.loop-label-test.true e n
           ∙ c.loop-label.invariant.same;
     }

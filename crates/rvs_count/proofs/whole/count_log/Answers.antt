@@ -4,7 +4,8 @@ use Rattle.rvs_count.proofs.Ends.{counted_all, counted_instructions, fed_of}
 use Rattle.rvs_count.proofs.whole.count_log.Goals as goal
 
 pub feed_whole-requires-clause-new : goal.feed_whole-requires-clause-new
-feed_whole-requires-clause-new c = ap (λ (s : CountState). s.fed) c.in_ok-counter.ensures ∙ fed_of c.args.groups.now c.args.windows [] 0
+feed_whole-requires-clause-new c = ap (λ (s : CountState). s.fed) c.in_ok-counter.ensures
+    ∙ fed_of c.args.groups.now c.args.windows [] 0
 
 pub returns-clause-instructions : goal.returns-clause-instructions
 returns-clause-instructions c =

@@ -36,7 +36,9 @@ add_insn-requires-clause-few c =
 
 pub returns-in-None : goal.returns-in-None
 returns-in-None c =
-    let hit : Aim → _ = λ a. hits_insn a (Some c.args.facts.insn.now) c.args.facts.first c.args.facts.second in
+    let hit : Aim
+    → _ =
+    λ a. hits_insn a (Some c.args.facts.insn.now) c.args.facts.first c.args.facts.second in
     none_added (aims_in c.args.self.now) hit c.args.counts.now.items c.requires.count
     ∙ ap (λ (o : Option ℕ). added (λ a. is_seen o a.point && hit a) (aims_in c.args.self.now) c.args.counts.now.items) (sym c.in-None.is)
 
@@ -47,7 +49,9 @@ returns-in-Some c =
     let mine = slots_at c.self.inside.labels.now c.self.inside.lists c.as_slice.result.now key
     c.index-as_slice-key.result c.as_slice-slots.result.now c.self.invariant.0
     (omega (arith, low, c.number.ensures.low, c.self.invariant.1)) c.as_slice.ensures c.as_slice-slots.ensures c.index-as_slice-key.is in
-    let hit : Aim → _ = λ a. hits_insn a (Some c.args.facts.insn.now) c.args.facts.first c.args.facts.second in
+    let hit : Aim
+    → _ =
+    λ a. hits_insn a (Some c.args.facts.insn.now) c.args.facts.first c.args.facts.second in
     added_bucket c.args.self.now c.args.facts.insn.now c.args.facts.first c.args.facts.second c.number.result c.in-Some.bucket
     c.as_slice-slots.result.now c.args.counts.now.items c.add_insn.new.counts.items
     (c.number.ensures.place ∙ ap (λ (i : Fields). number i.op) c.insn.view_is) low

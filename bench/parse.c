@@ -1,0 +1,91 @@
+/* Reads a commit log as fast as a plain C program may: each line to its address, its word and what it wrote, the
+   registers kept. It is what the rate of `rvsuite coverage` is held against.
+
+   cc -O2 -o parse parse.c && ./parse LOG */
+#include <fcntl.h>
+#include <stdint.h>
+#include <stdio.h>
+#include <string.h>
+#include <unistd.h>
+
+static signed char digit[256];
+static uint32_t regs[32];
+
+static const char *word(const char *at, const char *end, uint32_t *value)
+{
+    uint32_t v = 0;
+    const char *first;
+    if (end - at < 3 || at[0] != '0' || at[1] != 'x')
+        return 0;
+    at += 2;
+    first = at;
+    while (at < end && digit[(unsigned char)*at] >= 0)
+        v = v << 4 | (uint32_t)digit[(unsigned char)*at++];
+    if (at == first)
+        return 0;
+    *value = v;
+    return at;
+}
+
+static const char *spaces(const char *at, const char *end)
+{
+    if (at == end || *at != ' ')
+        return 0;
+    while (at < end && *at == ' ')
+        at++;
+    return at;
+}
+
+static int line(const char *at, const char *end, uint64_t *sum)
+{
+    uint32_t pc, insn, value;
+    unsigned reg;
+    if (end - at < 4 || memcmp(at, "core", 4) || !(at = spaces(at + 4, end)))
+        return 0;
+    while (at < end && *at >= '0' && *at <= '9')
+        at++;
+    if (at == end || *at++ != ':' || !(at = spaces(at, end)))
+        return 0;
+    if (at == end || *at < '0' || *at > '3' || !(at = spaces(at + 1, end)) || !(at = word(at, end, &pc)))
+        return 0;
+    if (!(at = spaces(at, end)) || at == end || *at++ != '(' || !(at = word(at, end, &insn)) || at == end || *at++ != ')')
+        return 0;
+    *sum += pc ^ insn ^ regs[insn >> 15 & 31] ^ regs[insn >> 20 & 31];
+    if (at < end && (at = spaces(at, end)) && at < end && *at == 'x') {
+        reg = 0;
+        for (at++; at < end && *at >= '0' && *at <= '9'; at++)
+            reg = 10 * reg + (unsigned)(*at - '0');
+        if (reg < 32 && (at = spaces(at, end)) && word(at, end, &value) && reg)
+            regs[reg] = value;
+    }
+    return 1;
+}
+
+int main(int argc, char **argv)
+{
+    static char buffer[65536 + 4096];
+    uint64_t count = 0, sum = 0;
+    size_t kept = 0;
+    ssize_t got;
+    int c, fd = argc > 1 ? open(argv[1], O_RDONLY) : -1;
+    if (fd < 0)
+        return 2;
+    memset(digit, -1, sizeof digit);
+    for (c = 0; c < 10; c++)
+        digit['0' + c] = (signed char)c;
+    for (c = 0; c < 6; c++)
+        digit['a' + c] = digit['A' + c] = (signed char)(10 + c);
+    while ((got = read(fd, buffer + kept, 65536)) > 0) {
+        const char *at = buffer, *end = buffer + kept + got, *feed;
+        while ((feed = memchr(at, '\n', (size_t)(end - at)))) {
+            count += (uint64_t)line(at, feed, &sum);
+            at = feed + 1;
+        }
+        kept = (size_t)(end - at);
+        if (kept > 4096)
+            kept = 0;
+        memmove(buffer, at, kept);
+    }
+    printf("instructions %llu (%llx)\n", (unsigned long long)count, (unsigned long long)sum);
+    return 0;
+}

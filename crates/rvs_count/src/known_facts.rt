@@ -1,0 +1,71 @@
+// The facts of an instruction, each taken once.
+ghost use Rattle.std.specs.Prelude.{◌≡◌, ◌≤◌, ◌^◌, IfSome, unsigned_abs};
+ghost use Rattle.std.proofs.Props.{props};
+ghost use Rattle.rvs_expr_text.specs.declared.lexeme.NumName.TheVariants.{Rs1Val, Rs2Val, ImmVal, EaAlign};
+ghost use Rattle.rvs_facts.specs.Facts.{num_of};
+
+use rvs_expr::{Facts, NumName, RegName};
+use rvs_facts::InsnFacts;
+use rvs_insn::Insn;
+
+/// The facts of an instruction with its numbers, so that no point works them out again.
+#[derive(Clone, Copy)]
+pub(crate) struct Known<'i> {
+    pub insn: &'i Insn,
+    pub first: u32,
+    pub second: u32,
+    pub rs1_val: Option<i64>,
+    pub rs2_val: Option<i64>,
+    pub imm_val: Option<i64>,
+    pub ea_align: Option<i64>,
+    ghost rs1_known: { rs1_val ≡ num_of insn.now first second Rs1Val } by { Prim.hlevel props },
+    ghost rs2_known: { rs2_val ≡ num_of insn.now first second Rs2Val } by { Prim.hlevel props },
+    ghost imm_known: { imm_val ≡ num_of insn.now first second ImmVal } by { Prim.hlevel props },
+    ghost ea_known: { ea_align ≡ num_of insn.now first second EaAlign } by { Prim.hlevel props },
+    ghost rs1_small: { IfSome rs1_val (λ z. unsigned_abs z ≤ 2 ^ 32) } by { Prim.hlevel props },
+    ghost rs2_small: { IfSome rs2_val (λ z. unsigned_abs z ≤ 2 ^ 32) } by { Prim.hlevel props },
+    ghost imm_small: { IfSome imm_val (λ z. unsigned_abs z ≤ 2 ^ 32) } by { Prim.hlevel props },
+    ghost ea_small: { IfSome ea_align (λ z. unsigned_abs z ≤ 2 ^ 32) } by { Prim.hlevel props },
+}
+
+/// Takes each fact.
+pub(crate) fn take_facts(facts: InsnFacts<'_>) -> Known<'_>
+    ensures insn { result.insn.now ≡ facts.entry.insn.now }
+    ensures first { result.first ≡ facts.entry.first }
+    ensures second { result.second ≡ facts.entry.second }
+{
+    Known {
+        insn: facts.insn,
+        first: facts.first,
+        second: facts.second,
+        rs1_val: facts.num(NumName::Rs1Val),
+        rs2_val: facts.num(NumName::Rs2Val),
+        imm_val: facts.num(NumName::ImmVal),
+        ea_align: facts.num(NumName::EaAlign),
+    }
+}
+
+impl Facts for Known<'_> {
+    ghost use Rattle.rvs_facts.specs.Facts.{facts_of};
+
+    ghost table = { λ k. facts_of k.insn.now k.first k.second };
+
+    fn reg(&self, name: RegName) -> Option<u8> {
+        let insn = self.insn;
+        match name {
+            RegName::Rd => insn.rd,
+            RegName::Rs1 => insn.rs1,
+            RegName::Rs2 => insn.rs2,
+            _ => None,
+        }
+    }
+
+    fn num(&self, name: NumName) -> Option<i64> {
+        match name {
+            NumName::Rs1Val => self.rs1_val,
+            NumName::Rs2Val => self.rs2_val,
+            NumName::ImmVal => self.imm_val,
+            NumName::EaAlign => self.ea_align,
+        }
+    }
+}
