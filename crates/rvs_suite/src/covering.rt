@@ -6,7 +6,7 @@ ghost use Rattle.rvs_plan.specs.World.{world};
 ghost use Rattle.rvs_plan.specs.Plan.{Asks, Ends};
 ghost use Rattle.rvs_plan.specs.Meets.{Meets};
 ghost use Rattle.rvs_cgf.specs.declared.group.Label.{Label};
-ghost use Rattle.rvs_count.specs.State.{state_of};
+ghost use Rattle.rvs_count.specs.State.{ended, state_of};
 ghost use Rattle.rvs_count.specs.declared.window.Window.{Window as Span};
 ghost use Rattle.rvs_suite.specs.GroupsView.{groups_view};
 ghost use Rattle.rvs_suite.specs.Coverage.{report_on, report_found, reported, print_report, coverage};
@@ -103,7 +103,10 @@ fn count_named<H: Host>(
 
 /// The report of a counter at the end of its log.
 fn report_at_end(alloc: Global, counter: &mut Counter<'_>) -> Result<Text, NoMemory>
-    ensures {
+    ensures state { (labels : List Label) (windows : List Span) (bytes : List ℕ) (n : ℕ)
+        → counter.old ≡ state_of labels windows bytes n
+        → counter.new ≡ state_of labels windows (ended bytes) n }
+    ensures report {
         IfOk result (λ text. (labels : List Label) (windows : List Span) (bytes : List ℕ) (n : ℕ)
             → counter.old ≡ state_of labels windows bytes n
             → text ≡ report_on (groups_view labels) windows bytes)
