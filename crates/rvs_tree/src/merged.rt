@@ -162,6 +162,7 @@ pub fn map_value(alloc: Global, line: u64, own: &EntryList) -> Result<Value, All
         tree,
         nodes: own.nodes,
         depth: (own.depth + 1).min(DEEP),
+        mergeable: true,
     })
 }
 
@@ -185,6 +186,7 @@ pub fn list_value(alloc: Global, line: u64, list: &ValueList) -> Result<Value, A
         tree,
         nodes: list.nodes,
         depth: (list.depth + 1).min(DEEP),
+        mergeable: list.all_maps,
     })
 }
 
