@@ -7,7 +7,6 @@ pub mod Entry
 pub mod Flow
 pub mod Block
 pub mod Answer
-
 -- How the code reads: with a stack of open blocks, and with a list of open brackets. None of this is part of the definition.
 pub mod Stack
 pub mod StepParts
@@ -19,7 +18,6 @@ pub mod Heights
 pub mod LineParts
 pub mod Front
 pub mod Reader
-
 -- What the values of the code stand for.
 pub mod Gives
 pub mod Places

@@ -20,8 +20,8 @@ use crate::open::{Block, Done, Open};
 use crate::sketch::Sketch;
 use crate::stack::check_merge;
 use rvs_tree::{
-    DEEP, EntryList, Tree, Value, ValueList, Written, is_map_or_empty, list_value,
-    map_value, plus, scalar_value, shared_value, text_nodes,
+    DEEP, EntryList, Tree, Value, ValueList, Written, is_map_or_empty, list_value, map_value, plus,
+    scalar_value, shared_value, text_nodes,
 };
 use rvs_yaml_text::{Key, YamlKind};
 use std::alloc::{AllocError, Global};

@@ -16,9 +16,7 @@ use crate::entry::entry_of;
 use crate::known::Known;
 use crate::open::{Anchor, Block, Done, Found, Open};
 use crate::own::content_value;
-use rvs_tree::{
-    EntryList, Value, ValueList, list_value, map_value, scalar_value, shared_value,
-};
+use rvs_tree::{EntryList, Value, ValueList, list_value, map_value, scalar_value, shared_value};
 use rvs_yaml_text::{Content, Head, Key, Shape, Word, YamlKind, is_below};
 use std::alloc::{AllocError, Global};
 

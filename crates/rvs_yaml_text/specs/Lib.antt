@@ -6,7 +6,6 @@ pub mod Scalar
 pub mod Tokens
 pub mod Text
 pub mod Printed
-
 -- How the code reads it, and what its values stand for.
 pub mod Kinds
 pub mod Quotes
