@@ -74,8 +74,12 @@ merged-push : (ws : List Written) (w : Written) → w.merges ≡ true → writte
 merged-push ws w e =
     let E = explicit_keys ws in
     let R = resolved E [] ws in
-    omega (arith, ap pairs_depth (merge-more ws w e), pairs_depth-append R (sift (E ++ keys_of R) (merged_pairs w.value.tree)),
-    sift-visible (E ++ keys_of R) E (merged_pairs w.value.tree) (λ k i. has_key-append k E (keys_of R) ∙ in-front (has_key k E) (has_key k (keys_of R)) i))
+    omega (
+      arith,
+      ap pairs_depth (merge-more ws w e),
+      pairs_depth-append R (sift (E ++ keys_of R) (merged_pairs w.value.tree)),
+      sift-visible (E ++ keys_of R) E (merged_pairs w.value.tree) (λ k i. has_key-append k E (keys_of R) ∙ in-front (has_key k E) (has_key k (keys_of R)) i),
+    )
 
 push-by : (m : Bool) (ws : List Written) (w : Written) → w.merges ≡ m → written_depth (ws ++ w ∷ []) ≤ max (written_depth ws) (brought (explicit_keys ws) m w.value.tree)
 push-by true ws w e = merged-push ws w e

@@ -135,7 +135,7 @@ own-keys-stay line front w back own new =
     let k = w.key in
     let S = resolved E [] front in
     let there : has_key k E ≡ true =
-        ap (has_key k) (explicit-append front (w ∷ back)) ∙ has_key-append k (explicit_keys front) (explicit_keys (w ∷ back)) ∙ or-right (has_key k (explicit_keys front)) _ (own-there w.merges k (explicit_keys back) own) in
+    ap (has_key k) (explicit-append front (w ∷ back)) ∙ has_key-append k (explicit_keys front) (explicit_keys (w ∷ back)) ∙ or-right (has_key k (explicit_keys front)) _ (own-there w.merges k (explicit_keys back) own) in
     let before : value_among k S ≡ None = resolved-none E k [] front there new refl in
     ap (value_among k) (pairs-back (resolved E [] ws) ∙ resolved-append E [] front (w ∷ back) ∙ own-step w.merges E S w back own)
     ∙ resolved-stay E k w.value.tree (S ++ (k, w.value.tree) ∷ []) back (among-none k S _ before ∙ here k w.value.tree [])

@@ -1,10 +1,12 @@
-pub mod Bound
+-- What a tree is, how a map's merges are resolved, and what follows for its own keys.
 pub mod Data
+pub mod Value
 pub mod OwnKeys
-pub mod PairsView
+-- How the code bounds the depth, what stands for a value, and what the values of the code stand for.
+pub mod Bound
 pub mod Sifted
 pub mod Standin
 pub mod TreeSize
 pub mod TreeView
-pub mod Value
 pub mod ValueView
+pub mod PairsView

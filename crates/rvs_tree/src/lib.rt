@@ -16,7 +16,7 @@ mod written;
 
 pub use counted::Value;
 pub use entry_list::EntryList;
-pub use members::{DEEP, is_map_or_empty, is_mergeable};
+pub use members::{DEEP, is_map_or_empty};
 pub use merged::{list_value, map_value, own_keys_stay};
 pub use thin::{thin_list_value, thin_map_value, thin_value};
 pub use tree::Tree;

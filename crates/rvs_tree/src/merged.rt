@@ -1,5 +1,5 @@
 // The entries of a map, with what is merged into it.
-ghost use Rattle.std.specs.Prelude.{◌≡◌, ◌∷◌, ◌++◌, ◌||◌, [], map, IfOk};
+ghost use Rattle.std.specs.Prelude.{◌≡◌, ◌+◌, ◌∷◌, ◌++◌, ◌||◌, [], map, min, IfOk};
 ghost use Rattle.rvs_tree.specs.Value as spec;
 ghost use Rattle.rvs_tree.specs.OwnKeys.{OwnKeysStay};
 ghost use Rattle.rvs_tree.specs.Data.{own_pairs};
@@ -150,7 +150,8 @@ fn resolved_pairs(alloc: Global, own: &EntryList) -> Result<Pairs, AllocError>
 
 /// The map of these entries, which begins on this line.
 pub fn map_value(alloc: Global, line: u64, own: &EntryList) -> Result<Value, AllocError>
-    ensures { IfOk result (λ v. value_view v ≡ spec.map_value line (entries_view own.now.entries.items)) }
+    ensures value { IfOk result (λ v. value_view v ≡ spec.map_value line (entries_view own.now.entries.items)) }
+    ensures depth { IfOk result (λ v. v.depth ≡ min (own.now.depth + 1) 33) }
 {
     let Pairs {
         keys,
@@ -162,6 +163,7 @@ pub fn map_value(alloc: Global, line: u64, own: &EntryList) -> Result<Value, All
         tree,
         nodes: own.nodes,
         depth: (own.depth + 1).min(DEEP),
+        mergeable: true,
     })
 }
 
@@ -178,13 +180,15 @@ fn shared_trees(alloc: Global, values: &[Value]) -> Result<Vec<Rc<Tree>>, AllocE
 
 /// The list of these values, which begins on this line.
 pub fn list_value(alloc: Global, line: u64, list: &ValueList) -> Result<Value, AllocError>
-    ensures { IfOk result (λ v. value_view v ≡ spec.list_value line (values_view list.now.values.items)) }
+    ensures value { IfOk result (λ v. value_view v ≡ spec.list_value line (values_view list.now.values.items)) }
+    ensures depth { IfOk result (λ v. v.depth ≡ min (list.now.depth + 1) 33) }
 {
     let tree = Tree::new_list(alloc, shared_trees(alloc, &list.values)?, line)?;
     Ok(Value {
         tree,
         nodes: list.nodes,
         depth: (list.depth + 1).min(DEEP),
+        mergeable: list.all_maps,
     })
 }
 

@@ -8,7 +8,7 @@ ghost use Rattle.rvs_tree.specs.ValueView.{value_view, values_view, entries_view
 
 use crate::counted::Value;
 use crate::entry_list::EntryList;
-use crate::members::{DEEP, is_mergeable};
+use crate::members::DEEP;
 use crate::tree::Tree;
 use crate::value_list::ValueList;
 use std::alloc::{AllocError, Global};
@@ -25,17 +25,18 @@ fn thin_list(alloc: Global, all_maps: bool, line: u64) -> Result<Rc<Tree>, Alloc
     }
 }
 
-/// The tree that stands for this one.
-fn thin_tree(alloc: Global, tree: &Rc<Tree>) -> Result<Rc<Tree>, AllocError>
-    ensures { IfOk result (λ t. view t.value ≡ thin (view tree.now.value)) }
+/// The tree that stands for that of a value.
+fn thin_tree(alloc: Global, value: &Value) -> Result<Rc<Tree>, AllocError>
+    ensures { IfOk result (λ t. view t.value ≡ thin (view value.now.tree.value)) }
 {
+    let tree = &value.tree;
     if tree.is_scalar() {
         return Ok(tree.clone()?);
     }
     if tree.is_map() {
         return Tree::new_map(alloc, Vec::new(alloc), Vec::new(alloc), tree.line());
     }
-    thin_list(alloc, is_mergeable(tree), tree.line())
+    thin_list(alloc, value.mergeable, tree.line())
 }
 
 /// The value that stands for this one.
@@ -43,9 +44,10 @@ pub fn thin_value(alloc: Global, value: &Value) -> Result<Value, AllocError>
     ensures { IfOk result (λ v. value_view v ≡ standin (value_view value.now)) }
 {
     Ok(Value {
-        tree: thin_tree(alloc, &value.tree)?,
+        tree: thin_tree(alloc, value)?,
         nodes: value.nodes,
         depth: value.depth,
+        mergeable: value.mergeable,
     })
 }
 
@@ -58,6 +60,7 @@ pub fn thin_map_value(alloc: Global, line: u64, own: &EntryList) -> Result<Value
         tree,
         nodes: own.nodes,
         depth: (own.depth + 1).min(DEEP),
+        mergeable: true,
     })
 }
 
@@ -70,5 +73,6 @@ pub fn thin_list_value(alloc: Global, line: u64, list: &ValueList) -> Result<Val
         tree,
         nodes: list.nodes,
         depth: (list.depth + 1).min(DEEP),
+        mergeable: list.all_maps,
     })
 }

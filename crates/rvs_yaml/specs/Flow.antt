@@ -1,5 +1,6 @@
 -- Flow collections: `[a, b]` and `{k: v}`, nested.
 use Rattle.std.specs.Prelude.{ℕ, Bool, true, false, not, ◌&&◌, ◌||◌, ◌==◌, if◌then◌else◌, List, [], ◌∷◌, ◌++◌, Option, Some, None, Ok, Err}
+use Rattle.rvs_yaml_text.specs.Bytes.{comma_byte, close_square_byte, close_curly_byte}
 use Rattle.rvs_tree.specs.Value.{Value, scalar_value, list_value, map_value, Written, has_key, explicit_keys, is_mergeable}
 use Rattle.rvs_yaml.specs.Checks.{Checked, ◌>>=◌, ◌>>◌, check}
 use Rattle.rvs_yaml_text.specs.Word.{Key, Bracket, square, curly, Token, opening, closing, comma, colon, scalar_token, key_token, cut_key, colon_scalar, alias_token, late_colon, fault}
@@ -85,8 +86,8 @@ with_cut_key _ k = Err BadFlow
 
 -- a plain scalar that ends in a colon comes next: bad, unless the bracket or comma behind it is worse
 abbrev pub with_colon_scalar : Place → ℕ → Checked Place
-with_colon_scalar (member vs) b = Err (if b == 44 || b == 93 then BadScalar else BadFlow)
-with_colon_scalar (entry_value ws k) b = Err (if b == 44 || b == 125 then BadScalar else BadFlow)
+with_colon_scalar (member vs) b = Err (if b == comma_byte || b == close_square_byte then BadScalar else BadFlow)
+with_colon_scalar (entry_value ws k) b = Err (if b == comma_byte || b == close_curly_byte then BadScalar else BadFlow)
 with_colon_scalar _ b = Err BadFlow
 
 -- an alias comes next; it is no key

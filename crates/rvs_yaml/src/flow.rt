@@ -17,8 +17,8 @@ use crate::entry::entry_of;
 use crate::known::Known;
 use crate::reading::{Level, Place, Reading};
 use rvs_tree::{
-    EntryList, Value, ValueList, Written, is_mergeable, list_value, map_value, scalar_value,
-    thin_list_value, thin_map_value,
+    EntryList, Value, ValueList, Written, list_value, map_value, scalar_value, thin_list_value,
+    thin_map_value,
 };
 use rvs_yaml_text::{Bracket, Key, Token, YamlKind};
 use std::alloc::Global;
@@ -275,7 +275,7 @@ fn last_fits(entries: &[Written]) -> bool
 fn entry_fits(written: &Written) -> bool
     ensures { result ≡ spec.entry_fits (written_view written.now) }
 {
-    !written.merges || is_mergeable(&written.value.tree)
+    !written.merges || written.value.mergeable
 }
 
 /// What is read once a value is whole.

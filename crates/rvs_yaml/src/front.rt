@@ -20,8 +20,8 @@ use crate::open::{Block, Done, Open};
 use crate::sketch::Sketch;
 use crate::stack::check_merge;
 use rvs_tree::{
-    DEEP, EntryList, Tree, Value, ValueList, Written, is_map_or_empty, is_mergeable, list_value,
-    map_value, plus, scalar_value, shared_value, text_nodes,
+    DEEP, EntryList, Tree, Value, ValueList, Written, is_map_or_empty, list_value, map_value, plus,
+    scalar_value, shared_value, text_nodes,
 };
 use rvs_yaml_text::{Key, YamlKind};
 use std::alloc::{AllocError, Global};
@@ -40,7 +40,7 @@ fn sketch_of(value: &Value) -> Sketch
         depth: value.depth,
         nodes: value.nodes,
         is_map: is_map_or_empty(&value.tree),
-        mergeable: is_mergeable(&value.tree),
+        mergeable: value.mergeable,
     }
 }
 
@@ -53,7 +53,7 @@ pub(crate) fn thin_sketch(thin: &Value, deepest: u64) -> Sketch
         depth: deepest,
         nodes: thin.nodes,
         is_map: is_map_or_empty(&thin.tree),
-        mergeable: is_mergeable(&thin.tree),
+        mergeable: thin.mergeable,
     }
 }
 

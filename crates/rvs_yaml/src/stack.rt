@@ -16,9 +16,7 @@ use crate::entry::entry_of;
 use crate::known::Known;
 use crate::open::{Anchor, Block, Done, Found, Open};
 use crate::own::content_value;
-use rvs_tree::{
-    EntryList, Value, ValueList, is_mergeable, list_value, map_value, scalar_value, shared_value,
-};
+use rvs_tree::{EntryList, Value, ValueList, list_value, map_value, scalar_value, shared_value};
 use rvs_yaml_text::{Content, Head, Key, Shape, Word, YamlKind, is_below};
 use std::alloc::{AllocError, Global};
 
@@ -36,7 +34,7 @@ fn no_place(shape: &Shape<'_>) -> YamlKind
 pub(crate) fn check_merge(key: &Key, value: &Value) -> Result<(), YamlKind>
     ensures { Agrees (λ u. u) result (block_spec.check_merge (key_view key.now) (value_view value.now)) }
 {
-    if key.merges && !is_mergeable(&value.tree) {
+    if key.merges && !value.mergeable {
         Err(YamlKind::BadMerge)
     } else {
         Ok(())

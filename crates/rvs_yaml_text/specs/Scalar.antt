@@ -1,5 +1,6 @@
 -- Scalars, names and comments in the text of a line.
 use Rattle.std.specs.Prelude.{ℕ, Bool, true, false, ◌&&◌, ◌||◌, ◌==◌, nat_le, if◌then◌else◌, List, [], ◌∷◌, drop, bytes_eq, Option, Some, None, option_map, codes}
+use Rattle.rvs_yaml_text.specs.Bytes.{tab_byte, feed_byte, space_byte, bang_byte, double_quote_byte, hash_byte, percent_byte, ampersand_byte, single_quote_byte, star_byte, comma_byte, dash_byte, zero_byte, nine_byte, colon_byte, greater_byte, question_byte, at_sign_byte, upper_a_byte, upper_z_byte, open_square_byte, backslash_byte, close_square_byte, underscore_byte, backquote_byte, lower_a_byte, lower_n_byte, lower_t_byte, lower_z_byte, open_curly_byte, bar_byte, close_curly_byte}
 use Rattle.rvs_yaml_text.specs.Word.{Key}
 use Rattle.rvs_yaml_text.specs.declared.kind.YamlKind.{YamlKind}
 use Rattle.rvs_yaml_text.specs.declared.kind.YamlKind.TheVariants.{BadScalar, Unsupported}
@@ -7,21 +8,21 @@ use Rattle.rvs_yaml_text.specs.declared.kind.YamlKind.TheVariants.{BadScalar, Un
 -- only spaces, tabs and a comment, which stands first or after a space
 abbrev pub is_blank : Bool → List ℕ → Bool
 is_blank spaced [] = true
-is_blank spaced (b ∷ bs) = (b == 35 && spaced) || ((b == 32 || b == 9) && is_blank (b == 32) bs)
+is_blank spaced (b ∷ bs) = (b == hash_byte && spaced) || ((b == space_byte || b == tab_byte) && is_blank (b == space_byte) bs)
 
 -- only spaces and a comment
 abbrev pub only_comment : Bool → List ℕ → Bool
 only_comment spaced [] = true
-only_comment spaced (b ∷ bs) = (b == 35 && spaced) || (b == 32 && only_comment true bs)
+only_comment spaced (b ∷ bs) = (b == hash_byte && spaced) || (b == space_byte && only_comment true bs)
 
 -- the text, up to a comment
 abbrev pub uncommented : Bool → List ℕ → List ℕ
 uncommented spaced [] = []
-uncommented spaced (b ∷ bs) = if b == 35 && spaced then [] else b ∷ uncommented (b == 32) bs
+uncommented spaced (b ∷ bs) = if b == hash_byte && spaced then [] else b ∷ uncommented (b == space_byte) bs
 
 -- the text without the spaces at its end
 abbrev pub push_front : ℕ → List ℕ → List ℕ
-push_front b [] = if b == 32 then [] else b ∷ []
+push_front b [] = if b == space_byte then [] else b ∷ []
 push_front b (c ∷ bs) = b ∷ c ∷ bs
 
 abbrev pub trimmed : List ℕ → List ℕ
@@ -31,7 +32,7 @@ trimmed (b ∷ bs) = push_front b (trimmed bs)
 -- the text without the spaces at its front
 abbrev pub without_spaces : List ℕ → List ℕ
 without_spaces [] = []
-without_spaces (b ∷ bs) = elim (b == 32) [ true ↦ without_spaces bs | false ↦ b ∷ bs ]
+without_spaces (b ∷ bs) = elim (b == space_byte) [ true ↦ without_spaces bs | false ↦ b ∷ bs ]
 
 abbrev pub starts_with : ℕ → List ℕ → Bool
 starts_with c [] = false
@@ -43,7 +44,7 @@ is_empty _ = false
 
 -- a space or the line's end comes next
 abbrev pub ends_indicator : List ℕ → Bool
-ends_indicator bytes = is_empty bytes || starts_with 32 bytes
+ends_indicator bytes = is_empty bytes || starts_with space_byte bytes
 
 -- a text at the front, and what is behind it
 abbrev pub Split : Type 0
@@ -56,46 +57,46 @@ onto b o = option_map (λ p. (b ∷ p.0, p.1)) o
 abbrev pub key_split : Bool → List ℕ → Split
 key_split spaced [] = None
 key_split spaced (b ∷ bs) =
-    elim (b == 35 && spaced) [
+    elim (b == hash_byte && spaced) [
       | true ↦ None
       | false ↦
-          elim (b == 58 && ends_indicator bs) [ true ↦ Some ([], bs) | false ↦ onto b (key_split (b == 32) bs) ]
+          elim (b == colon_byte && ends_indicator bs) [ true ↦ Some ([], bs) | false ↦ onto b (key_split (b == space_byte) bs) ]
     ]
 
 -- The text of a scalar in single quotes, behind the first one, and what is behind the last. Two quotes are one.
 abbrev mutual
   pub single : List ℕ → Split
   single [] = None
-  single (b ∷ bs) = elim (b == 39) [ true ↦ behind_quote bs | false ↦ onto b (single bs) ]
+  single (b ∷ bs) = elim (b == single_quote_byte) [ true ↦ behind_quote bs | false ↦ onto b (single bs) ]
 
   pub behind_quote : List ℕ → Split
   behind_quote [] = Some ([], [])
-  behind_quote (b ∷ bs) = elim (b == 39) [ true ↦ onto 39 (single bs) | false ↦ Some ([], b ∷ bs) ]
+  behind_quote (b ∷ bs) = elim (b == single_quote_byte) [ true ↦ onto single_quote_byte (single bs) | false ↦ Some ([], b ∷ bs) ]
 
 -- what a character behind a backslash stands for
 abbrev pub escaped : ℕ → Option ℕ
-escaped b = if b == 92 || b == 34 then Some b else if b == 110 then Some 10 else if b == 116 then Some 9 else None
+escaped b = if b == backslash_byte || b == double_quote_byte then Some b else if b == lower_n_byte then Some feed_byte else if b == lower_t_byte then Some tab_byte else None
 
 -- the text of a scalar in double quotes, behind the first one, and what is behind the last
 abbrev mutual
   pub double : List ℕ → Split
   double [] = None
-  double (b ∷ bs) = elim (b == 34) [ true ↦ Some ([], bs) | false ↦ elim (b == 92) [ true ↦ behind_backslash bs | false ↦ onto b (double bs) ] ]
+  double (b ∷ bs) = elim (b == double_quote_byte) [ true ↦ Some ([], bs) | false ↦ elim (b == backslash_byte) [ true ↦ behind_backslash bs | false ↦ onto b (double bs) ] ]
 
   pub behind_backslash : List ℕ → Split
   behind_backslash [] = None
   behind_backslash (b ∷ bs) = elim (escaped b) [ None ↦ None | Some c ↦ onto c (double bs) ]
 
 abbrev pub starts_quoted : List ℕ → Bool
-starts_quoted bytes = starts_with 39 bytes || starts_with 34 bytes
+starts_quoted bytes = starts_with single_quote_byte bytes || starts_with double_quote_byte bytes
 
 -- the text of a quoted scalar, and what is behind it
 abbrev pub quoted : List ℕ → Split
-quoted bytes = elim (starts_with 39 bytes) [ true ↦ single (drop 1 bytes) | false ↦ double (drop 1 bytes) ]
+quoted bytes = elim (starts_with single_quote_byte bytes) [ true ↦ single (drop 1 bytes) | false ↦ double (drop 1 bytes) ]
 
 -- letters, digits, `_` and `-`
 abbrev pub is_name_byte : ℕ → Bool
-is_name_byte b = ((nat_le 48 b && nat_le b 57) || (nat_le 65 b && nat_le b 90)) || ((nat_le 97 b && nat_le b 122) || (b == 95 || b == 45))
+is_name_byte b = ((nat_le zero_byte b && nat_le b nine_byte) || (nat_le upper_a_byte b && nat_le b upper_z_byte)) || ((nat_le lower_a_byte b && nat_le b lower_z_byte) || (b == underscore_byte || b == dash_byte))
 
 abbrev pub name_split : List ℕ → List ℕ × List ℕ
 name_split [] = ([], [])
@@ -103,15 +104,15 @@ name_split (b ∷ bs) = elim (is_name_byte b) [ true ↦ (b ∷ (name_split bs).
 
 -- `! | > %`
 abbrev pub is_unsupported_start : ℕ → Bool
-is_unsupported_start b = b == 33 || (b == 124 || (b == 62 || b == 37))
+is_unsupported_start b = b == bang_byte || (b == bar_byte || (b == greater_byte || b == percent_byte))
 
 -- `& * ' " [ { , ] } @` and the backquote, and `#`
 abbrev pub is_reserved_start : ℕ → Bool
-is_reserved_start b = ((b == 38 || b == 42) || (b == 39 || b == 34)) || (((b == 91 || b == 123) || (b == 44 || b == 93)) || ((b == 125 || b == 64) || (b == 96 || b == 35)))
+is_reserved_start b = ((b == ampersand_byte || b == star_byte) || (b == single_quote_byte || b == double_quote_byte)) || (((b == open_square_byte || b == open_curly_byte) || (b == comma_byte || b == close_square_byte)) || ((b == close_curly_byte || b == at_sign_byte) || (b == backquote_byte || b == hash_byte)))
 
 -- `? - :`
 abbrev pub is_indicator_byte : ℕ → Bool
-is_indicator_byte b = b == 63 || (b == 45 || b == 58)
+is_indicator_byte b = b == question_byte || (b == dash_byte || b == colon_byte)
 
 -- why a plain scalar can't begin so, if it can't
 abbrev pub start_fault : List ℕ → Option YamlKind
@@ -119,7 +120,7 @@ start_fault [] = None
 start_fault (b ∷ bs) =
     if is_unsupported_start b then Some Unsupported
     else if is_reserved_start b then Some BadScalar
-    else if b == 63 && starts_with 32 bs then Some Unsupported
+    else if b == question_byte && starts_with space_byte bs then Some Unsupported
     else if is_indicator_byte b && ends_indicator bs then Some BadScalar
     else None
 

@@ -1,5 +1,6 @@
 -- The lines of a text, and the words of a line.
 use Rattle.std.specs.Prelude.{ℕ, suc, ◌-◌, Bool, true, false, not, ◌&&◌, ◌||◌, ◌==◌, if◌then◌else◌, List, [], ◌∷◌, ◌++◌, map, take, drop, length, slice_index, bytes_eq, Option, Some, None}
+use Rattle.rvs_yaml_text.specs.Bytes.{tab_byte, feed_byte, return_byte, space_byte, hash_byte, ampersand_byte, star_byte, dash_byte, dot_byte, colon_byte, open_square_byte, open_curly_byte}
 use Rattle.std.specs.Str.{is_utf8}
 use Rattle.rvs_yaml_text.specs.Word.{Key, square, curly, Content, nothing, text, alias, flow, faulty, Name, Shape, dash, key, leaf, refused, Word}
 use Rattle.rvs_yaml_text.specs.Scalar.{Split, is_blank, only_comment, ends_indicator, starts_with, is_empty, without_spaces, trimmed, uncommented, key_split, starts_quoted, quoted, name_split, start_fault, key_name, quoted_name}
@@ -14,7 +15,7 @@ onto_first b (l ∷ ls) = (b ∷ l) ∷ ls
 
 abbrev pub cut : List ℕ → List (List ℕ)
 cut [] = [] ∷ []
-cut (b ∷ bs) = if b == 10 then [] ∷ cut bs else onto_first b (cut bs)
+cut (b ∷ bs) = if b == feed_byte then [] ∷ cut bs else onto_first b (cut bs)
 
 -- the lines behind a line feed, where there is one
 abbrev pub cut_behind : Option (List ℕ) → List (List ℕ)
@@ -23,7 +24,7 @@ cut_behind (Some bytes) = cut bytes
 
 -- a carriage return at its end is no part of a line
 abbrev pub without_return : List ℕ → List ℕ
-without_return bytes = if slice_index bytes (length bytes - 1) == 13 then take (length bytes - 1) bytes else bytes
+without_return bytes = if slice_index bytes (length bytes - 1) == return_byte then take (length bytes - 1) bytes else bytes
 
 abbrev pub lines_of : List ℕ → List (List ℕ)
 lines_of bytes = map without_return (cut bytes)
@@ -51,20 +52,20 @@ content bytes =
     elim (starts_quoted bytes) [
       | true ↦ quoted_ended (quoted bytes)
       | false ↦
-          elim (starts_with 42 bytes) [
+          elim (starts_with star_byte bytes) [
             | true ↦ alias_ended (name_split (drop 1 bytes))
             | false ↦
-                elim (starts_with 91 bytes) [
+                elim (starts_with open_square_byte bytes) [
                   | true ↦ flow square (tokens_of (drop 1 bytes))
                   | false ↦
-                      elim (starts_with 123 bytes) [ true ↦ flow curly (tokens_of (drop 1 bytes)) | false ↦ plain (start_fault bytes) bytes ]
+                      elim (starts_with open_curly_byte bytes) [ true ↦ flow curly (tokens_of (drop 1 bytes)) | false ↦ plain (start_fault bytes) bytes ]
                 ]
           ]
     ]
 
 -- the content of a text from its first character on, if it is more than a comment
 abbrev pub content_or_comment : List ℕ → Content
-content_or_comment bytes = elim (is_empty bytes || starts_with 35 bytes) [ true ↦ nothing | false ↦ content bytes ]
+content_or_comment bytes = elim (is_empty bytes || starts_with hash_byte bytes) [ true ↦ nothing | false ↦ content bytes ]
 
 -- The name behind a `&`, and what is behind it. There is a name, and a space or the line's end behind it.
 abbrev pub good_anchor : List ℕ × List ℕ → Split
@@ -79,12 +80,12 @@ anchored (Some p) = (Some p.0, content_or_comment (without_spaces p.1))
 
 -- what is behind a key and its colon: an anchor, where there is one, and the inline part
 abbrev pub inline_part : List ℕ → Name × Content
-inline_part bytes = elim (starts_with 38 bytes) [ true ↦ anchored (anchor_split (drop 1 bytes)) | false ↦ (None, content_or_comment bytes) ]
+inline_part bytes = elim (starts_with ampersand_byte bytes) [ true ↦ anchored (anchor_split (drop 1 bytes)) | false ↦ (None, content_or_comment bytes) ]
 
 -- a key and what is behind its colon
 abbrev pub quoted_key : Split → Option (Key × List ℕ)
 quoted_key None = None
-quoted_key (Some p) = if starts_with 58 (without_spaces p.1) && ends_indicator (drop 1 (without_spaces p.1)) then Some (quoted_name p.0, drop 1 (without_spaces p.1)) else None
+quoted_key (Some p) = if starts_with colon_byte (without_spaces p.1) && ends_indicator (drop 1 (without_spaces p.1)) then Some (quoted_name p.0, drop 1 (without_spaces p.1)) else None
 
 abbrev pub plain_key : Option YamlKind → Split → Option (Key × List ℕ)
 plain_key None (Some p) = Some (key_name (trimmed p.0), p.1)
@@ -107,7 +108,7 @@ last_words line column bytes =
     elim (is_blank true bytes) [
       | true ↦ []
       | false ↦
-          elim (starts_with 9 bytes) [ true ↦ word_at line 0 (refused TabIndent) ∷ [] | false ↦ word_at line column (shape_from bytes (key_of bytes)) ∷ [] ]
+          elim (starts_with tab_byte bytes) [ true ↦ word_at line 0 (refused TabIndent) ∷ [] | false ↦ word_at line column (shape_from bytes (key_of bytes)) ∷ [] ]
     ]
 
 -- the anchor of an item, where there is a good one
@@ -116,12 +117,12 @@ name_of_split None = None
 name_of_split (Some p) = Some p.0
 
 abbrev pub item_name : List ℕ → Name
-item_name bytes = elim (starts_with 38 (without_spaces bytes)) [ true ↦ name_of_split (anchor_split (drop 1 (without_spaces bytes))) | false ↦ None ]
+item_name bytes = elim (starts_with ampersand_byte (without_spaces bytes)) [ true ↦ name_of_split (anchor_split (drop 1 (without_spaces bytes))) | false ↦ None ]
 
 -- a colon stands behind a quoted scalar, with spaces between at most
 abbrev pub colon_behind : Split → Bool
 colon_behind None = false
-colon_behind (Some p) = starts_with 58 (without_spaces p.1)
+colon_behind (Some p) = starts_with colon_byte (without_spaces p.1)
 
 -- a colon ends the plain scalar as a key
 abbrev pub has_plain_key : Option YamlKind → Split → Bool
@@ -138,7 +139,7 @@ unkeyed true c = faulty Unsupported
 unkeyed false c = c
 
 abbrev pub named_item : List ℕ → Option Shape
-named_item bytes = elim (is_empty bytes || starts_with 35 bytes) [ true ↦ None | false ↦ Some (leaf (unkeyed (begins_entry bytes) (content bytes))) ]
+named_item bytes = elim (is_empty bytes || starts_with hash_byte bytes) [ true ↦ None | false ↦ Some (leaf (unkeyed (begins_entry bytes) (content bytes))) ]
 
 -- what stands at the anchor of an item, if there is more than the anchor
 abbrev pub anchored_shape : Split → Option Shape
@@ -153,13 +154,13 @@ word_of line column (Some shape) = word_at line column shape ∷ []
 abbrev pub words_at : ℕ → Bool → ℕ → List ℕ → List Word
 words_at line behind_dash column [] = []
 words_at line behind_dash column (b ∷ bs) =
-    elim (b == 32) [
+    elim (b == space_byte) [
       | true ↦ words_at line behind_dash (suc column) bs
       | false ↦
-          elim (b == 45 && ends_indicator bs) [
+          elim (b == dash_byte && ends_indicator bs) [
             | true ↦ word_at line column (dash (item_name bs)) ∷ words_at line true (suc column) bs
             | false ↦
-                elim (behind_dash && b == 38) [
+                elim (behind_dash && b == ampersand_byte) [
                   | true ↦ word_of line column (anchored_shape (anchor_split bs))
                   | false ↦
                       last_words line column (b ∷ bs)
@@ -177,10 +178,10 @@ line_words line started bytes =
     elim (is_utf8 bytes) [
       | false ↦ word_at line 0 (refused NotUtf8) ∷ []
       | true ↦
-          elim (is_mark 45 bytes) [
+          elim (is_mark dash_byte bytes) [
             | true ↦ (if started then word_at line 0 (refused Unsupported) ∷ [] else [])
             | false ↦
-                elim (is_mark 46 bytes) [ true ↦ word_at line 0 (refused Unsupported) ∷ [] | false ↦ words_at line false 0 bytes ]
+                elim (is_mark dot_byte bytes) [ true ↦ word_at line 0 (refused Unsupported) ∷ [] | false ↦ words_at line false 0 bytes ]
           ]
     ]
 

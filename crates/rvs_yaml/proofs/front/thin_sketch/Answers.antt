@@ -10,5 +10,5 @@ returns c = λ v same small. record {
   bounded = small;
   counted = sym (ap (λ (x : Value). x.nodes) same);
   map = sym (thin-map v.tree) ∙ sym (ap (λ (x : Value). is_map_or_empty x.tree) same) ∙ sym (c.is_map_or_empty.ensures ∙ ap (λ (t : Tree). is_map_or_empty (view t)) c.deref.ensures);
-  merging = sym (thin-mergeable v.tree) ∙ sym (ap (λ (x : Value). is_mergeable x.tree) same) ∙ sym (c.is_mergeable.ensures ∙ ap (λ (t : Tree). is_mergeable (view t)) c.deref-2.ensures);
+  merging = sym (thin-mergeable v.tree) ∙ sym (ap (λ (x : Value). is_mergeable x.tree) same) ∙ sym c.args.thin.now.merging;
 }

@@ -1,0 +1,144 @@
+#!/usr/bin/env python3
+"""Texts that a careless reader of YAML would be slow or large on, of about so many bytes each.
+
+usage: texts.py BYTES FOLDER
+"""
+import math
+import os
+import sys
+
+
+def keys(count):
+    return ','.join('%x: x' % i for i in range(count))
+
+
+def repeated(head, member, count, tail):
+    return head + member * count + tail
+
+
+# A map whose key `k` is explicit merges one whose `k` is 29 lists deep.
+DEEP = 'a: &a\n  k: ' + '[' * 29 + 'x' + ']' * 29 + '\nb:\n c:\n  k: 1\n  <<: *a\n'
+
+
+def dropped_lines(size):
+    return DEEP + 'd:\n' + '-\n' * min(size // 2 - 60, 490_000)
+
+
+def dropped_map(size):
+    return DEEP + ''.join('%x:\n' % (i + 0x10000) for i in range(size // 7))
+
+
+def dropped_then_aliases(size):
+    return DEEP + repeated('l: &l [', '[],', size // 6, ']\n') + repeated('m: [', '*l,', size // 6, ']\n')
+
+
+def merges_nested(size):
+    return 'a: ' + '{<<: ' * (size // 12) + '{' + keys(size // 14) + '}' + '}' * (size // 12) + '\n'
+
+
+def merges_in_a_map(size):
+    return 'a: &m {' + keys(size // 14) + '}\n' + repeated('b: {', '<<: *m,', size // 16, '}\n')
+
+
+def merges_in_a_list(size):
+    return 'a: &m {' + keys(size // 14) + '}\n' + repeated('b: [', '{<<: *m},', size // 22, ']\n')
+
+
+def merged_lists(size):
+    return repeated('a: &m [', '{},', size // 6, ']\n') + repeated('b: {', '<<: *m,', size // 18, '}\n')
+
+
+def merged_twice(size):
+    first = 'x: &x {' + ','.join('%x: x' % i for i in range(size // 24)) + '}\n'
+    second = 'y: &y {' + ','.join('%x: [x]' % i for i in range(size // 30)) + '}\n'
+    return first + second + repeated('b: [', '{<<: *x,<<: *y},', size // 50, ']\n')
+
+
+def named_merges(size, name, own):
+    levels = int(math.sqrt(size)) // (2 if own else 1)
+    lines = []
+    for i in range(levels):
+        if own:
+            lines.append(' ' * i + 'k%d: 1' % i)
+        lines.append(' ' * i + '<<: &' + name(i))
+    lines.append(' ' * levels + '<<: {' + keys(size // 16) + '}')
+    lines.append('z: 1')
+    return '\n'.join(lines) + '\n'
+
+
+def chain_dropped(size):
+    count = size // 30
+    levels = int(math.sqrt(size)) // 2
+    pairs = 'm: &m {' + ','.join('%x: [x]' % i for i in range(count)) + '}\n'
+    nested = 'r:\n' + ''.join(' ' * (i + 1) + '-\n' for i in range(28))
+    own = ''.join(' ' * 30 + '%x: x\n' % i for i in range(min(count, size // 80)))
+    chain = '\n'.join(' ' * (30 + i) + '<<:' for i in range(levels))
+    return pairs + nested + own + chain + '\n' + ' ' * (30 + levels) + '<<: *m\n'
+
+
+def alias_bomb(size):
+    text = 'a0: &a0 [x,x,x,x,x,x,x,x]\n'
+    for i in range(1, 5):
+        text += 'a%d: &a%d [' % (i, i) + ','.join(['*a%d' % (i - 1)] * 8) + ']\n'
+    return text + repeated('b: [', '*a4,', size // 5, ']\n')
+
+
+def many_anchors(size):
+    count = size // 20
+    return ''.join('- &a%x x\n' % i for i in range(count)) + '- [' + ','.join('*a%x' % i for i in range(count)) + ']\n'
+
+
+GROUP = '''label%d:
+    config: [check ISA:=regex(.*I.*)]
+    mnemonics: {add: 0}
+    rs1: {x1: 0, x2: 0, x3: 0}
+    <<: [*a, *b]
+    op_comb:
+        "rs1 == rs2 != rd": 0
+        "rs1 == rd": 0
+    val_comb:
+        abstract_comb:
+            "sp_dataset(xlen)": 0
+        "rs1_val > 0 and rs2_val > 0": 0
+'''
+
+
+def ordinary(size):
+    text = 'a: &a\n    rs1: {x7: 0}\nb: &b\n    rd: {x1: 0}\n'
+    return text + ''.join(GROUP % i for i in range((size - len(text)) // (len(GROUP) + 4)))
+
+
+FAMILIES = {
+    'dropped_lines': dropped_lines,
+    'dropped_map': dropped_map,
+    'dropped_then_aliases': dropped_then_aliases,
+    'merges_nested': merges_nested,
+    'merges_in_a_map': merges_in_a_map,
+    'merges_in_a_list': merges_in_a_list,
+    'merged_lists': merged_lists,
+    'merged_twice': merged_twice,
+    'named_merges': lambda size: named_merges(size, lambda i: 'a', False),
+    'named_apart': lambda size: named_merges(size, lambda i: 'a%d' % i, False),
+    'named_apart_own': lambda size: named_merges(size, lambda i: 'a%d' % i, True),
+    'chain_dropped': chain_dropped,
+    'dashes': lambda size: '- ' * (size // 2) + '\n',
+    'dashes_aliases': lambda size: '- &a x\n' + '- ' * (size // 4) + '[' + '*a,' * (size // 6) + ']\n',
+    'brackets': lambda size: '[' * size,
+    'brackets_closed': lambda size: '[' * (size // 2) + ']' * (size // 2),
+    'curly_closed': lambda size: '{a: ' * (size // 5) + '}' * (size // 5),
+    'alias_bomb': alias_bomb,
+    'many_anchors': many_anchors,
+    'many_keys': lambda size: ''.join('%x: x\n' % i for i in range(size // 9)),
+    'ordinary': ordinary,
+}
+
+
+def main():
+    size = int(sys.argv[1])
+    for name, text in FAMILIES.items():
+        with open(os.path.join(sys.argv[2], '%s_%d.yaml' % (name, size)), 'w') as file:
+            file.write(text(size))
+
+
+if __name__ == '__main__':
+    main()
