@@ -84,17 +84,19 @@ pub says-host : (status : Status) (err err' : SinkState) (result : Result Finish
     → (name : List ℕ) × ((err'.bytes ≡ appended err.bytes (fault_line (codes "no file ") name)) ⊎ (err'.bytes ≡ appended err.bytes (fault_line (codes "cannot read ") name)) ⊎ (err'.bytes ≡ appended err.bytes (fault_line (codes "cannot write ") name)) ⊎ (err'.bytes ≡ appended err.bytes (fault_line (codes "cannot run ") name)))
 says-host status err err' result c is =
     let s = stopped status answer.HostFault err err' result c is (λ e. cc) (λ e. cc) (λ e. cc) in
-    let line = host-line s.reason s.is in
-    (line.0, elim line.1 [
-      | inl absent ↦ inl (s.line ∙ ap (appended err.bytes) absent)
-      | inr more ↦ elim more [
-        | inl read ↦ inr (inl (s.line ∙ ap (appended err.bytes) read))
-        | inr most ↦ elim most [
-          | inl write ↦ inr (inr (inl (s.line ∙ ap (appended err.bytes) write)))
-          | inr run ↦ inr (inr (inr (s.line ∙ ap (appended err.bytes) run)))
+    let line = host-line s.reason s.is in (
+      line.0,
+      elim line.1 [
+        | inl absent ↦ inl (s.line ∙ ap (appended err.bytes) absent)
+        | inr more ↦ elim more [
+          | inl read ↦ inr (inl (s.line ∙ ap (appended err.bytes) read))
+          | inr most ↦ elim most [
+            | inl write ↦ inr (inr (inl (s.line ∙ ap (appended err.bytes) write)))
+            | inr run ↦ inr (inr (inr (s.line ∙ ap (appended err.bytes) run)))
+          ]
         ]
-      ]
-    ])
+      ],
+    )
 
 unsaid : (end : Status) → (end ≡ answer.Done) ⊎ (end ≡ answer.NotPassed) → end ≡ answer.SinkFault → ⊥
 unsaid end (inl done) e = let both : answer.Done ≡ answer.SinkFault = sym done ∙ e in cc

@@ -36,7 +36,12 @@ const COUNTED: [Row; 6] = [
         "",
         "rvsuite: usage: rvsuite <command> <options>\n",
     ),
-    ("absent.log", Status::HostFault, "", "rvsuite: no file absent.log\n"),
+    (
+        "absent.log",
+        Status::HostFault,
+        "",
+        "rvsuite: no file absent.log\n",
+    ),
     (
         "t.log --cgf bad.cgf",
         Status::Refused,
@@ -62,7 +67,12 @@ fn add(alloc: Global, files: &mut Files, name: &str, text: &str) -> Result<(), F
 
 fn inputs(alloc: Global) -> Result<Files, Fail> {
     let mut files: Files = Items::new(alloc);
-    add(alloc, &mut files, "i.yaml", "hart_ids: [0]\nhart0:\n  ISA: RV32IM\n")?;
+    add(
+        alloc,
+        &mut files,
+        "i.yaml",
+        "hart_ids: [0]\nhart0:\n  ISA: RV32IM\n",
+    )?;
     add(alloc, &mut files, "addi.cgf", GROUP)?;
     add(alloc, &mut files, "bad.cgf", "bad: {mnemonics: {foo: 0}}\n")?;
     add(alloc, &mut files, "t.log", LOG)?;

@@ -38,21 +38,17 @@ pub fn cover_log<H: Host, O: Sink>(
     host: &mut H,
     out: &mut O,
 ) -> Result<Finish, Stop>
-    ensures {
-        Meets (coverage isa.now names.now log.now windows.now)
-            (world (H.state host.old) (O.state out.old))
-            (world (H.state host.new) (O.state out.new)) result
-    }
+    ensures { Meets (coverage isa.now names.now log.now windows.now)
+        (world (H.state host.old) (O.state out.old))
+        (world (H.state host.new) (O.state out.new)) result }
 {
     let report = read_report(alloc, host, isa, names, log, windows)?;
     print_report(&report, out)
 }
 
 fn print_report<O: Sink>(report: &Text, out: &mut O) -> Result<Finish, Stop>
-    ensures {
-        (host : HostState) → Meets (print_report report.now)
-            (world host (O.state out.old)) (world host (O.state out.new)) result
-    }
+    ensures { (host : HostState) → Meets (print_report report.now)
+        (world host (O.state out.old)) (world host (O.state out.new)) result }
 {
     print(out, report.as_str().as_bytes())?;
     Ok(Finish::Done)
@@ -67,10 +63,8 @@ fn read_report<H: Host>(
     log: &str,
     windows: &[Window],
 ) -> Result<Text, Stop>
-    ensures {
-        (out : SinkState) → Meets (reported isa.now names.now log.now windows.now)
-            (world (H.state host.old) out) (world (H.state host.new) out) result
-    }
+    ensures { (out : SinkState) → Meets (reported isa.now names.now log.now windows.now)
+        (world (H.state host.old) out) (world (H.state host.new) out) result }
 {
     let inputs = read_inputs(alloc, host, isa, names)?;
     count_named(alloc, host, &inputs.groups, windows, log)
@@ -84,11 +78,9 @@ fn count_named<H: Host>(
     windows: &[Window],
     log: &str,
 ) -> Result<Text, Stop>
-    ensures {
-        (out : SinkState) → Meets
-            (Asks log.now (λ found. Ends (report_found (groups_view groups.now) windows.now log.now found)))
-            (world (H.state host.old) out) (world (H.state host.new) out) result
-    }
+    ensures { (out : SinkState) → Meets
+        (Asks log.now (λ found. Ends (report_found (groups_view groups.now) windows.now log.now found)))
+        (world (H.state host.old) out) (world (H.state host.new) out) result }
 {
     let name = owned(alloc, log)?;
     let windows = Items::from(windows.to_vec(alloc)?);
@@ -106,11 +98,9 @@ fn report_at_end(alloc: Global, counter: &mut Counter<'_>) -> Result<Text, NoMem
     ensures state { (labels : List Label) (windows : List Span) (bytes : List ℕ) (n : ℕ)
         → counter.old ≡ state_of labels windows bytes n
         → counter.new ≡ state_of labels windows (ended bytes) n }
-    ensures report {
-        IfOk result (λ text. (labels : List Label) (windows : List Span) (bytes : List ℕ) (n : ℕ)
-            → counter.old ≡ state_of labels windows bytes n
-            → text ≡ report_on (groups_view labels) windows bytes)
-    }
+    ensures report { IfOk result (λ text. (labels : List Label) (windows : List Span) (bytes : List ℕ) (n : ℕ)
+        → counter.old ≡ state_of labels windows bytes n
+        → text ≡ report_on (groups_view labels) windows bytes) }
 {
     counter.finish();
     counter.report(alloc)

@@ -45,10 +45,8 @@ pub fn read_inputs<H: Host>(
     isa: &str,
     names: &[Text],
 ) -> Result<Inputs, Stop>
-    ensures {
-        (out : SinkState) → Meets (group_inputs isa.now names.now) (world (H.state host.old) out)
-            (world (H.state host.new) out) (seen inputs_view result)
-    }
+    ensures { (out : SinkState) → Meets (group_inputs isa.now names.now) (world (H.state host.old) out)
+        (world (H.state host.new) out) (seen inputs_view result) }
 {
     let said = read_isa(alloc, host, isa)?;
     let isa = said.spec;
@@ -69,10 +67,8 @@ fn read_group_files<H: Host>(
     isa: &IsaSpec,
     names: &[Text],
 ) -> Result<Groups, Stop>
-    ensures {
-        (out : SinkState) → Meets (group_files isa.now names.now) (world (H.state host.old) out)
-            (world (H.state host.new) out) (seen groups_view result)
-    }
+    ensures { (out : SinkState) → Meets (group_files isa.now names.now) (world (H.state host.old) out)
+        (world (H.state host.new) out) (seen groups_view result) }
 {
     let text = read_joined(alloc, host, names)?;
     check_text(alloc, isa, text.as_slice())
@@ -80,10 +76,8 @@ fn read_group_files<H: Host>(
 
 /// The text of the named files.
 fn read_joined<H: Host>(alloc: Global, host: &mut H, names: &[Text]) -> Result<Bytes, Stop>
-    ensures {
-        (out : SinkState) → Meets (joins_all Option.None names.now) (world (H.state host.old) out)
-            (world (H.state host.new) out) result
-    }
+    ensures { (out : SinkState) → Meets (joins_all Option.None names.now) (world (H.state host.old) out)
+        (world (H.state host.new) out) result }
 {
     let mut front = None;
     for name in names {
@@ -102,10 +96,8 @@ fn join_file<H: Host>(
     front: Option<Bytes>,
     name: &str,
 ) -> Result<Bytes, Stop>
-    ensures {
-        (out : SinkState) → Meets (joins front name.now) (world (H.state host.old) out)
-            (world (H.state host.new) out) result
-    }
+    ensures { (out : SinkState) → Meets (joins front name.now) (world (H.state host.old) out)
+        (world (H.state host.new) out) result }
 {
     let limit = room(&front);
     let bytes = read_part(alloc, host, name, limit, GROUPS_NAME, GROUPS_LIMIT)?;
@@ -152,9 +144,7 @@ fn within_limit(alloc: Global, text: Bytes) -> Result<Bytes, Stop>
 }
 
 fn check_text(alloc: Global, isa: &IsaSpec, text: &[u8]) -> Result<Groups, Stop>
-    ensures {
-        (w : World) → Meets (Ends (groups_found isa.now text.now)) w w (seen groups_view result)
-    }
+    ensures { (w : World) → Meets (Ends (groups_found isa.now text.now)) w w (seen groups_view result) }
 {
     match parse(alloc, text) {
         Ok(tree) => check_tree(alloc, isa, &tree),
@@ -163,10 +153,8 @@ fn check_text(alloc: Global, isa: &IsaSpec, text: &[u8]) -> Result<Groups, Stop>
 }
 
 fn check_tree(alloc: Global, isa: &IsaSpec, tree: &Tree) -> Result<Groups, Stop>
-    ensures {
-        (w : World) → Meets (Ends (checked_groups (groups_of isa.now (view tree.now)))) w w
-            (seen groups_view result)
-    }
+    ensures { (w : World) → Meets (Ends (checked_groups (groups_of isa.now (view tree.now)))) w w
+        (seen groups_view result) }
 {
     match read_groups(alloc, tree, isa) {
         Ok(groups) => Ok(groups),

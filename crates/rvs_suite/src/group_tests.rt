@@ -1,6 +1,6 @@
 // Whole group files, as they are printed or refused.
-use rvs_cgf::{Groups, normal_text, read_groups, refusal_text};
 use rvs_base::{NoMemory, Text};
+use rvs_cgf::{Groups, normal_text, read_groups, refusal_text};
 use rvs_insn::IsaSpec;
 use std::alloc::Global;
 use std::test::Fail;
@@ -8,36 +8,102 @@ use std::test::Fail;
 /// What is printed of a file, and the file.
 const ROWS: [(&str, &str); 31] = [
     ("", ""),
-    ("add:\n  mnemonics:\n    'add': 0\n", "add:\n  mnemonics:\n    add: 0\n"),
-    ("cgf 4 add mnemonics mul", "add:\n  mnemonics:\n    mul: 0\n"),
-    ("# unselected l\n", "l:\n  config: ['check ISA:=regex(.*C.*)']\n"),
-    ("cgf 5 l rs1 x99", "l: {mnemonics: {add: 0}, rs1: {x99: 0, x1: [a]}}\n"),
-    ("cgf 2 l rs1 x99", "l: {mnemonics: {add: 0}, rs1: {x99: [a]}}\n"),
+    (
+        "add:\n  mnemonics:\n    'add': 0\n",
+        "add:\n  mnemonics:\n    add: 0\n",
+    ),
+    (
+        "cgf 4 add mnemonics mul",
+        "add:\n  mnemonics:\n    mul: 0\n",
+    ),
+    (
+        "# unselected l\n",
+        "l:\n  config: ['check ISA:=regex(.*C.*)']\n",
+    ),
+    (
+        "cgf 5 l rs1 x99",
+        "l: {mnemonics: {add: 0}, rs1: {x99: 0, x1: [a]}}\n",
+    ),
+    (
+        "cgf 2 l rs1 x99",
+        "l: {mnemonics: {add: 0}, rs1: {x99: [a]}}\n",
+    ),
     ("cgf 2 l mnemonics mul", "l: {mnemonics: {mul: [a]}}"),
-    ("cgf 2 l base_op -", "l: {mnemonics: {add: 0}, base_op: add}\n"),
-    ("l:\n  mnemonics:\n    'add': 0\n  # skipped base_op -\n", "l: {mnemonics: {add: 0}, base_op: {}}\n"),
-    ("l:\n  mnemonics:\n    'add': 0\n  # skipped csr_comb a(b)\n  # skipped csr_comb c\n", "l: {mnemonics: {add: 0}, csr_comb: {a(b): 0, c: 0}}\n"),
-    ("cgf 2 l op_comb abstract_comb", "l: {mnemonics: {add: 0}, op_comb: {abstract_comb: 0}}\n"),
-    ("cgf 2 l val_comb abstract_comb", "l: {mnemonics: {add: 0}, val_comb: {abstract_comb: 5}}\n"),
-    ("# unselected l\nm:\n  mnemonics:\n    'add': 0\n", "l: {config: []}\nm:\n  config:\n  mnemonics: {add: 0}\n"),
+    (
+        "cgf 2 l base_op -",
+        "l: {mnemonics: {add: 0}, base_op: add}\n",
+    ),
+    (
+        "l:\n  mnemonics:\n    'add': 0\n  # skipped base_op -\n",
+        "l: {mnemonics: {add: 0}, base_op: {}}\n",
+    ),
+    (
+        "l:\n  mnemonics:\n    'add': 0\n  # skipped csr_comb a(b)\n  # skipped csr_comb c\n",
+        "l: {mnemonics: {add: 0}, csr_comb: {a(b): 0, c: 0}}\n",
+    ),
+    (
+        "cgf 2 l op_comb abstract_comb",
+        "l: {mnemonics: {add: 0}, op_comb: {abstract_comb: 0}}\n",
+    ),
+    (
+        "cgf 2 l val_comb abstract_comb",
+        "l: {mnemonics: {add: 0}, val_comb: {abstract_comb: 5}}\n",
+    ),
+    (
+        "# unselected l\nm:\n  mnemonics:\n    'add': 0\n",
+        "l: {config: []}\nm:\n  config:\n  mnemonics: {add: 0}\n",
+    ),
     ("cgf 9 l config -", "l: {config: 'check ISA'}\n"),
     ("cgf 9 l config -", "l: {config: {a: 0}}\n"),
-    ("cgf 9 l config -", "l: {config: ['check ISA:=regex(.*)', 'def']}\n"),
-    ("beq:\n  mnemonics:\n    'beq': 0\n  # skipped val_comb imm_val & 3 == 0\n", "beq:\n  mnemonics: {beq: 0}\n  val_comb:\n    'imm_val & 3 == 0': 0\n"),
-    ("cgf 6 add val_comb rs1_val == 2**101 expr 6 column 13", "add: {mnemonics: {add: 0}, val_comb: {'rs1_val == 2**101': 0}}\n"),
-    ("a:\n  mnemonics:\n    'addi': 0\n  val_comb:\n    'imm_val == 1': 0\n    'imm_val == 2': 0\n    'imm_val == -4': 0\n  # skipped abstract_comb sp_dataset(xlen)\n", "a:\n  opcode: {addi: 0}\n  val_comb:\n    abstract_comb:\n      'walking_ones(\"imm_val\", 3)': 0\n      sp_dataset(xlen): 0\n"),
-    ("cgf 7 l abstract_comb walk(\"imm_val\", 12) abstract 2", "l: {mnemonics: {add: 0}, val_comb: {abstract_comb: {'walk(\"imm_val\", 12)': 0}}}\n"),
-    ("l:\n  mnemonics:\n    'add': 0\n  val_comb:\n    'rs1_val == 1': 0\n    'rs1_val == 2': 0\n  rd:\n    'x0': 0\n", "l: {mnemonics: {add: 0}, val_comb: {'rs1_val == 1': 0, abstract_comb: {'walking_ones(\"rs1_val\", 2, False)': 0}}, rd: {x0: 0}}\n"),
-    ("l:\n  rs2:\n    'x1': 0\n  mnemonics:\n    'add': 0\n    'sub': 0\n", "l:\n  rs2: {x1: 0}\n  mnemonics: {add: 0, sub: 0}\n"),
+    (
+        "cgf 9 l config -",
+        "l: {config: ['check ISA:=regex(.*)', 'def']}\n",
+    ),
+    (
+        "beq:\n  mnemonics:\n    'beq': 0\n  # skipped val_comb imm_val & 3 == 0\n",
+        "beq:\n  mnemonics: {beq: 0}\n  val_comb:\n    'imm_val & 3 == 0': 0\n",
+    ),
+    (
+        "cgf 6 add val_comb rs1_val == 2**101 expr 6 column 13",
+        "add: {mnemonics: {add: 0}, val_comb: {'rs1_val == 2**101': 0}}\n",
+    ),
+    (
+        "a:\n  mnemonics:\n    'addi': 0\n  val_comb:\n    'imm_val == 1': 0\n    'imm_val == 2': 0\n    'imm_val == -4': 0\n  # skipped abstract_comb sp_dataset(xlen)\n",
+        "a:\n  opcode: {addi: 0}\n  val_comb:\n    abstract_comb:\n      'walking_ones(\"imm_val\", 3)': 0\n      sp_dataset(xlen): 0\n",
+    ),
+    (
+        "cgf 7 l abstract_comb walk(\"imm_val\", 12) abstract 2",
+        "l: {mnemonics: {add: 0}, val_comb: {abstract_comb: {'walk(\"imm_val\", 12)': 0}}}\n",
+    ),
+    (
+        "l:\n  mnemonics:\n    'add': 0\n  val_comb:\n    'rs1_val == 1': 0\n    'rs1_val == 2': 0\n  rd:\n    'x0': 0\n",
+        "l: {mnemonics: {add: 0}, val_comb: {'rs1_val == 1': 0, abstract_comb: {'walking_ones(\"rs1_val\", 2, False)': 0}}, rd: {x0: 0}}\n",
+    ),
+    (
+        "l:\n  rs2:\n    'x1': 0\n  mnemonics:\n    'add': 0\n    'sub': 0\n",
+        "l:\n  rs2: {x1: 0}\n  mnemonics: {add: 0, sub: 0}\n",
+    ),
     ("cgf 1 a b - -", "a b: {}\n"),
     ("cgf 2 - - -", "- a\n"),
     ("cgf 2 l - -", "l: a\n"),
     ("cgf 2 l - -", "l: {}\n"),
-    ("cgf 2 l - -", "l: {mnemonics: {add: 0}, opcode: {add: 0}}\n"),
+    (
+        "cgf 2 l - -",
+        "l: {mnemonics: {add: 0}, opcode: {add: 0}}\n",
+    ),
     ("cgf 2 l mnemonics -", "l: {mnemonics: {}}\n"),
-    ("cgf 3 l cross_comb -", "l: {mnemonics: {add: 0}, cross_comb: {}}\n"),
-    ("l:\n  mnemonics:\n    'add': 0\n", "datasets: [a]\nl: {mnemonics: {add: 0}}\n"),
-    ("cgf 6 l op_comb rs1_val == 1 expr 4 column 1", "l: {mnemonics: {add: 0}, op_comb: {rs1 == rs2 != rd: 0, rs1_val == 1: 0}}\n"),
+    (
+        "cgf 3 l cross_comb -",
+        "l: {mnemonics: {add: 0}, cross_comb: {}}\n",
+    ),
+    (
+        "l:\n  mnemonics:\n    'add': 0\n",
+        "datasets: [a]\nl: {mnemonics: {add: 0}}\n",
+    ),
+    (
+        "cgf 6 l op_comb rs1_val == 1 expr 4 column 1",
+        "l: {mnemonics: {add: 0}, op_comb: {rs1 == rs2 != rd: 0, rs1_val == 1: 0}}\n",
+    ),
 ];
 
 /// A label as users write them, with merged registers and families, behind its registers.

@@ -24,20 +24,16 @@ pub fn normalize_files<H: Host, O: Sink>(
     host: &mut H,
     out: &mut O,
 ) -> Result<Finish, Stop>
-    ensures {
-        Meets (normalize isa.now names.now) (world (H.state host.old) (O.state out.old))
-            (world (H.state host.new) (O.state out.new)) result
-    }
+    ensures { Meets (normalize isa.now names.now) (world (H.state host.old) (O.state out.old))
+        (world (H.state host.new) (O.state out.new)) result }
 {
     let inputs = read_inputs(alloc, host, isa, names)?;
     print_normal(alloc, &inputs, out)
 }
 
 fn print_normal<O: Sink>(alloc: Global, inputs: &Inputs, out: &mut O) -> Result<Finish, Stop>
-    ensures {
-        (host : HostState) → Meets (print_normal (inputs_view inputs.now))
-            (world host (O.state out.old)) (world host (O.state out.new)) result
-    }
+    ensures { (host : HostState) → Meets (print_normal (inputs_view inputs.now))
+        (world host (O.state out.old)) (world host (O.state out.new)) result }
 {
     let text = normal_text(alloc, &inputs.groups)?;
     print(out, text.as_str().as_bytes())?;

@@ -48,7 +48,11 @@ fn window_in(text: &[u8]) -> Option<Window>
     let at = colon(text)?;
     let lo = address_in(&text[..at])?;
     let hi = address_in(&text[at + 1..])?;
-    if lo < hi { Some(Window { lo, hi }) } else { None }
+    if lo < hi {
+        Some(Window { lo, hi })
+    } else {
+        None
+    }
 }
 
 fn colon(text: &[u8]) -> Option<usize>

@@ -16,6 +16,6 @@ overflow_add-number c =
     rw c.from.ensures (omega (arith, low, c.in-Some.ensures.small))
 
 pub overflow_cast-result : goal.overflow_cast-result
-overflow_cast-result c = 
+overflow_cast-result c =
     let low : c.loop-digit.number < 16 ^ 8 = below c.loop-digit.number c.loop-digit.digit-index 8 c.loop-digit.invariant.small (omega (arith, c.loop-digit.auto.digit-index-end, c.requires)) in
     omega (arith, low)
