@@ -296,7 +296,7 @@ nodes-fit isa label (x ∷ es) n m h e =
     (λ k g r. nodes-fit isa label es k m (role-fits isa label x.0 x.1 (role_of x.0) (role-good x.0) n k h g) r)
 
 -- ---- mnemonics
-same-bytes : (xs ys : List ℕ) → bytes_eq xs ys ≡ true → xs ≡ ys
+pub same-bytes : (xs ys : List ℕ) → bytes_eq xs ys ≡ true → xs ≡ ys
 same-bytes xs ys h = (bytes_eq-Decides xs ys).0 h
 
 find-by : {A : Type 0} (p : A → Bool) (x y : A) (o : Option A) (b : Bool) → p x ≡ b → cond b (Some x) o ≡ Some y → (o ≡ Some y → p y ≡ true) → p y ≡ true
@@ -331,7 +331,7 @@ record IsMain (isa : Isa) (p : Point) : Type 0 where
   pub named : op_of_name p.key ≡ Some op
   pub admitted_op : is_admitted_op isa op ≡ true
 
-ops-append : (ps qs : List Point) → ops_of (ps ++ qs) ≡ ops_of ps ++ ops_of qs
+pub ops-append : (ps qs : List Point) → ops_of (ps ++ qs) ≡ ops_of ps ++ ops_of qs
 ops-append [] qs = refl
 ops-append (p ∷ ps) qs = ap (λ xs. op_in p.meaning ++ xs) (ops-append ps qs) ∙ sym (append_assoc (op_in p.meaning) (ops_of ps) (ops_of qs))
 
@@ -360,7 +360,7 @@ not-both : (x y : Bool) → x ≡ true → (x && y) ≡ false → y ≡ false
 not-both true y e h = h
 not-both false y e h = cc
 
-main-of-all : (k : Kind) → same_kind k kind.Mnemonic ≡ true → k ≡ kind.Mnemonic
+pub main-of-all : (k : Kind) → same_kind k kind.Mnemonic ≡ true → k ≡ kind.Mnemonic
 main-of-all kind.Mnemonic e = refl
 main-of-all kind.Rs1 e = cc
 main-of-all kind.Rs2 e = cc
@@ -442,7 +442,7 @@ starting-fits isa t h = record { count_is = h.count_is; limit = h.limit; distinc
 few-points : (ps qs : List Point) (n : ℕ) → length (ps ++ qs) ≡ n → n ≤ 2048 → length ps ≤ 2048
 few-points ps qs n e h = omega (arith, e, length-append ps qs)
 
-front-distinct : (ps qs : List Point) → are_distinct (ps ++ qs) ≡ true → are_distinct ps ≡ true
+pub front-distinct : (ps qs : List Point) → are_distinct (ps ++ qs) ≡ true → are_distinct ps ≡ true
 front-distinct [] qs e = refl
 front-distinct (p ∷ ps) qs e =
     let front = and-left (not (has p.kind p.key (ps ++ qs))) (are_distinct (ps ++ qs)) e in
