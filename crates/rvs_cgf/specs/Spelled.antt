@@ -1,7 +1,8 @@
 -- Trees that spell groups as their normal text does, and groups that such a tree gives again.
-use Rattle.std.specs.Prelude.{◌≡◌, ℕ, ◌+◌, ◌≤◌, Bool, true, false, not, ◌&&◌, List, [], ◌∷◌, ◌++◌, length, map, filter, sum_by, if◌then◌else◌, bytes_eq, codes}
+use Rattle.std.specs.Prelude.{◌≡◌, ◌≤◌, Bool, true, false, not, ◌&&◌, List, [], ◌∷◌, length, filter, sum_by, if◌then◌else◌, bytes_eq, codes}
 use Rattle.std.specs.List.{list_any, list_all}
 use Rattle.rvs_insn.specs.Isa.{Isa}
+use Rattle.rvs_insn.specs.Names.{is_admitted_op}
 use Rattle.rvs_tree.specs.Data.{Data, Pairs, own_pairs, is_map, is_scalar}
 use Rattle.rvs_cgf.specs.Keys.{is_skipped}
 use Rattle.rvs_cgf.specs.Groups.{Point, Label, same_kind, is_empty_scalar, ops_of, size_of}
@@ -91,7 +92,19 @@ pub record CanBeSpelled (isa : Isa) (ls : List Label) : Type 0 where
   pub few_labels : length (selected ls) ≤ 256
   pub few_points : sum_by size_of (selected ls) ≤ 65536
 
+-- the core admits the mnemonics of the selected labels
+abbrev pub are_admitted : Isa → List Label → Bool
+are_admitted isa ls = list_all (λ l. list_all (is_admitted_op isa) l.ops) (selected ls)
+
 -- the label with nothing skipped
 abbrev pub bare : Label → Label
 bare l = record { name = l.name; selected = true; ops = l.ops; points = l.points; skipped = [] }
 
+-- ---- what a file's tree gives
+abbrev pub keys_are_own : Pairs → Bool
+keys_are_own [] = true
+keys_are_own (e ∷ es) = not (list_any (λ f. bytes_eq f.0 e.0) es) && keys_are_own es
+
+-- no label has two nodes of one name
+abbrev pub nodes_are_own : Data → Bool
+nodes_are_own d = list_all (λ e. keys_are_own (own_pairs e.1)) (own_pairs d)
