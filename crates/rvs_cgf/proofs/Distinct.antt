@@ -85,7 +85,7 @@ kind-sym ValComb ValComb = refl
 bytes-sym : (x y : List ℕ) → bytes_eq x y ≡ bytes_eq y x
 bytes-sym x y = nat_list_eq_equiv.symm x y
 
-point-sym : (p q : Point) → is_point p.kind p.key q ≡ is_point q.kind q.key p
+pub point-sym : (p q : Point) → is_point p.kind p.key q ≡ is_point q.kind q.key p
 point-sym p q = ap (λ b. b && bytes_eq q.key p.key) (kind-sym q.kind p.kind) ∙ ap (λ b. same_kind p.kind q.kind && b) (bytes-sym q.key p.key)
 
 pub has-append : (k : Kind) (key : List ℕ) (xs ys : List Point) → has k key (xs ++ ys) ≡ (has k key xs || has k key ys)

@@ -12,16 +12,18 @@ use Rattle.rvs_expr.specs.Equation.{name_of, key_of}
 use Rattle.rvs_expr.proofs.Decimals.{AllDigit, decimal-is, key-read}
 use Rattle.rvs_abstract.specs.Sizes.{is_size, least_size}
 use Rattle.rvs_abstract.specs.Values.{length_of, value_of, as_read, alternate, signed_edge, unsigned_edge, edge}
-use Rattle.rvs_abstract.specs.Calls.{points, skipped, Answer, in_size, shaped, with_two, with_third, with_second, with_first, named, called, call_of, Cut, first, is_filter, trimmed, signed_of, var_of, size_of, inside_of, name_length, family_of, is_skipped}
+use Rattle.rvs_abstract.specs.Calls.{points, skipped, Answer, in_size, shaped, with_two, with_third, with_second, with_first, named, called, call_of, Cut, first, is_filter, trimmed, signed_of, var_of, size_of, inside_of, name_length, family_of, is_skipped as passes_over, is_letter, without_spaces}
 use Rattle.rvs_abstract.specs.declared.family.Family.{Family}
 use Rattle.rvs_abstract.specs.declared.family.Family.TheVariants.{WalkingOnes, WalkingZeros, Alternate, EdgeDataset}
 use Rattle.rvs_abstract.specs.declared.call.AbstractRefusal.TheVariants.{BadSize}
 use Rattle.rvs_abstract.proofs.Powers.{within_32, within_31, below_32, some_power}
-use Rattle.rvs_cgf.specs.Keys.{is_printable}
+use Rattle.rvs_cgf.specs.Keys.{is_printable, is_skipped, is_left_out, begins, has_double, calls, has_call, is_operator_word}
 use Rattle.rvs_cgf.specs.Groups.{nums, value_point}
 use Rattle.rvs_cgf.specs.Valid.{IsMeant, found}
-use Rattle.rvs_cgf.proofs.Distinct.{and-right, and-is}
-use Rattle.std.specs.Prelude.{take}
+use Rattle.rvs_cgf.proofs.Distinct.{and-right, and-is, or-fails}
+use Rattle.std.specs.List.{list_any}
+use Rattle.std.specs.Prelude.{not}
+use Rattle.std.specs.Prelude.{take, drop}
 
 -- ---- values
 abbrev pub Small : ℤ → Type 0
@@ -125,7 +127,7 @@ first-sized f (a, Some rest) = second-sized f a (first rest)
 
 named-sized : (name inside : List ℕ) (o : Option Family) → sized (named name inside o) ≡ true
 named-sized name inside (Some f) = first-sized f (first inside)
-named-sized name inside None = if-sized (is_skipped name) (Ok skipped) _ (λ e. refl) refl
+named-sized name inside None = if-sized (passes_over name) (Ok skipped) _ (λ e. refl) refl
 
 called-sized : (name : List ℕ) (o : Option (List ℕ)) → sized (called name o) ≡ true
 called-sized name None = refl
@@ -168,3 +170,41 @@ key-shows v z h = printable-append (name_of v) (codes " == " ++ signed_decimal z
 -- the key of a small value means the value
 pub value_meant : (v : NumName) (z : ℤ) → Small z → IsMeant (value_point v z)
 value_meant v z h = record { printable = key-shows v z h; meaning_is = ap (λ r. option_map nums (found r)) (key-read v z h) }
+
+-- ---- such keys aren't passed over
+digit-kept : (c : ℕ) → words.is_digit c ≡ true → is_left_out c ≡ false
+digit-kept c e = grind (arith, nat_tests)
+
+digits-kept : (ds : List ℕ) → AllDigit ds → list_any is_left_out ds ≡ false
+digits-kept [] h = refl
+digits-kept (d ∷ ds) h = or-fails (is_left_out d) (list_any is_left_out ds) (digit-kept d h.0) (digits-kept ds h.1)
+
+no-mark : (b c : ℕ) → words.is_digit c ≡ true → 57 < b → (c == b) ≡ false
+no-mark b c e h = grind (arith, nat_tests)
+
+digits-single : (b : ℕ) → 57 < b → (ds : List ℕ) → AllDigit ds → has_double b ds ≡ false
+digits-single b m [] h = refl
+digits-single b m (d ∷ ds) h = or-fails ((d == b) && begins b ds) (has_double b ds) (ap (λ x. x && begins b ds) (no-mark b d h.0 m)) (digits-single b m ds h.1)
+
+no-letter : (c : ℕ) → words.is_digit c ≡ true → is_letter c ≡ false
+no-letter c e = grind (arith, nat_tests)
+
+digits-call : (ds : List ℕ) (n : ℕ) → AllDigit ds → has_call n ds ≡ false
+digits-call [] n h = refl
+digits-call (d ∷ ds) (suc n) h = digits-call ds n h.1
+digits-call (d ∷ ds) zero h = or-fails (calls d (d ∷ ds)) (has_call (name_length (d ∷ ds) - 1) ds) (ap (λ x. x && (not (is_operator_word (take (name_length (d ∷ ds)) (d ∷ ds))) && begins 40 (without_spaces (drop (name_length (d ∷ ds)) (d ∷ ds))))) (no-letter d h.0)) (digits-call ds (name_length (d ∷ ds) - 1) h.1)
+
+tail-read : (v : NumName) (ds : List ℕ) → list_any is_left_out ds ≡ false → has_double 60 ds ≡ false → has_double 62 ds ≡ false → has_call zero ds ≡ false → is_skipped (name_of v ++ (codes " == " ++ ds)) ≡ false
+unfolding is_skipped
+tail-read Rs1Val ds a b c d = or-fails _ _ a (or-fails _ _ b (or-fails _ _ c d))
+tail-read Rs2Val ds a b c d = or-fails _ _ a (or-fails _ _ b (or-fails _ _ c d))
+tail-read ImmVal ds a b c d = or-fails _ _ a (or-fails _ _ b (or-fails _ _ c d))
+tail-read EaAlign ds a b c d = or-fails _ _ a (or-fails _ _ b (or-fails _ _ c d))
+
+pub value_read : (v : NumName) (z : ℤ) → Small z → is_skipped (key_of v z) ≡ false
+value_read v (pos n) h =
+    let ds = (decimal-is n (omega arith)).digits in
+    tail-read v (decimal n) (digits-kept (decimal n) ds) (digits-single 60 (omega arith) (decimal n) ds) (digits-single 62 (omega arith) (decimal n) ds) (digits-call (decimal n) zero ds)
+value_read v (negsuc n) h =
+    let ds = (decimal-is (suc n) (omega arith)).digits in
+    tail-read v (45 ∷ decimal (suc n)) (digits-kept (decimal (suc n)) ds) (digits-single 60 (omega arith) (decimal (suc n)) ds) (digits-single 62 (omega arith) (decimal (suc n)) ds) (digits-call (decimal (suc n)) zero ds)

@@ -1,9 +1,10 @@
 // The labels of a tree.
-ghost use Rattle.std.specs.Prelude.{◌≡◌, ◌≤◌, ◌-◌, ◌*◌, ◌^◌, ◌∷◌, ◌++◌, [], map, All, IsTrue, IfOk};
+ghost use Rattle.std.specs.Prelude.{◌≡◌, ◌≤◌, ◌-◌, ◌*◌, ◌^◌, ◌∷◌, ◌++◌, [], map, All, true, IsTrue, IfOk};
 ghost use Rattle.rvs_tree.specs.Data.{own_pairs, is_map};
 ghost use Rattle.rvs_tree.specs.TreeView as trees;
 ghost use Rattle.rvs_cgf.specs.Groups as spec;
 ghost use Rattle.rvs_cgf.specs.Valid.{IsValidIfSelected};
+ghost use Rattle.rvs_cgf.specs.Spelled.{nodes_are_own, CanBeSpelled};
 ghost use Rattle.rvs_cgf.specs.GroupView.{AnswersWith, label_view, listed_view};
 
 use crate::entries::is_empty_scalar;
@@ -131,6 +132,8 @@ pub fn read_groups(alloc: Global, tree: &Tree, isa: &IsaSpec) -> Result<Groups, 
         (spec.groups_of isa.now (trees.view tree.now)) }
     ensures valid { IfOk result
         (All (λ l. IsValidIfSelected isa.now (label_view l))) }
+    ensures plain { IfOk result (λ groups. nodes_are_own (trees.view tree.now) ≡ true
+        → CanBeSpelled isa.now (map label_view groups)) }
 {
     read_tree(alloc, tree, isa)
 }
