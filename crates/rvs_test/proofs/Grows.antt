@@ -1,6 +1,12 @@
 -- A text that grows.
 use Rattle.std.proofs.Common.{◌≡◌, ℕ, ◌<◌, ◌≤◌, ◌^◌, true, false, List, [], ◌∷◌, ◌++◌, length, get_or, zero, suc, refl, sym, ap, ◌∙◌, subst, arith, append_assoc, append-nil}
-use Rattle.std.specs.Prelude.{All}
+use Rattle.std.specs.Prelude.{◌-◌, All, OnOk, Result, Ok, Err, Some, slice_get, unwrap_or}
+use Rattle.std.proofs.lemmas.Option.{slice_get_within, get_or_from_slice_get}
+use Rattle.rvs_insn.specs.Fields.{Fields}
+use Rattle.rvs_cgf.specs.GroupView.{point_view, label_view}
+use Rattle.rvs_cgf.specs.declared.group.Point.{Point as Point'}
+use Rattle.rvs_cgf.specs.declared.group.Label.{Label as Label'}
+use Rattle.rvs_solver.proofs.Labels.{point_there}
 use Rattle.rvs_insn.specs.Isa.{Isa}
 use Rattle.rvs_insn.specs.declared.op.Format.{Format}
 use Rattle.rvs_insn.specs.declared.op.Format.TheVariants.{Branch, Jump}
@@ -12,18 +18,25 @@ use Rattle.rvs_solver.proofs.Operands.{all_from_each}
 use Rattle.rvs_test.specs.declared.statement.Statement.{Statement}
 use Rattle.rvs_test.specs.declared.statement.Statement.TheVariants.{Label, Plain, High, Low, To, Nops, Fixed}
 use Rattle.rvs_test.specs.Statements.{IsLinked, IsPrinted}
-use Rattle.rvs_test.specs.TestText.{text_of, case_statements}
+use Rattle.rvs_test.specs.TestText.{text_of, case_statements, begin, clear, last_register, cases, halt, loop, code_part, fixed_data, slots, data_part, claim_line, line_of_claim, last_rd}
+use Rattle.rvs_test.specs.declared.statement.Name.TheVariants.{EndSignature}
+use Rattle.rvs_test.specs.declared.made.Claim.{Claim}
+use Rattle.rvs_test.specs.Made.{named, named_or_none, named_at}
 use Rattle.rvs_test.specs.Claim.{IsReady, AreReady}
 use Rattle.rvs_test.proofs.KindLaws.{LinkedFormat}
 use Rattle.rvs_test.proofs.Assembled.{IsFine, AllFine}
 use Rattle.rvs_test.proofs.Every.{IsMade, case_fine}
-use Rattle.rvs_test.proofs.Printed.{text_none}
+use Rattle.rvs_test.proofs.Printed.{text_none, text_join}
+use Rattle.rvs_test.proofs.Loops.{last_is}
 
 pub starts : (old a : List ℕ) → a ≡ [] → old ≡ old ++ a
 starts old a h = sym (append-nil old) ∙ ap (λ x. old ++ x) (sym h)
 
 pub grows : (old before new a b more : List ℕ) → before ≡ old ++ a → new ≡ before ++ more → b ≡ a ++ more → new ≡ old ++ b
 grows old before new a b more h k e = k ∙ ap (λ x. x ++ more) h ∙ append_assoc old a more ∙ ap (λ x. old ++ x) (sym e)
+
+pub list_grows : (old before new a b more : List Statement) → before ≡ old ++ a → new ≡ before ++ more → b ≡ a ++ more → new ≡ old ++ b
+list_grows old before new a b more h k e = k ∙ ap (λ x. x ++ more) h ∙ append_assoc old a more ∙ ap (λ x. old ++ x) (sym e)
 
 pub begins_text : (old : List ℕ) → old ≡ old ++ text_of []
 begins_text old = starts old (text_of []) text_none
@@ -55,3 +68,45 @@ pub ready_at : (isa : Isa) (cs : List Solved) (k : ℕ) (s : Solved) → AreRead
 ready_at isa [] k s h l is = absurd (omega arith)
 ready_at isa (c ∷ cs) zero s h l is = subst (IsReady isa) (sym is) h.0
 ready_at isa (c ∷ cs) (suc k) s h l is = ready_at isa cs k s h.1 (omega arith) is
+
+-- ---- parts of the text
+
+pub then_ok : {A E : Type 0} (r : Result A E) (P Q : Type 0) → (P → Q) → OnOk r P → OnOk r Q
+then_ok (Ok x) P Q h p = h p
+then_ok (Err e) P Q h p = tt
+
+append_two : (o t u : List ℕ) → (o ++ t) ++ u ≡ o ++ (t ++ u)
+append_two o t u = append_assoc o t u
+
+pub code_there : (isa : Isa) (cs : List Solved) (o a b c d : List ℕ) → a ≡ o ++ text_of begin → b ≡ a ++ text_of (clear 1 (last_register isa)) → c ≡ b ++ text_of (cases 0 cs) → d ≡ c ++ text_of (halt ++ loop) → d ≡ o ++ text_of (begin ++ code_part isa cs)
+code_there isa cs o a b c d h1 h2 h3 h4 =
+    let t1 = text_of begin in
+    let t2 = text_of (clear 1 (last_register isa)) in
+    let t3 = text_of (cases 0 cs) in
+    let t4 = text_of (halt ++ loop) in
+    let whole : text_of (begin ++ code_part isa cs) ≡ t1 ++ (t2 ++ (t3 ++ t4)) =
+      text_join begin (code_part isa cs)
+      ∙ ap (λ x. t1 ++ x) (text_join (clear 1 (last_register isa)) (cases 0 cs ++ (halt ++ loop)) ∙ ap (λ x. t2 ++ x) (text_join (cases 0 cs) (halt ++ loop))) in
+    h4 ∙ ap (λ x. x ++ t4) (h3 ∙ ap (λ x. x ++ t3) (h2 ∙ ap (λ x. x ++ t2) h1))
+    ∙ append_assoc ((o ++ t1) ++ t2) t3 t4 ∙ append_assoc (o ++ t1) t2 (t3 ++ t4) ∙ append_assoc o t1 (t2 ++ (t3 ++ t4))
+    ∙ ap (λ x. o ++ x) (sym whole)
+
+pub data_there : (n : ℕ) (o a b c : List ℕ) → a ≡ o ++ text_of fixed_data → b ≡ a ++ text_of (slots 0 n) → c ≡ b ++ text_of (Label EndSignature ∷ []) → c ≡ o ++ text_of (data_part n)
+data_there n o a b c h1 h2 h3 =
+    let t1 = text_of fixed_data in
+    let t2 = text_of (slots 0 n) in
+    let t3 = text_of (Label EndSignature ∷ []) in
+    let whole : text_of (data_part n) ≡ t1 ++ (t2 ++ t3) = text_join fixed_data (slots 0 n ++ Label EndSignature ∷ []) ∙ ap (λ x. t1 ++ x) (text_join (slots 0 n) (Label EndSignature ∷ [])) in
+    h3 ∙ ap (λ x. x ++ t3) (h2 ∙ ap (λ x. x ++ t2) h1) ∙ append_assoc (o ++ t1) t2 t3 ∙ append_assoc o t1 (t2 ++ t3) ∙ ap (λ x. o ++ x) (sym whole)
+
+-- ---- the line of a claim
+
+pub line_there : (l : Label') (c : Claim) (p : Point') → c.point < length l.points → p ≡ get_or l.points c.point p → claim_line c.case (named (point_view p)) ≡ line_of_claim (named_at (label_view l)) c
+line_there l c p h is = sym (ap (λ o. claim_line c.case (named_or_none o)) (point_there l c.point p h is))
+
+-- ---- the last place
+
+pub last_there : (is : List Fields) (i : Fields) → slice_get is (length is - 1) ≡ Some i → unwrap_or i.rd 0 ≡ last_rd is
+last_there is i h =
+    let some : 0 < length is = omega (arith, slice_get_within is (length is - 1) i h) in
+    sym (last_is is i some ∙ ap (λ (x : Fields). unwrap_or x.rd 0) (get_or_from_slice_get is (length is - 1) i i h))

@@ -151,7 +151,7 @@ fn add_words(list: &mut Vec<Statement>) -> Result<(), NoMemory>
     ensures { OnOk result (list.new.items ≡ list.old.items ++ spec.load_words 8 8) }
 {
     for n in 0..8u8 {
-        list.extend_from_slice(&load_word(8 + n, 4097 * (8 + u32::from(n))))?;
+        list.extend_from_slice(&load_word(8 + n, 4097 * (8 + n as u32)))?;
     }
     Ok(())
 }

@@ -122,6 +122,14 @@ fn push_claims(
     Ok(())
 }
 
+/// The last register of a core.
+fn last_register(spec: &IsaSpec) -> u8
+    ensures value { result ≡ layout.last_register spec.now }
+    ensures low { result < 32 }
+{
+    if spec.e { 15 } else { 31 }
+}
+
 /// So many registers from x1 on get 0.
 fn push_clear(alloc: Global, out: &mut Text, count: u8) -> Result<(), NoMemory>
     requires { count < 32 }
@@ -191,7 +199,7 @@ fn push_code(
         text_of (layout.begin ++ layout.code_part spec.now cases.now)) }
 {
     push_statements(alloc, out, &begin())?;
-    push_clear(alloc, out, if spec.e { 15 } else { 31 })?;
+    push_clear(alloc, out, last_register(spec))?;
     push_cases(alloc, out, spec, cases)?;
     push_statements(alloc, out, &halt())
 }
