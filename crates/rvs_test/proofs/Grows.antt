@@ -1,5 +1,5 @@
 -- A text that grows.
-use Rattle.std.proofs.Common.{◌≡◌, ℕ, ◌<◌, ◌≤◌, ◌^◌, true, false, List, [], ◌∷◌, ◌++◌, length, get_or, zero, suc, refl, sym, ap, ◌∙◌, subst, arith, append_assoc, append-nil}
+use Rattle.std.proofs.Common.{◌≡◌, ℕ, ◌+◌, ◌<◌, ◌≤◌, ◌^◌, true, false, List, [], ◌∷◌, ◌++◌, length, map, take, get_or, zero, suc, refl, sym, ap, ◌∙◌, subst, arith, append_assoc, append-nil}
 use Rattle.std.specs.Prelude.{◌-◌, All, OnOk, Result, Ok, Err, Some, slice_get, unwrap_or}
 use Rattle.std.proofs.lemmas.Option.{slice_get_within, get_or_from_slice_get}
 use Rattle.rvs_insn.specs.Fields.{Fields}
@@ -18,7 +18,7 @@ use Rattle.rvs_solver.proofs.Operands.{all_from_each}
 use Rattle.rvs_test.specs.declared.statement.Statement.{Statement}
 use Rattle.rvs_test.specs.declared.statement.Statement.TheVariants.{Label, Plain, High, Low, To, Nops, Fixed}
 use Rattle.rvs_test.specs.Statements.{IsLinked, IsPrinted}
-use Rattle.rvs_test.specs.TestText.{text_of, case_statements, begin, clear, last_register, cases, halt, loop, code_part, fixed_data, slots, data_part, claim_line, line_of_claim, last_rd}
+use Rattle.rvs_test.specs.TestText.{ended, text_of, case_statements, begin, clear, last_register, cases, halt, loop, code_part, fixed_data, slots, data_part, claim_line, line_of_claim, last_rd}
 use Rattle.rvs_test.specs.declared.statement.Name.TheVariants.{EndSignature}
 use Rattle.rvs_test.specs.declared.made.Claim.{Claim}
 use Rattle.rvs_test.specs.Made.{named, named_or_none, named_at}
@@ -27,7 +27,7 @@ use Rattle.rvs_test.proofs.KindLaws.{LinkedFormat}
 use Rattle.rvs_test.proofs.Assembled.{IsFine, AllFine}
 use Rattle.rvs_test.proofs.Every.{IsMade, case_fine}
 use Rattle.rvs_test.proofs.Printed.{text_none, text_join}
-use Rattle.rvs_test.proofs.Loops.{last_is}
+use Rattle.rvs_test.proofs.Loops.{last_is, lines_more}
 
 pub starts : (old a : List ℕ) → a ≡ [] → old ≡ old ++ a
 starts old a h = sym (append-nil old) ∙ ap (λ x. old ++ x) (sym h)
@@ -104,9 +104,17 @@ data_there n o a b c h1 h2 h3 =
 pub line_there : (l : Label') (c : Claim) (p : Point') → c.point < length l.points → p ≡ get_or l.points c.point p → claim_line c.case (named (point_view p)) ≡ line_of_claim (named_at (label_view l)) c
 line_there l c p h is = sym (ap (λ o. claim_line c.case (named_or_none o)) (point_there l c.point p h is))
 
+pub claim_more : (l : Label') (cs : List Claim) (i : ℕ) (d : Claim) (line : List ℕ) (p : Point') → i < length cs → line ≡ claim_line (get_or cs i d).case (named (point_view p)) → (get_or cs i d).point < length l.points → p ≡ get_or l.points (get_or cs i d).point p → (let f = line_of_claim (named_at (label_view l)) in ended (map f (take (i + 1) cs)) ≡ ended (map f (take i cs)) ++ (line ++ 10 ∷ []))
+claim_more l cs i d line p h is low at =
+    let f = line_of_claim (named_at (label_view l)) in
+    lines_more f cs i d h ∙ ap (λ x. ended (map f (take i cs)) ++ (x ++ 10 ∷ [])) (sym (is ∙ line_there l (get_or cs i d) p low at))
+
 -- ---- the last place
 
 pub last_there : (is : List Fields) (i : Fields) → slice_get is (length is - 1) ≡ Some i → unwrap_or i.rd 0 ≡ last_rd is
 last_there is i h =
     let some : 0 < length is = omega (arith, slice_get_within is (length is - 1) i h) in
     sym (last_is is i some ∙ ap (λ (x : Fields). unwrap_or x.rd 0) (get_or_from_slice_get is (length is - 1) i i h))
+
+pub same_at : (ps qs : List Point') (k : ℕ) (p : Point') → ps ≡ qs → p ≡ get_or ps k p → p ≡ get_or qs k p
+same_at ps qs k p h is = is ∙ ap (λ l. get_or l k p) h

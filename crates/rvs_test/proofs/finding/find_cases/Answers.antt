@@ -18,10 +18,10 @@ loop-point-preserved g c =
     }
 
 pub returns-clause-cases : goal.returns-clause-cases
-returns-clause-cases g c = all_cases c.args.spec.now (label_view c.args.label.now) (found_view c.loop-point.found) c.loop-point.point c.loop-point.invariant.found (end_at c.args.label.now c.as_slice-point-end.result.now c.loop-point.point c.as_slice-point-end.ensures ?)
+returns-clause-cases g c = all_cases c.args.spec.now (label_view c.args.label.now) (found_view c.loop-point.found) c.loop-point.point c.loop-point.invariant.found (end_at c.args.label.now c.as_slice-point-end.result.now c.loop-point.point c.as_slice-point-end.ensures (omega (arith, c.loop-point-test.false, c.loop-point.auto.point-end)))
 
 pub returns-clause-claims : goal.returns-clause-claims
-returns-clause-claims g c = all_claims c.args.spec.now (label_view c.args.label.now) (found_view c.loop-point.found) c.loop-point.point c.loop-point.invariant.found (end_at c.args.label.now c.as_slice-point-end.result.now c.loop-point.point c.as_slice-point-end.ensures ?)
+returns-clause-claims g c = all_claims c.args.spec.now (label_view c.args.label.now) (found_view c.loop-point.found) c.loop-point.point c.loop-point.invariant.found (end_at c.args.label.now c.as_slice-point-end.result.now c.loop-point.point c.as_slice-point-end.ensures (omega (arith, c.loop-point-test.false, c.loop-point.auto.point-end)))
 
 pub returns-clause-unsolved : goal.returns-clause-unsolved
-returns-clause-unsolved g c = all_unsolved c.args.spec.now (label_view c.args.label.now) (found_view c.loop-point.found) c.loop-point.point c.loop-point.invariant.found (end_at c.args.label.now c.as_slice-point-end.result.now c.loop-point.point c.as_slice-point-end.ensures ?)
+returns-clause-unsolved g c = all_unsolved c.args.spec.now (label_view c.args.label.now) (found_view c.loop-point.found) c.loop-point.point c.loop-point.invariant.found (end_at c.args.label.now c.as_slice-point-end.result.now c.loop-point.point c.as_slice-point-end.ensures (omega (arith, c.loop-point-test.false, c.loop-point.auto.point-end)))
