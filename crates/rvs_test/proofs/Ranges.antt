@@ -223,7 +223,7 @@ distance_by false false false k e f g h = backward 4 refl (omega arith) (omega a
 distance_is : (k : ℕ) → k < 1024 → IsDistance (distance k)
 distance_is k h = distance_by (nat_lt k 511) (nat_lt k 1022) (nat_lt k 1023) k refl refl refl h
 
-range_below : (a n : ℕ) → Each (λ k. k < a + n) (range_with_len a n)
+pub range_below : (a n : ℕ) → Each (λ k. k < a + n) (range_with_len a n)
 range_below a zero = tt
 range_below a (suc n) =
     let P : ℕ → Type 0 = λ m. Each (λ k. k < m) (range_with_len (a + 1) n) in
