@@ -125,7 +125,7 @@ header_first label isa n ps ls low high = ap (λ o. option_or o (first_steps (cl
 whole_is : (isa : Isa) (cs : List Solved) → isa.e ≡ false → statements isa cs ≡ whole cs
 whole_is isa cs e = ap (λ b. begin ++ ((clear 1 (cond b 15 31) ++ (cases 0 cs ++ (halt ++ loop))) ++ data_part (length cs))) e
 
-steps_high : (isa : Isa) (cs : List Solved) → AreReady isa cs → all_steps cs ≤ 544 * length cs
+pub steps_high : (isa : Isa) (cs : List Solved) → AreReady isa cs → all_steps cs ≤ 544 * length cs
 steps_high isa [] h = omega arith
 steps_high isa (Many is ∷ cs) h = omega (arith, steps_high isa cs h.1)
 steps_high isa (One c ∷ cs) h = omega (arith, one (row c.op).form c h.0.0.memory, steps_high isa cs h.1)

@@ -4,3 +4,4 @@ pub mod TestText
 pub mod Claim
 pub mod Made
 pub mod Found
+pub mod Claimed
