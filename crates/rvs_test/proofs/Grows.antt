@@ -17,8 +17,8 @@ use Rattle.rvs_solver.proofs.Search.{Each}
 use Rattle.rvs_solver.proofs.Operands.{all_from_each}
 use Rattle.rvs_test.specs.declared.statement.Statement.{Statement}
 use Rattle.rvs_test.specs.declared.statement.Statement.TheVariants.{Label, Plain, High, Low, To, Nops, Fixed}
-use Rattle.rvs_test.specs.Statements.{IsLinked, IsPrinted}
-use Rattle.rvs_test.specs.TestText.{ended, text_of, case_statements, begin, clear, last_register, cases, halt, loop, code_part, fixed_data, slots, data_part, claim_line, line_of_claim, last_rd}
+use Rattle.rvs_test.specs.Statements.{printed, IsLinked, IsPrinted}
+use Rattle.rvs_test.specs.TestText.{Point as Named, claim_lines, front, header, step_limit, test_text, ended, text_of, case_statements, begin, clear, last_register, cases, halt, loop, code_part, fixed_data, slots, data_part, claim_line, line_of_claim, last_rd}
 use Rattle.rvs_test.specs.declared.statement.Name.TheVariants.{EndSignature}
 use Rattle.rvs_test.specs.declared.made.Claim.{Claim}
 use Rattle.rvs_test.specs.Made.{named, named_or_none, named_at}
@@ -26,7 +26,7 @@ use Rattle.rvs_test.specs.Claim.{IsReady, AreReady}
 use Rattle.rvs_test.proofs.KindLaws.{LinkedFormat}
 use Rattle.rvs_test.proofs.Assembled.{IsFine, AllFine}
 use Rattle.rvs_test.proofs.Every.{IsMade, case_fine}
-use Rattle.rvs_test.proofs.Printed.{text_none, text_join}
+use Rattle.rvs_test.proofs.Printed.{ended_join, text_none, text_join}
 use Rattle.rvs_test.proofs.Loops.{last_is, lines_more}
 
 pub starts : (old a : List ℕ) → a ≡ [] → old ≡ old ++ a
@@ -118,3 +118,18 @@ last_there is i h =
 
 pub same_at : (ps qs : List Point') (k : ℕ) (p : Point') → ps ≡ qs → p ≡ get_or ps k p → p ≡ get_or qs k p
 same_at ps qs k p h is = is ∙ ap (λ l. get_or l k p) h
+
+-- ---- the whole text
+
+pub text_there : (isa : Isa) (name : List ℕ) (ps : List Named) (cs : List Solved) (ls : List (List ℕ)) (a b c d : List ℕ) → claim_lines 0 ps ≡ ls → a ≡ [] ++ ended (front name isa (step_limit cs)) → b ≡ a ++ ended ls → c ≡ b ++ text_of (begin ++ code_part isa cs) → d ≡ c ++ text_of (data_part (length cs)) → d ≡ test_text name isa ps cs
+unfolding test_text text_of
+text_there isa name ps cs ls a b c d lines h1 h2 h3 h4 =
+    let f = ended (front name isa (step_limit cs)) in
+    let t3 = ended (map printed (begin ++ code_part isa cs)) in
+    let t4 = ended (map printed (data_part (length cs))) in
+    let all : ended (map printed (begin ++ (code_part isa cs ++ data_part (length cs)))) ≡ t3 ++ t4 =
+      ap (λ x. ended (map printed x)) (sym (append_assoc begin (code_part isa cs) (data_part (length cs)))) ∙ text_join (begin ++ code_part isa cs) (data_part (length cs)) in
+    let head : ended (header name isa (step_limit cs) ps) ≡ f ++ ended ls = ended_join (front name isa (step_limit cs)) (claim_lines 0 ps) ∙ ap (λ x. f ++ ended x) lines in
+    h4 ∙ ap (λ x. x ++ t4) (h3 ∙ ap (λ x. x ++ t3) (h2 ∙ ap (λ x. x ++ ended ls) h1))
+    ∙ append_assoc (f ++ ended ls) t3 t4
+    ∙ sym (ended_join (header name isa (step_limit cs) ps) (map printed (begin ++ (code_part isa cs ++ data_part (length cs)))) ∙ ap (λ x. x ++ ended (map printed (begin ++ (code_part isa cs ++ data_part (length cs))))) head ∙ ap (λ x. (f ++ ended ls) ++ x) all)

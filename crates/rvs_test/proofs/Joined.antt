@@ -177,6 +177,16 @@ label_runs isa l e v =
       mapped [] = refl
       mapped (d ∷ ds) = let k : length (map (λ (c : Claim). named_at l c.point) ds) ≡ length ds = mapped ds in omega (arith, k)
 
+-- the same with what the code holds
+pub runs_there : (isa : Isa) (l : Label) → isa.e ≡ false → IsValid isa l → (text : List ℕ) (ds : List Claim) (cs : List Solved) (n : ℕ) → ds ≡ claims_of isa l → cs ≡ cases_of isa l → n ≡ step_limit cs → text ≡ test_text l.name isa (map (λ (c : Claim). named_at l c.point) ds) cs → TestRuns isa l text ds n
+runs_there isa l e v text ds cs n hd hc hn h =
+    let whole = test_text l.name isa (map (λ (c : Claim). named_at l c.point) (claims_of isa l)) (cases_of isa l) in
+    let t : text ≡ whole = h ∙ ap (λ x. test_text l.name isa (map (λ (c : Claim). named_at l c.point) x) cs) hd ∙ ap (test_text l.name isa (map (λ (c : Claim). named_at l c.point) (claims_of isa l))) hc in
+    let P : List ℕ → Type 0 = λ x. TestRuns isa l x ds n in
+    let Q : List Claim → Type 0 = λ x. TestRuns isa l whole x n in
+    let R : ℕ → Type 0 = λ m. TestRuns isa l whole (claims_of isa l) m in
+    subst P (sym t) (subst Q (sym hd) (subst R (sym (hn ∙ ap step_limit hc)) (label_runs isa l e v)))
+
 -- ---- each point is accounted for
 
 there : {X : Type 0} (xs : List X) (x y : X) → Contains xs x → Contains (y ∷ xs) x

@@ -13,7 +13,7 @@ use Rattle.rvs_solver.specs.Solving.{first_at}
 use Rattle.rvs_test.specs.declared.made.Claim.{Claim}
 use Rattle.rvs_test.specs.declared.statement.Statement.{Statement}
 use Rattle.rvs_test.specs.Statements.{printed, addi}
-use Rattle.rvs_test.specs.TestText.{helpers, load_word, load_words, start_word, clear, cases, case_statements, slots, last_rd, ended, text_of}
+use Rattle.rvs_test.specs.TestText.{helpers, load_word, load_words, start_word, clear, cases, case_statements, slots, last_rd, ended, text_of, all_steps, case_steps}
 use Rattle.rvs_test.specs.Made.{is_solved, solved_among, unsolved_among, cases_among, numbered}
 use Rattle.rvs_test.specs.Found.{FoundValue, found_before, nothing_found, with_one}
 use Rattle.rvs_test.specs.declared.statement.Name.TheVariants.{Slot}
@@ -151,3 +151,14 @@ found_more isa l n before after o h k e =
 pub found_none : (isa : Isa) (l : Label) → nothing_found ≡ found_before isa l 0
 unfolding found_before
 found_none isa l = refl
+
+-- ---- steps
+
+steps_join : (xs ys : List Solved) → all_steps (xs ++ ys) ≡ all_steps xs + all_steps ys
+steps_join [] ys = omega arith
+steps_join (x ∷ xs) ys = let e : all_steps (xs ++ ys) ≡ all_steps xs + all_steps ys = steps_join xs ys in omega (arith, e)
+
+pub steps_more : (cs : List Solved) (i : ℕ) (d : Solved) → i < length cs → all_steps (take (i + 1) cs) ≡ all_steps (take i cs) + case_steps (get_or cs i d)
+steps_more cs i d h =
+    let e : all_steps (take i cs ++ get_or cs i d ∷ []) ≡ all_steps (take i cs) + (case_steps (get_or cs i d) + 0) = steps_join (take i cs) (get_or cs i d ∷ []) in
+    ap all_steps (take_more cs i d h) ∙ e ∙ omega arith

@@ -6,6 +6,7 @@ mod finding;
 mod frame_lines;
 mod laws;
 mod made;
+mod making;
 mod printing;
 mod shorthands;
 mod statement;
@@ -13,4 +14,5 @@ mod writing;
 
 pub use laws::tests_run;
 pub use made::{Claim, Made};
+pub use making::make_test;
 pub use statement::{Fixed, Name, Statement};

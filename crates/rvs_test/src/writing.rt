@@ -88,7 +88,7 @@ fn claim_line(alloc: Global, case: usize, point: &Point) -> Result<Text, NoMemor
 }
 
 /// The first four lines.
-fn push_front(
+pub(crate) fn push_front(
     alloc: Global,
     out: &mut Text,
     name: &str,
@@ -104,7 +104,7 @@ fn push_front(
 }
 
 /// One line for each claim.
-fn push_claims(
+pub(crate) fn push_claims(
     alloc: Global,
     out: &mut Text,
     label: &Label,
@@ -120,14 +120,6 @@ fn push_claims(
         push_line(out, line.as_str())?;
     }
     Ok(())
-}
-
-/// The last register of a core.
-fn last_register(spec: &IsaSpec) -> u8
-    ensures value { result ≡ layout.last_register spec.now }
-    ensures low { result < 32 }
-{
-    if spec.e { 15 } else { 31 }
 }
 
 /// So many registers from x1 on get 0.
@@ -186,26 +178,29 @@ fn push_slots(alloc: Global, out: &mut Text, count: usize) -> Result<(), NoMemor
 }
 
 /// The cases, with what stands before and behind them.
-fn push_code(
+pub(crate) fn push_code(
     alloc: Global,
     out: &mut Text,
     spec: &IsaSpec,
+    registers: u8,
     cases: &[Solved],
 ) -> Result<(), NoMemory>
     requires few { length cases.now ≤ 2048 }
     requires base { spec.now.e ≡ false }
     requires ready { AreReady spec.now cases.now }
+    requires registers { registers ≡ layout.last_register spec.now }
+    requires low { registers < 32 }
     ensures { OnOk result (out.new ≡ out.old ++
         text_of (layout.begin ++ layout.code_part spec.now cases.now)) }
 {
     push_statements(alloc, out, &begin())?;
-    push_clear(alloc, out, last_register(spec))?;
+    push_clear(alloc, out, registers)?;
     push_cases(alloc, out, spec, cases)?;
     push_statements(alloc, out, &halt())
 }
 
 /// The data of so many cases.
-fn push_data(alloc: Global, out: &mut Text, count: usize) -> Result<(), NoMemory>
+pub(crate) fn push_data(alloc: Global, out: &mut Text, count: usize) -> Result<(), NoMemory>
     requires { count ≤ 2048 }
     ensures { OnOk result (out.new ≡ out.old ++ text_of (layout.data_part count)) }
 {
