@@ -3,7 +3,7 @@ use Rattle.std.proofs.Common.{◌≡◌, ℕ, Bool, true, false, ◌&&◌, List,
 use Rattle.std.proofs.Math.Seq.{take-suc}
 use Rattle.std.specs.Prelude.{◌||◌, String}
 use Rattle.std.specs.BTreeSet.{BTreeSet, contains_text}
-use Rattle.rvs_cgf.specs.Groups.{has, is_point, same_kind, Point as Seen}
+use Rattle.rvs_cgf.specs.Groups.{has, is_point, same_kind}
 use Rattle.rvs_cgf.specs.PointView.{point_view}
 use Rattle.rvs_cgf.specs.PointKeys.{mark, AreKeysOf}
 use Rattle.rvs_cgf.specs.declared.group.Kind.{Kind}

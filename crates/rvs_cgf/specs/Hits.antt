@@ -1,5 +1,5 @@
 -- When an instruction hits a point.
-use Rattle.std.specs.Prelude.{ℕ, ◌==◌, Bool, true, false, ◌&&◌, List, Option, Some, None}
+use Rattle.std.specs.Prelude.{ℕ, ◌==◌, Bool, false, ◌&&◌, List, Option, Some, None}
 use Rattle.std.specs.List.{list_any}
 use Rattle.rvs_insn.specs.declared.op.Op.{Op}
 use Rattle.rvs_expr_text.specs.declared.lexeme.RegName.TheVariants as register

@@ -1,5 +1,5 @@
 -- Labels that a core admits.
-use Rattle.std.specs.Prelude.{◌≡◌, ℕ, ◌<◌, ◌≤◌, Bool, true, false, not, ◌&&◌, List, [], ◌∷◌, length, map, All, Option, Some, None, option_map, Ok, Err}
+use Rattle.std.specs.Prelude.{◌≡◌, ℕ, ◌<◌, ◌≤◌, Bool, true, not, ◌&&◌, List, [], ◌∷◌, length, All, Option, Some, None, option_map, Ok, Err}
 use Rattle.std.specs.List.{list_any, list_all}
 use Rattle.rvs_insn.specs.Isa.{Isa}
 use Rattle.rvs_insn.specs.Names.{op_of_name, is_admitted_op}
@@ -7,7 +7,6 @@ use Rattle.rvs_insn.specs.declared.op.Op.{Op}
 use Rattle.rvs_expr_text.specs.declared.words.Language.TheVariants.{Numbers, Registers}
 use Rattle.rvs_expr_text.specs.Refusal.{Found}
 use Rattle.rvs_expr_text.specs.Words.{register_number}
-use Rattle.rvs_expr.specs.Typed.{Formula}
 use Rattle.rvs_expr.specs.Parse.{parse}
 use Rattle.rvs_facts.specs.Mnemonics.{is_same}
 use Rattle.rvs_cgf.specs.Keys.{is_label_name, is_printable}
@@ -51,3 +50,7 @@ pub record IsValid (isa : Isa) (l : Label) : Type 0 where
   pub few : length l.points ≤ 2048
   pub distinct : are_distinct l.points ≡ true
   pub meant : All IsMeant l.points
+
+-- a label that is selected is valid
+abbrev pub IsValidIfSelected : Isa → Label → Type 0
+IsValidIfSelected isa l = l.selected ≡ true → IsValid isa l

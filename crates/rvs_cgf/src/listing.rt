@@ -1,8 +1,9 @@
 // The labels of a tree.
-ghost use Rattle.std.specs.Prelude.{◌≡◌, ◌≤◌, ◌-◌, ◌*◌, ◌^◌, ◌∷◌, ◌++◌, [], map, IsTrue, IfOk};
+ghost use Rattle.std.specs.Prelude.{◌≡◌, ◌≤◌, ◌-◌, ◌*◌, ◌^◌, ◌∷◌, ◌++◌, [], map, All, IsTrue, IfOk};
 ghost use Rattle.rvs_tree.specs.Data.{own_pairs, is_map};
 ghost use Rattle.rvs_tree.specs.TreeView as trees;
 ghost use Rattle.rvs_cgf.specs.Groups as spec;
+ghost use Rattle.rvs_cgf.specs.Valid.{IsValidIfSelected};
 ghost use Rattle.rvs_cgf.specs.GroupView.{AnswersWith, label_view, listed_view};
 
 use crate::entries::is_empty_scalar;
@@ -100,18 +101,11 @@ fn list_labels(alloc: Global, isa: &IsaSpec, root: &Tree) -> Result<Listed, CgfR
     Ok(listed)
 }
 
-/// Reads coverage groups, as riscv-ctg and riscv-isac have them, for a core: each label with its
-/// mnemonics, its points in the file's order, a repeated pair of kind and key at its first place
-/// only, and the entries that are listed and not counted. Of a label whose `config` doesn't hold
-/// for the core only the name is read.
-///
-/// # Errors
-///
-/// The first rule that an entry breaks, in the file's order, with the label, the node and the key
-/// that the check looks at; or `NoMemory`.
+/// The labels of a tree.
 #[tactic(auto, unfolding(crate::specs::Groups::groups_of))]
-pub fn read_groups(alloc: Global, tree: &Tree, isa: &IsaSpec) -> Result<Groups, CgfRefusal>
-    ensures { AnswersWith (map label_view) result (spec.groups_of isa.now (trees.view tree.now)) }
+fn read_tree(alloc: Global, tree: &Tree, isa: &IsaSpec) -> Result<Groups, CgfRefusal>
+    ensures { AnswersWith (map label_view) result
+        (spec.groups_of isa.now (trees.view tree.now)) }
 {
     if is_empty_scalar(tree) {
         return Ok(Items::new(alloc));
@@ -121,4 +115,22 @@ pub fn read_groups(alloc: Global, tree: &Tree, isa: &IsaSpec) -> Result<Groups, 
         return Ok(labels);
     }
     Err(refusal(alloc, "", "", "", CgfKind::BadShape))
+}
+
+/// Reads coverage groups, as riscv-ctg and riscv-isac have them, for a core: each label with its
+/// mnemonics, its points in the file's order, a repeated pair of kind and key at its first place
+/// only, and the entries that are listed and not counted. Of a label whose `config` doesn't hold
+/// for the core only the name is read.
+///
+/// # Errors
+///
+/// The first rule that an entry breaks, in the file's order, with the label, the node and the key
+/// that the check looks at; or `NoMemory`.
+pub fn read_groups(alloc: Global, tree: &Tree, isa: &IsaSpec) -> Result<Groups, CgfRefusal>
+    ensures read { AnswersWith (map label_view) result
+        (spec.groups_of isa.now (trees.view tree.now)) }
+    ensures valid { IfOk result
+        (All (λ l. IsValidIfSelected isa.now (label_view l))) }
+{
+    read_tree(alloc, tree, isa)
 }

@@ -395,10 +395,11 @@ TargetAt _ env k c pc = Unit {0}
 frame_at : (z : ℤ) (env : Name → ℕ) (rest : Marks) (k s s' : ℕ) → k < 2 ^ 32 → s' ≡ text_base + s → NamesAt env (frame_marks z k s ++ rest) k → FrameAt z env k s'
 frame_at (pos n) env rest k s s' small e names = names (Target k) (mark_at (s + 8 + 4 * between (pos n))) (omega arith) small (tested_find k _ (find_name rest (Target k))) ∙ (let w : text_base + (s + 8 + 4 * between (pos n)) ≡ s' + 8 + 4 * between (pos n) = omega (arith, e) in w)
 frame_at (negsuc n) env rest k s s' small e names =
-    let q = between (negsuc n) in
-    (names (Target k) (mark_at (s + 8)) (omega arith) small (tested_find k _ _) ∙ (let w : text_base + (s + 8) ≡ s' + 8 = omega (arith, e) in w),
-    names (CaseName k) (mark_at (s + 12 + 4 * q)) (omega arith) small (tested_find k _ _) ∙ (let w : text_base + (s + 12 + 4 * q) ≡ s' + 12 + 4 * q = omega (arith, e) in w),
-    names (Done k) (mark_at (s + 16 + 4 * q)) (omega arith) small (tested_find k _ _) ∙ (let w : text_base + (s + 16 + 4 * q) ≡ s' + 16 + 4 * q = omega (arith, e) in w))
+    let q = between (negsuc n) in (
+      names (Target k) (mark_at (s + 8)) (omega arith) small (tested_find k _ _) ∙ (let w : text_base + (s + 8) ≡ s' + 8 = omega (arith, e) in w),
+      names (CaseName k) (mark_at (s + 12 + 4 * q)) (omega arith) small (tested_find k _ _) ∙ (let w : text_base + (s + 12 + 4 * q) ≡ s' + 12 + 4 * q = omega (arith, e) in w),
+      names (Done k) (mark_at (s + 16 + 4 * q)) (omega arith) small (tested_find k _ _) ∙ (let w : text_base + (s + 16 + 4 * q) ≡ s' + 16 + 4 * q = omega (arith, e) in w),
+    )
 
 pub target_at : (f : Format) (env : Name → ℕ) (rest : Marks) (k : ℕ) (c : ChoiceValue) (a pc : ℕ) → k < 2 ^ 32 → pc ≡ text_base + a → NamesAt env (own_by f k c a ++ rest) k → TargetAt f env k c pc
 target_at JumpReg env rest k c a pc small e names = let m : Mark = mark_at (a + 28) in names (Target k) m (omega arith) small (tested_find k m (find_name rest (Target k))) ∙ (let q : text_base + (a + 28) ≡ pc + 28 = omega (arith, e) in q)
@@ -527,11 +528,28 @@ jalr_fine isa k c small form is =
     let fz : FitsBits 12 z = subst (λ x. FitsBits 12 (unwrap_or x (pos 0))) (sym o.imm) o.fits in
     let parts = parts_fit z fz in
     let saves : AllFine isa (save p k m d) = ((hp, small, admitted_low isa (lui p (pos 0)) e refl), ((hp, small, admitted_low isa (addi p p (pos 0)) e refl), ((tt, (hp, hm, z0), admitted_low isa (sw m p (pos 0)) e refl), ((tt, (hp, hd, z4), admitted_low isa (sw d p (pos 4)) e refl), tt)))) in
-    let own : OwnFormat (row c.op).form = subst OwnFormat (sym form) tt in
-    ((ha, small, admitted_low isa (lui a (pos 0)) e refl), ((ha, small, admitted_low isa (addi a a (pos 0)) e refl),
-    ((tt, (ha, ha, parts.0), admitted_low isa (addi a a (first_part z)) e refl), ((tt, (ha, ha, parts.1), admitted_low isa (addi a a (second_part z)) e refl),
-    ((tt, (hm, x0, z1), admitted_low isa (addi m 0 (pos 1)) e refl), (small, ((own, is.sound.encodable, is.sound.admitted),
-    ((tt, (hm, hm, z2), admitted_low isa (addi m m (pos 2)) e refl), (small, saves)))))))))
+    let own : OwnFormat (row c.op).form = subst OwnFormat (sym form) tt in (
+      (ha, small, admitted_low isa (lui a (pos 0)) e refl),
+      (
+        (ha, small, admitted_low isa (addi a a (pos 0)) e refl),
+        (
+          (tt, (ha, ha, parts.0), admitted_low isa (addi a a (first_part z)) e refl),
+          (
+            (tt, (ha, ha, parts.1), admitted_low isa (addi a a (second_part z)) e refl),
+            (
+              (tt, (hm, x0, z1), admitted_low isa (addi m 0 (pos 1)) e refl),
+              (
+                small,
+                (
+                  (own, is.sound.encodable, is.sound.admitted),
+                  ((tt, (hm, hm, z2), admitted_low isa (addi m m (pos 2)) e refl), (small, saves)),
+                ),
+              ),
+            ),
+          ),
+        ),
+      ),
+    )
 
 jump_fine : (f : Format) (isa : Isa) (k : ℕ) (c : ChoiceValue) → k < 2 ^ 32 → (row c.op).form ≡ f → IsLabelled f → IsMade isa c → IsNearby (imm_of c) → AllFine isa (jump_case k c)
 jump_fine f isa k c small e l is near =

@@ -85,8 +85,8 @@ code_there isa cs o a b c d h1 h2 h3 h4 =
     let t3 = text_of (cases 0 cs) in
     let t4 = text_of (halt ++ loop) in
     let whole : text_of (begin ++ code_part isa cs) ≡ t1 ++ (t2 ++ (t3 ++ t4)) =
-      text_join begin (code_part isa cs)
-      ∙ ap (λ x. t1 ++ x) (text_join (clear 1 (last_register isa)) (cases 0 cs ++ (halt ++ loop)) ∙ ap (λ x. t2 ++ x) (text_join (cases 0 cs) (halt ++ loop))) in
+    text_join begin (code_part isa cs)
+    ∙ ap (λ x. t1 ++ x) (text_join (clear 1 (last_register isa)) (cases 0 cs ++ (halt ++ loop)) ∙ ap (λ x. t2 ++ x) (text_join (cases 0 cs) (halt ++ loop))) in
     h4 ∙ ap (λ x. x ++ t4) (h3 ∙ ap (λ x. x ++ t3) (h2 ∙ ap (λ x. x ++ t2) h1))
     ∙ append_assoc ((o ++ t1) ++ t2) t3 t4 ∙ append_assoc (o ++ t1) t2 (t3 ++ t4) ∙ append_assoc o t1 (t2 ++ (t3 ++ t4))
     ∙ ap (λ x. o ++ x) (sym whole)
@@ -128,7 +128,7 @@ text_there isa name ps cs ls a b c d lines h1 h2 h3 h4 =
     let t3 = ended (map printed (begin ++ code_part isa cs)) in
     let t4 = ended (map printed (data_part (length cs))) in
     let all : ended (map printed (begin ++ (code_part isa cs ++ data_part (length cs)))) ≡ t3 ++ t4 =
-      ap (λ x. ended (map printed x)) (sym (append_assoc begin (code_part isa cs) (data_part (length cs)))) ∙ text_join (begin ++ code_part isa cs) (data_part (length cs)) in
+    ap (λ x. ended (map printed x)) (sym (append_assoc begin (code_part isa cs) (data_part (length cs)))) ∙ text_join (begin ++ code_part isa cs) (data_part (length cs)) in
     let head : ended (header name isa (step_limit cs) ps) ≡ f ++ ended ls = ended_join (front name isa (step_limit cs)) (claim_lines 0 ps) ∙ ap (λ x. f ++ ended x) lines in
     h4 ∙ ap (λ x. x ++ t4) (h3 ∙ ap (λ x. x ++ t3) (h2 ∙ ap (λ x. x ++ ended ls) h1))
     ∙ append_assoc (f ++ ended ls) t3 t4

@@ -71,8 +71,8 @@ unfolding choices
 own_op isa op constants =
     filtered (λ (c : ChoiceValue). c.op ≡ op) is_kept (flat_map (with_registers isa op constants) (registers isa.e (row op).form))
     (each_flat (with_registers isa op constants) (λ r. Unit {0}) (λ (c : ChoiceValue). c.op ≡ op)
-      (λ r u. each_map (choice_of op r) (λ n. Unit {0}) (λ (c : ChoiceValue). c.op ≡ op) (λ n v. refl) (numbers isa op (row op).form constants (is_same_register r.rs1 r.rs2)) (each_any _))
-      (registers isa.e (row op).form) (each_any (registers isa.e (row op).form)))
+    (λ r u. each_map (choice_of op r) (λ n. Unit {0}) (λ (c : ChoiceValue). c.op ≡ op) (λ n v. refl) (numbers isa op (row op).form constants (is_same_register r.rs1 r.rs2)) (each_any _))
+    (registers isa.e (row op).form) (each_any (registers isa.e (row op).form)))
 
 weaker_each : {X : Type 0} (P Q : X → Type 0) → ((x : X) → P x → Q x) → (xs : List X) → Each P xs → Each Q xs
 weaker_each P Q h [] a = tt

@@ -116,9 +116,9 @@ pub registers_are : (few : Bool) (form : Format) → Each (AreRegisters form) (r
 unfolding registers
 registers_are few form =
     each_flat _ (IsField (has_rd form)) _ (λ rd a. each_flat _ (IsFirst form) _ (λ rs1 b. each_map _ (IsField (has_rs2 form)) _ (λ rs2 d. record { rd = a; rs1 = b.0; some_base = b.1; rs2 = d })
-      (rs2s few form) (each_of (is_field (has_rs2 form)) (IsField (has_rs2 form)) (field_is (has_rs2 form)) (rs2s few form) (rs2s_are few form)))
-      (rs1s few form) (each_of (is_first form) (IsFirst form) (first_is form) (rs1s few form) (rs1s_are few form)))
-      (rds few form) (each_of (is_field (has_rd form)) (IsField (has_rd form)) (field_is (has_rd form)) (rds few form) (rds_are few form))
+    (rs2s few form) (each_of (is_field (has_rs2 form)) (IsField (has_rs2 form)) (field_is (has_rs2 form)) (rs2s few form) (rs2s_are few form)))
+    (rs1s few form) (each_of (is_first form) (IsFirst form) (first_is form) (rs1s few form) (rs1s_are few form)))
+    (rds few form) (each_of (is_field (has_rd form)) (IsField (has_rd form)) (field_is (has_rd form)) (rds few form) (rds_are few form))
 
 -- ---- datasets
 

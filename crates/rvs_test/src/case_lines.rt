@@ -15,11 +15,7 @@ use rvs_solver::{Choice, Solved};
 use std::alloc::Global;
 
 /// A source register gets its word.
-fn add_source(
-    list: &mut Vec<Statement>,
-    register: Option<u8>,
-    word: u32,
-) -> Result<(), NoMemory>
+fn add_source(list: &mut Vec<Statement>, register: Option<u8>, word: u32) -> Result<(), NoMemory>
     requires { IsRegister register }
     ensures { OnOk result (list.new.items ≡ list.old.items ++ spec.source register word) }
 {
@@ -144,7 +140,6 @@ fn choice_case(alloc: Global, k: u32, choice: &Choice) -> Result<Vec<Statement>,
         _ => plain_case(alloc, k, choice),
     }
 }
-
 
 #[tactic(auto, using(crate::proofs::Loops::words_more))]
 fn add_words(list: &mut Vec<Statement>) -> Result<(), NoMemory>

@@ -99,7 +99,10 @@ pub(crate) fn push_front(
 {
     push_line(out, "#! rvsuite test 1")?;
     push_line(out, label_line(alloc, name)?.as_str())?;
-    push_line(out, isa_line(alloc, isa_text(alloc, spec)?.as_str())?.as_str())?;
+    push_line(
+        out,
+        isa_line(alloc, isa_text(alloc, spec)?.as_str())?.as_str(),
+    )?;
     push_line(out, steps_line(alloc, steps)?.as_str())
 }
 

@@ -7,4 +7,4 @@ pub returns : goal.returns
 returns c =
     let point = c.args.point.now in
     keys_more c.args.known c.in_ok-all.all point (string_bytes c.in_ok-text.text)
-      (c.in_ok-text.ensures ∙ ap (λ key. mark point.kind ∷ key) c.as_str.ensures) c.in_ok-all.ensures
+    (c.in_ok-text.ensures ∙ ap (λ key. mark point.kind ∷ key) c.as_str.ensures) c.in_ok-all.ensures

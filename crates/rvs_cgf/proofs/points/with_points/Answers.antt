@@ -1,4 +1,4 @@
-use Rattle.std.proofs.Common.{◌≡◌, ◌<◌, ◌++◌, ◌∷◌, [], ◌∙◌, List, length, take, ap, sym, subst, arith, append-nil}
+use Rattle.std.proofs.Common.{◌<◌, ◌++◌, ◌∷◌, [], ◌∙◌, List, length, take, ap, sym, subst, arith, append-nil}
 use Rattle.rvs_cgf.specs.PointKeys.{AreKeysOf}
 use Rattle.rvs_cgf.specs.declared.group.Point.{Point}
 use Rattle.rvs_cgf.proofs.PointSets.{next, whole}
@@ -14,10 +14,10 @@ loop-point-preserved c = λ ps h.
     let point = c.point-item.result in
     let below : i < length more = omega (arith, c.loop-point-test.true) in
     subst (λ (qs : List Point). AreKeysOf c.in_ok-known.known qs)
-      (ap (λ p. (ps ++ take i more) ++ (p ∷ [])) c.point-item.is ∙ next ps more i point below)
-      (c.in_ok-known.ensures (ps ++ take i more) (c.loop-point.invariant ps h))
+    (ap (λ p. (ps ++ take i more) ++ (p ∷ [])) c.point-item.is ∙ next ps more i point below)
+    (c.in_ok-known.ensures (ps ++ take i more) (c.loop-point.invariant ps h))
 
 pub returns : goal.returns
 returns c = λ ps h.
     subst (λ (qs : List Point). AreKeysOf c.loop-point.known qs)
-      (whole ps c.args.more.now c.loop-point.point-index c.loop-point-test.false c.loop-point.auto.point-index-end) (c.loop-point.invariant ps h)
+    (whole ps c.args.more.now c.loop-point.point-index c.loop-point-test.false c.loop-point.auto.point-index-end) (c.loop-point.invariant ps h)
