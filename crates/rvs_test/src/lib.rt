@@ -10,6 +10,8 @@ mod making;
 mod printing;
 mod shorthands;
 mod statement;
+#[cfg(test)]
+mod tests;
 mod writing;
 
 pub use laws::tests_run;
