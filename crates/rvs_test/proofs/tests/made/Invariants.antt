@@ -1,0 +1,4 @@
+use Rattle.rvs_test.proofs.tests.made.Given as goal
+
+abbrev pub ghosts-first_test : goal.ghosts-first_test
+ghosts-first_test a = record { name = a.blank.name; parts = a.blank.parts }

@@ -1,0 +1,54 @@
+-- What a test's text claims of its run.
+use Rattle.std.specs.Prelude.{◌≡◌, ◌≤◌, ◌⊎◌, ℕ, ◌+◌, ◌*◌, true, List, [], length, All, Contains, Option, Some, slice_index, slice_get}
+use Rattle.rvs_insn.specs.Isa.{Isa}
+use Rattle.rvs_insn.specs.Fields.{Fields, insn_of_word}
+use Rattle.rvs_machine.specs.declared.event.Executed.{Executed}
+use Rattle.rvs_machine.specs.declared.event.End.TheVariants.{Halted}
+use Rattle.rvs_machine.specs.Image.{ImageValue}
+use Rattle.rvs_machine.specs.Machine.{started}
+use Rattle.rvs_machine.specs.Run.{Outcome, run_of}
+use Rattle.rvs_asm_text.specs.Header.{header_steps}
+use Rattle.rvs_asm.specs.Answer.{Assembles}
+use Rattle.rvs_facts.specs.Facts.{facts_of}
+use Rattle.rvs_cgf.specs.Groups.{Point, Label}
+use Rattle.rvs_cgf.specs.Hits.{hits}
+use Rattle.rvs_solver.specs.Solving.{IsSolvableAt}
+use Rattle.rvs_test.specs.declared.made.Claim.{Claim}
+use Rattle.rvs_test.specs.declared.statement.Name.TheVariants.{Case}
+use Rattle.rvs_test.specs.Statements.{name_of}
+use Rattle.rvs_test.specs.Claim.{symbol_address, IsOnly, outcome_at, words_after}
+
+-- exactly one instruction was executed at the case's symbol. It hits the point, and its outcome is in the signature
+pub record IsClaimed (isa : Isa) (l : Label) (image : ImageValue) (o : Outcome) (c : Claim) : Type 0 where
+  pub point : Point
+  pub is : slice_get l.points c.point ≡ Some point
+  pub at : ℕ
+  pub symbol : symbol_address image.symbols (name_of (Case c.case)) ≡ Some at
+  pub entry : Executed
+  pub only : IsOnly at entry [] o.trace
+  pub insn : Fields
+  pub decoded : insn_of_word entry.word ≡ Some insn
+  pub hit : hits l.ops point insn.op (facts_of insn entry.v1 entry.v2) ≡ true
+  pub first : slice_index (words_after image isa o) (2 * c.case) ≡ (outcome_at insn entry).0
+  pub second : slice_index (words_after image isa o) (2 * c.case + 1) ≡ (outcome_at insn entry).1
+
+-- a run halts in time, hits each claimed point, and leaves two words a case and no others
+pub record IsRun (isa : Isa) (l : Label) (image : ImageValue) (claims : List Claim) (limit : ℕ) (o : Outcome) : Type 0 where
+  pub halts : o.end ≡ Halted
+  pub steps : length o.trace ≤ limit
+  pub words : length (words_after image isa o) ≡ 2 * length claims
+  pub claimed : All (IsClaimed isa l image o) claims
+
+-- an image stands to the text, the header's number is the limit, and from that limit on each run is as claimed
+pub record TestRuns (isa : Isa) (l : Label) (text : List ℕ) (claims : List Claim) (limit : ℕ) : Type 0 where
+  pub image : ImageValue
+  pub assembles : Assembles text isa image
+  pub header : header_steps text ≡ Some limit
+  pub most : limit ≤ 1114192
+  pub runs : (n : ℕ) → limit ≤ n → IsRun isa l image claims limit (run_of (started image isa).setup n (started image isa).state)
+
+-- a point is left where no choice hits it, and claimed where one does
+abbrev pub IsAccounted : Isa → Label → List Claim → List ℕ → ℕ → Type 0
+IsAccounted isa l claims unsolved k =
+    (Contains unsolved k × (IsSolvableAt isa l k → ⊥))
+    ⊎ ((c : Claim) × Contains claims c × (c.point ≡ k) × IsSolvableAt isa l k)

@@ -1,0 +1,84 @@
+// The first choices of a label's points.
+ghost use Rattle.std.specs.Prelude.{◌≡◌, ◌≤◌, ◌<◌, ◌+◌, ◌++◌, ◌∷◌, [], IfOk, length, take, sum_by, option_to_list};
+ghost use Rattle.std.specs.List.{range_with_len};
+ghost use Rattle.rvs_cgf.specs.GroupView.{label_view, point_view};
+ghost use Rattle.rvs_cgf.specs.Valid.{IsValid};
+ghost use Rattle.rvs_solver.specs.Solving.{first_at, bound_of_label};
+ghost use Rattle.rvs_test.specs.Made.{places, claims_of, unsolved_of, cases_of};
+ghost use Rattle.rvs_test.specs.Found.{FoundValue, found_view, found_before, nothing_found, with_one};
+
+use crate::made::Claim;
+use rvs_base::{Items, NoMemory};
+use rvs_cgf::Label;
+use rvs_expr::Steps;
+use rvs_insn::IsaSpec;
+use rvs_solver::{Solved, solve};
+use std::alloc::Global;
+use std::sync::ledger::Ledger;
+
+/// What solves the points that were looked at.
+#[derive(Drop)]
+pub(crate) struct Found {
+    /// What the cases are made from.
+    pub cases: Items<Solved>,
+    /// Which points they are to hit.
+    pub claims: Items<Claim>,
+    /// The other points.
+    pub unsolved: Items<usize>,
+}
+
+fn nothing(alloc: Global) -> Found
+    ensures { found_view result ≡ nothing_found }
+{
+    Found {
+        cases: Items::new(alloc),
+        claims: Items::new(alloc),
+        unsolved: Items::new(alloc),
+    }
+}
+
+/// One more point, with what solves it.
+fn with_point(found: Found, point: usize, solved: Option<Solved>) -> Result<Found, NoMemory>
+    ensures { IfOk result (λ f. found_view f ≡ with_one (found_view found) point solved) }
+{
+    let Found {
+        mut cases,
+        mut claims,
+        mut unsolved,
+    } = found;
+    match solved {
+        Some(solved) => {
+            let case = claims.as_slice().len();
+            cases.push(solved)?;
+            claims.push(Claim { case, point })?;
+        }
+        None => unsolved.push(point)?,
+    }
+    Ok(Found {
+        cases,
+        claims,
+        unsolved,
+    })
+}
+
+/// What solves the points of a label, in their order.
+pub(crate) fn find_cases<L: Ledger>(
+    alloc: Global,
+    label: &Label,
+    spec: &IsaSpec,
+    steps: &mut Steps<L>,
+) -> Result<Found, NoMemory>
+    requires { IsValid spec.now (label_view label.now) }
+    ensures cases { IfOk result (λ f. f.cases ≡ cases_of spec.now (label_view label.now)) }
+    ensures claims { IfOk result (λ f. f.claims ≡ claims_of spec.now (label_view label.now)) }
+    ensures unsolved { IfOk result (λ f. f.unsolved ≡ unsolved_of spec.now (label_view label.now)) }
+    ensures cost { IfOk result (λ f.
+        steps.new ≤ steps.old + bound_of_label spec.now (label_view label.now)) }
+{
+    let mut found = nothing(alloc);
+    for point in 0..label.points.as_slice().len() {
+        let solved = solve(alloc, label, point, spec, steps)?;
+        found = with_point(found, point, solved)?;
+    }
+    Ok(found)
+}

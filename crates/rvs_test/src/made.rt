@@ -1,0 +1,24 @@
+// What the generator makes of a label.
+use rvs_base::{Items, Text};
+
+/// That a case hits a point.
+#[derive(Debug, Clone, Copy, PartialEq, Eq)]
+pub struct Claim {
+    /// The number of the case, from 0.
+    pub case: usize,
+    /// The place of the point in the label.
+    pub point: usize,
+}
+
+/// The test of a label.
+#[derive(Debug, Drop)]
+pub struct Made {
+    /// The text, where a point is solved.
+    pub text: Option<Text>,
+    /// What the text claims, in the order of the cases.
+    pub claims: Items<Claim>,
+    /// The places of the points that no choice hits.
+    pub unsolved: Items<usize>,
+    /// How many instructions the run of the test takes at most.
+    pub steps: u64,
+}
