@@ -103,7 +103,7 @@ fn groups_are_normalized(rt: HostRuntime) -> Result<(), Fail> {
         &twice,
         Status::Refused,
         "",
-        "rvsuite: coverage files: yaml 8 line 5\n",
+        "rvsuite: coverage files: yaml 6 line 6\n",
     );
     Ok(())
 }
