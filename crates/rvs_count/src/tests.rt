@@ -132,7 +132,7 @@ fn a_log_of_a_file_is_reported(rt: HostRuntime) -> Result<(), Fail> {
     })?;
     let mut files: Files = Items::new(alloc);
     files.push((text(alloc, "a.log")?, Items::from(LOGS[3].0.to_vec(alloc)?)))?;
-    let mut host = MemoryHost::new(files, Items::new(alloc));
+    let mut host = MemoryHost::new(files, Items::new(alloc), Items::new(alloc));
     let mut counter = Counter::new(alloc, &groups, windows)?;
     count_file(&mut host, "a.log", &mut counter)?;
     counter.finish();
