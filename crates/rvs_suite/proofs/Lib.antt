@@ -25,3 +25,6 @@ mod NormalizeEnds
 mod LogReads
 mod CoverageEnds
 mod Lines
+mod BaseCores
+mod Listings
+mod GenerateEnds

@@ -13,6 +13,7 @@ use Rattle.rvs_suite.specs.Call.{Call, call, world_of}
 use Rattle.rvs_suite.specs.Comparing as comparing
 use Rattle.rvs_suite.specs.Validating as validating
 use Rattle.rvs_suite.specs.Covering as covering
+use Rattle.rvs_suite.specs.Generating as generating
 use Rattle.rvs_suite.specs.Normalizing as normalizing
 use Rattle.rvs_suite.specs.Referencing as referencing
 use Rattle.rvs_suite.specs.Planned as planned
@@ -24,6 +25,7 @@ use Rattle.rvs_suite.proofs.Lines.{says-usage, says-no_memory, says-refused, say
 use Rattle.rvs_suite.proofs.Untouched.{untouched, untouched-absent}
 use Rattle.rvs_suite.proofs.Keeping.{compare-keeps, validate-keeps}
 use Rattle.rvs_suite.proofs.Sparing.{reference-spares}
+use Rattle.rvs_suite.proofs.GenerateEnds.{makes}
 use Rattle.rvs_suite.proofs.NormalizeEnds.{normalizes}
 use Rattle.rvs_suite.proofs.CoverageEnds.{covers}
 
@@ -103,6 +105,9 @@ reference-promise r files isa test signature log steps t is =
 
 pub normalize-promise : {call : Call} → RanCall call → normalizing.Promise call
 normalize-promise r files isa names t is = normalizes files isa names (record { ran = r.ran; told = t; asks = is })
+
+pub generate-promise : {call : Call} → RanCall call → generating.Promise call
+generate-promise r files isa names work t is = makes files isa names work (record { ran = r.ran; told = t; asks = is })
 
 pub coverage-promise : {call : Call} → RanCall call → covering.Promise call
 coverage-promise r files isa names log windows t is = covers files isa names log windows (record { ran = r.ran; told = t; asks = is })

@@ -1,11 +1,11 @@
 -- That a command which stops for its words, its inputs or their absence has changed nothing.
-use Rattle.std.proofs.Common.{◌≡◌, ◌⊎◌, inl, inr, ℕ, List, [], ◌∷◌, Option, Some, None, Result, Ok, Err, refl, subst, ◌∙◌}
+use Rattle.std.proofs.Common.{◌≡◌, ◌⊎◌, inl, inr, ℕ, Bool, true, false, if◌then◌else◌, List, [], ◌∷◌, Option, Some, None, Result, Ok, Err, refl, subst, ◌∙◌}
 use Rattle.std.specs.Prelude.{⊤}
 use Rattle.rvs_base.specs.Host.{Files, Tells}
 use Rattle.rvs_base.specs.Sink.{SinkState}
 use Rattle.rvs_plan.specs.World.{World, Contents, contents}
 use Rattle.rvs_plan.specs.Effect.{Effect, Read, Device, Did, after}
-use Rattle.rvs_plan.specs.Plan.{Plan, Ends, Does, Asks, Runs, Goes, followed, ◌>>=◌}
+use Rattle.rvs_plan.specs.Plan.{Plan, Ends, Does, Asks, Runs, Goes, followed, gives, ◌>>=◌}
 use Rattle.rvs_plan.specs.Inputs.{input}
 use Rattle.rvs_plan.specs.Meets.{Completes, Halts}
 use Rattle.rvs_plan.specs.Account.{Accounts, status_of, HostRose}
@@ -18,7 +18,11 @@ use Rattle.rvs_insn.specs.Isa.{Isa}
 use Rattle.rvs_suite.specs.Compare as comparing
 use Rattle.rvs_suite.specs.Validate.{print_said}
 use Rattle.rvs_suite.specs.Specification.{specification}
-use Rattle.rvs_suite.specs.GroupFiles.{group_inputs}
+use Rattle.rvs_cgf.specs.Groups.{Label}
+use Rattle.rvs_test.specs.Made.{text_of_label}
+use Rattle.rvs_suite.specs.GroupFiles.{Inputs, group_inputs}
+use Rattle.rvs_suite.specs.GenerateTexts.{listing}
+use Rattle.rvs_suite.specs.Generate.{path_of, writes_text, writes_test, writes_tests, written_tests, generates}
 use Rattle.rvs_suite.specs.Normalize.{print_normal}
 use Rattle.rvs_suite.specs.Coverage.{reported, print_report}
 use Rattle.rvs_suite.specs.Reference.{test_limit, trial, records, reference_on}
@@ -30,7 +34,7 @@ use Rattle.rvs_suite.proofs.GroupInputs.{reads-specification, reads-inputs}
 use Rattle.rvs_suite.proofs.LogReads.{reads-reported}
 use Rattle.rvs_suite.proofs.Running.{Ran, answers}
 use Rattle.rvs_suite.specs.declared.command.Command.{Command}
-use Rattle.rvs_suite.specs.declared.command.Command.TheVariants.{Unknown, Compare, Validate, Normalize, Reference, Coverage}
+use Rattle.rvs_suite.specs.declared.command.Command.TheVariants.{Unknown, Compare, Validate, Normalize, Generate, Reference, Coverage}
 use Rattle.rvs_suite.specs.declared.test_run.Run.{Run}
 
 -- a plan of deeds that doesn't stop
@@ -61,18 +65,18 @@ untouched-end A stop [] stop' c goes = refl
 untouched-end A stop (effect ∷ effects) stop' c goes = absurd goes
 
 untouched-followed : {A B : Type 0} (end : Result A Stop) (next : A → Plan B) → ((a : A) → StopsUntouched (next a)) → StopsUntouched (followed end next)
-untouched-followed (Ok a) next then = then a
-untouched-followed {B = B} (Err stop) next then = untouched-end B stop
+untouched-followed (Ok a) next after_it = after_it a
+untouched-followed {B = B} (Err stop) next after_it = untouched-end B stop
 
 -- what is read first, and what follows from it
 untouched-then : {A B : Type 0} (plan : Plan A) (next : A → Plan B) → OnlyReads plan → ((a : A) → StopsUntouched (next a)) → (effects : List Effect) (stop : Stop) (c : Contents) → Goes (plan >>= next) effects (Ends (Err stop)) → after effects c ≡ c
-untouched-then (Ends end) next reads then effects stop c goes = untouched-followed end next then effects stop c goes
-untouched-then (Does deed plan) next reads then effects stop c goes = absurd reads
-untouched-then (Runs words test signature rest) next reads then effects stop c goes = absurd reads
-untouched-then (Asks name rest) next reads then [] stop c goes = absurd cc
-untouched-then (Asks name rest) next reads then (Read n found ∷ effects) stop c goes = untouched-then (rest found) next (reads found) then effects stop c goes.1
-untouched-then (Asks name rest) next reads then (Device words test signature answer ∷ effects) stop c goes = absurd goes
-untouched-then (Asks name rest) next reads then (Did deed ∷ effects) stop c goes = absurd goes
+untouched-then (Ends end) next reads after_it effects stop c goes = untouched-followed end next after_it effects stop c goes
+untouched-then (Does deed plan) next reads after_it effects stop c goes = absurd reads
+untouched-then (Runs words test signature rest) next reads after_it effects stop c goes = absurd reads
+untouched-then (Asks name rest) next reads after_it [] stop c goes = absurd cc
+untouched-then (Asks name rest) next reads after_it (Read n found ∷ effects) stop c goes = untouched-then (rest found) next (reads found) after_it effects stop c goes.1
+untouched-then (Asks name rest) next reads after_it (Device words test signature answer ∷ effects) stop c goes = absurd goes
+untouched-then (Asks name rest) next reads after_it (Did deed ∷ effects) stop c goes = absurd goes
 
 reads-signature : (name : List ℕ) → OnlyReads (comparing.signature name)
 reads-signature name = OnlyReads-then (input comparing.signature_limit name) (comparing.words name) (λ found. tt) (λ bytes. tt)
@@ -83,6 +87,25 @@ reads-trial steps isa test = OnlyReads-then (input test_limit test) (λ bytes. a
 records-on : (signature : List ℕ) (log : Option (List ℕ)) (run : Run) → NeverStops (records signature log run)
 records-on signature None run = tt
 records-on signature (Some log) run = tt
+
+never-then : {A B : Type 0} (plan : Plan A) (next : A → Plan B) → NeverStops plan → ((a : A) → NeverStops (next a)) → NeverStops (plan >>= next)
+never-then (Ends (Ok a)) next never after_it = after_it a
+never-then (Ends (Err stop)) next never after_it = absurd never
+never-then (Does deed plan) next never after_it = never-then plan next never after_it
+never-then (Asks name rest) next never after_it = absurd never
+never-then (Runs words test signature rest) next never after_it = absurd never
+
+chosen-on : (b : Bool) (path : List ℕ) (text : Option (List ℕ)) → NeverStops (if b then writes_text path text else gives tt)
+chosen-on true path None = tt
+chosen-on true path (Some text) = tt
+chosen-on false path text = tt
+
+tests-on : (work : List ℕ) (isa : Isa) (ls : List Label) → NeverStops (writes_tests work isa ls)
+tests-on work isa [] = tt
+tests-on work isa (l ∷ ls) = never-then (writes_test work isa l) (λ _. writes_tests work isa ls) (chosen-on l.selected (path_of work l.name) (text_of_label isa l)) (λ _. tests-on work isa ls)
+
+generates-on : (work : List ℕ) (inputs : Inputs) → NeverStops (generates work inputs)
+generates-on work inputs = never-then (written_tests work inputs.isa inputs.groups) print_report (never-then (writes_tests work inputs.isa inputs.groups) (λ _. gives (listing inputs.isa inputs.groups)) (tests-on work inputs.isa inputs.groups) (λ _. tt)) (λ text. tt)
 
 -- no command stops once it has changed anything
 stops_untouched : (command : Command) (effects : List Effect) (stop : Stop) (c : Contents) → Goes (plan_of command) effects (Ends (Err stop)) → after effects c ≡ c
@@ -97,6 +120,9 @@ stops_untouched (Validate isa) =
 stops_untouched (Normalize isa names) =
     untouched-then (group_inputs isa names) print_normal (reads-inputs isa names) (λ inputs effects stop c goes.
     absurd (goes-on (print_normal inputs) effects stop tt goes))
+stops_untouched (Generate isa names work) =
+    untouched-then (group_inputs isa names) (generates work) (reads-inputs isa names) (λ inputs effects stop c goes.
+    absurd (goes-on (generates work inputs) effects stop (generates-on work inputs) goes))
 stops_untouched (Coverage isa names log windows) =
     untouched-then (reported isa names log windows) print_report (reads-reported isa names log windows) (λ report effects stop c goes.
     absurd (goes-on (print_report report) effects stop tt goes))

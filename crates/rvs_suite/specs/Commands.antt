@@ -4,7 +4,7 @@ use Rattle.rvs_suite.specs.Words.{is_positional, pairs_of, values_of, are_known,
 use Rattle.rvs_suite.specs.Windows.{windows_of}
 use Rattle.rvs_suite.specs.declared.words.Pair.{Pair}
 use Rattle.rvs_suite.specs.declared.command.Command.{Command}
-use Rattle.rvs_suite.specs.declared.command.Command.TheVariants.{Unknown, Compare, Validate, Normalize, Reference, Coverage}
+use Rattle.rvs_suite.specs.declared.command.Command.TheVariants.{Unknown, Compare, Validate, Normalize, Generate, Reference, Coverage}
 
 -- two names of files
 abbrev pub compare_command : List (List ℕ) → Command
@@ -82,6 +82,22 @@ normalize_of pairs =
 abbrev pub normalize_command : List (List ℕ) → Command
 normalize_command words = given (pairs_of words) (λ pairs. if are_known normalize_options pairs then normalize_of pairs else Unknown)
 
+abbrev pub generate_options : List (List ℕ)
+generate_options = codes "--isa" ∷ codes "--cgf" ∷ codes "--work" ∷ []
+
+-- the folder of the tests
+abbrev pub generate_work : List ℕ → List (List ℕ) → List Pair → Command
+generate_work isa groups pairs = given (only (values_of (codes "--work") pairs)) (λ work. Generate isa groups work)
+
+-- the names of the ISA file, of the group files and of the folder
+abbrev pub generate_of : List Pair → Command
+generate_of pairs =
+    given (only (values_of (codes "--isa") pairs)) (λ isa.
+    given (some_of most_groups (values_of (codes "--cgf") pairs)) (λ groups. generate_work isa groups pairs))
+
+abbrev pub generate_command : List (List ℕ) → Command
+generate_command words = given (pairs_of words) (λ pairs. if are_known generate_options pairs then generate_of pairs else Unknown)
+
 abbrev pub coverage_options : List (List ℕ)
 coverage_options = codes "--isa" ∷ codes "--cgf" ∷ codes "--log" ∷ codes "--window" ∷ []
 
@@ -106,9 +122,10 @@ named_command name words =
     if bytes_eq name (codes "compare") then compare_command words
     else (if bytes_eq name (codes "validate") then validate_command words
     else (if bytes_eq name (codes "normalize") then normalize_command words
+    else (if bytes_eq name (codes "generate") then generate_command words
     else (if bytes_eq name (codes "reference") then reference_command words
     else (if bytes_eq name (codes "coverage") then coverage_command words
-    else Unknown))))
+    else Unknown)))))
 
 -- the command of the words, the first of which is the program's own name
 abbrev pub command_of : List (List ℕ) → Command

@@ -27,3 +27,7 @@ pub mod Normalizing
 pub mod Windows
 pub mod Coverage
 pub mod Covering
+pub mod GenerateTexts
+pub mod GenerateView
+pub mod Generate
+pub mod Generating

@@ -10,10 +10,11 @@ use Rattle.rvs_suite.specs.Commands.{command_of}
 use Rattle.rvs_suite.specs.Compare as comparing
 use Rattle.rvs_suite.specs.Validate as validating
 use Rattle.rvs_suite.specs.Coverage as covering
+use Rattle.rvs_suite.specs.Generate as generating
 use Rattle.rvs_suite.specs.Normalize as normalizing
 use Rattle.rvs_suite.specs.Reference as running
 use Rattle.rvs_suite.specs.declared.command.Command.{Command}
-use Rattle.rvs_suite.specs.declared.command.Command.TheVariants.{Unknown, Compare, Validate, Normalize, Reference, Coverage}
+use Rattle.rvs_suite.specs.declared.command.Command.TheVariants.{Unknown, Compare, Validate, Normalize, Generate, Reference, Coverage}
 
 -- the plan of a command
 abbrev pub plan_of : Command → Plan Finish
@@ -21,6 +22,7 @@ plan_of Unknown = ends why.Usage
 plan_of (Compare left right) = comparing.compare left right
 plan_of (Validate isa) = validating.validate isa
 plan_of (Normalize isa groups) = normalizing.normalize isa groups
+plan_of (Generate isa groups work) = generating.generate isa groups work
 plan_of (Reference isa test signature log steps) = running.reference isa test signature log steps
 plan_of (Coverage isa groups log windows) = covering.coverage isa groups log windows
 

@@ -3,7 +3,7 @@ ghost use Rattle.std.specs.Prelude.{◌≡◌, IfOk, codes};
 ghost use Rattle.rvs_suite.specs.Words.{texts, values_of, are_known};
 ghost use Rattle.rvs_suite.specs.Commands.{compare_command, validate_command, number_of, within_steps, steps_of, reference_options, reference_run, reference_of, reference_command, named_command, command_of};
 
-use crate::group_commands::{read_coverage, read_normalize};
+use crate::group_commands::{read_coverage, read_generate, read_normalize};
 use crate::words::{
     Pair, are_known, is_positional, only_value, optional_value, owned, read_pairs, values,
 };
@@ -30,6 +30,14 @@ pub enum Command {
         isa: Text,
         /// The group files, one to 64, in the order in which they are joined.
         groups: Items<Text>,
+    },
+    /// Write a test for each label of coverage groups.
+    Generate {
+        isa: Text,
+        /// The group files, one to 64, in the order in which they are joined.
+        groups: Items<Text>,
+        /// The folder of the tests, which has to be there.
+        work: Text,
     },
     /// Run a test on the reference machine, and write its signature.
     Reference {
@@ -73,6 +81,7 @@ fn read_named(alloc: Global, name: &str, words: &[String]) -> Result<Command, No
         "compare" => read_compare(alloc, words),
         "validate" => read_validate(alloc, words),
         "normalize" => read_normalize(alloc, words),
+        "generate" => read_generate(alloc, words),
         "reference" => read_reference(alloc, words),
         "coverage" => read_coverage(alloc, words),
         _ => Ok(Command::Unknown),

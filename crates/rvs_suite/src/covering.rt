@@ -46,7 +46,12 @@ pub fn cover_log<H: Host, O: Sink>(
     print_report(&report, out)
 }
 
-fn print_report<O: Sink>(report: &Text, out: &mut O) -> Result<Finish, Stop>
+/// Puts a report.
+///
+/// # Errors
+///
+/// [`Stop`].
+pub fn print_report<O: Sink>(report: &Text, out: &mut O) -> Result<Finish, Stop>
     ensures { (host : HostState) → Meets (print_report report.now)
         (world host (O.state out.old)) (world host (O.state out.new)) result }
 {

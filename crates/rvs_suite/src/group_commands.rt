@@ -1,7 +1,7 @@
 // The command lines that name coverage group files.
 ghost use Rattle.std.specs.Prelude.{◌≡◌, IfOk, codes};
 ghost use Rattle.rvs_suite.specs.Words.{texts, values_of, are_known};
-ghost use Rattle.rvs_suite.specs.Commands.{some_of, most_groups, normalize_options, normalize_of, normalize_command, coverage_options, coverage_log, coverage_of, coverage_command};
+ghost use Rattle.rvs_suite.specs.Commands.{some_of, most_groups, normalize_options, normalize_of, normalize_command, generate_options, generate_work, generate_of, generate_command, coverage_options, coverage_log, coverage_of, coverage_command};
 
 use crate::command::Command;
 use crate::windows::read_windows;
@@ -57,6 +57,54 @@ fn group_files(alloc: Global, pairs: &[Pair]) -> Result<Option<Items<Text>>, NoM
     } else {
         Ok(None)
     }
+}
+
+/// Reads the words behind `generate`.
+///
+/// # Errors
+///
+/// [`NoMemory`].
+pub fn read_generate(alloc: Global, words: &[String]) -> Result<Command, NoMemory>
+    ensures { IfOk result (λ command. command ≡ generate_command (texts words.now)) }
+{
+    match read_pairs(alloc, words)? {
+        Some(pairs) if are_of_generate(pairs.as_slice()) => {
+            read_generated(alloc, pairs.as_slice())
+        },
+        _ => Ok(Command::Unknown),
+    }
+}
+
+fn are_of_generate(pairs: &[Pair]) -> bool
+    ensures { result ≡ are_known generate_options pairs.now }
+{
+    are_known(pairs, &["--isa", "--cgf", "--work"])
+}
+
+fn read_generated(alloc: Global, pairs: &[Pair]) -> Result<Command, NoMemory>
+    ensures { IfOk result (λ command. command ≡ generate_of pairs.now) }
+{
+    let Some(isa) = only_value(alloc, pairs, "--isa")? else {
+        return Ok(Command::Unknown);
+    };
+    let Some(groups) = group_files(alloc, pairs)? else {
+        return Ok(Command::Unknown);
+    };
+    read_work(alloc, isa, groups, pairs)
+}
+
+fn read_work(
+    alloc: Global,
+    isa: Text,
+    groups: Items<Text>,
+    pairs: &[Pair],
+) -> Result<Command, NoMemory>
+    ensures { IfOk result (λ command. command ≡ generate_work isa groups pairs.now) }
+{
+    let Some(work) = only_value(alloc, pairs, "--work")? else {
+        return Ok(Command::Unknown);
+    };
+    Ok(Command::Generate { isa, groups, work })
 }
 
 /// Reads the words behind `coverage`.

@@ -1,11 +1,12 @@
 // Reading coverage group files.
-ghost use Rattle.std.specs.Prelude.{◌≡◌, ◌≢◌, Option, IfOk};
+ghost use Rattle.std.specs.Prelude.{◌≡◌, ◌≢◌, All, Option, IfOk};
 ghost use Rattle.rvs_base.specs.Sink.{SinkState};
 ghost use Rattle.rvs_plan.specs.World.{World, world};
 ghost use Rattle.rvs_plan.specs.Plan.{Ends};
 ghost use Rattle.rvs_plan.specs.Meets.{Meets};
 ghost use Rattle.rvs_tree.specs.TreeView.{view};
-ghost use Rattle.rvs_cgf.specs.GroupView.{refusal_view};
+ghost use Rattle.rvs_cgf.specs.GroupView.{label_view, refusal_view};
+ghost use Rattle.rvs_cgf.specs.Valid.{IsValidIfSelected};
 ghost use Rattle.rvs_cgf.specs.Groups.{groups_of};
 ghost use Rattle.rvs_suite.specs.Seen.{seen};
 ghost use Rattle.rvs_suite.specs.GroupsView.{groups_view, inputs_view};
@@ -45,8 +46,9 @@ pub fn read_inputs<H: Host>(
     isa: &str,
     names: &[Text],
 ) -> Result<Inputs, Stop>
-    ensures { (out : SinkState) → Meets (group_inputs isa.now names.now) (world (H.state host.old) out)
-        (world (H.state host.new) out) (seen inputs_view result) }
+    ensures met { (out : SinkState) → Meets (group_inputs isa.now names.now)
+        (world (H.state host.old) out) (world (H.state host.new) out) (seen inputs_view result) }
+    ensures valid { IfOk result (λ i. All (λ l. IsValidIfSelected i.isa (label_view l)) i.groups) }
 {
     let said = read_isa(alloc, host, isa)?;
     let isa = said.spec;
@@ -67,8 +69,9 @@ fn read_group_files<H: Host>(
     isa: &IsaSpec,
     names: &[Text],
 ) -> Result<Groups, Stop>
-    ensures { (out : SinkState) → Meets (group_files isa.now names.now) (world (H.state host.old) out)
-        (world (H.state host.new) out) (seen groups_view result) }
+    ensures met { (out : SinkState) → Meets (group_files isa.now names.now)
+        (world (H.state host.old) out) (world (H.state host.new) out) (seen groups_view result) }
+    ensures valid { IfOk result (All (λ l. IsValidIfSelected isa.now (label_view l))) }
 {
     let text = read_joined(alloc, host, names)?;
     check_text(alloc, isa, text.as_slice())
@@ -144,7 +147,9 @@ fn within_limit(alloc: Global, text: Bytes) -> Result<Bytes, Stop>
 }
 
 fn check_text(alloc: Global, isa: &IsaSpec, text: &[u8]) -> Result<Groups, Stop>
-    ensures { (w : World) → Meets (Ends (groups_found isa.now text.now)) w w (seen groups_view result) }
+    ensures met { (w : World) → Meets (Ends (groups_found isa.now text.now)) w w
+        (seen groups_view result) }
+    ensures valid { IfOk result (All (λ l. IsValidIfSelected isa.now (label_view l))) }
 {
     match parse(alloc, text) {
         Ok(tree) => check_tree(alloc, isa, &tree),
@@ -153,8 +158,9 @@ fn check_text(alloc: Global, isa: &IsaSpec, text: &[u8]) -> Result<Groups, Stop>
 }
 
 fn check_tree(alloc: Global, isa: &IsaSpec, tree: &Tree) -> Result<Groups, Stop>
-    ensures { (w : World) → Meets (Ends (checked_groups (groups_of isa.now (view tree.now)))) w w
-        (seen groups_view result) }
+    ensures met { (w : World) → Meets (Ends (checked_groups (groups_of isa.now (view tree.now))))
+        w w (seen groups_view result) }
+    ensures valid { IfOk result (All (λ l. IsValidIfSelected isa.now (label_view l))) }
 {
     match read_groups(alloc, tree, isa) {
         Ok(groups) => Ok(groups),

@@ -6,11 +6,15 @@ mod comparing;
 #[cfg(test)]
 mod coverage_tests;
 mod covering;
+#[cfg(test)]
+mod generate_tests;
+mod generating;
 mod group_commands;
 mod group_files;
 #[cfg(test)]
 mod group_tests;
 mod isa_file;
+mod listing;
 mod normalizing;
 mod reference;
 #[cfg(test)]

@@ -13,16 +13,16 @@ use Rattle.rvs_suite.specs.GroupsView.{groups_view}
 use Rattle.rvs_suite.specs.GroupFiles.{tree_groups, groups_found}
 use Rattle.rvs_suite.proofs.group_files.check_text.Goals as goal
 
-pub returns-in_err-yaml_text-in-Err : goal.returns-in_err-yaml_text-in-Err
-returns-in_err-yaml_text-in-Err c = λ w.
+pub returns-in_err-yaml_text-in-Err-clause-met : goal.returns-in_err-yaml_text-in-Err-clause-met
+returns-in_err-yaml_text-in-Err-clause-met c = λ w.
     let p = err_from_is_err_and c.from_residual.result c.from_residual.ensures.1 in
     rw (p.1, p.2) (Meets-no_memory (Ends (groups_found c.args.isa.now c.args.text.now)) w)
 
-pub returns-in-Ok : goal.returns-in-Ok
-returns-in-Ok c = λ w. subst (λ (a : Answer). Meets (Ends (tree_groups c.args.isa.now a)) w w (seen groups_view c.check_tree.result)) (sym c.in-Ok.ensures.tree) (c.check_tree.ensures w)
+pub returns-in-Ok-clause-met : goal.returns-in-Ok-clause-met
+returns-in-Ok-clause-met c = λ w. subst (λ (a : Answer). Meets (Ends (tree_groups c.args.isa.now a)) w w (seen groups_view c.check_tree.result)) (sym c.in-Ok.ensures.tree) (c.check_tree.ensures.met w)
 
-pub returns-in_ok-yaml_text-in-Err : goal.returns-in_ok-yaml_text-in-Err
-returns-in_ok-yaml_text-in-Err c = λ w.
+pub returns-in_ok-yaml_text-in-Err-clause-met : goal.returns-in_ok-yaml_text-in-Err-clause-met
+returns-in_ok-yaml_text-in-Err-clause-met c = λ w.
     let text = c.in_ok-yaml_text-in-Err.field-0 in
     let refusal = c.in-Err.refusal in
     let is = refused-is refusal.kind refusal.line (answer c.args.text.now) c.in_ok-yaml_text-in-Err.ensures.fault c.in-Err.ensures.refused in

@@ -9,13 +9,13 @@ use Rattle.rvs_suite.specs.GroupsView.{groups_view}
 use Rattle.rvs_suite.specs.GroupFiles.{groups_found}
 use Rattle.rvs_suite.proofs.group_files.read_group_files.Goals as goal
 
-pub returns-in_err-text : goal.returns-in_err-text
-returns-in_err-text g c = λ out.
+pub returns-in_err-text-clause-met : goal.returns-in_err-text-clause-met
+returns-in_err-text-clause-met g c = λ out.
     let p = err_from_is_err_and c.from_residual.result c.from_residual.ensures.1 in
     rw (p.1, p.2) (Meets-stop (λ text. Ends (groups_found c.args.isa.now text)) (c.in_err-text.ensures out))
 
-pub returns : goal.returns
-returns g c = λ out.
+pub returns-clause-met : goal.returns-clause-met
+returns-clause-met g c = λ out.
     let w = world (g.H.Host.state c.read_joined.new.host) out in
-    let last = subst (λ (text : List ℕ). Meets (Ends (groups_found c.args.isa.now text)) w w (seen groups_view c.check_text.result)) c.as_slice.ensures (c.check_text.ensures w) in
+    let last = subst (λ (text : List ℕ). Meets (Ends (groups_found c.args.isa.now text)) w w (seen groups_view c.check_text.result)) c.as_slice.ensures (c.check_text.ensures.met w) in
     Meets-then (λ text. Ends (groups_found c.args.isa.now text)) (c.in_ok-text.ensures out) last

@@ -5,6 +5,7 @@ use Rattle.rvs_suite.specs.Compare.{compare}
 use Rattle.rvs_suite.specs.Validate.{validate}
 use Rattle.rvs_count.specs.declared.window.Window.{Window}
 use Rattle.rvs_suite.specs.Coverage.{coverage}
+use Rattle.rvs_suite.specs.Generate.{generate}
 use Rattle.rvs_suite.specs.Normalize.{normalize}
 use Rattle.rvs_suite.specs.Reference.{reference}
 use Rattle.rvs_suite.proofs.Running.{Performs-meets, Performs-unknown}
@@ -39,6 +40,19 @@ returns-in-Normalize g c =
     let one = subst (λ (isa : List ℕ). Meets (normalize isa c.as_slice.result.now) old new c.normalize_files.result) i c.normalize_files.ensures in
     let met = subst (λ (names : List (List ℕ)). Meets (normalize c.in-Normalize.isa names) old new c.normalize_files.result) n one in
     rw c.in-Normalize.is (Performs-meets (λ is. cc) met)
+
+pub returns-in-Generate : goal.returns-in-Generate
+returns-in-Generate g c =
+    let i : c.as_str-in-Generate.result.now ≡ c.in-Generate.isa = c.as_str-in-Generate.ensures in
+    let n : c.as_slice-in-Generate.result.now ≡ c.in-Generate.groups = c.as_slice-in-Generate.ensures in
+    let w : c.as_str-in-Generate-2.result.now ≡ c.in-Generate.work = c.as_str-in-Generate-2.ensures in
+    let old = world (g.H.Host.state c.args.host.now) (g.O.Sink.state c.args.out.now) in
+    let new = world (g.H.Host.state c.generate_tests.new.host) (g.O.Sink.state c.generate_tests.new.out) in
+    let result = c.generate_tests.result in
+    let one = subst (λ (isa : List ℕ). Meets (generate isa c.as_slice-in-Generate.result.now c.as_str-in-Generate-2.result.now) old new result) i c.generate_tests.ensures in
+    let two = subst (λ (names : List (List ℕ)). Meets (generate c.in-Generate.isa names c.as_str-in-Generate-2.result.now) old new result) n one in
+    let met = subst (λ (work : List ℕ). Meets (generate c.in-Generate.isa c.in-Generate.groups work) old new result) w two in
+    rw c.in-Generate.is (Performs-meets (λ is. cc) met)
 
 pub returns-in-Reference : goal.returns-in-Reference
 returns-in-Reference g c =

@@ -1,0 +1,131 @@
+-- What every call of `generate` promises.
+use Rattle.std.proofs.Common.{◌≡◌, ℕ, Bool, true, false, if◌then◌else◌, List, [], ◌∷◌, map, All, Contains, Option, Some, None, Result, Ok, Err, IfOk, IsTrue, refl, sym, ap, subst, ◌∙◌}
+use Rattle.std.proofs.lemmas.List.Elements.{All-contains}
+use Rattle.rvs_base.specs.Host.{Files, Tells}
+use Rattle.rvs_base.specs.Sink.{appended}
+use Rattle.rvs_plan.specs.World.{Contents, contents}
+use Rattle.rvs_plan.specs.Plan.{Plan, gives, writes, ◌>>=◌}
+use Rattle.rvs_plan.specs.declared.stop.Stop.{Stop}
+use Rattle.rvs_plan.specs.declared.status.Finish.TheVariants.{Done}
+use Rattle.rvs_tree.specs.Data.{Data}
+use Rattle.rvs_insn.specs.Isa.{Isa}
+use Rattle.rvs_isa.specs.declared.checked.Checked.{Checked}
+use Rattle.rvs_yaml.specs.Answer.{Answer, answer}
+use Rattle.rvs_cgf.specs.Groups.{Label, Refusal, groups_of}
+use Rattle.rvs_cgf.specs.Valid.{IsValid, IsValidIfSelected}
+use Rattle.rvs_cgf.proofs.Validity.{groups_good}
+use Rattle.rvs_solver.specs.declared.solved.Solved.{Solved}
+use Rattle.rvs_test.specs.declared.made.Claim.{Claim}
+use Rattle.rvs_test.specs.Made.{claims_of, cases_of, named_at, text_for, text_of_label}
+use Rattle.rvs_test.specs.TestText.{step_limit, test_text}
+use Rattle.rvs_test.specs.Claimed.{TestRuns}
+use Rattle.rvs_test.proofs.Joined.{label_runs}
+use Rattle.rvs_suite.specs.Call.{Call, Asks}
+use Rattle.rvs_suite.specs.Specification.{said_in}
+use Rattle.rvs_suite.specs.Coverage.{print_report}
+use Rattle.rvs_suite.specs.GroupFiles.{Inputs, and_then, text_in, checked_groups, tree_groups, groups_found, inputs_of, inputs_in, group_inputs}
+use Rattle.rvs_suite.specs.GenerateTexts.{listing}
+use Rattle.rvs_suite.specs.Generate.{path_of, writes_text, writes_test, writes_tests, written_tests, generates, generate}
+use Rattle.rvs_suite.specs.Generating as generating
+use Rattle.rvs_suite.specs.declared.command.Command.TheVariants.{Generate}
+use Rattle.rvs_suite.proofs.BaseCores.{IsBase, base_said}
+use Rattle.rvs_suite.proofs.Answered.{Works, RunsOn, answered}
+use Rattle.rvs_suite.proofs.Finding.{Deeds, left, deeds-then, left-then}
+use Rattle.rvs_suite.proofs.GroupInputs.{reads-inputs, finds-inputs}
+
+-- ---- the tests are deeds, and what they leave
+abbrev chosen : Bool → List ℕ → Option (List ℕ) → Plan (Unit {0})
+chosen b path text = if b then writes_text path text else gives tt
+
+deeds-chosen : (b : Bool) (path : List ℕ) (text : Option (List ℕ)) → Deeds tt (chosen b path text)
+deeds-chosen true path None = refl
+deeds-chosen true path (Some text) = refl
+deeds-chosen false path text = refl
+
+deeds-test : (work : List ℕ) (isa : Isa) (l : Label) → Deeds tt (writes_test work isa l)
+deeds-test work isa l = deeds-chosen l.selected (path_of work l.name) (text_of_label isa l)
+
+deeds-tests : (work : List ℕ) (isa : Isa) (ls : List Label) → Deeds tt (writes_tests work isa ls)
+deeds-tests work isa [] = refl
+deeds-tests work isa (l ∷ ls) = deeds-then tt tt (writes_test work isa l) (λ _. writes_tests work isa ls) (deeds-test work isa l) (deeds-tests work isa ls)
+
+deeds-written : (work : List ℕ) (isa : Isa) (ls : List Label) → Deeds (listing isa ls) (written_tests work isa ls)
+deeds-written work isa ls = deeds-then tt (listing isa ls) (writes_tests work isa ls) (λ _. gives (listing isa ls)) (deeds-tests work isa ls) refl
+
+deeds-generates : (work : List ℕ) (inputs : Inputs) → Deeds Done (generates work inputs)
+deeds-generates work inputs = deeds-then (listing inputs.isa inputs.groups) Done (written_tests work inputs.isa inputs.groups) print_report (deeds-written work inputs.isa inputs.groups) refl
+
+abbrev with_files : Contents → Option Files → Contents
+with_files c files = record { files = files; runs = c.runs; out = c.out }
+
+left-chosen : (b : Bool) (path : List ℕ) (text : Option (List ℕ)) (c : Contents) → left (chosen b path text) c ≡ with_files c (if b then generating.with_text path text c.files else c.files)
+left-chosen true path None c = refl
+left-chosen true path (Some text) c = refl
+left-chosen false path text c = refl
+
+left-test : (work : List ℕ) (isa : Isa) (l : Label) (c : Contents) → left (writes_test work isa l) c ≡ with_files c (generating.with_test work isa l c.files)
+left-test work isa l c = left-chosen l.selected (path_of work l.name) (text_of_label isa l) c
+
+left-tests : (work : List ℕ) (isa : Isa) (ls : List Label) (c : Contents) → left (writes_tests work isa ls) c ≡ with_files c (generating.with_tests work isa ls c.files)
+left-tests work isa [] c = refl
+left-tests work isa (l ∷ ls) c =
+    left-then tt (writes_test work isa l) (λ _. writes_tests work isa ls) c (deeds-test work isa l)
+    ∙ ap (left (writes_tests work isa ls)) (left-test work isa l c)
+    ∙ left-tests work isa ls (with_files c (generating.with_test work isa l c.files))
+
+abbrev after : List ℕ → Inputs → Contents → Contents
+after work inputs c = record { files = generating.with_tests work inputs.isa inputs.groups c.files; runs = c.runs; out = appended c.out (listing inputs.isa inputs.groups) }
+
+left-generates : (work : List ℕ) (inputs : Inputs) (c : Contents) → left (generates work inputs) c ≡ after work inputs c
+left-generates work inputs c =
+    let isa = inputs.isa in
+    let ls = inputs.groups in
+    left-then (listing isa ls) (written_tests work isa ls) print_report c (deeds-written work isa ls)
+    ∙ ap (left (print_report (listing isa ls))) (left-then tt (writes_tests work isa ls) (λ _. gives (listing isa ls)) c (deeds-tests work isa ls) ∙ left-tests work isa ls c)
+
+-- ---- the labels that are read are valid, for a core that tests are made for
+record IsGood (inputs : Inputs) : Type 0 where
+  base : inputs.isa.e ≡ false
+  valid : All (IsValidIfSelected inputs.isa) inputs.groups
+
+good-checked : (isa : Isa) (tree : Data) (r : Result (List Label) Refusal) → isa.e ≡ false → groups_of isa tree ≡ r → IfOk (inputs_of isa (checked_groups r)) IsGood
+good-checked isa tree (Ok ls) base is = record { base = base; valid = groups_good isa tree ls is }
+good-checked isa tree (Err refusal) base is = tt
+
+good-tree : (isa : Isa) (a : Answer) → isa.e ≡ false → IfOk (inputs_of isa (tree_groups isa a)) IsGood
+good-tree isa (Ok tree) base = good-checked isa tree (groups_of isa tree) base refl
+good-tree isa (Err fault) base = tt
+
+good-text : (isa : Isa) (r : Result (List ℕ) Stop) → isa.e ≡ false → IfOk (and_then r (λ text. inputs_of isa (groups_found isa text))) IsGood
+good-text isa (Ok text) base = good-tree isa (answer text) base
+good-text isa (Err stop) base = tt
+
+good-said : (files : Files) (names : List (List ℕ)) (r : Result Checked Stop) → IfOk r IsBase → IfOk (and_then r (λ said. and_then (text_in files None names) (λ text. inputs_of said.spec (groups_found said.spec text)))) IsGood
+good-said files names (Ok said) base = good-text said.spec (text_in files None names) base
+good-said files names (Err stop) base = tt
+
+good-inputs : (files : Files) (isa : List ℕ) (names : List (List ℕ)) (inputs : Inputs) → inputs_in files isa names ≡ Ok inputs → IsGood inputs
+good-inputs files isa names inputs given = subst (λ (r : Result Inputs Stop). IfOk r IsGood) given (good-said files names (said_in files isa) (base_said files isa))
+
+-- the text of a label's test is that of its cases
+whole : (isa : Isa) (l : Label) (cs : List Solved) (text : List ℕ) → text_for isa l cs ≡ Some text → test_text l.name isa (map (λ (c : Claim). named_at l c.point) (claims_of isa l)) cs ≡ text
+whole isa l [] text is = absurd cc
+whole isa l (c ∷ cs) text is = cc
+
+runs-label : (isa : Isa) (l : Label) (text : List ℕ) → isa.e ≡ false → IsValid isa l → text_of_label isa l ≡ Some text → TestRuns isa l text (claims_of isa l) (step_limit (cases_of isa l))
+runs-label isa l text base valid is = subst (λ (t : List ℕ). TestRuns isa l t (claims_of isa l) (step_limit (cases_of isa l))) (whole isa l (cases_of isa l) text is) (label_runs isa l base valid)
+
+runs-good : (inputs : Inputs) (l : Label) (text : List ℕ) → IsGood inputs → Contains inputs.groups l → IsTrue l.selected → text_of_label inputs.isa l ≡ Some text → TestRuns inputs.isa l text (claims_of inputs.isa l) (step_limit (cases_of inputs.isa l))
+runs-good inputs l text good there selected is = runs-label inputs.isa l text good.base (All-contains (IsValidIfSelected inputs.isa) inputs.groups l good.valid there selected) is
+
+-- ---- the promise
+abbrev works : (files : Files) (isa : List ℕ) (names : List (List ℕ)) (work : List ℕ) → Works (Generate isa names work) files (inputs_in files isa names)
+works files isa names work = record { inputs = group_inputs isa names; deeds = generates work; plan = refl; finds = finds-inputs files isa names; does = deeds-generates work }
+
+pub makes : {call : Call} (files : Files) (isa : List ℕ) (names : List (List ℕ)) (work : List ℕ) → RunsOn call files (Generate isa names work) → generating.Generates call files isa names work
+makes {call} files isa names work r = record {
+  answered = answered (generating.HasGenerated call work) r (works files isa names work) (λ inputs is.
+      let all = is ∙ left-generates work inputs _ in
+      record { files = ap (λ (c : Contents). c.files) all; out = ap (λ (c : Contents). c.out) all });
+  runs = λ inputs l text given there selected is. runs-good inputs l text (good-inputs files isa names inputs given) there selected is;
+}

@@ -1,0 +1,49 @@
+-- What every call of `generate` promises.
+use Rattle.std.specs.Prelude.{◌≡◌, ℕ, IsTrue, if◌then◌else◌, List, [], ◌∷◌, Contains, Option, Some, None, Ok}
+use Rattle.rvs_base.specs.Host.{Files, Tells, written}
+use Rattle.rvs_base.specs.Sink.{appended}
+use Rattle.rvs_plan.specs.declared.status.Status.TheVariants.{Done}
+use Rattle.rvs_insn.specs.Isa.{Isa}
+use Rattle.rvs_cgf.specs.Groups.{Label}
+use Rattle.rvs_test.specs.Made.{claims_of, cases_of, text_of_label}
+use Rattle.rvs_test.specs.TestText.{step_limit}
+use Rattle.rvs_test.specs.Claimed.{TestRuns}
+use Rattle.rvs_suite.specs.Answered.{Answered}
+use Rattle.rvs_suite.specs.Call.{Call, Asks}
+use Rattle.rvs_suite.specs.GenerateTexts.{listing}
+use Rattle.rvs_suite.specs.Generate.{path_of}
+use Rattle.rvs_suite.specs.GroupFiles.{Inputs, inputs_in}
+use Rattle.rvs_suite.specs.declared.command.Command.TheVariants.{Generate}
+
+-- the files with a text more, where there is one
+abbrev pub with_text : List ℕ → Option (List ℕ) → Option Files → Option Files
+with_text path None files = files
+with_text path (Some text) files = written path text files
+
+-- the files with the test of a label
+abbrev pub with_test : List ℕ → Isa → Label → Option Files → Option Files
+with_test work isa l files = if l.selected then with_text (path_of work l.name) (text_of_label isa l) files else files
+
+-- the files with the tests of all labels, one after another
+abbrev pub with_tests : List ℕ → Isa → List Label → Option Files → Option Files
+with_tests work isa [] files = files
+with_tests work isa (l ∷ ls) files = with_tests work isa ls (with_test work isa l files)
+
+-- the tests are there, and the output says what they are
+pub record HasGenerated (call : Call) (work : List ℕ) (inputs : Inputs) : Type 0 where
+  pub files : call.new.host.files ≡ with_tests work inputs.isa inputs.groups call.old.host.files
+  pub out : call.new.out.bytes ≡ appended call.old.out.bytes (listing inputs.isa inputs.groups)
+
+-- a call of `generate` on these of these files, for this folder
+pub record Generates (call : Call) (files : Files) (isa : List ℕ) (names : List (List ℕ)) (work : List ℕ) : Type 0 where
+  -- it is done where the ISA file and the groups are accepted, and has written the tests and put their cases; it is refused, or the host fails, at the first file that isn't
+  pub answered : Answered call (inputs_in files isa names) (HasGenerated call work)
+  -- One image stands to the text of each test; its run halts within the header's steps, hits each point that is claimed, and leaves the outcome of each case and no other words. The claims are those of all points that a choice hits.
+  pub runs : (inputs : Inputs) (l : Label) (text : List ℕ) → inputs_in files isa names ≡ Ok inputs → Contains inputs.groups l → IsTrue l.selected
+      → text_of_label inputs.isa l ≡ Some text → TestRuns inputs.isa l text (claims_of inputs.isa l) (step_limit (cases_of inputs.isa l))
+
+-- the same of every call: over told files, where its words ask for `generate`
+abbrev pub Promise : Call → Type 0
+Promise call =
+    (files : Files) (isa : List ℕ) (names : List (List ℕ)) (work : List ℕ)
+    → Tells call.old.host files → Asks call (Generate isa names work) → Generates call files isa names work

@@ -1,0 +1,56 @@
+// A test that is written, run and counted.
+use crate::{Status, run_suite};
+use rvs_base::{Files, Items, MemoryHost, MemorySink, Text};
+use std::alloc::Global;
+use std::test::Fail;
+
+/// Words with one space between them, and the output.
+const CHAIN: [(&str, &str); 3] = [
+    (
+        "rvsuite generate --isa i.yaml --cgf add.cgf --work w",
+        "label add\ncase 0 mnemonics add\nsteps 112\ntotal 1 tests, 1 cases, 0 unsolved, 0 skipped\n",
+    ),
+    (
+        "rvsuite reference --isa i.yaml --test w/add.S --signature w/add.sig --log w/add.log",
+        "44 instructions, 2 words\n",
+    ),
+    (
+        "rvsuite coverage --isa i.yaml --cgf add.cgf --log w/add.log",
+        "instructions 44\nlabel add hit 1 of 1\n1 mnemonics add\ntotal hit 1 of 1\n",
+    ),
+];
+
+fn add(alloc: Global, files: &mut Files, name: &str, text: &str) -> Result<(), Fail> {
+    let name = Text::from(String::from_str(alloc, name)?);
+    files.push((name, Items::from(text.as_bytes().to_vec(alloc)?)))?;
+    Ok(())
+}
+
+fn words_of(alloc: Global, line: &str) -> Result<Vec<String>, Fail> {
+    let mut words = Vec::new(alloc);
+    for word in line.split(' ') {
+        words.push(String::from_str(alloc, word)?)?;
+    }
+    Ok(words)
+}
+
+#[test]
+fn a_test_is_written_run_and_counted(rt: HostRuntime) -> Result<(), Fail> {
+    let alloc = rt.alloc();
+    let mut files: Files = Items::new(alloc);
+    add(alloc, &mut files, "i.yaml", "hart_ids: [0]\nhart0:\n  ISA: RV32IM\n")?;
+    add(alloc, &mut files, "add.cgf", "add:\n  mnemonics:\n    add: 0\n")?;
+    let mut host = MemoryHost::new(files, Items::new(alloc), Items::new(alloc));
+    for (line, said) in CHAIN {
+        let words = words_of(alloc, line)?;
+        let mut out = MemorySink::new(Items::new(alloc));
+        let mut err = MemorySink::new(Items::new(alloc));
+        let status = run_suite(alloc, words.as_slice(), &mut host, &mut out, &mut err);
+        assert_eq!(rt; out.bytes(), said.as_bytes());
+        assert_eq!(rt; err.bytes(), &[]);
+        assert_eq!(rt; status, Status::Done);
+    }
+    let signature = host.file("w/add.sig").ok_or("no signature")?;
+    assert_eq!(rt; signature, b"00000002\n00000000\n");
+    Ok(())
+}

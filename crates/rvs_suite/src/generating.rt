@@ -1,0 +1,198 @@
+// The command `generate`.
+ghost use Rattle.std.specs.Prelude.{◌≡◌, ◌<◌, ◌++◌, All, IfOk, OnOk};
+ghost use Rattle.rvs_base.specs.Host.{HostState};
+ghost use Rattle.rvs_base.specs.Sink.{SinkState};
+ghost use Rattle.rvs_plan.specs.World.{world};
+ghost use Rattle.rvs_plan.specs.Meets.{Meets};
+ghost use Rattle.rvs_cgf.specs.GroupView.{label_view};
+ghost use Rattle.rvs_cgf.specs.Valid.{IsValid, IsValidIfSelected};
+ghost use Rattle.rvs_test.specs.Made.{text_of_label};
+ghost use Rattle.rvs_suite.specs.GenerateTexts as texts;
+ghost use Rattle.rvs_suite.specs.GenerateView.{IsMade, totals_view};
+ghost use Rattle.rvs_suite.specs.GroupsView.{groups_view, inputs_view};
+ghost use Rattle.rvs_suite.specs.Generate.{IsSaid, done, path_of, writes_text, writes_test, writes_tests, written_tests, generate};
+
+use crate::covering::print_report;
+use crate::group_files::{Inputs, read_inputs};
+use crate::listing::{Totals, push_made, push_total, push_unselected};
+use rvs_base::{Host, NoMemory, Sink, Text};
+use rvs_cgf::Label;
+use rvs_expr::Steps;
+use rvs_insn::IsaSpec;
+use rvs_plan::{Finish, Stop, write_output};
+use rvs_test::{Made, make_test};
+use std::alloc::Global;
+use std::marker::Brand;
+use std::sync::ledger::{Blank, Ledger};
+
+/// What is said of the labels so far.
+#[derive(Drop)]
+struct Said {
+    text: Text,
+    totals: Totals,
+}
+
+/// Reads coverage group files for the core of an ISA file, writes a test for each label that has a
+/// solved point, and puts the cases and the points that no choice hits.
+///
+/// # Errors
+///
+/// [`Stop`]; nothing is written before all files are accepted, and nothing is put before all tests
+/// are written.
+pub fn generate_tests<H: Host, O: Sink>(
+    alloc: Global,
+    isa: &str,
+    names: &[Text],
+    work: &str,
+    host: &mut H,
+    out: &mut O,
+) -> Result<Finish, Stop>
+    ensures { Meets (generate isa.now names.now work.now)
+        (world (H.state host.old) (O.state out.old))
+        (world (H.state host.new) (O.state out.new)) result }
+{
+    let inputs = read_inputs(alloc, host, isa, names)?;
+    let text = write_tests(alloc, host, work, &inputs)?;
+    print_report(&text, out)
+}
+
+/// Writes the tests of all labels, and says what they are.
+fn write_tests<H: Host>(
+    alloc: Global,
+    host: &mut H,
+    work: &str,
+    inputs: &Inputs,
+) -> Result<Text, Stop>
+    requires { All (λ l. IsValidIfSelected inputs.now.isa (label_view l)) inputs.now.groups }
+    ensures { (out : SinkState) → Meets
+        (written_tests work.now inputs.now.isa (groups_view inputs.now.groups))
+        (world (H.state host.old) out) (world (H.state host.new) out) result }
+{
+    let labels = inputs.groups.as_slice();
+    let said = write_labels(alloc, host, work, &inputs.isa, labels)?;
+    let mut text = said.text;
+    push_total(alloc, &mut text, &said.totals)?;
+    Ok(text)
+}
+
+fn write_labels<H: Host>(
+    alloc: Global,
+    host: &mut H,
+    work: &str,
+    isa: &IsaSpec,
+    labels: &[Label],
+) -> Result<Said, Stop>
+    requires { All (λ l. IsValidIfSelected isa.now (label_view l)) labels.now }
+    ensures met { (out : SinkState) → Meets
+        (writes_tests work.now isa.now (groups_view labels.now))
+        (world (H.state host.old) out) (world (H.state host.new) out) (done result) }
+    ensures said { IfOk result (λ s.
+        IsSaid isa.now (groups_view labels.now) s.text (totals_view s.totals)) }
+{
+    let mut said = Said {
+        text: Text::new(alloc),
+        totals: Totals::none(),
+    };
+    for label in labels {
+        write_test(alloc, host, work, isa, label, &mut said)?;
+    }
+    Ok(said)
+}
+
+/// Writes the test of a label, where a point of it is solved, and says what it is.
+fn write_test<H: Host>(
+    alloc: Global,
+    host: &mut H,
+    work: &str,
+    isa: &IsaSpec,
+    label: &Label,
+    said: &mut Said,
+) -> Result<(), Stop>
+    requires { IsValidIfSelected isa.now (label_view label.now) }
+    ensures met { (out : SinkState) → Meets (writes_test work.now isa.now (label_view label.now))
+        (world (H.state host.old) out) (world (H.state host.new) out) result }
+    ensures text { OnOk result (said.new.text
+        ≡ said.old.text ++ texts.label_text isa.now (label_view label.now)) }
+    ensures totals { OnOk result (totals_view said.new.totals
+        ≡ texts.with_label isa.now (totals_view said.old.totals) (label_view label.now)) }
+{
+    if label.selected {
+        return write_selected(alloc, host, work, isa, label, said);
+    }
+    push_unselected(alloc, &mut said.text, label)?;
+    Ok(())
+}
+
+fn write_selected<H: Host>(
+    alloc: Global,
+    host: &mut H,
+    work: &str,
+    isa: &IsaSpec,
+    label: &Label,
+    said: &mut Said,
+) -> Result<(), Stop>
+    requires { IsValid isa.now (label_view label.now) }
+    ensures met { (out : SinkState) → Meets
+        (writes_text (path_of work.now label.now.name) (text_of_label isa.now (label_view label.now)))
+        (world (H.state host.old) out) (world (H.state host.new) out) result }
+    ensures text { OnOk result (said.new.text ≡ said.old.text
+        ++ texts.selected_text isa.now (label_view label.now)) }
+    ensures totals { OnOk result (totals_view said.new.totals
+        ≡ texts.with_selected isa.now (totals_view said.old.totals) (label_view label.now)) }
+{
+    let made = made_of(alloc, label, isa)?;
+    push_made(alloc, &mut said.text, label, &made)?;
+    said.totals.add(label, &made);
+    write_text(alloc, host, work, label.name.as_str(), &made.text)
+}
+
+/// The test of a label.
+fn made_of(alloc: Global, label: &Label, isa: &IsaSpec) -> Result<Made, NoMemory>
+    requires { IsValid isa.now (label_view label.now) }
+    ensures { IfOk result (λ m. IsMade isa.now (label_view label.now) m) }
+{
+    make_counted::<Brand>(Blank::new(1), alloc, label, isa)
+}
+
+/// The same, with a counter of evaluations that no one reads.
+fn make_counted<L: Ledger>(
+    blank: Blank,
+    alloc: Global,
+    label: &Label,
+    isa: &IsaSpec,
+) -> Result<Made, NoMemory>
+    requires name { blank.name ≡ L.name }
+    requires parts { blank.parts ≡ L.parts }
+    requires some { 0 < blank.parts }
+    requires valid { IsValid isa.now (label_view label.now) }
+    ensures { IfOk result (λ m. IsMade isa.now (label_view label.now) m) }
+{
+    let mut steps: Steps<L> = Steps::new(blank);
+    make_test(alloc, label, isa, &mut steps)
+}
+
+fn write_text<H: Host>(
+    alloc: Global,
+    host: &mut H,
+    work: &str,
+    name: &str,
+    text: &Option<Text>,
+) -> Result<(), Stop>
+    ensures { (out : SinkState) → Meets (writes_text (path_of work.now name.now) text.now)
+        (world (H.state host.old) out) (world (H.state host.new) out) result }
+{
+    match text {
+        None => Ok(()),
+        Some(text) => {
+            let path = test_path(alloc, work, name)?;
+            write_output(host, path, text.as_str().as_bytes())
+        },
+    }
+}
+
+/// The file of a label's test.
+fn test_path(alloc: Global, work: &str, name: &str) -> Result<Text, NoMemory>
+    ensures { IfOk result (λ path. path ≡ path_of work.now name.now) }
+{
+    Ok(Text::from(format!(in alloc; "{work}/{name}.S")?))
+}
