@@ -1,6 +1,5 @@
 -- Lines of points, of entries that aren't read and of labels, one after another.
 use Rattle.std.proofs.Common.{◌≡◌, ℕ, zero, suc, ◌+◌, ◌<◌, List, [], ◌∷◌, ◌++◌, length, map, drop, get_or, flat_map, refl, sym, ap, ◌∙◌, arith, append_assoc, append-nil}
-
 use Rattle.rvs_cgf.specs.GroupView.{point_view, skipped_view}
 use Rattle.rvs_cgf.specs.declared.group.Point.{Point}
 use Rattle.rvs_cgf.specs.declared.group.Skipped.{Skipped}
@@ -38,4 +37,3 @@ skipped_more text ss i d h =
 
 pub skipped_all : (text : List ℕ) (ss : List Skipped) → text ++ flat_map skipped_line (map skipped_view (drop (length ss) ss)) ≡ text
 skipped_all text ss = ap (λ xs. text ++ flat_map skipped_line (map skipped_view xs)) (drop-all ss) ∙ append-nil text
-

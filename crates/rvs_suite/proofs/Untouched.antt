@@ -65,18 +65,18 @@ untouched-end A stop [] stop' c goes = refl
 untouched-end A stop (effect ∷ effects) stop' c goes = absurd goes
 
 untouched-followed : {A B : Type 0} (end : Result A Stop) (next : A → Plan B) → ((a : A) → StopsUntouched (next a)) → StopsUntouched (followed end next)
-untouched-followed (Ok a) next after_it = after_it a
-untouched-followed {B = B} (Err stop) next after_it = untouched-end B stop
+untouched-followed (Ok a) next each = each a
+untouched-followed {B = B} (Err stop) next each = untouched-end B stop
 
 -- what is read first, and what follows from it
 untouched-then : {A B : Type 0} (plan : Plan A) (next : A → Plan B) → OnlyReads plan → ((a : A) → StopsUntouched (next a)) → (effects : List Effect) (stop : Stop) (c : Contents) → Goes (plan >>= next) effects (Ends (Err stop)) → after effects c ≡ c
-untouched-then (Ends end) next reads after_it effects stop c goes = untouched-followed end next after_it effects stop c goes
-untouched-then (Does deed plan) next reads after_it effects stop c goes = absurd reads
-untouched-then (Runs words test signature rest) next reads after_it effects stop c goes = absurd reads
-untouched-then (Asks name rest) next reads after_it [] stop c goes = absurd cc
-untouched-then (Asks name rest) next reads after_it (Read n found ∷ effects) stop c goes = untouched-then (rest found) next (reads found) after_it effects stop c goes.1
-untouched-then (Asks name rest) next reads after_it (Device words test signature answer ∷ effects) stop c goes = absurd goes
-untouched-then (Asks name rest) next reads after_it (Did deed ∷ effects) stop c goes = absurd goes
+untouched-then (Ends end) next reads each effects stop c goes = untouched-followed end next each effects stop c goes
+untouched-then (Does deed plan) next reads each effects stop c goes = absurd reads
+untouched-then (Runs words test signature rest) next reads each effects stop c goes = absurd reads
+untouched-then (Asks name rest) next reads each [] stop c goes = absurd cc
+untouched-then (Asks name rest) next reads each (Read n found ∷ effects) stop c goes = untouched-then (rest found) next (reads found) each effects stop c goes.1
+untouched-then (Asks name rest) next reads each (Device words test signature answer ∷ effects) stop c goes = absurd goes
+untouched-then (Asks name rest) next reads each (Did deed ∷ effects) stop c goes = absurd goes
 
 reads-signature : (name : List ℕ) → OnlyReads (comparing.signature name)
 reads-signature name = OnlyReads-then (input comparing.signature_limit name) (comparing.words name) (λ found. tt) (λ bytes. tt)
@@ -89,11 +89,11 @@ records-on signature None run = tt
 records-on signature (Some log) run = tt
 
 never-then : {A B : Type 0} (plan : Plan A) (next : A → Plan B) → NeverStops plan → ((a : A) → NeverStops (next a)) → NeverStops (plan >>= next)
-never-then (Ends (Ok a)) next never after_it = after_it a
-never-then (Ends (Err stop)) next never after_it = absurd never
-never-then (Does deed plan) next never after_it = never-then plan next never after_it
-never-then (Asks name rest) next never after_it = absurd never
-never-then (Runs words test signature rest) next never after_it = absurd never
+never-then (Ends (Ok a)) next never each = each a
+never-then (Ends (Err stop)) next never each = absurd never
+never-then (Does deed plan) next never each = never-then plan next never each
+never-then (Asks name rest) next never each = absurd never
+never-then (Runs words test signature rest) next never each = absurd never
 
 chosen-on : (b : Bool) (path : List ℕ) (text : Option (List ℕ)) → NeverStops (if b then writes_text path text else gives tt)
 chosen-on true path None = tt

@@ -38,8 +38,18 @@ fn words_of(alloc: Global, line: &str) -> Result<Vec<String>, Fail> {
 fn a_test_is_written_run_and_counted(rt: HostRuntime) -> Result<(), Fail> {
     let alloc = rt.alloc();
     let mut files: Files = Items::new(alloc);
-    add(alloc, &mut files, "i.yaml", "hart_ids: [0]\nhart0:\n  ISA: RV32IM\n")?;
-    add(alloc, &mut files, "add.cgf", "add:\n  mnemonics:\n    add: 0\n")?;
+    add(
+        alloc,
+        &mut files,
+        "i.yaml",
+        "hart_ids: [0]\nhart0:\n  ISA: RV32IM\n",
+    )?;
+    add(
+        alloc,
+        &mut files,
+        "add.cgf",
+        "add:\n  mnemonics:\n    add: 0\n",
+    )?;
     let mut host = MemoryHost::new(files, Items::new(alloc), Items::new(alloc));
     for (line, said) in CHAIN {
         let words = words_of(alloc, line)?;

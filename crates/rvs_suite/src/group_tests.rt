@@ -5,150 +5,84 @@ use rvs_insn::IsaSpec;
 use std::alloc::Global;
 use std::test::Fail;
 
-/// What is printed of a file, and the file.
-const ROWS: [(&str, &str); 31] = [
-    ("", ""),
-    (
-        "add:\n  mnemonics:\n    'add': 0\n",
-        "add:\n  mnemonics:\n    add: 0\n",
-    ),
-    (
-        "cgf 4 add mnemonics mul",
-        "add:\n  mnemonics:\n    mul: 0\n",
-    ),
-    (
-        "# unselected l\n",
-        "l:\n  config: ['check ISA:=regex(.*C.*)']\n",
-    ),
-    (
-        "cgf 5 l rs1 x99",
-        "l: {mnemonics: {add: 0}, rs1: {x99: 0, x1: [a]}}\n",
-    ),
-    (
-        "cgf 2 l rs1 x99",
-        "l: {mnemonics: {add: 0}, rs1: {x99: [a]}}\n",
-    ),
-    ("cgf 2 l mnemonics mul", "l: {mnemonics: {mul: [a]}}"),
-    (
-        "cgf 2 l base_op -",
-        "l: {mnemonics: {add: 0}, base_op: add}\n",
-    ),
-    (
-        "l:\n  mnemonics:\n    'add': 0\n  # skipped base_op -\n",
-        "l: {mnemonics: {add: 0}, base_op: {}}\n",
-    ),
-    (
-        "l:\n  mnemonics:\n    'add': 0\n  # skipped csr_comb a(b)\n  # skipped csr_comb c\n",
-        "l: {mnemonics: {add: 0}, csr_comb: {a(b): 0, c: 0}}\n",
-    ),
-    (
-        "cgf 2 l op_comb abstract_comb",
-        "l: {mnemonics: {add: 0}, op_comb: {abstract_comb: 0}}\n",
-    ),
-    (
-        "cgf 2 l val_comb abstract_comb",
-        "l: {mnemonics: {add: 0}, val_comb: {abstract_comb: 5}}\n",
-    ),
-    (
-        "# unselected l\nm:\n  mnemonics:\n    'add': 0\n",
-        "l: {config: []}\nm:\n  config:\n  mnemonics: {add: 0}\n",
-    ),
-    ("cgf 9 l config -", "l: {config: 'check ISA'}\n"),
-    ("cgf 9 l config -", "l: {config: {a: 0}}\n"),
-    (
-        "cgf 9 l config -",
-        "l: {config: ['check ISA:=regex(.*)', 'def']}\n",
-    ),
-    (
-        "beq:\n  mnemonics:\n    'beq': 0\n  # skipped val_comb imm_val & 3 == 0\n",
-        "beq:\n  mnemonics: {beq: 0}\n  val_comb:\n    'imm_val & 3 == 0': 0\n",
-    ),
-    (
-        "cgf 6 add val_comb rs1_val == 2**101 expr 6 column 13",
-        "add: {mnemonics: {add: 0}, val_comb: {'rs1_val == 2**101': 0}}\n",
-    ),
-    (
-        "a:\n  mnemonics:\n    'addi': 0\n  val_comb:\n    'imm_val == 1': 0\n    'imm_val == 2': 0\n    'imm_val == -4': 0\n  # skipped abstract_comb sp_dataset(xlen)\n",
-        "a:\n  opcode: {addi: 0}\n  val_comb:\n    abstract_comb:\n      'walking_ones(\"imm_val\", 3)': 0\n      sp_dataset(xlen): 0\n",
-    ),
-    (
-        "cgf 7 l abstract_comb walk(\"imm_val\", 12) abstract 2",
-        "l: {mnemonics: {add: 0}, val_comb: {abstract_comb: {'walk(\"imm_val\", 12)': 0}}}\n",
-    ),
-    (
-        "l:\n  mnemonics:\n    'add': 0\n  val_comb:\n    'rs1_val == 1': 0\n    'rs1_val == 2': 0\n  rd:\n    'x0': 0\n",
-        "l: {mnemonics: {add: 0}, val_comb: {'rs1_val == 1': 0, abstract_comb: {'walking_ones(\"rs1_val\", 2, False)': 0}}, rd: {x0: 0}}\n",
-    ),
-    (
-        "l:\n  rs2:\n    'x1': 0\n  mnemonics:\n    'add': 0\n    'sub': 0\n",
-        "l:\n  rs2: {x1: 0}\n  mnemonics: {add: 0, sub: 0}\n",
-    ),
-    ("cgf 1 a b - -", "a b: {}\n"),
-    ("cgf 2 - - -", "- a\n"),
-    ("cgf 2 l - -", "l: a\n"),
-    ("cgf 2 l - -", "l: {}\n"),
-    (
-        "cgf 2 l - -",
-        "l: {mnemonics: {add: 0}, opcode: {add: 0}}\n",
-    ),
-    ("cgf 2 l mnemonics -", "l: {mnemonics: {}}\n"),
-    (
-        "cgf 3 l cross_comb -",
-        "l: {mnemonics: {add: 0}, cross_comb: {}}\n",
-    ),
-    (
-        "l:\n  mnemonics:\n    'add': 0\n",
-        "datasets: [a]\nl: {mnemonics: {add: 0}}\n",
-    ),
-    (
-        "cgf 6 l op_comb rs1_val == 1 expr 4 column 1",
-        "l: {mnemonics: {add: 0}, op_comb: {rs1 == rs2 != rd: 0, rs1_val == 1: 0}}\n",
-    ),
-];
+/// What is printed of a file, a mark, and the file; another mark between two rows.
+#[rattlefmt::skip]
+const ROWS: &str = "\
+\u{2}\u{1}\
+add:\n  mnemonics:\n    'add': 0\n\u{2}add:\n  mnemonics:\n    add: 0\n\u{1}\
+cgf 4 add mnemonics mul\u{2}add:\n  mnemonics:\n    mul: 0\n\u{1}\
+# unselected l\n\u{2}l:\n  config: ['check ISA:=regex(.*C.*)']\n\u{1}\
+cgf 5 l rs1 x99\u{2}l: {mnemonics: {add: 0}, rs1: {x99: 0, x1: [a]}}\n\u{1}\
+cgf 2 l rs1 x99\u{2}l: {mnemonics: {add: 0}, rs1: {x99: [a]}}\n\u{1}\
+cgf 2 l mnemonics mul\u{2}l: {mnemonics: {mul: [a]}}\u{1}\
+cgf 2 l base_op -\u{2}l: {mnemonics: {add: 0}, base_op: add}\n\u{1}\
+l:\n  mnemonics:\n    'add': 0\n  # skipped base_op -\n\u{2}l: {mnemonics: {add: 0}, base_op: {}}\n\u{1}\
+l:\n  mnemonics:\n    'add': 0\n  # skipped csr_comb a(b)\n  # skipped csr_comb c\n\u{2}l: {mnemonics: {add: 0}, csr_comb: {a(b): 0, c: 0}}\n\u{1}\
+cgf 2 l op_comb abstract_comb\u{2}l: {mnemonics: {add: 0}, op_comb: {abstract_comb: 0}}\n\u{1}\
+cgf 2 l val_comb abstract_comb\u{2}l: {mnemonics: {add: 0}, val_comb: {abstract_comb: 5}}\n\u{1}\
+# unselected l\nm:\n  mnemonics:\n    'add': 0\n\u{2}l: {config: []}\nm:\n  config:\n  mnemonics: {add: 0}\n\u{1}\
+cgf 9 l config -\u{2}l: {config: 'check ISA'}\n\u{1}\
+cgf 9 l config -\u{2}l: {config: {a: 0}}\n\u{1}\
+cgf 9 l config -\u{2}l: {config: ['check ISA:=regex(.*)', 'def']}\n\u{1}\
+beq:\n  mnemonics:\n    'beq': 0\n  # skipped val_comb imm_val & 3 == 0\n\u{2}beq:\n  mnemonics: {beq: 0}\n  val_comb:\n    'imm_val & 3 == 0': 0\n\u{1}\
+cgf 6 add val_comb rs1_val == 2**101 expr 6 column 13\u{2}add: {mnemonics: {add: 0}, val_comb: {'rs1_val == 2**101': 0}}\n\u{1}\
+a:\n  mnemonics:\n    'addi': 0\n  val_comb:\n    'imm_val == 1': 0\n    'imm_val == 2': 0\n    'imm_val == -4': 0\n  # skipped abstract_comb sp_dataset(xlen)\n\u{2}a:\n  opcode: {addi: 0}\n  val_comb:\n    abstract_comb:\n      'walking_ones(\"imm_val\", 3)': 0\n      sp_dataset(xlen): 0\n\u{1}\
+cgf 7 l abstract_comb walk(\"imm_val\", 12) abstract 2\u{2}l: {mnemonics: {add: 0}, val_comb: {abstract_comb: {'walk(\"imm_val\", 12)': 0}}}\n\u{1}\
+l:\n  mnemonics:\n    'add': 0\n  val_comb:\n    'rs1_val == 1': 0\n    'rs1_val == 2': 0\n  rd:\n    'x0': 0\n\u{2}l: {mnemonics: {add: 0}, val_comb: {'rs1_val == 1': 0, abstract_comb: {'walking_ones(\"rs1_val\", 2, False)': 0}}, rd: {x0: 0}}\n\u{1}\
+l:\n  rs2:\n    'x1': 0\n  mnemonics:\n    'add': 0\n    'sub': 0\n\u{2}l:\n  rs2: {x1: 0}\n  mnemonics: {add: 0, sub: 0}\n\u{1}\
+cgf 1 a b - -\u{2}a b: {}\n\u{1}\
+cgf 2 - - -\u{2}- a\n\u{1}\
+cgf 2 l - -\u{2}l: a\n\u{1}\
+cgf 2 l - -\u{2}l: {}\n\u{1}\
+cgf 2 l - -\u{2}l: {mnemonics: {add: 0}, opcode: {add: 0}}\n\u{1}\
+cgf 2 l mnemonics -\u{2}l: {mnemonics: {}}\n\u{1}\
+cgf 3 l cross_comb -\u{2}l: {mnemonics: {add: 0}, cross_comb: {}}\n\u{1}\
+l:\n  mnemonics:\n    'add': 0\n\u{2}datasets: [a]\nl: {mnemonics: {add: 0}}\n\u{1}\
+cgf 6 l op_comb rs1_val == 1 expr 4 column 1\u{2}l: {mnemonics: {add: 0}, op_comb: {rs1 == rs2 != rd: 0, rs1_val == 1: 0}}\n";
 
 /// A label as users write them, with merged registers and families, behind its registers.
-const STOCK: [&str; 40] = [
-    "add:",
-    "  config:",
-    "    - check ISA:=regex(.*I.*)",
-    "  opcode:",
-    "    add: 0",
-    "  rs1:",
-    "    <<: *regs",
-    "  rs2:",
-    "    <<: *regs",
-    "  rd:",
-    "    <<: *regs",
-    "  op_comb:",
-    "    'rs1 == rd != rs2': 0",
-    "    'rs2 == rd != rs1': 0",
-    "    'rs1 == rs2 == rd': 0",
-    "    'rs1 == rs2 != rd': 0",
-    "    'rs1 != rs2 and rs1 != rd and rs2 != rd': 0",
-    "  val_comb:",
-    "    'rs1_val == (-2**(xlen-1))': 0",
-    "    'rs1_val == 0': 0",
-    "    'rs1_val == (2**(xlen-1)-1)': 0",
-    "    'rs1_val == 1': 0",
-    "    'rs2_val == (-2**(xlen-1))': 0",
-    "    'rs2_val == 0': 0",
-    "    'rs2_val == (2**(xlen-1)-1)': 0",
-    "    'rs2_val == 1': 0",
-    "    'rs1_val < 0 and rs2_val < 0': 0",
-    "    'rs1_val < 0 and rs2_val > 0': 0",
-    "    'rs1_val > 0 and rs2_val < 0': 0",
-    "    'rs1_val > 0 and rs2_val > 0': 0",
-    "    'rs1_val == rs2_val': 0",
-    "    'rs1_val != rs2_val': 0",
-    "    abstract_comb:",
-    "      'sp_dataset(xlen)': 0",
-    "      'walking_ones(\"rs1_val\", xlen)': 0",
-    "      'walking_ones(\"rs2_val\", xlen)': 0",
-    "      'walking_zeros(\"rs1_val\", xlen)': 0",
-    "      'walking_zeros(\"rs2_val\", xlen)': 0",
-    "      'alternate(\"rs1_val\", xlen)': 0",
-    "      'alternate(\"rs2_val\", xlen)': 0",
-];
+#[rattlefmt::skip]
+const STOCK: &str = "\
+add:\n  \
+config:\n    \
+- check ISA:=regex(.*I.*)\n  \
+opcode:\n    \
+add: 0\n  \
+rs1:\n    \
+<<: *regs\n  \
+rs2:\n    \
+<<: *regs\n  \
+rd:\n    \
+<<: *regs\n  \
+op_comb:\n    \
+'rs1 == rd != rs2': 0\n    \
+'rs2 == rd != rs1': 0\n    \
+'rs1 == rs2 == rd': 0\n    \
+'rs1 == rs2 != rd': 0\n    \
+'rs1 != rs2 and rs1 != rd and rs2 != rd': 0\n  \
+val_comb:\n    \
+'rs1_val == (-2**(xlen-1))': 0\n    \
+'rs1_val == 0': 0\n    \
+'rs1_val == (2**(xlen-1)-1)': 0\n    \
+'rs1_val == 1': 0\n    \
+'rs2_val == (-2**(xlen-1))': 0\n    \
+'rs2_val == 0': 0\n    \
+'rs2_val == (2**(xlen-1)-1)': 0\n    \
+'rs2_val == 1': 0\n    \
+'rs1_val < 0 and rs2_val < 0': 0\n    \
+'rs1_val < 0 and rs2_val > 0': 0\n    \
+'rs1_val > 0 and rs2_val < 0': 0\n    \
+'rs1_val > 0 and rs2_val > 0': 0\n    \
+'rs1_val == rs2_val': 0\n    \
+'rs1_val != rs2_val': 0\n    \
+abstract_comb:\n      \
+'sp_dataset(xlen)': 0\n      \
+'walking_ones(\"rs1_val\", xlen)': 0\n      \
+'walking_ones(\"rs2_val\", xlen)': 0\n      \
+'walking_zeros(\"rs1_val\", xlen)': 0\n      \
+'walking_zeros(\"rs2_val\", xlen)': 0\n      \
+'alternate(\"rs1_val\", xlen)': 0\n      \
+'alternate(\"rs2_val\", xlen)': 0\n";
 
 const CORE: IsaSpec = IsaSpec {
     e: false,
@@ -173,7 +107,8 @@ fn printed(alloc: Global, file: &str) -> Result<Text, NoMemory> {
 #[test]
 fn reads(rt: HostRuntime) -> Result<(), Fail> {
     let alloc = rt.alloc();
-    for (expected, file) in ROWS {
+    for row in ROWS.split('\u{1}') {
+        let (expected, file) = row.split_once('\u{2}').ok_or("no row")?;
         let found = printed(alloc, file).map_err(|_| "no memory")?;
         assert_eq!(rt; found.as_str(), expected, "{file}");
     }
@@ -191,9 +126,7 @@ fn stock_file(alloc: Global) -> Result<String, Fail> {
     for register in 0..32 {
         write!(file, "  x{register}: 0\n")?;
     }
-    for line in STOCK {
-        write!(file, "{line}\n")?;
-    }
+    file.push_str(STOCK)?;
     Ok(file)
 }
 

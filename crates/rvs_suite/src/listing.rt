@@ -153,22 +153,12 @@ pub fn push_unselected(alloc: Global, text: &mut Text, label: &Label) -> Result<
 /// # Errors
 ///
 /// [`NoMemory`].
-pub fn push_made(
-    alloc: Global,
-    text: &mut Text,
-    label: &Label,
-    made: &Made,
-) -> Result<(), NoMemory>
+pub fn push_made(alloc: Global, text: &mut Text, label: &Label, made: &Made) -> Result<(), NoMemory>
     ensures { OnOk result (text.new ≡ text.old
         ++ spec.made_text (label_view label.now) made.now.claims made.now.text made.now.steps) }
 {
     push_name(alloc, text, label)?;
-    push_points(
-        alloc,
-        text,
-        made.claims.as_slice(),
-        label.points.as_slice(),
-    )?;
+    push_points(alloc, text, made.claims.as_slice(), label.points.as_slice())?;
     push_skipped(alloc, text, label.skipped.as_slice())?;
     push_steps(alloc, text, made)
 }
@@ -199,9 +189,15 @@ impl Totals {
             (label_view label.now) made.now.claims made.now.unsolved made.now.text }
     {
         self.tests = self.tests.saturating_add(tests_in(made));
-        self.cases = self.cases.saturating_add(made.claims.as_slice().len() as u64);
-        self.unsolved = self.unsolved.saturating_add(made.unsolved.as_slice().len() as u64);
-        self.skipped = self.skipped.saturating_add(label.skipped.as_slice().len() as u64);
+        self.cases = self
+            .cases
+            .saturating_add(made.claims.as_slice().len() as u64);
+        self.unsolved = self
+            .unsolved
+            .saturating_add(made.unsolved.as_slice().len() as u64);
+        self.skipped = self
+            .skipped
+            .saturating_add(label.skipped.as_slice().len() as u64);
     }
 }
 
@@ -219,7 +215,8 @@ pub fn push_total(alloc: Global, text: &mut Text, totals: &Totals) -> Result<(),
         unsolved,
         skipped,
     } = *totals;
-    let line =
-        format!(in alloc; "total {tests} tests, {cases} cases, {unsolved} unsolved, {skipped} skipped\n")?;
+    let line = format!(in alloc;
+        "total {tests} tests, {cases} cases, {unsolved} unsolved, {skipped} skipped\n"
+    )?;
     text.push_str(line.as_str())
 }
