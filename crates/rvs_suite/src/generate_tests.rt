@@ -57,10 +57,10 @@ fn a_test_is_written_run_and_counted(rt: HostRuntime) -> Result<(), Fail> {
         let mut err = MemorySink::new(Items::new(alloc));
         let status = run_suite(alloc, words.as_slice(), &mut host, &mut out, &mut err);
         assert_eq!(rt; out.bytes(), said.as_bytes());
-        assert_eq!(rt; err.bytes(), &[]);
+        assert_eq!(rt; err.bytes(), "".as_bytes());
         assert_eq!(rt; status, Status::Done);
     }
     let signature = host.file("w/add.sig").ok_or("no signature")?;
-    assert_eq!(rt; signature, b"00000002\n00000000\n");
+    assert_eq!(rt; signature, "00000002\n00000000\n".as_bytes());
     Ok(())
 }
