@@ -4,17 +4,12 @@ use Rattle.rvs_suite.specs.Words.{is_positional, pairs_of, values_of, are_known,
 use Rattle.rvs_suite.specs.Windows.{windows_of}
 use Rattle.rvs_suite.specs.declared.words.Pair.{Pair}
 use Rattle.rvs_suite.specs.declared.command.Command.{Command}
-use Rattle.rvs_suite.specs.declared.command.Command.TheVariants.{Unknown, Compare, Validate, Normalize, Generate, Reference, Coverage}
+use Rattle.rvs_suite.specs.declared.command.Command.TheVariants.{Unknown, Compare, Validate, Normalize, Generate, Reference, Coverage, Run}
 
 -- two names of files
 abbrev pub compare_command : List (List ℕ) → Command
 compare_command (left ∷ right ∷ []) = if is_positional left && is_positional right then Compare left right else Unknown
 compare_command words = Unknown
-
--- the name of an ISA file, behind its option
-abbrev pub validate_command : List (List ℕ) → Command
-validate_command (option ∷ isa ∷ []) = if bytes_eq option (codes "--isa") && is_positional isa then Validate isa else Unknown
-validate_command words = Unknown
 
 -- the number that decimal digits go on from
 abbrev pub number_onto : ℕ → List ℕ → Option ℕ
@@ -40,6 +35,16 @@ steps_of texts = None
 abbrev pub given : {A : Type 0} → Option A → (A → Command) → Command
 given None command = Unknown
 given (Some a) command = command a
+
+abbrev pub validate_options : List (List ℕ)
+validate_options = codes "--isa" ∷ []
+
+-- the name of an ISA file
+abbrev pub validate_of : List Pair → Command
+validate_of pairs = given (only (values_of (codes "--isa") pairs)) (λ isa. Validate isa)
+
+abbrev pub validate_command : List (List ℕ) → Command
+validate_command words = given (pairs_of words) (λ pairs. if are_known validate_options pairs then validate_of pairs else Unknown)
 
 -- the options of `reference`
 abbrev pub reference_options : List (List ℕ)
@@ -116,18 +121,39 @@ coverage_of pairs =
 abbrev pub coverage_command : List (List ℕ) → Command
 coverage_command words = given (pairs_of words) (λ pairs. if are_known coverage_options pairs then coverage_of pairs else Unknown)
 
+abbrev pub run_options : List (List ℕ)
+run_options = codes "--isa" ∷ codes "--cgf" ∷ codes "--device" ∷ codes "--work" ∷ []
+
+-- the name of the device file, and the folder of the tests
+abbrev pub run_device : List ℕ → List ℕ → List (List ℕ) → List Pair → Command
+run_device program isa groups pairs =
+    given (only (values_of (codes "--device") pairs)) (λ device.
+    given (only (values_of (codes "--work") pairs)) (λ work. Run program isa groups device work))
+
+-- the names of the ISA file, of the group files, of the device file and of the folder
+abbrev pub run_of : List ℕ → List Pair → Command
+run_of program pairs =
+    given (only (values_of (codes "--isa") pairs)) (λ isa.
+    given (some_of most_groups (values_of (codes "--cgf") pairs)) (λ groups. run_device program isa groups pairs))
+
+-- the program's own name stands for it in the words of a device
+abbrev pub run_command : List ℕ → List (List ℕ) → Command
+run_command program words =
+    given (pairs_of words) (λ pairs. if are_known run_options pairs then run_of program pairs else Unknown)
+
 -- the command of this name, with the words behind it
-abbrev pub named_command : List ℕ → List (List ℕ) → Command
-named_command name words =
+abbrev pub named_command : List ℕ → List ℕ → List (List ℕ) → Command
+named_command program name words =
     if bytes_eq name (codes "compare") then compare_command words
     else (if bytes_eq name (codes "validate") then validate_command words
     else (if bytes_eq name (codes "normalize") then normalize_command words
     else (if bytes_eq name (codes "generate") then generate_command words
     else (if bytes_eq name (codes "reference") then reference_command words
     else (if bytes_eq name (codes "coverage") then coverage_command words
-    else Unknown)))))
+    else (if bytes_eq name (codes "run") then run_command program words
+    else Unknown))))))
 
 -- the command of the words, the first of which is the program's own name
 abbrev pub command_of : List (List ℕ) → Command
-command_of (program ∷ name ∷ words) = named_command name words
+command_of (program ∷ name ∷ words) = named_command program name words
 command_of words = Unknown

@@ -31,3 +31,7 @@ pub mod GenerateTexts
 pub mod GenerateView
 pub mod Generate
 pub mod Generating
+pub mod Tests
+pub mod DeviceInput
+pub mod RunTests
+pub mod RunView

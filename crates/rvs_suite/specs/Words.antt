@@ -1,6 +1,6 @@
 -- The words of a command line.
-use Rattle.std.specs.Prelude.{ℕ, Bool, false, not, ◌==◌, if◌then◌else◌, List, [], ◌∷◌, map, filter, string_bytes, bytes_eq, Option, Some, None, option_map, String}
-use Rattle.std.specs.List.{list_any, list_all}
+use Rattle.std.specs.Prelude.{ℕ, Bool, true, false, not, ◌==◌, if◌then◌else◌, List, [], ◌∷◌, map, filter, string_bytes, bytes_eq, Option, Some, None, option_map, String}
+use Rattle.std.specs.List.{list_any, list_all, before_first, after_first}
 use Rattle.std.specs.declared.alloc.Global.{Global}
 use Rattle.rvs_suite.specs.declared.words.Pair.{Pair}
 
@@ -13,11 +13,33 @@ abbrev pub is_positional : List ℕ → Bool
 is_positional [] = false
 is_positional (byte ∷ word) = not (byte == 45)
 
--- words that are options, each with its value, or none where one lacks its value
+abbrev pub is_equals_sign : ℕ → Bool
+is_equals_sign byte = byte == 61
+
+abbrev pub pair_of : List ℕ → List ℕ → Option Pair
+pair_of name [] = None
+pair_of name (byte ∷ value) = Some (record { name = name; value = byte ∷ value })
+
+-- an option and its value in one word: `=` stands between them, and the value isn't empty
+abbrev pub pair_in : List ℕ → Option Pair
+pair_in word = pair_of (before_first is_equals_sign word) (after_first is_equals_sign word)
+
+abbrev pub with_pair : Pair → Option (List Pair) → Option (List Pair)
+with_pair pair more = option_map (λ (pairs : List Pair). pair ∷ pairs) more
+
+-- an option and its value in two words, of which the second stands for itself
+abbrev pub with_two_words : List ℕ → List ℕ → Option (List Pair) → Option (List Pair)
+with_two_words name value more =
+    if is_positional value then with_pair (record { name = name; value = value }) more else None
+
+-- words that are options, each with its value in the same word or in the next, or none where one lacks its value
 abbrev pub pairs_of : List (List ℕ) → Option (List Pair)
 pairs_of [] = Some []
-pairs_of (name ∷ []) = None
-pairs_of (name ∷ value ∷ words) = if is_positional value then option_map (λ (pairs : List Pair). record { name = name; value = value } ∷ pairs) (pairs_of words) else None
+pairs_of (word ∷ []) = option_map (λ (pair : Pair). pair ∷ []) (pair_in word)
+pairs_of (word ∷ value ∷ words) = elim (pair_in word) [
+  | None ↦ with_two_words word value (pairs_of words)
+  | Some pair ↦ with_pair pair (pairs_of (value ∷ words))
+  ]
 
 -- the values of an option, in order
 abbrev pub values_of : List ℕ → List Pair → List (List ℕ)

@@ -1,9 +1,9 @@
 // What a command line asks for.
 ghost use Rattle.std.specs.Prelude.{◌≡◌, IfOk, codes};
 ghost use Rattle.rvs_suite.specs.Words.{texts, values_of, are_known};
-ghost use Rattle.rvs_suite.specs.Commands.{compare_command, validate_command, number_of, within_steps, steps_of, reference_options, reference_run, reference_of, reference_command, named_command, command_of};
+ghost use Rattle.rvs_suite.specs.Commands.{compare_command, validate_options, validate_of, validate_command, number_of, within_steps, steps_of, reference_options, reference_run, reference_of, reference_command, named_command, command_of};
 
-use crate::group_commands::{read_coverage, read_generate, read_normalize};
+use crate::group_commands::{read_coverage, read_generate, read_normalize, read_run};
 use crate::words::{
     Pair, are_known, is_positional, only_value, optional_value, owned, read_pairs, values,
 };
@@ -58,6 +58,19 @@ pub enum Command {
         /// The windows of addresses whose instructions are counted, up to 16; all where there are none.
         windows: Items<Window>,
     },
+    /// Write a test for each label of coverage groups, run it on the reference machine and on a
+    /// device, and judge what the device leaves.
+    Run {
+        /// The program's own name, which stands for `{self}` in the words of the device.
+        program: Text,
+        isa: Text,
+        /// The group files, one to 64, in the order in which they are joined.
+        groups: Items<Text>,
+        /// The device file.
+        device: Text,
+        /// The folder of the tests and signatures, which has to be there.
+        work: Text,
+    },
 }
 
 /// Reads the words of a command line, the first of which is the program's own name.
@@ -68,14 +81,20 @@ pub enum Command {
 pub fn read_command(alloc: Global, words: &[String]) -> Result<Command, NoMemory>
     ensures { IfOk result (λ command. command ≡ command_of (texts words.now)) }
 {
-    let [_, name, rest @ ..] = words else {
+    let [program, name, rest @ ..] = words else {
         return Ok(Command::Unknown);
     };
-    read_named(alloc, name.as_str(), rest)
+    read_named(alloc, program.as_str(), name.as_str(), rest)
 }
 
-fn read_named(alloc: Global, name: &str, words: &[String]) -> Result<Command, NoMemory>
-    ensures { IfOk result (λ command. command ≡ named_command name.now (texts words.now)) }
+fn read_named(
+    alloc: Global,
+    program: &str,
+    name: &str,
+    words: &[String],
+) -> Result<Command, NoMemory>
+    ensures { IfOk result (λ command.
+        command ≡ named_command program.now name.now (texts words.now)) }
 {
     match name {
         "compare" => read_compare(alloc, words),
@@ -84,6 +103,7 @@ fn read_named(alloc: Global, name: &str, words: &[String]) -> Result<Command, No
         "generate" => read_generate(alloc, words),
         "reference" => read_reference(alloc, words),
         "coverage" => read_coverage(alloc, words),
+        "run" => read_run(alloc, program, words),
         _ => Ok(Command::Unknown),
     }
 }
@@ -105,13 +125,25 @@ fn read_compare(alloc: Global, words: &[String]) -> Result<Command, NoMemory>
 fn read_validate(alloc: Global, words: &[String]) -> Result<Command, NoMemory>
     ensures { IfOk result (λ command. command ≡ validate_command (texts words.now)) }
 {
-    match words {
-        [option, isa] if option.as_str() == "--isa" && is_positional(isa.as_str()) => {
-            let isa = owned(alloc, isa.as_str())?;
-            Ok(Command::Validate { isa })
-        },
+    match read_pairs(alloc, words)? {
+        Some(pairs) if are_of_validate(pairs.as_slice()) => read_checked(alloc, pairs.as_slice()),
         _ => Ok(Command::Unknown),
     }
+}
+
+fn are_of_validate(pairs: &[Pair]) -> bool
+    ensures { result ≡ are_known validate_options pairs.now }
+{
+    are_known(pairs, &["--isa"])
+}
+
+fn read_checked(alloc: Global, pairs: &[Pair]) -> Result<Command, NoMemory>
+    ensures { IfOk result (λ command. command ≡ validate_of pairs.now) }
+{
+    let Some(isa) = only_value(alloc, pairs, "--isa")? else {
+        return Ok(Command::Unknown);
+    };
+    Ok(Command::Validate { isa })
 }
 
 fn read_reference(alloc: Global, words: &[String]) -> Result<Command, NoMemory>
@@ -146,10 +178,10 @@ fn read_inputs(alloc: Global, pairs: &[Pair]) -> Result<Command, NoMemory>
     let Some(signature) = only_value(alloc, pairs, "--signature")? else {
         return Ok(Command::Unknown);
     };
-    read_run(alloc, isa, test, signature, pairs)
+    read_reference_run(alloc, isa, test, signature, pairs)
 }
 
-fn read_run(
+fn read_reference_run(
     alloc: Global,
     isa: Text,
     test: Text,

@@ -1,5 +1,5 @@
 // The command `generate`.
-ghost use Rattle.std.specs.Prelude.{◌≡◌, ◌<◌, ◌++◌, All, IfOk, OnOk};
+ghost use Rattle.std.specs.Prelude.{◌≡◌, ◌++◌, All, IfOk, OnOk};
 ghost use Rattle.rvs_base.specs.Host.{HostState};
 ghost use Rattle.rvs_base.specs.Sink.{SinkState};
 ghost use Rattle.rvs_plan.specs.World.{world};
@@ -8,29 +8,19 @@ ghost use Rattle.rvs_cgf.specs.GroupView.{label_view};
 ghost use Rattle.rvs_cgf.specs.Valid.{IsValid, IsValidIfSelected};
 ghost use Rattle.rvs_test.specs.Made.{text_of_label};
 ghost use Rattle.rvs_suite.specs.GenerateTexts as texts;
-ghost use Rattle.rvs_suite.specs.GenerateView.{IsMade, totals_view};
+ghost use Rattle.rvs_suite.specs.GenerateView.{totals_view};
 ghost use Rattle.rvs_suite.specs.GroupsView.{groups_view, inputs_view};
 ghost use Rattle.rvs_suite.specs.Generate.{IsSaid, done, path_of, writes_text, writes_test, writes_tests, written_tests, generate};
 
 use crate::covering::print_report;
 use crate::group_files::{Inputs, read_inputs};
-use crate::listing::{Totals, push_made, push_total, push_unselected};
+use crate::listing::{push_total, push_unselected};
+use crate::making::{Said, say_made};
 use rvs_base::{Host, NoMemory, Sink, Text};
 use rvs_cgf::Label;
-use rvs_expr::Steps;
 use rvs_insn::IsaSpec;
 use rvs_plan::{Finish, Stop, write_output};
-use rvs_test::{Made, make_test};
 use std::alloc::Global;
-use std::marker::Brand;
-use std::sync::ledger::{Blank, Ledger};
-
-/// What is said of the labels so far.
-#[derive(Drop)]
-struct Said {
-    text: Text,
-    totals: Totals,
-}
 
 /// Reads coverage group files for the core of an ISA file, writes a test for each label that has a
 /// solved point, and puts the cases and the points that no choice hits.
@@ -89,10 +79,7 @@ fn write_labels<H: Host>(
     ensures said { IfOk result (λ s.
         IsSaid isa.now (groups_view labels.now) s.text (totals_view s.totals)) }
 {
-    let mut said = Said {
-        text: Text::new(alloc),
-        totals: Totals::none(),
-    };
+    let mut said = Said::nothing(alloc);
     for label in labels {
         write_test(alloc, host, work, isa, label, &mut said)?;
     }
@@ -140,35 +127,8 @@ fn write_selected<H: Host>(
     ensures totals { OnOk result (totals_view said.new.totals
         ≡ texts.with_selected isa.now (totals_view said.old.totals) (label_view label.now)) }
 {
-    let made = made_of(alloc, label, isa)?;
-    push_made(alloc, &mut said.text, label, &made)?;
-    said.totals.add(label, &made);
+    let made = say_made(alloc, isa, label, said)?;
     write_text(alloc, host, work, label.name.as_str(), &made.text)
-}
-
-/// The test of a label.
-fn made_of(alloc: Global, label: &Label, isa: &IsaSpec) -> Result<Made, NoMemory>
-    requires { IsValid isa.now (label_view label.now) }
-    ensures { IfOk result (λ m. IsMade isa.now (label_view label.now) m) }
-{
-    make_counted::<Brand>(Blank::new(1), alloc, label, isa)
-}
-
-/// The same, with a counter of evaluations that no one reads.
-fn make_counted<L: Ledger>(
-    blank: Blank,
-    alloc: Global,
-    label: &Label,
-    isa: &IsaSpec,
-) -> Result<Made, NoMemory>
-    requires name { blank.name ≡ L.name }
-    requires parts { blank.parts ≡ L.parts }
-    requires some { 0 < blank.parts }
-    requires valid { IsValid isa.now (label_view label.now) }
-    ensures { IfOk result (λ m. IsMade isa.now (label_view label.now) m) }
-{
-    let mut steps: Steps<L> = Steps::new(blank);
-    make_test(alloc, label, isa, &mut steps)
 }
 
 fn write_text<H: Host>(
@@ -191,7 +151,7 @@ fn write_text<H: Host>(
 }
 
 /// The file of a label's test.
-fn test_path(alloc: Global, work: &str, name: &str) -> Result<Text, NoMemory>
+pub fn test_path(alloc: Global, work: &str, name: &str) -> Result<Text, NoMemory>
     ensures { IfOk result (λ path. path ≡ path_of work.now name.now) }
 {
     Ok(Text::from(format!(in alloc; "{work}/{name}.S")?))

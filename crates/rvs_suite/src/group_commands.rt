@@ -1,11 +1,11 @@
 // The command lines that name coverage group files.
 ghost use Rattle.std.specs.Prelude.{◌≡◌, IfOk, codes};
 ghost use Rattle.rvs_suite.specs.Words.{texts, values_of, are_known};
-ghost use Rattle.rvs_suite.specs.Commands.{some_of, most_groups, normalize_options, normalize_of, normalize_command, generate_options, generate_work, generate_of, generate_command, coverage_options, coverage_log, coverage_of, coverage_command};
+ghost use Rattle.rvs_suite.specs.Commands.{some_of, most_groups, normalize_options, normalize_of, normalize_command, generate_options, generate_work, generate_of, generate_command, coverage_options, coverage_log, coverage_of, coverage_command, run_options, run_device, run_of, run_command};
 
 use crate::command::Command;
 use crate::windows::read_windows;
-use crate::words::{Pair, are_known, only_value, read_pairs, values};
+use crate::words::{Pair, are_known, only_value, owned, read_pairs, values};
 use rvs_base::{Items, NoMemory, Text};
 use std::alloc::Global;
 
@@ -161,5 +161,63 @@ fn read_log(
         groups,
         log,
         windows,
+    })
+}
+
+/// Reads the words behind `run`. The program's own name is kept with them.
+///
+/// # Errors
+///
+/// [`NoMemory`].
+pub fn read_run(alloc: Global, program: &str, words: &[String]) -> Result<Command, NoMemory>
+    ensures { IfOk result (λ command. command ≡ run_command program.now (texts words.now)) }
+{
+    match read_pairs(alloc, words)? {
+        Some(pairs) if are_of_run(pairs.as_slice()) => {
+            read_judged(alloc, program, pairs.as_slice())
+        },
+        _ => Ok(Command::Unknown),
+    }
+}
+
+fn are_of_run(pairs: &[Pair]) -> bool
+    ensures { result ≡ are_known run_options pairs.now }
+{
+    are_known(pairs, &["--isa", "--cgf", "--device", "--work"])
+}
+
+fn read_judged(alloc: Global, program: &str, pairs: &[Pair]) -> Result<Command, NoMemory>
+    ensures { IfOk result (λ command. command ≡ run_of program.now pairs.now) }
+{
+    let Some(isa) = only_value(alloc, pairs, "--isa")? else {
+        return Ok(Command::Unknown);
+    };
+    let Some(groups) = group_files(alloc, pairs)? else {
+        return Ok(Command::Unknown);
+    };
+    read_device(alloc, program, isa, groups, pairs)
+}
+
+fn read_device(
+    alloc: Global,
+    program: &str,
+    isa: Text,
+    groups: Items<Text>,
+    pairs: &[Pair],
+) -> Result<Command, NoMemory>
+    ensures { IfOk result (λ command. command ≡ run_device program.now isa groups pairs.now) }
+{
+    let Some(device) = only_value(alloc, pairs, "--device")? else {
+        return Ok(Command::Unknown);
+    };
+    let Some(work) = only_value(alloc, pairs, "--work")? else {
+        return Ok(Command::Unknown);
+    };
+    Ok(Command::Run {
+        program: owned(alloc, program)?,
+        isa,
+        groups,
+        device,
+        work,
     })
 }

@@ -6,6 +6,8 @@ mod comparing;
 #[cfg(test)]
 mod coverage_tests;
 mod covering;
+mod device_file;
+mod gathering;
 #[cfg(test)]
 mod generate_tests;
 mod generating;
@@ -14,11 +16,14 @@ mod group_files;
 #[cfg(test)]
 mod group_tests;
 mod isa_file;
+mod judging;
 mod listing;
+mod making;
 mod normalizing;
 mod reference;
 #[cfg(test)]
 mod reference_tests;
+mod running;
 mod suite;
 mod test_file;
 mod test_run;

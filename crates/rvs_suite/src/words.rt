@@ -1,7 +1,7 @@
 // The words of a command line, and its options.
-ghost use Rattle.std.specs.Prelude.{◌≡◌, IfOk, bytes_eq};
+ghost use Rattle.std.specs.Prelude.{◌≡◌, ◌≤◌, ◌∷◌, length, Some, None, IfOk, MatchOption, bytes_eq};
 ghost use Rattle.std.specs.List.{list_any, list_all};
-ghost use Rattle.rvs_suite.specs.Words.{texts, is_positional, pairs_of, values_of, only, at_most_one};
+ghost use Rattle.rvs_suite.specs.Words.{texts, is_positional, pair_in, with_pair, pairs_of, values_of, only, at_most_one};
 
 use rvs_base::{Items, NoMemory, Text};
 use std::alloc::Global;
@@ -30,7 +30,50 @@ pub fn owned(alloc: Global, word: &str) -> Result<Text, NoMemory>
     Ok(Text::from(String::from_str(alloc, word)?))
 }
 
-/// Reads words that are options, each followed by its value. There is none where one lacks its value.
+/// An option and its value in one word, with `=` between. The value isn't empty.
+fn pair_in(word: &str) -> Option<(&str, &str)>
+    ensures { MatchOption result (pair_in word.now ≡ None)
+        (λ x. pair_in word.now ≡ Some (record { name = x.0.now; value = x.1.now })) }
+{
+    match word.split_once('=') {
+        Some((name, value)) if !value.is_empty() => Some((name, value)),
+        _ => None,
+    }
+}
+
+fn owned_pair(alloc: Global, name: &str, value: &str) -> Result<Pair, NoMemory>
+    ensures { IfOk result (λ pair. pair ≡ record { name = name.now; value = value.now }) }
+{
+    let name = owned(alloc, name)?;
+    let value = owned(alloc, value)?;
+    Ok(Pair { name, value })
+}
+
+/// An option with its value, and the words behind it. There is none where it lacks its value.
+fn first_pair<'w>(
+    alloc: Global,
+    word: &str,
+    after: &'w [String],
+) -> Result<Option<(Pair, &'w [String])>, NoMemory>
+    ensures first { IfOk result (λ first. MatchOption first
+        (pairs_of (word.now ∷ texts after.now) ≡ None)
+        (λ x. pairs_of (word.now ∷ texts after.now) ≡ with_pair x.0 (pairs_of (texts x.1.now)))) }
+    ensures fewer { IfOk result (λ first. MatchOption first Unit
+        (λ x. length x.1.now ≤ length after.now)) }
+{
+    if let Some((name, value)) = pair_in(word) {
+        return Ok(Some((owned_pair(alloc, name, value)?, after)));
+    }
+    match after.split_first() {
+        Some((value, more)) if is_positional(value.as_str()) => {
+            Ok(Some((owned_pair(alloc, word, value.as_str())?, more)))
+        },
+        _ => Ok(None),
+    }
+}
+
+/// Reads words that are options, each with its value behind `=` or in the next word. There is none
+/// where one lacks its value.
 ///
 /// # Errors
 ///
@@ -40,17 +83,11 @@ pub fn read_pairs(alloc: Global, words: &[String]) -> Result<Option<Items<Pair>>
 {
     let mut pairs = Items::new(alloc);
     let mut rest = words;
-    while let Some((name, after)) = rest.split_first() {
-        let Some((value, more)) = after.split_first() else {
+    while let Some((word, after)) = rest.split_first() {
+        let Some((pair, more)) = first_pair(alloc, word.as_str(), after)? else {
             return Ok(None);
         };
-        if !is_positional(value.as_str()) {
-            return Ok(None);
-        }
-        pairs.push(Pair {
-            name: owned(alloc, name.as_str())?,
-            value: owned(alloc, value.as_str())?,
-        })?;
+        pairs.push(pair)?;
         rest = more;
     }
     Ok(Some(pairs))

@@ -1,0 +1,113 @@
+-- What `run` does.
+use Rattle.std.specs.Prelude.{ℕ, ◌+◌, ◌-◌, ◌==◌, Bool, if◌then◌else◌, List, [], ◌∷◌, ◌++◌, length, codes, decimal}
+use Rattle.rvs_plan.specs.Plan.{Plan, gives, prints, writes, ◌>>=◌}
+use Rattle.rvs_plan.specs.declared.status.Finish.{Finish}
+use Rattle.rvs_plan.specs.declared.status.Finish.TheVariants.{Done, NotPassed}
+use Rattle.rvs_insn.specs.Isa.{Isa}
+use Rattle.rvs_sig.specs.Words.{text_of_words}
+use Rattle.rvs_cgf.specs.Groups.{Label}
+use Rattle.rvs_device.specs.DeviceFile.{Told}
+use Rattle.rvs_device.specs.Plans.{judged}
+use Rattle.rvs_device.specs.Judged.{passes}
+use Rattle.rvs_device.specs.Printed.{verdict_line}
+use Rattle.rvs_device.specs.declared.verdicts.TestVerdict.{TestVerdict}
+use Rattle.rvs_suite.specs.GroupFiles.{Inputs, group_inputs}
+use Rattle.rvs_suite.specs.GenerateTexts.{listing}
+use Rattle.rvs_suite.specs.Generate.{path_of}
+use Rattle.rvs_suite.specs.Tests.{reference_words, tests_of}
+use Rattle.rvs_suite.specs.DeviceInput.{device_file}
+use Rattle.rvs_suite.specs.declared.gathering.Test.{Test}
+
+-- what tests are judged with: the program's own name, a device, the folder of the files, and a core
+pub record Bench : Type 0 where
+  pub program : List ℕ
+  pub device : Told
+  pub work : List ℕ
+  pub isa : Isa
+
+-- the file of the words that the reference machine leaves
+abbrev pub reference_path : List ℕ → List ℕ → List ℕ
+reference_path work name = work ++ (codes "/" ++ (name ++ codes ".reference.sig"))
+
+-- the file that the device writes
+abbrev pub device_path : List ℕ → List ℕ → List ℕ
+device_path work name = work ++ (codes "/" ++ (name ++ codes ".device.sig"))
+
+-- how many tests there are, passed, and didn't pass
+unfoldable pub tally_line : ℕ → ℕ → List ℕ
+tally_line tests passed =
+    codes "total " ++ (decimal tests ++ (codes " tests, " ++ (decimal passed ++ (codes " pass, "
+    ++ (decimal (tests - passed) ++ codes " fail\n")))))
+
+-- the device is run on the test of this name, and judged by these words
+abbrev pub judges_by : Bench → List ℕ → List ℕ → Plan TestVerdict
+judges_by bench name words =
+    judged bench.device.command bench.program (path_of bench.work name) (device_path bench.work name) words
+
+-- a test is written, and then the words that it leaves on the reference machine; the device is run on it and judged by these
+abbrev pub judges : Bench → Test → Plan TestVerdict
+judges bench test = do
+  _ ← writes (path_of bench.work test.name) test.text
+  _ ← writes (reference_path bench.work test.name) (text_of_words (reference_words bench.isa test))
+  judges_by bench test.name (reference_words bench.isa test)
+
+-- the line of the verdict is put
+abbrev pub announces : List ℕ → TestVerdict → Plan Bool
+announces name verdict = do
+  _ ← prints (verdict_line name verdict)
+  gives (passes verdict)
+
+abbrev pub judges_one : Bench → Test → Plan Bool
+judges_one bench test = judges bench test >>= announces test.name
+
+abbrev pub with_one : ℕ → Bool → ℕ
+with_one passed pass = if pass then passed + 1 else passed
+
+-- all tests are judged, one after the other, and those that pass are counted on
+abbrev pub judges_all : Bench → ℕ → List Test → Plan ℕ
+judges_all bench passed [] = gives passed
+judges_all bench passed (test ∷ tests) =
+    judges_one bench test >>= (λ pass. judges_all bench (with_one passed pass) tests)
+
+abbrev pub verdict_of_all : ℕ → ℕ → Finish
+verdict_of_all tests passed = if passed == tests then Done else NotPassed
+
+-- the totals are put
+abbrev pub tallies : ℕ → ℕ → Plan Finish
+tallies tests passed = do
+  _ ← prints (tally_line tests passed)
+  gives (verdict_of_all tests passed)
+
+abbrev pub judges_tests : Bench → List Test → Plan Finish
+judges_tests bench tests = judges_all bench 0 tests >>= tallies (length tests)
+
+-- what `generate` says of the labels is put, and then their tests are judged
+abbrev pub runs_tests : Bench → List Label → Plan Finish
+runs_tests bench groups = do
+  _ ← prints (listing bench.isa groups)
+  judges_tests bench (tests_of bench.isa groups)
+
+-- a core, groups, and a device
+pub record RunInputs : Type 0 where
+  pub groups : Inputs
+  pub device : Told
+
+-- the ISA file and the group files are read and checked, and then the device file is
+abbrev pub run_inputs : List ℕ → List (List ℕ) → List ℕ → Plan RunInputs
+run_inputs isa names device = do
+  inputs ← group_inputs isa names
+  told ← device_file device
+  gives (record { groups = inputs; device = told })
+
+abbrev pub bench_of : List ℕ → List ℕ → RunInputs → Bench
+bench_of program work inputs =
+    record { program = program; device = inputs.device; work = work; isa = inputs.groups.isa }
+
+abbrev pub runs : List ℕ → List ℕ → RunInputs → Plan Finish
+runs program work inputs = runs_tests (bench_of program work inputs) inputs.groups.groups
+
+-- all inputs are read and checked, and then the tests are made, run and judged
+abbrev pub run : List ℕ → List ℕ → List (List ℕ) → List ℕ → List ℕ → Plan Finish
+run program isa names device work = do
+  inputs ← run_inputs isa names device
+  runs program work inputs

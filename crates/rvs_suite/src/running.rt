@@ -1,0 +1,129 @@
+// The command `run`.
+ghost use Rattle.std.specs.Prelude.{◌≡◌, ◌≤◌, All, IfOk, length};
+ghost use Rattle.rvs_base.specs.Host.{HostState};
+ghost use Rattle.rvs_base.specs.Sink.{SinkState};
+ghost use Rattle.rvs_plan.specs.World.{world};
+ghost use Rattle.rvs_plan.specs.Meets.{Meets};
+ghost use Rattle.rvs_suite.specs.Tests.{IsRunnable};
+ghost use Rattle.rvs_suite.specs.RunTests.{tally_line, judges_all, verdict_of_all, tallies, judges_tests, run};
+ghost use Rattle.rvs_suite.specs.RunView.{bench_view};
+
+use crate::device_file::read_device_file;
+use crate::gathering::{Test, gather_tests};
+use crate::group_files::read_inputs;
+use crate::judging::{Bench, judge_one};
+use crate::words::owned;
+use rvs_base::{Host, NoMemory, Sink, Text};
+use rvs_plan::{Finish, Stop, print};
+use std::alloc::Global;
+
+/// Reads coverage group files for the core of an ISA file, and a device file; writes a test for each
+/// label that has a solved point, runs it on the reference machine and on the device, and puts the
+/// verdict on the words that the device leaves.
+///
+/// # Errors
+///
+/// [`Stop`]; nothing is written and nothing is put before all files are accepted.
+pub fn run_tests<H: Host, O: Sink>(
+    alloc: Global,
+    program: &str,
+    isa: &str,
+    names: &[Text],
+    device: &str,
+    work: &str,
+    host: &mut H,
+    out: &mut O,
+) -> Result<Finish, Stop>
+    ensures { Meets (run program.now isa.now names.now device.now work.now)
+        (world (H.state host.old) (O.state out.old))
+        (world (H.state host.new) (O.state out.new)) result }
+{
+    let inputs = read_inputs(alloc, host, isa, names)?;
+    let device = read_device_file(alloc, host, device)?;
+    let gathered = gather_tests(alloc, &inputs)?;
+    let bench = Bench {
+        program: owned(alloc, program)?,
+        device,
+        work: owned(alloc, work)?,
+        isa: inputs.isa,
+    };
+    print(out, gathered.text.as_str().as_bytes())?;
+    judge_tests(alloc, host, out, &bench, gathered.tests.as_slice())
+}
+
+/// Judges all tests, and puts the totals.
+fn judge_tests<H: Host, O: Sink>(
+    alloc: Global,
+    host: &mut H,
+    out: &mut O,
+    bench: &Bench,
+    tests: &[Test],
+) -> Result<Finish, Stop>
+    requires { All (IsRunnable bench.now.isa) tests.now }
+    ensures { Meets (judges_tests (bench_view bench.now) tests.now)
+        (world (H.state host.old) (O.state out.old))
+        (world (H.state host.new) (O.state out.new)) result }
+{
+    let passed = judge_all(alloc, host, out, bench, tests)?;
+    print_totals(alloc, tests.len(), passed, out)
+}
+
+/// How many of the tests pass.
+fn judge_all<H: Host, O: Sink>(
+    alloc: Global,
+    host: &mut H,
+    out: &mut O,
+    bench: &Bench,
+    tests: &[Test],
+) -> Result<usize, Stop>
+    requires { All (IsRunnable bench.now.isa) tests.now }
+    ensures met { Meets (judges_all (bench_view bench.now) 0 tests.now)
+        (world (H.state host.old) (O.state out.old))
+        (world (H.state host.new) (O.state out.new)) result }
+    ensures some { IfOk result (λ passed. passed ≤ length tests.now) }
+{
+    let mut passed = 0;
+    for test in tests {
+        if judge_one(alloc, host, out, bench, test)? {
+            passed += 1;
+        }
+    }
+    Ok(passed)
+}
+
+/// Puts the totals.
+fn print_totals<O: Sink>(
+    alloc: Global,
+    tests: usize,
+    passed: usize,
+    out: &mut O,
+) -> Result<Finish, Stop>
+    requires { passed ≤ tests }
+    ensures { (host : HostState) → Meets (tallies tests passed)
+        (world host (O.state out.old)) (world host (O.state out.new)) result }
+{
+    let line = tally_line(alloc, tests, passed)?;
+    print(out, line.as_str().as_bytes())?;
+    Ok(finish_of(tests, passed))
+}
+
+#[tactic(auto, unfolding(crate::specs::RunTests::tally_line))]
+fn tally_line(alloc: Global, tests: usize, passed: usize) -> Result<Text, NoMemory>
+    requires { passed ≤ tests }
+    ensures { IfOk result (λ line. line ≡ tally_line tests passed) }
+{
+    let failed = tests - passed;
+    Ok(Text::from(format!(in alloc;
+        "total {tests} tests, {passed} pass, {failed} fail\n"
+    )?))
+}
+
+fn finish_of(tests: usize, passed: usize) -> Finish
+    ensures { result ≡ verdict_of_all tests passed }
+{
+    if passed == tests {
+        Finish::Done
+    } else {
+        Finish::NotPassed
+    }
+}
