@@ -1,0 +1,19 @@
+//! Devices: programs that run a test and write a signature file, which is judged.
+#![tactic(auto)]
+
+mod devices;
+mod judging;
+mod printing;
+mod reading;
+mod refusals;
+#[cfg(test)]
+mod tests;
+mod verdicts;
+mod words;
+
+pub use devices::Device;
+pub use judging::{JudgeFault, judge};
+pub use printing::{refusal_text, verdict_line};
+pub use reading::read_device;
+pub use refusals::DeviceRefusal;
+pub use verdicts::TestVerdict;
