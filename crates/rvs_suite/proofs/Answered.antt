@@ -79,7 +79,7 @@ pub record RunsOn (call : Call) (files : Files) (command : Command) : Type 0 whe
   pub told : Tells call.old.host files
   pub asks : command_of call.words ≡ command
 
-ran-command : {call : Call} {files : Files} {command : Command} → RunsOn call files command → Ran command (world_of call.old) (world_of call.new) call.old.err call.new.err call.status
+pub ran-command : {call : Call} {files : Files} {command : Command} → RunsOn call files command → Ran command (world_of call.old) (world_of call.new) call.old.err call.new.err call.status
 ran-command {call} r = subst (λ (c : Command). Ran c (world_of call.old) (world_of call.new) call.old.err call.new.err call.status) r.asks r.ran
 
 pub answered : {A : Type 0} {call : Call} {files : Files} {command : Command} {found : Result A Stop} (Left : A → Type 0) → RunsOn call files command → (w : Works command files found) → ((given : A) → contents (world_of call.new) ≡ left (w.deeds given) (contents (world_of call.old)) → Left given) → Answered call found Left

@@ -34,10 +34,11 @@ end-found files answers (Runs words test signature rest) next found is = absurd 
 pub record Behind {B : Type 0} (plan : Plan B) (end : Result B Stop) (effects : List Effect) (c : Contents) : Type 0 where
   pub later : List Effect
   pub goes : Goes plan later (Ends end)
+  pub saw : Saw later c
   pub same : after effects c ≡ after later c
 
 pub behind : {A B : Type 0} (files : Files) (plan : Plan A) (next : A → Plan B) (found : Result A Stop) (end : Result B Stop) (effects : List Effect) (c : Contents) → Finds files plan found → c.files ≡ Some files → Saw effects c → Goes (plan >>= next) effects (Ends end) → Behind (followed found next) end effects c
-behind {A} files (Ends e) next found end effects c is told saw goes = record { later = effects; goes = subst (λ (r : Result A Stop). Goes (followed r next) effects (Ends end)) is goes; same = refl }
+behind {A} files (Ends e) next found end effects c is told saw goes = record { later = effects; goes = subst (λ (r : Result A Stop). Goes (followed r next) effects (Ends end)) is goes; saw = saw; same = refl }
 behind files (Does deed plan) next found end effects c is told saw goes = absurd is
 behind files (Runs words test signature rest) next found end effects c is told saw goes = absurd is
 behind files (Asks name rest) next found end [] c is told saw goes = absurd cc
@@ -46,7 +47,7 @@ behind files (Asks name rest) next found end (Did deed ∷ effects) c is told sa
 behind {A} {B} files (Asks name rest) next found end (Read n f ∷ effects) c is told saw goes =
     let same : files name ≡ f = ap files goes.0 ∙ saw.0 files told in
     let b = behind files (rest (files name)) next found end effects c is told saw.1 (subst (λ (g : Option (List ℕ)). Goes (rest g >>= next) effects (Ends end)) (sym same) goes.1) in
-    record { later = b.later; goes = b.goes; same = b.same }
+    record { later = b.later; goes = b.goes; saw = b.saw; same = b.same }
 
 -- a plan of deeds that ends so
 abbrev pub Deeds : {A : Type 0} → A → Plan A → Type 0

@@ -28,3 +28,7 @@ mod Lines
 mod BaseCores
 mod Listings
 mod GenerateEnds
+mod Runnable
+mod RunSteps
+mod RunReads
+mod RunEnds

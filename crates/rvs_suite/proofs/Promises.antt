@@ -16,6 +16,7 @@ use Rattle.rvs_suite.specs.Covering as covering
 use Rattle.rvs_suite.specs.Generating as generating
 use Rattle.rvs_suite.specs.Normalizing as normalizing
 use Rattle.rvs_suite.specs.Referencing as referencing
+use Rattle.rvs_suite.specs.Judging as judging
 use Rattle.rvs_suite.specs.Planned as planned
 use Rattle.rvs_suite.specs.Causes as causes
 use Rattle.rvs_suite.proofs.Running.{Ran, answers, answered, completes, usage, no_command, compare-passes, compare-fails, compare-spelt, compare-refused, compare-refuses, compare-missed, compare-misses}
@@ -28,6 +29,7 @@ use Rattle.rvs_suite.proofs.Sparing.{reference-spares}
 use Rattle.rvs_suite.proofs.GenerateEnds.{makes}
 use Rattle.rvs_suite.proofs.NormalizeEnds.{normalizes}
 use Rattle.rvs_suite.proofs.CoverageEnds.{covers}
+use Rattle.rvs_suite.proofs.RunEnds.{judges}
 
 -- a call whose command ran
 pub record RanCall (call : Call) : Type 0 where
@@ -111,3 +113,6 @@ generate-promise r files isa names work t is = makes files isa names work (recor
 
 pub coverage-promise : {call : Call} → RanCall call → covering.Promise call
 coverage-promise r files isa names log windows t is = covers files isa names log windows (record { ran = r.ran; told = t; asks = is })
+
+pub run-promise : {call : Call} → RanCall call → judging.Promise call
+run-promise r files program isa names device work t is = judges files program isa names device work (record { ran = r.ran; told = t; asks = is })

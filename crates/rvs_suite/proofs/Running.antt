@@ -4,7 +4,7 @@ use Rattle.rvs_base.specs.Host.{Files, Tells}
 use Rattle.rvs_base.specs.Sink.{SinkState}
 use Rattle.rvs_plan.specs.World.{World}
 use Rattle.rvs_plan.specs.Performed.{NeverStops}
-use Rattle.rvs_plan.specs.Meets.{Meets}
+use Rattle.rvs_plan.specs.Meets.{MeetsWith}
 use Rattle.rvs_plan.specs.Account.{Accounts, Concludes, HostRose, NoneRose, Means, Answers}
 use Rattle.rvs_plan.proofs.Answering.{Answers-of, Accounts-means, Means-never_stops, Obeys-meets, Obeys-usage, Obeys-no_memory, Meets-not_usage, usage-status, memory-status, status-usage}
 use Rattle.rvs_plan.specs.declared.stop.Stop.{Stop}
@@ -12,21 +12,21 @@ use Rattle.rvs_plan.specs.declared.stop.Stop.TheVariants as why
 use Rattle.rvs_plan.specs.declared.status.Status.{Status}
 use Rattle.rvs_plan.specs.declared.status.Status.TheVariants as answer
 use Rattle.rvs_plan.specs.declared.status.Finish.{Finish}
-use Rattle.rvs_suite.specs.Plans.{plan_of, Performs}
+use Rattle.rvs_suite.specs.Plans.{plan_of, absence_of, Performs}
 use Rattle.rvs_suite.specs.Spells.{Passes, Fails, BothSpell, FirstRefused, FirstMissing, Refuses, Misses}
 use Rattle.rvs_suite.proofs.CompareEnds.{passes, fails, refuses, misses, refused-status, missing-status, spelt-status}
 use Rattle.rvs_suite.specs.declared.command.Command.{Command}
 use Rattle.rvs_suite.specs.declared.command.Command.TheVariants.{Unknown, Compare}
 
 -- a command that met its plan
-pub Performs-meets : {command : Command} {old new : World} {result : Result Finish Stop} → (command ≡ Unknown → ⊥) → Meets (plan_of command) old new result → Performs command old new result
+pub Performs-meets : {command : Command} {old new : World} {result : Result Finish Stop} → (command ≡ Unknown → ⊥) → MeetsWith (absence_of command) (plan_of command) old new result → Performs command old new result
 Performs-meets known m = record { obeys = Obeys-meets m; usage = λ is. absurd (Meets-not_usage m is); no_command = λ is. absurd (known is) }
 
 pub Performs-unknown : (w : World) → Performs Unknown w w (Err why.Usage)
 Performs-unknown w = record { obeys = Obeys-usage w; usage = λ is. refl; no_command = λ is. inl refl }
 
 pub Performs-no_memory : (command : Command) (w : World) → Performs command w w (Err why.NoMemory)
-Performs-no_memory command w = record { obeys = Obeys-no_memory (plan_of command) w; usage = λ is. absurd cc; no_command = λ is. inr refl }
+Performs-no_memory command w = record { obeys = Obeys-no_memory (absence_of command) (plan_of command) w; usage = λ is. absurd cc; no_command = λ is. inr refl }
 
 -- a command line, and the line after it
 pub record Ran (command : Command) (old new : World) (err err' : SinkState) (status : Status) : Type 0 where
@@ -34,8 +34,8 @@ pub record Ran (command : Command) (old new : World) (err err' : SinkState) (sta
   pub performs : Performs command old new result
   pub concludes : Concludes result status err err'
 
-pub answers : {command : Command} {old new : World} {err err' : SinkState} {status : Status} → Ran command old new err err' status → Answers (plan_of command) old new err err' status
-answers {command} {old} {new} {err} {err'} {status} r = Answers-of (plan_of command) old new err err' r.result status r.performs.obeys r.concludes
+pub answers : {command : Command} {old new : World} {err err' : SinkState} {status : Status} → Ran command old new err err' status → Answers (absence_of command) (plan_of command) old new err err' status
+answers {command} {old} {new} {err} {err'} {status} r = Answers-of (absence_of command) (plan_of command) old new err err' r.result status r.performs.obeys r.concludes
 
 pub answered : {command : Command} {old new : World} {err err' : SinkState} {status : Status} → Ran command old new err err' status → (files : Files) → Tells old.host files → NoneRose old new err err' → Means (plan_of command) files status ⊎ (status ≡ answer.NoMemory)
 answered {command} {old} {new} {err} {err'} {status} r files t none = Accounts-means (plan_of command) old new err err' files status t none ((answers r).effects files t)

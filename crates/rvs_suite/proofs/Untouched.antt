@@ -1,12 +1,13 @@
 -- That a command which stops for its words, its inputs or their absence has changed nothing.
-use Rattle.std.proofs.Common.{◌≡◌, ◌⊎◌, inl, inr, ℕ, Bool, true, false, if◌then◌else◌, List, [], ◌∷◌, Option, Some, None, Result, Ok, Err, refl, subst, ◌∙◌}
+use Rattle.std.proofs.Common.{◌≡◌, ◌⊎◌, inl, inr, ℕ, Bool, true, false, if◌then◌else◌, List, [], ◌∷◌, length, Option, Some, None, Result, Ok, Err, refl, subst, ◌∙◌}
 use Rattle.std.specs.Prelude.{⊤}
-use Rattle.rvs_base.specs.Host.{Files, Tells}
+use Rattle.rvs_base.specs.Host.{Files, Tells, with_left}
 use Rattle.rvs_base.specs.Sink.{SinkState}
 use Rattle.rvs_plan.specs.World.{World, Contents, contents}
-use Rattle.rvs_plan.specs.Effect.{Effect, Read, Device, Did, after}
+use Rattle.rvs_plan.specs.Effect.{Answer, Effect, Read, Device, Did, after}
 use Rattle.rvs_plan.specs.Plan.{Plan, Ends, Does, Asks, Runs, Goes, followed, gives, ◌>>=◌}
 use Rattle.rvs_plan.specs.Inputs.{input}
+use Rattle.rvs_plan.specs.Performed.{end_of, files_after}
 use Rattle.rvs_plan.specs.Meets.{Completes, Halts}
 use Rattle.rvs_plan.specs.Account.{Accounts, status_of, HostRose}
 use Rattle.rvs_plan.specs.declared.stop.Stop.{Stop}
@@ -27,23 +28,27 @@ use Rattle.rvs_suite.specs.Normalize.{print_normal}
 use Rattle.rvs_suite.specs.Coverage.{reported, print_report}
 use Rattle.rvs_suite.specs.Reference.{test_limit, trial, records, reference_on}
 use Rattle.rvs_suite.specs.TestRun.{accepted, test_found}
+use Rattle.rvs_suite.specs.Tests.{tests_of}
+use Rattle.rvs_suite.specs.RunTests.{Bench, judges_one, with_one, judges_all, tallies, RunInputs, run_inputs, bench_of, runs}
 use Rattle.rvs_suite.specs.Plans.{plan_of}
 use Rattle.rvs_suite.proofs.Ends.{was_refused, WasMissing, was_missing}
 use Rattle.rvs_suite.proofs.Readers.{OnlyReads, OnlyReads-then}
 use Rattle.rvs_suite.proofs.GroupInputs.{reads-specification, reads-inputs}
 use Rattle.rvs_suite.proofs.LogReads.{reads-reported}
+use Rattle.rvs_suite.proofs.RunReads.{reads-run}
 use Rattle.rvs_suite.proofs.Running.{Ran, answers}
 use Rattle.rvs_suite.specs.declared.command.Command.{Command}
-use Rattle.rvs_suite.specs.declared.command.Command.TheVariants.{Unknown, Compare, Validate, Normalize, Generate, Reference, Coverage}
-use Rattle.rvs_suite.specs.declared.test_run.Run.{Run}
+use Rattle.rvs_suite.specs.declared.command.Command.TheVariants.{Unknown, Compare, Validate, Normalize, Generate, Reference, Coverage, Run}
+use Rattle.rvs_suite.specs.declared.test_run.Run.{Run as TestRun}
+use Rattle.rvs_suite.specs.declared.gathering.Test.{Test}
 
--- a plan of deeds that doesn't stop
-abbrev NeverStops : {A : Type 0} → Plan A → Type 0
+-- a plan that doesn't stop, whatever is found and answered
+abbrev pub NeverStops : {A : Type 0} → Plan A → Type 0
 NeverStops (Ends (Ok a)) = ⊤
 NeverStops (Ends (Err stop)) = ⊥
 NeverStops (Does deed plan) = NeverStops plan
-NeverStops (Asks name next) = ⊥
-NeverStops (Runs words test signature next) = ⊥
+NeverStops (Asks name next) = (found : Option (List ℕ)) → NeverStops (next found)
+NeverStops (Runs words test signature next) = (answer : Answer) → NeverStops (next answer)
 
 -- where the plan stops, nothing was changed
 abbrev StopsUntouched : {A : Type 0} → Plan A → Type 0
@@ -57,8 +62,14 @@ goes-on (Does deed plan) [] stop never goes = cc
 goes-on (Does deed plan) (Did d ∷ effects) stop never goes = goes-on plan effects stop never goes.1
 goes-on (Does deed plan) (Read name found ∷ effects) stop never goes = goes
 goes-on (Does deed plan) (Device words test signature answer ∷ effects) stop never goes = goes
-goes-on (Asks name next) effects stop never goes = never
-goes-on (Runs words test signature next) effects stop never goes = never
+goes-on (Asks name next) [] stop never goes = cc
+goes-on (Asks name next) (Read n found ∷ effects) stop never goes = goes-on (next found) effects stop (never found) goes.1
+goes-on (Asks name next) (Did deed ∷ effects) stop never goes = goes
+goes-on (Asks name next) (Device words test signature answer ∷ effects) stop never goes = goes
+goes-on (Runs words test signature next) [] stop never goes = cc
+goes-on (Runs words test signature next) (Device w t s answer ∷ effects) stop never goes = goes-on (next answer) effects stop (never answer) goes.3
+goes-on (Runs words test signature next) (Did deed ∷ effects) stop never goes = goes
+goes-on (Runs words test signature next) (Read name found ∷ effects) stop never goes = goes
 
 untouched-end : (A : Type 0) (stop : Stop) → StopsUntouched {A = A} (Ends (Err stop))
 untouched-end A stop [] stop' c goes = refl
@@ -84,16 +95,25 @@ reads-signature name = OnlyReads-then (input comparing.signature_limit name) (co
 reads-trial : (steps : Option ℕ) (isa : Isa) (test : List ℕ) → OnlyReads (trial steps isa test)
 reads-trial steps isa test = OnlyReads-then (input test_limit test) (λ bytes. accepted (test_found steps isa test bytes)) (λ found. tt) (λ bytes. tt)
 
-records-on : (signature : List ℕ) (log : Option (List ℕ)) (run : Run) → NeverStops (records signature log run)
+records-on : (signature : List ℕ) (log : Option (List ℕ)) (run : TestRun) → NeverStops (records signature log run)
 records-on signature None run = tt
 records-on signature (Some log) run = tt
 
-never-then : {A B : Type 0} (plan : Plan A) (next : A → Plan B) → NeverStops plan → ((a : A) → NeverStops (next a)) → NeverStops (plan >>= next)
+pub never-then : {A B : Type 0} (plan : Plan A) (next : A → Plan B) → NeverStops plan → ((a : A) → NeverStops (next a)) → NeverStops (plan >>= next)
 never-then (Ends (Ok a)) next never each = each a
 never-then (Ends (Err stop)) next never each = absurd never
 never-then (Does deed plan) next never each = never-then plan next never each
-never-then (Asks name rest) next never each = absurd never
-never-then (Runs words test signature rest) next never each = absurd never
+never-then (Asks name rest) next never each = λ found. never-then (rest found) next (never found) each
+never-then (Runs words test signature rest) next never each = λ answer. never-then (rest answer) next (never answer) each
+
+-- its end is a value
+pub never-end : {A : Type 0} (plan : Plan A) (files : Files) (answers : List Answer) (stop : Stop) → NeverStops plan → end_of plan files answers ≡ Some (Err stop) → ⊥
+never-end (Ends (Ok a)) files answers stop never is = cc
+never-end (Ends (Err s)) files answers stop never is = never
+never-end (Does deed plan) files answers stop never is = never-end plan (files_after deed files) answers stop never is
+never-end (Asks name next) files answers stop never is = never-end (next (files name)) files answers stop (never (files name)) is
+never-end (Runs words test signature next) files [] stop never is = cc
+never-end (Runs words test signature next) files (answer ∷ answers) stop never is = never-end (next answer) (with_left signature answer.left files) answers stop (never answer) is
 
 chosen-on : (b : Bool) (path : List ℕ) (text : Option (List ℕ)) → NeverStops (if b then writes_text path text else gives tt)
 chosen-on true path None = tt
@@ -106,6 +126,16 @@ tests-on work isa (l ∷ ls) = never-then (writes_test work isa l) (λ _. writes
 
 generates-on : (work : List ℕ) (inputs : Inputs) → NeverStops (generates work inputs)
 generates-on work inputs = never-then (written_tests work inputs.isa inputs.groups) print_report (never-then (writes_tests work inputs.isa inputs.groups) (λ _. gives (listing inputs.isa inputs.groups)) (tests-on work inputs.isa inputs.groups) (λ _. tt)) (λ text. tt)
+
+judges-on : (bench : Bench) (passed : ℕ) (tests : List Test) → NeverStops (judges_all bench passed tests)
+judges-on bench passed [] = tt
+judges-on bench passed (test ∷ tests) = never-then (judges_one bench test) (λ pass. judges_all bench (with_one passed pass) tests) (λ answer found. tt) (λ pass. judges-on bench (with_one passed pass) tests)
+
+pub runs-on : (program work : List ℕ) (inputs : RunInputs) → NeverStops (runs program work inputs)
+runs-on program work inputs =
+    let bench = bench_of program work inputs in
+    let tests = tests_of bench.isa inputs.groups.groups in
+    never-then (judges_all bench 0 tests) (tallies (length tests)) (judges-on bench 0 tests) (λ passed. tt)
 
 -- no command stops once it has changed anything
 stops_untouched : (command : Command) (effects : List Effect) (stop : Stop) (c : Contents) → Goes (plan_of command) effects (Ends (Err stop)) → after effects c ≡ c
@@ -123,6 +153,9 @@ stops_untouched (Normalize isa names) =
 stops_untouched (Generate isa names work) =
     untouched-then (group_inputs isa names) (generates work) (reads-inputs isa names) (λ inputs effects stop c goes.
     absurd (goes-on (generates work inputs) effects stop (generates-on work inputs) goes))
+stops_untouched (Run program isa names device work) =
+    untouched-then (run_inputs isa names device) (runs program work) (reads-run isa names device) (λ inputs effects stop c goes.
+    absurd (goes-on (runs program work inputs) effects stop (runs-on program work inputs) goes))
 stops_untouched (Coverage isa names log windows) =
     untouched-then (reported isa names log windows) print_report (reads-reported isa names log windows) (λ report effects stop c goes.
     absurd (goes-on (print_report report) effects stop tt goes))

@@ -6,6 +6,8 @@ use Rattle.rvs_plan.specs.World.{Later, LaterSink}
 use Rattle.rvs_base.specs.Sink.{appended}
 use Rattle.rvs_plan.specs.Account.{NoneChanged, fault_line}
 use Rattle.rvs_plan.specs.declared.status.Status.TheVariants as answer
+use Rattle.rvs_suite.specs.Commands.{command_of}
+use Rattle.rvs_suite.specs.Plans.{absence_of}
 use Rattle.rvs_suite.specs.Call.{Call, world_of, Asks, HostRose}
 use Rattle.rvs_suite.specs.declared.command.Command.TheVariants.{Unknown}
 
@@ -25,9 +27,9 @@ pub record Promise (call : Call) : Type 0 where
   -- a count rose where a host that doesn't tell fails, or a sink
   pub host_fault : call.status ≡ answer.HostFault → is_told call.old.host ≡ false → HostRose call
   pub sink_fault : call.status ≡ answer.SinkFault → Rose call.old.out.faults call.new.out.faults ⊎ Rose call.old.err.faults call.new.err.faults
-  -- no fault is passed over: with any other status no count has changed; nor has one where a told host lacks a file
-  pub unfaulted : call.status ≢ answer.HostFault → call.status ≢ answer.SinkFault → NoneChanged (world_of call.old) (world_of call.new) call.old.err call.new.err
-  pub missing : call.status ≡ answer.HostFault → is_told call.old.host ≡ true → HostRose call ⊎ NoneChanged (world_of call.old) (world_of call.new) call.old.err call.new.err
+  -- no fault is passed over: with any other status no count has changed, but that of reading by `run` where a host that doesn't tell has no signature of a device; nor has one where a told host lacks a file
+  pub unfaulted : call.status ≢ answer.HostFault → call.status ≢ answer.SinkFault → NoneChanged (absence_of (command_of call.words)) (world_of call.old) (world_of call.new) call.old.err call.new.err
+  pub missing : call.status ≡ answer.HostFault → is_told call.old.host ≡ true → HostRose call ⊎ NoneChanged (absence_of (command_of call.words)) (world_of call.old) (world_of call.new) call.old.err call.new.err
   -- no count falls, and what was told is told
   pub later : Later (world_of call.old) (world_of call.new)
   pub errors_later : LaterSink call.old.err call.new.err

@@ -35,3 +35,5 @@ pub mod Tests
 pub mod DeviceInput
 pub mod RunTests
 pub mod RunView
+pub mod RunLeft
+pub mod Judging

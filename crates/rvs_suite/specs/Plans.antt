@@ -1,6 +1,6 @@
 -- What each command line does.
 use Rattle.std.specs.Prelude.{◌≡◌, ◌⊎◌, List, ℕ, Result, Err}
-use Rattle.rvs_plan.specs.World.{World}
+use Rattle.rvs_plan.specs.World.{World, Absence, IsFault, IsAnswer}
 use Rattle.rvs_plan.specs.Plan.{Plan, ends}
 use Rattle.rvs_plan.specs.Meets.{Obeys}
 use Rattle.rvs_plan.specs.declared.stop.Stop.{Stop}
@@ -32,9 +32,14 @@ plan_of (Run program isa groups device work) = judging.run program isa groups de
 abbrev pub effects_of : List (List ℕ) → Plan Finish
 effects_of words = plan_of (command_of words)
 
+-- `run` takes it for an answer that the signature file of a device isn't there
+abbrev pub absence_of : Command → Absence
+absence_of (Run program isa groups device work) = IsAnswer
+absence_of _ = IsFault
+
 -- what was done for a command, and how it ended
 pub record Performs (command : Command) (old new : World) (result : Result Finish Stop) : Type 0 where
-  pub obeys : Obeys (plan_of command) old new result
+  pub obeys : Obeys (absence_of command) (plan_of command) old new result
   -- it stops for its words where they are no command
   pub usage : result ≡ Err why.Usage → command ≡ Unknown
   pub no_command : command ≡ Unknown → (result ≡ Err why.Usage) ⊎ (result ≡ Err why.NoMemory)

@@ -1,5 +1,5 @@
 -- What `run` does.
-use Rattle.std.specs.Prelude.{ℕ, ◌+◌, ◌-◌, ◌==◌, Bool, if◌then◌else◌, List, [], ◌∷◌, ◌++◌, length, codes, decimal}
+use Rattle.std.specs.Prelude.{ℕ, ◌+◌, ◌-◌, ◌==◌, Bool, true, false, if◌then◌else◌, List, [], ◌∷◌, ◌++◌, length, codes, decimal}
 use Rattle.rvs_plan.specs.Plan.{Plan, gives, prints, writes, ◌>>=◌}
 use Rattle.rvs_plan.specs.declared.status.Finish.{Finish}
 use Rattle.rvs_plan.specs.declared.status.Finish.TheVariants.{Done, NotPassed}
@@ -8,9 +8,10 @@ use Rattle.rvs_sig.specs.Words.{text_of_words}
 use Rattle.rvs_cgf.specs.Groups.{Label}
 use Rattle.rvs_device.specs.DeviceFile.{Told}
 use Rattle.rvs_device.specs.Plans.{judged}
-use Rattle.rvs_device.specs.Judged.{passes}
+use Rattle.rvs_device.specs.Judging.{task}
 use Rattle.rvs_device.specs.Printed.{verdict_line}
 use Rattle.rvs_device.specs.declared.verdicts.TestVerdict.{TestVerdict}
+use Rattle.rvs_device.specs.declared.verdicts.TestVerdict.TheVariants.{Pass}
 use Rattle.rvs_suite.specs.GroupFiles.{Inputs, group_inputs}
 use Rattle.rvs_suite.specs.GenerateTexts.{listing}
 use Rattle.rvs_suite.specs.Generate.{path_of}
@@ -42,7 +43,7 @@ tally_line tests passed =
 -- the device is run on the test of this name, and judged by these words
 abbrev pub judges_by : Bench → List ℕ → List ℕ → Plan TestVerdict
 judges_by bench name words =
-    judged bench.device.command bench.program (path_of bench.work name) (device_path bench.work name) words
+    judged (task bench.device.command bench.program (path_of bench.work name) (device_path bench.work name) words)
 
 -- a test is written, and then the words that it leaves on the reference machine; the device is run on it and judged by these
 abbrev pub judges : Bench → Test → Plan TestVerdict
@@ -50,6 +51,10 @@ judges bench test = do
   _ ← writes (path_of bench.work test.name) test.text
   _ ← writes (reference_path bench.work test.name) (text_of_words (reference_words bench.isa test))
   judges_by bench test.name (reference_words bench.isa test)
+
+abbrev pub passes : TestVerdict → Bool
+passes (Pass n status) = true
+passes verdict = false
 
 -- the line of the verdict is put
 abbrev pub announces : List ℕ → TestVerdict → Plan Bool

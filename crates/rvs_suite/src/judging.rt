@@ -2,14 +2,14 @@
 ghost use Rattle.std.specs.Prelude.{◌≡◌, Ok, IfOk};
 ghost use Rattle.rvs_base.specs.Host.{HostState};
 ghost use Rattle.rvs_base.specs.Sink.{SinkState};
-ghost use Rattle.rvs_plan.specs.World.{world};
+ghost use Rattle.rvs_plan.specs.World.{world, IsAnswer};
 ghost use Rattle.rvs_plan.specs.Plan.{writes};
-ghost use Rattle.rvs_plan.specs.Meets.{Meets};
+ghost use Rattle.rvs_plan.specs.Meets.{MeetsWith, Meets};
 ghost use Rattle.rvs_asm.specs.Answer.{answer};
 ghost use Rattle.rvs_sig.specs.Words.{text_of_words};
 ghost use Rattle.rvs_suite.specs.Generate.{path_of};
 ghost use Rattle.rvs_suite.specs.Tests.{IsRunnable, reference_words};
-ghost use Rattle.rvs_suite.specs.RunTests.{reference_path, device_path, judges_by, judges, announces, judges_one};
+ghost use Rattle.rvs_suite.specs.RunTests.{reference_path, device_path, judges_by, judges, passes, announces, judges_one};
 ghost use Rattle.rvs_suite.specs.RunView.{bench_view};
 
 use crate::gathering::Test;
@@ -35,7 +35,7 @@ pub struct Bench {
 }
 
 /// Judges a test, puts the verdict, and says whether it passes.
-fn judge_one<H: Host, O: Sink>(
+pub fn judge_one<H: Host, O: Sink>(
     alloc: Global,
     host: &mut H,
     out: &mut O,
@@ -43,7 +43,7 @@ fn judge_one<H: Host, O: Sink>(
     test: &Test,
 ) -> Result<bool, Stop>
     requires { IsRunnable bench.now.isa test.now }
-    ensures { Meets (judges_one (bench_view bench.now) test.now)
+    ensures { MeetsWith IsAnswer (judges_one (bench_view bench.now) test.now)
         (world (H.state host.old) (O.state out.old))
         (world (H.state host.new) (O.state out.new)) result }
 {
@@ -59,7 +59,7 @@ fn judge_test<H: Host>(
     test: &Test,
 ) -> Result<TestVerdict, Stop>
     requires { IsRunnable bench.now.isa test.now }
-    ensures { (out : SinkState) → Meets (judges (bench_view bench.now) test.now)
+    ensures { (out : SinkState) → MeetsWith IsAnswer (judges (bench_view bench.now) test.now)
         (world (H.state host.old) out) (world (H.state host.new) out) result }
 {
     let words = words_of(alloc, &bench.isa, test)?;
@@ -136,7 +136,7 @@ fn judge_words<H: Host>(
     test: &Test,
     words: &[u32],
 ) -> Result<TestVerdict, Stop>
-    ensures { (out : SinkState) → Meets
+    ensures { (out : SinkState) → MeetsWith IsAnswer
         (judges_by (bench_view bench.now) test.now.name words.now)
         (world (H.state host.old) out) (world (H.state host.new) out) result }
 {
@@ -174,6 +174,15 @@ fn device_path(alloc: Global, work: &str, name: &str) -> Result<Text, NoMemory>
     Ok(Text::from(format!(in alloc; "{work}/{name}.device.sig")?))
 }
 
+fn passes(verdict: &TestVerdict) -> bool
+    ensures { result ≡ passes verdict.now }
+{
+    match verdict {
+        TestVerdict::Pass { .. } => true,
+        _ => false,
+    }
+}
+
 /// Puts a verdict, and says whether it is a pass.
 fn print_verdict<O: Sink>(
     alloc: Global,
@@ -186,5 +195,5 @@ fn print_verdict<O: Sink>(
 {
     let line = verdict_line(alloc, name, verdict)?;
     print(out, line.as_str().as_bytes())?;
-    Ok(verdict.passes())
+    Ok(passes(verdict))
 }

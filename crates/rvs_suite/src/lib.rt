@@ -17,13 +17,15 @@ mod group_files;
 mod group_tests;
 mod isa_file;
 mod judging;
+#[cfg(test)]
+mod judging_tests;
 mod listing;
 mod making;
 mod normalizing;
 mod reference;
 #[cfg(test)]
 mod reference_tests;
-mod running;
+mod run;
 mod suite;
 mod test_file;
 mod test_run;

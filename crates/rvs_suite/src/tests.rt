@@ -152,7 +152,7 @@ fn words_that_are_no_command(rt: HostRuntime) -> Result<(), Fail> {
         "rvsuite compare a.sig --",
         "rvsuite compared a.sig b.sig",
         "rvsuite validate i.yaml",
-        "rvsuite validate --isa=i.yaml",
+        "rvsuite validate --isa=",
         "rvsuite validate --isa i.yaml --isa i.yaml",
         "rvsuite validate --isa -i.yaml",
         "rvsuite reference --isa i.yaml --test t.S",
@@ -161,6 +161,7 @@ fn words_that_are_no_command(rt: HostRuntime) -> Result<(), Fail> {
         "rvsuite reference --isa i.yaml --test t.S --signature t.sig --steps 0",
         "rvsuite reference --isa i.yaml --test t.S --signature t.sig --steps 2000001",
         "rvsuite reference --isa i.yaml --test t.S --signature t.sig --steps 00000001",
+        "rvsuite run --isa=i.yaml --cgf=a.cgf --device=d.yaml",
         "rvsuite --help",
         "rvsuite",
     ] {

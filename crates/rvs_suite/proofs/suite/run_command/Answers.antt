@@ -1,6 +1,6 @@
 use Rattle.std.proofs.Common.{◌≡◌, List, ℕ, subst}
-use Rattle.rvs_plan.specs.World.{world}
-use Rattle.rvs_plan.specs.Meets.{Meets}
+use Rattle.rvs_plan.specs.World.{world, IsAnswer}
+use Rattle.rvs_plan.specs.Meets.{MeetsWith, Meets}
 use Rattle.rvs_suite.specs.Compare.{compare}
 use Rattle.rvs_suite.specs.Validate.{validate}
 use Rattle.rvs_count.specs.declared.window.Window.{Window}
@@ -8,6 +8,7 @@ use Rattle.rvs_suite.specs.Coverage.{coverage}
 use Rattle.rvs_suite.specs.Generate.{generate}
 use Rattle.rvs_suite.specs.Normalize.{normalize}
 use Rattle.rvs_suite.specs.Reference.{reference}
+use Rattle.rvs_suite.specs.RunTests.{run}
 use Rattle.rvs_suite.proofs.Running.{Performs-meets, Performs-unknown}
 use Rattle.rvs_suite.proofs.suite.run_command.Goals as goal
 
@@ -83,3 +84,15 @@ returns-in-Coverage g c =
     let three = subst (λ (log : List ℕ). Meets (coverage c.in-Coverage.isa c.in-Coverage.groups log c.as_slice-in-Coverage-2.result.now) old new result) l two in
     let met = subst (λ (windows : List Window). Meets (coverage c.in-Coverage.isa c.in-Coverage.groups c.in-Coverage.log windows) old new result) w three in
     rw c.in-Coverage.is (Performs-meets (λ is. cc) met)
+
+pub returns-in-Run : goal.returns-in-Run
+returns-in-Run g c =
+    let p : c.as_str-in-Run.result.now ≡ c.in-Run.program = c.as_str-in-Run.ensures in
+    let i : c.as_str-in-Run-2.result.now ≡ c.in-Run.isa = c.as_str-in-Run-2.ensures in
+    let n : c.as_slice-in-Run.result.now ≡ c.in-Run.groups = c.as_slice-in-Run.ensures in
+    let d : c.as_str-in-Run-3.result.now ≡ c.in-Run.device = c.as_str-in-Run-3.ensures in
+    let w : c.as_str-in-Run-4.result.now ≡ c.in-Run.work = c.as_str-in-Run-4.ensures in
+    let old = world (g.H.Host.state c.args.host.now) (g.O.Sink.state c.args.out.now) in
+    let new = world (g.H.Host.state c.run_tests.new.host) (g.O.Sink.state c.run_tests.new.out) in
+    let met = rw (p, i, n, d, w) at c.run_tests.ensures in
+    rw c.in-Run.is (Performs-meets (λ is. cc) met)

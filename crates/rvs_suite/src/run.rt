@@ -2,8 +2,8 @@
 ghost use Rattle.std.specs.Prelude.{◌≡◌, ◌≤◌, All, IfOk, length};
 ghost use Rattle.rvs_base.specs.Host.{HostState};
 ghost use Rattle.rvs_base.specs.Sink.{SinkState};
-ghost use Rattle.rvs_plan.specs.World.{world};
-ghost use Rattle.rvs_plan.specs.Meets.{Meets};
+ghost use Rattle.rvs_plan.specs.World.{world, IsAnswer};
+ghost use Rattle.rvs_plan.specs.Meets.{MeetsWith, Meets};
 ghost use Rattle.rvs_suite.specs.Tests.{IsRunnable};
 ghost use Rattle.rvs_suite.specs.RunTests.{tally_line, judges_all, verdict_of_all, tallies, judges_tests, run};
 ghost use Rattle.rvs_suite.specs.RunView.{bench_view};
@@ -34,7 +34,7 @@ pub fn run_tests<H: Host, O: Sink>(
     host: &mut H,
     out: &mut O,
 ) -> Result<Finish, Stop>
-    ensures { Meets (run program.now isa.now names.now device.now work.now)
+    ensures { MeetsWith IsAnswer (run program.now isa.now names.now device.now work.now)
         (world (H.state host.old) (O.state out.old))
         (world (H.state host.new) (O.state out.new)) result }
 {
@@ -60,7 +60,7 @@ fn judge_tests<H: Host, O: Sink>(
     tests: &[Test],
 ) -> Result<Finish, Stop>
     requires { All (IsRunnable bench.now.isa) tests.now }
-    ensures { Meets (judges_tests (bench_view bench.now) tests.now)
+    ensures { MeetsWith IsAnswer (judges_tests (bench_view bench.now) tests.now)
         (world (H.state host.old) (O.state out.old))
         (world (H.state host.new) (O.state out.new)) result }
 {
@@ -77,7 +77,7 @@ fn judge_all<H: Host, O: Sink>(
     tests: &[Test],
 ) -> Result<usize, Stop>
     requires { All (IsRunnable bench.now.isa) tests.now }
-    ensures met { Meets (judges_all (bench_view bench.now) 0 tests.now)
+    ensures met { MeetsWith IsAnswer (judges_all (bench_view bench.now) 0 tests.now)
         (world (H.state host.old) (O.state out.old))
         (world (H.state host.new) (O.state out.new)) result }
     ensures some { IfOk result (λ passed. passed ≤ length tests.now) }

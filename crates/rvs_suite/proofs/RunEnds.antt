@@ -1,0 +1,169 @@
+-- What every call of `run` promises.
+use Rattle.std.proofs.Common.{◌≡◌, ◌⊎◌, inl, inr, ℕ, true, is_some, List, [], ◌∷◌, ◌++◌, length, option_map, Option, Some, None, Result, Ok, Err, refl, sym, ap, subst, ◌∙◌}
+use Rattle.rvs_base.specs.Host.{Files, Tells}
+use Rattle.rvs_base.specs.Sink.{appended}
+use Rattle.rvs_base.specs.declared.host.DeviceRun.{DeviceRun}
+use Rattle.rvs_plan.specs.World.{World, Contents, contents}
+use Rattle.rvs_plan.specs.Effect.{Answer, Effect, Did, Out, after, Saw}
+use Rattle.rvs_plan.specs.Plan.{Plan, Ends, Goes, followed, ◌>>=◌}
+use Rattle.rvs_plan.specs.Performed.{end_of, ComesTo}
+use Rattle.rvs_plan.specs.Meets.{Completes}
+use Rattle.rvs_plan.specs.Account.{Means, end_status}
+use Rattle.rvs_plan.proofs.Answering.{ComesTo-Completes}
+use Rattle.rvs_plan.specs.declared.stop.Stop.{Stop}
+use Rattle.rvs_plan.specs.declared.stop.Stop.TheVariants as why
+use Rattle.rvs_plan.specs.declared.status.Status.{Status}
+use Rattle.rvs_plan.specs.declared.status.Status.TheVariants as answer
+use Rattle.rvs_plan.specs.declared.status.Finish.{Finish}
+use Rattle.rvs_plan.specs.declared.status.Finish.TheVariants as finish
+use Rattle.rvs_device.proofs.Passing as passing
+use Rattle.rvs_suite.specs.Call.{Call, world_of}
+use Rattle.rvs_suite.specs.Answered.{HasLeft}
+use Rattle.rvs_suite.specs.GenerateTexts.{listing}
+use Rattle.rvs_suite.specs.RunTests.{tally_line, tallies, verdict_of_all, RunInputs, run_inputs, bench_of, runs, run}
+use Rattle.rvs_suite.specs.RunLeft.{verdict_lines, passed_onto, with_all_judged}
+use Rattle.rvs_suite.specs.Judging.{run_inputs_in, tests_in, HasJudged, Runs}
+use Rattle.rvs_suite.specs.declared.command.Command.TheVariants.{Run}
+use Rattle.rvs_suite.proofs.Answered.{RunsOn, ran-command}
+use Rattle.rvs_suite.proofs.Ends.{means-end, was_refused, was_missing}
+use Rattle.rvs_suite.proofs.Finding.{Behind, behind, end-found}
+use Rattle.rvs_suite.proofs.Running.{at_status, asked_means}
+use Rattle.rvs_suite.proofs.RunReads.{finds-run}
+use Rattle.rvs_suite.proofs.RunSteps.{FirstDid, first_did, contents_of, appended-twice, JudgedAll, judged-all}
+use Rattle.rvs_suite.proofs.Untouched.{never-end, runs-on}
+
+-- ---- the end, by what the inputs come to
+abbrev rest_of : List ℕ → List ℕ → Result RunInputs Stop → Plan Finish
+rest_of program work found = followed found (runs program work)
+
+end-rest : (files : Files) (answers : List Answer) (program isa : List ℕ) (names : List (List ℕ)) (device work : List ℕ) → end_of (run program isa names device work) files answers ≡ end_of (rest_of program work (run_inputs_in files isa names device)) files answers
+end-rest files answers program isa names device work = end-found files answers (run_inputs isa names device) (runs program work) (run_inputs_in files isa names device) (finds-run files isa names device)
+
+stopped-rest : (files : Files) (answers : List Answer) (program work : List ℕ) (found : Result RunInputs Stop) (stop : Stop) → end_of (rest_of program work found) files answers ≡ Some (Err stop) → found ≡ Err stop
+stopped-rest files answers program work (Ok inputs) stop is = absurd (never-end (runs program work inputs) files answers stop (runs-on program work inputs) is)
+stopped-rest files answers program work (Err s) stop is = let same : s ≡ stop = cc in ap (λ (x : Stop). Err x) same
+
+-- a run that stopped did so at its inputs
+stopped : (files : Files) (program isa : List ℕ) (names : List (List ℕ)) (device work : List ℕ) (stop : Stop) → ComesTo (run program isa names device work) files (Err stop) → run_inputs_in files isa names device ≡ Err stop
+stopped files program isa names device work stop comes = stopped-rest files comes.answers program work (run_inputs_in files isa names device) stop (sym (end-rest files comes.answers program isa names device work) ∙ comes.is)
+
+stops : (files : Files) (program isa : List ℕ) (names : List (List ℕ)) (device work : List ℕ) (stop : Stop) → run_inputs_in files isa names device ≡ Err stop → (answers : List Answer) → end_of (run program isa names device work) files answers ≡ Some (Err stop)
+stops files program isa names device work stop is answers = end-rest files answers program isa names device work ∙ ap (λ (found : Result RunInputs Stop). end_of (rest_of program work found) files answers) is
+
+ended : (files : Files) (program isa : List ℕ) (names : List (List ℕ)) (device work : List ℕ) (inputs : RunInputs) (status : Status) (end : Result Finish Stop) → run_inputs_in files isa names device ≡ Ok inputs → ComesTo (run program isa names device work) files end → status ≡ end_status end → (status ≡ answer.Done) ⊎ (status ≡ answer.NotPassed) ⊎ (status ≡ answer.NoMemory)
+ended files program isa names device work inputs status (Ok finish.Done) given comes is = inl is
+ended files program isa names device work inputs status (Ok finish.NotPassed) given comes is = inr (inl is)
+ended files program isa names device work inputs status (Err stop) given comes is = let both : Ok inputs ≡ Err stop = sym given ∙ stopped files program isa names device work stop comes in absurd cc
+
+-- ---- what is left
+record Left (program work : List ℕ) (inputs : RunInputs) (files : Files) (before : List DeviceRun) (out : Option (List ℕ)) (end : Finish) (effects : List Effect) : Type 0 where
+  all : JudgedAll (bench_of program work inputs) (tests_in inputs) 0 (tallies (length (tests_in inputs))) files before (appended out (listing inputs.groups.isa inputs.groups.groups)) (Ok end) effects
+  same : after effects (contents_of files before (appended out (listing inputs.groups.isa inputs.groups.groups)))
+      ≡ contents_of (with_all_judged (bench_of program work inputs) (tests_in inputs) all.news files) (before ++ all.news)
+        (appended out (listing inputs.groups.isa inputs.groups.groups ++ (verdict_lines (bench_of program work inputs) (tests_in inputs) all.news ++ tally_line (length (tests_in inputs)) (passed_onto (bench_of program work inputs) 0 (tests_in inputs) all.news))))
+  verdict : end ≡ verdict_of_all (length (tests_in inputs)) (passed_onto (bench_of program work inputs) 0 (tests_in inputs) all.news)
+
+-- nothing comes behind an end
+at-end : (value end : Finish) (effects : List Effect) → Goes (Ends (Ok value)) effects (Ends (Ok end)) → (effects ≡ []) × (end ≡ value)
+at-end value end [] goes = (refl, let same : value ≡ end = cc in sym same)
+at-end value end (effect ∷ effects) goes = absurd goes
+
+tallied : (program work : List ℕ) (inputs : RunInputs) (files : Files) (before : List DeviceRun) (out : Option (List ℕ)) (end : Finish) (effects : List Effect)
+    → JudgedAll (bench_of program work inputs) (tests_in inputs) 0 (tallies (length (tests_in inputs))) files before (appended out (listing inputs.groups.isa inputs.groups.groups)) (Ok end) effects
+    → Left program work inputs files before out end effects
+tallied program work inputs files before out end effects all =
+    let bench = bench_of program work inputs in
+    let tests = tests_in inputs in
+    let said = listing inputs.groups.isa inputs.groups.groups in
+    let lines = verdict_lines bench tests all.news in
+    let tally = tally_line (length tests) (passed_onto bench 0 tests all.news) in
+    let last = first_did (Out tally) (Ends (Ok (verdict_of_all (length tests) (passed_onto bench 0 tests all.news)))) (Ok end) all.later all.goes in
+    let over = at-end (verdict_of_all (length tests) (passed_onto bench 0 tests all.news)) end last.rest last.goes in
+    let later : all.later ≡ Did (Out tally) ∷ [] = last.is ∙ ap (λ (es : List Effect). Did (Out tally) ∷ es) over.0 in
+    let now = contents_of (with_all_judged bench tests all.news files) (before ++ all.news) in
+    record {
+      all = all;
+      same = all.same ∙ ap (λ (es : List Effect). after es (now (appended (appended out said) lines))) later
+          ∙ ap (λ (o : Option (List ℕ)). now o) (appended-twice (appended out said) lines tally ∙ appended-twice out said (lines ++ tally));
+      verdict = over.1;
+    }
+
+judged : (program work : List ℕ) (inputs : RunInputs) (files : Files) (before : List DeviceRun) (out : Option (List ℕ)) (end : Finish) (effects : List Effect) → Goes (runs program work inputs) effects (Ends (Ok end)) → Saw effects (contents_of files before out)
+    → (later : List Effect) × Left program work inputs files before out end later × (after effects (contents_of files before out) ≡ after later (contents_of files before (appended out (listing inputs.groups.isa inputs.groups.groups))))
+judged program work inputs files before out end effects goes saw =
+    let bench = bench_of program work inputs in
+    let tests = tests_in inputs in
+    let said = listing inputs.groups.isa inputs.groups.groups in
+    let first = first_did (Out said) _ (Ok end) effects goes in
+    let seen = subst (λ (es : List Effect). Saw es (contents_of files before out)) first.is saw in
+    (first.rest,
+    tallied program work inputs files before out end first.rest (judged-all bench tests 0 (tallies (length tests)) files before (appended out said) (Ok end) first.rest first.goes seen.1),
+    ap (λ (es : List Effect). after es (contents_of files before out)) first.is)
+
+told-runs : (r : Option (List DeviceRun)) → is_some r ≡ true → (runs : List DeviceRun) × (r ≡ Some runs)
+told-runs (Some runs) is = (runs, refl)
+told-runs None is = absurd cc
+
+has-judged : {call : Call} (program work : List ℕ) (inputs : RunInputs) (files : Files) (end : Finish) (effects : List Effect) → Tells call.old.host files → Goes (runs program work inputs) effects (Ends (Ok end)) → Saw effects (contents (world_of call.old)) → contents (world_of call.new) ≡ after effects (contents (world_of call.old)) → HasJudged call program work end inputs
+has-judged {call} program work inputs files end effects t goes saw did =
+    let before = told-runs call.old.host.runs t.runs in
+    let out = call.old.out.bytes in
+    let old : contents (world_of call.old) ≡ contents_of files before.0 out = λ i. record { files = t.files i; runs = before.1 i; out = out } in
+    let now = judged program work inputs files before.0 out end effects goes (subst (λ (c : Contents). Saw effects c) old saw) in
+    let left = now.1 in
+    let new = did ∙ ap (λ (c : Contents). after effects c) old ∙ now.2 ∙ left.same in
+    record {
+      runs = left.all.news;
+      each = left.all.each;
+      made = ap (λ (c : Contents). c.runs) new ∙ sym (ap (λ (r : Option (List DeviceRun)). option_map (λ b. b ++ left.all.news) r) before.1);
+      files = ap (λ (c : Contents). c.files) new ∙ sym (ap (λ (f : Option Files). option_map (with_all_judged (bench_of program work inputs) (tests_in inputs) left.all.news) f) t.files);
+      out = ap (λ (c : Contents). c.out) new;
+      verdict = left.verdict;
+    }
+
+-- by what the inputs come to
+left-by : {call : Call} (program work : List ℕ) (found : Result RunInputs Stop) (files : Files) (end : Finish) (effects : List Effect) → Tells call.old.host files → Behind (rest_of program work found) (Ok end) effects (contents (world_of call.old)) → contents (world_of call.new) ≡ after effects (contents (world_of call.old)) → HasLeft found (HasJudged call program work end)
+left-by program work (Ok inputs) files end effects t b did = record { given = inputs; accepted = refl; left = has-judged program work inputs files end b.later t b.goes b.saw (did ∙ b.same) }
+left-by program work (Err stop) files end effects t b did = absurd (no-end b.later b.goes)
+  where
+    no-end : (later : List Effect) → Goes (Ends (Err stop)) later (Ends (Ok end)) → ⊥
+    no-end [] goes = cc
+    no-end (effect ∷ later) goes = goes
+
+left : {call : Call} (files : Files) (program isa : List ℕ) (names : List (List ℕ)) (device work : List ℕ) (end : Finish) → Tells call.old.host files → Completes (run program isa names device work) (Ok end) (contents (world_of call.old)) (contents (world_of call.new)) → HasLeft (run_inputs_in files isa names device) (HasJudged call program work end)
+left {call} files program isa names device work end t r =
+    left-by program work (run_inputs_in files isa names device) files end r.effects t
+    (behind files (run_inputs isa names device) (runs program work) (run_inputs_in files isa names device) (Ok end) r.effects (contents (world_of call.old)) (finds-run files isa names device) t.files r.saw r.goes) r.did
+
+-- ---- the promise
+pub judges : {call : Call} (files : Files) (program isa : List ℕ) (names : List (List ℕ)) (device work : List ℕ) → RunsOn call files (Run program isa names device work) → Runs call files program isa names device work
+judges {call} files program isa names device work r =
+    let old = world_of call.old in
+    let new = world_of call.new in
+    let command = Run program isa names device work in
+    let plan = run program isa names device work in
+    let ran = ran-command r in
+    record {
+      done = λ is. left files program isa names device work finish.Done r.told (at_status ran files command answer.Done r.told refl is).completes;
+      not_passed = λ is. left files program isa names device work finish.NotPassed r.told (at_status ran files command answer.NotPassed r.told refl is).completes;
+      by_inputs = λ inputs given none. elim (asked_means ran files command r.told refl none) [
+        | inl m ↦ ended files program isa names device work inputs call.status m.end given m.comes m.status_is
+        | inr no_memory ↦ inr (inr no_memory)
+      ];
+      refused = λ is.
+          let was = was_refused plan old new call.old.err call.new.err (at_status ran files command answer.Refused r.told refl is) in
+          record { text = was.text; refused = stopped files program isa names device work (why.Refused was.text) (ComesTo-Completes plan (Err (why.Refused was.text)) old new files r.told was.completes); line = was.line };
+      by_refusal = λ text given none. elim (asked_means ran files command r.told refl none) [
+        | inl m ↦ inl (means-end plan files call.status (Err (why.Refused text)) m (stops files program isa names device work (why.Refused text) given))
+        | inr no_memory ↦ inr no_memory
+      ];
+      absent = λ is. elim (was_missing plan old new call.old.err call.new.err (at_status ran files command answer.HostFault r.told refl is)) [
+        | inl was ↦ inl (record { name = was.name; absent = stopped files program isa names device work (why.NoFile was.name) (ComesTo-Completes plan (Err (why.NoFile was.name)) old new files r.told was.completes); line = was.line })
+        | inr rose ↦ inr rose
+      ];
+      by_absence = λ name given none. elim (asked_means ran files command r.told refl none) [
+        | inl m ↦ inl (means-end plan files call.status (Err (why.NoFile name)) m (stops files program isa names device work (why.NoFile name) given))
+        | inr no_memory ↦ inr no_memory
+      ];
+      passes = λ inputs test run. passing.passes _ run.status run.after;
+    }

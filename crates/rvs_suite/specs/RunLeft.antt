@@ -1,0 +1,56 @@
+-- What `run` leaves: the runs of the device, the files, and the verdicts.
+use Rattle.std.specs.Prelude.{◌≡◌, ℕ, List, [], ◌∷◌, ◌++◌, length, Option, Some, ⊤}
+use Rattle.rvs_base.specs.Host.{Files, with_file, with_left}
+use Rattle.rvs_base.specs.declared.host.DeviceRun.{DeviceRun}
+use Rattle.rvs_sig.specs.Words.{text_of_words}
+use Rattle.rvs_device.specs.Command.{started_with}
+use Rattle.rvs_device.specs.Judged.{verdict_on}
+use Rattle.rvs_device.specs.Printed.{verdict_line}
+use Rattle.rvs_device.specs.declared.verdicts.TestVerdict.{TestVerdict}
+use Rattle.rvs_suite.specs.Generate.{path_of}
+use Rattle.rvs_suite.specs.Tests.{reference_words}
+use Rattle.rvs_suite.specs.RunTests.{Bench, reference_path, device_path, passes, with_one}
+use Rattle.rvs_suite.specs.declared.gathering.Test.{Test}
+
+-- a run of the device on a test: with the device's words, the test's text in its file, and an empty signature file before
+pub record IsRunOf (bench : Bench) (test : Test) (run : DeviceRun) : Type 0 where
+  pub words : run.words
+      ≡ started_with bench.program (path_of bench.work test.name) (device_path bench.work test.name) bench.device.command
+  pub text : run.test ≡ Some test.text
+  pub before : run.before ≡ Some []
+
+-- one run for each test, in their order, and no other
+abbrev pub AreRunsOf : Bench → List Test → List DeviceRun → Type 0
+AreRunsOf bench [] [] = ⊤
+AreRunsOf bench [] (run ∷ runs) = ⊥
+AreRunsOf bench (test ∷ tests) [] = ⊥
+AreRunsOf bench (test ∷ tests) (run ∷ runs) = IsRunOf bench test run × AreRunsOf bench tests runs
+
+-- the verdict on a test: what its run left, beside the words of the reference machine
+abbrev pub verdict_by : Bench → Test → DeviceRun → TestVerdict
+verdict_by bench test run = verdict_on run.status (reference_words bench.isa test) run.after
+
+-- the lines of the verdicts
+abbrev pub verdict_lines : Bench → List Test → List DeviceRun → List ℕ
+verdict_lines bench (test ∷ tests) (run ∷ runs) =
+    verdict_line test.name (verdict_by bench test run) ++ verdict_lines bench tests runs
+verdict_lines bench tests runs = []
+
+-- how many of the tests pass, onto so many
+abbrev pub passed_onto : Bench → ℕ → List Test → List DeviceRun → ℕ
+passed_onto bench passed (test ∷ tests) (run ∷ runs) =
+    passed_onto bench (with_one passed (passes (verdict_by bench test run))) tests runs
+passed_onto bench passed tests runs = passed
+
+-- the files with a test, the words that it leaves on the reference machine, and what its run left
+abbrev pub with_judged : Bench → Test → DeviceRun → Files → Files
+with_judged bench test run files =
+    with_left (device_path bench.work test.name) run.after
+    (with_file (reference_path bench.work test.name) (text_of_words (reference_words bench.isa test))
+    (with_file (path_of bench.work test.name) test.text files))
+
+-- the same of all tests
+abbrev pub with_all_judged : Bench → List Test → List DeviceRun → Files → Files
+with_all_judged bench (test ∷ tests) (run ∷ runs) files =
+    with_all_judged bench tests runs (with_judged bench test run files)
+with_all_judged bench tests runs files = files
