@@ -1,0 +1,1 @@
+-- Judging meets its plan.
