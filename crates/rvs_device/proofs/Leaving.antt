@@ -32,13 +32,13 @@ chosen_again true left mid before = refl
 chosen_again false left mid before = refl
 
 -- what is left in a file covers what was written there
-left_over : (name bytes : List ℕ) (left : Option (List ℕ)) (files : Files) → with_left name left (with_file name bytes files) ≡ with_left name left files
+pub left_over : (name bytes : List ℕ) (left : Option (List ℕ)) (files : Files) → with_left name left (with_file name bytes files) ≡ with_left name left files
 left_over name bytes left files = λ i other. chosen_again (bytes_eq other name) left (Some bytes) (files other) i
 
-same_name : (name : List ℕ) → bytes_eq name name ≡ true
+pub same_name : (name : List ℕ) → bytes_eq name name ≡ true
 same_name name = (bytes_eq-Decides name name).1 refl
 
-at_name : (name : List ℕ) (left : Option (List ℕ)) (files : Files) → with_left name left files name ≡ left
+pub at_name : (name : List ℕ) (left : Option (List ℕ)) (files : Files) → with_left name left files name ≡ left
 at_name name left files = rw (same_name name) refl
 
 -- ---- what is told
@@ -79,7 +79,7 @@ Rose-behind : (a b c : ℕ) → a ≤ b → Rose b c → Rose a c
 Rose-behind a b c le rose = omega arith
 
 -- ---- nothing was done
-same_files : (name : List ℕ) (files : Files) → files ≡ with_left name (files name) files
+pub same_files : (name : List ℕ) (files : Files) → files ≡ with_left name (files name) files
 same_files name files = with_left-of name files files (λ other apart. refl)
 
 pub judges-no_memory : (t : Task) (h : HostState) → Judges t h h (Err NoMemory)

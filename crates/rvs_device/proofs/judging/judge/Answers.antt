@@ -5,6 +5,7 @@ use Rattle.rvs_base.specs.Host.{device_words}
 use Rattle.rvs_device.specs.Command.{started_with}
 use Rattle.rvs_device.specs.Judging.{task}
 use Rattle.rvs_device.proofs.Leaving.{judges-no_memory, judges-unwritten, judges-not_run, judges-read, judges-passes-if}
+use Rattle.rvs_device.proofs.Planned.{Meets-judged}
 use Rattle.rvs_device.proofs.judging.judge.Goals as goal
 
 pub returns-in_err-words-clause-judges : goal.returns-in_err-words-clause-judges
@@ -44,3 +45,19 @@ pub returns-clause-judges : goal.returns-clause-judges
 returns-clause-judges g c =
     judges-not_run (task c.args.device.now.command c.args.program.now c.args.test.now c.args.signature.now c.args.reference.now) _ _ _
     c.in-Ok.ensures.writes_only c.in-Ok.ensures.written c.in-Err-run_device.ensures.runs_only c.in-Err-run_device.ensures.failed c.in-Err-run_device.ensures.cause
+
+pub returns-in_err-words-clause-planned : goal.returns-in_err-words-clause-planned
+returns-in_err-words-clause-planned g c = λ out known.
+    Meets-judged (task c.args.device.now.command c.args.program.now c.args.test.now c.args.signature.now c.args.reference.now) out _ _ _ (returns-in_err-words-clause-judges g c) known
+
+pub returns-in-Err-clause-planned : goal.returns-in-Err-clause-planned
+returns-in-Err-clause-planned g c = λ out known.
+    Meets-judged (task c.args.device.now.command c.args.program.now c.args.test.now c.args.signature.now c.args.reference.now) out _ _ _ (returns-in-Err-clause-judges g c) known
+
+pub returns-in-Ok-run_device-clause-planned : goal.returns-in-Ok-run_device-clause-planned
+returns-in-Ok-run_device-clause-planned g c = λ out known.
+    Meets-judged (task c.args.device.now.command c.args.program.now c.args.test.now c.args.signature.now c.args.reference.now) out _ _ _ (returns-in-Ok-run_device-clause-judges g c) known
+
+pub returns-clause-planned : goal.returns-clause-planned
+returns-clause-planned g c = λ out known.
+    Meets-judged (task c.args.device.now.command c.args.program.now c.args.test.now c.args.signature.now c.args.reference.now) out _ _ _ (returns-clause-judges g c) known
