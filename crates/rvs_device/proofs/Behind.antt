@@ -23,7 +23,7 @@ elsewhere letters text true is unlike =
 -- what `strip_prefix` says
 pub behind-stripped : (letters text : List ℕ) (r : Option (Bor (List ℕ)))
     → MatchOption r ((rest : List ℕ) → text ≢ letters ++ rest)
-      (λ x. (n : ℕ) × ((n ≡ length letters) × (text ≡ letters ++ drop n text) × IsCharBoundary text (length letters)) × (x.now ≡ drop n text) × (length x.now + n ≡ length text))
+    (λ x. (n : ℕ) × ((n ≡ length letters) × (text ≡ letters ++ drop n text) × IsCharBoundary text (length letters)) × (x.now ≡ drop n text) × (length x.now + n ≡ length text))
     → option_map (λ x. x.now) r ≡ behind letters text
 behind-stripped letters text None unlike = sym (elsewhere letters text (bytes_eq (take (length letters) text) letters) refl unlike)
 behind-stripped letters text (Some x) s =

@@ -150,14 +150,17 @@ made-later m = Later-trans (Later-writes m.wrote) (Later-runs m.runs)
 made-run : (t : Task) (old mid new : HostState) (status : ℤ) (files : Files) (runs : List DeviceRun) → Made t old mid new status → Tells old files → old.runs ≡ Some runs → (run : DeviceRun) × RanOnce t files runs new run × (run.status ≡ status)
 made-run t old mid new status files runs m tells is =
     let before = with_file t.signature [] files in
-    let ran : LeavesRun t.words t.test t.signature before runs new status = m.ran before runs (emptied t old mid files m.written tells.files) (m.wrote.runs ∙ is) in
-    (run_over t.words t.test t.signature before ran.left status, record {
-      added = ran.runs_are;
-      words = refl;
-      test = refl;
-      before = rw (same_name t.signature) refl;
-      left = ran.files_are ∙ ap (λ (f : Files). Some f) (left_over t.signature [] ran.left files);
-    }, refl)
+    let ran : LeavesRun t.words t.test t.signature before runs new status = m.ran before runs (emptied t old mid files m.written tells.files) (m.wrote.runs ∙ is) in (
+      run_over t.words t.test t.signature before ran.left status,
+      record {
+        added = ran.runs_are;
+        words = refl;
+        test = refl;
+        before = rw (same_name t.signature) refl;
+        left = ran.files_are ∙ ap (λ (f : Files). Some f) (left_over t.signature [] ran.left files);
+      },
+      refl,
+    )
 
 -- reading changes neither files nor runs
 RanOnce-reads : {t : Task} {files : Files} {runs : List DeviceRun} {mid new : HostState} {run : DeviceRun} → ReadsOnly mid new → RanOnce t files runs mid run → RanOnce t files runs new run

@@ -118,12 +118,15 @@ kept t out files runs old new is before none =
 follows : (t : Task) (out : SinkState) (files : Files) (runs : List DeviceRun) (old new : HostState) (result : Result TestVerdict JudgeFault) → old.files ≡ Some files → old.runs ≡ Some runs → Left t files runs new result
     → Follows (judged t) (contents (world old out)) (contents (world new out)) (stopped t result)
 follows t out files runs old new (Ok verdict) is before left = judged_reaches t out files runs old new left.0 verdict is before left.1 left.2
-follows t out files runs old new (Err fault.Write) is before left = ([], record {
-  rest = run_and_read t;
-  before = contents (world old out);
-  reaches = Reaches-start (judged t) (contents (world old out));
-  broke = record { files = may_spoil t files old.files new.files left.0 is left.1.left left.2; runs = left.1.same ∙ sym before; out = refl };
-})
+follows t out files runs old new (Err fault.Write) is before left = (
+  [],
+  record {
+    rest = run_and_read t;
+    before = contents (world old out);
+    reaches = Reaches-start (judged t) (contents (world old out));
+    broke = record { files = may_spoil t files old.files new.files left.0 is left.1.left left.2; runs = left.1.same ∙ sym before; out = refl };
+  },
+)
 follows t out files runs old new (Err fault.Run) is before left = record {
   words = t.words;
   signature = t.signature;

@@ -23,8 +23,8 @@ returns-in-Ok-run_device-clause-judges g c =
     let fits : FitsSigned w32 c.in-Ok-run_device.status = search rules in
     let same : to_z w32 (of_z w32 c.in-Ok-run_device.status) ≡ c.in-Ok-run_device.status = to_z-of_z _ _ fits in
     let words : device_words c.as_slice-2.result.now ≡ started_with c.args.program.now c.args.test.now c.args.signature.now c.args.device.now.command =
-        ap device_words c.as_slice-2.ensures.value ∙ c.in_ok-words.ensures
-        ∙ ap (started_with c.args.program.now c.args.test.now c.args.signature.now) c.as_slice.ensures in
+    ap device_words c.as_slice-2.ensures.value ∙ c.in_ok-words.ensures
+    ∙ ap (started_with c.args.program.now c.args.test.now c.args.signature.now) c.as_slice.ensures in
     judges-read (task c.args.device.now.command c.args.program.now c.args.test.now c.args.signature.now c.args.reference.now) _ _ _ _ c.in-Ok-run_device.status _
     (record {
       wrote = c.in-Ok.ensures.writes_only;
