@@ -2,6 +2,7 @@
 ghost use Rattle.std.specs.Prelude.{◌≡◌, ◌<◌, ℤ, length, IfOk, Ok};
 ghost use Rattle.rvs_base.specs.Host.{ReadsOnly};
 ghost use Rattle.rvs_device.specs.Judging.{Judges, PassesBySpelling, task};
+ghost use Rattle.rvs_device.specs.Plans.{MeetsPlan};
 ghost use Rattle.rvs_device.specs.ReadBack.{ReadsBack};
 
 use crate::verdicts::verdict_on;
@@ -59,6 +60,8 @@ pub fn judge<H: Host>(
     reference: &[u32],
 ) -> Result<TestVerdict, JudgeFault>
     ensures judges { Judges (task device.now.command program.now test.now signature.now reference.now)
+        (H.state host.old) (H.state host.new) result }
+    ensures planned { MeetsPlan (task device.now.command program.now test.now signature.now reference.now)
         (H.state host.old) (H.state host.new) result }
     ensures passes { IfOk result (PassesBySpelling
         (task device.now.command program.now test.now signature.now reference.now)

@@ -127,16 +127,15 @@ fn checked_words(alloc: Global, entry: &Tree) -> Result<Items<Text>, DeviceRefus
     let words = words_in(alloc, entry)?;
     match unknown_in(words.as_slice()) {
         None => Ok(words),
-        Some(word) => Err(unknown(alloc, word)),
+        Some(word) => Err(unknown(alloc, word.as_str())),
     }
 }
 
 /// The first word in which a `{` begins no placeholder.
-fn unknown_in(words: &[Text]) -> Option<&str>
+fn unknown_in(words: &[Text]) -> Option<&Text>
     ensures { option_map (λ t. t.now) result ≡ unknown_in words.now }
 {
-    let word = words.iter().find(|word| !is_known(word.as_str()))?;
-    Some(word.as_str())
+    words.iter().find(|word| !is_known(word.as_str()))
 }
 
 fn unknown(alloc: Global, word: &str) -> DeviceRefusal

@@ -1,0 +1,6 @@
+mod Back
+mod Passing
+mod Scalars
+mod Behind
+mod Leaving
+pub mod Planned

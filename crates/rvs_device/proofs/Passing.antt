@@ -1,0 +1,92 @@
+-- A verdict is a pass exactly where what was left spells the reference's words.
+use Rattle.std.proofs.Common.{◌≡◌, ◌≢◌, ◌↔◌, ◌≤◌, ℕ, ◌+◌, ℤ, Bool, true, false, not, cond, nat_lt, ◌==◌, ◌&&◌, eq-eqb, if◌then◌else◌, List, [], ◌∷◌, length, Option, Some, None, Result, Ok, Err, refl, sym, ap, subst, ◌∙◌, arith}
+use Rattle.std.proofs.lemmas.Bool.{lt-ltb, le-ltb, ltb-false}
+use Rattle.std.proofs.lemmas.Bool.Decides.{nat_tests}
+use Rattle.std.proofs.lemmas.Iterator.Adapters.{position_from-zero}
+use Rattle.std.specs.List.{zip, position, position_from}
+use Rattle.rvs_sig.specs.Words.{words_of}
+use Rattle.rvs_sig.specs.Verdicts.{differ, verdict_at, verdict_of}
+use Rattle.rvs_sig.specs.declared.words.SigRefusal.{SigRefusal}
+use Rattle.rvs_sig.specs.declared.words.SigRefusal.TheVariants.{BadLine}
+use Rattle.rvs_sig.specs.declared.words.SigRefusal.TheVariants as why
+use Rattle.rvs_sig.specs.declared.comparison.Verdict.{Verdict}
+use Rattle.rvs_sig.specs.declared.comparison.Verdict.TheVariants as sig
+use Rattle.rvs_device.specs.Command.{is_empty}
+use Rattle.rvs_device.specs.Judged.{signature_limit, compared, spelt, verdict_on}
+use Rattle.rvs_device.specs.Judging.{Task, Spells}
+use Rattle.rvs_device.specs.declared.verdicts.TestVerdict.{TestVerdict}
+use Rattle.rvs_device.specs.declared.verdicts.TestVerdict.TheVariants.{Pass, NoSignature, TooLong, BadSignature, Differs, Lengths}
+
+same_head : (l r i : ℕ) (more : Option ℕ) (same : Bool) → (l == r) ≡ same → cond (not same) (Some i) more ≡ None → (l ≡ r) × (more ≡ None)
+same_head l r i more true is e = (grind (arith, nat_tests), e)
+same_head l r i more false is e = absurd cc
+
+-- lists of one length of which no place differs are the same
+same_words : (i : ℕ) (left right : List ℕ) → length left ≡ length right → position_from differ i (zip left right) ≡ None → left ≡ right
+same_words i [] [] n e = refl
+same_words i [] (r ∷ right) n e = absurd (omega arith)
+same_words i (l ∷ left) [] n e = absurd (omega arith)
+same_words i (l ∷ left) (r ∷ right) n e =
+    let head = same_head l r i (position_from differ (i + 1) (zip left right)) (l == r) refl e in
+    let lengths : length left ≡ length right = omega arith in
+    let rest : left ≡ right = same_words (i + 1) left right lengths head.1 in
+    let first : l ≡ r = head.0 in cc
+
+-- no place of a list differs from itself
+position_from-same : (i : ℕ) (words : List ℕ) → position_from differ i (zip words words) ≡ None
+position_from-same i [] = refl
+position_from-same i (w ∷ words) = ap (λ (same : Bool). cond (not same) (Some i) (position_from differ (i + 1) (zip words words))) (eq-eqb w w refl) ∙ position_from-same (i + 1) words
+
+compared-same : (status : ℤ) (words : List ℕ) → compared status (verdict_of words words) ≡ Pass (length words) status
+compared-same status words =
+    ap (λ (lengths : Bool). compared status (if lengths then verdict_at words words (position differ (zip words words)) else sig.Lengths (length words) (length words))) (eq-eqb (length words) (length words) refl)
+    ∙ ap (λ (first : Option ℕ). compared status (verdict_at words words first)) (position_from-zero differ (zip words words) ∙ position_from-same 0 words)
+
+-- by the lengths, and the first place that differs
+same_by : (status : ℤ) (n : ℕ) (left right : List ℕ) (lengths : Bool) (first : Option ℕ) → (length left == length right) ≡ lengths → position differ (zip left right) ≡ first
+    → compared status (if lengths then verdict_at left right first else sig.Lengths (length left) (length right)) ≡ Pass n status → left ≡ right
+same_by status n left right true None lengths first e = let same : length left ≡ length right = grind (arith, nat_tests) in same_words 0 left right same (sym (position_from-zero differ (zip left right)) ∙ first)
+same_by status n left right true (Some at) lengths first e = absurd cc
+same_by status n left right false first lengths is e = absurd cc
+
+compared-pass : (status : ℤ) (n : ℕ) (left right : List ℕ) → compared status (verdict_of left right) ≡ Pass n status → left ≡ right
+compared-pass status n left right e = same_by status n left right (length left == length right) (position differ (zip left right)) refl refl e
+
+spelt-pass : (status : ℤ) (n : ℕ) (reference : List ℕ) (read : Result (List ℕ) SigRefusal) → spelt status reference read ≡ Pass n status → read ≡ Ok reference
+spelt-pass status n reference (Ok words) e = ap (λ (w : List ℕ). Ok w) (compared-pass status n words reference e)
+spelt-pass status n reference (Err (why.BadLine line)) e = absurd cc
+spelt-pass status n reference (Err why.TooLong) e = absurd cc
+spelt-pass status n reference (Err why.NoMemory) e = absurd cc
+
+-- by the tests of the length and of what is empty
+left-pass : (t : Task) (status : ℤ) (n : ℕ) (bytes : List ℕ) (long bare : Bool) → nat_lt signature_limit (length bytes) ≡ long
+    → (if long then TooLong status else if bare then NoSignature status else spelt status t.reference (words_of bytes)) ≡ Pass n status → Spells t (Some bytes)
+left-pass t status n bytes true bare is e = absurd cc
+left-pass t status n bytes false true is e = absurd cc
+left-pass t status n bytes false false is e = record { bytes = bytes; there = refl; within = ltb-false signature_limit (length bytes) is; words = spelt-pass status n t.reference (words_of bytes) e }
+
+pass-spells : (t : Task) (status : ℤ) (left : Option (List ℕ)) → verdict_on status t.reference left ≡ Pass (length t.reference) status → Spells t left
+pass-spells t status None e = absurd cc
+pass-spells t status (Some bytes) e = left-pass t status (length t.reference) bytes (nat_lt signature_limit (length bytes)) (is_empty bytes && not (is_empty t.reference)) refl e
+
+-- an empty file spells no words
+no-words : words_of [] ≡ Ok []
+unfolding words_of
+no-words = refl
+
+not-bare : (bytes reference : List ℕ) → words_of bytes ≡ Ok reference → (is_empty bytes && not (is_empty reference)) ≡ false
+not-bare [] [] e = refl
+not-bare [] (w ∷ words) e = let both : Ok [] ≡ Ok (w ∷ words) = sym no-words ∙ e in absurd cc
+not-bare (b ∷ bytes) reference e = refl
+
+spells-pass : (t : Task) (status : ℤ) (bytes : List ℕ) → length bytes ≤ signature_limit → words_of bytes ≡ Ok t.reference → verdict_on status t.reference (Some bytes) ≡ Pass (length t.reference) status
+spells-pass t status bytes within words =
+    let short : nat_lt signature_limit (length bytes) ≡ false = le-ltb signature_limit (length bytes) within in
+    let full = not-bare bytes t.reference words in
+    rw (short, full, words) (compared-same status t.reference)
+
+pub passes : (t : Task) (status : ℤ) (left : Option (List ℕ)) → (verdict_on status t.reference left ≡ Pass (length t.reference) status) ↔ Spells t left
+passes t status left = (
+  λ e. pass-spells t status left e,
+  λ s. subst (λ (l : Option (List ℕ)). verdict_on status t.reference l ≡ Pass (length t.reference) status) (sym s.there) (spells-pass t status s.bytes s.within s.words),
+)
