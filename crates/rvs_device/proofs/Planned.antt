@@ -4,11 +4,11 @@ use Rattle.std.proofs.lemmas.Slice.Eq.{bytes_eq-Decides}
 use Rattle.rvs_base.specs.Host.{Files, HostState, Tells, is_told, MaySpoil, Spoils, written, with_file, with_left, run_over, ChangesOne}
 use Rattle.rvs_base.specs.declared.host.DeviceRun.{DeviceRun}
 use Rattle.rvs_base.specs.Sink.{SinkState}
-use Rattle.rvs_plan.specs.World.{World, Contents, contents, world}
+use Rattle.rvs_plan.specs.World.{World, Contents, contents, world, IsAnswer}
 use Rattle.rvs_plan.specs.World as plan
 use Rattle.rvs_plan.specs.Effect.{Answer, Write, Effect, Read, Device, Did, after, left_by, run_added}
 use Rattle.rvs_plan.specs.Plan.{Plan, Ends, Asks, Runs}
-use Rattle.rvs_plan.specs.Meets.{Reaches, Follows, HasCause, NoFault, Meets}
+use Rattle.rvs_plan.specs.Meets.{Reaches, Follows, HasCause, NoFault, MeetsWith}
 use Rattle.rvs_plan.specs.declared.stop.Stop.{Stop}
 use Rattle.rvs_plan.proofs.Reaching.{Reaches-start}
 use Rattle.rvs_plan.proofs.Sequence.{LaterSink-start}
@@ -147,40 +147,36 @@ told_runs None e = absurd cc
 told_runs (Some runs) e = (runs, refl)
 
 -- what was done over told files is by the plan
-pub judged-follows : (t : Task) (out : SinkState) (old new : HostState) (result : Result TestVerdict JudgeFault) → Judges t old new result
+judged-follows : (t : Task) (out : SinkState) (old new : HostState) (result : Result TestVerdict JudgeFault) → Judges t old new result
     → (files : Files) → Tells old files → Follows (judged t) (contents (world old out)) (contents (world new out)) (stopped t result)
 judged-follows t out old new result j files tells =
     let runs = told_runs old.runs tells.runs in
     follows t out files runs.0 old new result tells.files runs.1 (j.left files runs.0 tells runs.1)
 
 -- no count fell
-pub judged-later : (t : Task) (out : SinkState) (old new : HostState) (result : Result TestVerdict JudgeFault) → Judges t old new result → plan.Later (world old out) (world new out)
+judged-later : (t : Task) (out : SinkState) (old new : HostState) (result : Result TestVerdict JudgeFault) → Judges t old new result → plan.Later (world old out) (world new out)
 judged-later t out old new result j = record { reads = j.later.reads; writes = j.later.writes; devices = j.later.devices; told = j.later.told; output = LaterSink-start out }
 
 -- the cause of a stop
-pub judged-cause : (t : Task) (out : SinkState) (old new : HostState) (result : Result TestVerdict JudgeFault) → Judges t old new result → IfErr (stopped t result) (HasCause (world old out) (world new out))
+judged-cause : (t : Task) (out : SinkState) (old new : HostState) (result : Result TestVerdict JudgeFault) → Judges t old new result → IfErr (stopped t result) (HasCause (world old out) (world new out))
 judged-cause t out old new (Ok verdict) j = tt
 judged-cause t out old new (Err fault.Write) j = j.cause
 judged-cause t out old new (Err fault.Run) j = j.cause
 judged-cause t out old new (Err fault.Read) j = j.cause
 judged-cause t out old new (Err fault.NoMemory) j = tt
 
--- No count changed but for a stop that tells of it, and for a signature file that isn't there on a host that isn't told.
-pub judged-unfaulted : (t : Task) (out : SinkState) (old new : HostState) (result : Result TestVerdict JudgeFault) → Judges t old new result
-    → (is_told old ≡ true) ⊎ ((status : ℤ) → result ≢ Ok (NoSignature status)) → NoFault (world old out) (world new out) (stopped t result)
-judged-unfaulted t out old new (Ok verdict) j known =
-    let found : (is_told old ≡ true) ⊎ ((status : ℤ) → verdict ≢ NoSignature status) = elim known [ inl told ↦ inl told | inr other ↦ inr (λ (status : ℤ) (e : verdict ≡ NoSignature status). other status (ap (λ (v : TestVerdict). Ok v) e)) ] in
-    record { reads = j.cause.reads found; writes = j.cause.writes; devices = j.cause.devices; output = refl }
-judged-unfaulted t out old new (Err fault.Write) j known = tt
-judged-unfaulted t out old new (Err fault.Run) j known = tt
-judged-unfaulted t out old new (Err fault.Read) j known = tt
-judged-unfaulted t out old new (Err fault.NoMemory) j known = record { reads = j.cause.reads; writes = j.cause.writes; devices = j.cause.devices; output = refl }
+-- no count changed but for a stop that tells of it, and for a signature file that isn't there on a host that isn't told
+judged-unfaulted : (t : Task) (out : SinkState) (old new : HostState) (result : Result TestVerdict JudgeFault) → Judges t old new result → NoFault IsAnswer (world old out) (world new out) (stopped t result)
+judged-unfaulted t out old new (Ok verdict) j = record { reads = λ told. j.cause.reads (inl told); writes = j.cause.writes; devices = j.cause.devices; output = refl }
+judged-unfaulted t out old new (Err fault.Write) j = tt
+judged-unfaulted t out old new (Err fault.Run) j = tt
+judged-unfaulted t out old new (Err fault.Read) j = tt
+judged-unfaulted t out old new (Err fault.NoMemory) j = record { reads = λ told. j.cause.reads; writes = j.cause.writes; devices = j.cause.devices; output = refl }
 
-pub Meets-judged : (t : Task) (out : SinkState) (old new : HostState) (result : Result TestVerdict JudgeFault) → Judges t old new result
-    → (is_told old ≡ true) ⊎ ((status : ℤ) → result ≢ Ok (NoSignature status)) → Meets (judged t) (world old out) (world new out) (stopped t result)
-Meets-judged t out old new result j known = record {
+pub Meets-judged : (t : Task) (out : SinkState) (old new : HostState) (result : Result TestVerdict JudgeFault) → Judges t old new result → MeetsWith IsAnswer (judged t) (world old out) (world new out) (stopped t result)
+Meets-judged t out old new result j = record {
   later = judged-later t out old new result j;
   cause = judged-cause t out old new result j;
-  unfaulted = judged-unfaulted t out old new result j known;
+  unfaulted = judged-unfaulted t out old new result j;
   told = judged-follows t out old new result j;
 }

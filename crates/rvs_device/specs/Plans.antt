@@ -1,16 +1,15 @@
 -- Judging a test as a plan.
-use Rattle.std.specs.Prelude.{◌≡◌, ◌≢◌, ◌⊎◌, ℕ, ℤ, true, List, [], Option, Result, Ok, Err}
-use Rattle.rvs_base.specs.Host.{HostState, is_told}
+use Rattle.std.specs.Prelude.{ℕ, ℤ, List, [], Option, Result, Ok, Err}
+use Rattle.rvs_base.specs.Host.{HostState}
 use Rattle.rvs_base.specs.Sink.{SinkState}
-use Rattle.rvs_plan.specs.World.{world}
-use Rattle.rvs_plan.specs.Meets.{Meets}
+use Rattle.rvs_plan.specs.World.{world, IsAnswer}
+use Rattle.rvs_plan.specs.Meets.{MeetsWith}
 use Rattle.rvs_plan.specs.Plan.{Plan, Ends, Asks, writes, device, ◌>>=◌}
 use Rattle.rvs_plan.specs.declared.stop.Stop.{Stop}
 use Rattle.rvs_plan.specs.declared.stop.Stop.TheVariants as why
 use Rattle.rvs_device.specs.Judged.{verdict_on}
 use Rattle.rvs_device.specs.Judging.{Task}
 use Rattle.rvs_device.specs.declared.verdicts.TestVerdict.{TestVerdict}
-use Rattle.rvs_device.specs.declared.verdicts.TestVerdict.TheVariants.{NoSignature}
 use Rattle.rvs_device.specs.declared.judging.JudgeFault.{JudgeFault}
 use Rattle.rvs_device.specs.declared.judging.JudgeFault.TheVariants.{Write, Run, Read, NoMemory}
 
@@ -41,8 +40,7 @@ abbrev pub stopped : Task → Result TestVerdict JudgeFault → Result TestVerdi
 stopped t (Ok verdict) = Ok verdict
 stopped t (Err fault) = Err (stop_of t fault)
 
--- What judging does meets its plan. Where the host isn't told, a signature file that isn't there is no fault, though the count of reading rises.
+-- what judging does meets its plan; that there is no signature file is an answer
 abbrev pub MeetsPlan : Task → HostState → HostState → Result TestVerdict JudgeFault → Type 0
 MeetsPlan t old new result =
-    (out : SinkState) → (is_told old ≡ true) ⊎ ((status : ℤ) → result ≢ Ok (NoSignature status))
-    → Meets (judged t) (world old out) (world new out) (stopped t result)
+    (out : SinkState) → MeetsWith IsAnswer (judged t) (world old out) (world new out) (stopped t result)

@@ -47,17 +47,17 @@ returns-clause-judges g c =
     c.in-Ok.ensures.writes_only c.in-Ok.ensures.written c.in-Err-run_device.ensures.runs_only c.in-Err-run_device.ensures.failed c.in-Err-run_device.ensures.cause
 
 pub returns-in_err-words-clause-planned : goal.returns-in_err-words-clause-planned
-returns-in_err-words-clause-planned g c = λ out known.
-    Meets-judged (task c.args.device.now.command c.args.program.now c.args.test.now c.args.signature.now c.args.reference.now) out _ _ _ (returns-in_err-words-clause-judges g c) known
+returns-in_err-words-clause-planned g c = λ out.
+    Meets-judged (task c.args.device.now.command c.args.program.now c.args.test.now c.args.signature.now c.args.reference.now) out _ _ _ (returns-in_err-words-clause-judges g c)
 
 pub returns-in-Err-clause-planned : goal.returns-in-Err-clause-planned
-returns-in-Err-clause-planned g c = λ out known.
-    Meets-judged (task c.args.device.now.command c.args.program.now c.args.test.now c.args.signature.now c.args.reference.now) out _ _ _ (returns-in-Err-clause-judges g c) known
+returns-in-Err-clause-planned g c = λ out.
+    Meets-judged (task c.args.device.now.command c.args.program.now c.args.test.now c.args.signature.now c.args.reference.now) out _ _ _ (returns-in-Err-clause-judges g c)
 
 pub returns-in-Ok-run_device-clause-planned : goal.returns-in-Ok-run_device-clause-planned
-returns-in-Ok-run_device-clause-planned g c = λ out known.
-    Meets-judged (task c.args.device.now.command c.args.program.now c.args.test.now c.args.signature.now c.args.reference.now) out _ _ _ (returns-in-Ok-run_device-clause-judges g c) known
+returns-in-Ok-run_device-clause-planned g c = λ out.
+    Meets-judged (task c.args.device.now.command c.args.program.now c.args.test.now c.args.signature.now c.args.reference.now) out _ _ _ (returns-in-Ok-run_device-clause-judges g c)
 
 pub returns-clause-planned : goal.returns-clause-planned
-returns-clause-planned g c = λ out known.
-    Meets-judged (task c.args.device.now.command c.args.program.now c.args.test.now c.args.signature.now c.args.reference.now) out _ _ _ (returns-clause-judges g c) known
+returns-clause-planned g c = λ out.
+    Meets-judged (task c.args.device.now.command c.args.program.now c.args.test.now c.args.signature.now c.args.reference.now) out _ _ _ (returns-clause-judges g c)

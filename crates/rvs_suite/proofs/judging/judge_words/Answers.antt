@@ -1,0 +1,24 @@
+use Rattle.std.proofs.Common.{◌≡◌, List, ℕ, Result, Ok, Err, refl, sym, subst, ◌∙◌}
+use Rattle.std.proofs.lemmas.Result.{err_from_is_err_and}
+use Rattle.rvs_plan.specs.World.{World, world, IsAnswer}
+use Rattle.rvs_plan.specs.Meets.{MeetsWith}
+use Rattle.rvs_plan.specs.declared.stop.Stop.{Stop}
+use Rattle.rvs_plan.proofs.Sequence.{Meets-no_memory}
+use Rattle.rvs_device.specs.Judging.{Task, task}
+use Rattle.rvs_device.specs.Plans.{judged, stopped}
+use Rattle.rvs_device.specs.declared.verdicts.TestVerdict.{TestVerdict}
+use Rattle.rvs_device.specs.declared.judging.JudgeFault.{JudgeFault}
+use Rattle.rvs_suite.specs.Generate.{path_of}
+use Rattle.rvs_suite.specs.RunTests.{Bench, device_path, judges_by}
+use Rattle.rvs_suite.specs.RunView.{bench_view}
+use Rattle.rvs_suite.proofs.judging.judge_words.Goals as goal
+
+pub returns-in_err-path : goal.returns-in_err-path
+returns-in_err-path g c = λ out.
+    let p = err_from_is_err_and c.from_residual.result c.from_residual.ensures.1 in
+    rw (p.1, p.2) (Meets-no_memory (judges_by (bench_view c.args.bench.now) c.args.test.now.name c.args.words.now) (world (g.H.Host.state c.args.host.now) out))
+
+pub returns-in_err-signature : goal.returns-in_err-signature
+returns-in_err-signature g c = λ out.
+    let p = err_from_is_err_and c.from_residual-in_err-signature.result c.from_residual-in_err-signature.ensures.1 in
+    rw (p.1, p.2) (Meets-no_memory (judges_by (bench_view c.args.bench.now) c.args.test.now.name c.args.words.now) (world (g.H.Host.state c.args.host.now) out))
