@@ -1,11 +1,12 @@
 // The command `run`.
-ghost use Rattle.std.specs.Prelude.{◌≡◌, ◌≤◌, All, IfOk, length};
+ghost use Rattle.std.specs.Prelude.{◌≡◌, ◌≤◌, ◌<◌, ◌+◌, ◌^◌, All, IfOk, length};
 ghost use Rattle.rvs_base.specs.Host.{HostState};
 ghost use Rattle.rvs_base.specs.Sink.{SinkState};
 ghost use Rattle.rvs_plan.specs.World.{world, IsAnswer};
 ghost use Rattle.rvs_plan.specs.Meets.{MeetsWith, Meets};
+ghost use Rattle.rvs_device.specs.DeviceView.{told};
 ghost use Rattle.rvs_suite.specs.Tests.{IsRunnable};
-ghost use Rattle.rvs_suite.specs.RunTests.{tally_line, judges_all, verdict_of_all, tallies, judges_tests, run};
+ghost use Rattle.rvs_suite.specs.RunTests.{tally_line, with_one, judges_all, verdict_of_all, tallies, judges_tests, run};
 ghost use Rattle.rvs_suite.specs.RunView.{bench_view};
 
 use crate::device_file::read_device_file;
@@ -14,6 +15,8 @@ use crate::group_files::read_inputs;
 use crate::judging::{Bench, judge_one};
 use crate::words::owned;
 use rvs_base::{Host, NoMemory, Sink, Text};
+use rvs_device::Device;
+use rvs_insn::IsaSpec;
 use rvs_plan::{Finish, Stop, print};
 use std::alloc::Global;
 
@@ -41,14 +44,27 @@ pub fn run_tests<H: Host, O: Sink>(
     let inputs = read_inputs(alloc, host, isa, names)?;
     let device = read_device_file(alloc, host, device)?;
     let gathered = gather_tests(alloc, &inputs)?;
-    let bench = Bench {
+    let bench = bench_of(alloc, program, device, work, inputs.isa)?;
+    print(out, gathered.text.as_str().as_bytes())?;
+    judge_tests(alloc, host, out, &bench, gathered.tests.as_slice())
+}
+
+fn bench_of(
+    alloc: Global,
+    program: &str,
+    device: Device,
+    work: &str,
+    isa: IsaSpec,
+) -> Result<Bench, NoMemory>
+    ensures { IfOk result (λ bench. bench_view bench ≡ record {
+        program = program.now; device = told device; work = work.now; isa = isa }) }
+{
+    Ok(Bench {
         program: owned(alloc, program)?,
         device,
         work: owned(alloc, work)?,
-        isa: inputs.isa,
-    };
-    print(out, gathered.text.as_str().as_bytes())?;
-    judge_tests(alloc, host, out, &bench, gathered.tests.as_slice())
+        isa,
+    })
 }
 
 /// Judges all tests, and puts the totals.
@@ -84,11 +100,19 @@ fn judge_all<H: Host, O: Sink>(
 {
     let mut passed = 0;
     for test in tests {
-        if judge_one(alloc, host, out, bench, test)? {
-            passed += 1;
-        }
+        let pass = judge_one(alloc, host, out, bench, test)?;
+        passed = with_one(passed, pass);
     }
     Ok(passed)
+}
+
+/// How many tests pass, with one that does or doesn't.
+fn with_one(passed: usize, pass: bool) -> usize
+    requires { passed < 2 ^ 63 }
+    ensures value { result ≡ with_one passed pass }
+    ensures some { result ≤ passed + 1 }
+{
+    if pass { passed + 1 } else { passed }
 }
 
 /// Puts the totals.

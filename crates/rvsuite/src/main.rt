@@ -3,6 +3,8 @@
 
 mod host;
 mod sink;
+#[cfg(test)]
+mod tests;
 
 use host::RealHost;
 use rvs_plan::{Status, Stop, conclude};

@@ -22,3 +22,10 @@ pub returns-in_err-signature : goal.returns-in_err-signature
 returns-in_err-signature g c = λ out.
     let p = err_from_is_err_and c.from_residual-in_err-signature.result c.from_residual-in_err-signature.ensures.1 in
     rw (p.1, p.2) (Meets-no_memory (judges_by (bench_view c.args.bench.now) c.args.test.now.name c.args.words.now) (world (g.H.Host.state c.args.host.now) out))
+
+-- by names that are those of the test
+judged-as : (bench : Bench) (name words : List ℕ) (path signature : List ℕ) (old new : World) (result : Result TestVerdict Stop) → path ≡ path_of bench.work name → signature ≡ device_path bench.work name
+    → MeetsWith IsAnswer (judged (task bench.device.command bench.program path signature words)) old new result → MeetsWith IsAnswer (judges_by bench name words) old new result
+judged-as bench name words path signature old new result p s m =
+    subst (λ (x : List ℕ). MeetsWith IsAnswer (judged (task bench.device.command bench.program x (device_path bench.work name) words)) old new result) p
+    (subst (λ (x : List ℕ). MeetsWith IsAnswer (judged (task bench.device.command bench.program path x words)) old new result) s m)
