@@ -1,0 +1,76 @@
+#!/usr/bin/env bash
+# Compares generated tests with the GNU tools and QEMU, outside the gate. For each test that
+# `rvsuite generate` writes for the groups CGF (by default over all of RV32IM, gnu_groups.py):
+#   1. each word that `rvsuite reference` executes stands at its address in the executable that GNU
+#      as and ld make of the test;
+#   2. the whole image, text and data, executed or not, has the same words (gnu_words.py dump);
+#   3. the signature is the one that the executable leaves on QEMU (qemu-device.sh).
+# Needs riscv64-unknown-elf-as, -ld, -nm and -objcopy, qemu-system-riscv32 and python3. RVSUITE
+# names the program, else it is the repository's. WORK is a folder that isn't there yet; it is kept.
+# What differs has a line DIFFERS, and then the exit status is 1. The last line has the counts.
+#
+# usage: gnu.sh [CGF [ISA [WORK]]]
+set -u
+here=$(cd "$(dirname "$0")" && pwd)
+program=${RVSUITE:-$here/../rvsuite}
+if [ $# -ge 3 ]; then
+    work=$3
+    mkdir "$work" || exit 2
+else
+    work=$(mktemp -d) || exit 2
+    trap 'rm -rf "$work"' EXIT
+fi
+cgf=${1:-$work/groups.cgf}
+[ $# -ge 1 ] || python3 "$here/gnu_groups.py" >"$cgf" || exit 2
+isa=${2:-$work/isa.yaml}
+[ $# -ge 2 ] || printf 'hart_ids: [0]\nhart0:\n  ISA: RV32IM\n' >"$isa"
+"$program" generate --isa "$isa" --cgf "$cgf" --work "$work" >"$work/generate.out" || exit 2
+
+differs() {
+    echo "DIFFERS $*"
+    failed=$((failed + 1))
+}
+
+reference() {
+    "$program" reference --isa "$isa" --signature "$name.sig" "$@" >/dev/null
+}
+
+section() { # the bytes of section $1 of the executable of the test $name
+    riscv64-unknown-elf-objcopy -O binary -j ".$1" "$name.elf" "$name.$1"
+}
+
+executed() {
+    reference --test "$test" --log "$name.log" || { differs "$test: not run"; return; }
+    "$here/qemu-device.sh" "$test" "$name.qemu" "$name.elf" || { differs "$test: QEMU"; return; }
+    section text
+    count=$(python3 "$here/gnu_words.py" log "$name.log" "$name.text") ||
+        differs "$test: executed words"
+    executed=$((executed + ${count:-0}))
+    cmp "$name.sig" "$name.qemu" || differs "$test: signature"
+    signature=$((signature + $(wc -l <"$name.sig")))
+}
+
+whole() {
+    name=$name.dump
+    python3 "$here/gnu_words.py" dump "$test" >"$name"
+    reference --test "$name" --steps 2000000 || { differs "$test: dump not run"; return; }
+    "$here/gnu-link.sh" "$name" "$name.elf" || { differs "$test: dump not linked"; return; }
+    section text
+    section data
+    count=$(wc -l <"$name.sig")
+    python3 "$here/gnu_words.py" image "$name.text" "$name.data" "$count" >"$name.gnu"
+    cmp "$name.sig" "$name.gnu" || differs "$test: image"
+    image=$((image + ($(wc -c <"$name.text") + $(wc -c <"$name.data")) / 4 - count))
+}
+
+tests=0 cases=0 failed=0 executed=0 image=0 signature=0
+for test in "$work"/*.S; do
+    tests=$((tests + 1))
+    cases=$((cases + $(grep -c '^#! case ' "$test")))
+    name=${test%.S}
+    executed
+    whole
+done
+echo "$tests tests, $cases cases, $executed executed words, $image words of images," \
+    "$signature signature words: $failed differ"
+[ "$failed" = 0 ]
