@@ -19,7 +19,7 @@ use Rattle.rvs_test.specs.declared.made.Claim.{Claim}
 use Rattle.rvs_test.specs.Made.{claims_of, cases_of, named_at, text_for, text_of_label}
 use Rattle.rvs_test.specs.TestText.{step_limit, test_text}
 use Rattle.rvs_test.specs.Claimed.{TestRuns}
-use Rattle.rvs_test.proofs.Joined.{label_runs}
+use Rattle.rvs_test.proofs.Joined.{label_runs, accounted}
 use Rattle.rvs_suite.specs.Call.{Call, Asks}
 use Rattle.rvs_suite.specs.Specification.{said_in}
 use Rattle.rvs_suite.specs.Coverage.{print_report}
@@ -31,7 +31,8 @@ use Rattle.rvs_suite.specs.declared.command.Command.TheVariants.{Generate}
 use Rattle.rvs_suite.proofs.BaseCores.{IsBase, base_said}
 use Rattle.rvs_suite.proofs.Answered.{Works, RunsOn, answered}
 use Rattle.rvs_suite.proofs.Finding.{Deeds, left, deeds-then, left-then}
-use Rattle.rvs_suite.proofs.GroupInputs.{reads-inputs, finds-inputs}
+use Rattle.rvs_suite.proofs.GroupInputs.{finds-inputs}
+use Rattle.rvs_suite.proofs.Sparing.{generate-spares}
 
 -- ---- the tests are deeds, and what they leave
 abbrev chosen : Bool → List ℕ → Option (List ℕ) → Plan (Unit {0})
@@ -127,5 +128,7 @@ makes {call} files isa names work r = record {
   answered = answered (generating.HasGenerated call work) r (works files isa names work) (λ inputs is.
       let all = is ∙ left-generates work inputs _ in
       record { files = ap (λ (c : Contents). c.files) all; out = ap (λ (c : Contents). c.out) all });
+  accounted = λ inputs l k given there within. accounted inputs.isa l k within;
+  others_kept = λ files' other. generate-spares r.ran files files' isa names work other r.told r.asks;
   runs = λ inputs l text given there selected is. runs-good inputs l text (good-inputs files isa names inputs given) there selected is;
 }

@@ -30,6 +30,7 @@ use Rattle.rvs_suite.proofs.Finding.{Behind, behind, end-found}
 use Rattle.rvs_suite.proofs.Running.{at_status, asked_means}
 use Rattle.rvs_suite.proofs.RunReads.{finds-run}
 use Rattle.rvs_suite.proofs.RunSteps.{FirstDid, first_did, contents_of, appended-twice, JudgedAll, judged-all}
+use Rattle.rvs_suite.proofs.Sparing.{run-spares}
 use Rattle.rvs_suite.proofs.Untouched.{never-end, runs-on}
 
 -- ---- the end, by what the inputs come to
@@ -165,5 +166,6 @@ judges {call} files program isa names device work r =
         | inl m ↦ inl (means-end plan files call.status (Err (why.NoFile name)) m (stops files program isa names device work (why.NoFile name) given))
         | inr no_memory ↦ inr no_memory
       ];
+      others_kept = λ files' other. run-spares r.ran files files' program isa names device work other r.told r.asks;
       passes = λ inputs test run. passing.passes _ run.status run.after;
     }

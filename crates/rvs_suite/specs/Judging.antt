@@ -1,5 +1,5 @@
 -- What every call of `run` promises.
-use Rattle.std.specs.Prelude.{◌≡◌, ◌≤◌, ◌⊎◌, ◌↔◌, ℕ, List, [], ◌++◌, length, option_map, Result, Ok, Err}
+use Rattle.std.specs.Prelude.{◌≡◌, ◌≢◌, ◌⊎◌, ◌↔◌, ℕ, List, [], ◌++◌, length, Some, option_map, Result, Ok, Err}
 use Rattle.rvs_base.specs.Host.{Files, Tells}
 use Rattle.rvs_base.specs.Sink.{appended}
 use Rattle.rvs_base.specs.declared.host.DeviceRun.{DeviceRun}
@@ -17,7 +17,7 @@ use Rattle.rvs_suite.specs.Generate.{path_of}
 use Rattle.rvs_suite.specs.GroupFiles.{and_then, inputs_in}
 use Rattle.rvs_suite.specs.DeviceInput.{device_in}
 use Rattle.rvs_suite.specs.Tests.{reference_words, tests_of}
-use Rattle.rvs_suite.specs.RunTests.{Bench, device_path, tally_line, verdict_of_all, RunInputs, bench_of}
+use Rattle.rvs_suite.specs.RunTests.{Bench, reference_path, device_path, tally_line, verdict_of_all, RunInputs, bench_of}
 use Rattle.rvs_suite.specs.RunLeft.{AreRunsOf, verdict_by, verdict_lines, passed_onto, with_all_judged}
 use Rattle.rvs_suite.specs.declared.gathering.Test.{Test}
 use Rattle.rvs_suite.specs.declared.command.Command.TheVariants.{Run}
@@ -50,6 +50,12 @@ abbrev pub PassesBySpelling : Bench → Test → DeviceRun → Type 0
 PassesBySpelling bench test run = (verdict_by bench test run ≡ Pass (length (reference_words bench.isa test)) run.status)
     ↔ Spells (task bench.device.command bench.program (path_of bench.work test.name) (device_path bench.work test.name) (reference_words bench.isa test)) run.after
 
+-- a file that is none of those of a test in this folder
+pub record IsOther (work other : List ℕ) : Type 0 where
+  pub text : (name : List ℕ) → other ≢ path_of work name
+  pub reference : (name : List ℕ) → other ≢ reference_path work name
+  pub device : (name : List ℕ) → other ≢ device_path work name
+
 -- a call of `run` on these of these files, for this folder
 pub record Runs (call : Call) (files : Files) (program isa : List ℕ) (names : List (List ℕ)) (device work : List ℕ) : Type 0 where
   -- it is done where its inputs are accepted and every test passes, and not passed where a test doesn't; each was judged
@@ -65,6 +71,8 @@ pub record Runs (call : Call) (files : Files) (program isa : List ℕ) (names : 
   pub by_absence : (name : List ℕ) → run_inputs_in files isa names device ≡ Err (why.NoFile name) → NothingFailed call → AnswersOnly call HostFault
   -- a pass says that the device left the reference's words
   pub passes : (inputs : RunInputs) (test : Test) (run : DeviceRun) → PassesBySpelling (bench_of program work inputs) test run
+  -- it changes no file but those of its tests, however it ends
+  pub others_kept : (files' : Files) (other : List ℕ) → IsOther work other → call.new.host.files ≡ Some files' → files' other ≡ files other
 
 -- the same of every call: over told files, where its words ask for `run`
 abbrev pub Promise : Call → Type 0

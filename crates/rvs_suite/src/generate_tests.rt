@@ -1,6 +1,7 @@
 // A test that is written, run and counted.
-use crate::{Status, run_suite};
-use rvs_base::{Files, Items, MemoryHost, MemorySink, Text};
+use crate::Status;
+use crate::tests::{NO_FAULTS, expect, run_on};
+use rvs_base::{Files, Items, MemoryHost, Text};
 use std::alloc::Global;
 use std::test::Fail;
 
@@ -26,14 +27,6 @@ fn add(alloc: Global, files: &mut Files, name: &str, text: &str) -> Result<(), F
     Ok(())
 }
 
-fn words_of(alloc: Global, line: &str) -> Result<Vec<String>, Fail> {
-    let mut words = Vec::new(alloc);
-    for word in line.split(' ') {
-        words.push(String::from_str(alloc, word)?)?;
-    }
-    Ok(words)
-}
-
 #[test]
 fn a_test_is_written_run_and_counted(rt: HostRuntime) -> Result<(), Fail> {
     let alloc = rt.alloc();
@@ -52,13 +45,8 @@ fn a_test_is_written_run_and_counted(rt: HostRuntime) -> Result<(), Fail> {
     )?;
     let mut host = MemoryHost::new(files, Items::new(alloc), Items::new(alloc));
     for (line, said) in CHAIN {
-        let words = words_of(alloc, line)?;
-        let mut out = MemorySink::new(Items::new(alloc));
-        let mut err = MemorySink::new(Items::new(alloc));
-        let status = run_suite(alloc, words.as_slice(), &mut host, &mut out, &mut err);
-        assert_eq!(rt; out.bytes(), said.as_bytes());
-        assert_eq!(rt; err.bytes(), "".as_bytes());
-        assert_eq!(rt; status, Status::Done);
+        let run = run_on(alloc, line, &mut host, &NO_FAULTS)?;
+        expect(&rt, &run, Status::Done, said, "");
     }
     let signature = host.file("w/add.sig").ok_or("no signature")?;
     assert_eq!(rt; signature, "00000002\n00000000\n".as_bytes());

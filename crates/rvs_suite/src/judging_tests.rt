@@ -1,20 +1,12 @@
 // Whole runs of `run` over a device in memory.
-use crate::{Status, run_suite};
-use rvs_base::{Answer, Files, Items, Leaves, MemoryHost, MemorySink, Text};
+use crate::Status;
+use crate::tests::{Faults, NO_FAULTS, expect, run_on};
+use rvs_base::{Answer, Files, Items, Leaves, MemoryHost, Text};
 use std::alloc::Global;
 use std::test::Fail;
 
-const WORDS: [&str; 9] = [
-    "rvsuite",
-    "run",
-    "--isa=i.yaml",
-    "--cgf",
-    "add.cgf",
-    "--device",
-    "d.yaml",
-    "--work=-w",
-    "--cgf=more.cgf",
-];
+const WORDS: &str =
+    "rvsuite run --isa=i.yaml --cgf add.cgf --device d.yaml --work=-w --cgf=more.cgf";
 
 const LISTING: &str =
     "label add\ncase 0 mnemonics add\nsteps 112\nlabel none unselected\ntotal 1 tests, 1 cases, 0 unsolved, 0 skipped\n";
@@ -87,29 +79,48 @@ fn answers(alloc: Global, left: Option<&str>) -> Result<Items<Answer>, Fail> {
     Ok(answers)
 }
 
-fn words(alloc: Global) -> Result<Vec<String>, Fail> {
-    let mut words = Vec::new(alloc);
-    for word in WORDS {
-        words.push(String::from_str(alloc, word)?)?;
-    }
-    Ok(words)
+fn host(alloc: Global, left: Option<&str>, fail: &[u64]) -> Result<MemoryHost, Fail> {
+    let fail = Items::from(fail.to_vec(alloc)?);
+    Ok(MemoryHost::new(files(alloc)?, fail, answers(alloc, left)?))
 }
 
 #[test]
 fn devices_are_judged(rt: HostRuntime) -> Result<(), Fail> {
     let alloc = rt.alloc();
-    let words = words(alloc)?;
     for (left, status, verdict) in JUDGED {
-        let mut host = MemoryHost::new(files(alloc)?, Items::new(alloc), answers(alloc, left)?);
-        let mut out = MemorySink::new(Items::new(alloc));
-        let mut err = MemorySink::new(Items::new(alloc));
-        let ended = run_suite(alloc, words.as_slice(), &mut host, &mut out, &mut err);
+        let mut host = host(alloc, left, &[])?;
+        let run = run_on(alloc, WORDS, &mut host, &NO_FAULTS)?;
         let said = format!(in alloc; "{LISTING}{verdict}")?;
-        assert_eq!(rt; out.bytes(), said.as_str().as_bytes());
-        assert_eq!(rt; err.bytes(), "".as_bytes());
-        assert_eq!(rt; ended, status);
-        let run = host.runs().first().ok_or("no run")?;
-        assert_eq!(rt; run.words.as_slice().len(), 3);
+        expect(&rt, &run, status, said.as_str(), "");
+        let made = host.runs().first().ok_or("no run")?;
+        let test = made.words.as_slice().get(1).ok_or("no test")?;
+        assert_eq!(rt; test.as_str(), "-w/add.S");
+    }
+    Ok(())
+}
+
+/// How many calls of the host a run makes that passes.
+const CALLS: u64 = 18;
+
+#[test]
+fn each_call_fails_in_turn(rt: HostRuntime) -> Result<(), Fail> {
+    let alloc = rt.alloc();
+    let good = Some("00000002\n00000000\n");
+    for call in 0..CALLS {
+        let mut host = host(alloc, good, &[call])?;
+        let run = run_on(alloc, WORDS, &mut host, &NO_FAULTS)?;
+        assert_eq!(rt; run.status, Status::HostFault);
+        assert!(rt; run.err.bytes().starts_with(b"rvsuite: cannot "));
+    }
+    let mut whole = host(alloc, good, &[CALLS])?;
+    let run = run_on(alloc, WORDS, &mut whole, &NO_FAULTS)?;
+    assert_eq!(rt; run.status, Status::Done);
+    for put in 0..3 {
+        let out = [put];
+        let faults = Faults { out: &out, ..NO_FAULTS };
+        let mut host = host(alloc, good, &[])?;
+        let run = run_on(alloc, WORDS, &mut host, &faults)?;
+        assert_eq!(rt; run.status, Status::SinkFault);
     }
     Ok(())
 }

@@ -7,9 +7,9 @@ use std::test::Fail;
 
 #[derive(Clone, Copy)]
 pub struct Faults<'f> {
-    host: &'f [u64],
-    out: &'f [u64],
-    err: &'f [u64],
+    pub host: &'f [u64],
+    pub out: &'f [u64],
+    pub err: &'f [u64],
 }
 
 pub const NO_FAULTS: Faults<'static> = Faults {
@@ -35,21 +35,27 @@ fn copied(alloc: Global, text: &str) -> Result<Bytes, Fail> {
     Ok(Items::from(text.as_bytes().to_vec(alloc)?))
 }
 
-// Words have one space between them.
-pub fn run(alloc: Global, words: &str, files: Files, faults: &Faults) -> Result<Outcome, Fail> {
+// Words have one space between them. The host has its own list of faults.
+pub fn run_on(
+    alloc: Global,
+    words: &str,
+    host: &mut MemoryHost,
+    faults: &Faults,
+) -> Result<Outcome, Fail> {
     let mut list = Vec::new(alloc);
     for word in words.split(' ') {
         list.push(String::from_str(alloc, word)?)?;
     }
-    let mut host = MemoryHost::new(
-        files,
-        Items::from(faults.host.to_vec(alloc)?),
-        Items::new(alloc),
-    );
     let mut out = MemorySink::new(Items::from(faults.out.to_vec(alloc)?));
     let mut err = MemorySink::new(Items::from(faults.err.to_vec(alloc)?));
-    let status = run_suite(alloc, list.as_slice(), &mut host, &mut out, &mut err);
+    let status = run_suite(alloc, list.as_slice(), host, &mut out, &mut err);
     Ok(Outcome { status, out, err })
+}
+
+pub fn run(alloc: Global, words: &str, files: Files, faults: &Faults) -> Result<Outcome, Fail> {
+    let failing = Items::from(faults.host.to_vec(alloc)?);
+    let mut host = MemoryHost::new(files, failing, Items::new(alloc));
+    run_on(alloc, words, &mut host, faults)
 }
 
 // Compares `a.sig`, which is there, with `b.sig`, where that is there.
