@@ -1,6 +1,6 @@
 -- The point on a mnemonic takes the first registers.
-use Rattle.std.proofs.Common.{◌≡◌, true, false, cond, [], ◌∷◌, map, Option, Some, None, refl, sym, ap, ◌∙◌, append-nil}
-use Rattle.std.specs.Prelude.{find, flat_map}
+use Rattle.std.proofs.Common.{◌≡◌, true, cond, [], ◌∷◌, map, Some, refl, sym, ap, ◌∙◌, append-nil}
+use Rattle.std.specs.Prelude.{find}
 use Rattle.rvs_insn.specs.declared.op.Format.TheVariants.{System}
 use Rattle.rvs_insn.specs.declared.op.Op.{Op}
 use Rattle.rvs_insn.specs.Isa.{Isa}
@@ -9,12 +9,12 @@ use Rattle.std.proofs.lemmas.Bool.{eq-eqb}
 use Rattle.rvs_facts.specs.Mnemonics.{number, is_same}
 use Rattle.rvs_cgf.specs.declared.group.Kind.TheVariants.{Mnemonic}
 use Rattle.rvs_cgf.specs.Groups.{op_is}
-use Rattle.rvs_solver.specs.Choices.{ChoiceValue, choices, registers}
+use Rattle.rvs_solver.specs.Choices.{choices}
 use Rattle.rvs_solver.specs.Point.{hits}
 use Rattle.rvs_solver.specs.First.{first_choice}
 use Rattle.rvs_solver.specs.Least.{least}
 use Rattle.rvs_solver.specs.Bound.{first_registers}
-use Rattle.rvs_solver.proofs.Product.{Begins, registers_begin}
+use Rattle.rvs_solver.proofs.Product.{registers_begin}
 use Rattle.rvs_solver.proofs.RegisterPoints.{register_is, by_registers}
 use Rattle.rvs_solver.proofs.RegisterCalls.{has_choice}
 

@@ -1,5 +1,5 @@
 -- Some points, and the most evaluations that each takes on a core without misaligned data.
-use Rattle.std.specs.Prelude.{ℕ, ℤ, pos, negsuc, true, false, List, [], ◌∷◌, map}
+use Rattle.std.specs.Prelude.{ℕ, ℤ, pos, negsuc, true, false, List, [], ◌∷◌}
 use Rattle.rvs_insn.specs.declared.op.Op.{Op}
 use Rattle.rvs_insn.specs.declared.op.Op.TheVariants.{Mul, Div, Beq, Sw, Sb, Lb, Addi, Fence, Jalr, Sltiu, Add}
 use Rattle.rvs_insn.specs.Isa.{Isa}

@@ -1,4 +1,3 @@
-use Rattle.std.proofs.Common.{refl}
 use Rattle.rvs_insn.specs.declared.op.Op.TheVariants.{Add}
 use Rattle.rvs_solver.proofs.Mnemonics.{first_of_mnemonic}
 use Rattle.rvs_solver.proofs.laws.mnemonics_take_the_first_registers.Goals as goal
