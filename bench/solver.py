@@ -4,7 +4,7 @@
 usage: solver.py stock | one | every | wide | worst > FILE
 
 stock  the points of a stock label of add, 246 of them, all solved
-one    one label of beq with 2,047 points, about half of them solved
+one    one label of beq with 2,048 points, 513 of them solved
 every  one label of all 48 mnemonics with 1,365 points, which some mnemonic solves
 wide   one label of 32 mnemonics with 2,048 points, which no mnemonic solves
 worst  a point of beq that names both values and the immediate in a product alone, with sixteen constants, so that
