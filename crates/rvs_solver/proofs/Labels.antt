@@ -24,9 +24,10 @@ use Rattle.rvs_solver.specs.Choices.{ChoiceValue}
 use Rattle.rvs_solver.specs.Point.{is_valid}
 use Rattle.rvs_solver.specs.First.{first_choice, Solvable, HasOneWordEach}
 use Rattle.rvs_solver.specs.Bound.{bound}
-use Rattle.rvs_solver.specs.Solving.{first_of_point, first_at, bound_at, bound_or_none, IsSolvableAt, HaveOneWordEach}
+use Rattle.rvs_solver.specs.Solving.{first_of_point, first_at, bound_at, bound_or_none, IsLeastAt, IsSolvableAt, HaveOneWordEach}
 use Rattle.rvs_solver.specs.declared.solved.Solved.{Solved}
 use Rattle.rvs_solver.specs.declared.solved.Solved.TheVariants.{One}
+use Rattle.rvs_solver.proofs.Answer.{is_least}
 
 -- ---- meanings of keys are of one language
 
@@ -38,15 +39,19 @@ reg_valid : (o : Option ℕ) (m : Meaning) → option_map reg_is o ≡ Some m �
 reg_valid None m h = cc
 reg_valid (Some r) m h = let is : reg_is r ≡ m = cc in ap is_valid (sym is)
 
-regs_valid : (r : Found Formula) (m : Meaning) → ((f : Formula) → r ≡ Ok f → only_registers f ≡ true) → option_map regs (found r) ≡ Some m → is_valid m ≡ true
+regs_valid : (r : Found Formula) (m : Meaning)
+    → ((f : Formula) → r ≡ Ok f → only_registers f ≡ true) → option_map regs (found r) ≡ Some m
+    → is_valid m ≡ true
 regs_valid (Ok f) m only h = let is : regs f ≡ m = cc in ap is_valid (sym is) ∙ only f refl
 regs_valid (Err e) m only h = cc
 
-nums_valid : (r : Found Formula) (m : Meaning) → ((f : Formula) → r ≡ Ok f → only_numbers f ≡ true) → option_map nums (found r) ≡ Some m → is_valid m ≡ true
+nums_valid : (r : Found Formula) (m : Meaning) → ((f : Formula) → r ≡ Ok f → only_numbers f ≡ true)
+    → option_map nums (found r) ≡ Some m → is_valid m ≡ true
 nums_valid (Ok f) m only h = let is : nums f ≡ m = cc in ap is_valid (sym is) ∙ only f refl
 nums_valid (Err e) m only h = cc
 
-meaning_valid : (k : Kind) (key : List ℕ) (m : Meaning) → meaning_of k key ≡ Some m → is_valid m ≡ true
+meaning_valid : (k : Kind) (key : List ℕ) (m : Meaning) → meaning_of k key ≡ Some m
+    → is_valid m ≡ true
 meaning_valid Mnemonic key m h = op_valid (op_of_name key) m h
 meaning_valid Rs1 key m h = reg_valid (register_number key) m h
 meaning_valid Rs2 key m h = reg_valid (register_number key) m h
@@ -54,38 +59,79 @@ meaning_valid Rd key m h = reg_valid (register_number key) m h
 meaning_valid OpComb key m h = regs_valid (parse Registers [] key) m (registers_alone [] key) h
 meaning_valid ValComb key m h = nums_valid (parse Numbers [] key) m (numbers_alone [] key) h
 
-pub point_valid : (isa : Isa) (l : LabelOf) (k : ℕ) (d : PointOf) → IsValid isa l → k < length l.points → is_valid (get_or l.points k d).meaning ≡ true
-point_valid isa l k d v h = let p = get_or l.points k d in meaning_valid p.kind p.key p.meaning (v.meant k d h).meaning_is
+pub point_valid : (isa : Isa) (l : LabelOf) (k : ℕ) (d : PointOf) → IsValid isa l
+    → k < length l.points → is_valid (get_or l.points k d).meaning ≡ true
+point_valid isa l k d v h = let p =
+    get_or l.points k d in meaning_valid p.kind p.key p.meaning (v.meant k d h).meaning_is
 
 -- ---- the code's point
 
-pub point_there : (l : Label) (k : ℕ) (p : Point) → k < length l.points → p ≡ get_or l.points k p → slice_get (label_view l).points k ≡ Some (point_view p)
-point_there l k p h is = slice_get-map point_view l.points k ∙ ap (option_map point_view) (slice_get_read l.points (length l.points) k p refl h is)
+pub point_there : (l : Label) (k : ℕ) (p : Point) → k < length l.points → p ≡ get_or l.points k p
+    → slice_get (label_view l).points k ≡ Some (point_view p)
+point_there l k p h is = slice_get-map point_view l.points k
+    ∙ ap (option_map point_view) (slice_get_read l.points (length l.points) k p refl h is)
 
-pub valid_there : (isa : Isa) (l : Label) (k : ℕ) (p : Point) → IsValid isa (label_view l) → k < length l.points → p ≡ get_or l.points k p → is_valid (meaning_view p.meaning) ≡ true
+pub valid_there : (isa : Isa) (l : Label) (k : ℕ) (p : Point) → IsValid isa (label_view l)
+    → k < length l.points → p ≡ get_or l.points k p → is_valid (meaning_view p.meaning) ≡ true
 valid_there isa l k p v h is =
-    let at : get_or (map point_view l.points) k (point_view p) ≡ point_view p = get_or-map point_view l.points k p (point_view p) h ∙ ap point_view (sym is) in
-    let same : length (map point_view l.points) ≡ length l.points = length-map l.points point_view in
+    let at : get_or (map point_view l.points) k (point_view p) ≡ point_view p =
+    get_or-map point_view l.points k p (point_view p) h ∙ ap point_view (sym is) in
+    let same : length (map point_view l.points) ≡ length l.points =
+    length-map l.points point_view in
     let long : k < length (map point_view l.points) = subst (λ n. k < n) (sym same) h in
-    ap (λ (x : PointOf). is_valid x.meaning) (sym at) ∙ point_valid isa (label_view l) k (point_view p) v long
+    ap (λ (x : PointOf). is_valid x.meaning) (sym at)
+    ∙ point_valid isa (label_view l) k (point_view p) v long
 
 -- ---- what solve promises
 
-pub first_there : (isa : Isa) (l : LabelOf) (k : ℕ) (p : PointOf) (r : Option ChoiceValue) (s : Option Solved) → slice_get l.points k ≡ Some p → r ≡ first_choice isa l.ops p.kind p.meaning → s ≡ option_map One r → s ≡ first_at isa l k
-first_there isa l k p r s at h is = is ∙ ap (option_map One) h ∙ sym (ap (option_and_then (first_of_point isa l)) at)
+pub first_there : (isa : Isa) (l : LabelOf) (k : ℕ) (p : PointOf) (r : Option ChoiceValue)
+    (s : Option Solved) → slice_get l.points k ≡ Some p
+    → r ≡ first_choice isa l.ops p.kind p.meaning → s ≡ option_map One r → s ≡ first_at isa l k
+first_there isa l k p r s at h is =
+    is ∙ ap (option_map One) h ∙ sym (ap (option_and_then (first_of_point isa l)) at)
 
 some_is : {A : Type 0} (x y : A) → Some x ≡ Some y → x ≡ y
 some_is x y h = cc
 
-pub none_there : (isa : Isa) (l : LabelOf) (k : ℕ) (p : PointOf) (r : Option ChoiceValue) (s : Option Solved) → slice_get l.points k ≡ Some p → IfNone r (Solvable isa l.ops p.kind p.meaning → ⊥) → s ≡ option_map One r → IfNone s (IsSolvableAt isa l k → ⊥)
+pub none_there : (isa : Isa) (l : LabelOf) (k : ℕ) (p : PointOf) (r : Option ChoiceValue)
+    (s : Option Solved) → slice_get l.points k ≡ Some p
+    → IfNone r (Solvable isa l.ops p.kind p.meaning → ⊥) → s ≡ option_map One r
+    → IfNone s (IsSolvableAt isa l k → ⊥)
 none_there isa l k p None s at h is =
     let P : Option Solved → Type 0 = λ o. IfNone o (IsSolvableAt isa l k → ⊥) in
-    subst P (sym is) (λ w. h (subst (λ (x : PointOf). Solvable isa l.ops x.kind x.meaning) (some_is w.point p (sym w.is ∙ at)) w.solvable))
-none_there isa l k p (Some c) s at h is = let P : Option Solved → Type 0 = λ o. IfNone o (IsSolvableAt isa l k → ⊥) in subst P (sym is) tt
+    subst P (sym is) (λ w. h (subst (λ (x : PointOf). Solvable isa l.ops x.kind x.meaning)
+    (some_is w.point p (sym w.is ∙ at)) w.solvable))
+none_there isa l k p (Some c) s at h is = let P : Option Solved → Type 0 =
+    λ o. IfNone o (IsSolvableAt isa l k → ⊥) in subst P (sym is) tt
 
-pub words_there : (r : Option ChoiceValue) (s : Option Solved) → IfSome r HasOneWordEach → s ≡ option_map One r → IfSome s HaveOneWordEach
-words_there None s h is = let P : Option Solved → Type 0 = λ o. IfSome o HaveOneWordEach in subst P (sym is) tt
-words_there (Some c) s h is = let P : Option Solved → Type 0 = λ o. IfSome o HaveOneWordEach in subst P (sym is) h
+pub least_there : (isa : Isa) (l : LabelOf) (k : ℕ) (p : PointOf) (r : Option ChoiceValue)
+    (s : Option Solved) → slice_get l.points k ≡ Some p
+    → r ≡ first_choice isa l.ops p.kind p.meaning → s ≡ option_map One r
+    → IfSome s (IsLeastAt isa l k)
+least_there isa l k p None s at h is = let P : Option Solved → Type 0 =
+    λ o. IfSome o (IsLeastAt isa l k) in subst P (sym is) tt
+least_there isa l k p (Some c) s at h is =
+    let P : Option Solved → Type 0 = λ o. IfSome o (IsLeastAt isa l k) in
+    let there : IsLeastAt isa l k (One c) =
+    record {
+      point = p;
+      is = at;
+      choice = c;
+      one = refl;
+      least =
+          is_least isa l.ops p.kind p.meaning c (sym h);
+    } in
+    subst P (sym is) there
 
-pub cost_there : (isa : Isa) (l : LabelOf) (k : ℕ) (p : PointOf) (new old : ℕ) → slice_get l.points k ≡ Some p → new ≤ old + bound isa l.ops p.meaning → new ≤ old + bound_at isa l k
-cost_there isa l k p new old at h = let P : Option PointOf → Type 0 = λ o. new ≤ old + bound_or_none isa l o in subst P (sym at) h
+pub words_there : (r : Option ChoiceValue) (s : Option Solved) → IfSome r HasOneWordEach
+    → s ≡ option_map One r → IfSome s HaveOneWordEach
+words_there None s h is = let P : Option Solved → Type 0 =
+    λ o. IfSome o HaveOneWordEach in subst P (sym is) tt
+words_there (Some c) s h is = let P : Option Solved → Type 0 =
+    λ o. IfSome o HaveOneWordEach in subst P (sym is) h
+
+pub cost_there : (isa : Isa) (l : LabelOf) (k : ℕ) (p : PointOf) (new old : ℕ)
+    → slice_get l.points k ≡ Some p → new ≤ old + bound isa l.ops p.meaning
+    → new ≤ old + bound_at isa l k
+cost_there isa l k p new old at h = let P : Option PointOf → Type 0 =
+    λ o. new ≤ old + bound_or_none isa l o in subst P (sym at) h

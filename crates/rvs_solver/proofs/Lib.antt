@@ -9,9 +9,10 @@ pub mod Stores
 pub mod RegisterPoints
 pub mod Answer
 pub mod Low
+pub mod Shorts
 pub mod Calls
 pub mod RegisterCalls
 pub mod Others
+pub mod Mnemonics
 pub mod OneWord
-pub mod Rows
 pub mod Labels

@@ -17,7 +17,7 @@ use Rattle.rvs_solver.specs.Bound.{bound_of, register_bound}
 use Rattle.rvs_solver.specs.Least.{at_rd}
 use Rattle.rvs_solver.proofs.RegisterPoints.{register_is, not_system}
 
-has_choice : (form : Format) → (form ≡ System → ⊥) → not_system form ≡ true
+pub has_choice : (form : Format) → (form ≡ System → ⊥) → not_system form ≡ true
 unfolding not_system
 has_choice System h = absurd (h refl)
 has_choice _ h = refl
@@ -30,16 +30,25 @@ pub record Orders (spec : Isa) (op : Op) (form : Format) (a b d : List (Option �
   pub rs2s_are : d ≡ rs2s spec.e form
   pub not_none : form ≡ System → ⊥
 
-same_orders : (spec : Isa) (op : Op) (form : Format) (a b d : List (Option ℕ)) → Orders spec op form a b d → {K : Type 0} → (f : List (Option ℕ) → List (Option ℕ) → List (Option ℕ) → K) → f a b d ≡ f (rds spec.e (row op).form) (rs1s spec.e (row op).form) (rs2s spec.e (row op).form)
+same_orders : (spec : Isa) (op : Op) (form : Format) (a b d : List (Option ℕ))
+    → Orders spec op form a b d → {K : Type 0}
+    → (f : List (Option ℕ) → List (Option ℕ) → List (Option ℕ) → K)
+    → f a b d ≡ f (rds spec.e (row op).form) (rs1s spec.e (row op).form) (rs2s spec.e (row op).form)
 same_orders spec op form a b d o f =
     ap (λ x. f x b d) (o.rds_are ∙ ap (rds spec.e) o.form_is)
     ∙ ap (λ x. f (rds spec.e (row op).form) x d) (o.rs1s_are ∙ ap (rs1s spec.e) o.form_is)
-    ∙ ap (f (rds spec.e (row op).form) (rs1s spec.e (row op).form)) (o.rs2s_are ∙ ap (rs2s spec.e) o.form_is)
+    ∙ ap (f (rds spec.e (row op).form) (rs1s spec.e (row op).form))
+    (o.rs2s_are ∙ ap (rs2s spec.e) o.form_is)
 
-pub register_call : (spec : Isa) (op : Op) (form : Format) (a b d : List (Option ℕ)) (kind : Kind) (meaning : Meaning) → Orders spec op form a b d → is_valid meaning ≡ true → is_on_values meaning ≡ false → find (hits kind meaning) (flat_map (at_rd op (row op).form b d) a) ≡ find (hits kind meaning) (choices spec op [])
+pub register_call : (spec : Isa) (op : Op) (form : Format) (a b d : List (Option ℕ)) (kind : Kind)
+    (meaning : Meaning) → Orders spec op form a b d → is_valid meaning ≡ true
+    → is_on_values meaning ≡ false → find (hits kind meaning)
+    (flat_map (at_rd op (row op).form b d) a) ≡ find (hits kind meaning) (choices spec op [])
 register_call spec op form a b d kind meaning o valid not_values =
-    same_orders spec op form a b d o (λ x y z. find (hits kind meaning) (flat_map (at_rd op (row op).form y z) x))
-    ∙ sym (register_is spec op kind meaning (ap not_system (sym o.form_is) ∙ has_choice form o.not_none) valid not_values)
+    same_orders spec op form a b d o
+    (λ x y z. find (hits kind meaning) (flat_map (at_rd op (row op).form y z) x))
+    ∙ sym (register_is spec op kind meaning
+    (ap not_system (sym o.form_is) ∙ has_choice form o.not_none) valid not_values)
 
 no_cost : (x y z : ℕ) → x * (y * (z * 0)) ≤ 0
 no_cost x y z = omega arith
@@ -47,18 +56,25 @@ no_cost x y z = omega arith
 one_cost : (x y z : ℕ) → x * (y * (z * 1)) ≡ x * (y * z)
 one_cost x y z = ap (λ k. x * (y * k)) (omega arith)
 
-bound_is : (spec : Isa) (form : Format) → not_system form ≡ true → register_bound spec form ≡ length (rds spec.e form) * (length (rs1s spec.e form) * length (rs2s spec.e form))
+bound_is : (spec : Isa) (form : Format) → not_system form ≡ true
+    → register_bound spec form ≡ length
+    (rds spec.e form) * (length (rs1s spec.e form) * length (rs2s spec.e form))
 unfolding not_system
 bound_is spec System h = cc
 bound_is spec _ h = refl
 
-pub register_cost_call : (spec : Isa) (op : Op) (form : Format) (a b d : List (Option ℕ)) (meaning : Meaning) → Orders spec op form a b d → is_on_values meaning ≡ false → length a * (length b * (length d * steps_of meaning)) ≤ bound_of spec meaning op
-register_cost_call spec op form a b d (op_is key) o not_values = no_cost (length a) (length b) (length d)
-register_cost_call spec op form a b d (reg_is key) o not_values = no_cost (length a) (length b) (length d)
+pub register_cost_call : (spec : Isa) (op : Op) (form : Format) (a b d : List (Option ℕ))
+    (meaning : Meaning) → Orders spec op form a b d → is_on_values meaning ≡ false
+    → length a * (length b * (length d * steps_of meaning)) ≤ bound_of spec meaning op
+register_cost_call spec op form a b d (op_is key) o not_values =
+    no_cost (length a) (length b) (length d)
+register_cost_call spec op form a b d (reg_is key) o not_values =
+    no_cost (length a) (length b) (length d)
 register_cost_call spec op form a b d (regs e) o not_values =
     let same : length a * (length b * (length d * 1)) ≡ register_bound spec (row op).form =
     one_cost (length a) (length b) (length d)
     ∙ same_orders spec op form a b d o (λ x y z. length x * (length y * length z))
-    ∙ sym (bound_is spec (row op).form (ap not_system (sym o.form_is) ∙ has_choice form o.not_none)) in
+    ∙ sym (bound_is spec (row op).form
+    (ap not_system (sym o.form_is) ∙ has_choice form o.not_none)) in
     omega (arith, same)
 register_cost_call spec op form a b d (nums e) o not_values = cc

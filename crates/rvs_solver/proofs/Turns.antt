@@ -8,47 +8,78 @@ use Rattle.std.proofs.lemmas.List.Folds.{find-append}
 use Rattle.std.proofs.lemmas.List.Sums.{sum_by_more, sum_by-take-le}
 
 -- the list from a place on is its element there and the list after it
-pub rest_is : {X : Type 0} (xs : List X) (i : ℕ) (d : X) → i < length xs → drop i xs ≡ get_or xs i d ∷ drop (i + 1) xs
+pub rest_is : {X : Type 0} (xs : List X) (i : ℕ) (d : X) → i < length xs
+    → drop i xs ≡ get_or xs i d ∷ drop (i + 1) xs
 rest_is xs i d h = rw (add-one, drop-cons xs i d)
 
-pub find_turn : {X Y : Type 0} (p : Y → Bool) (f : X → List Y) (xs : List X) (i : ℕ) (d : X) → i < length xs → find p (flat_map f (drop i xs)) ≡ option_or (find p (f (get_or xs i d))) (find p (flat_map f (drop (i + 1) xs)))
-find_turn p f xs i d h = ap (λ l. find p (flat_map f l)) (rest_is xs i d h) ∙ find-append p (f (get_or xs i d)) (flat_map f (drop (i + 1) xs))
+pub find_turn : {X Y : Type 0} (p : Y → Bool) (f : X → List Y) (xs : List X) (i : ℕ) (d : X)
+    → i < length xs → find p (flat_map f (drop i xs))
+    ≡ option_or (find p (f (get_or xs i d))) (find p (flat_map f (drop (i + 1) xs)))
+find_turn p f xs i d h = ap (λ l. find p (flat_map f l)) (rest_is xs i d h)
+    ∙ find-append p (f (get_or xs i d)) (flat_map f (drop (i + 1) xs))
 
-pub turn_found : {X Y : Type 0} (p : Y → Bool) (f : X → List Y) (xs : List X) (i : ℕ) (d : X) (y : Y) (whole : Option Y) → i < length xs → whole ≡ find p (flat_map f (drop i xs)) → Some y ≡ find p (f (get_or xs i d)) → Some y ≡ whole
-turn_found p f xs i d y whole h inv e = sym (inv ∙ find_turn p f xs i d h ∙ ap (λ o. option_or o (find p (flat_map f (drop (i + 1) xs)))) (sym e))
+pub turn_found : {X Y : Type 0} (p : Y → Bool) (f : X → List Y) (xs : List X) (i : ℕ) (d : X)
+    (y : Y) (whole : Option Y) → i < length xs → whole ≡ find p (flat_map f (drop i xs))
+    → Some y ≡ find p (f (get_or xs i d)) → Some y ≡ whole
+turn_found p f xs i d y whole h inv e =
+    sym (inv ∙ find_turn p f xs i d h
+    ∙ ap (λ o. option_or o (find p (flat_map f (drop (i + 1) xs)))) (sym e))
 
-pub turn_none : {X Y : Type 0} (p : Y → Bool) (f : X → List Y) (xs : List X) (i : ℕ) (d : X) (whole : Option Y) → i < length xs → whole ≡ find p (flat_map f (drop i xs)) → None ≡ find p (f (get_or xs i d)) → whole ≡ find p (flat_map f (drop (i + 1) xs))
-turn_none p f xs i d whole h inv e = inv ∙ find_turn p f xs i d h ∙ ap (λ o. option_or o (find p (flat_map f (drop (i + 1) xs)))) (sym e)
+pub turn_none : {X Y : Type 0} (p : Y → Bool) (f : X → List Y) (xs : List X) (i : ℕ) (d : X)
+    (whole : Option Y) → i < length xs → whole ≡ find p (flat_map f (drop i xs))
+    → None ≡ find p (f (get_or xs i d)) → whole ≡ find p (flat_map f (drop (i + 1) xs))
+turn_none p f xs i d whole h inv e =
+    inv ∙ find_turn p f xs i d h ∙ ap (λ o. option_or o (find p (flat_map f (drop (i + 1) xs))))
+    (sym e)
 
 or_nothing : {X : Type 0} (o : Option X) → option_or o None ≡ o
 or_nothing None = refl
 or_nothing (Some x) = refl
 
 -- what is kept stays where the next is none
-pub kept_over : {X : Type 0} (p : X → Bool) (kept : Option X) (x : X) → p x ≡ false → kept ≡ option_or kept (find p (x ∷ []))
+pub kept_over : {X : Type 0} (p : X → Bool) (kept : Option X) (x : X) → p x ≡ false
+    → kept ≡ option_or kept (find p (x ∷ []))
 kept_over p kept x h = sym (ap (λ t. option_or kept (cond t (Some x) None)) h ∙ or_nothing kept)
 
-pub kept_turn : {X Y : Type 0} (p : Y → Bool) (f : X → Y) (xs : List X) (i : ℕ) (d : X) (kept next : Option Y) → i < length xs → kept ≡ find p (map f (take i xs)) → next ≡ option_or kept (find p (f (get_or xs i d) ∷ [])) → next ≡ find p (map f (take (i + 1) xs))
-kept_turn p f xs i d kept next h inv e = e ∙ ap (λ o. option_or o (find p (f (get_or xs i d) ∷ []))) inv ∙ sym (ap (find p) (map_more f xs i d h) ∙ find-append p (map f (take i xs)) (f (get_or xs i d) ∷ []))
+pub kept_turn : {X Y : Type 0} (p : Y → Bool) (f : X → Y) (xs : List X) (i : ℕ) (d : X)
+    (kept next : Option Y) → i < length xs → kept ≡ find p (map f (take i xs))
+    → next ≡ option_or kept (find p (f (get_or xs i d) ∷ []))
+    → next ≡ find p (map f (take (i + 1) xs))
+kept_turn p f xs i d kept next h inv e =
+    e ∙ ap (λ o. option_or o (find p (f (get_or xs i d) ∷ []))) inv
+    ∙ sym (ap (find p) (map_more f xs i d h)
+    ∙ find-append p (map f (take i xs)) (f (get_or xs i d) ∷ []))
 
 -- what a search of a whole list finds, it finds before what comes after
 pub found_before : {Y : Type 0} (y : Y) (o r : Option Y) → Some y ≡ o → Some y ≡ option_or o r
 found_before y o r e = ap (λ q. option_or q r) e
 
 -- a loop that ends early costs no more than the whole
-pub within_rows : (new before entry i n k : ℕ) → i < n → before ≤ entry + i * k → new ≤ before + k → new ≤ entry + n * k
-within_rows new before entry i n k h a b = let e : k * (i + 1) ≤ k * n = mul-le-mul_left k (omega arith) in omega (arith, e)
+pub within_rows : (new before entry i n k : ℕ) → i < n → before ≤ entry + i * k → new ≤ before + k
+    → new ≤ entry + n * k
+within_rows new before entry i n k h a b = let e : k * (i + 1) ≤ k * n =
+    mul-le-mul_left k (omega arith) in omega (arith, e)
 
-pub within_sum : {X : Type 0} (f : X → ℕ) (xs : List X) (i : ℕ) (d : X) (new before entry : ℕ) → i < length xs → before ≤ entry + sum_by f (take i xs) → new ≤ before + f (get_or xs i d) → new ≤ entry + sum_by f xs
-within_sum f xs i d new before entry h a b = omega (arith, sum_by_more f xs i d h, sum_by-take-le f xs (i + 1))
+pub within_sum : {X : Type 0} (f : X → ℕ) (xs : List X) (i : ℕ) (d : X) (new before entry : ℕ)
+    → i < length xs → before ≤ entry + sum_by f (take i xs) → new ≤ before + f (get_or xs i d)
+    → new ≤ entry + sum_by f xs
+within_sum f xs i d new before entry h a b =
+    omega (arith, sum_by_more f xs i d h, sum_by-take-le f xs (i + 1))
 
-pub sum_turn : {X : Type 0} (f : X → ℕ) (xs : List X) (i : ℕ) (d : X) (new before entry : ℕ) → i < length xs → before ≤ entry + sum_by f (take i xs) → new ≤ before + f (get_or xs i d) → new ≤ entry + sum_by f (take (i + 1) xs)
+pub sum_turn : {X : Type 0} (f : X → ℕ) (xs : List X) (i : ℕ) (d : X) (new before entry : ℕ)
+    → i < length xs → before ≤ entry + sum_by f (take i xs) → new ≤ before + f (get_or xs i d)
+    → new ≤ entry + sum_by f (take (i + 1) xs)
 sum_turn f xs i d new before entry h a b = omega (arith, sum_by_more f xs i d h)
 
-pub within_counted : {X : Type 0} (f : X → ℕ) (xs : List X) (i : ℕ) (d : X) (new before entry : ℕ) → i < length xs → before ≤ entry + (i + sum_by f (take i xs)) → new ≤ before + (1 + f (get_or xs i d)) → new ≤ entry + (length xs + sum_by f xs)
-within_counted f xs i d new before entry h a b = omega (arith, sum_by_more f xs i d h, sum_by-take-le f xs (i + 1))
+pub within_counted : {X : Type 0} (f : X → ℕ) (xs : List X) (i : ℕ) (d : X) (new before entry : ℕ)
+    → i < length xs → before ≤ entry + (i + sum_by f (take i xs))
+    → new ≤ before + (1 + f (get_or xs i d)) → new ≤ entry + (length xs + sum_by f xs)
+within_counted f xs i d new before entry h a b =
+    omega (arith, sum_by_more f xs i d h, sum_by-take-le f xs (i + 1))
 
-pub counted_turn : {X : Type 0} (f : X → ℕ) (xs : List X) (i : ℕ) (d : X) (new before entry : ℕ) → i < length xs → before ≤ entry + (i + sum_by f (take i xs)) → new ≤ before + (1 + f (get_or xs i d)) → new ≤ entry + (i + 1 + sum_by f (take (i + 1) xs))
+pub counted_turn : {X : Type 0} (f : X → ℕ) (xs : List X) (i : ℕ) (d : X) (new before entry : ℕ)
+    → i < length xs → before ≤ entry + (i + sum_by f (take i xs))
+    → new ≤ before + (1 + f (get_or xs i d)) → new ≤ entry + (i + 1 + sum_by f (take (i + 1) xs))
 counted_turn f xs i d new before entry h a b = omega (arith, sum_by_more f xs i d h)
 
 pub at_most : (new entry a b : ℕ) → new ≤ entry + a → a ≤ b → new ≤ entry + b
@@ -56,14 +87,24 @@ at_most new entry a b h k = omega arith
 
 -- ---- the same of a loop over a list of places
 
-found_at : {Y : Type 0} (p : Y → Bool) (y z : Y) (o : Option Y) → y ≡ z → p y ≡ true → cond (p z) (Some z) o ≡ Some y
+found_at : {Y : Type 0} (p : Y → Bool) (y z : Y) (o : Option Y) → y ≡ z → p y ≡ true
+    → cond (p z) (Some z) o ≡ Some y
 found_at p y z o is h = ap (λ t. cond t (Some z) o) (ap p (sym is) ∙ h) ∙ ap Some (sym is)
 
-passed_at : {Y : Type 0} (p : Y → Bool) (y z : Y) (o : Option Y) → y ≡ z → p y ≡ false → cond (p z) (Some z) o ≡ o
+passed_at : {Y : Type 0} (p : Y → Bool) (y z : Y) (o : Option Y) → y ≡ z → p y ≡ false
+    → cond (p z) (Some z) o ≡ o
 passed_at p y z o is h = ap (λ t. cond t (Some z) o) (ap p (sym is) ∙ h)
 
-pub map_found : {X Y : Type 0} (p : Y → Bool) (f : X → Y) (xs : List X) (i : ℕ) (d : X) (y : Y) (whole : Option Y) → i < length xs → whole ≡ find p (map f (drop i xs)) → y ≡ f (get_or xs i d) → p y ≡ true → Some y ≡ whole
-map_found p f xs i d y whole h inv is hit = sym (inv ∙ ap (λ l. find p (map f l)) (rest_is xs i d h) ∙ found_at p y (f (get_or xs i d)) (find p (map f (drop (i + 1) xs))) is hit)
+pub map_found : {X Y : Type 0} (p : Y → Bool) (f : X → Y) (xs : List X) (i : ℕ) (d : X) (y : Y)
+    (whole : Option Y) → i < length xs → whole ≡ find p (map f (drop i xs)) → y ≡ f (get_or xs i d)
+    → p y ≡ true → Some y ≡ whole
+map_found p f xs i d y whole h inv is hit =
+    sym (inv ∙ ap (λ l. find p (map f l)) (rest_is xs i d h)
+    ∙ found_at p y (f (get_or xs i d)) (find p (map f (drop (i + 1) xs))) is hit)
 
-pub map_passed : {X Y : Type 0} (p : Y → Bool) (f : X → Y) (xs : List X) (i : ℕ) (d : X) (y : Y) (whole : Option Y) → i < length xs → whole ≡ find p (map f (drop i xs)) → y ≡ f (get_or xs i d) → p y ≡ false → whole ≡ find p (map f (drop (i + 1) xs))
-map_passed p f xs i d y whole h inv is miss = inv ∙ ap (λ l. find p (map f l)) (rest_is xs i d h) ∙ passed_at p y (f (get_or xs i d)) (find p (map f (drop (i + 1) xs))) is miss
+pub map_passed : {X Y : Type 0} (p : Y → Bool) (f : X → Y) (xs : List X) (i : ℕ) (d : X) (y : Y)
+    (whole : Option Y) → i < length xs → whole ≡ find p (map f (drop i xs)) → y ≡ f (get_or xs i d)
+    → p y ≡ false → whole ≡ find p (map f (drop (i + 1) xs))
+map_passed p f xs i d y whole h inv is miss =
+    inv ∙ ap (λ l. find p (map f l)) (rest_is xs i d h)
+    ∙ passed_at p y (f (get_or xs i d)) (find p (map f (drop (i + 1) xs))) is miss

@@ -1,5 +1,5 @@
 -- The first choice that hits a point.
-use Rattle.std.specs.Prelude.{◌≡◌, true, ℕ, ℤ, List, Option, Some, flat_map, find, Contains}
+use Rattle.std.specs.Prelude.{◌≡◌, ◌<◌, Bool, true, false, ℕ, ℤ, List, Option, Some, flat_map, find, slice_get, Contains}
 use Rattle.rvs_insn.specs.declared.op.Op.{Op}
 use Rattle.rvs_insn.specs.Isa.{Isa}
 use Rattle.rvs_cgf.specs.declared.group.Kind.{Kind}
@@ -15,6 +15,18 @@ all_choices spec ops constants = flat_map (λ op. choices spec op constants) ops
 abbrev pub first_choice : Isa → List Op → Kind → Meaning → Option ChoiceValue
 first_choice spec ops kind meaning =
     find (hits kind meaning) (all_choices spec ops (constants_of meaning))
+
+-- it passes a test, and stands at a place before which nothing does
+pub record IsFirstOf {X : Type 0} (p : X → Bool) (xs : List X) (x : X) : Type 0 where
+  pub place : ℕ
+  pub here : slice_get xs place ≡ Some x
+  pub passes : p x ≡ true
+  pub before : (k : ℕ) (y : X) → k < place → slice_get xs k ≡ Some y → p y ≡ false
+
+-- the choice hits the point, and none before it does
+abbrev pub IsLeast : Isa → List Op → Kind → Meaning → ChoiceValue → Type 0
+IsLeast spec ops kind meaning =
+    IsFirstOf (hits kind meaning) (all_choices spec ops (constants_of meaning))
 
 -- some choice hits the point
 abbrev pub Solvable : Isa → List Op → Kind → Meaning → Type 0

@@ -8,3 +8,4 @@ pub mod Walk
 pub mod Held
 pub mod Least
 pub mod Solving
+pub mod Rows

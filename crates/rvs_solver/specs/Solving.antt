@@ -4,7 +4,8 @@ use Rattle.rvs_insn.specs.Isa.{Isa}
 use Rattle.rvs_cgf.specs.Groups.{Point, Label}
 use Rattle.rvs_solver.specs.declared.solved.Solved.{Solved}
 use Rattle.rvs_solver.specs.declared.solved.Solved.TheVariants.{One, Many}
-use Rattle.rvs_solver.specs.First.{first_choice, Solvable, HasOneWordEach}
+use Rattle.rvs_solver.specs.Choices.{ChoiceValue}
+use Rattle.rvs_solver.specs.First.{first_choice, IsLeast, Solvable, HasOneWordEach}
 use Rattle.rvs_solver.specs.Bound.{bound}
 
 -- the first choice that hits a point of a label
@@ -13,6 +14,14 @@ first_of_point spec l p = option_map One (first_choice spec l.ops p.kind p.meani
 
 abbrev pub first_at : Isa → Label → ℕ → Option Solved
 first_at spec l k = option_and_then (first_of_point spec l) (slice_get l.points k)
+
+-- it is one choice, the least by its place of those that hit the point
+pub record IsLeastAt (spec : Isa) (l : Label) (k : ℕ) (s : Solved) : Type 0 where
+  pub point : Point
+  pub is : slice_get l.points k ≡ Some point
+  pub choice : ChoiceValue
+  pub one : s ≡ One choice
+  pub least : IsLeast spec l.ops point.kind point.meaning choice
 
 -- some choice hits it
 abbrev pub IsSolvable : Isa → Label → Point → Type 0

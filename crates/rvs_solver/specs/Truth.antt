@@ -34,3 +34,6 @@ num_at t name = t.num name
 
 abbrev pub IsNarrow : ℤ → Type 0
 IsNarrow z = unsigned_abs z ≤ 2 ^ 32
+
+abbrev pub IsShort : ℤ → Type 0
+IsShort z = unsigned_abs z ≤ 2 ^ 20

@@ -39,11 +39,29 @@ impl Model for Choice {
 
     ghost Value = { ChoiceValue };
 
-    ghost view = { λ c. record { op = c.op; rd = c.rd; rs1 = c.rs1; rs2 = c.rs2; imm = c.imm; align = c.align; w1 = c.w1; w2 = c.w2 } };
+    ghost view = { λ c. record {
+      op = c.op;
+      rd = c.rd;
+      rs1 = c.rs1;
+      rs2 = c.rs2;
+      imm = c.imm;
+      align = c.align;
+      w1 = c.w1;
+      w2 = c.w2;
+    } };
 
     ghost invariant = { λ c. IsRegister c.rd × IsRegister c.rs1 × IsRegister c.rs2 };
 
-    ghost inverse = { λ c. record { op = c.op; rd = c.rd; rs1 = c.rs1; rs2 = c.rs2; imm = c.imm; align = c.align; w1 = c.w1; w2 = c.w2 } };
+    ghost inverse = { λ c. record {
+      op = c.op;
+      rd = c.rd;
+      rs1 = c.rs1;
+      rs2 = c.rs2;
+      imm = c.imm;
+      align = c.align;
+      w1 = c.w1;
+      w2 = c.w2;
+    } };
 }
 
 impl Choice {

@@ -4,7 +4,7 @@ ghost use Rattle.std.specs.List.{list_any};
 ghost use Rattle.std.specs.Ordering.{int_eq};
 ghost use Rattle.rvs_insn.specs.Table.{row};
 ghost use Rattle.rvs_insn.specs.Word.{low_bits};
-ghost use Rattle.rvs_solver.specs.Truth.{IsNarrow};
+ghost use Rattle.rvs_solver.specs.Truth.{IsNarrow, IsShort};
 ghost use Rattle.rvs_solver.specs.Datasets.{joined, is_between, is_there, around, dataset, values, words, distance, distances, distance_list, alignments, address, immediate_numbers};
 ghost use Rattle.rvs_solver.specs.Bound.{operands, operands_at, fixed_word};
 
@@ -32,9 +32,9 @@ fn values(alloc: Global, unsigned: bool, constants: &[i64]) -> Result<Vec<i64>, 
     ensures { IfOk result (λ v. v.items ≡ values unsigned constants.now) }
 {
     if unsigned {
-        wide_dataset(alloc, &BASE_UNSIGNED, 0, 0xffff_ffff, constants)
+        dataset(alloc, &BASE_UNSIGNED, 0, 0xffff_ffff, constants)
     } else {
-        wide_dataset(alloc, &BASE_SIGNED, -0x8000_0000, 0x7fff_ffff, constants)
+        dataset(alloc, &BASE_SIGNED, -0x8000_0000, 0x7fff_ffff, constants)
     }
 }
 
@@ -72,7 +72,7 @@ fn word_of(value: i64) -> u32
 
 /// A fixed list, then what the constants give within a range, without what is already there.
 #[tactic(auto, using(crate::proofs::Sets::dataset_more), unfolding(crate::specs::Datasets::dataset))]
-fn wide_dataset(
+fn dataset(
     alloc: Global,
     fixed: &[i64],
     low: i64,
@@ -85,30 +85,28 @@ fn wide_dataset(
     let mut list = Vec::new(alloc);
     list.extend_from_slice(fixed)?;
     for c in constants {
-        wide_around(&mut list, low, high, *c)?;
+        join_around(&mut list, low, high, *c)?;
     }
     Ok(list)
 }
 
 #[tactic(auto, unfolding(crate::specs::Datasets::around))]
-fn wide_around(list: &mut Vec<i64>, low: i64, high: i64, constant: i64) -> Result<(), NoMemory>
+fn join_around(list: &mut Vec<i64>, low: i64, high: i64, constant: i64) -> Result<(), NoMemory>
     requires { IsNarrow constant }
     ensures { OnOk result (list.new.items ≡ fold (joined low high) list.old.items (around
         constant)) }
 {
-    wide_join(list, low, high, constant - 1)?;
-    wide_join(list, low, high, constant)?;
-    wide_join(list, low, high, constant + 1)
+    join(list, low, high, constant - 1)?;
+    join(list, low, high, constant)?;
+    join(list, low, high, constant + 1)
 }
 
 #[tactic(auto, unfolding(crate::specs::Datasets::joined))]
-fn wide_join(list: &mut Vec<i64>, low: i64, high: i64, number: i64) -> Result<(), NoMemory>
+fn join(list: &mut Vec<i64>, low: i64, high: i64, number: i64) -> Result<(), NoMemory>
     ensures { OnOk result (list.new.items ≡ joined low high list.old.items number) }
 {
-    if is_between(low, high, number) {
-        if !is_there_wide(list.as_slice(), number) {
-            list.push(number)?;
-        }
+    if is_between(low, high, number) && !is_there(list.as_slice(), number) {
+        list.push(number)?;
     }
     Ok(())
 }
@@ -121,7 +119,7 @@ fn is_between(low: i64, high: i64, number: i64) -> bool
 }
 
 #[tactic(auto, unfolding(crate::specs::Datasets::is_there))]
-fn is_there_wide(list: &[i64], number: i64) -> bool
+fn is_there(list: &[i64], number: i64) -> bool
     ensures { result ≡ is_there list.now number }
 {
     list.iter().any(|other| *other == number)
@@ -134,91 +132,38 @@ fn immediate_numbers(alloc: Global, form: Format, constants: &[i64]) -> Result<V
 {
     match form {
         Format::I | Format::Load | Format::Store | Format::JumpReg => {
-            dataset(alloc, &SHORT, -2048, 2047, constants)
+            let numbers = dataset(alloc, &SHORT, -2048, 2047, constants)?;
+            narrowed(alloc, numbers.as_slice())
         },
-        Format::Shift => dataset(alloc, &SHIFTS, 0, 31, &[]),
-        Format::Upper => dataset(alloc, &UPPER, 0, 0xf_ffff, constants),
+        Format::Shift => narrowed(alloc, &SHIFTS),
+        Format::Upper => {
+            let numbers = dataset(alloc, &UPPER, 0, 0xf_ffff, constants)?;
+            narrowed(alloc, numbers.as_slice())
+        },
         Format::Branch | Format::Jump => distances(alloc),
         Format::R | Format::Fence | Format::System => Ok(Vec::new(alloc)),
     }
 }
 
-static SHORT: [i32; 10] = [1, 2, 3, -1, -2, 0, 2047, -2048, 1365, -1366];
+static SHORT: [i64; 10] = [1, 2, 3, -1, -2, 0, 2047, -2048, 1365, -1366];
 
-static SHIFTS: [i32; 32] = [
+static SHIFTS: [i64; 32] = [
     1, 2, 3, 4, 5, 6, 7, 8, 9, 10, 11, 12, 13, 14, 15, 16, 17, 18, 19, 20, 21, 22, 23, 24, 25, 26,
     27, 28, 29, 30, 31, 0,
 ];
 
-static UPPER: [i32; 9] = [1, 2, 3, 1048575, 0, 524287, 524288, 349525, 699050];
+static UPPER: [i64; 9] = [1, 2, 3, 1048575, 0, 524287, 524288, 349525, 699050];
 
-#[tactic(auto, using(crate::proofs::Sets::dataset_more), unfolding(crate::specs::Datasets::dataset))]
-fn dataset(
-    alloc: Global,
-    fixed: &[i32],
-    low: i32,
-    high: i32,
-    constants: &[i64],
-) -> Result<Vec<i32>, NoMemory>
-    requires { All IsNarrow constants.now }
-    ensures { IfOk result (λ v. v.items ≡ dataset fixed.now low high constants.now) }
+/// The same numbers in 32 bits.
+fn narrowed(alloc: Global, numbers: &[i64]) -> Result<Vec<i32>, NoMemory>
+    requires { All IsShort numbers.now }
+    ensures { IfOk result (λ v. v.items ≡ numbers.now) }
 {
     let mut list = Vec::new(alloc);
-    list.extend_from_slice(fixed)?;
-    for c in constants {
-        join_around(&mut list, low, high, *c)?;
+    for number in numbers {
+        list.push(*number as i32)?;
     }
     Ok(list)
-}
-
-#[tactic(auto, unfolding(crate::specs::Datasets::around))]
-fn join_around(list: &mut Vec<i32>, low: i32, high: i32, constant: i64) -> Result<(), NoMemory>
-    requires { IsNarrow constant }
-    ensures { OnOk result (list.new.items ≡ fold (joined low high) list.old.items (around
-        constant)) }
-{
-    join(list, low, high, constant - 1)?;
-    join(list, low, high, constant)?;
-    join(list, low, high, constant + 1)
-}
-
-#[tactic(auto, unfolding(crate::specs::Datasets::joined))]
-fn join(list: &mut Vec<i32>, low: i32, high: i32, number: i64) -> Result<(), NoMemory>
-    ensures { OnOk result (list.new.items ≡ joined low high list.old.items number) }
-{
-    match narrowed(low, high, number) {
-        Some(number) => join_narrow(list, number),
-        None => Ok(()),
-    }
-}
-
-/// The number, where it lies in the range.
-#[tactic(auto, unfolding(crate::specs::Datasets::is_between))]
-fn narrowed(low: i32, high: i32, number: i64) -> Option<i32>
-    ensures { result ≡ (if is_between low high number then Some number else None) }
-{
-    if i64::from(low) <= number && number <= i64::from(high) {
-        Some(number as i32)
-    } else {
-        None
-    }
-}
-
-fn join_narrow(list: &mut Vec<i32>, number: i32) -> Result<(), NoMemory>
-    ensures { OnOk result (list.new.items ≡ (if is_there list.old.items number then list.old.items
-        else (list.old.items ++ number ∷ []))) }
-{
-    if !is_there(list.as_slice(), number) {
-        list.push(number)?;
-    }
-    Ok(())
-}
-
-#[tactic(auto, unfolding(crate::specs::Datasets::is_there))]
-fn is_there(list: &[i32], number: i32) -> bool
-    ensures { result ≡ is_there list.now number }
-{
-    list.iter().any(|other| *other == number)
 }
 
 /// The distances of branches and jumps, in order.

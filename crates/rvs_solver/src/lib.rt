@@ -3,6 +3,7 @@
 
 mod choice;
 mod datasets;
+mod laws;
 mod operand;
 mod orders;
 mod registers;
@@ -15,5 +16,6 @@ mod values;
 mod walk;
 
 pub use choice::Choice;
+pub use laws::{bounds_of_some_points, mnemonics_take_the_first_registers};
 pub use solved::Solved;
 pub use solving::solve;

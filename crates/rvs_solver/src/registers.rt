@@ -61,29 +61,8 @@ fn first_at_rd<L: Ledger>(
         (meaning_view meaning.now)) }
 {
     if asks_other_rd(kind, meaning, rd) {
-        None
-    } else {
-        first_over_rs1s(kind, meaning, op, rd, rs1s, rs2s, steps)
+        return None;
     }
-}
-
-fn first_over_rs1s<L: Ledger>(
-    kind: Kind,
-    meaning: &Meaning,
-    op: Op,
-    rd: Option<u8>,
-    rs1s: &[Option<u8>],
-    rs2s: &[Option<u8>],
-    steps: &mut Steps<L>,
-) -> Option<Choice>
-    requires rd { IsRegister rd }
-    requires rs1 { All IsRegister rs1s.now }
-    requires rs2 { All IsRegister rs2s.now }
-    ensures first { result ≡ find (hits kind (meaning_view meaning.now)) (at_rd op (row op).form
-        rs1s.now rs2s.now rd) }
-    ensures cost { steps.new ≤ steps.old + length rs1s.now * (length rs2s.now * steps_of
-        (meaning_view meaning.now)) }
-{
     for rs1 in rs1s {
         match first_at_rs1(kind, meaning, op, rd, *rs1, rs2s, steps) {
             Some(choice) => return Some(choice),
@@ -111,10 +90,15 @@ fn first_at_rs1<L: Ledger>(
     ensures cost { steps.new ≤ steps.old + length rs2s.now * steps_of (meaning_view meaning.now) }
 {
     if asks_other_rs1(kind, meaning, rs1) {
-        None
-    } else {
-        first_over_rs2s(kind, meaning, op, rd, rs1, rs2s, steps)
+        return None;
     }
+    for rs2 in rs2s {
+        let choice = least(op, rd, rs1, *rs2);
+        if is_meant(kind, meaning, choice.op, &choice, steps) {
+            return Some(choice);
+        }
+    }
+    None
 }
 
 fn asks_other_rd(kind: Kind, meaning: &Meaning, rd: Option<u8>) -> bool
@@ -133,31 +117,6 @@ fn asks_other_rs1(kind: Kind, meaning: &Meaning, rs1: Option<u8>) -> bool
         (Kind::Rs1, Meaning::RegIs(register)) => !is_register(*register, rs1),
         _ => false,
     }
-}
-
-fn first_over_rs2s<L: Ledger>(
-    kind: Kind,
-    meaning: &Meaning,
-    op: Op,
-    rd: Option<u8>,
-    rs1: Option<u8>,
-    rs2s: &[Option<u8>],
-    steps: &mut Steps<L>,
-) -> Option<Choice>
-    requires rd { IsRegister rd }
-    requires rs1 { IsRegister rs1 }
-    requires rs2 { All IsRegister rs2s.now }
-    ensures first { result ≡ find (hits kind (meaning_view meaning.now)) (at_rs1 op (row op).form
-        rs2s.now rd rs1) }
-    ensures cost { steps.new ≤ steps.old + length rs2s.now * steps_of (meaning_view meaning.now) }
-{
-    for rs2 in rs2s {
-        let choice = least(op, rd, rs1, *rs2);
-        if is_meant(kind, meaning, choice.op, &choice, steps) {
-            return Some(choice);
-        }
-    }
-    None
 }
 
 fn is_register(register: u8, field: Option<u8>) -> bool

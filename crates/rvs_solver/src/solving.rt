@@ -6,7 +6,7 @@ ghost use Rattle.rvs_cgf.specs.Valid.{IsValid};
 ghost use Rattle.rvs_solver.specs.Choices.{choices, ChoiceValue};
 ghost use Rattle.rvs_solver.specs.Point.{hits, is_valid, is_on_values, constants_of};
 ghost use Rattle.rvs_solver.specs.First.{all_choices, first_choice, Solvable, HasOneWordEach};
-ghost use Rattle.rvs_solver.specs.Solving.{first_at, bound_at, IsSolvableAt, HaveOneWordEach};
+ghost use Rattle.rvs_solver.specs.Solving.{first_at, bound_at, IsLeastAt, IsSolvableAt, HaveOneWordEach};
 ghost use Rattle.rvs_solver.specs.Bound.{bound_of, bound, register_bound};
 
 use crate::choice::Choice;
@@ -40,6 +40,7 @@ pub fn solve<L: Ledger>(
     requires point { point < length label.now.points }
     requires valid { IsValid spec.now (label_view label.now) }
     ensures first { IfOk result (λ s. s ≡ first_at spec.now (label_view label.now) point) }
+    ensures least { IfOk result (λ s. IfSome s (IsLeastAt spec.now (label_view label.now) point)) }
     ensures none { IfOk result (λ s. IfNone s (IsSolvableAt spec.now (label_view label.now) point →
         ⊥)) }
     ensures words { IfOk result (λ s. IfSome s HaveOneWordEach) }

@@ -1,8 +1,34 @@
-use Rattle.std.proofs.Common.{◌∙◌, sym}
+use Rattle.std.proofs.Common.{◌∙◌, sym, arith}
+use Rattle.std.specs.Prelude.{find, flat_map}
 use Rattle.rvs_insn.specs.Table.{row}
 use Rattle.rvs_cgf.specs.GroupView.{meaning_view}
+use Rattle.rvs_solver.specs.Point.{hits}
+use Rattle.rvs_solver.specs.Least.{at_rs1}
+use Rattle.rvs_solver.proofs.Turns.{turn_found, turn_none}
 use Rattle.rvs_solver.proofs.Others.{other_rd}
 use Rattle.rvs_solver.proofs.registers.first_at_rd.Goals as goal
 
 pub returns-then-asks_other_rd-clause-first : goal.returns-then-asks_other_rd-clause-first
-returns-then-asks_other_rd-clause-first g c = other_rd c.args.kind (meaning_view c.args.meaning.now) c.args.op (row c.args.op).form c.args.rs1s.now c.args.rs2s.now c.args.rd (sym c.asks_other_rd.ensures ∙ c.if-asks_other_rd.true)
+returns-then-asks_other_rd-clause-first g c =
+    other_rd c.args.kind (meaning_view c.args.meaning.now) c.args.op (row c.args.op).form
+    c.args.rs1s.now c.args.rs2s.now c.args.rd
+    (sym c.asks_other_rd.ensures ∙ c.if-asks_other_rd.true)
+
+pub returns-in-Some-clause-first : goal.returns-in-Some-clause-first
+returns-in-Some-clause-first g c =
+    turn_found (hits c.args.kind (meaning_view c.args.meaning.now))
+    (at_rs1 c.args.op (row c.args.op).form c.args.rs2s.now c.args.rd) c.args.rs1s.now
+    c.loop-rs1.rs1-index _ c.in-Some.choice
+    (find (hits c.args.kind (meaning_view c.args.meaning.now))
+    (flat_map (at_rs1 c.args.op (row c.args.op).form c.args.rs2s.now c.args.rd) c.args.rs1s.now))
+    (omega arith) c.loop-rs1.invariant.first c.in-Some.ensures.first
+
+pub loop-rs1-preserved : goal.loop-rs1-preserved
+loop-rs1-preserved g c = record {
+  first = turn_none (hits c.args.kind (meaning_view c.args.meaning.now))
+      (at_rs1 c.args.op (row c.args.op).form c.args.rs2s.now c.args.rd) c.args.rs1s.now
+      c.loop-rs1.rs1-index _ (find (hits c.args.kind (meaning_view c.args.meaning.now))
+      (flat_map (at_rs1 c.args.op (row c.args.op).form c.args.rs2s.now c.args.rd) c.args.rs1s.now))
+      (omega arith) c.loop-rs1.invariant.first c.in-None.ensures.first;
+  cost = omega (arith, c.in-None.ensures.cost, c.loop-rs1.invariant.cost);
+}

@@ -9,6 +9,10 @@ use Rattle.rvs_solver.proofs.registers.first_over_rds.Given as goal
 
 abbrev pub invariant-loop-rd : goal.invariant-loop-rd
 invariant-loop-rd g l = record {
-  first : find (hits l.kind (meaning_view l.meaning)) (flat_map (at_rd l.op (row l.op).form l.rs1s l.rs2s) l.rds) ≡ find (hits l.kind (meaning_view l.meaning)) (flat_map (at_rd l.op (row l.op).form l.rs1s l.rs2s) (drop l.rd-index l.rds));
-  cost : l.steps ≤ l.fn.steps + l.rd-index * (length l.rs1s * (length l.rs2s * steps_of (meaning_view l.meaning)));
+  first : find (hits l.kind (meaning_view l.meaning))
+      (flat_map (at_rd l.op (row l.op).form l.rs1s l.rs2s) l.rds)
+      ≡ find (hits l.kind (meaning_view l.meaning))
+      (flat_map (at_rd l.op (row l.op).form l.rs1s l.rs2s) (drop l.rd-index l.rds));
+  cost : l.steps ≤ l.fn.steps + l.rd-index * (length
+      l.rs1s * (length l.rs2s * steps_of (meaning_view l.meaning)));
 }

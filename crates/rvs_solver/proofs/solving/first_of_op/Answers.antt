@@ -10,5 +10,7 @@ use Rattle.rvs_solver.proofs.solving.first_of_op.Goals as goal
 pub returns-in-Nums-clause-first : goal.returns-in-Nums-clause-first
 unfolding holds
 returns-in-Nums-clause-first g c =
-    let P : Meaning → Type 0 = λ m. IfOk c.first_value.result (λ x. x ≡ find (hits c.args.kind (meaning_view m)) (choices c.args.spec.now c.args.op (constants_of (meaning_view m)))) in
+    let P : Meaning → Type 0 = λ m. IfOk c.first_value.result
+    (λ x. x ≡ find (hits c.args.kind (meaning_view m))
+    (choices c.args.spec.now c.args.op (constants_of (meaning_view m)))) in
     subst P (sym c.in-Nums.is) c.first_value.ensures.first

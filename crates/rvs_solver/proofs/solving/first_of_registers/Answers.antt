@@ -6,13 +6,32 @@ use Rattle.rvs_solver.proofs.RegisterCalls.{Orders, register_call, register_cost
 use Rattle.rvs_solver.proofs.solving.first_of_registers.Goals as goal
 
 pub returns-in-System-clause-first : goal.returns-in-System-clause-first
-returns-in-System-clause-first g c = sym (no_system c.args.spec.now c.args.op c.args.kind (meaning_view c.args.meaning.now) [] (sym c.format-form.ensures ∙ c.in-System.is))
+returns-in-System-clause-first g c =
+    sym (no_system c.args.spec.now c.args.op c.args.kind (meaning_view c.args.meaning.now) []
+    (sym c.format-form.ensures ∙ c.in-System.is))
 
 pub returns-in_default : goal.returns-in_default
 returns-in_default g c =
-    let orders : Orders c.args.spec.now c.args.op c.format-form.result c.rds.result.now c.rs1s.result.now c.rs2s.result.now = record { form_is = c.format-form.ensures; rds_are = c.rds.ensures; rs1s_are = c.rs1s.ensures; rs2s_are = c.rs2s.ensures; not_none = c.in_default.not-System } in
-    let cost : length c.rds.result.now * (length c.rs1s.result.now * (length c.rs2s.result.now * steps_of (meaning_view c.args.meaning.now))) ≤ _ = register_cost_call c.args.spec.now c.args.op c.format-form.result c.rds.result.now c.rs1s.result.now c.rs2s.result.now (meaning_view c.args.meaning.now) orders c.requires.registers in
+    let orders : Orders c.args.spec.now c.args.op c.format-form.result c.rds.result.now
+    c.rs1s.result.now c.rs2s.result.now =
     record {
-      first = c.first_over_rds.ensures.first ∙ register_call c.args.spec.now c.args.op c.format-form.result c.rds.result.now c.rs1s.result.now c.rs2s.result.now c.args.kind (meaning_view c.args.meaning.now) orders c.requires.valid c.requires.registers;
+      form_is = c.format-form.ensures;
+      rds_are = c.rds.ensures;
+      rs1s_are =
+          c.rs1s.ensures;
+      rs2s_are = c.rs2s.ensures;
+      not_none = c.in_default.not-System;
+    } in
+    let cost : length c.rds.result.now * (length
+    c.rs1s.result.now * (length c.rs2s.result.now * steps_of
+    (meaning_view c.args.meaning.now))) ≤ _ =
+    register_cost_call c.args.spec.now c.args.op c.format-form.result c.rds.result.now
+    c.rs1s.result.now c.rs2s.result.now (meaning_view c.args.meaning.now) orders
+    c.requires.registers in
+    record {
+      first = c.first_over_rds.ensures.first
+          ∙ register_call c.args.spec.now c.args.op c.format-form.result c.rds.result.now
+          c.rs1s.result.now c.rs2s.result.now c.args.kind (meaning_view c.args.meaning.now) orders
+          c.requires.valid c.requires.registers;
       cost = omega (arith, c.first_over_rds.ensures.cost, cost);
     }

@@ -7,6 +7,9 @@ use Rattle.rvs_solver.proofs.walk.first_in_product.Given as goal
 
 abbrev pub invariant-loop-first : goal.invariant-loop-first
 invariant-loop-first g l = record {
-  first : find (is_true_at (view l.expr)) (flat_map (at_operand l.base l.w1s l.w2s) l.operands) ≡ find (is_true_at (view l.expr)) (flat_map (at_operand l.base l.w1s l.w2s) (drop l.first-index l.operands));
-  cost : l.steps ≤ l.fn.steps + (l.first-index + sum_by (inner_cost (option_map view l.part) l.base l.w1s l.w2s) (take l.first-index l.operands));
+  first : find (is_true_at (view l.expr)) (flat_map (at_operand l.base l.w1s l.w2s) l.operands)
+      ≡ find (is_true_at (view l.expr))
+      (flat_map (at_operand l.base l.w1s l.w2s) (drop l.first-index l.operands));
+  cost : l.steps ≤ l.fn.steps + (l.first-index + sum_by
+      (inner_cost (option_map view l.part) l.base l.w1s l.w2s) (take l.first-index l.operands));
 }

@@ -7,12 +7,22 @@ use Rattle.rvs_solver.proofs.walk.first_with_w1.Goals as goal
 
 pub returns-then-is_true-clause-first : goal.returns-then-is_true-clause-first
 returns-then-is_true-clause-first g c =
-    map_found (is_true_at (view c.args.expr.now)) (with_numbers c.args.base.now c.args.first.now c.args.w1) c.args.w2s.now c.loop-w2.w2-index 0 c.with_numbers-choice.result
-    (find (is_true_at (view c.args.expr.now)) (at_w1 c.args.base.now c.args.first.now c.args.w2s.now c.args.w1)) (omega arith) c.loop-w2.invariant.first c.with_numbers-choice.ensures (sym c.is_true.ensures.value ∙ c.if-is_true.true)
+    map_found (is_true_at (view c.args.expr.now))
+    (with_numbers c.args.base.now c.args.first.now c.args.w1) c.args.w2s.now c.loop-w2.w2-index
+    0 c.with_numbers-choice.result
+    (find (is_true_at (view c.args.expr.now))
+    (at_w1 c.args.base.now c.args.first.now c.args.w2s.now c.args.w1)) (omega arith)
+    c.loop-w2.invariant.first c.with_numbers-choice.ensures
+    (sym c.is_true.ensures.value ∙ c.if-is_true.true)
 
 pub loop-w2-preserved : goal.loop-w2-preserved
 loop-w2-preserved g c = record {
-  first = map_passed (is_true_at (view c.args.expr.now)) (with_numbers c.args.base.now c.args.first.now c.args.w1) c.args.w2s.now c.loop-w2.w2-index 0 c.with_numbers-choice.result
-      (find (is_true_at (view c.args.expr.now)) (at_w1 c.args.base.now c.args.first.now c.args.w2s.now c.args.w1)) (omega arith) c.loop-w2.invariant.first c.with_numbers-choice.ensures (sym c.is_true.ensures.value ∙ c.if-is_true.false);
+  first = map_passed (is_true_at (view c.args.expr.now))
+      (with_numbers c.args.base.now c.args.first.now c.args.w1) c.args.w2s.now c.loop-w2.w2-index 0
+      c.with_numbers-choice.result
+      (find (is_true_at (view c.args.expr.now))
+      (at_w1 c.args.base.now c.args.first.now c.args.w2s.now c.args.w1)) (omega arith)
+      c.loop-w2.invariant.first c.with_numbers-choice.ensures
+      (sym c.is_true.ensures.value ∙ c.if-is_true.false);
   cost = omega (arith, c.is_true.ensures.step, c.loop-w2.invariant.cost);
 }

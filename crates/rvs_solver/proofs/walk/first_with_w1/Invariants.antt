@@ -6,6 +6,8 @@ use Rattle.rvs_solver.proofs.walk.first_with_w1.Given as goal
 
 abbrev pub invariant-loop-w2 : goal.invariant-loop-w2
 invariant-loop-w2 g l = record {
-  first : find (is_true_at (view l.expr)) (map (with_numbers l.base l.first l.w1) l.w2s) ≡ find (is_true_at (view l.expr)) (map (with_numbers l.base l.first l.w1) (drop l.w2-index l.w2s));
+  first : find (is_true_at (view l.expr)) (map (with_numbers l.base l.first l.w1) l.w2s)
+      ≡ find (is_true_at (view l.expr))
+      (map (with_numbers l.base l.first l.w1) (drop l.w2-index l.w2s));
   cost : l.steps ≤ l.fn.steps + l.w2-index;
 }
