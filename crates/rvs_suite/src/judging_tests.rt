@@ -100,7 +100,7 @@ fn devices_are_judged(rt: HostRuntime) -> Result<(), Fail> {
 }
 
 /// How many calls of the host a run makes that passes.
-const CALLS: u64 = 18;
+const CALLS: u64 = 19;
 
 #[test]
 fn each_call_fails_in_turn(rt: HostRuntime) -> Result<(), Fail> {
