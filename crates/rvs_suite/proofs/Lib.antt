@@ -23,6 +23,9 @@ mod Readers
 mod GroupInputs
 mod NormalizeEnds
 mod LogReads
+mod ImageBytes
+mod RunWords
+mod LogEntries
 mod CoverageEnds
 mod Lines
 mod BaseCores

@@ -22,6 +22,7 @@ use Rattle.rvs_suite.specs.Causes as causes
 use Rattle.rvs_suite.proofs.Running.{Ran, answers, answered, completes, usage, no_command, compare-passes, compare-fails, compare-spelt, compare-refused, compare-refuses, compare-missed, compare-misses}
 use Rattle.rvs_suite.proofs.ValidateRuns.{validate-done, validate-no_verdict, validate-refused, validate-missed, validate-accepts, validate-refuses, validate-misses}
 use Rattle.rvs_suite.proofs.ReferenceRuns.{reference-done, reference-halts, reference-no_verdict, reference-refused, reference-refuses, reference-missed, reference-misses}
+use Rattle.rvs_suite.proofs.LogEntries.{halting_entries}
 use Rattle.rvs_suite.proofs.Lines.{says-usage, says-no_memory, says-refused, says-host, says-nothing}
 use Rattle.rvs_suite.proofs.Untouched.{untouched, untouched-absent}
 use Rattle.rvs_suite.proofs.Keeping.{compare-keeps, validate-keeps}
@@ -98,6 +99,7 @@ reference-promise r files isa test signature log steps t is =
       done = reference-done r.ran files isa test signature log steps t is;
       no_verdict = reference-no_verdict r.ran files isa test signature log steps t is;
       by_inputs = λ run. reference-halts r.ran files isa test signature log steps run t is;
+      logged = halting_entries files isa test steps;
       refused = reference-refused r.ran files isa test signature log steps t is;
       by_refusal = λ text. reference-refuses r.ran files isa test signature log steps text t is;
       absent = reference-missed r.ran files isa test signature log steps t is;

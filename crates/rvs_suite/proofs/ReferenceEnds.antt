@@ -20,7 +20,8 @@ use Rattle.rvs_plan.specs.declared.status.Finish.TheVariants as finish
 use Rattle.rvs_isa.specs.declared.checked.Checked.{Checked}
 use Rattle.rvs_sig.specs.Words.{text_of_words}
 use Rattle.rvs_suite.specs.TestTexts.{ran_line}
-use Rattle.rvs_suite.specs.Reference.{log_of, records, reference_on, reference}
+use Rattle.rvs_log.specs.Logs.{log_of}
+use Rattle.rvs_suite.specs.Reference.{records, reference_on, reference}
 use Rattle.rvs_suite.specs.Halting.{BothHalt, with_log, HasRecorded, FirstRefused, FirstMissing, TurnsDown, LacksInput}
 use Rattle.rvs_suite.proofs.Ends.{same_end, means-end, was_refused, was_missing}
 use Rattle.rvs_suite.proofs.IsaEnds.{end-missing, end-refused, end-says, performed-says, isa_by}

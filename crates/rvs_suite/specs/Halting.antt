@@ -13,10 +13,11 @@ use Rattle.rvs_machine.specs.Machine.{State, started, signature_of}
 use Rattle.rvs_machine.specs.Run.{run_of}
 use Rattle.rvs_machine.specs.declared.event.Executed.{Executed}
 use Rattle.rvs_machine.specs.declared.event.End.TheVariants.{Halted}
+use Rattle.rvs_log.specs.Logs.{log_of}
 use Rattle.rvs_suite.specs.Says.{Says, IsRefused}
 use Rattle.rvs_suite.specs.TestTexts.{ran_line}
 use Rattle.rvs_suite.specs.TestRun.{image_found, limit_of, test_found}
-use Rattle.rvs_suite.specs.Reference.{test_limit, log_of}
+use Rattle.rvs_suite.specs.Reference.{test_limit}
 use Rattle.rvs_suite.specs.declared.test_run.Run.{Run}
 
 -- the run of the image halts within so many instructions, and these are the instructions and the words of the signature after them

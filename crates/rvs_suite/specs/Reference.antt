@@ -1,6 +1,5 @@
 -- What `reference` does.
-use Rattle.std.specs.Prelude.{ℕ, List, [], ◌∷◌, ◌++◌, length, Option, Some, None}
-use Rattle.std.specs.List.{flat_map}
+use Rattle.std.specs.Prelude.{ℕ, List, length, Option, Some, None}
 use Rattle.rvs_plan.specs.Plan.{Plan, gives, prints, writes, ◌>>=◌}
 use Rattle.rvs_plan.specs.Inputs.{input}
 use Rattle.rvs_plan.specs.declared.status.Finish.{Finish}
@@ -8,7 +7,7 @@ use Rattle.rvs_plan.specs.declared.status.Finish.TheVariants.{Done}
 use Rattle.rvs_insn.specs.Isa.{Isa}
 use Rattle.rvs_sig.specs.Words.{text_of_words}
 use Rattle.rvs_machine.specs.declared.event.Executed.{Executed}
-use Rattle.rvs_log.specs.Written.{line_of}
+use Rattle.rvs_log.specs.Logs.{log_of}
 use Rattle.rvs_suite.specs.Specification.{specification}
 use Rattle.rvs_suite.specs.TestTexts.{ran_line}
 use Rattle.rvs_suite.specs.TestRun.{accepted, test_found}
@@ -23,10 +22,6 @@ abbrev pub trial : Option ℕ → Isa → List ℕ → Plan Run
 trial steps isa test = do
   bytes ← input test_limit test
   accepted (test_found steps isa test bytes)
-
--- a log: one line for each executed instruction
-abbrev pub log_of : List Executed → List ℕ
-log_of trace = flat_map (λ e. line_of e ++ 10 ∷ []) trace
 
 -- the log is written where one is asked for
 abbrev pub writes_log : Option (List ℕ) → List Executed → Plan (Unit {0})

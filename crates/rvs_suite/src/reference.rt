@@ -7,7 +7,8 @@ ghost use Rattle.rvs_plan.specs.Plan.{writes};
 ghost use Rattle.rvs_plan.specs.Meets.{Meets};
 ghost use Rattle.rvs_sig.specs.Words.{text_of_words};
 ghost use Rattle.rvs_suite.specs.TestTexts.{ran_line};
-ghost use Rattle.rvs_suite.specs.Reference.{trial, log_of, writes_log, announces_run, records, reference};
+ghost use Rattle.rvs_log.specs.Logs.{log_of};
+ghost use Rattle.rvs_suite.specs.Reference.{trial, writes_log, announces_run, records, reference};
 
 use crate::isa_file::read_isa;
 use crate::test_file::run_bytes;

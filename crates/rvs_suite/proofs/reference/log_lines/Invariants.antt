@@ -1,5 +1,5 @@
 use Rattle.std.proofs.Common.{◌≡◌, take}
-use Rattle.rvs_suite.specs.Reference.{log_of}
+use Rattle.rvs_log.specs.Logs.{log_of}
 use Rattle.rvs_suite.proofs.reference.log_lines.Given as goal
 
 abbrev pub invariant-loop-executed : goal.invariant-loop-executed

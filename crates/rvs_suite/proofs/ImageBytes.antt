@@ -1,0 +1,237 @@
+-- Text and data of an image are bytes.
+use Rattle.std.proofs.Common.{◌≡◌, ℕ, zero, suc, ◌/◌, ◌^◌, ◌<◌, Bool, true, false, cond, not, List, [], ◌∷◌, ◌++◌, Option, Some, None, Result, Ok, Err, subst, arith}
+use Rattle.std.specs.Prelude.{take, slice_index, codes, ℤ}
+use Rattle.std.specs.List.{flat_map}
+use Rattle.std.specs.Int.{w32, to_le_bytes}
+use Rattle.rvs_insn.specs.Isa.{Isa}
+use Rattle.rvs_insn.specs.Word.{low_bits, word_of}
+use Rattle.rvs_machine.specs.Image.{ImageValue, is_image, if_image}
+use Rattle.rvs_machine.specs.FileLines.{Rest, taken}
+use Rattle.rvs_machine.specs.ImageText as file
+use Rattle.rvs_machine.specs.declared.reading.ImageRefusal.{ImageRefusal}
+use Rattle.rvs_machine.specs.declared.reading.ImageKind.TheVariants.{BadRegion}
+use Rattle.rvs_asm_text.specs.declared.bodies.Value.{Value}
+use Rattle.rvs_asm_text.specs.declared.bodies.Body.{Body}
+use Rattle.rvs_asm_text.specs.declared.bodies.Body.TheVariants.{Nothing, ToText, ToData, Insn, Values, Align, Fill}
+use Rattle.rvs_asm_text.specs.Directives.{data_value}
+use Rattle.rvs_asm.specs.declared.place.Place.{Place}
+use Rattle.rvs_asm.specs.declared.refusal.AsmRefusal.{AsmRefusal}
+use Rattle.rvs_asm.specs.Symbols.{Table, address_of}
+use Rattle.rvs_asm.specs.Places.{Reading, body_of, padding, offset, address, next, start, labels}
+use Rattle.rvs_asm.specs.Bytes.{linked, value_in, number_bytes, value_bytes, repeated, nop_word, filler, bytes_of, section}
+use Rattle.rvs_asm.specs.Faults.{first_fault, second_fault, first_missing, needed}
+use Rattle.rvs_asm.specs.Answer.{text_readings, image_of, region_checked, if_all_there, if_linked, if_placed, answer}
+
+abbrev pub AreBytes : List ℕ → Type 0
+AreBytes [] = Unit {0}
+AreBytes (b ∷ bs) = (b < 256) × AreBytes bs
+
+-- the bytes of an image
+pub record HasBytes (image : ImageValue) : Type 0 where
+  pub text : AreBytes image.text
+  pub ram : AreBytes image.data_bytes
+
+pub bytes_below : (bs : List ℕ) → AreBytes bs → (k : ℕ) → slice_index bs k < 256
+bytes_below [] h k = omega arith
+bytes_below (b ∷ bs) h zero = h.0
+bytes_below (b ∷ bs) h (suc k) = bytes_below bs h.1 k
+
+joined : (a b : List ℕ) → AreBytes a → AreBytes b → AreBytes (a ++ b)
+joined [] b g h = h
+joined (x ∷ a) b g h = (g.0, joined a b g.1 h)
+
+front : (n : ℕ) (bs : List ℕ) → AreBytes bs → AreBytes (take n bs)
+front zero bs h = tt
+front (suc n) [] h = tt
+front (suc n) (b ∷ bs) h = (h.0, front n bs h.1)
+
+word_bytes : (w : ℕ) → AreBytes (to_le_bytes w32 w)
+word_bytes w = (omega arith, (omega arith, (omega arith, (omega arith, tt))))
+
+-- what a result holds, where it holds something
+abbrev Holds : {A E : Type 0} → (A → Type 0) → Result A E → Type 0
+Holds P (Ok a) = P a
+Holds P (Err e) = Unit {0}
+
+held : {A E : Type 0} (P : A → Type 0) (r : Result A E) (a : A) → Holds P r → r ≡ Ok a → P a
+held {A} {E} P r a h e = subst (λ (x : Result A E). Holds P x) e h
+
+-- ---- an image file
+goes_on : {A B : Type 0} (P : A → Type 0) (Q : B → Type 0) (r : Result A ImageRefusal)
+    (go : A → Result B ImageRefusal) → Holds P r → ((a : A) → P a → Holds Q (go a))
+    → Holds Q (file.and_then r go)
+goes_on P Q (Ok a) go h all = all a h
+goes_on P Q (Err e) go h all = tt
+
+-- the same whatever was read
+goes_any : {A B : Type 0} (Q : B → Type 0) (r : Result A ImageRefusal)
+    (go : A → Result B ImageRefusal) → ((a : A) → Holds Q (go a)) → Holds Q (file.and_then r go)
+goes_any Q (Ok a) go all = all a
+goes_any Q (Err e) go all = tt
+
+abbrev BytesFirst : List ℕ × Rest → Type 0
+BytesFirst p = AreBytes p.0
+
+put_bytes : (bs : List ℕ) (r : Result (List ℕ × Rest) ImageRefusal) → AreBytes bs
+    → Holds BytesFirst r → Holds BytesFirst (file.put_before bs r)
+put_bytes bs (Ok p) g h = joined bs p.0 g h
+put_bytes bs (Err e) g h = tt
+
+lines_bytes : (n : ℕ) (r : Rest) → Holds BytesFirst (file.word_lines n r)
+lines_bytes zero r = tt
+lines_bytes (suc n) r =
+    goes_any BytesFirst (file.word_line [] r)
+    (λ p. file.put_before (to_le_bytes w32 p.0) (file.word_lines n p.1))
+    (λ p. let h = lines_bytes n p.1 in
+    put_bytes (to_le_bytes w32 p.0) (file.word_lines n p.1) (word_bytes p.0) h)
+
+section_bytes : (name : List ℕ) (limit : ℕ) (r : Rest)
+    → Holds BytesFirst (file.section name limit r)
+section_bytes name limit r =
+    goes_any BytesFirst (file.count_line name limit r) (λ p. file.word_lines p.0 p.1)
+    (λ p. lines_bytes p.0 p.1)
+
+either_image : {E : Type 0} (b : Bool) (image : ImageValue) (e : E) → HasBytes image
+    → Holds HasBytes (cond b (Ok image) (Err e))
+either_image true image e h = h
+either_image false image e h = tt
+
+whole_bytes : (n : ℕ) (image : ImageValue) (o : Option (List ℕ × Rest)) → HasBytes image
+    → Holds HasBytes (file.whole_with n image o)
+whole_bytes n image (Some p) h = tt
+whole_bytes n image None h =
+    either_image (is_image image) image (file.refusal 0 BadRegion) h
+
+abbrev from_end : List ℕ → List ℕ → Rest → Result ImageValue ImageRefusal
+from_end text ram r = file.and_then (file.address_lines r) (λ a. file.whole text ram a.0 a.1)
+
+abbrev from_data : List ℕ → Rest → Result ImageValue ImageRefusal
+from_data text r =
+    file.and_then (file.section (codes "data ") 262_144 r) (λ d. from_end text d.0 d.1)
+
+abbrev from_text : Rest → Result ImageValue ImageRefusal
+from_text r = file.and_then (file.section (codes "text ") 4_194_304 r) (λ t. from_data t.0 t.1)
+
+end_bytes : (text ram : List ℕ) (r : Rest) → AreBytes text → AreBytes ram
+    → Holds HasBytes (from_end text ram r)
+end_bytes text ram r g h =
+    goes_any HasBytes (file.address_lines r) (λ a. file.whole text ram a.0 a.1)
+    (λ a. whole_bytes a.1.line (record {
+      text = text;
+      data_bytes = ram;
+      tohost = a.0.tohost;
+      sig_begin = a.0.sig_begin;
+      sig_end = a.0.sig_end;
+      symbols = [];
+    }) (taken a.1) (record { text = g; ram = h }))
+
+data_bytes : (text : List ℕ) (r : Rest) → AreBytes text → Holds HasBytes (from_data text r)
+data_bytes text r g =
+    goes_on BytesFirst HasBytes (file.section (codes "data ") 262_144 r)
+    (λ d. from_end text d.0 d.1)
+    (section_bytes (codes "data ") 262_144 r) (λ d h. end_bytes text d.0 d.1 g h)
+
+text_bytes : (r : Rest) → Holds HasBytes (from_text r)
+text_bytes r =
+    goes_on BytesFirst HasBytes (file.section (codes "text ") 4_194_304 r) (λ t. from_data t.0 t.1)
+    (section_bytes (codes "text ") 4_194_304 r) (λ t h. data_bytes t.0 t.1 h)
+
+file_bytes : (bytes : List ℕ) → Holds HasBytes (file.image_of_bytes bytes)
+unfolding file.image_of_bytes
+file_bytes bytes =
+    goes_any HasBytes (file.header (record { bytes = bytes; line = 1 })) from_text text_bytes
+
+pub of_file : (bytes : List ℕ) (image : ImageValue) → file.image_of_bytes bytes ≡ Ok image
+    → HasBytes image
+of_file bytes image e = held HasBytes (file.image_of_bytes bytes) image (file_bytes bytes) e
+
+-- ---- assembler text
+number_below : (size : ℕ) (z : ℤ) → AreBytes (number_bytes size z)
+number_below size z =
+    front size (to_le_bytes w32 (low_bits 32 z)) (word_bytes (low_bits 32 z))
+
+value_below : (env : List ℕ → ℕ) (size : ℕ) (v : Option Value) → AreBytes (value_bytes env size v)
+value_below env size None = tt
+value_below env size (Some v) = number_below size (value_in env v.link v.number)
+
+values_below : (env : List ℕ → ℕ) (size : ℕ) (args : List (List ℕ))
+    → AreBytes (flat_map (λ text. value_bytes env size (data_value size text)) args)
+values_below env size [] = tt
+values_below env size (a ∷ args) =
+    let value = value_below env size (data_value size a) in
+    joined (value_bytes env size (data_value size a))
+    (flat_map (λ text. value_bytes env size (data_value size text)) args) value
+    (values_below env size args)
+
+repeated_below : (n : ℕ) (bs : List ℕ) → AreBytes bs → AreBytes (repeated n bs)
+repeated_below zero bs h = tt
+repeated_below (suc n) bs h = joined bs (repeated n bs) h (repeated_below n bs h)
+
+either : (b : Bool) (x y : List ℕ) → AreBytes x → AreBytes y → AreBytes (cond b x y)
+either true x y g h = g
+either false x y g h = h
+
+filler_below : (in_text : Bool) (n : ℕ) → AreBytes (filler in_text n)
+filler_below in_text n =
+    let nop = to_le_bytes w32 nop_word in
+    either in_text (repeated (n / 4) nop) (repeated n (0 ∷ []))
+    (repeated_below (n / 4) nop (word_bytes nop_word)) (repeated_below n (0 ∷ []) (omega arith, tt))
+
+body_below : (env : List ℕ → ℕ) (p : Place) (body : Body) → AreBytes (bytes_of env p body)
+body_below env p (Insn i link) = word_bytes (word_of (linked env (address p) i link))
+body_below env p (Values size args) = values_below env size args
+body_below env p (Align power) = filler_below p.in_text (padding (offset p) (2 ^ power))
+body_below env p (Fill n size z) = repeated_below n (number_bytes size z) (number_below size z)
+body_below env p Nothing = tt
+body_below env p ToText = tt
+body_below env p ToData = tt
+
+lines_below : (text : Bool) (env : List ℕ → ℕ) (rs : List Reading) (p : Place)
+    → AreBytes (section text env rs p)
+lines_below text env [] p = tt
+lines_below text env (r ∷ rs) p =
+    let here = cond text p.in_text (not p.in_text) in
+    let body = bytes_of env p (body_of r) in
+    joined (cond here body []) (section text env rs (next p (body_of r)))
+    (either here body [] (body_below env p (body_of r)) tt)
+    (lines_below text env rs (next p (body_of r)))
+
+image_bytes : (ss : Table) (rs : List Reading) → HasBytes (image_of ss rs)
+image_bytes ss rs = record {
+  text = lines_below true (address_of ss) rs start;
+  ram = lines_below false (address_of ss) rs start;
+}
+
+regions_bytes : (image : ImageValue) → HasBytes image
+    → Holds HasBytes (region_checked (if_image image))
+regions_bytes image h = turn (is_image image)
+  where
+    turn : (b : Bool) → Holds HasBytes (region_checked (cond b (Some image) None))
+    turn true = h
+    turn false = tt
+
+there_bytes : (o : Option (List ℕ)) (image : ImageValue) → HasBytes image
+    → Holds HasBytes (if_all_there o image)
+there_bytes (Some name) image h = tt
+there_bytes None image h = regions_bytes image h
+
+linked_bytes : (o : Option AsmRefusal) (ss : Table) (rs : List Reading)
+    → Holds HasBytes (if_linked o ss rs)
+linked_bytes (Some refusal) ss rs = tt
+linked_bytes None ss rs =
+    there_bytes (first_missing ss needed) (image_of ss rs) (image_bytes ss rs)
+
+placed_bytes : (o : Option AsmRefusal) (rs : List Reading) → Holds HasBytes (if_placed o rs)
+placed_bytes (Some refusal) rs = tt
+placed_bytes None rs =
+    linked_bytes (second_fault (labels rs start) start 1 rs) (labels rs start) rs
+
+answer_bytes : (isa : Isa) (text : List ℕ) → Holds HasBytes (answer isa text)
+unfolding answer
+answer_bytes isa text =
+    placed_bytes (first_fault isa [] start 1 (text_readings text)) (text_readings text)
+
+pub of_text : (isa : Isa) (text : List ℕ) (image : ImageValue) → answer isa text ≡ Ok image
+    → HasBytes image
+of_text isa text image e =
+    held HasBytes (answer isa text) image (answer_bytes isa text) e

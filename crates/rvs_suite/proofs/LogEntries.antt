@@ -1,0 +1,69 @@
+-- The log of a test that halts has the executed instructions as its entries.
+use Rattle.std.proofs.Common.{◌≡◌, ℕ, Bool, true, false, cond, List, Option, Result, Ok, Err, refl, ap, subst}
+use Rattle.std.specs.Prelude.{map}
+use Rattle.rvs_base.specs.Host.{Files}
+use Rattle.rvs_insn.specs.Isa.{Isa}
+use Rattle.rvs_machine.specs.Image.{ImageValue}
+use Rattle.rvs_machine.specs.ImageText.{image_of_bytes}
+use Rattle.rvs_machine.specs.declared.event.Executed.{Executed}
+use Rattle.rvs_machine.specs.declared.reading.ImageRefusal.{ImageRefusal}
+use Rattle.rvs_machine.specs.Machine.{started}
+use Rattle.rvs_machine.specs.Run.{Outcome, run_of}
+use Rattle.rvs_machine.specs.Traces.{Follows}
+use Rattle.rvs_machine.proofs.Traces.{traces_follow}
+use Rattle.rvs_asm.specs.Answer.{answer}
+use Rattle.rvs_asm.specs.declared.refusal.AsmRefusal.{AsmRefusal}
+use Rattle.rvs_log.specs.Registers.{zeros}
+use Rattle.rvs_log.specs.Entries.{entries_of}
+use Rattle.rvs_log.specs.Logs.{log_of, as_entry}
+use Rattle.rvs_log.proofs.Logs.{logs_read_back}
+use Rattle.rvs_suite.specs.TestRun.{is_image_name, file_found, text_found, limit_of}
+use Rattle.rvs_suite.specs.Halting.{BothHalt}
+use Rattle.rvs_suite.specs.declared.test_run.Run.{Run}
+use Rattle.rvs_suite.proofs.ImageBytes.{HasBytes, of_file, of_text, bytes_below}
+use Rattle.rvs_suite.proofs.RunWords.{run_words, start_words}
+
+file_is : (name : List ℕ) (r : Result ImageValue ImageRefusal) (image : ImageValue)
+    → file_found name r ≡ Ok image → r ≡ Ok image
+file_is name (Ok i) image h = let same : i ≡ image = cc in ap Ok same
+file_is name (Err e) image h = cc
+
+text_is : (name : List ℕ) (r : Result ImageValue AsmRefusal) (image : ImageValue)
+    → text_found name r ≡ Ok image → r ≡ Ok image
+text_is name (Ok i) image h = let same : i ≡ image = cc in ap Ok same
+text_is name (Err e) image h = cc
+
+-- an image file, or assembler text
+found_bytes : (b : Bool) (isa : Isa) (name bytes : List ℕ) (image : ImageValue)
+    → cond b (file_found name (image_of_bytes bytes)) (text_found name (answer isa bytes))
+    ≡ Ok image → HasBytes image
+found_bytes true isa name bytes image h =
+    of_file bytes image (file_is name (image_of_bytes bytes) image h)
+found_bytes false isa name bytes image h =
+    of_text isa bytes image (text_is name (answer isa bytes) image h)
+
+abbrev trace_of : ImageValue → Isa → ℕ → List Executed
+trace_of image isa n = (run_of (started image isa).setup n (started image isa).state).trace
+
+-- the registers begin as zeros
+run_follows : (image : ImageValue) (isa : Isa) (n : ℕ) → Follows zeros (trace_of image isa n)
+unfolding zeros
+run_follows image isa n = traces_follow (started image isa).setup n (started image isa).state refl
+
+image_entries : (image : ImageValue) (isa : Isa) (n : ℕ) → HasBytes image
+    → entries_of (log_of (trace_of image isa n)) ≡ map as_entry (trace_of image isa n)
+image_entries image isa n h =
+    let start = start_words image.data_bytes (bytes_below image.data_bytes h.ram) in
+    let text = bytes_below image.text h.text in
+    let words = run_words (started image isa).setup n (started image isa).state text start in
+    logs_read_back (trace_of image isa n) words (run_follows image isa n)
+
+pub halting_entries : (files : Files) (isa test : List ℕ) (steps : Option ℕ) (run : Run)
+    → BothHalt files isa test steps run → entries_of (log_of run.trace) ≡ map as_entry run.trace
+halting_entries files isa test steps run b =
+    let t = b.test_halts in
+    let core = b.said.spec in
+    let h = found_bytes (is_image_name test) core test t.bytes t.image t.spelt in
+    let same = ap (λ (o : Outcome). o.trace) t.halts.halts in
+    subst (λ es. entries_of (log_of es) ≡ map as_entry es) same
+    (image_entries t.image core (limit_of steps test t.bytes) h)
