@@ -41,7 +41,8 @@ abbrev pub stopped : Task → Result TestVerdict JudgeFault → Result TestVerdi
 stopped t (Ok verdict) = Ok verdict
 stopped t (Err fault) = Err (stop_of t fault)
 
--- What judging does meets its plan. Where the host isn't told, a signature file that isn't there is no fault, though the count of reading rises.
+-- What judging does meets its plan. Where the host isn't told, a signature file that isn't there is
+-- no fault, though the count of reading rises.
 abbrev pub MeetsPlan : Task → HostState → HostState → Result TestVerdict JudgeFault → Type 0
 MeetsPlan t old new result =
     (out : SinkState) → (is_told old ≡ true) ⊎ ((status : ℤ) → result ≢ Ok (NoSignature status))
