@@ -7,9 +7,8 @@ use Rattle.rvs_base.specs.Sink.{SinkState}
 use Rattle.rvs_plan.specs.World.{World, Contents, contents, world}
 use Rattle.rvs_plan.specs.World as plan
 use Rattle.rvs_plan.specs.Effect.{Answer, Write, Effect, Read, Device, Did, after, left_by, run_added}
-use Rattle.rvs_plan.specs.Plan.{Plan, Ends, Asks, Runs}
+use Rattle.rvs_plan.specs.Plan.{Ends}
 use Rattle.rvs_plan.specs.Meets.{Reaches, Follows, HasCause, NoFault, Meets}
-use Rattle.rvs_plan.specs.declared.stop.Stop.{Stop}
 use Rattle.rvs_plan.proofs.Reaching.{Reaches-start}
 use Rattle.rvs_plan.proofs.Sequence.{LaterSink-start}
 use Rattle.rvs_device.specs.Judged.{verdict_on}
