@@ -56,7 +56,8 @@ named_at l k = named_or_none (slice_get l.points k)
 -- the text, where a point is solved
 abbrev pub text_for : Isa → Label → List Solved → Option (List ℕ)
 text_for isa l [] = None
-text_for isa l cs = Some (test_text l.name isa (map (λ (c : Claim). named_at l c.point) (claims_of isa l)) cs)
+text_for isa l cs =
+    Some (test_text l.name isa (map (λ (c : Claim). named_at l c.point) (claims_of isa l)) cs)
 
 abbrev pub text_of_label : Isa → Label → Option (List ℕ)
 text_of_label isa l = text_for isa l (cases_of isa l)
