@@ -2,7 +2,6 @@
 use Rattle.std.proofs.Common.{◌≡◌, ◌≢◌, ℕ, zero, suc, ◌+◌, ◌*◌, ◌/◌, ◌%◌, ◌^◌, ◌-◌, ◌<◌, ◌≤◌, Bool, true, false, cond, List, [], ◌∷◌, ◌++◌, length, Option, Some, None, refl, sym, ap, ◌∙◌, arith, subst, ◌⊎◌, inl, inr}
 use Rattle.std.specs.Prelude.{ℤ, pos, negsuc, unwrap_or, replicate, nat_le, ◌-ℤ◌, ◌&&◌, ◌||◌, not, ◌==◌}
 use Rattle.std.specs.List.{find}
-use Rattle.std.specs.Option.{option_map}
 use Rattle.std.proofs.lemmas.Bool.Decides.{nat_tests}
 use Rattle.rvs_insn.specs.declared.op.Op.{Op}
 use Rattle.rvs_insn.specs.declared.op.Op.TheVariants.{Sb, Sh, Sw, Beq}
@@ -57,7 +56,7 @@ use Rattle.rvs_test.proofs.KindLaws.{IsSmall, OwnFormat, LinkedFormat}
 use Rattle.rvs_test.proofs.Tables.{Marks, find_name, AllBelow, Lacks, stage, below_join, lacks_later, lacks_join}
 use Rattle.rvs_test.proofs.Assembled.{AllFine, fine_join, marks, Distinct, AllLinked, IsThere, made_all, bytes_all, text_at}
 use Rattle.rvs_test.proofs.Helpers.{pointer_free}
-use Rattle.rvs_test.proofs.PlainCases.{IsPlainChoice, plain_bytes, plain_marks, plain_distinct, plain_made, plain_fine, plain_linked, HasPattern, plain_does, source_bytes, source_marks, source_distinct, source_made, source_linked, fine_word, register_low, admitted_low, registers_of}
+use Rattle.rvs_test.proofs.PlainCases.{IsPlainChoice, plain_bytes, plain_marks, plain_distinct, plain_made, plain_fine, plain_linked, HasPattern, plain_does, source_bytes, source_marks, source_distinct, source_made, source_linked, fine_word, fine_save, register_low, admitted_low, registers_of}
 use Rattle.rvs_test.proofs.PlainCases.{case_of as plain_case_of}
 
 pub record IsMade (isa : Isa) (c : ChoiceValue) : Type 0 where
@@ -602,25 +601,15 @@ store_distinct n k c t p small below =
     ) in
     let rest : (q : Place) → Distinct t4 (source c.rs1 c.w1 ++ (source c.rs2 c.w2 ++ tail)) q =
     λ q. source_distinct t4 c.rs1 c.w1 (source c.rs2 c.w2 ++ tail) q
-    (λ r. source_distinct t4 c.rs2 c.w2 tail r here) in (
-      tt,
-      (
-        tt,
-        (
-          tt,
-          (
-            tt,
-            rest
-                (next
-                (next
-                (next (next p (line_of (High (pointer c) Scratch)).body)
-                (line_of (Low (pointer c) Scratch)).body)
-                (line_of (Plain (sw 0 (pointer c) (pos 0)))).body)
-                (line_of (Plain (sw 0 (pointer c) (pos 4)))).body),
-          ),
-        ),
-      ),
-    )
+    (λ r. source_distinct t4 c.rs2 c.w2 tail r here) in
+    let cleared =
+    rest
+    (next
+    (next
+    (next (next p (line_of (High (pointer c) Scratch)).body)
+    (line_of (Low (pointer c) Scratch)).body) (line_of (Plain (sw 0 (pointer c) (pos 0)))).body)
+    (line_of (Plain (sw 0 (pointer c) (pos 4)))).body) in
+    (tt, (tt, (tt, (tt, cleared))))
 
 jalr_distinct : (n k : ℕ) (c : ChoiceValue) (t : Marks) (p : Place) → k < 2 ^ 32
     → AllBelow n (k + 1) t → Distinct t (jalr_case k c) p
@@ -772,24 +761,13 @@ jalr_fine isa k c small form is =
     let hp : p < 32 = omega (arith, free.low) in
     let hm : m < 32 = omega (arith, mk.low) in
     let x0 : 0 < 32 = omega arith in
-    let z0 : 0 < 2 ^ 11 = omega arith in
     let z1 : 1 < 2 ^ 11 = omega arith in
     let z2 : 2 < 2 ^ 11 = omega arith in
-    let z4 : 4 < 2 ^ 11 = omega arith in
     let ha : a < 32 = omega (arith, o.a_low, ap (λ x. unwrap_or x 0) o.rs1) in
     let hd : d < 32 = omega (arith, o.d_low, ap (λ x. unwrap_or x 0) o.rd) in
     let fz : FitsBits 12 z = subst (λ x. FitsBits 12 (unwrap_or x (pos 0))) (sym o.imm) o.fits in
     let parts = parts_fit z fz in
-    let saves : AllFine isa (save p k m d) = (
-      (hp, small, admitted_low isa (lui p (pos 0)) e refl),
-      (
-        (hp, small, admitted_low isa (addi p p (pos 0)) e refl),
-        (
-          (tt, (hp, hm, z0), admitted_low isa (sw m p (pos 0)) e refl),
-          ((tt, (hp, hd, z4), admitted_low isa (sw d p (pos 4)) e refl), tt),
-        ),
-      ),
-    ) in
+    let saves = fine_save isa p k m d e hp hm hd small in
     let own : OwnFormat (row c.op).form = subst OwnFormat (sym form) tt in (
       (ha, small, admitted_low isa (lui a (pos 0)) e refl),
       (
@@ -826,18 +804,7 @@ jump_fine f isa k c small e l is near =
     let hp : p < 32 = omega (arith, free.low) in
     let hm : m < 32 = omega (arith, mk.low) in
     let hd : d < 32 = register_low c.rd are.rd in
-    let z0 : 0 < 2 ^ 11 = omega arith in
-    let z4 : 4 < 2 ^ 11 = omega arith in
-    let saves : AllFine isa (save p k m d) = (
-      (hp, small, admitted_low isa (lui p (pos 0)) b refl),
-      (
-        (hp, small, admitted_low isa (addi p p (pos 0)) b refl),
-        (
-          (tt, (hp, hm, z0), admitted_low isa (sw m p (pos 0)) b refl),
-          ((tt, (hp, hd, z4), admitted_low isa (sw d p (pos 4)) b refl), tt),
-        ),
-      ),
-    ) in
+    let saves = fine_save isa p k m d b hp hm hd small in
     let tail =
     frame_fine (imm_of c) isa k m (unlinked c) (save p k m d) b hm small
     (linkable isa c f e l is) near saves in

@@ -18,14 +18,14 @@ use Rattle.rvs_test.specs.declared.statement.Statement.{Statement}
 use Rattle.rvs_test.specs.declared.statement.Statement.TheVariants.{Label, Plain}
 use Rattle.rvs_test.specs.Sound.{computes, AllComputing, IsSequence}
 use Rattle.rvs_test.specs.Claim.{insns_of}
-use Rattle.rvs_test.specs.Statements.{line_of, lui, addi}
-use Rattle.rvs_test.specs.TestText.{sw, save, start_word, load_words, plains, first_rd, last_rd, cross_case}
+use Rattle.rvs_test.specs.Statements.{line_of, addi}
+use Rattle.rvs_test.specs.TestText.{save, start_word, load_words, plains, first_rd, last_rd, cross_case}
 use Rattle.rvs_test.proofs.Runs.{StandFrom}
 use Rattle.rvs_test.proofs.Cases.{IsGood}
 use Rattle.rvs_test.proofs.KindLaws.{OwnFormat}
 use Rattle.rvs_test.proofs.Tables.{Marks, AllBelow, lacks_later}
 use Rattle.rvs_test.proofs.Assembled.{AllFine, fine_join, marks, Distinct, AllLinked, IsThere, made_all, bytes_all, text_at}
-use Rattle.rvs_test.proofs.PlainCases.{source_made, source_distinct, source_linked, source_marks, source_bytes, fine_word, admitted_low}
+use Rattle.rvs_test.proofs.PlainCases.{source_made, source_distinct, source_linked, source_marks, source_bytes, fine_word, fine_save, admitted_low}
 use Rattle.rvs_test.proofs.AnyCase.{IsPlaced}
 use Rattle.rvs_test.proofs.Window.{Words, entries, entry_in, words_behind, words_code}
 use Rattle.rvs_test.proofs.CrossGood.{rd_middle, last_middle, cross_code, cross_of, cross_good}
@@ -124,22 +124,6 @@ plains_fine isa (i ∷ is) are = (
   plains_fine isa is are.1,
 )
 
-save_fine : (isa : Isa) (k a b : ℕ) → isa.e ≡ false → a < 32 → b < 32 → k < 2 ^ 32
-    → AllFine isa (save 5 k a b)
-save_fine isa k a b e ha hb small =
-    let z4 : 4 < 2 ^ 11 = omega arith in
-    let z0 : 0 < 2 ^ 11 = omega arith in
-    let x5 : 5 < 32 = omega arith in (
-      (x5, small, admitted_low isa (lui 5 (pos 0)) e refl),
-      (
-        (x5, small, admitted_low isa (addi 5 5 (pos 0)) e refl),
-        (
-          (tt, (x5, ha, z0), admitted_low isa (sw a 5 (pos 0)) e refl),
-          ((tt, (x5, hb, z4), admitted_low isa (sw b 5 (pos 4)) e refl), tt),
-        ),
-      ),
-    )
-
 ends_low : (isa : Isa) (is : List Fields) → AllComputing isa is
     → (first_rd is < 32) × (last_rd is < 32)
 ends_low isa [] are = (omega arith, omega arith)
@@ -156,7 +140,7 @@ cross_fine isa k is small e sequence =
     (words_fine isa 8 8 e (omega arith)) (
       small,
       fine_join isa (plains is) end (plains_fine isa is sequence.all)
-          (save_fine isa k (first_rd is) (last_rd is) e low.0 low.1 small),
+          (fine_save isa 5 k (first_rd is) (last_rd is) e (omega arith) low.0 low.1 small),
     )
 
 -- ---- each symbol is there

@@ -1,5 +1,5 @@
 -- The points of a label, looked at one after the other.
-use Rattle.std.proofs.Common.{◌≡◌, ℕ, ◌+◌, ◌<◌, ◌≤◌, List, length, map, take, get_or, Option, Some, None, refl, sym, ap, ◌∙◌, subst, arith}
+use Rattle.std.proofs.Common.{◌≡◌, ℕ, ◌+◌, ◌<◌, ◌≤◌, List, length, take, get_or, Option, Some, None, sym, ap, ◌∙◌, subst, arith}
 use Rattle.std.specs.Prelude.{slice_get, sum_by, ◌⊎◌}
 use Rattle.std.proofs.Common.{inl, inr}
 use Rattle.std.proofs.lemmas.List.{length-map}
@@ -9,10 +9,8 @@ use Rattle.rvs_cgf.specs.declared.group.Point.{Point as CodePoint}
 use Rattle.rvs_cgf.specs.declared.group.Label.{Label as CodeLabel}
 use Rattle.rvs_cgf.specs.GroupView.{point_view, label_view}
 use Rattle.rvs_cgf.specs.Groups.{Point, Label}
-use Rattle.rvs_solver.specs.declared.solved.Solved.{Solved}
 use Rattle.rvs_solver.specs.Solving.{bound_of_point, bound_at, bound_or_none}
 use Rattle.rvs_solver.proofs.Turns.{sum_turn}
-use Rattle.rvs_test.specs.declared.made.Claim.{Claim}
 use Rattle.rvs_test.specs.Made.{claims_of, unsolved_of, cases_of}
 use Rattle.rvs_test.specs.Found.{FoundValue, found_before}
 

@@ -1,5 +1,5 @@
 -- A text that grows.
-use Rattle.std.proofs.Common.{◌≡◌, ℕ, ◌+◌, ◌<◌, ◌≤◌, ◌^◌, true, false, List, [], ◌∷◌, ◌++◌, length, map, take, get_or, zero, suc, refl, sym, ap, ◌∙◌, subst, arith, append_assoc, append-nil}
+use Rattle.std.proofs.Common.{◌≡◌, ℕ, ◌+◌, ◌<◌, false, List, [], ◌∷◌, ◌++◌, length, map, take, get_or, zero, suc, sym, ap, ◌∙◌, subst, arith, append_assoc, append-nil}
 use Rattle.std.specs.Prelude.{◌-◌, All, OnOk, Result, Ok, Err, Some, slice_get, unwrap_or}
 use Rattle.std.proofs.lemmas.Option.{slice_get_within, get_or_from_slice_get}
 use Rattle.rvs_insn.specs.Fields.{Fields}
@@ -16,7 +16,7 @@ use Rattle.rvs_solver.specs.declared.solved.Solved.TheVariants.{One, Many}
 use Rattle.rvs_solver.proofs.Search.{Each}
 use Rattle.rvs_solver.proofs.Operands.{all_from_each}
 use Rattle.rvs_test.specs.declared.statement.Statement.{Statement}
-use Rattle.rvs_test.specs.declared.statement.Statement.TheVariants.{Label, Plain, High, Low, To, Nops, Fixed}
+use Rattle.rvs_test.specs.declared.statement.Statement.TheVariants.{Label, Plain, To}
 use Rattle.rvs_test.specs.Statements.{printed, IsLinked, IsPrinted}
 use Rattle.rvs_test.specs.TestText.{Point as Named, claim_lines, front, header, step_limit, test_text, ended, text_of, case_statements, begin, clear, last_register, cases, halt, loop, code_part, fixed_data, slots, data_part, claim_line, line_of_claim, last_rd}
 use Rattle.rvs_test.specs.declared.statement.Name.TheVariants.{EndSignature}

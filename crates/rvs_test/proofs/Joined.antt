@@ -1,24 +1,22 @@
 -- The cases of a label's test hit the points that it claims.
-use Rattle.std.proofs.Common.{◌≡◌, ℕ, zero, suc, ◌+◌, ◌*◌, ◌<◌, ◌≤◌, Bool, true, false, cond, not, ◌&&◌, ◌||◌, List, [], ◌∷◌, ◌++◌, length, map, get_or, Option, Some, None, refl, sym, ap, ◌∙◌, subst, arith}
-use Rattle.std.specs.Prelude.{◌==◌, ℤ, filter, find, flat_map, is_some, option_map, option_and_then, option_to_list, slice_get, slice_index, All, Contains, ◌⊎◌}
+use Rattle.std.proofs.Common.{◌≡◌, ℕ, zero, suc, ◌+◌, ◌*◌, ◌<◌, Bool, true, false, cond, not, ◌&&◌, ◌||◌, List, [], ◌∷◌, ◌++◌, length, map, Option, Some, None, refl, sym, ap, ◌∙◌, subst, arith}
+use Rattle.std.specs.Prelude.{ℤ, filter, find, flat_map, is_some, option_map, option_and_then, option_to_list, slice_get, All, Contains}
 use Rattle.std.proofs.Common.{inl, inr}
-use Rattle.std.specs.List.{list_any, list_all, range_with_len}
+use Rattle.std.specs.List.{range_with_len}
 use Rattle.std.proofs.lemmas.Bool.{eq-eqb}
-use Rattle.std.proofs.lemmas.List.FromFn.{length-range_with_len}
 use Rattle.rvs_insn.specs.declared.op.Op.{Op}
 use Rattle.rvs_insn.specs.Isa.{Isa}
 use Rattle.rvs_insn.specs.Table.{row}
 use Rattle.rvs_insn.specs.Fields.{Fields, insn_of_word}
 use Rattle.rvs_machine.specs.declared.event.Executed.{Executed}
 use Rattle.rvs_machine.specs.Image.{ImageValue}
-use Rattle.rvs_machine.specs.Machine.{started}
-use Rattle.rvs_machine.specs.Run.{Outcome, run_of}
+use Rattle.rvs_machine.specs.Run.{Outcome}
 use Rattle.rvs_expr.specs.Typed.{Formula}
 use Rattle.rvs_expr.specs.Meaning as expr
 use Rattle.rvs_expr.specs.Meaning.{Table, truth, is_true}
 use Rattle.rvs_expr.specs.Facts.{Extends}
 use Rattle.rvs_expr.proofs.Meanings.{truth-more}
-use Rattle.rvs_facts.specs.Facts.{facts_of, register_of}
+use Rattle.rvs_facts.specs.Facts.{facts_of}
 use Rattle.rvs_facts.specs.Mnemonics.{number, is_same}
 use Rattle.rvs_cgf.specs.declared.group.Kind.{Kind}
 use Rattle.rvs_cgf.specs.declared.group.Kind.TheVariants.{Rd}
@@ -29,20 +27,20 @@ use Rattle.rvs_cgf.specs.Hits as points
 use Rattle.rvs_cgf.specs.Valid.{IsValid}
 use Rattle.rvs_solver.specs.Choices.{ChoiceValue, choice_of, fields_of, table_of, is_kept, is_same as is_same_register, numbers, registers, with_registers, choices}
 use Rattle.rvs_solver.specs.Point.{hits, constants_of}
-use Rattle.rvs_solver.specs.First.{all_choices, first_choice, Solvable}
+use Rattle.rvs_solver.specs.First.{all_choices, first_choice}
 use Rattle.rvs_solver.specs.Solving.{first_of_point, first_at, IsSolvableAt}
 use Rattle.rvs_solver.specs.declared.solved.Solved.{Solved}
-use Rattle.rvs_solver.specs.declared.solved.Solved.TheVariants.{One, Many}
+use Rattle.rvs_solver.specs.declared.solved.Solved.TheVariants.{One}
 use Rattle.rvs_solver.proofs.Search.{Each}
 use Rattle.rvs_solver.proofs.Product.{each_append, each_flat, each_map, each_any}
 use Rattle.rvs_solver.proofs.Operands.{all_from_each}
 use Rattle.rvs_solver.proofs.OneWord.{found_hits, found_each}
 use Rattle.rvs_solver.proofs.Answer.{nothing_hits}
 use Rattle.rvs_test.specs.declared.made.Claim.{Claim}
-use Rattle.rvs_test.specs.TestText.{step_limit, test_text, all_steps}
-use Rattle.rvs_test.specs.Claim.{IsOnly, insns_of, window_of, IsKnown, IsHit, AreHit, RunsWell, IsTest, Runs}
-use Rattle.rvs_test.specs.Made.{places, is_solved, solved_among, unsolved_among, cases_among, numbered, claims_of, unsolved_of, cases_of, named_at}
-use Rattle.rvs_test.specs.Claimed.{IsClaimed, IsRun, TestRuns, IsAccounted}
+use Rattle.rvs_test.specs.TestText.{step_limit, test_text}
+use Rattle.rvs_test.specs.Claim.{IsOnly, insns_of, IsHit, AreHit, IsTest}
+use Rattle.rvs_test.specs.Made.{places, is_solved, solved_among, cases_among, numbered, claims_of, unsolved_of, cases_of, named_at}
+use Rattle.rvs_test.specs.Claimed.{IsClaimed, TestRuns, IsAccounted}
 use Rattle.rvs_test.proofs.Solvings.{IsFirst, first_is, cases_ready, cases_few, claims_same, name_text, points_text}
 use Rattle.rvs_test.proofs.Main.{tests_run, steps_high}
 

@@ -1,5 +1,5 @@
 -- One turn of each loop.
-use Rattle.std.proofs.Common.{◌≡◌, ℕ, zero, suc, ◌+◌, ◌<◌, ◌≤◌, Bool, true, false, not, cond, List, [], ◌∷◌, ◌++◌, length, map, take, get_or, Option, Some, None, refl, sym, ap, ◌∙◌, arith, append_assoc, append-nil, add-one, length-take}
+use Rattle.std.proofs.Common.{◌≡◌, ℕ, zero, suc, ◌+◌, ◌<◌, Bool, true, false, not, cond, List, [], ◌∷◌, ◌++◌, length, map, take, get_or, Option, Some, None, refl, sym, ap, ◌∙◌, arith, append_assoc, append-nil, add-one, length-take}
 use Rattle.std.specs.Prelude.{pos, ◌-◌, find, filter, flat_map, unwrap_or, is_some, option_to_list}
 use Rattle.std.specs.List.{range_with_len}
 use Rattle.std.proofs.lemmas.List.{take_more, map_more}
@@ -19,7 +19,7 @@ use Rattle.rvs_test.specs.Found.{FoundValue, found_before, nothing_found, with_o
 use Rattle.rvs_test.specs.declared.statement.Name.TheVariants.{Slot}
 use Rattle.rvs_test.specs.declared.statement.Fixed.TheVariants.{Unset}
 use Rattle.rvs_test.specs.declared.statement.Statement.TheVariants.{Label as LabelLine, Plain, Fixed as FixedLine}
-use Rattle.rvs_test.proofs.Printed.{ended_join, text_join, text_none, text_one}
+use Rattle.rvs_test.proofs.Printed.{ended_join, text_join, text_one}
 
 -- ---- what was found, by its parts
 abbrev pub FoundIs : List Solved → List Claim → List ℕ → FoundValue

@@ -140,20 +140,17 @@ fine_word isa (Some r) w e h = (
   ((tt, (h, h, low_fits w), admitted_low isa (addi r r (low w)) e refl), tt),
 )
 
-fine_save : (isa : Isa) (p k d : ℕ) → isa.e ≡ false → p < 32 → d < 32 → k < 2 ^ 32
-    → AllFine isa (save p k d 0)
-fine_save isa p k d e hp hd small =
-    let z4 : 4 < 2 ^ 11 = omega arith in
+pub fine_save : (isa : Isa) (p k a b : ℕ) → isa.e ≡ false → p < 32 → a < 32 → b < 32 → k < 2 ^ 32
+    → AllFine isa (save p k a b)
+fine_save isa p k a b e hp ha hb small =
     let z0 : 0 < 2 ^ 11 = omega arith in
-    let x0 : 0 < 32 = omega arith in (
+    let z4 : 4 < 2 ^ 11 = omega arith in
+    let stores : AllFine isa (Plain (sw a p (pos 0)) ∷ Plain (sw b p (pos 4)) ∷ []) = (
+      (tt, (hp, ha, z0), admitted_low isa (sw a p (pos 0)) e refl),
+      ((tt, (hp, hb, z4), admitted_low isa (sw b p (pos 4)) e refl), tt),
+    ) in (
       (hp, small, admitted_low isa (lui p (pos 0)) e refl),
-      (
-        (hp, small, admitted_low isa (addi p p (pos 0)) e refl),
-        (
-          (tt, (hp, hd, z0), admitted_low isa (sw d p (pos 0)) e refl),
-          ((tt, (hp, x0, z4), admitted_low isa (sw 0 p (pos 4)) e refl), tt),
-        ),
-      ),
+      ((hp, small, admitted_low isa (addi p p (pos 0)) e refl), stores),
     )
 
 -- the registers of an encodable instruction
@@ -201,8 +198,8 @@ plain_fine isa k c small is =
       small,
       (
         (own_format (row c.op).form is.plain, is.sound.encodable, is.sound.admitted),
-        fine_save isa (pointer c) k (unwrap_or c.rd 0) is.base (omega (arith, free.low))
-            (register_low c.rd are.rd) small,
+        fine_save isa (pointer c) k (unwrap_or c.rd 0) 0 is.base (omega (arith, free.low))
+            (register_low c.rd are.rd) (omega arith) small,
       ),
     ) in
     fine_join isa (source c.rs1 c.w1) (source c.rs2 c.w2 ++ tail)

@@ -24,7 +24,7 @@ use Rattle.rvs_test.specs.declared.statement.Fixed.TheVariants.{NoRvc}
 use Rattle.rvs_test.specs.declared.statement.Statement.{Statement}
 use Rattle.rvs_test.specs.declared.statement.Statement.TheVariants.{Label as LabelLine, Plain, High, Low, To, Nops, Fixed as FixedLine}
 use Rattle.rvs_test.specs.Statements.{name_of, written, operands_of, fixed_text, printed}
-use Rattle.rvs_test.specs.TestText.{Point, claim_line, claim_lines, header, step_limit, test_text}
+use Rattle.rvs_test.specs.TestText.{Point, claim_lines, header, step_limit, test_text}
 use Rattle.rvs_test.specs.Made.{places, solved_among, numbered, claims_of, cases_of, named_or_none, named_at}
 use Rattle.rvs_test.specs.Named.{Named, point_read, claim_read, behind_front, all_read, claims_read, named_claim}
 use Rattle.rvs_test.proofs.Chars.{All, tested, is_clean}

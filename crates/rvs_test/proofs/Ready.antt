@@ -1,6 +1,6 @@
 -- A case can be made from each choice.
-use Rattle.std.proofs.Common.{◌≡◌, ◌≢◌, ℕ, ◌+◌, ◌-◌, ◌*◌, ◌^◌, ◌<◌, ◌≤◌, Bool, true, false, cond, not, ◌&&◌, ◌||◌, List, [], ◌∷◌, map, Option, Some, None, refl, sym, ap, ◌∙◌, subst, arith}
-use Rattle.std.specs.Prelude.{ℤ, pos, ◌-ℤ◌, filter, find, flat_map, unwrap_or, IfSome}
+use Rattle.std.proofs.Common.{◌≡◌, ◌≢◌, ℕ, ◌+◌, ◌-◌, ◌^◌, ◌<◌, ◌≤◌, Bool, true, false, cond, ◌&&◌, List, [], ◌∷◌, map, Option, Some, None, refl, sym, ap, ◌∙◌, subst, arith}
+use Rattle.std.specs.Prelude.{ℤ, pos, filter, flat_map, unwrap_or}
 use Rattle.std.specs.List.{list_all}
 use Rattle.std.specs.Int.{w32, cast_unsigned}
 use Rattle.rvs_insn.specs.declared.op.Format.{Format}
@@ -9,21 +9,19 @@ use Rattle.rvs_insn.specs.declared.op.Op.{Op}
 use Rattle.rvs_insn.specs.Isa.{Isa}
 use Rattle.rvs_insn.specs.Table.{row}
 use Rattle.rvs_insn.specs.Fields.{Fields}
-use Rattle.rvs_insn.specs.Word.{AreOf, IsEncodable, ImmFits, FitsBits, FitsUnsigned, FitsEven}
+use Rattle.rvs_insn.specs.Word.{AreOf, FitsBits, FitsUnsigned}
 use Rattle.rvs_insn.specs.Names.{is_admitted_op, is_admitted}
 use Rattle.rvs_machine.specs.Effects.{add32}
-use Rattle.rvs_machine.specs.Image.{data_base}
-use Rattle.rvs_machine.specs.Machine.{imm_word}
 use Rattle.rvs_cgf.specs.declared.group.Kind.{Kind}
 use Rattle.rvs_cgf.specs.Groups.{Meaning}
-use Rattle.rvs_solver.specs.Datasets.{words, shifts, immediates, alignments, address, distance_list}
+use Rattle.rvs_solver.specs.Datasets.{shifts, immediates, alignments, address}
 use Rattle.rvs_solver.specs.Choices.{ChoiceValue, Registers, Numbers, choice_of, fields_of, is_same, is_zero, is_kept, w1s, w2s, at_word, at_alignment, at_immediate, numbers, registers, with_registers, choices}
 use Rattle.rvs_solver.specs.Point.{hits, constants_of}
-use Rattle.rvs_solver.specs.First.{all_choices, first_choice, HasOneWordEach}
+use Rattle.rvs_solver.specs.First.{all_choices, first_choice}
 use Rattle.rvs_solver.proofs.Search.{Each}
-use Rattle.rvs_solver.proofs.Product.{each_append, each_flat, each_map, each_any}
+use Rattle.rvs_solver.proofs.Product.{each_append, each_flat, each_map}
 use Rattle.rvs_solver.proofs.OneWord.{found_each, one_word_each}
-use Rattle.rvs_test.specs.Sound.{IsWordOf, AreSame, has_case, access_size, ReadsPattern, WritesScratch, IsNearby, Accesses, IsSound}
+use Rattle.rvs_test.specs.Sound.{IsWordOf, AreSame, has_case, ReadsPattern, WritesScratch, IsNearby, Accesses, IsSound}
 use Rattle.rvs_test.proofs.Chars.{both}
 use Rattle.rvs_test.proofs.Ranges.{has_rd, has_rs1, has_rs2, is_base, IsField, AreRegisters, registers_are, words_are, short_are, upper_are, shifts_are, IsDistance, distances_are, IsAlignment, alignments_are, address_low, address_is}
 

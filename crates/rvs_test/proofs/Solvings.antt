@@ -1,16 +1,14 @@
 -- The cases of a label: a case can be made from each, and each belongs to a claim.
-use Rattle.std.proofs.Common.{◌≡◌, ℕ, zero, suc, ◌+◌, ◌<◌, ◌≤◌, Bool, true, false, cond, not, ◌&&◌, ◌||◌, List, [], ◌∷◌, ◌++◌, length, map, get_or, Option, Some, None, refl, sym, ap, ◌∙◌, subst, arith, length-append}
-use Rattle.std.specs.Prelude.{◌==◌, All, nat_le, filter, flat_map, is_some, option_map, option_and_then, option_to_list, slice_get, ◌⊎◌}
-use Rattle.std.proofs.Common.{inl, inr}
+use Rattle.std.proofs.Common.{◌≡◌, ℕ, ◌+◌, ◌<◌, ◌≤◌, Bool, true, false, cond, ◌&&◌, ◌||◌, List, [], ◌∷◌, ◌++◌, length, map, get_or, Option, Some, None, refl, ap, ◌∙◌, subst, arith, length-append}
+use Rattle.std.specs.Prelude.{All, nat_le, filter, is_some, option_map, option_and_then, option_to_list, slice_get}
 use Rattle.std.specs.List.{list_all, range_with_len}
 use Rattle.std.proofs.lemmas.Bool.Decides.{nat_tests}
 use Rattle.std.proofs.lemmas.List.FromFn.{length-range_with_len}
-use Rattle.std.proofs.lemmas.Option.{slice_get_cases, slice_get_within, get_or_from_slice_get}
+use Rattle.std.proofs.lemmas.Option.{slice_get_within, get_or_from_slice_get}
 use Rattle.rvs_insn.specs.Isa.{Isa}
-use Rattle.rvs_insn.specs.Names.{is_admitted_op}
 use Rattle.rvs_asm_text.specs.Text.{is_text_byte}
 use Rattle.rvs_abstract.specs.Calls.{is_letter, is_digit}
-use Rattle.rvs_cgf.specs.Keys.{is_name_byte, is_label_name, is_printable}
+use Rattle.rvs_cgf.specs.Keys.{is_name_byte, is_label_name}
 use Rattle.rvs_cgf.specs.Print.{kind_name}
 use Rattle.rvs_cgf.specs.Valid.{IsMeant, IsValid}
 use Rattle.rvs_cgf.specs.declared.group.Kind.{Kind}
@@ -21,13 +19,13 @@ use Rattle.rvs_solver.specs.Choices.{ChoiceValue}
 use Rattle.rvs_solver.specs.First.{first_choice}
 use Rattle.rvs_solver.specs.Solving.{first_of_point, first_at}
 use Rattle.rvs_solver.specs.declared.solved.Solved.{Solved}
-use Rattle.rvs_solver.specs.declared.solved.Solved.TheVariants.{One, Many}
+use Rattle.rvs_solver.specs.declared.solved.Solved.TheVariants.{One}
 use Rattle.rvs_test.specs.declared.made.Claim.{Claim}
 use Rattle.rvs_test.specs.TestText.{Point, claim_lines, line_of_claim}
 use Rattle.rvs_test.specs.Claim.{IsReady, AreReady, ArePrintable}
-use Rattle.rvs_test.specs.Made.{places, is_solved, solved_among, unsolved_among, cases_among, numbered, claims_of, cases_of, named, named_or_none, named_at}
+use Rattle.rvs_test.specs.Made.{places, is_solved, solved_among, cases_among, numbered, claims_of, cases_of, named_or_none, named_at}
 use Rattle.rvs_test.proofs.Chars.{all_map, both, tested, untested}
-use Rattle.rvs_test.proofs.Ready.{IsReadyChoice, first_ready}
+use Rattle.rvs_test.proofs.Ready.{first_ready}
 use Rattle.rvs_solver.proofs.Search.{Each}
 use Rattle.rvs_solver.proofs.Operands.{all_from_each}
 use Rattle.rvs_test.proofs.Ranges.{range_below}

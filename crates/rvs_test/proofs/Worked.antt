@@ -9,7 +9,8 @@ header_text =
     ++ (codes "#! case 0 mnemonics add\n" ++ codes "#! case 1 op_comb rs1 == rd != rs2\n")
 
 -- a key may have spaces, and a line of the code claims nothing
-header_claims : claims_read (header_text ++ codes "    .text # case 2 rs1 x1\n    #! case 3 rs1 x1\n")
+header_claims : claims_read
+    (header_text ++ codes "    .text # case 2 rs1 x1\n    #! case 3 rs1 x1\n")
     ≡ Some
     (record { case = 0; kind = codes "mnemonics"; key = codes "add" }
     ∷ record { case = 1; kind = codes "op_comb"; key = codes "rs1 == rd != rs2" } ∷ [])

@@ -20,7 +20,7 @@ use Rattle.rvs_machine.specs.Written.{Write}
 use Rattle.rvs_asm_text.specs.Text.{is_text_byte}
 use Rattle.rvs_asm_text.specs.Header.{header_steps}
 use Rattle.rvs_asm.specs.Answer.{Assembles}
-use Rattle.rvs_solver.specs.Choices.{ChoiceValue, fields_of, table_of}
+use Rattle.rvs_solver.specs.Choices.{fields_of, table_of}
 use Rattle.rvs_expr.specs.Facts.{Extends}
 use Rattle.rvs_facts.specs.Facts.{facts_of}
 use Rattle.rvs_test.specs.declared.statement.Name.TheVariants.{Case}

@@ -1,7 +1,5 @@
 -- Which choices a case can be made from.
-use Rattle.std.specs.Prelude.{◌≡◌, ◌≢◌, ◌⊎◌, ℕ, ◌+◌, ◌-◌, ◌%◌, ◌^◌, ◌<◌, ◌≤◌, unsigned_abs, ℤ, pos, negsuc, ◌+ℤ◌, Bool, true, false, Option, Some, None, if◌then◌else◌, unwrap_or, List, [], ◌∷◌, length}
-use Rattle.std.specs.Option.{option_map}
-use Rattle.std.specs.Int.{w32, cast_signed}
+use Rattle.std.specs.Prelude.{◌≡◌, ◌≢◌, ◌⊎◌, ℕ, ◌+◌, ◌%◌, ◌^◌, ◌<◌, ◌≤◌, unsigned_abs, ℤ, pos, Bool, true, false, Option, Some, None, unwrap_or, List, [], ◌∷◌, length}
 use Rattle.rvs_insn.specs.declared.op.Op.{Op}
 use Rattle.rvs_insn.specs.declared.op.Op.TheVariants.{Lb, Lbu, Sb, Lh, Lhu, Sh}
 use Rattle.rvs_insn.specs.declared.op.Format.{Format}

@@ -1,4 +1,4 @@
-use Rattle.std.proofs.Common.{◌+◌, ◌++◌, ◌∙◌, sym, ap}
+use Rattle.std.proofs.Common.{◌++◌, ◌∙◌, sym, ap}
 use Rattle.rvs_test.specs.TestText.{load_words}
 use Rattle.rvs_test.proofs.Grows.{list_grows}
 use Rattle.rvs_test.proofs.Loops.{words_more}

@@ -1,4 +1,4 @@
-use Rattle.std.proofs.Common.{◌≡◌, ◌∙◌, length, sym, ap, arith}
+use Rattle.std.proofs.Common.{◌∙◌, arith}
 use Rattle.rvs_cgf.specs.GroupView.{label_view}
 use Rattle.rvs_test.specs.Found.{found_view}
 use Rattle.rvs_test.proofs.Loops.{found_none, found_more}

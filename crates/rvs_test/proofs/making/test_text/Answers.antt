@@ -1,13 +1,12 @@
-use Rattle.std.proofs.Common.{◌≡◌, ◌<◌, ◌≤◌, [], ◌∙◌, ◌++◌, ℕ, false, List, length, map, sym, ap, subst}
+use Rattle.std.proofs.Common.{◌≡◌, ◌<◌, ◌≤◌, ◌∙◌, ◌++◌, ℕ, false, List, length, map, sym, ap, subst}
 use Rattle.std.specs.Prelude.{All}
 use Rattle.rvs_insn.specs.Isa.{Isa}
 use Rattle.rvs_cgf.specs.GroupView.{label_view}
 use Rattle.rvs_solver.specs.declared.solved.Solved.{Solved}
 use Rattle.rvs_test.specs.declared.made.Claim.{Claim}
-use Rattle.rvs_test.specs.TestText.{ended, front, claim_lines, line_of_claim, step_limit, test_text}
+use Rattle.rvs_test.specs.TestText.{ended, front, claim_lines, line_of_claim}
 use Rattle.rvs_test.specs.Claim.{AreReady}
 use Rattle.rvs_test.specs.Made.{named_at, claims_of}
-use Rattle.rvs_test.specs.Claimed.{TestRuns}
 use Rattle.rvs_test.proofs.Ends.{same_length}
 use Rattle.rvs_test.proofs.Grows.{text_there}
 use Rattle.rvs_test.proofs.Joined.{runs_there}

@@ -1,4 +1,4 @@
-use Rattle.std.proofs.Common.{◌+◌, ◌++◌, ◌∷◌, [], ◌∙◌, map, take, get_or, sym, ap, arith}
+use Rattle.std.proofs.Common.{◌+◌, ◌++◌, ◌∷◌, [], ◌∙◌, map, take, arith}
 use Rattle.rvs_cgf.specs.GroupView.{label_view}
 use Rattle.rvs_test.specs.TestText.{ended, line_of_claim}
 use Rattle.rvs_test.specs.Made.{named_at}

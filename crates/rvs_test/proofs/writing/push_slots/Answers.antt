@@ -1,4 +1,4 @@
-use Rattle.std.proofs.Common.{◌≡◌, ◌+◌, ◌++◌, ◌∷◌, [], ◌∙◌, sym, ap, arith}
+use Rattle.std.proofs.Common.{◌≡◌, ◌+◌, ◌++◌, ◌∷◌, [], ◌∙◌, ap, arith}
 use Rattle.rvs_test.specs.declared.statement.Name.TheVariants.{Slot}
 use Rattle.rvs_test.specs.declared.statement.Fixed.TheVariants.{Unset}
 use Rattle.rvs_test.specs.declared.statement.Statement.TheVariants.{Label, Fixed}
