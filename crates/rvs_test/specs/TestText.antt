@@ -84,9 +84,7 @@ clear_scratch p = load_address p Scratch ++ Plain (sw 0 p (pos 0)) ∷ Plain (sw
 abbrev pub store_case : ℕ → ChoiceValue → List Statement
 store_case k c =
     clear_scratch (pointer c) ++ (source c.rs1 c.w1 ++ (source c.rs2 c.w2
-    ++
-    (Label (Case k) ∷ Plain (fields_of c)
-    ∷ (copy_word (pointer c) (marker c) k (pos 0)
+    ++ (Label (Case k) ∷ Plain (fields_of c) ∷ (copy_word (pointer c) (marker c) k (pos 0)
     ++ copy_word (pointer c) (marker c) k (pos 4)))))
 
 -- minus a number
