@@ -19,6 +19,8 @@ use Rattle.rvs_test.specs.declared.made.Claim.{Claim}
 use Rattle.rvs_test.specs.Made.{claims_of, cases_of, named_at, text_for, text_of_label}
 use Rattle.rvs_test.specs.TestText.{step_limit, test_text}
 use Rattle.rvs_test.specs.Claimed.{TestRuns}
+use Rattle.rvs_test.specs.Named.{claims_read, named_claim}
+use Rattle.rvs_test.proofs.ReadBack.{back_there}
 use Rattle.rvs_test.proofs.Joined.{label_runs, accounted}
 use Rattle.rvs_suite.specs.Call.{Call, Asks}
 use Rattle.rvs_suite.specs.Specification.{said_in}
@@ -116,6 +118,12 @@ whole isa l (c ∷ cs) text is = cc
 runs-label : (isa : Isa) (l : Label) (text : List ℕ) → isa.e ≡ false → IsValid isa l → text_of_label isa l ≡ Some text → TestRuns isa l text (claims_of isa l) (step_limit (cases_of isa l))
 runs-label isa l text base valid is = subst (λ (t : List ℕ). TestRuns isa l t (claims_of isa l) (step_limit (cases_of isa l))) (whole isa l (cases_of isa l) text is) (label_runs isa l base valid)
 
+reads-label : (isa : Isa) (l : Label) (text : List ℕ) → isa.e ≡ false → IsValid isa l → text_of_label isa l ≡ Some text → claims_read text ≡ Some (map (named_claim l) (claims_of isa l))
+reads-label isa l text base valid is = back_there isa l base valid text (claims_of isa l) (cases_of isa l) refl refl (sym (whole isa l (cases_of isa l) text is))
+
+reads-good : (inputs : Inputs) (l : Label) (text : List ℕ) → IsGood inputs → Contains inputs.groups l → IsTrue l.selected → text_of_label inputs.isa l ≡ Some text → claims_read text ≡ Some (map (named_claim l) (claims_of inputs.isa l))
+reads-good inputs l text good there selected is = reads-label inputs.isa l text good.base (All-contains (IsValidIfSelected inputs.isa) inputs.groups l good.valid there selected) is
+
 runs-good : (inputs : Inputs) (l : Label) (text : List ℕ) → IsGood inputs → Contains inputs.groups l → IsTrue l.selected → text_of_label inputs.isa l ≡ Some text → TestRuns inputs.isa l text (claims_of inputs.isa l) (step_limit (cases_of inputs.isa l))
 runs-good inputs l text good there selected is = runs-label inputs.isa l text good.base (All-contains (IsValidIfSelected inputs.isa) inputs.groups l good.valid there selected) is
 
@@ -128,6 +136,7 @@ makes {call} files isa names work r = record {
   answered = answered (generating.HasGenerated call work) r (works files isa names work) (λ inputs is.
       let all = is ∙ left-generates work inputs _ in
       record { files = ap (λ (c : Contents). c.files) all; out = ap (λ (c : Contents). c.out) all });
+  read = λ inputs l text given there selected is. reads-good inputs l text (good-inputs files isa names inputs given) there selected is;
   accounted = λ inputs l k given there within. accounted inputs.isa l k within;
   others_kept = λ files' other. generate-spares r.ran files files' isa names work other r.told r.asks;
   runs = λ inputs l text given there selected is. runs-good inputs l text (good-inputs files isa names inputs given) there selected is;

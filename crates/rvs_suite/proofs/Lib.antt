@@ -32,3 +32,4 @@ mod Runnable
 mod RunSteps
 mod RunReads
 mod RunEnds
+mod OneTest

@@ -1,5 +1,5 @@
 -- What every call of `generate` promises.
-use Rattle.std.specs.Prelude.{◌≡◌, ◌≢◌, ◌<◌, ℕ, length, IsTrue, if◌then◌else◌, List, [], ◌∷◌, Contains, Option, Some, None, Ok}
+use Rattle.std.specs.Prelude.{◌≡◌, ◌≢◌, ◌<◌, ℕ, length, map, IsTrue, if◌then◌else◌, List, [], ◌∷◌, Contains, Option, Some, None, Ok}
 use Rattle.rvs_base.specs.Host.{Files, Tells, written}
 use Rattle.rvs_base.specs.Sink.{appended}
 use Rattle.rvs_plan.specs.declared.status.Status.TheVariants.{Done}
@@ -7,6 +7,7 @@ use Rattle.rvs_insn.specs.Isa.{Isa}
 use Rattle.rvs_cgf.specs.Groups.{Label}
 use Rattle.rvs_test.specs.Made.{claims_of, unsolved_of, cases_of, text_of_label}
 use Rattle.rvs_test.specs.TestText.{step_limit}
+use Rattle.rvs_test.specs.Named.{claims_read, named_claim}
 use Rattle.rvs_test.specs.Claimed.{TestRuns, IsAccounted}
 use Rattle.rvs_suite.specs.Answered.{Answered}
 use Rattle.rvs_suite.specs.Call.{Call, Asks}
@@ -41,6 +42,9 @@ pub record Generates (call : Call) (files : Files) (isa : List ℕ) (names : Lis
   -- One image stands to the text of each test; its run halts within the header's steps, hits each point that is claimed, and leaves the outcome of each case and no other words. The claims are those of all points that a choice hits.
   pub runs : (inputs : Inputs) (l : Label) (text : List ℕ) → inputs_in files isa names ≡ Ok inputs → Contains inputs.groups l → IsTrue l.selected
       → text_of_label inputs.isa l ≡ Some text → TestRuns inputs.isa l text (claims_of inputs.isa l) (step_limit (cases_of inputs.isa l))
+  -- these claims, by case, kind and key, are what is read back from the bytes of the text alone
+  pub read : (inputs : Inputs) (l : Label) (text : List ℕ) → inputs_in files isa names ≡ Ok inputs → Contains inputs.groups l → IsTrue l.selected
+      → text_of_label inputs.isa l ≡ Some text → claims_read text ≡ Some (map (named_claim l) (claims_of inputs.isa l))
   -- each point of a selected label is claimed, where a choice of the datasets hits it, or is listed as unsolved, where none does
   pub accounted : (inputs : Inputs) (l : Label) (k : ℕ) → inputs_in files isa names ≡ Ok inputs → Contains inputs.groups l → k < length l.points
       → IsAccounted inputs.isa l (claims_of inputs.isa l) (unsolved_of inputs.isa l) k
