@@ -33,3 +33,4 @@ mod RunSteps
 mod RunReads
 mod RunEnds
 mod OneTest
+mod Saying
