@@ -1,13 +1,11 @@
 -- What reading a signature file back comes to.
-use Rattle.std.proofs.Common.{◌≡◌, ◌≢◌, ◌<◌, ◌≤◌, ◌⊎◌, inl, inr, ℕ, ℤ, Bool, true, false, ◌&&◌, not, nat_lt, if◌then◌else◌, List, length, Option, Some, None, Result, Ok, Err, refl, sym, ap, ◌∙◌, subst}
+use Rattle.std.proofs.Common.{◌≡◌, ◌<◌, inl, inr, ℕ, ℤ, true, not, nat_lt, List, length, Option, Some, Ok, refl, sym, ap, ◌∙◌}
 use Rattle.std.proofs.lemmas.Bool.{lt-ltb}
-use Rattle.rvs_base.specs.Host.{Files, HostState, Tells, ReadsOnly, LacksFile}
+use Rattle.rvs_base.specs.Host.{HostState, ReadsOnly, LacksFile}
 use Rattle.rvs_base.specs.File.{IsWhole, IsTooLong}
-use Rattle.rvs_device.specs.Command.{is_empty}
-use Rattle.rvs_sig.specs.Words.{words_of}
-use Rattle.rvs_device.specs.Judged.{signature_limit, spelt, verdict_on}
+use Rattle.rvs_device.specs.Judged.{signature_limit, verdict_on}
 use Rattle.rvs_device.specs.Judging.{Verdicts}
-use Rattle.rvs_device.specs.ReadBack.{Finds, ReadsBack}
+use Rattle.rvs_device.specs.ReadBack.{ReadsBack}
 use Rattle.rvs_device.specs.declared.verdicts.TestVerdict.{TestVerdict}
 use Rattle.rvs_device.specs.declared.verdicts.TestVerdict.TheVariants.{NoSignature, TooLong}
 

@@ -1,15 +1,15 @@
 -- What the steps of judging leave, put together.
-use Rattle.std.proofs.Common.{◌≡◌, ◌≢◌, ◌↔◌, ◌≤◌, ◌⊎◌, inl, inr, ℕ, ◌+◌, ◌^◌, ◌-◌, min, ℤ, Bool, true, false, ◌&&◌, is_some, if◌then◌else◌, List, [], ◌∷◌, ◌++◌, length, Option, Some, None, Result, Ok, Err, IfOk, bytes_eq, refl, sym, ap, subst, ◌∙◌, arith}
+use Rattle.std.proofs.Common.{◌≡◌, ◌≢◌, ◌↔◌, ◌≤◌, ◌⊎◌, inl, inr, ℕ, ℤ, Bool, true, false, ◌&&◌, is_some, if◌then◌else◌, List, [], ◌∷◌, ◌++◌, length, Option, Some, None, Result, Ok, Err, IfOk, bytes_eq, refl, sym, ap, subst, ◌∙◌, arith}
 use Rattle.std.proofs.lemmas.Slice.Eq.{bytes_eq-Decides}
 use Rattle.std.proofs.lemmas.List.{append_cancel_left}
 use Rattle.rvs_base.specs.Faults.{Rose}
 use Rattle.rvs_base.specs.Host.{Files, HostState, Tells, is_told, ReadsOnly, WritesOnly, MaySpoil, Spoils, written, with_file, with_left, run_over, RunsOnly, RunsDevice, LeavesRun, ChangesOne, FailsRun}
 use Rattle.rvs_base.specs.declared.host.DeviceRun.{DeviceRun}
 use Rattle.rvs_device.specs.Judged.{verdict_on}
-use Rattle.rvs_device.specs.Judging.{Task, RanOnce, RanNone, Left, Unfaulted, Verdicts, Cause, Later, Judges, Spells, PassesBySpelling}
-use Rattle.rvs_device.specs.ReadBack.{Finds, Comes, ReadsBack}
+use Rattle.rvs_device.specs.Judging.{Task, RanOnce, Later, Judges, Spells, PassesBySpelling}
+use Rattle.rvs_device.specs.ReadBack.{ReadsBack}
 use Rattle.rvs_device.specs.declared.verdicts.TestVerdict.{TestVerdict}
-use Rattle.rvs_device.specs.declared.verdicts.TestVerdict.TheVariants.{Pass, NoSignature}
+use Rattle.rvs_device.specs.declared.verdicts.TestVerdict.TheVariants.{Pass}
 use Rattle.rvs_device.specs.declared.judging.JudgeFault.{JudgeFault}
 use Rattle.rvs_device.specs.declared.judging.JudgeFault.TheVariants.{Write, Run, Read, NoMemory}
 use Rattle.rvs_device.proofs.Passing.{passes}

@@ -1,5 +1,5 @@
 mod Back
-mod Passing
+pub mod Passing
 mod Scalars
 mod Behind
 mod Leaving

@@ -1,6 +1,6 @@
 -- A verdict is a pass exactly where what was left spells the reference's words.
-use Rattle.std.proofs.Common.{◌≡◌, ◌≢◌, ◌↔◌, ◌≤◌, ℕ, ◌+◌, ℤ, Bool, true, false, not, cond, nat_lt, ◌==◌, ◌&&◌, eq-eqb, if◌then◌else◌, List, [], ◌∷◌, length, Option, Some, None, Result, Ok, Err, refl, sym, ap, subst, ◌∙◌, arith}
-use Rattle.std.proofs.lemmas.Bool.{lt-ltb, le-ltb, ltb-false}
+use Rattle.std.proofs.Common.{◌≡◌, ◌↔◌, ◌≤◌, ℕ, ◌+◌, ℤ, Bool, true, false, not, cond, nat_lt, ◌==◌, ◌&&◌, eq-eqb, if◌then◌else◌, List, [], ◌∷◌, length, Option, Some, None, Result, Ok, Err, refl, sym, ap, subst, ◌∙◌, arith}
+use Rattle.std.proofs.lemmas.Bool.{le-ltb, ltb-false}
 use Rattle.std.proofs.lemmas.Bool.Decides.{nat_tests}
 use Rattle.std.proofs.lemmas.Iterator.Adapters.{position_from-zero}
 use Rattle.std.specs.List.{zip, position, position_from}
@@ -9,13 +9,11 @@ use Rattle.rvs_sig.specs.Verdicts.{differ, verdict_at, verdict_of}
 use Rattle.rvs_sig.specs.declared.words.SigRefusal.{SigRefusal}
 use Rattle.rvs_sig.specs.declared.words.SigRefusal.TheVariants.{BadLine}
 use Rattle.rvs_sig.specs.declared.words.SigRefusal.TheVariants as why
-use Rattle.rvs_sig.specs.declared.comparison.Verdict.{Verdict}
 use Rattle.rvs_sig.specs.declared.comparison.Verdict.TheVariants as sig
 use Rattle.rvs_device.specs.Command.{is_empty}
 use Rattle.rvs_device.specs.Judged.{signature_limit, compared, spelt, verdict_on}
 use Rattle.rvs_device.specs.Judging.{Task, Spells}
-use Rattle.rvs_device.specs.declared.verdicts.TestVerdict.{TestVerdict}
-use Rattle.rvs_device.specs.declared.verdicts.TestVerdict.TheVariants.{Pass, NoSignature, TooLong, BadSignature, Differs, Lengths}
+use Rattle.rvs_device.specs.declared.verdicts.TestVerdict.TheVariants.{Pass, NoSignature, TooLong}
 
 same_head : (l r i : ℕ) (more : Option ℕ) (same : Bool) → (l == r) ≡ same → cond (not same) (Some i) more ≡ None → (l ≡ r) × (more ≡ None)
 same_head l r i more true is e = (grind (arith, nat_tests), e)

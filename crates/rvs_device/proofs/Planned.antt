@@ -1,22 +1,20 @@
 -- Judging meets its plan.
-use Rattle.std.proofs.Common.{◌≡◌, ◌≢◌, ◌⊎◌, inl, inr, ℕ, ℤ, Bool, true, false, is_some, if◌then◌else◌, List, [], ◌∷◌, ◌++◌, Option, Some, None, Result, Ok, Err, IfErr, bytes_eq, refl, sym, ap, subst, ◌∙◌}
+use Rattle.std.proofs.Common.{◌≡◌, ◌≢◌, ◌⊎◌, inl, inr, ℕ, Bool, true, false, is_some, if◌then◌else◌, List, [], ◌∷◌, ◌++◌, Option, Some, None, Result, Ok, Err, IfErr, bytes_eq, refl, sym, ap, subst, ◌∙◌}
 use Rattle.std.proofs.lemmas.Slice.Eq.{bytes_eq-Decides}
-use Rattle.rvs_base.specs.Host.{Files, HostState, Tells, is_told, MaySpoil, Spoils, written, with_file, with_left, run_over, ChangesOne}
+use Rattle.rvs_base.specs.Host.{Files, HostState, Tells, MaySpoil, Spoils, written, with_file, with_left, run_over, ChangesOne}
 use Rattle.rvs_base.specs.declared.host.DeviceRun.{DeviceRun}
 use Rattle.rvs_base.specs.Sink.{SinkState}
 use Rattle.rvs_plan.specs.World.{World, Contents, contents, world, IsAnswer}
 use Rattle.rvs_plan.specs.World as plan
 use Rattle.rvs_plan.specs.Effect.{Answer, Write, Effect, Read, Device, Did, after, left_by, run_added}
-use Rattle.rvs_plan.specs.Plan.{Plan, Ends, Asks, Runs}
+use Rattle.rvs_plan.specs.Plan.{Ends}
 use Rattle.rvs_plan.specs.Meets.{Reaches, Follows, HasCause, NoFault, MeetsWith}
-use Rattle.rvs_plan.specs.declared.stop.Stop.{Stop}
 use Rattle.rvs_plan.proofs.Reaching.{Reaches-start}
 use Rattle.rvs_plan.proofs.Sequence.{LaterSink-start}
 use Rattle.rvs_device.specs.Judged.{verdict_on}
 use Rattle.rvs_device.specs.Judging.{Task, RanOnce, RanNone, Left, Judges}
 use Rattle.rvs_device.specs.Plans.{judged, read_back, run_and_read, stopped}
 use Rattle.rvs_device.specs.declared.verdicts.TestVerdict.{TestVerdict}
-use Rattle.rvs_device.specs.declared.verdicts.TestVerdict.TheVariants.{NoSignature}
 use Rattle.rvs_device.specs.declared.judging.JudgeFault.{JudgeFault}
 use Rattle.rvs_device.specs.declared.judging.JudgeFault.TheVariants as fault
 use Rattle.rvs_device.proofs.Leaving.{left_over, at_name, same_files, same_name}

@@ -5,7 +5,10 @@ use Rattle.std.specs.Str.{bytes_eq}
 
 -- what stands behind these letters, where a text begins with them
 abbrev pub behind : List ℕ → List ℕ → Option (List ℕ)
-behind letters text = if bytes_eq (take (length letters) text) letters then Some (drop (length letters) text) else None
+behind letters text =
+    if bytes_eq (take (length letters) text) letters
+    then Some (drop (length letters) text)
+    else None
 
 -- what stands before the first `{` of a word, and behind each
 abbrev pub pieces : List ℕ → List (List ℕ)
@@ -13,7 +16,9 @@ pieces word = slice_split (λ c. c == 123) word
 
 -- the `{` before this piece begins a placeholder
 abbrev pub is_placeholder : List ℕ → Bool
-is_placeholder piece = is_some (behind (codes "test}") piece) || (is_some (behind (codes "signature}") piece) || is_some (behind (codes "self}") piece))
+is_placeholder piece =
+    is_some (behind (codes "test}") piece)
+    || (is_some (behind (codes "signature}") piece) || is_some (behind (codes "self}") piece))
 
 -- each `{` in a word begins a placeholder
 abbrev pub is_known : List ℕ → Bool
@@ -47,9 +52,11 @@ replaced program test signature piece =
 -- the first piece, and each other one with its placeholder replaced
 abbrev pub joined : List ℕ → List ℕ → List ℕ → List (List ℕ) → List ℕ
 joined program test signature [] = []
-joined program test signature (first ∷ rest) = first ++ flat_map (replaced program test signature) rest
+joined program test signature (first ∷ rest) =
+    first ++ flat_map (replaced program test signature) rest
 
--- a word with each placeholder replaced where it stands: `{self}` by the program, and the others by their files
+-- A word with each placeholder replaced where it stands: `{self}` by the program, and the others by
+-- their files.
 abbrev pub filled : List ℕ → List ℕ → List ℕ → List ℕ → List ℕ
 filled program test signature word = joined program test signature (pieces word)
 

@@ -1,5 +1,5 @@
 -- Device files: the device that a tree tells, or why it is refused.
-use Rattle.std.specs.Prelude.{◌≡◌, ◌≢◌, ℕ, ◌&&◌, not, Bool, true, false, if◌then◌else◌, List, [], ◌∷◌, map, Option, Some, None, Result, Ok, Err, codes}
+use Rattle.std.specs.Prelude.{◌≡◌, ◌≢◌, ℕ, ◌&&◌, not, if◌then◌else◌, List, map, Option, Some, None, Result, Ok, Err, codes}
 use Rattle.std.specs.Option.{option_and_then}
 use Rattle.std.specs.List.{find, list_all}
 use Rattle.rvs_tree.specs.Data.{Data, scalar, is_list, is_scalar, text_of, members_of, value_at}
@@ -32,7 +32,9 @@ scalar_text _ = None
 
 -- the scalar `name` of a map
 abbrev pub name_in : Data → Found (List ℕ)
-name_in root = wanted (option_and_then scalar_text (value_at (codes "name") root)) (MissingEntry (codes "name"))
+name_in root =
+    wanted (option_and_then scalar_text (value_at (codes "name") root))
+    (MissingEntry (codes "name"))
 
 -- the entry `command` of a map
 abbrev pub command_in : Data → Found Data
@@ -40,9 +42,12 @@ command_in root = wanted (value_at (codes "command") root) (MissingEntry (codes 
 
 -- the texts of a list of scalars
 abbrev pub scalar_texts : Data → Option (List (List ℕ))
-scalar_texts entry = if is_list entry && list_all is_scalar (members_of entry) then Some (map text_of (members_of entry)) else None
+scalar_texts entry =
+    if is_list entry && list_all is_scalar (members_of entry)
+    then Some (map text_of (members_of entry))
+    else None
 
--- there is a first word, and it isn't empty
+-- the words, where there is a first word that isn't empty
 abbrev pub with_program : List (List ℕ) → Option (List (List ℕ))
 with_program words = if has_program words then Some words else None
 

@@ -11,7 +11,8 @@ use Rattle.rvs_device.specs.declared.verdicts.TestVerdict.TheVariants.{Pass, NoS
 use Rattle.rvs_device.specs.declared.judging.JudgeFault.{JudgeFault}
 use Rattle.rvs_device.specs.declared.judging.JudgeFault.TheVariants.{Write, Run, Read, NoMemory}
 
--- the words that a device is started with, its test file, its signature file, and the reference's words
+-- The words that a device is started with, its test file, its signature file, and the reference's
+-- words.
 pub record Task : Type 0 where
   pub words : List (List ℕ)
   pub test : List ℕ
@@ -20,12 +21,18 @@ pub record Task : Type 0 where
 
 -- a device with this command on a test
 abbrev pub task : List (List ℕ) → List ℕ → List ℕ → List ℕ → List ℕ → Task
-task command program test signature reference =
-    record { words = started_with program test signature command; test = test; signature = signature; reference = reference }
+task command program test signature reference = record {
+  words = started_with program test signature command;
+  test = test;
+  signature = signature;
+  reference = reference;
+}
 
--- This run was made and no other: with the device's words, on the test file as it was, and with an empty signature file before.
--- The signature file is what the run left, and all other files are as they were.
-pub record RanOnce (t : Task) (files : Files) (runs : List DeviceRun) (new : HostState) (run : DeviceRun) : Type 0 where
+-- This run was made and no other: with the device's words, on the test file as it was, and with an
+-- empty signature file before. The signature file is what the run left, and all other files are as
+-- they were.
+pub record RanOnce (t : Task) (files : Files) (runs : List DeviceRun)
+    (new : HostState) (run : DeviceRun) : Type 0 where
   pub added : new.runs ≡ Some (runs ++ run ∷ [])
   pub words : run.words ≡ t.words
   pub test : run.test ≡ (if bytes_eq t.test t.signature then Some [] else files t.test)
@@ -33,14 +40,16 @@ pub record RanOnce (t : Task) (files : Files) (runs : List DeviceRun) (new : Hos
   pub left : new.files ≡ Some (with_left t.signature run.after files)
 
 -- no run was made, and no file but the signature file, which is this now, was changed
-pub record RanNone (t : Task) (files : Files) (runs : List DeviceRun) (new : HostState) (signature : Option (List ℕ)) : Type 0 where
+pub record RanNone (t : Task) (files : Files) (runs : List DeviceRun)
+    (new : HostState) (signature : Option (List ℕ)) : Type 0 where
   pub same : new.runs ≡ Some runs
   pub left : new.files ≡ Some (with_left t.signature signature files)
 
 -- the verdict is that of what the run left
 abbrev pub Judged : Task → Files → List DeviceRun → HostState → TestVerdict → Type 0
 Judged t files runs new verdict =
-    (run : DeviceRun) × RanOnce t files runs new run × (verdict ≡ verdict_on run.status t.reference run.after)
+    (run : DeviceRun) × RanOnce t files runs new run
+    × (verdict ≡ verdict_on run.status t.reference run.after)
 
 -- after a write that failed, the signature file is as before, absent or empty
 abbrev pub Unwritten : Task → Files → List DeviceRun → HostState → Type 0
@@ -54,7 +63,9 @@ Left t files runs new (Ok verdict) = Judged t files runs new verdict
 Left t files runs new (Err Write) = Unwritten t files runs new
 Left t files runs new (Err Run) = (signature : Option (List ℕ)) × RanNone t files runs new signature
 Left t files runs new (Err Read) = (run : DeviceRun) × RanOnce t files runs new run
-Left t files runs new (Err NoMemory) = RanNone t files runs new (files t.signature) ⊎ ((run : DeviceRun) × RanOnce t files runs new run)
+Left t files runs new (Err NoMemory) =
+    RanNone t files runs new (files t.signature)
+    ⊎ ((run : DeviceRun) × RanOnce t files runs new run)
 
 -- no count changed
 pub record Unfaulted (old new : HostState) : Type 0 where
@@ -62,9 +73,11 @@ pub record Unfaulted (old new : HostState) : Type 0 where
   pub writes : new.write_faults ≡ old.write_faults
   pub devices : new.run_faults ≡ old.run_faults
 
--- no count changed, but perhaps that of reading, where a host that isn't told has no signature file
+-- No count changed, but perhaps that of reading, where a host that isn't told has no signature
+-- file.
 pub record Verdicts (old new : HostState) (verdict : TestVerdict) : Type 0 where
-  pub reads : (is_told old ≡ true) ⊎ ((status : ℤ) → verdict ≢ NoSignature status) → new.read_faults ≡ old.read_faults
+  pub reads : (is_told old ≡ true) ⊎ ((status : ℤ) → verdict ≢ NoSignature status)
+      → new.read_faults ≡ old.read_faults
   pub writes : new.write_faults ≡ old.write_faults
   pub devices : new.run_faults ≡ old.run_faults
 
@@ -84,10 +97,12 @@ pub record Later (old new : HostState) : Type 0 where
   pub told : is_told new ≡ is_told old
 
 -- what judging a test did
-pub record Judges (t : Task) (old new : HostState) (result : Result TestVerdict JudgeFault) : Type 0 where
+pub record Judges (t : Task) (old new : HostState) (result : Result TestVerdict JudgeFault)
+    : Type 0 where
   pub later : Later old new
   pub cause : Cause old new result
-  pub left : (files : Files) (runs : List DeviceRun) → Tells old files → old.runs ≡ Some runs → Left t files runs new result
+  pub left : (files : Files) (runs : List DeviceRun) → Tells old files → old.runs ≡ Some runs
+      → Left t files runs new result
 
 -- what was left spells the reference's words
 pub record Spells (t : Task) (left : Option (List ℕ)) : Type 0 where
@@ -96,8 +111,10 @@ pub record Spells (t : Task) (left : Option (List ℕ)) : Type 0 where
   pub within : length bytes ≤ signature_limit
   pub words : words_of bytes ≡ Ok t.reference
 
--- The verdict is a pass exactly where the run of this call left bytes that spell the reference's words; it has their number, and the run's status.
+-- The verdict is a pass exactly where the run of this call left bytes that spell the reference's
+-- words; it has their number, and the run's status.
 abbrev pub PassesBySpelling : Task → HostState → HostState → TestVerdict → Type 0
 PassesBySpelling t old new verdict =
-    (files : Files) (runs : List DeviceRun) (run : DeviceRun) → Tells old files → old.runs ≡ Some runs → new.runs ≡ Some (runs ++ run ∷ [])
+    (files : Files) (runs : List DeviceRun) (run : DeviceRun)
+    → Tells old files → old.runs ≡ Some runs → new.runs ≡ Some (runs ++ run ∷ [])
     → (verdict ≡ Pass (length t.reference) run.status) ↔ Spells t run.after

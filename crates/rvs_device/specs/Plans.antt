@@ -1,5 +1,5 @@
 -- Judging a test as a plan.
-use Rattle.std.specs.Prelude.{ℕ, ℤ, List, [], Option, Result, Ok, Err}
+use Rattle.std.specs.Prelude.{ℤ, [], Result, Ok, Err}
 use Rattle.rvs_base.specs.Host.{HostState}
 use Rattle.rvs_base.specs.Sink.{SinkState}
 use Rattle.rvs_plan.specs.World.{world, IsAnswer}
@@ -43,4 +43,5 @@ stopped t (Err fault) = Err (stop_of t fault)
 -- what judging does meets its plan; that there is no signature file is an answer
 abbrev pub MeetsPlan : Task → HostState → HostState → Result TestVerdict JudgeFault → Type 0
 MeetsPlan t old new result =
-    (out : SinkState) → MeetsWith IsAnswer (judged t) (world old out) (world new out) (stopped t result)
+    (out : SinkState)
+    → MeetsWith IsAnswer (judged t) (world old out) (world new out) (stopped t result)

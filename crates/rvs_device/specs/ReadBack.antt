@@ -9,8 +9,10 @@ use Rattle.rvs_device.specs.declared.judging.JudgeFault.{JudgeFault}
 use Rattle.rvs_device.specs.declared.judging.JudgeFault.TheVariants.{Write, Run, Read, NoMemory}
 
 -- the verdict is that of what the file holds
-pub record Finds (signature : List ℕ) (status : ℤ) (reference : List ℕ) (old new : HostState) (verdict : TestVerdict) : Type 0 where
-  pub of_file : (files : Files) → Tells old files → verdict ≡ verdict_on status reference (files signature)
+pub record Finds (signature : List ℕ) (status : ℤ) (reference : List ℕ)
+    (old new : HostState) (verdict : TestVerdict) : Type 0 where
+  pub of_file : (files : Files) → Tells old files
+      → verdict ≡ verdict_on status reference (files signature)
   pub counts : Verdicts old new verdict
 
 -- why there is none: reading failed, or want of memory
@@ -20,10 +22,14 @@ Misses old new Run = ⊥
 Misses old new Read = Rose old.read_faults new.read_faults
 Misses old new NoMemory = new.read_faults ≡ old.read_faults
 
-abbrev pub Comes : List ℕ → ℤ → List ℕ → HostState → HostState → Result TestVerdict JudgeFault → Type 0
-Comes signature status reference old new (Ok verdict) = Finds signature status reference old new verdict
+abbrev pub Comes : List ℕ → ℤ → List ℕ → HostState → HostState → Result TestVerdict JudgeFault
+    → Type 0
+Comes signature status reference old new (Ok verdict) =
+    Finds signature status reference old new verdict
 Comes signature status reference old new (Err fault) = Misses old new fault
 
-pub record ReadsBack (signature : List ℕ) (status : ℤ) (reference : List ℕ) (old new : HostState) (result : Result TestVerdict JudgeFault) : Type 0 where
+-- what reading the signature file back after a run with this status comes to
+pub record ReadsBack (signature : List ℕ) (status : ℤ) (reference : List ℕ)
+    (old new : HostState) (result : Result TestVerdict JudgeFault) : Type 0 where
   pub reads_only : ReadsOnly old new
   pub comes : Comes signature status reference old new result

@@ -4,8 +4,8 @@ ghost use Rattle.rvs_device.specs.Command.{is_command};
 
 use rvs_base::{Items, Text};
 
-/// A program that runs a test and writes a signature file. Its command isn't empty, nor is the first
-/// word, and each `{` in a word begins `{test}`, `{signature}` or `{self}`.
+/// A program that runs a test and writes a signature file. Its command isn't empty, nor is the
+/// command's first word, and each `{` in a word begins `{test}`, `{signature}` or `{self}`.
 #[derive(Debug, Drop)]
 pub struct Device {
     /// What the device is called.

@@ -42,14 +42,16 @@ impl From<NoMemory> for JudgeFault {
     }
 }
 
-/// Makes the file `signature` empty, runs the device on the file `test`, and compares the words that
-/// it leaves in `signature` with the reference's. In the device's words `{test}` and `{signature}`
-/// stand for these names and `{self}` for `program`. No more than one byte past 2,621,440 is read.
+/// Makes the file `signature` empty, runs the device on the file `test`, and compares the words
+/// that it leaves in `signature` with the reference's. In the device's words `{test}` and
+/// `{signature}` stand for these names and `{self}` for `program`. At most one byte past 2,621,440
+/// is read.
 ///
 /// # Errors
 ///
 /// [`JudgeFault`]. After `Write` and `Run` there is no new run, and no file but `signature` is
-/// changed; after `Read` there is one. After `NoMemory` either nothing was done or one run was made.
+/// changed; after `Read` there is one run. After `NoMemory` either nothing was done or one run was
+/// made.
 pub fn judge<H: Host>(
     alloc: Global,
     host: &mut H,
@@ -59,9 +61,11 @@ pub fn judge<H: Host>(
     signature: &str,
     reference: &[u32],
 ) -> Result<TestVerdict, JudgeFault>
-    ensures judges { Judges (task device.now.command program.now test.now signature.now reference.now)
+    ensures judges { Judges
+        (task device.now.command program.now test.now signature.now reference.now)
         (H.state host.old) (H.state host.new) result }
-    ensures planned { MeetsPlan (task device.now.command program.now test.now signature.now reference.now)
+    ensures planned { MeetsPlan
+        (task device.now.command program.now test.now signature.now reference.now)
         (H.state host.old) (H.state host.new) result }
     ensures passes { IfOk result (PassesBySpelling
         (task device.now.command program.now test.now signature.now reference.now)
@@ -86,7 +90,8 @@ fn read_back<H: Host>(
     status: i32,
     reference: &[u32],
 ) -> Result<TestVerdict, JudgeFault>
-    ensures { ReadsBack signature.now status reference.now (H.state host.old) (H.state host.new) result }
+    ensures { ReadsBack signature.now status reference.now
+        (H.state host.old) (H.state host.new) result }
 {
     match read_file(alloc, host, signature, SIGNATURE_LIMIT) {
         Ok(bytes) => Ok(verdict_on(alloc, status, reference, bytes.as_slice())?),

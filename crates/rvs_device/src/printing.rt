@@ -77,7 +77,8 @@ fn differs_line(
     right: &str,
     status: i32,
 ) -> Result<Text, NoMemory>
-    ensures { (left_word right_word : ℕ) → left.now ≡ hex_word_of left_word → right.now ≡ hex_word_of right_word
+    ensures { (left_word right_word : ℕ)
+        → left.now ≡ hex_word_of left_word → right.now ≡ hex_word_of right_word
         → IfOk result (λ line. line ≡ differs_line label.now at left_word right_word status) }
 {
     Ok(Text::from(format!(in alloc;

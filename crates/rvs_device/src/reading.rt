@@ -12,8 +12,8 @@ use rvs_base::{Items, NoMemory, Text};
 use rvs_tree::Tree;
 use std::alloc::Global;
 
-/// Reads a device file: a map with the scalar `name` and the list of scalars `command`. In a word of
-/// the command, `{test}`, `{signature}` and `{self}` stand for names that each run has.
+/// Reads a device file: a map with the scalar `name` and the list of scalars `command`. In a word
+/// of the command `{test}`, `{signature}` and `{self}` stand for names that each run has.
 ///
 /// # Errors
 ///
@@ -46,7 +46,8 @@ fn scalar_text(tree: &Tree) -> Option<&str>
 }
 
 fn scalar_at<'t>(tree: &'t Tree, key: &str) -> Option<&'t str>
-    ensures { option_map (λ t. t.now) result ≡ option_and_then scalar_text (value_at key.now (view tree.now)) }
+    ensures { option_map (λ t. t.now) result
+        ≡ option_and_then scalar_text (value_at key.now (view tree.now)) }
 {
     scalar_text(value_at(tree, key)?)
 }

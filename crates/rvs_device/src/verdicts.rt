@@ -43,7 +43,9 @@ pub enum TestVerdict {
     },
     /// The file spells another number of words than the reference has.
     Lengths {
+        /// How many words the file spells.
         device: usize,
+        /// How many words the reference has.
         reference: usize,
         status: i32,
     },

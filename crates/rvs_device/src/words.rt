@@ -59,7 +59,8 @@ fn filled(
     signature: &str,
     word: &str,
 ) -> Result<String, AllocError>
-    ensures { IfOk result (λ text. string_bytes text ≡ filled program.now test.now signature.now word.now) }
+    ensures { IfOk result (λ text. string_bytes text
+        ≡ filled program.now test.now signature.now word.now) }
 {
     let pieces = pieces_of(alloc, word)?;
     let Some((first, rest)) = pieces.split_first() else {
@@ -105,7 +106,8 @@ fn push_replaced(
 }
 
 fn push_both(text: &mut String, name: &str, rest: &str) -> Result<(), AllocError>
-    ensures { OnOk result (string_bytes text.new ≡ string_bytes text.old ++ (name.now ++ rest.now)) }
+    ensures { OnOk result
+        (string_bytes text.new ≡ string_bytes text.old ++ (name.now ++ rest.now)) }
 {
     text.push_str(name)?;
     text.push_str(rest)

@@ -1,7 +1,7 @@
 -- What every call of `generate` promises.
 use Rattle.std.proofs.Common.{◌≡◌, ℕ, Bool, true, false, if◌then◌else◌, List, [], ◌∷◌, map, All, Contains, Option, Some, None, Result, Ok, Err, IfOk, IsTrue, refl, sym, ap, subst, ◌∙◌}
-use Rattle.std.proofs.lemmas.List.Elements.{All-contains}
-use Rattle.rvs_base.specs.Host.{Files, Tells}
+use Rattle.std.proofs.lemmas.List.Elements.{All-contains, All-head}
+use Rattle.rvs_base.specs.Host.{Files, Tells, written}
 use Rattle.rvs_base.specs.Sink.{appended}
 use Rattle.rvs_plan.specs.World.{Contents, contents}
 use Rattle.rvs_plan.specs.Plan.{Plan, gives, writes, ◌>>=◌}
@@ -11,15 +11,19 @@ use Rattle.rvs_tree.specs.Data.{Data}
 use Rattle.rvs_insn.specs.Isa.{Isa}
 use Rattle.rvs_isa.specs.declared.checked.Checked.{Checked}
 use Rattle.rvs_yaml.specs.Answer.{Answer, answer}
-use Rattle.rvs_cgf.specs.Groups.{Label, Refusal, groups_of}
+use Rattle.rvs_cgf.specs.Groups.{Label, Point, Refusal, groups_of}
 use Rattle.rvs_cgf.specs.Valid.{IsValid, IsValidIfSelected}
 use Rattle.rvs_cgf.proofs.Validity.{groups_good}
+use Rattle.rvs_solver.specs.Solving.{IsSolvableAt}
 use Rattle.rvs_solver.specs.declared.solved.Solved.{Solved}
 use Rattle.rvs_test.specs.declared.made.Claim.{Claim}
 use Rattle.rvs_test.specs.Made.{claims_of, cases_of, named_at, text_for, text_of_label}
 use Rattle.rvs_test.specs.TestText.{step_limit, test_text}
 use Rattle.rvs_test.specs.Claimed.{TestRuns}
+use Rattle.rvs_test.specs.Named.{claims_read, named_claim}
+use Rattle.rvs_test.proofs.ReadBack.{back_there}
 use Rattle.rvs_test.proofs.Joined.{label_runs, accounted}
+use Rattle.rvs_suite.specs.Answered.{HasLeft, Answered}
 use Rattle.rvs_suite.specs.Call.{Call, Asks}
 use Rattle.rvs_suite.specs.Specification.{said_in}
 use Rattle.rvs_suite.specs.Coverage.{print_report}
@@ -32,6 +36,7 @@ use Rattle.rvs_suite.proofs.BaseCores.{IsBase, base_said}
 use Rattle.rvs_suite.proofs.Answered.{Works, RunsOn, answered}
 use Rattle.rvs_suite.proofs.Finding.{Deeds, left, deeds-then, left-then}
 use Rattle.rvs_suite.proofs.GroupInputs.{finds-inputs}
+use Rattle.rvs_suite.proofs.OneTest.{one-point, file-there}
 use Rattle.rvs_suite.proofs.Sparing.{generate-spares}
 
 -- ---- the tests are deeds, and what they leave
@@ -116,18 +121,56 @@ whole isa l (c ∷ cs) text is = cc
 runs-label : (isa : Isa) (l : Label) (text : List ℕ) → isa.e ≡ false → IsValid isa l → text_of_label isa l ≡ Some text → TestRuns isa l text (claims_of isa l) (step_limit (cases_of isa l))
 runs-label isa l text base valid is = subst (λ (t : List ℕ). TestRuns isa l t (claims_of isa l) (step_limit (cases_of isa l))) (whole isa l (cases_of isa l) text is) (label_runs isa l base valid)
 
+reads-label : (isa : Isa) (l : Label) (text : List ℕ) → isa.e ≡ false → IsValid isa l → text_of_label isa l ≡ Some text → claims_read text ≡ Some (map (named_claim l) (claims_of isa l))
+reads-label isa l text base valid is = back_there isa l base valid text (claims_of isa l) (cases_of isa l) refl refl (sym (whole isa l (cases_of isa l) text is))
+
+reads-good : (inputs : Inputs) (l : Label) (text : List ℕ) → IsGood inputs → Contains inputs.groups l → IsTrue l.selected → text_of_label inputs.isa l ≡ Some text → claims_read text ≡ Some (map (named_claim l) (claims_of inputs.isa l))
+reads-good inputs l text good there selected is = reads-label inputs.isa l text good.base (All-contains (IsValidIfSelected inputs.isa) inputs.groups l good.valid there selected) is
+
 runs-good : (inputs : Inputs) (l : Label) (text : List ℕ) → IsGood inputs → Contains inputs.groups l → IsTrue l.selected → text_of_label inputs.isa l ≡ Some text → TestRuns inputs.isa l text (claims_of inputs.isa l) (step_limit (cases_of inputs.isa l))
 runs-good inputs l text good there selected is = runs-label inputs.isa l text good.base (All-contains (IsValidIfSelected inputs.isa) inputs.groups l good.valid there selected) is
+
+-- ---- one point
+abbrev files-one : List ℕ → Bool → List ℕ → Option (List ℕ) → Option Files → Option Files
+files-one work b name text files = if b then generating.with_text (path_of work name) text files else files
+
+one-test : {call : Call} (work : List ℕ) (isa : Isa) (l : Label) (p : Point) → isa.e ≡ false → IsValidIfSelected isa l → IsTrue l.selected → l.points ≡ p ∷ [] → IsSolvableAt isa l 0
+    → call.new.host.files ≡ generating.with_tests work isa (l ∷ []) call.old.host.files → generating.HasOneTest call work isa l
+one-test {call} work isa l p base valid selected one solvable files =
+    let found = one-point isa l p one solvable in
+    let chosen : l.selected ≡ true = selected in
+    let left : call.new.host.files ≡ written (path_of work l.name) found.text call.old.host.files =
+        files ∙ ap (λ (b : Bool). files-one work b l.name (text_of_label isa l) call.old.host.files) chosen
+        ∙ ap (λ (t : Option (List ℕ)). generating.with_text (path_of work l.name) t call.old.host.files) found.is in
+    record {
+      text = found.text;
+      there = λ files' told. file-there (path_of work l.name) found.text call.old.host.files files' (sym left ∙ told);
+      runs = subst (λ (cs : List Claim). TestRuns isa l found.text cs (step_limit (cases_of isa l))) found.claims (runs-label isa l found.text base (valid selected) found.is);
+    }
+
+one-left : {call : Call} (work : List ℕ) (found : Result Inputs Stop) (isa : Isa) (l : Label) (p : Point) → found ≡ Ok (record { isa = isa; groups = l ∷ [] }) → isa.e ≡ false → IsValidIfSelected isa l → IsTrue l.selected → l.points ≡ p ∷ [] → IsSolvableAt isa l 0
+    → HasLeft found (generating.HasGenerated call work) → generating.HasOneTest call work isa l
+one-left {call} work found isa l p given base valid selected one solvable left =
+    let both : Ok left.given ≡ Ok (record { isa = isa; groups = l ∷ [] }) = sym left.accepted ∙ given in
+    let same : left.given ≡ record { isa = isa; groups = l ∷ [] } = cc in
+    one-test work isa l p base valid selected one solvable (left.left.files ∙ ap (λ (i : Inputs). generating.with_tests work i.isa i.groups call.old.host.files) same)
 
 -- ---- the promise
 abbrev works : (files : Files) (isa : List ℕ) (names : List (List ℕ)) (work : List ℕ) → Works (Generate isa names work) files (inputs_in files isa names)
 works files isa names work = record { inputs = group_inputs isa names; deeds = generates work; plan = refl; finds = finds-inputs files isa names; does = deeds-generates work }
 
+answers-generate : {call : Call} (files : Files) (isa : List ℕ) (names : List (List ℕ)) (work : List ℕ) → RunsOn call files (Generate isa names work) → Answered call (inputs_in files isa names) (generating.HasGenerated call work)
+answers-generate {call} files isa names work r = answered (generating.HasGenerated call work) r (works files isa names work) (λ inputs is.
+    let all = is ∙ left-generates work inputs _ in
+    record { files = ap (λ (c : Contents). c.files) all; out = ap (λ (c : Contents). c.out) all })
+
 pub makes : {call : Call} (files : Files) (isa : List ℕ) (names : List (List ℕ)) (work : List ℕ) → RunsOn call files (Generate isa names work) → generating.Generates call files isa names work
 makes {call} files isa names work r = record {
-  answered = answered (generating.HasGenerated call work) r (works files isa names work) (λ inputs is.
-      let all = is ∙ left-generates work inputs _ in
-      record { files = ap (λ (c : Contents). c.files) all; out = ap (λ (c : Contents). c.out) all });
+  answered = answers-generate files isa names work r;
+  one = λ isa' l p given selected single solvable is.
+      let good = good-inputs files isa names (record { isa = isa'; groups = l ∷ [] }) given in
+      one-left work (inputs_in files isa names) isa' l p given good.base (All-head (IsValidIfSelected isa') l [] good.valid) selected single solvable ((answers-generate files isa names work r).done is);
+  read = λ inputs l text given there selected is. reads-good inputs l text (good-inputs files isa names inputs given) there selected is;
   accounted = λ inputs l k given there within. accounted inputs.isa l k within;
   others_kept = λ files' other. generate-spares r.ran files files' isa names work other r.told r.asks;
   runs = λ inputs l text given there selected is. runs-good inputs l text (good-inputs files isa names inputs given) there selected is;

@@ -35,3 +35,5 @@ mod Runnable
 mod RunSteps
 mod RunReads
 mod RunEnds
+mod OneTest
+mod Saying

@@ -167,7 +167,7 @@ judged-with bench test next files runs out end effects answer found later is lef
       is = record { words = refl; text = test-there bench test files; before = empty-there bench test files };
       later = later;
       goes = subst (λ (f : Option (List ℕ)). Goes (next (passes (verdict_by bench test (record { words = []; test = None; before = None; after = f; status = answer.status })))) later (Ends end)) left goes;
-      saw = subst (λ (f : Files). Saw later (contents_of f (runs ++ run ∷ []) (appended out put))) over seen.6;
+      saw = subst (λ (f : Files). Saw later (contents_of f (runs ++ run ∷ []) (appended out put))) over seen.1.1.1.1.1.1;
       same = ap (λ (es : List Effect). after es (contents_of files runs out)) effects-are ∙ ap (λ (f : Files). after later (contents_of f (runs ++ run ∷ []) (appended out put))) over;
     }
 
@@ -181,10 +181,17 @@ judged-one bench test next files runs out end effects goes saw =
     let ran = first_ran _ _ _ _ end empty.rest empty.goes in
     let back = first_read _ _ end ran.rest ran.goes in
     let line = first_did _ _ end back.rest back.goes in
+    let path = path_of bench.work test.name in
+    let device = device_path bench.work test.name in
+    let one = Did (Write path test.text) in
+    let two = Did (Write (reference_path bench.work test.name) (text_of_words (reference_words bench.isa test))) in
+    let three = Did (Write device []) in
+    let four = Device (task_of bench test).words path device ran.answer in
+    let five = Read device back.found in
     let are : effects ≡ effects_with bench test files ran.answer back.found line.rest =
-        text.is ∙ ap (λ (es : List Effect). _ ∷ es) (words.is ∙ ap (λ (es : List Effect). _ ∷ es) (empty.is ∙ ap (λ (es : List Effect). _ ∷ es) (ran.is ∙ ap (λ (es : List Effect). _ ∷ es) (back.is ∙ ap (λ (es : List Effect). _ ∷ es) line.is)))) in
+        text.is ∙ ap (λ (es : List Effect). one ∷ es) (words.is ∙ ap (λ (es : List Effect). two ∷ es) (empty.is ∙ ap (λ (es : List Effect). three ∷ es) (ran.is ∙ ap (λ (es : List Effect). four ∷ es) (back.is ∙ ap (λ (es : List Effect). five ∷ es) line.is)))) in
     let seen = subst (λ (es : List Effect). Saw es (contents_of files runs out)) are saw in
-    let left : back.found ≡ ran.answer.left = sym (seen.4 _ refl) ∙ left-there (device_path bench.work test.name) ran.answer.left (started bench test files) in
+    let left : back.found ≡ ran.answer.left = sym (seen.1.1.1.1.0 _ refl) ∙ left-there (device_path bench.work test.name) ran.answer.left (started bench test files) in
     judged-with bench test next files runs out end effects ran.answer back.found line.rest are left line.goes saw
 
 -- ---- all tests

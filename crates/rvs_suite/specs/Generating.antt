@@ -1,12 +1,14 @@
 -- What every call of `generate` promises.
-use Rattle.std.specs.Prelude.{◌≡◌, ◌≢◌, ◌<◌, ℕ, length, IsTrue, if◌then◌else◌, List, [], ◌∷◌, Contains, Option, Some, None, Ok}
+use Rattle.std.specs.Prelude.{◌≡◌, ◌≢◌, ◌<◌, ℕ, length, map, IsTrue, if◌then◌else◌, List, [], ◌∷◌, Contains, Option, Some, None, Ok}
 use Rattle.rvs_base.specs.Host.{Files, Tells, written}
 use Rattle.rvs_base.specs.Sink.{appended}
 use Rattle.rvs_plan.specs.declared.status.Status.TheVariants.{Done}
 use Rattle.rvs_insn.specs.Isa.{Isa}
-use Rattle.rvs_cgf.specs.Groups.{Label}
+use Rattle.rvs_cgf.specs.Groups.{Label, Point}
+use Rattle.rvs_solver.specs.Solving.{IsSolvableAt}
 use Rattle.rvs_test.specs.Made.{claims_of, unsolved_of, cases_of, text_of_label}
 use Rattle.rvs_test.specs.TestText.{step_limit}
+use Rattle.rvs_test.specs.Named.{claims_read, named_claim}
 use Rattle.rvs_test.specs.Claimed.{TestRuns, IsAccounted}
 use Rattle.rvs_suite.specs.Answered.{Answered}
 use Rattle.rvs_suite.specs.Call.{Call, Asks}
@@ -34,6 +36,12 @@ pub record HasGenerated (call : Call) (work : List ℕ) (inputs : Inputs) : Type
   pub files : call.new.host.files ≡ with_tests work inputs.isa inputs.groups call.old.host.files
   pub out : call.new.out.bytes ≡ appended call.old.out.bytes (listing inputs.isa inputs.groups)
 
+-- the file of a label's test is there, and its run executes one instruction at the symbol of its only case, which hits the label's only point
+pub record HasOneTest (call : Call) (work : List ℕ) (isa : Isa) (l : Label) : Type 0 where
+  pub text : List ℕ
+  pub there : (files' : Files) → call.new.host.files ≡ Some files' → files' (path_of work l.name) ≡ Some text
+  pub runs : TestRuns isa l text (record { case = 0; point = 0 } ∷ []) (step_limit (cases_of isa l))
+
 -- a call of `generate` on these of these files, for this folder
 pub record Generates (call : Call) (files : Files) (isa : List ℕ) (names : List (List ℕ)) (work : List ℕ) : Type 0 where
   -- it is done where the ISA file and the groups are accepted, and has written the tests and put their cases; it is refused, or the host fails, at the first file that isn't
@@ -41,9 +49,15 @@ pub record Generates (call : Call) (files : Files) (isa : List ℕ) (names : Lis
   -- One image stands to the text of each test; its run halts within the header's steps, hits each point that is claimed, and leaves the outcome of each case and no other words. The claims are those of all points that a choice hits.
   pub runs : (inputs : Inputs) (l : Label) (text : List ℕ) → inputs_in files isa names ≡ Ok inputs → Contains inputs.groups l → IsTrue l.selected
       → text_of_label inputs.isa l ≡ Some text → TestRuns inputs.isa l text (claims_of inputs.isa l) (step_limit (cases_of inputs.isa l))
+  -- these claims, by case, kind and key, are what is read back from the bytes of the text alone
+  pub read : (inputs : Inputs) (l : Label) (text : List ℕ) → inputs_in files isa names ≡ Ok inputs → Contains inputs.groups l → IsTrue l.selected
+      → text_of_label inputs.isa l ≡ Some text → claims_read text ≡ Some (map (named_claim l) (claims_of inputs.isa l))
   -- each point of a selected label is claimed, where a choice of the datasets hits it, or is listed as unsolved, where none does
   pub accounted : (inputs : Inputs) (l : Label) (k : ℕ) → inputs_in files isa names ≡ Ok inputs → Contains inputs.groups l → k < length l.points
       → IsAccounted inputs.isa l (claims_of inputs.isa l) (unsolved_of inputs.isa l) k
+  -- so a group file with one label and one point that a choice hits leaves a test that hits it
+  pub one : (isa' : Isa) (l : Label) (p : Point) → inputs_in files isa names ≡ Ok (record { isa = isa'; groups = l ∷ [] })
+      → IsTrue l.selected → l.points ≡ p ∷ [] → IsSolvableAt isa' l 0 → call.status ≡ Done → HasOneTest call work isa' l
   -- it changes no file but those of tests, however it ends
   pub others_kept : (files' : Files) (other : List ℕ) → ((name : List ℕ) → other ≢ path_of work name) → call.new.host.files ≡ Some files' → files' other ≡ files other
 

@@ -5,6 +5,7 @@ ghost use Rattle.rvs_cgf.specs.Valid.{IsValidIfSelected};
 ghost use Rattle.rvs_suite.specs.GenerateTexts as texts;
 ghost use Rattle.rvs_suite.specs.GenerateView.{totals_view};
 ghost use Rattle.rvs_suite.specs.GroupsView.{groups_view};
+ghost use Rattle.rvs_suite.specs.Generate.{IsSaid};
 ghost use Rattle.rvs_suite.specs.Tests.{IsRunnable, test_with, tests_of_label, tests_of};
 
 use crate::group_files::Inputs;
@@ -26,7 +27,14 @@ pub struct Test {
     pub steps: u64,
 }
 
-/// What is said of all labels, and their tests.
+/// What is said of labels, and their tests.
+#[derive(Drop)]
+struct Gathering {
+    said: Said,
+    tests: Items<Test>,
+}
+
+/// The listing of all labels, and their tests.
 #[derive(Drop)]
 pub struct Gathered {
     pub text: Text,
@@ -46,14 +54,39 @@ pub fn gather_tests(alloc: Global, inputs: &Inputs) -> Result<Gathered, NoMemory
         g.tests ≡ tests_of inputs.now.isa (groups_view inputs.now.groups)) }
     ensures runs { IfOk result (λ g. All (IsRunnable inputs.now.isa) g.tests) }
 {
+    let gathering = gather_labels(alloc, &inputs.isa, inputs.groups.as_slice())?;
+    let Gathering { said, tests } = gathering;
+    let text = with_total(alloc, said)?;
+    Ok(Gathered { text, tests })
+}
+
+/// The text that is said, with the last line.
+fn with_total(alloc: Global, said: Said) -> Result<Text, NoMemory>
+    ensures { IfOk result (λ text.
+        text ≡ said.text ++ texts.total_line (totals_view said.totals)) }
+{
+    let Said { mut text, totals } = said;
+    push_total(alloc, &mut text, &totals)?;
+    Ok(text)
+}
+
+fn gather_labels(
+    alloc: Global,
+    isa: &IsaSpec,
+    labels: &[Label],
+) -> Result<Gathering, NoMemory>
+    requires { All (λ l. IsValidIfSelected isa.now (label_view l)) labels.now }
+    ensures said { IfOk result (λ g.
+        IsSaid isa.now (groups_view labels.now) g.said.text (totals_view g.said.totals)) }
+    ensures tests { IfOk result (λ g. g.tests ≡ tests_of isa.now (groups_view labels.now)) }
+    ensures runs { IfOk result (λ g. All (IsRunnable isa.now) g.tests) }
+{
     let mut said = Said::nothing(alloc);
     let mut tests = Items::new(alloc);
-    for label in inputs.groups.as_slice() {
-        gather_label(alloc, &inputs.isa, label, &mut said, &mut tests)?;
+    for label in labels {
+        gather_label(alloc, isa, label, &mut said, &mut tests)?;
     }
-    let mut text = said.text;
-    push_total(alloc, &mut text, &said.totals)?;
-    Ok(Gathered { text, tests })
+    Ok(Gathering { said, tests })
 }
 
 /// Makes the test of a label, where a point of it is solved, and says what it is.

@@ -7,6 +7,8 @@ ghost use Rattle.rvs_plan.specs.Plan.{writes};
 ghost use Rattle.rvs_plan.specs.Meets.{MeetsWith, Meets};
 ghost use Rattle.rvs_asm.specs.Answer.{answer};
 ghost use Rattle.rvs_sig.specs.Words.{text_of_words};
+ghost use Rattle.rvs_device.specs.Judging.{Task};
+ghost use Rattle.rvs_device.specs.Plans.{stopped};
 ghost use Rattle.rvs_suite.specs.Generate.{path_of};
 ghost use Rattle.rvs_suite.specs.Tests.{IsRunnable, reference_words};
 ghost use Rattle.rvs_suite.specs.RunTests.{reference_path, device_path, judges_by, judges, passes, announces, judges_one};
@@ -142,19 +144,30 @@ fn judge_words<H: Host>(
 {
     let path = test_path(alloc, bench.work.as_str(), test.name.as_str())?;
     let signature = device_path(alloc, bench.work.as_str(), test.name.as_str())?;
-    let program = bench.program.as_str();
-    match judge(
+    let judged = judge(
         alloc,
         host,
         &bench.device,
-        program,
+        bench.program.as_str(),
         path.as_str(),
         signature.as_str(),
         words,
-    ) {
+    );
+    with_stop(path, signature, judged)
+}
+
+/// The verdict, or why the command stops.
+fn with_stop(
+    test: Text,
+    signature: Text,
+    judged: Result<TestVerdict, JudgeFault>,
+) -> Result<TestVerdict, Stop>
+    ensures { (t : Task) → t.test ≡ test → t.signature ≡ signature → result ≡ stopped t judged }
+{
+    match judged {
         Ok(verdict) => Ok(verdict),
         Err(JudgeFault::Write) => Err(Stop::CannotWrite(signature)),
-        Err(JudgeFault::Run) => Err(Stop::CannotRun(path)),
+        Err(JudgeFault::Run) => Err(Stop::CannotRun(test)),
         Err(JudgeFault::Read) => Err(Stop::CannotRead(signature)),
         Err(JudgeFault::NoMemory) => Err(Stop::NoMemory),
     }

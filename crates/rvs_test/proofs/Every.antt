@@ -51,7 +51,8 @@ pub size_words : (c : Solved) → case_size c % 4 ≡ 0
 size_words (One c) = one_words (row c.op).form c
 size_words (Many ps) = omega arith
 
-pub case_bytes : (isa : Isa) (k : ℕ) (c : Solved) → IsMade isa c → bytes_all (case_statements k c) ≡ case_size c
+pub case_bytes : (isa : Isa) (k : ℕ) (c : Solved) → IsMade isa c
+    → bytes_all (case_statements k c) ≡ case_size c
 case_bytes isa k (One c) is = one_bytes isa k c is
 case_bytes isa k (Many ps) is = cross_bytes k ps
 
@@ -64,19 +65,26 @@ pub own_below : (n k : ℕ) (c : Solved) (a : ℕ) → AllBelow n (k + 2) (own_m
 own_below n k (One c) a = one_below (row c.op).form n k c a
 own_below n k (Many ps) a = (omega arith, tt)
 
-pub own_found : (k : ℕ) (c : Solved) (a : ℕ) → find_name (own_marks k c a) (CaseName k) ≡ Some (record { at = text_base + (a + case_lead c); in_text = true })
+pub own_found : (k : ℕ) (c : Solved) (a : ℕ)
+    → find_name (own_marks k c a) (CaseName k)
+    ≡ Some (record { at = text_base + (a + case_lead c); in_text = true })
 own_found k (One c) a = one_found (row c.op).form k c a
-own_found k (Many ps) a = let h : (k == k) ≡ true = grind (arith, nat_tests) in ap (λ b. cond b (Some (record { at = text_base + (a + 64); in_text = true })) None) h
+own_found k (Many ps) a =
+    let h : (k == k) ≡ true = grind (arith, nat_tests) in
+    ap (λ b. cond b (Some (record { at = text_base + (a + 64); in_text = true })) None) h
 
-pub case_marks_is : (isa : Isa) (k : ℕ) (c : Solved) (a m : ℕ) → IsMade isa c → marks (case_statements k c) (text_at a m) ≡ own_marks k c a
+pub case_marks_is : (isa : Isa) (k : ℕ) (c : Solved) (a m : ℕ) → IsMade isa c
+    → marks (case_statements k c) (text_at a m) ≡ own_marks k c a
 case_marks_is isa k (One c) a m is = one_marks isa k c a m is
 case_marks_is isa k (Many ps) a m is = cross_marks k ps a m
 
-pub case_distinct : (n k : ℕ) (c : Solved) (t : Marks) (p : Place) → k < 2 ^ 32 → AllBelow n (k + 1) t → Distinct t (case_statements k c) p
+pub case_distinct : (n k : ℕ) (c : Solved) (t : Marks) (p : Place) → k < 2 ^ 32
+    → AllBelow n (k + 1) t → Distinct t (case_statements k c) p
 case_distinct n k (One c) t p small below = one_distinct n k c t p small below
 case_distinct n k (Many ps) t p small below = cross_distinct n k ps t p small below
 
-pub case_fine : (isa : Isa) (k : ℕ) (c : Solved) → k < 2 ^ 32 → IsMade isa c → AllFine isa (case_statements k c)
+pub case_fine : (isa : Isa) (k : ℕ) (c : Solved) → k < 2 ^ 32 → IsMade isa c
+    → AllFine isa (case_statements k c)
 case_fine isa k (One c) small is = one_fine isa k c small is
 case_fine isa k (Many ps) small is = cross_fine isa k ps small is.1 is.0
 
@@ -85,20 +93,27 @@ abbrev pub HasNames : Marks → ℕ → Solved → ℕ → Type 0
 HasNames t k (One c) a = HasNamesOne (row c.op).form t k c a
 HasNames t k (Many ps) a = Unit {0}
 
-pub has_names : (t rest : Marks) (k : ℕ) (c : Solved) (a : ℕ) → k < 2 ^ 32 → Keeps t (own_marks k c a ++ rest) k → HasNames t k c a
+pub has_names : (t rest : Marks) (k : ℕ) (c : Solved) (a : ℕ) → k < 2 ^ 32
+    → Keeps t (own_marks k c a ++ rest) k → HasNames t k c a
 has_names t rest k (One c) a small keeps = one_names (row c.op).form t rest k c a small keeps
 has_names t rest k (Many ps) a small keeps = tt
 
-pub case_linked : (isa : Isa) (t : Marks) (k : ℕ) (c : Solved) (a m : ℕ) → k < 2 ^ 32 → IsMade isa c → IsThere t (Slot k) → IsThere t Scratch → HasNames t k c a → AllLinked t (case_statements k c) (text_at a m)
-case_linked isa t k (One c) a m small is slot scratch names = one_linked isa t k c a m small is slot scratch names
-case_linked isa t k (Many ps) a m small is slot scratch names = cross_linked t k ps (text_at a m) slot
+pub case_linked : (isa : Isa) (t : Marks) (k : ℕ) (c : Solved) (a m : ℕ) → k < 2 ^ 32 → IsMade isa c
+    → IsThere t (Slot k) → IsThere t Scratch → HasNames t k c a
+    → AllLinked t (case_statements k c) (text_at a m)
+case_linked isa t k (One c) a m small is slot scratch names =
+    one_linked isa t k c a m small is slot scratch names
+case_linked isa t k (Many ps) a m small is slot scratch names =
+    cross_linked t k ps (text_at a m) slot
 
 abbrev pub TargetAt : (Name → ℕ) → ℕ → Solved → ℕ → Type 0
 TargetAt env k (One c) pc = TargetOne (row c.op).form env k c pc
 TargetAt env k (Many ps) pc = Unit {0}
 
-pub target_at : (env : Name → ℕ) (rest : Marks) (k : ℕ) (c : Solved) (a pc : ℕ) → k < 2 ^ 32 → pc ≡ text_base + a → NamesAt env (own_marks k c a ++ rest) k → TargetAt env k c pc
-target_at env rest k (One c) a pc small e names = one_target (row c.op).form env rest k c a pc small e names
+pub target_at : (env : Name → ℕ) (rest : Marks) (k : ℕ) (c : Solved) (a pc : ℕ) → k < 2 ^ 32
+    → pc ≡ text_base + a → NamesAt env (own_marks k c a ++ rest) k → TargetAt env k c pc
+target_at env rest k (One c) a pc small e names =
+    one_target (row c.op).form env rest k c a pc small e names
 target_at env rest k (Many ps) a pc small e names = tt
 
 -- ---- what a case does
@@ -111,10 +126,17 @@ abbrev pub case_of : Solved → ℕ → ℕ → Case
 case_of (One c) pc slot = one_of c pc slot
 case_of (Many ps) pc slot = many_of ps pc slot
 
-pub case_does : (setup : Setup) (ram0 : List ℕ) (env : Name → ℕ) (k : ℕ) (c : Solved) (pc slot : ℕ) → IsMade setup.isa c → IsPlaced setup ram0 pc slot → env (Slot k) ≡ data_base + slot → env Scratch ≡ data_base → TargetAt env k c pc → StandFrom setup pc (made_all env pc (case_statements k c)) → IsGood setup ram0 (case_of c pc slot)
-case_does setup ram0 env k (One c) pc slot is at sig scratch target there = one_does setup ram0 env k c pc slot is at sig scratch target there
-case_does setup ram0 env k (Many []) pc slot is at sig scratch target there = absurd (omega (arith, is.0.some))
-case_does setup ram0 env k (Many (i ∷ ps)) pc slot is at sig scratch target there = cross_does setup ram0 env k i ps pc slot is.0 at sig there
+pub case_does : (setup : Setup) (ram0 : List ℕ) (env : Name → ℕ) (k : ℕ) (c : Solved) (pc slot : ℕ)
+    → IsMade setup.isa c → IsPlaced setup ram0 pc slot → env (Slot k) ≡ data_base + slot
+    → env Scratch ≡ data_base → TargetAt env k c pc
+    → StandFrom setup pc (made_all env pc (case_statements k c))
+    → IsGood setup ram0 (case_of c pc slot)
+case_does setup ram0 env k (One c) pc slot is at sig scratch target there =
+    one_does setup ram0 env k c pc slot is at sig scratch target there
+case_does setup ram0 env k (Many []) pc slot is at sig scratch target there =
+    absurd (omega (arith, is.0.some))
+case_does setup ram0 env k (Many (i ∷ ps)) pc slot is at sig scratch target there =
+    cross_does setup ram0 env k i ps pc slot is.0 at sig there
 
 -- what is the same for all kinds
 pub record ChoiceIs (f : Format) (c : ChoiceValue) (pc slot : ℕ) : Type 0 where
@@ -123,19 +145,31 @@ pub record ChoiceIs (f : Format) (c : ChoiceValue) (pc slot : ℕ) : Type 0 wher
   pub size : (case_of_by f c pc slot).size ≡ size_by f c
   pub steps : (case_of_by f c pc slot).steps ≤ jump_steps f (unwrap_or c.imm (pos 0))
 
-jump_is : (z : ℤ) (c : ChoiceValue) (value : ℕ → Option ℕ) (t : Bool) (pc slot : ℕ) → IsNearby z → ((jump_case_of z c value t pc slot).start ≡ pc) × ((jump_case_of z c value t pc slot).slot ≡ slot) × ((jump_case_of z c value t pc slot).size ≡ sources c + frame_size z + 16) × ((jump_case_of z c value t pc slot).steps ≤ 32 + unsigned_abs z / 4)
+jump_is : (z : ℤ) (c : ChoiceValue) (value : ℕ → Option ℕ) (t : Bool) (pc slot : ℕ) → IsNearby z
+    → ((jump_case_of z c value t pc slot).start ≡ pc)
+    × ((jump_case_of z c value t pc slot).slot ≡ slot)
+    × ((jump_case_of z c value t pc slot).size ≡ sources c + frame_size z + 16)
+    × ((jump_case_of z c value t pc slot).steps ≤ 32 + unsigned_abs z / 4)
 jump_is (pos n) c value t pc slot near = (refl, refl, omega arith, omega (arith, near.some))
 jump_is (negsuc n) c value t pc slot near = (refl, refl, omega arith, omega (arith, near.some))
 
-is_by : (f : Format) (isa : Isa) (c : ChoiceValue) (pc slot : ℕ) → Accesses isa c f → ChoiceIs f c pc slot
-is_by Store isa c pc slot h = record { start = refl; slot_is = refl; size = refl; steps = omega arith }
-is_by JumpReg isa c pc slot h = record { start = refl; slot_is = refl; size = refl; steps = omega arith }
-is_by Branch isa c pc slot h = let x = jump_is (imm_of c) c (jump_value Branch) (jump_taken Branch c) pc slot h in record { start = x.0; slot_is = x.1; size = x.2; steps = x.3 }
-is_by Jump isa c pc slot h = let x = jump_is (imm_of c) c (jump_value Jump) (jump_taken Jump c) pc slot h in record { start = x.0; slot_is = x.1; size = x.2; steps = x.3 }
+is_by : (f : Format) (isa : Isa) (c : ChoiceValue) (pc slot : ℕ) → Accesses isa c f
+    → ChoiceIs f c pc slot
+is_by Store isa c pc slot h =
+    record { start = refl; slot_is = refl; size = refl; steps = omega arith }
+is_by JumpReg isa c pc slot h =
+    record { start = refl; slot_is = refl; size = refl; steps = omega arith }
+is_by Branch isa c pc slot h =
+    let x = jump_is (imm_of c) c (jump_value Branch) (jump_taken Branch c) pc slot h in
+    record { start = x.0; slot_is = x.1; size = x.2; steps = x.3 }
+is_by Jump isa c pc slot h =
+    let x = jump_is (imm_of c) c (jump_value Jump) (jump_taken Jump c) pc slot h in
+    record { start = x.0; slot_is = x.1; size = x.2; steps = x.3 }
 is_by R isa c pc slot h = record { start = refl; slot_is = refl; size = refl; steps = omega arith }
 is_by _ isa c pc slot h = record { start = refl; slot_is = refl; size = refl; steps = omega arith }
 
-choice_is : (isa : Isa) (c : ChoiceValue) (pc slot : ℕ) → IsMadeOne isa c → ChoiceIs (row c.op).form c pc slot
+choice_is : (isa : Isa) (c : ChoiceValue) (pc slot : ℕ) → IsMadeOne isa c
+    → ChoiceIs (row c.op).form c pc slot
 choice_is isa c pc slot is = is_by (row c.op).form isa c pc slot is.sound.memory
 
 -- what is the same for all cases
@@ -146,17 +180,23 @@ pub record CaseIs (c : Solved) (pc slot : ℕ) : Type 0 where
   pub steps : (case_of c pc slot).steps ≤ case_steps c
 
 pub case_is : (isa : Isa) (c : Solved) (pc slot : ℕ) → IsMade isa c → CaseIs c pc slot
-case_is isa (One c) pc slot is = let x = choice_is isa c pc slot is in record { start = x.start; slot_is = x.slot_is; size = x.size; steps = x.steps }
+case_is isa (One c) pc slot is =
+    let x = choice_is isa c pc slot is in
+    record { start = x.start; slot_is = x.slot_is; size = x.size; steps = x.steps }
 case_is isa (Many []) pc slot is = absurd (omega (arith, is.0.some))
-case_is isa (Many (i ∷ ps)) pc slot is = record { start = refl; slot_is = refl; size = omega arith; steps = omega arith }
+case_is isa (Many (i ∷ ps)) pc slot is =
+    record { start = refl; slot_is = refl; size = omega arith; steps = omega arith }
 
 -- ---- its entry and its window
 pub record EntryIs (c : Solved) (pc slot : ℕ) : Type 0 where
   pub place : (case_of c pc slot).entry.pc ≡ pc + case_lead c
-  pub window : insns_of ((case_of c pc slot).entry ∷ (case_of c pc slot).more) ≡ map (λ (i : Fields). Some i) (window_of c)
+  pub window : insns_of ((case_of c pc slot).entry ∷ (case_of c pc slot).more)
+      ≡ map (λ (i : Fields). Some i) (window_of c)
   pub known : IsKnown c (case_of c pc slot).entry
-  pub first : (case_of c pc slot).first ≡ (outcome_of c (case_of c pc slot).entry (case_of c pc slot).more).0
-  pub second : (case_of c pc slot).second ≡ (outcome_of c (case_of c pc slot).entry (case_of c pc slot).more).1
+  pub first : (case_of c pc slot).first
+      ≡ (outcome_of c (case_of c pc slot).entry (case_of c pc slot).more).0
+  pub second : (case_of c pc slot).second
+      ≡ (outcome_of c (case_of c pc slot).entry (case_of c pc slot).more).1
 
 pub case_entry : (isa : Isa) (c : Solved) (pc slot : ℕ) → IsMade isa c → EntryIs c pc slot
 case_entry isa (One c) pc slot is =
@@ -164,7 +204,9 @@ case_entry isa (One c) pc slot is =
     let e = (one_of c pc slot).entry in
     record {
       place = x.place;
-      window = ap (λ l. insns_of (e ∷ l)) x.more ∙ ap (λ w. w ∷ []) (ap insn_of_word x.word ∙ round_trip (fields_of c) is.sound.encodable);
+      window =
+          ap (λ l. insns_of (e ∷ l)) x.more
+          ∙ ap (λ w. w ∷ []) (ap insn_of_word x.word ∙ round_trip (fields_of c) is.sound.encodable);
       known = x.facts;
       first = x.first;
       second = x.second;
@@ -174,6 +216,9 @@ case_entry isa (Many (i ∷ ps)) pc slot is = record {
   place = refl;
   window = window_is isa (pc + 64) (i ∷ ps) start_word is.0.all;
   known = tt;
-  first = first_free isa (pc + 64) i ps start_word (start_word (first_rd (i ∷ ps))) 0 is.0.all.0 words_low;
-  second = last_free isa (pc + 64) i ps start_word (start_word (last_rd (i ∷ ps))) 0 is.0.all words_low;
+  first =
+      first_free isa (pc + 64) i ps start_word (start_word (first_rd (i ∷ ps))) 0 is.0.all.0
+      words_low;
+  second =
+      last_free isa (pc + 64) i ps start_word (start_word (last_rd (i ∷ ps))) 0 is.0.all words_low;
 }

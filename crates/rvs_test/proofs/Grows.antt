@@ -1,5 +1,5 @@
 -- A text that grows.
-use Rattle.std.proofs.Common.{◌≡◌, ℕ, ◌+◌, ◌<◌, ◌≤◌, ◌^◌, true, false, List, [], ◌∷◌, ◌++◌, length, map, take, get_or, zero, suc, refl, sym, ap, ◌∙◌, subst, arith, append_assoc, append-nil}
+use Rattle.std.proofs.Common.{◌≡◌, ℕ, ◌+◌, ◌<◌, false, List, [], ◌∷◌, ◌++◌, length, map, take, get_or, zero, suc, sym, ap, ◌∙◌, subst, arith, append_assoc, append-nil}
 use Rattle.std.specs.Prelude.{◌-◌, All, OnOk, Result, Ok, Err, Some, slice_get, unwrap_or}
 use Rattle.std.proofs.lemmas.Option.{slice_get_within, get_or_from_slice_get}
 use Rattle.rvs_insn.specs.Fields.{Fields}
@@ -16,7 +16,7 @@ use Rattle.rvs_solver.specs.declared.solved.Solved.TheVariants.{One, Many}
 use Rattle.rvs_solver.proofs.Search.{Each}
 use Rattle.rvs_solver.proofs.Operands.{all_from_each}
 use Rattle.rvs_test.specs.declared.statement.Statement.{Statement}
-use Rattle.rvs_test.specs.declared.statement.Statement.TheVariants.{Label, Plain, High, Low, To, Nops, Fixed}
+use Rattle.rvs_test.specs.declared.statement.Statement.TheVariants.{Label, Plain, To}
 use Rattle.rvs_test.specs.Statements.{printed, IsLinked, IsPrinted}
 use Rattle.rvs_test.specs.TestText.{Point as Named, claim_lines, front, header, step_limit, test_text, ended, text_of, case_statements, begin, clear, last_register, cases, halt, loop, code_part, fixed_data, slots, data_part, claim_line, line_of_claim, last_rd}
 use Rattle.rvs_test.specs.declared.statement.Name.TheVariants.{EndSignature}
@@ -32,11 +32,15 @@ use Rattle.rvs_test.proofs.Loops.{last_is, lines_more}
 pub starts : (old a : List ℕ) → a ≡ [] → old ≡ old ++ a
 starts old a h = sym (append-nil old) ∙ ap (λ x. old ++ x) (sym h)
 
-pub grows : (old before new a b more : List ℕ) → before ≡ old ++ a → new ≡ before ++ more → b ≡ a ++ more → new ≡ old ++ b
-grows old before new a b more h k e = k ∙ ap (λ x. x ++ more) h ∙ append_assoc old a more ∙ ap (λ x. old ++ x) (sym e)
+pub grows : (old before new a b more : List ℕ) → before ≡ old ++ a → new ≡ before ++ more
+    → b ≡ a ++ more → new ≡ old ++ b
+grows old before new a b more h k e =
+    k ∙ ap (λ x. x ++ more) h ∙ append_assoc old a more ∙ ap (λ x. old ++ x) (sym e)
 
-pub list_grows : (old before new a b more : List Statement) → before ≡ old ++ a → new ≡ before ++ more → b ≡ a ++ more → new ≡ old ++ b
-list_grows old before new a b more h k e = k ∙ ap (λ x. x ++ more) h ∙ append_assoc old a more ∙ ap (λ x. old ++ x) (sym e)
+pub list_grows : (old before new a b more : List Statement) → before ≡ old ++ a
+    → new ≡ before ++ more → b ≡ a ++ more → new ≡ old ++ b
+list_grows old before new a b more h k e =
+    k ∙ ap (λ x. x ++ more) h ∙ append_assoc old a more ∙ ap (λ x. old ++ x) (sym e)
 
 pub begins_text : (old : List ℕ) → old ≡ old ++ text_of []
 begins_text old = starts old (text_of []) text_none
@@ -61,10 +65,15 @@ pub made_of_ready : (isa : Isa) (s : Solved) → isa.e ≡ false → IsReady isa
 made_of_ready isa (One c) e h = record { sound = h.0; made = h.1; base = e }
 made_of_ready isa (Many is) e h = (h, e)
 
-pub case_printed : (isa : Isa) (k : ℕ) (s : Solved) → k < 2048 → isa.e ≡ false → IsReady isa s → All IsPrinted (case_statements k s)
-case_printed isa k s small e h = all_from_each IsPrinted (case_statements k s) (printed_each isa (case_statements k s) (case_fine isa k s (omega arith) (made_of_ready isa s e h)))
+pub case_printed : (isa : Isa) (k : ℕ) (s : Solved) → k < 2048 → isa.e ≡ false → IsReady isa s
+    → All IsPrinted (case_statements k s)
+case_printed isa k s small e h =
+    all_from_each IsPrinted (case_statements k s)
+    (printed_each isa (case_statements k s)
+    (case_fine isa k s (omega arith) (made_of_ready isa s e h)))
 
-pub ready_at : (isa : Isa) (cs : List Solved) (k : ℕ) (s : Solved) → AreReady isa cs → k < length cs → s ≡ get_or cs k s → IsReady isa s
+pub ready_at : (isa : Isa) (cs : List Solved) (k : ℕ) (s : Solved) → AreReady isa cs → k < length cs
+    → s ≡ get_or cs k s → IsReady isa s
 ready_at isa [] k s h l is = absurd (omega arith)
 ready_at isa (c ∷ cs) zero s h l is = subst (IsReady isa) (sym is) h.0
 ready_at isa (c ∷ cs) (suc k) s h l is = ready_at isa cs k s h.1 (omega arith) is
@@ -78,7 +87,9 @@ then_ok (Err e) P Q h p = tt
 append_two : (o t u : List ℕ) → (o ++ t) ++ u ≡ o ++ (t ++ u)
 append_two o t u = append_assoc o t u
 
-pub code_there : (isa : Isa) (cs : List Solved) (o a b c d : List ℕ) → a ≡ o ++ text_of begin → b ≡ a ++ text_of (clear 1 (last_register isa)) → c ≡ b ++ text_of (cases 0 cs) → d ≡ c ++ text_of (halt ++ loop) → d ≡ o ++ text_of (begin ++ code_part isa cs)
+pub code_there : (isa : Isa) (cs : List Solved) (o a b c d : List ℕ) → a ≡ o ++ text_of begin
+    → b ≡ a ++ text_of (clear 1 (last_register isa)) → c ≡ b ++ text_of (cases 0 cs)
+    → d ≡ c ++ text_of (halt ++ loop) → d ≡ o ++ text_of (begin ++ code_part isa cs)
 code_there isa cs o a b c d h1 h2 h3 h4 =
     let t1 = text_of begin in
     let t2 = text_of (clear 1 (last_register isa)) in
@@ -86,50 +97,84 @@ code_there isa cs o a b c d h1 h2 h3 h4 =
     let t4 = text_of (halt ++ loop) in
     let whole : text_of (begin ++ code_part isa cs) ≡ t1 ++ (t2 ++ (t3 ++ t4)) =
     text_join begin (code_part isa cs)
-    ∙ ap (λ x. t1 ++ x) (text_join (clear 1 (last_register isa)) (cases 0 cs ++ (halt ++ loop)) ∙ ap (λ x. t2 ++ x) (text_join (cases 0 cs) (halt ++ loop))) in
+    ∙ ap (λ x. t1 ++ x)
+    (text_join (clear 1 (last_register isa)) (cases 0 cs ++ (halt ++ loop))
+    ∙ ap (λ x. t2 ++ x) (text_join (cases 0 cs) (halt ++ loop))) in
     h4 ∙ ap (λ x. x ++ t4) (h3 ∙ ap (λ x. x ++ t3) (h2 ∙ ap (λ x. x ++ t2) h1))
-    ∙ append_assoc ((o ++ t1) ++ t2) t3 t4 ∙ append_assoc (o ++ t1) t2 (t3 ++ t4) ∙ append_assoc o t1 (t2 ++ (t3 ++ t4))
+    ∙ append_assoc ((o ++ t1) ++ t2) t3 t4 ∙ append_assoc (o ++ t1) t2 (t3 ++ t4)
+    ∙ append_assoc o t1 (t2 ++ (t3 ++ t4))
     ∙ ap (λ x. o ++ x) (sym whole)
 
-pub data_there : (n : ℕ) (o a b c : List ℕ) → a ≡ o ++ text_of fixed_data → b ≡ a ++ text_of (slots 0 n) → c ≡ b ++ text_of (Label EndSignature ∷ []) → c ≡ o ++ text_of (data_part n)
+pub data_there : (n : ℕ) (o a b c : List ℕ) → a ≡ o ++ text_of fixed_data
+    → b ≡ a ++ text_of (slots 0 n) → c ≡ b ++ text_of (Label EndSignature ∷ [])
+    → c ≡ o ++ text_of (data_part n)
 data_there n o a b c h1 h2 h3 =
     let t1 = text_of fixed_data in
     let t2 = text_of (slots 0 n) in
     let t3 = text_of (Label EndSignature ∷ []) in
-    let whole : text_of (data_part n) ≡ t1 ++ (t2 ++ t3) = text_join fixed_data (slots 0 n ++ Label EndSignature ∷ []) ∙ ap (λ x. t1 ++ x) (text_join (slots 0 n) (Label EndSignature ∷ [])) in
-    h3 ∙ ap (λ x. x ++ t3) (h2 ∙ ap (λ x. x ++ t2) h1) ∙ append_assoc (o ++ t1) t2 t3 ∙ append_assoc o t1 (t2 ++ t3) ∙ ap (λ x. o ++ x) (sym whole)
+    let whole : text_of (data_part n) ≡ t1 ++ (t2 ++ t3) =
+    text_join fixed_data (slots 0 n ++ Label EndSignature ∷ [])
+    ∙ ap (λ x. t1 ++ x) (text_join (slots 0 n) (Label EndSignature ∷ [])) in
+    h3 ∙ ap (λ x. x ++ t3) (h2 ∙ ap (λ x. x ++ t2) h1) ∙ append_assoc (o ++ t1) t2 t3
+    ∙ append_assoc o t1 (t2 ++ t3) ∙ ap (λ x. o ++ x) (sym whole)
 
 -- ---- the line of a claim
 
-pub line_there : (l : Label') (c : Claim) (p : Point') → c.point < length l.points → p ≡ get_or l.points c.point p → claim_line c.case (named (point_view p)) ≡ line_of_claim (named_at (label_view l)) c
-line_there l c p h is = sym (ap (λ o. claim_line c.case (named_or_none o)) (point_there l c.point p h is))
+pub line_there : (l : Label') (c : Claim) (p : Point') → c.point < length l.points
+    → p ≡ get_or l.points c.point p
+    → claim_line c.case (named (point_view p)) ≡ line_of_claim (named_at (label_view l)) c
+line_there l c p h is =
+    sym (ap (λ o. claim_line c.case (named_or_none o)) (point_there l c.point p h is))
 
-pub claim_more : (l : Label') (cs : List Claim) (i : ℕ) (d : Claim) (line : List ℕ) (p : Point') → i < length cs → line ≡ claim_line (get_or cs i d).case (named (point_view p)) → (get_or cs i d).point < length l.points → p ≡ get_or l.points (get_or cs i d).point p → (let f = line_of_claim (named_at (label_view l)) in ended (map f (take (i + 1) cs)) ≡ ended (map f (take i cs)) ++ (line ++ 10 ∷ []))
+pub claim_more : (l : Label') (cs : List Claim) (i : ℕ) (d : Claim) (line : List ℕ) (p : Point')
+    → i < length cs → line ≡ claim_line (get_or cs i d).case (named (point_view p))
+    → (get_or cs i d).point < length l.points → p ≡ get_or l.points (get_or cs i d).point p
+    → (let f = line_of_claim (named_at (label_view l)) in
+    ended (map f (take (i + 1) cs)) ≡ ended (map f (take i cs)) ++ (line ++ 10 ∷ []))
 claim_more l cs i d line p h is low at =
     let f = line_of_claim (named_at (label_view l)) in
-    lines_more f cs i d h ∙ ap (λ x. ended (map f (take i cs)) ++ (x ++ 10 ∷ [])) (sym (is ∙ line_there l (get_or cs i d) p low at))
+    lines_more f cs i d h
+    ∙ ap (λ x. ended (map f (take i cs)) ++ (x ++ 10 ∷ []))
+    (sym (is ∙ line_there l (get_or cs i d) p low at))
 
 -- ---- the last place
 
-pub last_there : (is : List Fields) (i : Fields) → slice_get is (length is - 1) ≡ Some i → unwrap_or i.rd 0 ≡ last_rd is
+pub last_there : (is : List Fields) (i : Fields) → slice_get is (length is - 1) ≡ Some i
+    → unwrap_or i.rd 0 ≡ last_rd is
 last_there is i h =
     let some : 0 < length is = omega (arith, slice_get_within is (length is - 1) i h) in
-    sym (last_is is i some ∙ ap (λ (x : Fields). unwrap_or x.rd 0) (get_or_from_slice_get is (length is - 1) i i h))
+    sym
+    (last_is is i some
+    ∙ ap (λ (x : Fields). unwrap_or x.rd 0) (get_or_from_slice_get is (length is - 1) i i h))
 
-pub same_at : (ps qs : List Point') (k : ℕ) (p : Point') → ps ≡ qs → p ≡ get_or ps k p → p ≡ get_or qs k p
+pub same_at : (ps qs : List Point') (k : ℕ) (p : Point') → ps ≡ qs → p ≡ get_or ps k p
+    → p ≡ get_or qs k p
 same_at ps qs k p h is = is ∙ ap (λ l. get_or l k p) h
 
 -- ---- the whole text
 
-pub text_there : (isa : Isa) (name : List ℕ) (ps : List Named) (cs : List Solved) (ls : List (List ℕ)) (a b c d : List ℕ) → claim_lines 0 ps ≡ ls → a ≡ [] ++ ended (front name isa (step_limit cs)) → b ≡ a ++ ended ls → c ≡ b ++ text_of (begin ++ code_part isa cs) → d ≡ c ++ text_of (data_part (length cs)) → d ≡ test_text name isa ps cs
+pub text_there : (isa : Isa) (name : List ℕ) (ps : List Named) (cs : List Solved)
+    (ls : List (List ℕ)) (a b c d : List ℕ) → claim_lines 0 ps ≡ ls
+    → a ≡ [] ++ ended (front name isa (step_limit cs)) → b ≡ a ++ ended ls
+    → c ≡ b ++ text_of (begin ++ code_part isa cs) → d ≡ c ++ text_of (data_part (length cs))
+    → d ≡ test_text name isa ps cs
 unfolding test_text text_of
 text_there isa name ps cs ls a b c d lines h1 h2 h3 h4 =
     let f = ended (front name isa (step_limit cs)) in
     let t3 = ended (map printed (begin ++ code_part isa cs)) in
     let t4 = ended (map printed (data_part (length cs))) in
-    let all : ended (map printed (begin ++ (code_part isa cs ++ data_part (length cs)))) ≡ t3 ++ t4 =
-    ap (λ x. ended (map printed x)) (sym (append_assoc begin (code_part isa cs) (data_part (length cs)))) ∙ text_join (begin ++ code_part isa cs) (data_part (length cs)) in
-    let head : ended (header name isa (step_limit cs) ps) ≡ f ++ ended ls = ended_join (front name isa (step_limit cs)) (claim_lines 0 ps) ∙ ap (λ x. f ++ ended x) lines in
+    let all : ended (map printed (begin ++ (code_part isa cs ++ data_part (length cs)))) ≡ t3
+    ++ t4 =
+    ap (λ x. ended (map printed x))
+    (sym (append_assoc begin (code_part isa cs) (data_part (length cs))))
+    ∙ text_join (begin ++ code_part isa cs) (data_part (length cs)) in
+    let head : ended (header name isa (step_limit cs) ps) ≡ f ++ ended ls =
+    ended_join (front name isa (step_limit cs)) (claim_lines 0 ps)
+    ∙ ap (λ x. f ++ ended x) lines in
     h4 ∙ ap (λ x. x ++ t4) (h3 ∙ ap (λ x. x ++ t3) (h2 ∙ ap (λ x. x ++ ended ls) h1))
     ∙ append_assoc (f ++ ended ls) t3 t4
-    ∙ sym (ended_join (header name isa (step_limit cs) ps) (map printed (begin ++ (code_part isa cs ++ data_part (length cs)))) ∙ ap (λ x. x ++ ended (map printed (begin ++ (code_part isa cs ++ data_part (length cs))))) head ∙ ap (λ x. (f ++ ended ls) ++ x) all)
+    ∙ sym
+    (ended_join (header name isa (step_limit cs) ps)
+    (map printed (begin ++ (code_part isa cs ++ data_part (length cs))))
+    ∙ ap (λ x. x ++ ended (map printed (begin ++ (code_part isa cs ++ data_part (length cs)))))
+    head ∙ ap (λ x. (f ++ ended ls) ++ x) all)

@@ -22,7 +22,14 @@ abbrev Taken : ℕ → ℕ → ℕ → ℕ → Type 0
 Taken d a b r = is_free d a b r ≡ false
 
 free_one : (d a b r : ℕ) → 0 < r → r < 16 → is_free d a b r ≡ true → IsFree d a b r
-free_one d a b r p q h = record { some = p; low = q; rd = λ e. differ d h e; rs1 = λ e. differ1 a h e; rs2 = λ e. differ2 b h e }
+free_one d a b r p q h =
+    record {
+      some = p;
+      low = q;
+      rd = λ e. differ d h e;
+      rs1 = λ e. differ1 a h e;
+      rs2 = λ e. differ2 b h e;
+    }
   where
     differ : (x : ℕ) → not (x == r || a == r || b == r) ≡ true → x ≡ r → ⊥
     differ x h e = grind (arith, nat_tests)
@@ -36,21 +43,29 @@ free_one d a b r p q h = record { some = p; low = q; rd = λ e. differ d h e; rs
 four : (d a b : ℕ) → Taken d a b 15 → Taken d a b 14 → Taken d a b 13 → Taken d a b 12 → ⊥
 four d a b h15 h14 h13 h12 = grind (arith, nat_tests)
 
-last : (d a b : ℕ) (t : Bool) → is_free d a b 12 ≡ t → Taken d a b 15 → Taken d a b 14 → Taken d a b 13 → IsFree d a b (unwrap_or (cond t (Some 12) (find (is_free d a b) (11 ∷ []))) 0)
+last : (d a b : ℕ) (t : Bool) → is_free d a b 12 ≡ t → Taken d a b 15 → Taken d a b 14
+    → Taken d a b 13
+    → IsFree d a b (unwrap_or (cond t (Some 12) (find (is_free d a b) (11 ∷ []))) 0)
 last d a b true e h15 h14 h13 = free_one d a b 12 (omega arith) (omega arith) e
 last d a b false e h15 h14 h13 = absurd (four d a b h15 h14 h13 e)
 
-third : (d a b : ℕ) (t : Bool) → is_free d a b 13 ≡ t → Taken d a b 15 → Taken d a b 14 → IsFree d a b (unwrap_or (cond t (Some 13) (find (is_free d a b) (12 ∷ 11 ∷ []))) 0)
+third : (d a b : ℕ) (t : Bool) → is_free d a b 13 ≡ t → Taken d a b 15 → Taken d a b 14
+    → IsFree d a b (unwrap_or (cond t (Some 13) (find (is_free d a b) (12 ∷ 11 ∷ []))) 0)
 third d a b true e h15 h14 = free_one d a b 13 (omega arith) (omega arith) e
 third d a b false e h15 h14 = last d a b (is_free d a b 12) refl h15 h14 e
 
-second : (d a b : ℕ) (t : Bool) → is_free d a b 14 ≡ t → Taken d a b 15 → IsFree d a b (unwrap_or (cond t (Some 14) (find (is_free d a b) (13 ∷ 12 ∷ 11 ∷ []))) 0)
+second : (d a b : ℕ) (t : Bool) → is_free d a b 14 ≡ t → Taken d a b 15
+    → IsFree d a b (unwrap_or (cond t (Some 14) (find (is_free d a b) (13 ∷ 12 ∷ 11 ∷ []))) 0)
 second d a b true e h15 = free_one d a b 14 (omega arith) (omega arith) e
 second d a b false e h15 = third d a b (is_free d a b 13) refl h15 e
 
-first : (d a b : ℕ) (t : Bool) → is_free d a b 15 ≡ t → IsFree d a b (unwrap_or (cond t (Some 15) (find (is_free d a b) (14 ∷ 13 ∷ 12 ∷ 11 ∷ []))) 0)
+first : (d a b : ℕ) (t : Bool) → is_free d a b 15 ≡ t
+    → IsFree d a b (unwrap_or (cond t (Some 15) (find (is_free d a b) (14 ∷ 13 ∷ 12 ∷ 11 ∷ []))) 0)
 first d a b true e = free_one d a b 15 (omega arith) (omega arith) e
 first d a b false e = second d a b (is_free d a b 14) refl e
 
-pub pointer_free : (c : ChoiceValue) → IsFree (unwrap_or c.rd 0) (unwrap_or c.rs1 0) (unwrap_or c.rs2 0) (pointer c)
-pointer_free c = first (unwrap_or c.rd 0) (unwrap_or c.rs1 0) (unwrap_or c.rs2 0) (is_free (unwrap_or c.rd 0) (unwrap_or c.rs1 0) (unwrap_or c.rs2 0) 15) refl
+pub pointer_free : (c : ChoiceValue)
+    → IsFree (unwrap_or c.rd 0) (unwrap_or c.rs1 0) (unwrap_or c.rs2 0) (pointer c)
+pointer_free c =
+    first (unwrap_or c.rd 0) (unwrap_or c.rs1 0) (unwrap_or c.rs2 0)
+    (is_free (unwrap_or c.rd 0) (unwrap_or c.rs1 0) (unwrap_or c.rs2 0) 15) refl

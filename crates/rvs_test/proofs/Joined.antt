@@ -1,24 +1,22 @@
 -- The cases of a label's test hit the points that it claims.
-use Rattle.std.proofs.Common.{◌≡◌, ℕ, zero, suc, ◌+◌, ◌*◌, ◌<◌, ◌≤◌, Bool, true, false, cond, not, ◌&&◌, ◌||◌, List, [], ◌∷◌, ◌++◌, length, map, get_or, Option, Some, None, refl, sym, ap, ◌∙◌, subst, arith}
-use Rattle.std.specs.Prelude.{◌==◌, ℤ, filter, find, flat_map, is_some, option_map, option_and_then, option_to_list, slice_get, slice_index, All, Contains, ◌⊎◌}
+use Rattle.std.proofs.Common.{◌≡◌, ℕ, zero, suc, ◌+◌, ◌*◌, ◌<◌, Bool, true, false, cond, not, ◌&&◌, ◌||◌, List, [], ◌∷◌, ◌++◌, length, map, Option, Some, None, refl, sym, ap, ◌∙◌, subst, arith}
+use Rattle.std.specs.Prelude.{ℤ, filter, find, flat_map, is_some, option_map, option_and_then, option_to_list, slice_get, All, Contains}
 use Rattle.std.proofs.Common.{inl, inr}
-use Rattle.std.specs.List.{list_any, list_all, range_with_len}
+use Rattle.std.specs.List.{range_with_len}
 use Rattle.std.proofs.lemmas.Bool.{eq-eqb}
-use Rattle.std.proofs.lemmas.List.FromFn.{length-range_with_len}
 use Rattle.rvs_insn.specs.declared.op.Op.{Op}
 use Rattle.rvs_insn.specs.Isa.{Isa}
 use Rattle.rvs_insn.specs.Table.{row}
 use Rattle.rvs_insn.specs.Fields.{Fields, insn_of_word}
 use Rattle.rvs_machine.specs.declared.event.Executed.{Executed}
 use Rattle.rvs_machine.specs.Image.{ImageValue}
-use Rattle.rvs_machine.specs.Machine.{started}
-use Rattle.rvs_machine.specs.Run.{Outcome, run_of}
+use Rattle.rvs_machine.specs.Run.{Outcome}
 use Rattle.rvs_expr.specs.Typed.{Formula}
 use Rattle.rvs_expr.specs.Meaning as expr
 use Rattle.rvs_expr.specs.Meaning.{Table, truth, is_true}
 use Rattle.rvs_expr.specs.Facts.{Extends}
 use Rattle.rvs_expr.proofs.Meanings.{truth-more}
-use Rattle.rvs_facts.specs.Facts.{facts_of, register_of}
+use Rattle.rvs_facts.specs.Facts.{facts_of}
 use Rattle.rvs_facts.specs.Mnemonics.{number, is_same}
 use Rattle.rvs_cgf.specs.declared.group.Kind.{Kind}
 use Rattle.rvs_cgf.specs.declared.group.Kind.TheVariants.{Rd}
@@ -29,20 +27,20 @@ use Rattle.rvs_cgf.specs.Hits as points
 use Rattle.rvs_cgf.specs.Valid.{IsValid}
 use Rattle.rvs_solver.specs.Choices.{ChoiceValue, choice_of, fields_of, table_of, is_kept, is_same as is_same_register, numbers, registers, with_registers, choices}
 use Rattle.rvs_solver.specs.Point.{hits, constants_of}
-use Rattle.rvs_solver.specs.First.{all_choices, first_choice, Solvable}
+use Rattle.rvs_solver.specs.First.{all_choices, first_choice}
 use Rattle.rvs_solver.specs.Solving.{first_of_point, first_at, IsSolvableAt}
 use Rattle.rvs_solver.specs.declared.solved.Solved.{Solved}
-use Rattle.rvs_solver.specs.declared.solved.Solved.TheVariants.{One, Many}
+use Rattle.rvs_solver.specs.declared.solved.Solved.TheVariants.{One}
 use Rattle.rvs_solver.proofs.Search.{Each}
 use Rattle.rvs_solver.proofs.Product.{each_append, each_flat, each_map, each_any}
 use Rattle.rvs_solver.proofs.Operands.{all_from_each}
 use Rattle.rvs_solver.proofs.OneWord.{found_hits, found_each}
 use Rattle.rvs_solver.proofs.Answer.{nothing_hits}
 use Rattle.rvs_test.specs.declared.made.Claim.{Claim}
-use Rattle.rvs_test.specs.TestText.{step_limit, test_text, all_steps}
-use Rattle.rvs_test.specs.Claim.{IsOnly, insns_of, window_of, IsKnown, IsHit, AreHit, RunsWell, IsTest, Runs}
-use Rattle.rvs_test.specs.Made.{places, is_solved, solved_among, unsolved_among, cases_among, numbered, claims_of, unsolved_of, cases_of, named_at}
-use Rattle.rvs_test.specs.Claimed.{IsClaimed, IsRun, TestRuns, IsAccounted}
+use Rattle.rvs_test.specs.TestText.{step_limit, test_text}
+use Rattle.rvs_test.specs.Claim.{IsOnly, insns_of, IsHit, AreHit, IsTest}
+use Rattle.rvs_test.specs.Made.{places, is_solved, solved_among, cases_among, numbered, claims_of, unsolved_of, cases_of, named_at}
+use Rattle.rvs_test.specs.Claimed.{IsClaimed, TestRuns, IsAccounted}
 use Rattle.rvs_test.proofs.Solvings.{IsFirst, first_is, cases_ready, cases_few, claims_same, name_text, points_text}
 use Rattle.rvs_test.proofs.Main.{tests_run, steps_high}
 
@@ -58,47 +56,66 @@ or_right : (s t : Bool) → t ≡ true → (s || t) ≡ true
 or_right true t h = refl
 or_right false t h = h
 
-kept_too : {X : Type 0} (P : X → Type 0) (t : Bool) (x : X) (rest : List X) → P x → Each P rest → Each P (cond t (x ∷ rest) rest)
+kept_too : {X : Type 0} (P : X → Type 0) (t : Bool) (x : X) (rest : List X) → P x → Each P rest
+    → Each P (cond t (x ∷ rest) rest)
 kept_too P true x rest h r = (h, r)
 kept_too P false x rest h r = r
 
-filtered : {X : Type 0} (P : X → Type 0) (q : X → Bool) (xs : List X) → Each P xs → Each P (filter q xs)
+filtered : {X : Type 0} (P : X → Type 0) (q : X → Bool) (xs : List X) → Each P xs
+    → Each P (filter q xs)
 filtered P q [] a = tt
 filtered P q (x ∷ xs) a = kept_too P (q x) x (filter q xs) a.0 (filtered P q xs a.1)
 
-own_op : (isa : Isa) (op : Op) (constants : List ℤ) → Each (λ (c : ChoiceValue). c.op ≡ op) (choices isa op constants)
+own_op : (isa : Isa) (op : Op) (constants : List ℤ)
+    → Each (λ (c : ChoiceValue). c.op ≡ op) (choices isa op constants)
 unfolding choices
 own_op isa op constants =
-    filtered (λ (c : ChoiceValue). c.op ≡ op) is_kept (flat_map (with_registers isa op constants) (registers isa.e (row op).form))
+    filtered (λ (c : ChoiceValue). c.op ≡ op) is_kept
+    (flat_map (with_registers isa op constants) (registers isa.e (row op).form))
     (each_flat (with_registers isa op constants) (λ r. Unit {0}) (λ (c : ChoiceValue). c.op ≡ op)
-    (λ r u. each_map (choice_of op r) (λ n. Unit {0}) (λ (c : ChoiceValue). c.op ≡ op) (λ n v. refl) (numbers isa op (row op).form constants (is_same_register r.rs1 r.rs2)) (each_any _))
+    (λ r u. each_map (choice_of op r) (λ n. Unit {0}) (λ (c : ChoiceValue). c.op ≡ op) (λ n v. refl)
+    (numbers isa op (row op).form constants (is_same_register r.rs1 r.rs2)) (each_any _))
     (registers isa.e (row op).form) (each_any (registers isa.e (row op).form)))
 
-weaker_each : {X : Type 0} (P Q : X → Type 0) → ((x : X) → P x → Q x) → (xs : List X) → Each P xs → Each Q xs
+weaker_each : {X : Type 0} (P Q : X → Type 0) → ((x : X) → P x → Q x) → (xs : List X) → Each P xs
+    → Each Q xs
 weaker_each P Q h [] a = tt
 weaker_each P Q h (x ∷ xs) a = (h x a.0, weaker_each P Q h xs a.1)
 
-listed : (isa : Isa) (ops : List Op) (constants : List ℤ) → Each (λ (c : ChoiceValue). has_op ops c.op ≡ true) (all_choices isa ops constants)
+listed : (isa : Isa) (ops : List Op) (constants : List ℤ)
+    → Each (λ (c : ChoiceValue). has_op ops c.op ≡ true) (all_choices isa ops constants)
 listed isa [] constants = tt
 listed isa (op ∷ ops) constants =
-    each_append (λ (c : ChoiceValue). has_op (op ∷ ops) c.op ≡ true) (choices isa op constants) (all_choices isa ops constants)
-    (weaker_each (λ (c : ChoiceValue). c.op ≡ op) (λ (c : ChoiceValue). has_op (op ∷ ops) c.op ≡ true) (λ c e. or_left (is_same c.op op) (has_op ops c.op) (ap (λ x. is_same x op) e ∙ same_self op)) (choices isa op constants) (own_op isa op constants))
-    (weaker_each (λ (c : ChoiceValue). has_op ops c.op ≡ true) (λ (c : ChoiceValue). has_op (op ∷ ops) c.op ≡ true) (λ c h. or_right (is_same c.op op) (has_op ops c.op) h) (all_choices isa ops constants) (listed isa ops constants))
+    each_append (λ (c : ChoiceValue). has_op (op ∷ ops) c.op ≡ true) (choices isa op constants)
+    (all_choices isa ops constants)
+    (weaker_each (λ (c : ChoiceValue). c.op ≡ op)
+    (λ (c : ChoiceValue). has_op (op ∷ ops) c.op ≡ true)
+    (λ c e. or_left (is_same c.op op) (has_op ops c.op)
+    (ap (λ x. is_same x op) e ∙ same_self op)) (choices isa op constants)
+    (own_op isa op constants))
+    (weaker_each (λ (c : ChoiceValue). has_op ops c.op ≡ true)
+    (λ (c : ChoiceValue). has_op (op ∷ ops) c.op ≡ true)
+    (λ c h. or_right (is_same c.op op) (has_op ops c.op) h) (all_choices isa ops constants)
+    (listed isa ops constants))
 
 -- ---- what a choice hits, an instruction with more facts hits
 
-more_true : (t u : Table) (f : Formula) → Extends t u → expr.holds t f ≡ true → expr.holds u f ≡ true
+more_true : (t u : Table) (f : Formula) → Extends t u → expr.holds t f ≡ true
+    → expr.holds u f ≡ true
 more_true t u f e h = ap is_true ((truth-more t u e f).same true (defined (truth t f) h)) where
   defined : (o : Option Bool) → is_true o ≡ true → o ≡ Some true
   defined None h = cc
   defined (Some true) h = refl
   defined (Some false) h = cc
 
-same_field : (k : Kind) (c : ChoiceValue) (v1 v2 : ℕ) → field_of k (table_of c) ≡ field_of k (facts_of (fields_of c) v1 v2)
+same_field : (k : Kind) (c : ChoiceValue) (v1 v2 : ℕ)
+    → field_of k (table_of c) ≡ field_of k (facts_of (fields_of c) v1 v2)
 same_field Rd c v1 v2 = refl
 same_field _ c v1 v2 = refl
 
-meant_more : (k : Kind) (m : Meaning) (c : ChoiceValue) (v1 v2 : ℕ) → Extends (table_of c) (facts_of (fields_of c) v1 v2) → is_meant k m c.op (table_of c) ≡ true → is_meant k m c.op (facts_of (fields_of c) v1 v2) ≡ true
+meant_more : (k : Kind) (m : Meaning) (c : ChoiceValue) (v1 v2 : ℕ)
+    → Extends (table_of c) (facts_of (fields_of c) v1 v2) → is_meant k m c.op (table_of c) ≡ true
+    → is_meant k m c.op (facts_of (fields_of c) v1 v2) ≡ true
 meant_more k (op_is op) c v1 v2 e h = h
 meant_more k (reg_is n) c v1 v2 e h = ap (is_register n) (sym (same_field k c v1 v2)) ∙ h
 meant_more k (regs f) c v1 v2 e h = more_true (table_of c) (facts_of (fields_of c) v1 v2) f e h
@@ -119,14 +136,20 @@ none_more : (es : List Executed) → insns_of es ≡ [] → es ≡ []
 none_more [] h = refl
 none_more (e ∷ es) h = cc
 
-claimed_one : (isa : Isa) (l : Label) (image : ImageValue) (o : Outcome) (j k : ℕ) (s : Solved) → first_at isa l k ≡ Some s → IsHit image isa o j s → IsClaimed isa l image o (record { case = j; point = k })
+claimed_one : (isa : Isa) (l : Label) (image : ImageValue) (o : Outcome) (j k : ℕ) (s : Solved)
+    → first_at isa l k ≡ Some s → IsHit image isa o j s
+    → IsClaimed isa l image o (record { case = j; point = k })
 claimed_one isa l image o j k s h hit = by (first_is isa l k s h) where
   by : IsFirst isa l k s → IsClaimed isa l image o (record { case = j; point = k })
   by f = of f.choice f.point f.at f.found (subst (IsHit image isa o j) (sym f.is) hit) where
-    of : (c : ChoiceValue) (p : groups.Point) → slice_get l.points k ≡ Some p → first_choice isa l.ops p.kind p.meaning ≡ Some c → IsHit image isa o j (One c) → IsClaimed isa l image o (record { case = j; point = k })
+    of : (c : ChoiceValue) (p : groups.Point) → slice_get l.points k ≡ Some p
+        → first_choice isa l.ops p.kind p.meaning ≡ Some c → IsHit image isa o j (One c)
+        → IsClaimed isa l image o (record { case = j; point = k })
     of c p at found i =
         let e = i.entry in
-        let alone : i.more ≡ [] = none_more i.more (rest_is (insn_of_word e.word) (Some (fields_of c)) (insns_of i.more) [] i.window) in
+        let alone : i.more ≡ [] =
+        none_more i.more
+        (rest_is (insn_of_word e.word) (Some (fields_of c)) (insns_of i.more) [] i.window) in
         record {
           point = p;
           is = at;
@@ -135,64 +158,114 @@ claimed_one isa l image o j k s h hit = by (first_is isa l k s h) where
           entry = e;
           only = subst (λ m. IsOnly i.at e m o.trace) alone i.only;
           insn = fields_of c;
-          decoded = head_is (insn_of_word e.word) (Some (fields_of c)) (insns_of i.more) [] i.window;
-          hit = both_true (has_op l.ops c.op) (points.holds p c.op (facts_of (fields_of c) e.v1 e.v2))
-              (found_each (hits p.kind p.meaning) (λ (x : ChoiceValue). has_op l.ops x.op ≡ true) (all_choices isa l.ops (constants_of p.meaning)) c (listed isa l.ops (constants_of p.meaning)) found)
-              (meant_more p.kind p.meaning c e.v1 e.v2 i.facts (found_hits (hits p.kind p.meaning) (all_choices isa l.ops (constants_of p.meaning)) c found));
+          decoded =
+              head_is (insn_of_word e.word) (Some (fields_of c)) (insns_of i.more) [] i.window;
+          hit =
+              both_true (has_op l.ops c.op) (points.holds p c.op (facts_of (fields_of c) e.v1 e.v2))
+              (found_each (hits p.kind p.meaning) (λ (x : ChoiceValue). has_op l.ops x.op ≡ true)
+              (all_choices isa l.ops (constants_of p.meaning)) c
+              (listed isa l.ops (constants_of p.meaning)) found)
+              (meant_more p.kind p.meaning c e.v1 e.v2 i.facts
+              (found_hits (hits p.kind p.meaning)
+              (all_choices isa l.ops (constants_of p.meaning)) c found));
           first = i.first;
           second = i.second;
         }
 
-hit_more : (isa : Isa) (l : Label) (image : ImageValue) (o : Outcome) (j k : ℕ) (cs : List Solved) (ks : List ℕ) (s : Option Solved) → first_at isa l k ≡ s → ((j : ℕ) → AreHit image isa o j cs → Each (IsClaimed isa l image o) (numbered j ks)) → AreHit image isa o j (option_to_list s ++ cs) → Each (IsClaimed isa l image o) (numbered j (cond (is_some s) (k ∷ ks) ks))
+hit_more : (isa : Isa) (l : Label) (image : ImageValue) (o : Outcome) (j k : ℕ) (cs : List Solved)
+    (ks : List ℕ) (s : Option Solved) → first_at isa l k ≡ s
+    → ((j : ℕ) → AreHit image isa o j cs → Each (IsClaimed isa l image o) (numbered j ks))
+    → AreHit image isa o j (option_to_list s ++ cs)
+    → Each (IsClaimed isa l image o) (numbered j (cond (is_some s) (k ∷ ks) ks))
 hit_more isa l image o j k cs ks None h rest a = rest j a
-hit_more isa l image o j k cs ks (Some s) h rest a = (claimed_one isa l image o j k s h a.0, rest (j + 1) a.1)
+hit_more isa l image o j k cs ks (Some s) h rest a =
+    (claimed_one isa l image o j k s h a.0, rest (j + 1) a.1)
 
-claimed_each : (isa : Isa) (l : Label) (image : ImageValue) (o : Outcome) (ks : List ℕ) (j : ℕ) → AreHit image isa o j (cases_among isa l ks) → Each (IsClaimed isa l image o) (numbered j (solved_among isa l ks))
+claimed_each : (isa : Isa) (l : Label) (image : ImageValue) (o : Outcome) (ks : List ℕ) (j : ℕ)
+    → AreHit image isa o j (cases_among isa l ks)
+    → Each (IsClaimed isa l image o) (numbered j (solved_among isa l ks))
 claimed_each isa l image o [] j a = tt
-claimed_each isa l image o (k ∷ ks) j a = hit_more isa l image o j k (cases_among isa l ks) (solved_among isa l ks) (first_at isa l k) refl (claimed_each isa l image o ks) a
+claimed_each isa l image o (k ∷ ks) j a =
+    hit_more isa l image o j k (cases_among isa l ks) (solved_among isa l ks) (first_at isa l k)
+    refl (claimed_each isa l image o ks) a
 
-all_claimed : (isa : Isa) (l : Label) (image : ImageValue) (o : Outcome) → AreHit image isa o 0 (cases_of isa l) → All (IsClaimed isa l image o) (claims_of isa l)
+all_claimed : (isa : Isa) (l : Label) (image : ImageValue) (o : Outcome)
+    → AreHit image isa o 0 (cases_of isa l) → All (IsClaimed isa l image o) (claims_of isa l)
 unfolding cases_of claims_of
-all_claimed isa l image o a = all_from_each (IsClaimed isa l image o) (numbered 0 (solved_among isa l (places l))) (claimed_each isa l image o (places l) 0 a)
+all_claimed isa l image o a =
+    all_from_each (IsClaimed isa l image o) (numbered 0 (solved_among isa l (places l)))
+    (claimed_each isa l image o (places l) 0 a)
 
 -- ---- the test of a label runs
 
-pub label_runs : (isa : Isa) (l : Label) → isa.e ≡ false → IsValid isa l → TestRuns isa l (test_text l.name isa (map (λ (c : Claim). named_at l c.point) (claims_of isa l)) (cases_of isa l)) (claims_of isa l) (step_limit (cases_of isa l))
+pub label_test : (isa : Isa) (l : Label) → isa.e ≡ false → IsValid isa l
+    → IsTest isa l.name (map (λ (c : Claim). named_at l c.point) (claims_of isa l)) (cases_of isa l)
+label_test isa l e v = record {
+  base = e;
+  few = cases_few isa l v;
+  same = mapped (claims_of isa l) ∙ claims_same isa l;
+  label_text = name_text l.name v.named;
+  points_text = points_text isa l v;
+  choices = cases_ready isa l e v;
+} where
+  mapped : (ds : List Claim) → length (map (λ (c : Claim). named_at l c.point) ds) ≡ length ds
+  mapped [] = refl
+  mapped (d ∷ ds) =
+      let k : length (map (λ (c : Claim). named_at l c.point) ds) ≡ length ds = mapped ds in
+      omega (arith, k)
+
+pub label_runs : (isa : Isa) (l : Label) → isa.e ≡ false → IsValid isa l
+    → TestRuns isa l
+    (test_text l.name isa (map (λ (c : Claim). named_at l c.point) (claims_of isa l))
+    (cases_of isa l))
+    (claims_of isa l) (step_limit (cases_of isa l))
 label_runs isa l e v =
     let cs = cases_of isa l in
     let ps = map (λ (c : Claim). named_at l c.point) (claims_of isa l) in
-    let few = cases_few isa l v in
-    let ready = cases_ready isa l e v in
-    let same : length ps ≡ length cs = mapped (claims_of isa l) ∙ claims_same isa l in
-    let test : IsTest isa l.name ps cs = record { base = e; few = few; same = same; label_text = name_text l.name v.named; points_text = points_text isa l v; choices = ready } in
+    let test = label_test isa l e v in
     let r = tests_run isa l.name ps cs test in
     record {
       image = r.image;
       assembles = r.assembles;
       header = r.limit;
-      most = omega (arith, steps_high isa cs ready, few);
-      runs = λ n h. let w = r.runs n h in record { halts = w.halts; steps = w.steps; words = w.words ∙ ap (λ x. 2 * x) (sym (claims_same isa l)); claimed = all_claimed isa l r.image _ w.cases };
-    } where
-      mapped : (ds : List Claim) → length (map (λ (c : Claim). named_at l c.point) ds) ≡ length ds
-      mapped [] = refl
-      mapped (d ∷ ds) = let k : length (map (λ (c : Claim). named_at l c.point) ds) ≡ length ds = mapped ds in omega (arith, k)
+      most = omega (arith, steps_high isa cs test.choices, test.few);
+      runs = λ n h.
+          let w = r.runs n h in
+          record {
+            halts = w.halts;
+            steps = w.steps;
+            words = w.words ∙ ap (λ x. 2 * x) (sym (claims_same isa l));
+            claimed = all_claimed isa l r.image _ w.cases;
+          };
+    }
 
 -- the same with what the code holds
-pub runs_there : (isa : Isa) (l : Label) → isa.e ≡ false → IsValid isa l → (text : List ℕ) (ds : List Claim) (cs : List Solved) (n : ℕ) → ds ≡ claims_of isa l → cs ≡ cases_of isa l → n ≡ step_limit cs → text ≡ test_text l.name isa (map (λ (c : Claim). named_at l c.point) ds) cs → TestRuns isa l text ds n
+pub runs_there : (isa : Isa) (l : Label) → isa.e ≡ false → IsValid isa l
+    → (text : List ℕ) (ds : List Claim) (cs : List Solved) (n : ℕ) → ds ≡ claims_of isa l
+    → cs ≡ cases_of isa l → n ≡ step_limit cs
+    → text ≡ test_text l.name isa (map (λ (c : Claim). named_at l c.point) ds) cs
+    → TestRuns isa l text ds n
 runs_there isa l e v text ds cs n hd hc hn h =
-    let whole = test_text l.name isa (map (λ (c : Claim). named_at l c.point) (claims_of isa l)) (cases_of isa l) in
-    let t : text ≡ whole = h ∙ ap (λ x. test_text l.name isa (map (λ (c : Claim). named_at l c.point) x) cs) hd ∙ ap (test_text l.name isa (map (λ (c : Claim). named_at l c.point) (claims_of isa l))) hc in
+    let whole =
+    test_text l.name isa (map (λ (c : Claim). named_at l c.point) (claims_of isa l))
+    (cases_of isa l) in
+    let t : text ≡ whole =
+    h ∙ ap (λ x. test_text l.name isa (map (λ (c : Claim). named_at l c.point) x) cs) hd
+    ∙ ap (test_text l.name isa (map (λ (c : Claim). named_at l c.point) (claims_of isa l)))
+    hc in
     let P : List ℕ → Type 0 = λ x. TestRuns isa l x ds n in
     let Q : List Claim → Type 0 = λ x. TestRuns isa l whole x n in
     let R : ℕ → Type 0 = λ m. TestRuns isa l whole (claims_of isa l) m in
-    subst P (sym t) (subst Q (sym hd) (subst R (sym (hn ∙ ap step_limit hc)) (label_runs isa l e v)))
+    subst P (sym t)
+    (subst Q (sym hd) (subst R (sym (hn ∙ ap step_limit hc)) (label_runs isa l e v)))
 
 -- ---- each point is accounted for
 
 there : {X : Type 0} (xs : List X) (x y : X) → Contains xs x → Contains (y ∷ xs) x
 there xs x y (k, h, at) = (suc k, omega arith, at)
 
-here_or : {X : Type 0} (t : Bool) (y x : X) (o : Option X) (ys : List X) → cond t (Some y) o ≡ Some x → (o ≡ Some x → Contains ys x) → Contains (y ∷ ys) x
+here_or : {X : Type 0} (t : Bool) (y x : X) (o : Option X) (ys : List X)
+    → cond t (Some y) o ≡ Some x → (o ≡ Some x → Contains ys x) → Contains (y ∷ ys) x
 here_or true y x o ys f rest = let is : y ≡ x = cc in (0, omega arith, is)
 here_or false y x o ys f rest = there ys x y (rest f)
 
@@ -200,11 +273,20 @@ found_there : {X : Type 0} (p : X → Bool) (xs : List X) (x : X) → find p xs 
 found_there p [] x h = cc
 found_there p (y ∷ ys) x h = here_or (p y) y x (find p ys) ys h (found_there p ys x)
 
-solvable : (isa : Isa) (l : Label) (k : ℕ) (s : Solved) → first_at isa l k ≡ Some s → IsSolvableAt isa l k
+solvable : (isa : Isa) (l : Label) (k : ℕ) (s : Solved) → first_at isa l k ≡ Some s
+    → IsSolvableAt isa l k
 solvable isa l k s h =
     let f = first_is isa l k s h in
     let all = all_choices isa l.ops (constants_of f.point.meaning) in
-    record { point = f.point; is = f.at; solvable = (f.choice, found_there (hits f.point.kind f.point.meaning) all f.choice f.found, found_hits (hits f.point.kind f.point.meaning) all f.choice f.found) }
+    record {
+      point = f.point;
+      is = f.at;
+      solvable = (
+        f.choice,
+        found_there (hits f.point.kind f.point.meaning) all f.choice f.found,
+        found_hits (hits f.point.kind f.point.meaning) all f.choice f.found,
+      );
+    }
 
 no_first : (o : Option ChoiceValue) → option_map One o ≡ None → o ≡ None
 no_first None h = refl
@@ -213,7 +295,8 @@ no_first (Some c) h = cc
 not_solvable : (isa : Isa) (l : Label) (k : ℕ) → first_at isa l k ≡ None → IsSolvableAt isa l k → ⊥
 not_solvable isa l k h w =
     nothing_hits isa l.ops w.point.kind w.point.meaning
-    (no_first (first_choice isa l.ops w.point.kind w.point.meaning) (sym (ap (option_and_then (first_of_point isa l)) w.is) ∙ h)) w.solvable
+    (no_first (first_choice isa l.ops w.point.kind w.point.meaning)
+    (sym (ap (option_and_then (first_of_point isa l)) w.is) ∙ h)) w.solvable
 
 in_range : (a n k : ℕ) → k < n → Contains (range_with_len a n) (a + k)
 in_range a zero k h = absurd (omega arith)
@@ -227,37 +310,57 @@ kept_here : (t : Bool) (k : ℕ) (rest : List ℕ) → t ≡ true → Contains (
 kept_here true k rest h = (0, omega arith, refl)
 kept_here false k rest h = cc
 
-kept_there : (t : Bool) (x k : ℕ) (rest : List ℕ) → Contains rest k → Contains (cond t (x ∷ rest) rest) k
+kept_there : (t : Bool) (x k : ℕ) (rest : List ℕ) → Contains rest k
+    → Contains (cond t (x ∷ rest) rest) k
 kept_there true x k rest h = there rest k x h
 kept_there false x k rest h = h
 
 -- a member that passes a test is among those that pass
-pub in_filter : (q : ℕ → Bool) (xs : List ℕ) (k : ℕ) → Contains xs k → q k ≡ true → Contains (filter q xs) k
+pub in_filter : (q : ℕ → Bool) (xs : List ℕ) (k : ℕ) → Contains xs k → q k ≡ true
+    → Contains (filter q xs) k
 in_filter q [] k (i, h, at) t = absurd (omega arith)
-in_filter q (x ∷ xs) k (zero, h, at) t = subst (Contains (filter q (x ∷ xs))) at (kept_here (q x) x (filter q xs) (ap q at ∙ t))
-in_filter q (x ∷ xs) k (suc i, h, at) t = kept_there (q x) x k (filter q xs) (in_filter q xs k (i, omega arith, at) t)
+in_filter q (x ∷ xs) k (zero, h, at) t =
+    subst (Contains (filter q (x ∷ xs))) at (kept_here (q x) x (filter q xs) (ap q at ∙ t))
+in_filter q (x ∷ xs) k (suc i, h, at) t =
+    kept_there (q x) x k (filter q xs) (in_filter q xs k (i, omega arith, at) t)
 
-in_numbered : (ks : List ℕ) (j k : ℕ) → Contains ks k → (c : Claim) × Contains (numbered j ks) c × (c.point ≡ k)
+in_numbered : (ks : List ℕ) (j k : ℕ) → Contains ks k
+    → (c : Claim) × Contains (numbered j ks) c × (c.point ≡ k)
 in_numbered [] j k (i, h, at) = absurd (omega arith)
-in_numbered (x ∷ ks) j k (zero, h, at) = (record { case = j; point = x }, (0, omega arith, refl), at)
-in_numbered (x ∷ ks) j k (suc i, h, at) = let r = in_numbered ks (j + 1) k (i, omega arith, at) in (r.0, there (numbered (j + 1) ks) r.0 (record { case = j; point = x }) r.1, r.2)
+in_numbered (x ∷ ks) j k (zero, h, at) =
+    (record { case = j; point = x }, (0, omega arith, refl), at)
+in_numbered (x ∷ ks) j k (suc i, h, at) =
+    let r = in_numbered ks (j + 1) k (i, omega arith, at) in
+    (r.0, there (numbered (j + 1) ks) r.0 (record { case = j; point = x }) r.1, r.2)
 
 place_there : (l : Label) (k : ℕ) → k < length l.points → Contains (places l) k
-place_there l k h = let P : ℕ → Type 0 = λ m. Contains (places l) m in let e : 0 + k ≡ k = omega arith in subst P e (in_range 0 (length l.points) k h)
+place_there l k h =
+    let P : ℕ → Type 0 = λ m. Contains (places l) m in let e : 0 + k ≡ k = omega arith in
+    subst P e (in_range 0 (length l.points) k h)
 
-account : (isa : Isa) (l : Label) (k : ℕ) (o : Option Solved) → first_at isa l k ≡ o → k < length l.points → IsAccounted isa l (claims_of isa l) (unsolved_of isa l) k
+account : (isa : Isa) (l : Label) (k : ℕ) (o : Option Solved) → first_at isa l k ≡ o
+    → k < length l.points → IsAccounted isa l (claims_of isa l) (unsolved_of isa l) k
 unfolding claims_of unsolved_of
-account isa l k None e h = inl (in_filter (λ n. not (is_solved isa l n)) (places l) k (place_there l k h) (ap (λ x. not (is_some x)) e), not_solvable isa l k e)
+account isa l k None e h =
+    inl (
+      in_filter (λ n. not (is_solved isa l n)) (places l) k (place_there l k h)
+          (ap (λ x. not (is_some x)) e),
+      not_solvable isa l k e,
+    )
 account isa l k (Some s) e h =
-    let r = in_numbered (solved_among isa l (places l)) 0 k (in_filter (is_solved isa l) (places l) k (place_there l k h) (ap is_some e)) in
+    let r =
+    in_numbered (solved_among isa l (places l)) 0 k
+    (in_filter (is_solved isa l) (places l) k (place_there l k h) (ap is_some e)) in
     inr (r.0, r.1, r.2, solvable isa l k s e)
 
-pub accounted : (isa : Isa) (l : Label) (k : ℕ) → k < length l.points → IsAccounted isa l (claims_of isa l) (unsolved_of isa l) k
+pub accounted : (isa : Isa) (l : Label) (k : ℕ) → k < length l.points
+    → IsAccounted isa l (claims_of isa l) (unsolved_of isa l) k
 accounted isa l k h = account isa l k (first_at isa l k) refl h
 
 -- ---- what is left, no choice hits
 
-passed_test : (t : Bool) (x k : ℕ) (rest : List ℕ) (q : ℕ → Bool) → q x ≡ t → (Contains rest k → q k ≡ true) → Contains (cond t (x ∷ rest) rest) k → q k ≡ true
+passed_test : (t : Bool) (x k : ℕ) (rest : List ℕ) (q : ℕ → Bool) → q x ≡ t
+    → (Contains rest k → q k ≡ true) → Contains (cond t (x ∷ rest) rest) k → q k ≡ true
 passed_test true x k rest q e h (zero, l, at) = ap q (sym at) ∙ e
 passed_test true x k rest q e h (suc i, l, at) = h (i, omega arith, at)
 passed_test false x k rest q e h a = h a
@@ -270,6 +373,9 @@ none_solved : (o : Option Solved) → not (is_some o) ≡ true → o ≡ None
 none_solved None h = refl
 none_solved (Some s) h = cc
 
-pub left_unsolvable : (isa : Isa) (l : Label) (k : ℕ) → Contains (unsolved_of isa l) k → IsSolvableAt isa l k → ⊥
+pub left_unsolvable : (isa : Isa) (l : Label) (k : ℕ) → Contains (unsolved_of isa l) k
+    → IsSolvableAt isa l k → ⊥
 unfolding unsolved_of
-left_unsolvable isa l k a = not_solvable isa l k (none_solved (first_at isa l k) (out_of_filter (λ n. not (is_solved isa l n)) (places l) k a))
+left_unsolvable isa l k a =
+    not_solvable isa l k
+    (none_solved (first_at isa l k) (out_of_filter (λ n. not (is_solved isa l n)) (places l) k a))

@@ -1,16 +1,14 @@
 -- The cases of a label: a case can be made from each, and each belongs to a claim.
-use Rattle.std.proofs.Common.{◌≡◌, ℕ, zero, suc, ◌+◌, ◌<◌, ◌≤◌, Bool, true, false, cond, not, ◌&&◌, ◌||◌, List, [], ◌∷◌, ◌++◌, length, map, get_or, Option, Some, None, refl, sym, ap, ◌∙◌, subst, arith}
-use Rattle.std.specs.Prelude.{◌==◌, All, nat_le, filter, flat_map, is_some, option_map, option_and_then, option_to_list, slice_get, ◌⊎◌}
-use Rattle.std.proofs.Common.{inl, inr}
+use Rattle.std.proofs.Common.{◌≡◌, ℕ, ◌+◌, ◌<◌, ◌≤◌, Bool, true, false, cond, ◌&&◌, ◌||◌, List, [], ◌∷◌, ◌++◌, length, map, get_or, Option, Some, None, refl, ap, ◌∙◌, subst, arith, length-append}
+use Rattle.std.specs.Prelude.{All, nat_le, filter, is_some, option_map, option_and_then, option_to_list, slice_get}
 use Rattle.std.specs.List.{list_all, range_with_len}
 use Rattle.std.proofs.lemmas.Bool.Decides.{nat_tests}
 use Rattle.std.proofs.lemmas.List.FromFn.{length-range_with_len}
-use Rattle.std.proofs.lemmas.Option.{slice_get_cases, slice_get_within, get_or_from_slice_get}
+use Rattle.std.proofs.lemmas.Option.{slice_get_within, get_or_from_slice_get}
 use Rattle.rvs_insn.specs.Isa.{Isa}
-use Rattle.rvs_insn.specs.Names.{is_admitted_op}
 use Rattle.rvs_asm_text.specs.Text.{is_text_byte}
 use Rattle.rvs_abstract.specs.Calls.{is_letter, is_digit}
-use Rattle.rvs_cgf.specs.Keys.{is_name_byte, is_label_name, is_printable}
+use Rattle.rvs_cgf.specs.Keys.{is_name_byte, is_label_name}
 use Rattle.rvs_cgf.specs.Print.{kind_name}
 use Rattle.rvs_cgf.specs.Valid.{IsMeant, IsValid}
 use Rattle.rvs_cgf.specs.declared.group.Kind.{Kind}
@@ -21,12 +19,13 @@ use Rattle.rvs_solver.specs.Choices.{ChoiceValue}
 use Rattle.rvs_solver.specs.First.{first_choice}
 use Rattle.rvs_solver.specs.Solving.{first_of_point, first_at}
 use Rattle.rvs_solver.specs.declared.solved.Solved.{Solved}
-use Rattle.rvs_solver.specs.declared.solved.Solved.TheVariants.{One, Many}
+use Rattle.rvs_solver.specs.declared.solved.Solved.TheVariants.{One}
 use Rattle.rvs_test.specs.declared.made.Claim.{Claim}
 use Rattle.rvs_test.specs.TestText.{Point, claim_lines, line_of_claim}
 use Rattle.rvs_test.specs.Claim.{IsReady, AreReady, ArePrintable}
-use Rattle.rvs_test.specs.Made.{places, is_solved, solved_among, unsolved_among, cases_among, numbered, claims_of, cases_of, named, named_or_none, named_at}
-use Rattle.rvs_test.proofs.Ready.{IsReadyChoice, first_ready}
+use Rattle.rvs_test.specs.Made.{places, is_solved, solved_among, cases_among, numbered, claims_of, cases_of, named_or_none, named_at}
+use Rattle.rvs_test.proofs.Chars.{all_map, both, tested, untested}
+use Rattle.rvs_test.proofs.Ready.{first_ready}
 use Rattle.rvs_solver.proofs.Search.{Each}
 use Rattle.rvs_solver.proofs.Operands.{all_from_each}
 use Rattle.rvs_test.proofs.Ranges.{range_below}
@@ -42,18 +41,26 @@ pub record IsFirst (isa : Isa) (l : Label) (k : ℕ) (s : Solved) : Type 0 where
   pub found : first_choice isa l.ops point.kind point.meaning ≡ Some choice
   pub is : One choice ≡ s
 
-chosen : (isa : Isa) (l : Label) (k : ℕ) (s : Solved) (p : groups.Point) (o : Option ChoiceValue) → slice_get l.points k ≡ Some p → first_choice isa l.ops p.kind p.meaning ≡ o → option_map One o ≡ Some s → IsFirst isa l k s
+chosen : (isa : Isa) (l : Label) (k : ℕ) (s : Solved) (p : groups.Point) (o : Option ChoiceValue)
+    → slice_get l.points k ≡ Some p → first_choice isa l.ops p.kind p.meaning ≡ o
+    → option_map One o ≡ Some s → IsFirst isa l k s
 chosen isa l k s p None at found h = cc
-chosen isa l k s p (Some c) at found h = let is : One c ≡ s = cc in record { point = p; choice = c; at = at; found = found; is = is }
+chosen isa l k s p (Some c) at found h =
+    let is : One c ≡ s = cc in record { point = p; choice = c; at = at; found = found; is = is }
 
-pointed : (isa : Isa) (l : Label) (k : ℕ) (s : Solved) (o : Option groups.Point) → slice_get l.points k ≡ o → option_and_then (first_of_point isa l) o ≡ Some s → IsFirst isa l k s
+pointed : (isa : Isa) (l : Label) (k : ℕ) (s : Solved) (o : Option groups.Point)
+    → slice_get l.points k ≡ o → option_and_then (first_of_point isa l) o ≡ Some s
+    → IsFirst isa l k s
 pointed isa l k s None at h = cc
-pointed isa l k s (Some p) at h = chosen isa l k s p (first_choice isa l.ops p.kind p.meaning) at refl h
+pointed isa l k s (Some p) at h =
+    chosen isa l k s p (first_choice isa l.ops p.kind p.meaning) at refl h
 
-pub first_is : (isa : Isa) (l : Label) (k : ℕ) (s : Solved) → first_at isa l k ≡ Some s → IsFirst isa l k s
+pub first_is : (isa : Isa) (l : Label) (k : ℕ) (s : Solved) → first_at isa l k ≡ Some s
+    → IsFirst isa l k s
 first_is isa l k s h = pointed isa l k s (slice_get l.points k) refl h
 
-pub solved_ready : (isa : Isa) (l : Label) (k : ℕ) (s : Solved) → isa.e ≡ false → IsValid isa l → first_at isa l k ≡ Some s → IsReady isa s
+pub solved_ready : (isa : Isa) (l : Label) (k : ℕ) (s : Solved) → isa.e ≡ false → IsValid isa l
+    → first_at isa l k ≡ Some s → IsReady isa s
 solved_ready isa l k s e v h =
     let f = first_is isa l k s h in
     let r = first_ready isa l.ops f.point.kind f.point.meaning f.choice e v.admitted f.found in
@@ -61,43 +68,55 @@ solved_ready isa l k s e v h =
 
 -- ---- all cases
 
-some_more : (o : Option Solved) (rest : List Solved) (P : List Solved → Type 0) → ((s : Solved) → o ≡ Some s → P (s ∷ rest)) → (o ≡ None → P rest) → P (option_to_list o ++ rest)
+some_more : (o : Option Solved) (rest : List Solved) (P : List Solved → Type 0)
+    → ((s : Solved) → o ≡ Some s → P (s ∷ rest)) → (o ≡ None → P rest)
+    → P (option_to_list o ++ rest)
 some_more None rest P h k = k refl
 some_more (Some s) rest P h k = h s refl
 
-pub among_ready : (isa : Isa) (l : Label) (ks : List ℕ) → isa.e ≡ false → IsValid isa l → AreReady isa (cases_among isa l ks)
+pub among_ready : (isa : Isa) (l : Label) (ks : List ℕ) → isa.e ≡ false → IsValid isa l
+    → AreReady isa (cases_among isa l ks)
 among_ready isa l [] e v = tt
 among_ready isa l (k ∷ ks) e v =
     let rest = among_ready isa l ks e v in
-    some_more (first_at isa l k) (cases_among isa l ks) (AreReady isa) (λ s h. (solved_ready isa l k s e v h, rest)) (λ h. rest)
+    some_more (first_at isa l k) (cases_among isa l ks) (AreReady isa)
+    (λ s h. (solved_ready isa l k s e v h, rest)) (λ h. rest)
 
 one_long : (o : Option Solved) → length (option_to_list o) ≤ 1
 one_long None = omega arith
 one_long (Some s) = omega arith
 
-joined_length : (xs ys : List Solved) → length (xs ++ ys) ≡ length xs + length ys
-joined_length [] ys = omega arith
-joined_length (x ∷ xs) ys = let e : length (xs ++ ys) ≡ length xs + length ys = joined_length xs ys in omega (arith, e)
-
 among_few : (isa : Isa) (l : Label) (ks : List ℕ) → length (cases_among isa l ks) ≤ length ks
 among_few isa l [] = omega arith
-among_few isa l (k ∷ ks) = omega (arith, joined_length (option_to_list (first_at isa l k)) (cases_among isa l ks), one_long (first_at isa l k), among_few isa l ks)
+among_few isa l (k ∷ ks) =
+    omega (
+      arith,
+      length-append (option_to_list (first_at isa l k)) (cases_among isa l ks),
+      one_long (first_at isa l k),
+      among_few isa l ks,
+    )
 
-as_many : (o : Option Solved) (k : ℕ) (cs : List Solved) (ks : List ℕ) → length ks ≡ length cs → length (cond (is_some o) (k ∷ ks) ks) ≡ length (option_to_list o ++ cs)
+as_many : (o : Option Solved) (k : ℕ) (cs : List Solved) (ks : List ℕ) → length ks ≡ length cs
+    → length (cond (is_some o) (k ∷ ks) ks) ≡ length (option_to_list o ++ cs)
 as_many None k cs ks h = h
 as_many (Some s) k cs ks h = omega (arith, h)
 
-among_same : (isa : Isa) (l : Label) (ks : List ℕ) → length (solved_among isa l ks) ≡ length (cases_among isa l ks)
+among_same : (isa : Isa) (l : Label) (ks : List ℕ)
+    → length (solved_among isa l ks) ≡ length (cases_among isa l ks)
 among_same isa l [] = refl
-among_same isa l (k ∷ ks) = as_many (first_at isa l k) k (cases_among isa l ks) (solved_among isa l ks) (among_same isa l ks)
+among_same isa l (k ∷ ks) =
+    as_many (first_at isa l k) k (cases_among isa l ks) (solved_among isa l ks)
+    (among_same isa l ks)
 
-pub cases_ready : (isa : Isa) (l : Label) → isa.e ≡ false → IsValid isa l → AreReady isa (cases_of isa l)
+pub cases_ready : (isa : Isa) (l : Label) → isa.e ≡ false → IsValid isa l
+    → AreReady isa (cases_of isa l)
 unfolding cases_of
 cases_ready isa l e v = among_ready isa l (places l) e v
 
 pub cases_few : (isa : Isa) (l : Label) → IsValid isa l → length (cases_of isa l) ≤ 2048
 unfolding cases_of
-cases_few isa l v = omega (arith, among_few isa l (places l), length-range_with_len 0 (length l.points), v.few)
+cases_few isa l v =
+    omega (arith, among_few isa l (places l), length-range_with_len 0 (length l.points), v.few)
 
 pub claims_same : (isa : Isa) (l : Label) → length (claims_of isa l) ≡ length (cases_of isa l)
 unfolding claims_of cases_of
@@ -105,23 +124,24 @@ claims_same isa l = numbered_length 0 (solved_among isa l (places l)) ∙ among_
 
 -- ---- the lines of the claims
 
-lines_of_numbered : (f : ℕ → Point) (j : ℕ) (ks : List ℕ) → claim_lines j (map (λ (c : Claim). f c.point) (numbered j ks)) ≡ map (line_of_claim f) (numbered j ks)
+lines_of_numbered : (f : ℕ → Point) (j : ℕ) (ks : List ℕ)
+    → claim_lines j (map (λ (c : Claim). f c.point) (numbered j ks))
+    ≡ map (line_of_claim f) (numbered j ks)
 lines_of_numbered f j [] = refl
-lines_of_numbered f j (k ∷ ks) = ap (λ x. line_of_claim f (record { case = j; point = k }) ∷ x) (lines_of_numbered f (j + 1) ks)
+lines_of_numbered f j (k ∷ ks) =
+    ap (λ x. line_of_claim f (record { case = j; point = k }) ∷ x) (lines_of_numbered f (j + 1) ks)
 
-pub lines_of_claims : (isa : Isa) (l : Label) (f : ℕ → Point) → claim_lines 0 (map (λ (c : Claim). f c.point) (claims_of isa l)) ≡ map (line_of_claim f) (claims_of isa l)
+pub lines_of_claims : (isa : Isa) (l : Label) (f : ℕ → Point)
+    → claim_lines 0 (map (λ (c : Claim). f c.point) (claims_of isa l))
+    ≡ map (line_of_claim f) (claims_of isa l)
 unfolding claims_of
 lines_of_claims isa l f = lines_of_numbered f 0 (solved_among isa l (places l))
 
 -- ---- what the header names is text
 
-two' : (s t : Bool) → (s && t) ≡ true → (s ≡ true) × (t ≡ true)
-two' true t h = (refl, h)
-two' false t h = cc
-
-weaker : (p q : ℕ → Bool) → ((c : ℕ) → p c ≡ true → q c ≡ true) → (cs : List ℕ) → list_all p cs ≡ true → list_all q cs ≡ true
-weaker p q h [] a = refl
-weaker p q h (c ∷ cs) a = let k = two' (p c) (list_all p cs) a in rw (h c k.0, weaker p q h cs k.1) refl
+weaker : (p q : ℕ → Bool) → ((c : ℕ) → p c ≡ true → q c ≡ true) → (cs : List ℕ)
+    → list_all p cs ≡ true → list_all q cs ≡ true
+weaker p q h cs a = untested q cs (all_map p q cs h (tested p cs a))
 
 name_byte : (c : ℕ) → is_name_byte c ≡ true → is_text_byte c ≡ true
 name_byte c h = grind (arith, nat_tests)
@@ -132,8 +152,10 @@ key_byte c h = grind (arith, nat_tests)
 pub name_text : (name : List ℕ) → is_label_name name ≡ true → list_all is_text_byte name ≡ true
 name_text [] h = cc
 name_text (c ∷ cs) h =
-    let k = two' (is_letter c || is_digit c) (list_all is_name_byte (c ∷ cs) && nat_le (length (c ∷ cs)) 64) h in
-    let m = two' (list_all is_name_byte (c ∷ cs)) (nat_le (length (c ∷ cs)) 64) k.1 in
+    let k =
+    both (is_letter c || is_digit c)
+    (list_all is_name_byte (c ∷ cs) && nat_le (length (c ∷ cs)) 64) h in
+    let m = both (list_all is_name_byte (c ∷ cs)) (nat_le (length (c ∷ cs)) 64) k.1 in
     weaker is_name_byte is_text_byte name_byte (c ∷ cs) m.0
 
 kind_text : (k : Kind) → list_all is_text_byte (kind_name k) ≡ true
@@ -143,39 +165,55 @@ kind_text k = refl
 abbrev pub IsPrintablePoint : Point → Type 0
 IsPrintablePoint p = (list_all is_text_byte p.kind ≡ true) × (list_all is_text_byte p.key ≡ true)
 
-point_text : (isa : Isa) (l : Label) (k : ℕ) (o : Option groups.Point) → IsValid isa l → slice_get l.points k ≡ o → IsPrintablePoint (named_or_none o)
+point_text : (isa : Isa) (l : Label) (k : ℕ) (o : Option groups.Point) → IsValid isa l
+    → slice_get l.points k ≡ o → IsPrintablePoint (named_or_none o)
 point_text isa l k None v h = (refl, refl)
 point_text isa l k (Some p) v h =
     let low : k < length l.points = slice_get_within l.points k p h in
     let is : get_or l.points k p ≡ p = get_or_from_slice_get l.points k p p h in
-    let m : IsMeant p = subst IsMeant is (v.meant k p low) in
-    (kind_text p.kind, weaker (λ c. nat_le 32 c && nat_le c 126) is_text_byte key_byte p.key m.printable)
+    let m : IsMeant p = subst IsMeant is (v.meant k p low) in (
+      kind_text p.kind,
+      weaker (λ c. nat_le 32 c && nat_le c 126) is_text_byte key_byte p.key
+          m.printable,
+    )
 
-named_text : (isa : Isa) (l : Label) (ds : List Claim) → IsValid isa l → ArePrintable (map (λ (c : Claim). named_at l c.point) ds)
+named_text : (isa : Isa) (l : Label) (ds : List Claim) → IsValid isa l
+    → ArePrintable (map (λ (c : Claim). named_at l c.point) ds)
 named_text isa l [] v = tt
-named_text isa l (d ∷ ds) v = let h = point_text isa l d.point (slice_get l.points d.point) v refl in (h.0, h.1, named_text isa l ds v)
+named_text isa l (d ∷ ds) v =
+    let h = point_text isa l d.point (slice_get l.points d.point) v refl in
+    (h.0, h.1, named_text isa l ds v)
 
-pub points_text : (isa : Isa) (l : Label) → IsValid isa l → ArePrintable (map (λ (c : Claim). named_at l c.point) (claims_of isa l))
+pub points_text : (isa : Isa) (l : Label) → IsValid isa l
+    → ArePrintable (map (λ (c : Claim). named_at l c.point) (claims_of isa l))
 points_text isa l v = named_text isa l (claims_of isa l) v
 
 -- ---- the places of the claims
 
-filtered : (p : ℕ → Bool) (n : ℕ) (ks : List ℕ) → Each (λ k. k < n) ks → Each (λ k. k < n) (filter p ks)
+filtered : (p : ℕ → Bool) (n : ℕ) (ks : List ℕ) → Each (λ k. k < n) ks
+    → Each (λ k. k < n) (filter p ks)
 filtered p n [] a = tt
 filtered p n (k ∷ ks) a = kept (p k) k (filter p ks) a.0 (filtered p n ks a.1) where
-  kept : (t : Bool) (k : ℕ) (rest : List ℕ) → k < n → Each (λ k. k < n) rest → Each (λ k. k < n) (cond t (k ∷ rest) rest)
+  kept : (t : Bool) (k : ℕ) (rest : List ℕ) → k < n → Each (λ k. k < n) rest
+      → Each (λ k. k < n) (cond t (k ∷ rest) rest)
   kept true k rest h r = (h, r)
   kept false k rest h r = r
 
-below : (j n : ℕ) (ks : List ℕ) → Each (λ k. k < n) ks → Each (λ (c : Claim). c.point < n) (numbered j ks)
+below : (j n : ℕ) (ks : List ℕ) → Each (λ k. k < n) ks
+    → Each (λ (c : Claim). c.point < n) (numbered j ks)
 below j n [] h = tt
 below j n (k ∷ ks) h = (h.0, below (j + 1) n ks h.1)
 
 range_to : (n : ℕ) → Each (λ k. k < n) (range_with_len 0 n)
-range_to n = let P : ℕ → Type 0 = λ m. Each (λ k. k < m) (range_with_len 0 n) in let e : 0 + n ≡ n = omega arith in subst P e (range_below 0 n)
+range_to n =
+    let P : ℕ → Type 0 = λ m. Each (λ k. k < m) (range_with_len 0 n) in
+    let e : 0 + n ≡ n = omega arith in subst P e (range_below 0 n)
 
-pub claims_below : (isa : Isa) (l : Label) → All (λ (c : Claim). c.point < length l.points) (claims_of isa l)
+pub claims_below : (isa : Isa) (l : Label)
+    → All (λ (c : Claim). c.point < length l.points) (claims_of isa l)
 unfolding claims_of
 claims_below isa l =
-    all_from_each (λ (c : Claim). c.point < length l.points) (numbered 0 (solved_among isa l (places l)))
-    (below 0 (length l.points) (solved_among isa l (places l)) (filtered (is_solved isa l) (length l.points) (places l) (range_to (length l.points))))
+    all_from_each (λ (c : Claim). c.point < length l.points)
+    (numbered 0 (solved_among isa l (places l)))
+    (below 0 (length l.points) (solved_among isa l (places l))
+    (filtered (is_solved isa l) (length l.points) (places l) (range_to (length l.points))))

@@ -20,7 +20,7 @@ use Rattle.rvs_machine.specs.Written.{Write}
 use Rattle.rvs_asm_text.specs.Text.{is_text_byte}
 use Rattle.rvs_asm_text.specs.Header.{header_steps}
 use Rattle.rvs_asm.specs.Answer.{Assembles}
-use Rattle.rvs_solver.specs.Choices.{ChoiceValue, fields_of, table_of}
+use Rattle.rvs_solver.specs.Choices.{fields_of, table_of}
 use Rattle.rvs_expr.specs.Facts.{Extends}
 use Rattle.rvs_facts.specs.Facts.{facts_of}
 use Rattle.rvs_test.specs.declared.statement.Name.TheVariants.{Case}
@@ -40,7 +40,8 @@ abbrev pub Elsewhere : ℕ → List Executed → Type 0
 Elsewhere at [] = Unit {0}
 Elsewhere at (e ∷ es) = (e.pc ≢ at) × Elsewhere at es
 
--- this is the one that was executed at this place, and these were executed right behind it, in this order
+-- this is the one that was executed at this place, and these were executed right behind it, in this
+-- order
 pub record IsOnly (at : ℕ) (e : Executed) (more es : List Executed) : Type 0 where
   pub before : List Executed
   pub after : List Executed
@@ -56,7 +57,8 @@ written_value (Some w) = w.value
 
 -- the data from the start of scratch on after a store, where there were zeros
 abbrev pub scratch_after : Fields → Executed → List ℕ
-scratch_after i e = store_bytes (access_size i.op) (replicate 8 0) (add32 e.v1 (imm_word i) - data_base) e.v2
+scratch_after i e =
+    store_bytes (access_size i.op) (replicate 8 0) (add32 e.v1 (imm_word i) - data_base) e.v2
 
 -- whether a branch is taken
 abbrev pub is_taken : Op → ℕ → ℕ → Bool
@@ -68,7 +70,8 @@ is_taken Bltu v1 v2 = nat_lt v1 v2
 is_taken Bgeu v1 v2 = nat_le v2 v1
 is_taken _ v1 v2 = true
 
--- the marker: 3 where the distance is at least 8 either way and the jump isn't taken forwards or is taken backwards
+-- the marker: 3 where the distance is at least 8 either way and the jump isn't taken forwards or is
+-- taken backwards
 abbrev pub mark_of : ℤ → Bool → ℕ
 mark_of (pos n) t = if t then 1 else (if nat_le 8 n then 3 else 1)
 mark_of (negsuc n) t = if t then (if nat_le 7 n then 3 else 1) else 1
@@ -77,7 +80,8 @@ mark_of (negsuc n) t = if t then (if nat_le 7 n then 3 else 1) else 1
 abbrev pub outcome_by : Format → Fields → Executed → ℕ × ℕ
 outcome_by Store i e = (word_at (scratch_after i e) 0, word_at (scratch_after i e) 4)
 outcome_by JumpReg i e = (1, written_value e.commit)
-outcome_by Branch i e = (mark_of (unwrap_or i.imm (pos 0)) (is_taken i.op e.v1 e.v2), written_value e.commit)
+outcome_by Branch i e =
+    (mark_of (unwrap_or i.imm (pos 0)) (is_taken i.op e.v1 e.v2), written_value e.commit)
 outcome_by Jump i e = (mark_of (unwrap_or i.imm (pos 0)) true, written_value e.commit)
 outcome_by _ i e = (written_value e.commit, 0)
 
@@ -101,11 +105,13 @@ last_word r es = register_after r 0 es
 -- the two words of a case, by its executed instruction and those of its window behind it
 abbrev pub outcome_of : Solved → Executed → List Executed → ℕ × ℕ
 outcome_of (One c) e more = outcome_at (fields_of c) e
-outcome_of (Many is) e more = (last_word (first_rd is) (e ∷ more), last_word (last_rd is) (e ∷ more))
+outcome_of (Many is) e more =
+    (last_word (first_rd is) (e ∷ more), last_word (last_rd is) (e ∷ more))
 
 -- the words of the signature when a run of the image has ended
 abbrev pub words_after : ImageValue → Isa → Outcome → List ℕ
-words_after image isa o = signature_of (record { setup = (started image isa).setup; state = o.state })
+words_after image isa o =
+    signature_of (record { setup = (started image isa).setup; state = o.state })
 
 -- the instructions that a case is to execute one right after the other, from its symbol on
 abbrev pub window_of : Solved → List Fields
@@ -121,8 +127,8 @@ IsKnown (Many is) e = Unit {0}
 abbrev pub insns_of : List Executed → List (Option Fields)
 insns_of es = map (λ (e : Executed). insn_of_word e.word) es
 
--- a case was executed: one instruction stands at its symbol, it and those right behind it are the case's, its facts contain
--- those of the choice, and its two words are in the signature
+-- a case was executed: one instruction stands at its symbol, it and those right behind it are the
+-- case's, its facts contain those of the choice, and its two words are in the signature
 pub record IsHit (image : ImageValue) (isa : Isa) (o : Outcome) (k : ℕ) (c : Solved) : Type 0 where
   pub at : ℕ
   pub entry : Executed
@@ -138,7 +144,8 @@ abbrev pub AreHit : ImageValue → Isa → Outcome → ℕ → List Solved → T
 AreHit image isa o k [] = Unit {0}
 AreHit image isa o k (c ∷ cs) = IsHit image isa o k c × AreHit image isa o (k + 1) cs
 
--- the run of a test halts within its steps, hits each case and leaves each outcome, and no other words
+-- the run of a test halts within its steps, hits each case and leaves each outcome, and no other
+-- words
 pub record RunsWell (image : ImageValue) (isa : Isa) (cs : List Solved) (o : Outcome) : Type 0 where
   pub halts : o.end ≡ Halted
   pub steps : length o.trace ≤ step_limit cs
@@ -157,9 +164,11 @@ AreReady isa (c ∷ cs) = IsReady isa c × AreReady isa cs
 
 abbrev pub ArePrintable : List Point → Type 0
 ArePrintable [] = Unit {0}
-ArePrintable (p ∷ ps) = (list_all is_text_byte p.kind ≡ true) × (list_all is_text_byte p.key ≡ true) × ArePrintable ps
+ArePrintable (p ∷ ps) =
+    (list_all is_text_byte p.kind ≡ true) × (list_all is_text_byte p.key ≡ true) × ArePrintable ps
 
-pub record IsTest (isa : Isa) (label : List ℕ) (points : List Point) (cs : List Solved) : Type 0 where
+pub record IsTest (isa : Isa) (label : List ℕ) (points : List Point)
+    (cs : List Solved) : Type 0 where
   pub base : isa.e ≡ false
   pub few : length cs ≤ 2048
   pub same : length points ≡ length cs
@@ -167,12 +176,16 @@ pub record IsTest (isa : Isa) (label : List ℕ) (points : List Point) (cs : Lis
   pub points_text : ArePrintable points
   pub choices : AreReady isa cs
 
--- one image stands to the text, the header's number is the limit, and from that limit on each run goes well
+-- one image stands to the text, the header's number is the limit, and from that limit on each run
+-- goes well
 pub record Runs (isa : Isa) (text : List ℕ) (cs : List Solved) : Type 0 where
   pub image : ImageValue
   pub assembles : Assembles text isa image
   pub limit : header_steps text ≡ Some (step_limit cs)
-  pub runs : (n : ℕ) → step_limit cs ≤ n → RunsWell image isa cs (run_of (started image isa).setup n (started image isa).state)
+  pub runs : (n : ℕ) → step_limit cs ≤ n
+      → RunsWell image isa cs (run_of (started image isa).setup n (started image isa).state)
 
 abbrev pub TestsRun : Type 0
-TestsRun = (isa : Isa) (label : List ℕ) (points : List Point) (cs : List Solved) → IsTest isa label points cs → Runs isa (test_text label isa points cs) cs
+TestsRun =
+    (isa : Isa) (label : List ℕ) (points : List Point) (cs : List Solved)
+    → IsTest isa label points cs → Runs isa (test_text label isa points cs) cs

@@ -1,5 +1,5 @@
 -- What a test's text claims of its run.
-use Rattle.std.specs.Prelude.{◌≡◌, ◌≤◌, ◌⊎◌, ℕ, ◌+◌, ◌*◌, true, List, [], length, All, Contains, Option, Some, slice_index, slice_get}
+use Rattle.std.specs.Prelude.{◌≡◌, ◌≤◌, ◌⊎◌, ℕ, ◌+◌, ◌*◌, true, List, [], length, All, Contains, Some, slice_index, slice_get}
 use Rattle.rvs_insn.specs.Isa.{Isa}
 use Rattle.rvs_insn.specs.Fields.{Fields, insn_of_word}
 use Rattle.rvs_machine.specs.declared.event.Executed.{Executed}
@@ -18,8 +18,10 @@ use Rattle.rvs_test.specs.declared.statement.Name.TheVariants.{Case}
 use Rattle.rvs_test.specs.Statements.{name_of}
 use Rattle.rvs_test.specs.Claim.{symbol_address, IsOnly, outcome_at, words_after}
 
--- exactly one instruction was executed at the case's symbol. It hits the point, and its outcome is in the signature
-pub record IsClaimed (isa : Isa) (l : Label) (image : ImageValue) (o : Outcome) (c : Claim) : Type 0 where
+-- exactly one instruction was executed at the case's symbol. It hits the point, and its outcome is
+-- in the signature
+pub record IsClaimed (isa : Isa) (l : Label) (image : ImageValue) (o : Outcome)
+    (c : Claim) : Type 0 where
   pub point : Point
   pub is : slice_get l.points c.point ≡ Some point
   pub at : ℕ
@@ -33,19 +35,24 @@ pub record IsClaimed (isa : Isa) (l : Label) (image : ImageValue) (o : Outcome) 
   pub second : slice_index (words_after image isa o) (2 * c.case + 1) ≡ (outcome_at insn entry).1
 
 -- a run halts in time, hits each claimed point, and leaves two words a case and no others
-pub record IsRun (isa : Isa) (l : Label) (image : ImageValue) (claims : List Claim) (limit : ℕ) (o : Outcome) : Type 0 where
+pub record IsRun (isa : Isa) (l : Label) (image : ImageValue) (claims : List Claim) (limit : ℕ)
+    (o : Outcome) : Type 0 where
   pub halts : o.end ≡ Halted
   pub steps : length o.trace ≤ limit
   pub words : length (words_after image isa o) ≡ 2 * length claims
   pub claimed : All (IsClaimed isa l image o) claims
 
--- an image stands to the text, the header's number is the limit, and from that limit on each run is as claimed
-pub record TestRuns (isa : Isa) (l : Label) (text : List ℕ) (claims : List Claim) (limit : ℕ) : Type 0 where
+-- an image stands to the text, the header's number is the limit, and from that limit on each run is
+-- as claimed
+pub record TestRuns (isa : Isa) (l : Label) (text : List ℕ) (claims : List Claim)
+    (limit : ℕ) : Type 0 where
   pub image : ImageValue
   pub assembles : Assembles text isa image
   pub header : header_steps text ≡ Some limit
   pub most : limit ≤ 1114192
-  pub runs : (n : ℕ) → limit ≤ n → IsRun isa l image claims limit (run_of (started image isa).setup n (started image isa).state)
+  pub runs : (n : ℕ) → limit ≤ n
+      → IsRun isa l image claims limit
+      (run_of (started image isa).setup n (started image isa).state)
 
 -- a point is left where no choice hits it, and claimed where one does
 abbrev pub IsAccounted : Isa → Label → List Claim → List ℕ → ℕ → Type 0

@@ -5,3 +5,4 @@ pub mod Claim
 pub mod Made
 pub mod Found
 pub mod Claimed
+pub mod Named

@@ -1,5 +1,5 @@
 -- The test of a label: which points its cases are to hit, and what is left.
-use Rattle.std.specs.Prelude.{◌≡◌, ◌≤◌, ℕ, ◌+◌, Bool, not, List, [], ◌∷◌, length, map, filter, flat_map, Option, Some, None, option_map, option_to_list, is_some, slice_get}
+use Rattle.std.specs.Prelude.{ℕ, ◌+◌, Bool, not, List, [], ◌∷◌, length, map, filter, flat_map, Option, Some, None, option_to_list, is_some, slice_get}
 use Rattle.std.specs.List.{range_with_len}
 use Rattle.rvs_insn.specs.Isa.{Isa}
 use Rattle.rvs_cgf.specs.Print.{kind_name}
@@ -8,7 +8,7 @@ use Rattle.rvs_cgf.specs.Groups.{Label}
 use Rattle.rvs_solver.specs.declared.solved.Solved.{Solved}
 use Rattle.rvs_solver.specs.Solving.{first_at}
 use Rattle.rvs_test.specs.declared.made.Claim.{Claim}
-use Rattle.rvs_test.specs.TestText.{Point, test_text, step_limit}
+use Rattle.rvs_test.specs.TestText.{Point, test_text}
 
 -- the points of a label, by their places
 abbrev pub places : Label → List ℕ
@@ -56,7 +56,8 @@ named_at l k = named_or_none (slice_get l.points k)
 -- the text, where a point is solved
 abbrev pub text_for : Isa → Label → List Solved → Option (List ℕ)
 text_for isa l [] = None
-text_for isa l cs = Some (test_text l.name isa (map (λ (c : Claim). named_at l c.point) (claims_of isa l)) cs)
+text_for isa l cs =
+    Some (test_text l.name isa (map (λ (c : Claim). named_at l c.point) (claims_of isa l)) cs)
 
 abbrev pub text_of_label : Isa → Label → Option (List ℕ)
 text_of_label isa l = text_for isa l (cases_of isa l)

@@ -1,7 +1,5 @@
 -- Which choices a case can be made from.
-use Rattle.std.specs.Prelude.{◌≡◌, ◌≢◌, ◌⊎◌, ℕ, ◌+◌, ◌-◌, ◌%◌, ◌^◌, ◌<◌, ◌≤◌, unsigned_abs, ℤ, pos, negsuc, ◌+ℤ◌, Bool, true, false, Option, Some, None, if◌then◌else◌, unwrap_or, List, [], ◌∷◌, length}
-use Rattle.std.specs.Option.{option_map}
-use Rattle.std.specs.Int.{w32, cast_signed}
+use Rattle.std.specs.Prelude.{◌≡◌, ◌≢◌, ◌⊎◌, ℕ, ◌+◌, ◌%◌, ◌^◌, ◌<◌, ◌≤◌, unsigned_abs, ℤ, pos, Bool, true, false, Option, Some, None, unwrap_or, List, [], ◌∷◌, length}
 use Rattle.rvs_insn.specs.declared.op.Op.{Op}
 use Rattle.rvs_insn.specs.declared.op.Op.TheVariants.{Lb, Lbu, Sb, Lh, Lhu, Sh}
 use Rattle.rvs_insn.specs.declared.op.Format.{Format}
@@ -55,7 +53,8 @@ access_size Lhu = 2
 access_size Sh = 2
 access_size _ = 4
 
--- the address of a load is so many bytes behind the pattern's start as its alignment says, and the core takes it
+-- the address of a load is so many bytes behind the pattern's start as its alignment says, and the
+-- core takes it
 pub record ReadsPattern (isa : Isa) (c : ChoiceValue) : Type 0 where
   pub align : c.align < 4
   pub address : add32 c.w1 (imm_word (fields_of c)) ≡ data_base + (8 + c.align)
@@ -81,8 +80,8 @@ Accesses isa c Branch = IsNearby (unwrap_or c.imm (pos 0))
 Accesses isa c Jump = IsNearby (unwrap_or c.imm (pos 0))
 Accesses isa c _ = Unit {0}
 
--- a choice that a core can execute: its registers and its immediate are those of its format, and its words can stand in its
--- registers at once
+-- a choice that a core can execute: its registers and its immediate are those of its format, and
+-- its words can stand in its registers at once
 pub record IsSound (isa : Isa) (c : ChoiceValue) : Type 0 where
   pub encodable : IsEncodable (fields_of c)
   pub admitted : is_admitted isa (fields_of c) ≡ true

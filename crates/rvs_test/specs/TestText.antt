@@ -74,7 +74,8 @@ plain_case k c =
 
 -- a word of scratch goes to the signature, by way of p and m
 abbrev pub copy_word : ℕ → ℕ → ℕ → ℤ → List Statement
-copy_word p m k o = load_address p Scratch ++ Plain (lw m p o) ∷ (load_address p (Slot k) ++ Plain (sw m p o) ∷ [])
+copy_word p m k o =
+    load_address p Scratch ++ Plain (lw m p o) ∷ (load_address p (Slot k) ++ Plain (sw m p o) ∷ [])
 
 abbrev pub clear_scratch : ℕ → List Statement
 clear_scratch p = load_address p Scratch ++ Plain (sw 0 p (pos 0)) ∷ Plain (sw 0 p (pos 4)) ∷ []
@@ -83,7 +84,8 @@ clear_scratch p = load_address p Scratch ++ Plain (sw 0 p (pos 0)) ∷ Plain (sw
 abbrev pub store_case : ℕ → ChoiceValue → List Statement
 store_case k c =
     clear_scratch (pointer c) ++ (source c.rs1 c.w1 ++ (source c.rs2 c.w2
-    ++ (Label (Case k) ∷ Plain (fields_of c) ∷ (copy_word (pointer c) (marker c) k (pos 0) ++ copy_word (pointer c) (marker c) k (pos 4)))))
+    ++ (Label (Case k) ∷ Plain (fields_of c) ∷ (copy_word (pointer c) (marker c) k (pos 0)
+    ++ copy_word (pointer c) (marker c) k (pos 4)))))
 
 -- minus a number
 abbrev pub minus : ℕ → ℤ
@@ -136,33 +138,27 @@ abbrev pub back_body : ℕ → ℕ → ℕ → List Statement
 back_body k m zero = To (jal 0) (Done k) ∷ []
 back_body k m (suc n) = Plain (addi m m (pos 2)) ∷ To (jal 0) (Done k) ∷ filler n
 
--- the frame of a jump forwards or backwards over so many words
-abbrev pub forward_frame : ℕ → ℕ → ℕ → Fields → List Statement
-forward_frame words k m j =
-    Plain (addi m 0 (pos 1)) ∷ Label (Case k) ∷ To j (Target k) ∷ (skip m words ++ Label (Target k) ∷ [])
+-- the frame of a jump forwards or backwards over so many words, and what comes behind it
+abbrev pub forward_frame : ℕ → ℕ → ℕ → Fields → List Statement → List Statement
+forward_frame words k m j rest =
+    Plain (addi m 0 (pos 1)) ∷ Label (Case k) ∷ To j (Target k)
+    ∷ (skip m words ++ Label (Target k) ∷ rest)
 
-abbrev pub backward_frame : ℕ → ℕ → ℕ → Fields → List Statement
-backward_frame words k m j =
+abbrev pub backward_frame : ℕ → ℕ → ℕ → Fields → List Statement → List Statement
+backward_frame words k m j rest =
     Plain (addi m 0 (pos 1)) ∷ To (jal 0) (Case k) ∷ Label (Target k)
-    ∷ (back_body k m words ++ Label (Case k) ∷ To j (Target k) ∷ Label (Done k) ∷ [])
+    ∷ (back_body k m words ++ Label (Case k) ∷ To j (Target k) ∷ Label (Done k) ∷ rest)
 
-abbrev pub bare_frame : ℤ → ℕ → ℕ → Fields → List Statement
-bare_frame (pos n) k m j = forward_frame (between (pos n)) k m j
-bare_frame (negsuc n) k m j = backward_frame (between (negsuc n)) k m j
-
--- the frame, and what comes behind it
 abbrev pub frame : ℤ → ℕ → ℕ → Fields → List Statement → List Statement
-frame (pos n) k m j rest =
-    Plain (addi m 0 (pos 1)) ∷ Label (Case k) ∷ To j (Target k) ∷ (skip m (between (pos n)) ++ Label (Target k) ∷ rest)
-frame (negsuc n) k m j rest =
-    Plain (addi m 0 (pos 1)) ∷ To (jal 0) (Case k) ∷ Label (Target k)
-    ∷ (back_body k m (between (negsuc n)) ++ Label (Case k) ∷ To j (Target k) ∷ Label (Done k) ∷ rest)
+frame (pos n) k m j rest = forward_frame (between (pos n)) k m j rest
+frame (negsuc n) k m j rest = backward_frame (between (negsuc n)) k m j rest
 
 -- a case of a branch or of jal
 abbrev pub jump_case : ℕ → ChoiceValue → List Statement
 jump_case k c =
     source c.rs1 c.w1 ++ (source c.rs2 c.w2
-    ++ frame (unwrap_or c.imm (pos 0)) k (marker c) (unlinked c) (save (pointer c) k (marker c) (unwrap_or c.rd 0)))
+    ++ frame (unwrap_or c.imm (pos 0)) k (marker c) (unlinked c)
+    (save (pointer c) k (marker c) (unwrap_or c.rd 0)))
 
 -- ---- a case of a cross point
 -- the word that a register of the window holds at its start
@@ -188,7 +184,8 @@ last_rd (i ∷ []) = unwrap_or i.rd 0
 last_rd (i ∷ j ∷ is) = last_rd (j ∷ is)
 
 abbrev pub cross_case : ℕ → List Fields → List Statement
-cross_case k is = load_words 8 8 ++ (Label (Case k) ∷ (plains is ++ save 5 k (first_rd is) (last_rd is)))
+cross_case k is =
+    load_words 8 8 ++ (Label (Case k) ∷ (plains is ++ save 5 k (first_rd is) (last_rd is)))
 
 abbrev pub case_by : Format → ℕ → ChoiceValue → List Statement
 case_by Branch k c = jump_case k c
@@ -304,7 +301,8 @@ unfoldable pub text_of : List Statement → List ℕ
 text_of ss = ended (map printed ss)
 
 abbrev pub text_lines : List ℕ → Isa → List Point → List Solved → List (List ℕ)
-text_lines label isa points cs = header label isa (step_limit cs) points ++ map printed (statements isa cs)
+text_lines label isa points cs =
+    header label isa (step_limit cs) points ++ map printed (statements isa cs)
 
 unfoldable pub test_text : List ℕ → Isa → List Point → List Solved → List ℕ
 test_text label isa points cs = ended (text_lines label isa points cs)

@@ -1,5 +1,5 @@
 // The frame of a jump, as statements.
-ghost use Rattle.std.specs.Prelude.{◌≡◌, ◌<◌, ◌++◌, OnOk, Some, pos};
+ghost use Rattle.std.specs.Prelude.{◌≡◌, ◌<◌, ◌++◌, [], OnOk, Some, pos};
 ghost use Rattle.rvs_test.specs.TestText as spec;
 
 use crate::shorthands::{addi, jal};
@@ -71,7 +71,8 @@ fn add_forward(
     jump: Insn,
 ) -> Result<(), NoMemory>
     requires { m < 32 }
-    ensures { OnOk result (list.new.items ≡ list.old.items ++ spec.forward_frame words k m jump) }
+    ensures { OnOk result (
+        list.new.items ≡ list.old.items ++ spec.forward_frame words k m jump []) }
 {
     list.push(Statement::Plain(addi(m, 0, 1)))?;
     list.push(Statement::Label(Name::Case(k)))?;
@@ -89,7 +90,8 @@ fn add_backward(
     jump: Insn,
 ) -> Result<(), NoMemory>
     requires { m < 32 }
-    ensures { OnOk result (list.new.items ≡ list.old.items ++ spec.backward_frame words k m jump) }
+    ensures { OnOk result (
+        list.new.items ≡ list.old.items ++ spec.backward_frame words k m jump []) }
 {
     list.push(Statement::Plain(addi(m, 0, 1)))?;
     list.push(Statement::To(jal(), Name::Case(k)))?;
@@ -110,7 +112,7 @@ pub(crate) fn add_frame(
     jump: Insn,
 ) -> Result<(), NoMemory>
     requires { m < 32 }
-    ensures { OnOk result (list.new.items ≡ list.old.items ++ spec.bare_frame imm k m jump) }
+    ensures { OnOk result (list.new.items ≡ list.old.items ++ spec.frame imm k m jump []) }
 {
     if imm < 0 {
         add_backward(list, between(imm), k, m, jump)

@@ -6,6 +6,7 @@ ghost use Rattle.rvs_solver.specs.Solving.{IsSolvableAt, bound_of_label};
 ghost use Rattle.rvs_test.specs.TestText as layout;
 ghost use Rattle.rvs_test.specs.Made.{claims_of, unsolved_of, cases_of, text_for, text_of_label, named_at};
 ghost use Rattle.rvs_test.specs.Claimed.{TestRuns, IsAccounted};
+ghost use Rattle.rvs_test.specs.Named.{claims_read, named_claim};
 
 use crate::finding::{Found, find_cases};
 use crate::made::{Claim, Made};
@@ -68,6 +69,8 @@ fn test_text(
         (map (λ c. named_at (label_view label.now) c.point) claims.now) cases.now) }
     ensures runs { IfOk result (λ text.
         TestRuns spec.now (label_view label.now) text claims.now steps) }
+    ensures read { IfOk result (λ text.
+        claims_read text ≡ Some (map (named_claim (label_view label.now)) claims.now)) }
 {
     let registers = if spec.e { 15 } else { 31 };
     let mut out = Text::new(alloc);
@@ -94,6 +97,8 @@ fn text_for(
     ensures text { IfOk result (λ text. text ≡ text_for spec.now (label_view label.now) cases.now) }
     ensures runs { IfOk result (λ text. IfSome text (λ bytes.
         TestRuns spec.now (label_view label.now) bytes claims.now steps)) }
+    ensures read { IfOk result (λ text. IfSome text (λ bytes.
+        claims_read bytes ≡ Some (map (named_claim (label_view label.now)) claims.now))) }
 {
     if cases.is_empty() {
         return Ok(None);
@@ -108,6 +113,10 @@ fn text_for(
 /// Its run halts within its steps. Each claim is true: exactly one instruction is executed at the
 /// symbol of the case, and it hits the point. The signature has two words for each case, which are
 /// the case's outcome, and no others. The points that are left are those that no choice hits.
+///
+/// The text says itself what it claims: who reads the lines of it that begin `#! case `, each with
+/// a decimal number, a kind up to the next space, and a key up to the end of the line, has the case
+/// and the point of each claim, in order, and nothing else.
 ///
 /// # Errors
 ///
@@ -126,6 +135,8 @@ pub fn make_test<L: Ledger>(
         m.steps ≡ layout.step_limit (cases_of spec.now (label_view label.now))) }
     ensures runs { IfOk result (λ m. IfSome m.text (λ text.
         TestRuns spec.now (label_view label.now) text m.claims m.steps)) }
+    ensures read { IfOk result (λ m. IfSome m.text (λ text.
+        claims_read text ≡ Some (map (named_claim (label_view label.now)) m.claims))) }
     ensures accounted { IfOk result (λ m. (k : ℕ) → k < length label.now.points →
         IsAccounted spec.now (label_view label.now) m.claims m.unsolved k) }
     ensures unsolvable { IfOk result (λ m. (k : ℕ) → Contains m.unsolved k →

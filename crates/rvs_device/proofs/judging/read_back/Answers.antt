@@ -1,4 +1,4 @@
-use Rattle.std.proofs.Common.{◌≡◌, w32, to_z, of_z, ◌∙◌}
+use Rattle.std.proofs.Common.{◌≡◌, w32, to_z, of_z}
 use Rattle.std.proofs.lemmas.Int.{to_z-of_z}
 use Rattle.rvs_device.proofs.Back.{back-found, back-absent, back-long}
 use Rattle.rvs_device.proofs.judging.read_back.Goals as goal

@@ -1,5 +1,5 @@
-use Rattle.std.proofs.Common.{◌≡◌, Bool, true, false, ◌&&◌, not, List, ℕ, [], ◌∷◌, Option, Some, None, if◌then◌else◌, refl, sym, ap, ◌∙◌}
-use Rattle.std.specs.List.{find, list_all}
+use Rattle.std.proofs.Common.{◌≡◌, Bool, true, false, ◌&&◌, List, ℕ, [], ◌∷◌, Some, None, refl, sym, ap, ◌∙◌}
+use Rattle.std.specs.List.{list_all}
 use Rattle.rvs_device.specs.Command.{is_known}
 use Rattle.rvs_device.specs.DeviceFile.{unknown_in}
 use Rattle.rvs_device.proofs.reading.checked_words.Goals as goal

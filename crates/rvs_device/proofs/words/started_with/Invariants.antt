@@ -1,4 +1,4 @@
-use Rattle.std.proofs.Common.{◌≡◌, ◌++◌, map, drop}
+use Rattle.std.proofs.Common.{◌≡◌, ◌++◌, drop}
 use Rattle.rvs_base.specs.Host.{device_words}
 use Rattle.rvs_device.specs.Command.{started_with}
 use Rattle.rvs_device.proofs.words.started_with.Given as goal

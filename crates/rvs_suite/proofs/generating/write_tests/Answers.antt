@@ -1,20 +1,15 @@
-use Rattle.std.proofs.Common.{◌≡◌, ◌++◌, ◌∙◌, ℕ, List, ap, sym, Ok, subst}
+use Rattle.std.proofs.Common.{◌≡◌, ◌∙◌, ℕ, List, sym, Ok, subst}
 use Rattle.std.proofs.lemmas.Result.{err_from_is_err_and}
 use Rattle.rvs_plan.specs.World.{world}
 use Rattle.rvs_plan.specs.Plan.{gives}
 use Rattle.rvs_plan.specs.Meets.{Meets}
 use Rattle.rvs_plan.proofs.Sequence.{Meets-then, Meets-stop, Meets-gives, Meets-no_memory}
-use Rattle.rvs_insn.specs.Isa.{Isa}
-use Rattle.rvs_cgf.specs.Groups.{Label}
 use Rattle.rvs_suite.specs.GroupsView.{groups_view}
-use Rattle.rvs_suite.specs.GenerateTexts.{Totals, total_line, listing}
+use Rattle.rvs_suite.specs.GenerateTexts.{listing}
 use Rattle.rvs_suite.specs.GenerateView.{totals_view}
-use Rattle.rvs_suite.specs.Generate.{IsSaid, written_tests}
+use Rattle.rvs_suite.specs.Generate.{written_tests}
+use Rattle.rvs_suite.proofs.Saying.{listed}
 use Rattle.rvs_suite.proofs.generating.write_tests.Goals as goal
-
-listed : (isa : Isa) (ls : List Label) (text : List ℕ) (totals : Totals) → IsSaid isa ls text totals → text ++ total_line totals ≡ listing isa ls
-unfolding listing
-listed isa ls text totals s = λ i. s.lines i ++ total_line (s.counted i)
 
 pub returns-in_err-said : goal.returns-in_err-said
 returns-in_err-said g c = λ out.

@@ -20,7 +20,7 @@ returns-in_err-pass-clause-met g c =
     let new = world (g.H.Host.state c.judge_one.new.host) (g.O.Sink.state c.judge_one.new.out) in
     let here : drop i c.args.tests.now ≡ c.test-item.result ∷ rest = drop_more c.args.tests.now i _ c.loop-test-test.true ∙ ap (λ (t : Test). t ∷ rest) (sym c.test-item.is) in
     let stopped = Meets-stop (λ pass. judges_all bench (with_one passed pass) rest) c.in_err-pass.ensures in
-    rw (p.1, p.2) (c.loop-test.invariant.met new (Err c.in_err-pass.field-0) (subst (λ (ts : List Test). MeetsWith IsAnswer (judges_all bench passed ts) old new (Err c.in_err-pass.field-0)) (sym here) stopped))
+    rw (p.1, p.2) (c.loop-test.invariant.met new (Err c.in_err-pass.field-0.0) (subst (λ (ts : List Test). MeetsWith IsAnswer (judges_all bench passed ts) old new (Err c.in_err-pass.field-0.0)) (sym here) stopped))
 
 pub loop-test-preserved : goal.loop-test-preserved
 loop-test-preserved g c =
@@ -33,8 +33,8 @@ loop-test-preserved g c =
     record {
       met = λ new result later. c.loop-test.invariant.met new result
           (subst (λ (ts : List Test). MeetsWith IsAnswer (judges_all bench passed ts) old new result) (sym here)
-          (Meets-then (λ pass. judges_all bench (with_one passed pass) rest) c.in_ok-pass.ensures (rw c.with_one.ensures.value at later)));
-      some = let before = c.loop-test.invariant.some in let more = c.with_one.ensures.some in omega (arith, before, more);
+          (Meets-then (λ pass. judges_all bench (with_one passed pass) rest) c.in_ok-pass.ensures (rw c.with_one-passed.ensures.value at later)));
+      some = let before = c.loop-test.invariant.some in let more = c.with_one-passed.ensures.some in omega (arith, before, more);
     }
 
 pub returns-clause-met : goal.returns-clause-met

@@ -94,5 +94,13 @@ returns-in-Run g c =
     let w : c.as_str-in-Run-4.result.now ≡ c.in-Run.work = c.as_str-in-Run-4.ensures in
     let old = world (g.H.Host.state c.args.host.now) (g.O.Sink.state c.args.out.now) in
     let new = world (g.H.Host.state c.run_tests.new.host) (g.O.Sink.state c.run_tests.new.out) in
-    let met = rw (p, i, n, d, w) at c.run_tests.ensures in
+    let result = c.run_tests.result in
+    let files = c.as_slice-in-Run.result.now in
+    let device = c.as_str-in-Run-3.result.now in
+    let work = c.as_str-in-Run-4.result.now in
+    let one = subst (λ (x : List ℕ). MeetsWith IsAnswer (run x c.as_str-in-Run-2.result.now files device work) old new result) p c.run_tests.ensures in
+    let two = subst (λ (x : List ℕ). MeetsWith IsAnswer (run c.in-Run.program x files device work) old new result) i one in
+    let three = subst (λ (x : List (List ℕ)). MeetsWith IsAnswer (run c.in-Run.program c.in-Run.isa x device work) old new result) n two in
+    let four = subst (λ (x : List ℕ). MeetsWith IsAnswer (run c.in-Run.program c.in-Run.isa c.in-Run.groups x work) old new result) d three in
+    let met = subst (λ (x : List ℕ). MeetsWith IsAnswer (run c.in-Run.program c.in-Run.isa c.in-Run.groups c.in-Run.device x) old new result) w four in
     rw c.in-Run.is (Performs-meets (λ is. cc) met)

@@ -8,5 +8,6 @@ use Rattle.rvs_test.proofs.finding.find_cases.Given as goal
 abbrev pub invariant-loop-point : goal.invariant-loop-point
 invariant-loop-point g l = record {
   found : found_view l.found ≡ found_before l.spec (label_view l.label) l.point;
-  cost : l.steps ≤ l.fn.steps + sum_by (bound_of_point l.spec (label_view l.label)) (take l.point (label_view l.label).points);
+  cost : l.steps ≤ l.fn.steps + sum_by (bound_of_point l.spec (label_view l.label))
+      (take l.point (label_view l.label).points);
 }

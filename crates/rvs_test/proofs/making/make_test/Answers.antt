@@ -1,8 +1,7 @@
-use Rattle.std.proofs.Common.{◌≡◌, ◌≤◌, ◌<◌, ◌∙◌, ℕ, List, length, sym, ap, subst}
+use Rattle.std.proofs.Common.{◌≤◌, ◌<◌, ◌∙◌, ℕ, List, length, sym, subst}
 use Rattle.std.specs.Prelude.{Contains}
 use Rattle.rvs_cgf.specs.GroupView.{label_view}
 use Rattle.rvs_solver.specs.declared.solved.Solved.{Solved}
-use Rattle.rvs_solver.specs.Solving.{IsSolvableAt}
 use Rattle.rvs_test.specs.declared.made.Claim.{Claim}
 use Rattle.rvs_test.specs.Made.{claims_of}
 use Rattle.rvs_test.specs.Claimed.{IsAccounted}
@@ -14,7 +13,8 @@ use Rattle.rvs_test.proofs.making.make_test.Goals as goal
 pub step_limit-limit-requires : goal.step_limit-limit-requires
 step_limit-limit-requires g c =
     let P : List Solved → Type 0 = λ cs. length cs ≤ 2048 in
-    subst P (sym (c.as_slice.ensures ∙ c.in_ok-found.ensures.cases)) (cases_few c.args.spec.now (label_view c.args.label.now) c.requires)
+    subst P (sym (c.as_slice.ensures ∙ c.in_ok-found.ensures.cases))
+    (cases_few c.args.spec.now (label_view c.args.label.now) c.requires)
 
 pub returns-clause-accounted : goal.returns-clause-accounted
 returns-clause-accounted g c = λ k h.
@@ -22,9 +22,12 @@ returns-clause-accounted g c = λ k h.
     let isa = c.args.spec.now in
     let P : List Claim → Type 0 = λ ds. IsAccounted isa l ds c.in_ok-found.found.unsolved k in
     let Q : List ℕ → Type 0 = λ us. IsAccounted isa l (claims_of isa l) us k in
-    subst P (sym c.in_ok-found.ensures.claims) (subst Q (sym c.in_ok-found.ensures.unsolved) (accounted isa l k (subst (λ n. k < n) (sym (same_length c.args.label.now)) h)))
+    subst P (sym c.in_ok-found.ensures.claims)
+    (subst Q (sym c.in_ok-found.ensures.unsolved)
+    (accounted isa l k (subst (λ n. k < n) (sym (same_length c.args.label.now)) h)))
 
 pub returns-clause-unsolvable : goal.returns-clause-unsolvable
 returns-clause-unsolvable g c = λ k h.
     let l = label_view c.args.label.now in
-    left_unsolvable c.args.spec.now l k (subst (λ us. Contains us k) c.in_ok-found.ensures.unsolved h)
+    left_unsolvable c.args.spec.now l k
+    (subst (λ us. Contains us k) c.in_ok-found.ensures.unsolved h)

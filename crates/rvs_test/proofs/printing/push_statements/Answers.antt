@@ -12,5 +12,9 @@ pub loop-statement-preserved : goal.loop-statement-preserved
 loop-statement-preserved c =
     let i = c.loop-statement.statement-index in
     let s = c.statement-item.result in
-    grows c.args.out.now c.loop-statement.out c.push_statement.new.out (text_of (take i c.args.statements.now)) (text_of (take (i + 1) c.args.statements.now)) (printed s ++ 10 ∷ []) c.loop-statement.invariant c.in_ok-push_statement.ensures
-    (text_more c.args.statements.now i s (omega arith) ∙ ap (λ x. text_of (take i c.args.statements.now) ++ (printed x ++ 10 ∷ [])) (sym c.statement-item.is))
+    grows c.args.out.now c.loop-statement.out c.push_statement.new.out
+    (text_of (take i c.args.statements.now)) (text_of (take (i + 1) c.args.statements.now))
+    (printed s ++ 10 ∷ []) c.loop-statement.invariant c.in_ok-push_statement.ensures
+    (text_more c.args.statements.now i s (omega arith)
+    ∙ ap (λ x. text_of (take i c.args.statements.now) ++ (printed x ++ 10 ∷ []))
+    (sym c.statement-item.is))

@@ -1,4 +1,4 @@
-use Rattle.std.proofs.Common.{◌+◌, ◌++◌, ◌∷◌, [], ◌∙◌, map, take, get_or, sym, ap, arith}
+use Rattle.std.proofs.Common.{◌+◌, ◌++◌, ◌∷◌, [], ◌∙◌, map, take, arith}
 use Rattle.rvs_cgf.specs.GroupView.{label_view}
 use Rattle.rvs_test.specs.TestText.{ended, line_of_claim}
 use Rattle.rvs_test.specs.Made.{named_at}
@@ -12,5 +12,9 @@ loop-claim-preserved c =
     let l = c.args.label.now in
     let f = line_of_claim (named_at (label_view l)) in
     let p = c.index-as_slice-claim.result in
-    grows c.args.out.now c.loop-claim.out c.push_line.new.out (ended (map f (take i cs))) (ended (map f (take (i + 1) cs))) (c.as_str.result.now ++ 10 ∷ []) c.loop-claim.invariant c.in_ok-push_line.ensures
-    (claim_more l cs i _ c.as_str.result.now p (omega arith) (c.as_str.ensures ∙ c.in_ok-line.ensures) (c.requires i _ (omega arith)) (same_at c.as_slice.result.now l.points _ p c.as_slice.ensures c.index-as_slice-claim.is))
+    grows c.args.out.now c.loop-claim.out c.push_line.new.out (ended (map f (take i cs)))
+    (ended (map f (take (i + 1) cs))) (c.as_str.result.now ++ 10 ∷ []) c.loop-claim.invariant
+    c.in_ok-push_line.ensures
+    (claim_more l cs i _ c.as_str.result.now p (omega arith)
+    (c.as_str.ensures ∙ c.in_ok-line.ensures) (c.requires i _ (omega arith))
+    (same_at c.as_slice.result.now l.points _ p c.as_slice.ensures c.index-as_slice-claim.is))

@@ -5,4 +5,6 @@ use Rattle.rvs_test.specs.Made.{named_at}
 use Rattle.rvs_test.proofs.writing.push_claims.Given as goal
 
 abbrev pub invariant-loop-claim : goal.invariant-loop-claim
-invariant-loop-claim l = l.out ≡ l.fn.out ++ ended (map (line_of_claim (named_at (label_view l.label))) (take l.claim-index l.claims))
+invariant-loop-claim l =
+    l.out ≡ l.fn.out ++ ended
+    (map (line_of_claim (named_at (label_view l.label))) (take l.claim-index l.claims))

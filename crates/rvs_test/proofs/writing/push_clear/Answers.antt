@@ -11,5 +11,7 @@ loop-n-init c = begins_text c.args.out.now
 pub loop-n-preserved : goal.loop-n-preserved
 loop-n-preserved c =
     let n = c.loop-n.n in
-    grows c.args.out.now c.loop-n.out c.push_statements.new.out (text_of (clear 1 n)) (text_of (clear 1 (n + 1))) (text_of (Plain c.addi.result ∷ [])) c.loop-n.invariant c.in_ok-push_statements.ensures
+    grows c.args.out.now c.loop-n.out c.push_statements.new.out (text_of (clear 1 n))
+    (text_of (clear 1 (n + 1))) (text_of (Plain c.addi.result ∷ [])) c.loop-n.invariant
+    c.in_ok-push_statements.ensures
     (clear_more 1 n ∙ ap (λ i. text_of (clear 1 n) ++ text_of (Plain i ∷ [])) (sym c.addi.ensures))

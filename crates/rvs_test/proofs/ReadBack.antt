@@ -1,0 +1,160 @@
+-- What a test claims is read back from its text.
+use Rattle.std.proofs.Common.{◌≡◌, ℕ, ◌+◌, ◌^◌, ◌<◌, true, false, cond, List, [], ◌∷◌, ◌++◌, length, Option, Some, None, refl, sym, ap, ◌∙◌, arith, append-nil}
+use Rattle.std.specs.Prelude.{◌==◌, map, slice_get, option_map, option_and_then}
+use Rattle.std.specs.List.{filter_map, cons_option, list_all}
+use Rattle.std.specs.Fmt.{decimal}
+use Rattle.std.proofs.lemmas.Bool.Decides.{nat_tests}
+use Rattle.std.proofs.lemmas.List.Elements.{filter_map-append}
+use Rattle.rvs_insn.specs.Isa.{Isa}
+use Rattle.rvs_insn.specs.Table.{row}
+use Rattle.rvs_asm_text.specs.Text.{before, after}
+use Rattle.rvs_asm_text.specs.Numbers.{digits_of}
+use Rattle.rvs_cgf.specs.Print.{kind_name}
+use Rattle.rvs_cgf.specs.Groups as groups
+use Rattle.rvs_cgf.specs.Groups.{Label}
+use Rattle.rvs_cgf.specs.Valid.{IsValid}
+use Rattle.rvs_cgf.specs.declared.group.Kind.{Kind}
+use Rattle.rvs_cgf.specs.declared.group.Kind.TheVariants.{Mnemonic}
+use Rattle.rvs_solver.specs.declared.solved.Solved.{Solved}
+use Rattle.rvs_test.specs.declared.made.Claim.{Claim}
+use Rattle.rvs_test.specs.declared.statement.Name.{Name}
+use Rattle.rvs_test.specs.declared.statement.Name.TheVariants.{Start}
+use Rattle.rvs_test.specs.declared.statement.Fixed.{Fixed}
+use Rattle.rvs_test.specs.declared.statement.Fixed.TheVariants.{NoRvc}
+use Rattle.rvs_test.specs.declared.statement.Statement.{Statement}
+use Rattle.rvs_test.specs.declared.statement.Statement.TheVariants.{Label as LabelLine, Plain, High, Low, To, Nops, Fixed as FixedLine}
+use Rattle.rvs_test.specs.Statements.{name_of, written, operands_of, fixed_text, printed}
+use Rattle.rvs_test.specs.TestText.{Point, claim_lines, header, step_limit, test_text}
+use Rattle.rvs_test.specs.Made.{places, solved_among, numbered, claims_of, cases_of, named_or_none, named_at}
+use Rattle.rvs_test.specs.Named.{Named, point_read, claim_read, behind_front, all_read, claims_read, named_claim}
+use Rattle.rvs_test.proofs.Chars.{All, tested, is_clean}
+use Rattle.rvs_test.proofs.Digits.{decimal_spells, decimal_read, digit_words}
+use Rattle.rvs_test.proofs.Loops.{numbered_length}
+use Rattle.rvs_test.proofs.Solvings.{cases_few, claims_same}
+use Rattle.rvs_test.proofs.Parts.{whole}
+use Rattle.rvs_test.proofs.Main.{text_cut}
+use Rattle.rvs_test.proofs.Joined.{label_test}
+
+-- ---- a line of a claim
+
+no_space : (c : ℕ) → is_clean c ≡ true → (c == 32) ≡ false
+no_space c h = grind (arith, nat_tests)
+
+before_space : (t rest : List ℕ) → All is_clean t → before 32 (t ++ 32 ∷ rest) ≡ t
+before_space [] rest h = refl
+before_space (c ∷ cs) rest h =
+    ap (λ b. cond b [] (c ∷ before 32 (cs ++ 32 ∷ rest))) (no_space c h.0)
+    ∙ ap (λ x. c ∷ x) (before_space cs rest h.1)
+
+after_space : (t rest : List ℕ) → All is_clean t → after 32 (t ++ 32 ∷ rest) ≡ Some rest
+after_space [] rest h = refl
+after_space (c ∷ cs) rest h =
+    ap (λ b. cond b (Some (cs ++ 32 ∷ rest)) (after 32 (cs ++ 32 ∷ rest))) (no_space c h.0)
+    ∙ after_space cs rest h.1
+
+claim_back : (k : ℕ) (p : Point) → k < 2 ^ 64 → All is_clean p.kind
+    → claim_read (decimal k ++ 32 ∷ (p.kind ++ 32 ∷ p.key))
+    ≡ Some (record { case = k; kind = p.kind; key = p.key })
+claim_back k p small h =
+    let s = decimal_spells k small in
+    let digits = digit_words (decimal k) s.digits in
+    let rest = p.kind ++ 32 ∷ p.key in
+    let made : List ℕ → List ℕ → Named = λ kind key. record { case = k; kind = kind; key = key } in
+    let text = decimal k ++ 32 ∷ rest in
+    ap (λ r. option_and_then (point_read r) (digits_of 10 (before 32 text)))
+    (after_space (decimal k) rest digits)
+    ∙ ap (λ t. option_and_then (point_read (Some rest)) (digits_of 10 t))
+    (before_space (decimal k) rest digits)
+    ∙ ap (option_and_then (point_read (Some rest))) (decimal_read k small)
+    ∙ ap (option_map (made (before 32 rest))) (after_space p.kind p.key h)
+    ∙ ap (λ kind. Some (made kind p.key)) (before_space p.kind p.key h)
+
+-- ---- a kind is one word
+
+kind_test : (k : Kind) → list_all is_clean (kind_name k) ≡ true
+kind_test Mnemonic = refl
+kind_test k = refl
+
+named_clean : (o : Option groups.Point) → All is_clean (named_or_none o).kind
+named_clean None = tt
+named_clean (Some p) = tested is_clean (kind_name p.kind) (kind_test p.kind)
+
+-- ---- the lines of the statements claim nothing
+
+written_silent : (w : List ℕ) (ts : List (List ℕ)) → behind_front (written w ts) ≡ None
+written_silent w [] = refl
+written_silent w (t ∷ ts) = refl
+
+name_silent : (n : Name) → behind_front (name_of n ++ 58 ∷ []) ≡ None
+name_silent Start = refl
+name_silent n = refl
+
+fixed_silent : (f : Fixed) → behind_front (fixed_text f) ≡ None
+fixed_silent NoRvc = refl
+fixed_silent f = refl
+
+silent : (s : Statement) → behind_front (printed s) ≡ None
+silent (LabelLine n) = name_silent n
+silent (Plain i) = written_silent (row i.op).name (operands_of (row i.op).form i)
+silent (High r n) = refl
+silent (Low r n) = refl
+silent (To i n) =
+    written_silent (row i.op).name (operands_of (row i.op).form i ++ name_of n ∷ [])
+silent (Nops n) = refl
+silent (FixedLine f) = fixed_silent f
+
+all_silent : (ss : List Statement) → filter_map behind_front (map printed ss) ≡ []
+all_silent [] = refl
+all_silent (s ∷ ss) =
+    ap (λ o. cons_option o (filter_map behind_front (map printed ss))) (silent s) ∙ all_silent ss
+
+-- ---- all lines
+
+abbrev points_of : Label → List Claim → List Point
+points_of l ds = map (λ (c : Claim). named_at l c.point) ds
+
+numbered_back : (l : Label) (j : ℕ) (ks : List ℕ) → j + length ks < 2 ^ 64
+    → all_read (filter_map behind_front (claim_lines j (points_of l (numbered j ks))))
+    ≡ Some (map (named_claim l) (numbered j ks))
+numbered_back l j [] h = refl
+numbered_back l j (k ∷ ks) h =
+    let rest = filter_map behind_front (claim_lines (j + 1) (points_of l (numbered (j + 1) ks))) in
+    ap (option_and_then (λ c. option_map (λ cs. c ∷ cs) (all_read rest)))
+    (claim_back j (named_at l k) (omega arith) (named_clean (slice_get l.points k)))
+    ∙ ap (option_map (λ cs. named_claim l (record { case = j; point = k }) ∷ cs))
+    (numbered_back l (j + 1) ks (omega arith))
+
+claims_back : (isa : Isa) (l : Label) → IsValid isa l
+    → all_read (filter_map behind_front (claim_lines 0 (points_of l (claims_of isa l))))
+    ≡ Some (map (named_claim l) (claims_of isa l))
+unfolding claims_of
+claims_back isa l v =
+    let ks = solved_among isa l (places l) in
+    let same : length (numbered 0 ks) ≡ length (cases_of isa l) = claims_same isa l in
+    numbered_back l 0 ks (omega (arith, numbered_length 0 ks, same, cases_few isa l v))
+
+label_back : (isa : Isa) (l : Label) → isa.e ≡ false → IsValid isa l
+    → claims_read (test_text l.name isa (points_of l (claims_of isa l)) (cases_of isa l))
+    ≡ Some (map (named_claim l) (claims_of isa l))
+unfolding claims_read
+label_back isa l e v =
+    let cs = cases_of isa l in
+    let ps = points_of l (claims_of isa l) in
+    let head = header l.name isa (step_limit cs) ps in
+    let fronts : List (List ℕ) → List (List ℕ) = filter_map behind_front in
+    ap (λ ls. all_read (fronts ls)) (text_cut isa l.name ps cs (label_test isa l e v))
+    ∙ ap all_read
+    (filter_map-append behind_front head (map printed (whole cs))
+    ∙ ap (λ x. fronts head ++ x) (all_silent (whole cs)) ∙ append-nil (fronts head))
+    ∙ claims_back isa l v
+
+-- the same with what the code holds
+pub back_there : (isa : Isa) (l : Label) → isa.e ≡ false → IsValid isa l
+    → (text : List ℕ) (ds : List Claim) (cs : List Solved)
+    → ds ≡ claims_of isa l → cs ≡ cases_of isa l
+    → text ≡ test_text l.name isa (points_of l ds) cs
+    → claims_read text ≡ Some (map (named_claim l) ds)
+back_there isa l e v text ds cs hd hc h =
+    let t : List Claim → List Solved → List ℕ = λ xs ys. test_text l.name isa (points_of l xs) ys in
+    ap claims_read (h ∙ ap (λ xs. t xs cs) hd ∙ ap (t (claims_of isa l)) hc)
+    ∙ label_back isa l e v ∙ ap (λ xs. Some (map (named_claim l) xs)) (sym hd)
