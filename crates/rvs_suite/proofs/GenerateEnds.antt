@@ -140,8 +140,8 @@ one-test {call} work isa l p base valid selected one solvable files =
     let found = one-point isa l p one solvable in
     let chosen : l.selected ≡ true = selected in
     let left : call.new.host.files ≡ written (path_of work l.name) found.text call.old.host.files =
-        files ∙ ap (λ (b : Bool). files-one work b l.name (text_of_label isa l) call.old.host.files) chosen
-        ∙ ap (λ (t : Option (List ℕ)). generating.with_text (path_of work l.name) t call.old.host.files) found.is in
+    files ∙ ap (λ (b : Bool). files-one work b l.name (text_of_label isa l) call.old.host.files) chosen
+    ∙ ap (λ (t : Option (List ℕ)). generating.with_text (path_of work l.name) t call.old.host.files) found.is in
     record {
       text = found.text;
       there = λ files' told. file-there (path_of work l.name) found.text call.old.host.files files' (sym left ∙ told);

@@ -61,7 +61,7 @@ record Left (program work : List ℕ) (inputs : RunInputs) (files : Files) (befo
   all : JudgedAll (bench_of program work inputs) (tests_in inputs) 0 (tallies (length (tests_in inputs))) files before (appended out (listing inputs.groups.isa inputs.groups.groups)) (Ok end) effects
   same : after effects (contents_of files before (appended out (listing inputs.groups.isa inputs.groups.groups)))
       ≡ contents_of (with_all_judged (bench_of program work inputs) (tests_in inputs) all.news files) (before ++ all.news)
-        (appended out (listing inputs.groups.isa inputs.groups.groups ++ (verdict_lines (bench_of program work inputs) (tests_in inputs) all.news ++ tally_line (length (tests_in inputs)) (passed_onto (bench_of program work inputs) 0 (tests_in inputs) all.news))))
+      (appended out (listing inputs.groups.isa inputs.groups.groups ++ (verdict_lines (bench_of program work inputs) (tests_in inputs) all.news ++ tally_line (length (tests_in inputs)) (passed_onto (bench_of program work inputs) 0 (tests_in inputs) all.news))))
   verdict : end ≡ verdict_of_all (length (tests_in inputs)) (passed_onto (bench_of program work inputs) 0 (tests_in inputs) all.news)
 
 -- nothing comes behind an end
@@ -96,10 +96,11 @@ judged program work inputs files before out end effects goes saw =
     let tests = tests_in inputs in
     let said = listing inputs.groups.isa inputs.groups.groups in
     let first = first_did (Out said) _ (Ok end) effects goes in
-    let seen = subst (λ (es : List Effect). Saw es (contents_of files before out)) first.is saw in
-    (first.rest,
-    tallied program work inputs files before out end first.rest (judged-all bench tests 0 (tallies (length tests)) files before (appended out said) (Ok end) first.rest first.goes seen.1),
-    ap (λ (es : List Effect). after es (contents_of files before out)) first.is)
+    let seen = subst (λ (es : List Effect). Saw es (contents_of files before out)) first.is saw in (
+      first.rest,
+      tallied program work inputs files before out end first.rest (judged-all bench tests 0 (tallies (length tests)) files before (appended out said) (Ok end) first.rest first.goes seen.1),
+      ap (λ (es : List Effect). after es (contents_of files before out)) first.is,
+    )
 
 told-runs : (r : Option (List DeviceRun)) → is_some r ≡ true → (runs : List DeviceRun) × (r ≡ Some runs)
 told-runs (Some runs) is = (runs, refl)

@@ -189,7 +189,7 @@ judged-one bench test next files runs out end effects goes saw =
     let four = Device (task_of bench test).words path device ran.answer in
     let five = Read device back.found in
     let are : effects ≡ effects_with bench test files ran.answer back.found line.rest =
-        text.is ∙ ap (λ (es : List Effect). one ∷ es) (words.is ∙ ap (λ (es : List Effect). two ∷ es) (empty.is ∙ ap (λ (es : List Effect). three ∷ es) (ran.is ∙ ap (λ (es : List Effect). four ∷ es) (back.is ∙ ap (λ (es : List Effect). five ∷ es) line.is)))) in
+    text.is ∙ ap (λ (es : List Effect). one ∷ es) (words.is ∙ ap (λ (es : List Effect). two ∷ es) (empty.is ∙ ap (λ (es : List Effect). three ∷ es) (ran.is ∙ ap (λ (es : List Effect). four ∷ es) (back.is ∙ ap (λ (es : List Effect). five ∷ es) line.is)))) in
     let seen = subst (λ (es : List Effect). Saw es (contents_of files runs out)) are saw in
     let left : back.found ≡ ran.answer.left = sym (seen.1.1.1.1.0 _ refl) ∙ left-there (device_path bench.work test.name) ran.answer.left (started bench test files) in
     judged-with bench test next files runs out end effects ran.answer back.found line.rest are left line.goes saw

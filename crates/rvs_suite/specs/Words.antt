@@ -39,7 +39,7 @@ pairs_of (word ∷ []) = option_map (λ (pair : Pair). pair ∷ []) (pair_in wor
 pairs_of (word ∷ value ∷ words) = elim (pair_in word) [
   | None ↦ with_two_words word value (pairs_of words)
   | Some pair ↦ with_pair pair (pairs_of (value ∷ words))
-  ]
+]
 
 -- the values of an option, in order
 abbrev pub values_of : List ℕ → List Pair → List (List ℕ)

@@ -70,11 +70,7 @@ fn with_total(alloc: Global, said: Said) -> Result<Text, NoMemory>
     Ok(text)
 }
 
-fn gather_labels(
-    alloc: Global,
-    isa: &IsaSpec,
-    labels: &[Label],
-) -> Result<Gathering, NoMemory>
+fn gather_labels(alloc: Global, isa: &IsaSpec, labels: &[Label]) -> Result<Gathering, NoMemory>
     requires { All (λ l. IsValidIfSelected isa.now (label_view l)) labels.now }
     ensures said { IfOk result (λ g.
         IsSaid isa.now (groups_view labels.now) g.said.text (totals_view g.said.totals)) }

@@ -92,20 +92,17 @@ fn image_of(alloc: Global, isa: &IsaSpec, test: &Test) -> Result<Image, NoMemory
 {
     match assemble(alloc, test.text.as_str().as_bytes(), isa) {
         Ok(image) => Ok(image),
-        Err(AsmRefusal {
-            kind: AsmKind::NoMemory,
-            ..
-        }) => Err(NoMemory),
+        Err(
+            AsmRefusal {
+                kind: AsmKind::NoMemory,
+                ..
+            },
+        ) => Err(NoMemory),
         Err(_) => unreachable!(),
     }
 }
 
-fn write_test<H: Host>(
-    alloc: Global,
-    host: &mut H,
-    bench: &Bench,
-    test: &Test,
-) -> Result<(), Stop>
+fn write_test<H: Host>(alloc: Global, host: &mut H, bench: &Bench, test: &Test) -> Result<(), Stop>
     ensures { (out : SinkState) → Meets
         (writes (path_of bench.now.work test.now.name) test.now.text)
         (world (H.state host.old) out) (world (H.state host.new) out) result }

@@ -117,7 +117,10 @@ fn each_call_fails_in_turn(rt: HostRuntime) -> Result<(), Fail> {
     assert_eq!(rt; run.status, Status::Done);
     for put in 0..3 {
         let out = [put];
-        let faults = Faults { out: &out, ..NO_FAULTS };
+        let faults = Faults {
+            out: &out,
+            ..NO_FAULTS
+        };
         let mut host = host(alloc, good, &[])?;
         let run = run_on(alloc, WORDS, &mut host, &faults)?;
         assert_eq!(rt; run.status, Status::SinkFault);

@@ -57,7 +57,11 @@ fn bench_of(
     isa: IsaSpec,
 ) -> Result<Bench, NoMemory>
     ensures { IfOk result (λ bench. bench_view bench ≡ record {
-        program = program.now; device = told device; work = work.now; isa = isa }) }
+      program = program.now;
+      device = told device;
+      work = work.now;
+      isa = isa;
+    }) }
 {
     Ok(Bench {
         program: owned(alloc, program)?,
@@ -137,9 +141,7 @@ fn tally_line(alloc: Global, tests: usize, passed: usize) -> Result<Text, NoMemo
     ensures { IfOk result (λ line. line ≡ tally_line tests passed) }
 {
     let failed = tests - passed;
-    Ok(Text::from(format!(in alloc;
-        "total {tests} tests, {passed} pass, {failed} fail\n"
-    )?))
+    Ok(Text::from(format!(in alloc; "total {tests} tests, {passed} pass, {failed} fail\n")?))
 }
 
 fn finish_of(tests: usize, passed: usize) -> Finish

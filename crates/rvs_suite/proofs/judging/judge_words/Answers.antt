@@ -44,4 +44,4 @@ returns g c = λ out.
     let is : c.with_stop.result ≡ stopped t c.judge-judged.result = c.with_stop.ensures t c.as_str-6.ensures c.as_str-7.ensures in
     let met = subst (λ (r : Result TestVerdict Stop). MeetsWith IsAnswer (judged t) old new r) (sym is) (c.judge-judged.ensures.planned out) in
     judged-as bench name words c.as_str-6.result.now c.as_str-7.result.now old new c.with_stop.result path signature
-        (subst (λ (x : List ℕ). MeetsWith IsAnswer (judged (task bench.device.command x c.as_str-6.result.now c.as_str-7.result.now words)) old new c.with_stop.result) program met)
+    (subst (λ (x : List ℕ). MeetsWith IsAnswer (judged (task bench.device.command x c.as_str-6.result.now c.as_str-7.result.now words)) old new c.with_stop.result) program met)

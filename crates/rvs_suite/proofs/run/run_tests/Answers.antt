@@ -41,7 +41,7 @@ returns-in_err-device g c =
     let inputs = inputs_view c.in_ok-inputs.inputs in
     let p = err_from_is_err_and c.from_residual-in_err-device.result c.from_residual-in_err-device.ensures.1 in
     rw (p.1, p.2) (Meets-weaker (Meets-stop (runs c.args.program.now c.args.work.now)
-        (Meets-then (device_behind c.args.device.now) (c.in_ok-inputs.ensures.met out) (Meets-stop (with_device inputs) (c.in_err-device.ensures out)))))
+    (Meets-then (device_behind c.args.device.now) (c.in_ok-inputs.ensures.met out) (Meets-stop (with_device inputs) (c.in_err-device.ensures out)))))
 
 pub returns-in_err-gathered : goal.returns-in_err-gathered
 returns-in_err-gathered g c =
@@ -75,7 +75,7 @@ returns-in_err-print g c =
     let line : c.as_bytes.result.now ≡ listing inputs.isa inputs.groups = c.as_bytes.ensures.value ∙ c.as_str.ensures ∙ c.in_ok-gathered.ensures.text in
     let p = err_from_is_err_and c.from_residual-in_err-print.result c.from_residual-in_err-print.ensures.1 in
     rw (p.1, p.2) (Meets-weaker (Meets-then next (Meets-then (device_behind c.args.device.now) (c.in_ok-inputs.ensures.met out) (Meets-then (with_device inputs) (c.in_ok-device.ensures out) (Meets-gives (inputs_with inputs device) w)))
-        (Meets-stop (judging bench inputs) (rw line at (c.in_err-print.ensures host)))))
+    (Meets-stop (judging bench inputs) (rw line at (c.in_err-print.ensures host)))))
 
 pub returns : goal.returns
 returns g c =
@@ -93,4 +93,4 @@ returns g c =
     let one = subst (λ (b : Bench). MeetsWith IsAnswer (judges_tests b c.as_slice.result.now) old new c.judge_tests.result) c.in_ok-bench.ensures c.judge_tests.ensures in
     let judged = subst (λ (ts : List Test). MeetsWith IsAnswer (judges_tests bench ts) old new c.judge_tests.result) tests one in
     Meets-then next (Meets-weaker (Meets-then (device_behind c.args.device.now) (c.in_ok-inputs.ensures.met out) (Meets-then (with_device inputs) (c.in_ok-device.ensures out) (Meets-gives (inputs_with inputs device) w))))
-        (Meets-then (judging bench inputs) (Meets-weaker (rw line at (c.in_ok-print.ensures host))) judged)
+    (Meets-then (judging bench inputs) (Meets-weaker (rw line at (c.in_ok-print.ensures host))) judged)
