@@ -22,8 +22,14 @@ middle_registers = range_with_len 8 8
 -- registers; an immediate is 1
 abbrev pub two_sources : Op → List Fields
 two_sources op =
-    flat_map (λ d. flat_map (λ s. map (λ t. record { op = op; rd = Some d; rs1 = Some s; rs2 = Some t; imm
-    = None }) middle_registers) middle_registers) middle_registers
+    flat_map (λ d. flat_map (λ s. map (λ t. record {
+      op = op;
+      rd = Some d;
+      rs1 = Some s;
+      rs2 = Some t;
+      imm
+          = None;
+    }) middle_registers) middle_registers) middle_registers
 
 abbrev pub one_source : Op → List Fields
 one_source op =
