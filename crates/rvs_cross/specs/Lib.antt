@@ -1,0 +1,6 @@
+pub mod Cross
+pub mod CrossView
+pub mod Parse
+pub mod Refusals
+pub mod Sequences
+pub mod Windows

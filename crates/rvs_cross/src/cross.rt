@@ -1,0 +1,67 @@
+// Cross points.
+ghost use Rattle.std.specs.Prelude.{◌≡◌, ◌≤◌, length};
+ghost use Rattle.std.proofs.Props.{props};
+
+use rvs_base::Items;
+use rvs_expr::Expr;
+use rvs_insn::Op;
+
+/// A name for a register that several places share. A cross point has at most three, in the order
+/// in which they appear first.
+#[derive(Clone, Copy, Debug, PartialEq, Eq)]
+pub enum Variable {
+    /// The first.
+    First,
+    /// The second.
+    Second,
+    /// The third.
+    Third,
+}
+
+/// A register field of an instruction.
+#[derive(Clone, Copy, Debug, PartialEq, Eq)]
+pub enum Field {
+    /// The destination register.
+    Rd,
+    /// The first source register.
+    Rs1,
+    /// The second source register.
+    Rs2,
+}
+
+/// That a variable is the register in a field.
+#[derive(Clone, Copy, Debug)]
+pub struct Assignment {
+    /// The variable.
+    pub variable: Variable,
+    /// The field.
+    pub field: Field,
+}
+
+/// What a cross point asks of one instruction.
+#[derive(Drop)]
+pub struct Place {
+    /// Its mnemonics; none where any will do.
+    pub ops: Option<Items<Op>>,
+    /// What it says of the variables.
+    pub sets: Items<Assignment>,
+    /// An expression over registers, which may use variables.
+    pub condition: Option<Expr>,
+}
+
+/// A cross point: one to six places, for instructions one after the other.
+#[derive(Drop)]
+pub struct Cross {
+    pub(crate) list: Items<Place>,
+    ghost some: { 1 ≤ length list } by { Prim.hlevel props },
+    ghost few: { length list ≤ 6 } by { Prim.hlevel props },
+}
+
+/// How many places a cross point has: 1 to 6. It takes no memory.
+pub fn places(cross: &Cross) -> usize
+    ensures count { result ≡ length cross.now.list }
+    ensures some { 1 ≤ result }
+    ensures few { result ≤ 6 }
+{
+    cross.list.as_slice().len()
+}

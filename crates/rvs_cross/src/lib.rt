@@ -1,0 +1,12 @@
+//! Cross points: what neighbouring instructions have to be.
+#![tactic(auto)]
+
+mod cross;
+mod parsing;
+mod refusal;
+mod solving;
+
+pub use cross::{Assignment, Cross, Field, Place, Variable, places};
+pub use parsing::parse_cross;
+pub use refusal::{CrossRead, CrossRefusal};
+pub use solving::solve_cross;
