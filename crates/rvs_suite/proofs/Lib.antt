@@ -24,7 +24,6 @@ mod GroupInputs
 mod NormalizeEnds
 mod LogReads
 mod ImageBytes
-mod RunWords
 mod LogEntries
 mod CoverageEnds
 mod Lines
