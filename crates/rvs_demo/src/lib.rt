@@ -1,6 +1,11 @@
-//! A demonstration: a generated program that is run, and whose coverage is counted.
+//! A demonstration: a generated program is run, and its coverage counted.
 #![tactic(auto)]
 
+mod counting;
+mod demo;
+mod label;
 mod program;
+mod size;
 
-pub use program::image;
+pub use demo::demo_text;
+pub use size::DemoSize;

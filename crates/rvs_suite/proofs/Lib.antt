@@ -33,6 +33,7 @@ mod GenerateEnds
 mod Runnable
 mod RunSteps
 mod RunReads
+mod DemoEnds
 mod RunEnds
 mod OneTest
 mod Saying
