@@ -189,6 +189,7 @@ entry-kept P isa (sort.Register kind.Rd) kept other label node key d t u h e = r
 entry-kept P isa (sort.Register kind.Mnemonic) kept other label node key d t u h e = cc
 entry-kept P isa (sort.Register kind.OpComb) kept other label node key d t u h e = cc
 entry-kept P isa (sort.Register kind.ValComb) kept other label node key d t u h e = cc
+entry-kept P isa (sort.Register kind.CrossComb) kept other label node key d t u h e = cc
 entry-kept P isa sort.Operation kept other label node key d t u h e = op-kept P kept label key d t u h e
 entry-kept P isa sort.Numeric kept other label node key d t u h e = value-kept P kept label key d t u h e
 entry-kept P isa sort.Skipped kept other label node key d t u h e = skipped-kept P (IsOf kind.Mnemonic) kept label node key d t u h e

@@ -18,6 +18,7 @@ kind_name kind.Rs2 = codes "rs2"
 kind_name kind.Rd = codes "rd"
 kind_name kind.OpComb = codes "op_comb"
 kind_name kind.ValComb = codes "val_comb"
+kind_name kind.CrossComb = codes "cross_comb"
 
 abbrev pub doubled_byte : ℕ → List ℕ
 doubled_byte c = if c == 39 then 39 ∷ 39 ∷ [] else c ∷ []

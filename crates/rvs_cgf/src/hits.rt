@@ -47,6 +47,7 @@ pub fn is_meant<F: Facts, L: Ledger>(
         Meaning::RegIs(number) => is_register(*number, field(kind, facts)),
         Meaning::Regs(expr) => expr.eval(facts, steps),
         Meaning::Nums(expr) => expr.eval(facts, steps),
+        Meaning::Window(_) => false,
     }
 }
 

@@ -24,6 +24,7 @@ impl Kind {
             Kind::Rd => "rd",
             Kind::OpComb => "op_comb",
             Kind::ValComb => "val_comb",
+            Kind::CrossComb => "cross_comb",
         }
     }
 }
