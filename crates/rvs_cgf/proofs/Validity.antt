@@ -78,7 +78,8 @@ role-good node =
     (if-good (bytes_eq node (codes "rd")) (role.Entries (sort.Register kind.Rd)) _ refl
     (if-good (bytes_eq node (codes "op_comb")) (role.Entries sort.Operation) _ refl
     (if-good (bytes_eq node (codes "val_comb")) (role.Entries sort.Numeric) _ refl
-    (if-good (is_passed_over node) role.PassedOver role.Unknown refl refl)))))))
+    (if-good (bytes_eq node (codes "cross_comb")) (role.Entries sort.Crossed) _ refl
+    (if-good (is_passed_over node) role.PassedOver role.Unknown refl refl))))))))
 
 first-fits : (n : Nodes) → Fits n → Fits (with_first n)
 first-fits n h = record {
