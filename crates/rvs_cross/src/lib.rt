@@ -2,6 +2,8 @@
 #![tactic(auto)]
 
 mod cross;
+mod cutting;
+mod lists;
 mod parsing;
 mod refusal;
 mod solving;
