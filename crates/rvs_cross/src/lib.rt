@@ -3,6 +3,7 @@
 
 mod cross;
 mod cutting;
+mod entries;
 mod lists;
 mod parsing;
 mod refusal;
