@@ -1,6 +1,6 @@
 -- The variables of a cross point, in the order in which they appear first.
 use Rattle.std.specs.Prelude.{ℕ, zero, suc, nat_lt, Bool, if◌then◌else◌, List, [], ◌∷◌, ◌++◌, length, Option, Some, None, Ok, Err, option_map, bytes_eq}
-use Rattle.std.specs.List.{list_any, position_or_len, filter_map}
+use Rattle.std.specs.List.{list_any, position, filter_map}
 use Rattle.rvs_cross.specs.declared.cross.Variable.{Variable}
 use Rattle.rvs_cross.specs.declared.cross.Variable.TheVariants.{First, Second, Third}
 use Rattle.rvs_cross.specs.declared.cross.Field.{Field}
@@ -34,13 +34,13 @@ abbrev pub variables : List (List ℕ) → Outcome (List (List ℕ))
 variables entries = for_each note_entry entries []
 
 -- ---- by number
-abbrev pub variable_at : ℕ → Variable
-variable_at zero = First
-variable_at (suc zero) = Second
-variable_at (suc (suc n)) = Third
+abbrev pub variable_at : Option ℕ → Variable
+variable_at (Some zero) = First
+variable_at (Some (suc zero)) = Second
+variable_at _ = Third
 
 abbrev pub variable_named : List (List ℕ) → List ℕ → Variable
-variable_named vars name = variable_at (position_or_len (λ v. bytes_eq v name) vars)
+variable_named vars name = variable_at (position (λ v. bytes_eq v name) vars)
 
 abbrev pub numbered : List (List ℕ) → (List ℕ × Field) → Assignment
 numbered vars set = record { variable = variable_named vars set.0; field = set.1 }
