@@ -1,8 +1,12 @@
 -- The places of three lists, one after another.
-use Rattle.std.proofs.Common.{◌≡◌, ℕ, ◌+◌, ◌<◌, List, [], ◌∷◌, ◌++◌, map, drop, length, get_or, Bor, Ok, Err, refl, sym, ap, ◌∙◌, append_assoc, append-nil, add-one, arith}
+use Rattle.std.proofs.Common.{◌≡◌, ℕ, ◌+◌, ◌<◌, ◌≤◌, List, [], ◌∷◌, ◌++◌, map, drop, length, get_or, Bor, Ok, Err, refl, sym, ap, ◌∙◌, append_assoc, append-nil, add-one, arith}
+use Rattle.std.specs.Prelude.{◌==◌}
 use Rattle.std.proofs.Math.Seq.{drop-cons}
+use Rattle.std.proofs.lemmas.List.{length-map}
+use Rattle.std.proofs.lemmas.List.Splits.{length-slice_split}
 use Rattle.rvs_cross.specs.declared.refusal.CrossRefusal.{CrossRefusal}
 use Rattle.rvs_cross.specs.Cross.{Place}
+use Rattle.rvs_cross.specs.Lists.{entries}
 use Rattle.rvs_cross.specs.Outcomes.{Outcome, ◌>>=◌}
 use Rattle.rvs_cross.specs.Parse.{place, places}
 
@@ -55,3 +59,7 @@ pub places_fail : (vars : List (List ℕ)) (a b c : Refs) (i : ℕ) (d : Bor (Li
 places_fail vars a b c i d ps why h e f is =
     let rest = places vars (texts (drop (i + 1) a)) (texts (drop (i + 1) b)) (texts (drop (i + 1) c)) in
     ap (with_front ps) (at vars a b c i d h e f ∙ ap (λ o. joined o rest) is)
+
+-- a list has an entry
+pub some_entry : (xs : Refs) (text : List ℕ) → texts xs ≡ entries text → 1 ≤ length xs
+some_entry xs text e = omega (arith, length-map xs (λ (t : Bor (List ℕ)). t.now), ap length e, length-slice_split (λ c. c == 58) text)

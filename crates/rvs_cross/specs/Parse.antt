@@ -73,25 +73,26 @@ is_even l =
     length (entries l.assignments) == length (entries l.mnemonics)
     && length (entries l.conditions) == length (entries l.mnemonics)
 
-abbrev pub with_variables : Lists → List (List ℕ) → Found
-with_variables l vars =
-    places vars (entries l.mnemonics) (entries l.assignments) (entries l.conditions)
-    >>= (λ ps. Ok (read ps))
+-- the entries of the three lists
+abbrev pub with_variables : List (List ℕ) → List (List ℕ) → List (List ℕ) → List (List ℕ) → Found
+with_variables a b c vars = places vars a b c >>= (λ ps. Ok (read ps))
 
-abbrev pub with_names : Lists → Option (List ℕ) → Found
-with_names l (Some part) = Err (UnknownMnemonic (trimmed part))
-with_names l None = variables (entries l.assignments) >>= with_variables l
+abbrev pub with_known : List (List ℕ) → List (List ℕ) → List (List ℕ) → Found
+with_known a b c = variables b >>= with_variables a b c
 
-abbrev pub with_places : Lists → Found
-with_places l =
-    if list_any has_class (entries l.mnemonics) then Ok skipped
-    else with_names l (first_unknown (entries l.mnemonics))
+abbrev pub with_unknown : Lists → Option (List ℕ) → Found
+with_unknown l (Some part) = Err (UnknownMnemonic (trimmed part))
+with_unknown l None = with_known (entries l.mnemonics) (entries l.assignments) (entries l.conditions)
+
+abbrev pub with_names : Lists → Found
+with_names l = with_unknown l (first_unknown (entries l.mnemonics))
 
 abbrev pub checked : Lists → Found
 checked l =
     if not (is_shaped l) then Err BadList
     else (if not (is_even l) then Err LengthsDiffer
-    else (if nat_lt 6 (length (entries l.mnemonics)) then Err TooManyPlaces else with_places l))
+    else (if nat_lt 6 (length (entries l.mnemonics)) then Err TooManyPlaces
+    else (if list_any has_class (entries l.mnemonics) then Ok skipped else with_names l)))
 
 abbrev pub with_lists : Option Lists → Found
 with_lists None = Err BadList
