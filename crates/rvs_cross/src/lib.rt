@@ -1,10 +1,15 @@
 //! Cross points: what neighbouring instructions have to be.
 #![tactic(auto)]
 
+mod building;
 mod cross;
+mod cutting;
+mod entries;
+mod lists;
 mod parsing;
 mod refusal;
 mod solving;
+mod variables;
 
 pub use cross::{Assignment, Cross, Field, Place, Variable, places};
 pub use parsing::parse_cross;

@@ -1,0 +1,5 @@
+pub mod Rows
+pub mod Names
+pub mod Noting
+pub mod Strips
+pub mod Words
