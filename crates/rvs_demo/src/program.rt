@@ -1,5 +1,5 @@
 // The program of the demonstration, in memory.
-ghost use Rattle.std.specs.Prelude.{◌≡◌, ◌≤◌, ◌<◌, ◌*◌, ◌++◌, ◌∷◌, [], ◌^◌, All, IfOk, OnOk, length};
+ghost use Rattle.std.specs.Prelude.{◌≡◌, ◌≤◌, ◌<◌, ◌+◌, ◌%◌, ◌++◌, ◌^◌, All, IfOk, OnOk};
 ghost use Rattle.std.specs.Int.{w32, to_le_bytes};
 ghost use Rattle.rvs_insn.specs.Word.{word_of, IsEncodable};
 ghost use Rattle.rvs_demo.specs.Program as spec;
@@ -180,7 +180,7 @@ fn text(alloc: Global, count: u64) -> Result<Vec<u8>, NoMemory>
 /// # Errors
 ///
 /// [`NoMemory`].
-pub fn image(alloc: Global, count: u64) -> Result<Image, NoMemory>
+pub(crate) fn image(alloc: Global, count: u64) -> Result<Image, NoMemory>
     requires { count ≤ 1000000 }
     ensures { IfOk result (λ image. image ≡ spec.image count) }
 {

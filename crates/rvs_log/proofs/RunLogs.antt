@@ -26,7 +26,7 @@ run_follows image isa n = traces_follow (started image isa).setup n (started ima
 pub run_entries : (image : ImageValue) (isa : Isa) (n : ℕ) → Below 256 image.text
     → Below 256 image.data_bytes
     → entries_of (log_of (trace_of image isa n)) ≡ map as_entry (trace_of image isa n)
-run_entries image isa n text data =
+run_entries image isa n text ram =
     let words = run_words (started image isa).setup n (started image isa).state text
-        (start_words image.data_bytes data) in
+        (start_words image.data_bytes ram) in
     logs_read_back (trace_of image isa n) words (run_follows image isa n)
