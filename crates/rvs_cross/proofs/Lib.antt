@@ -3,4 +3,4 @@ pub mod Names
 pub mod Noting
 pub mod Strips
 pub mod Words
-pub mod Places
+pub mod Few

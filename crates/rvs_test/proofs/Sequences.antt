@@ -13,7 +13,7 @@ use Rattle.rvs_cross.specs.Cross.{Place}
 use Rattle.rvs_cross.specs.Parse as crosses
 use Rattle.rvs_cross.specs.Sequences.{middle_registers, in_format, insns_of, first_sequence}
 use Rattle.rvs_cross.specs.Sequences as cross
-use Rattle.rvs_cross.proofs.Places.{read_places}
+use Rattle.rvs_cross.proofs.Few.{read_places}
 use Rattle.rvs_cross.proofs.Sequences.{sequence_length, sequence_computes}
 use Rattle.rvs_cgf.specs.Groups.{Meaning, op_is, reg_is, regs, nums, window, Point}
 use Rattle.rvs_cgf.specs.Valid.{IsMeant, meaning_of, places}
