@@ -2,11 +2,15 @@
 #![tactic(auto)]
 
 mod cross;
+mod fitting;
+mod matching;
 mod parsing;
 mod refusal;
 mod solving;
+mod values;
 
 pub use cross::{Assignment, Cross, Field, Place, Variable, places};
+pub use matching::matches;
 pub use parsing::parse_cross;
 pub use refusal::{CrossRead, CrossRefusal};
 pub use solving::solve_cross;
