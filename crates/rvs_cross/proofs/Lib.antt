@@ -1,3 +1,6 @@
 pub mod Members
 pub mod Turns
 pub mod Binding
+pub mod Searching
+pub mod Excluding
+pub mod Choices

@@ -1,6 +1,7 @@
 //! Cross points: what neighbouring instructions have to be.
 #![tactic(auto)]
 
+mod choosing;
 mod cross;
 mod fitting;
 mod matching;
