@@ -1,6 +1,12 @@
-pub mod Rows
+pub mod Binding
+pub mod Choices
+pub mod Excluding
+pub mod Few
+pub mod Members
 pub mod Names
 pub mod Noting
+pub mod Rows
+pub mod Searching
 pub mod Strips
+pub mod Turns
 pub mod Words
-pub mod Few

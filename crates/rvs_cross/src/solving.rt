@@ -1,7 +1,7 @@
 // The instructions that solve a cross point.
-ghost use Rattle.std.specs.Prelude.{◌≡◌, All, IfOk, IfSome, IfNone, length, map, true, Some};
+ghost use Rattle.std.specs.Prelude.{◌≡◌, ◌≤◌, ◌+◌, All, IfOk, IfSome, IfNone, length, map, true, Some};
 ghost use Rattle.rvs_cross.specs.CrossView.{cross_view};
-ghost use Rattle.rvs_cross.specs.Sequences.{IsComputing, Solvable, first_sequence};
+ghost use Rattle.rvs_cross.specs.Sequences.{IsComputing, Solvable, bound, first_sequence};
 ghost use Rattle.rvs_cross.specs.Windows.{matches};
 
 use crate::cross::Cross;
@@ -31,6 +31,8 @@ pub fn solve_cross<L: Ledger>(
         matches (cross_view cross.now) (map (λ i. Some i) is) ≡ true)) }
     ensures none { IfOk result (λ found. IfNone found
         (Solvable spec.now (cross_view cross.now) → ⊥)) }
+    ensures cost { IfOk result (λ _. steps.new ≤ steps.old + bound spec.now (cross_view
+        cross.now)) }
 {
     let _ = cross;
     let _ = spec;
