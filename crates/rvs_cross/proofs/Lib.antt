@@ -4,3 +4,4 @@ pub mod Binding
 pub mod Searching
 pub mod Excluding
 pub mod Choices
+pub mod Solutions
