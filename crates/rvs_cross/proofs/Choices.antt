@@ -40,7 +40,7 @@ no_others op _ r i s = refl
 
 -- ---- how many there are
 
-sum_same : {X : Type 0} (f : X → ℕ) (n : ℕ) → ((x : X) → f x ≡ n) → (xs : List X)
+pub sum_same : {X : Type 0} (f : X → ℕ) (n : ℕ) → ((x : X) → f x ≡ n) → (xs : List X)
     → sum_by f xs ≡ length xs * n
 sum_same f n h [] = omega arith
 sum_same f n h (x ∷ xs) =

@@ -5,3 +5,5 @@ pub mod Searching
 pub mod Excluding
 pub mod Choices
 pub mod Solutions
+pub mod Solved
+pub mod Assignments

@@ -43,7 +43,6 @@ pub fn solve_cross<L: Ledger>(
 }
 
 /// The first over all values of the variables.
-#[tactic(auto, unfolding(crate::specs::Sequences::first_sequence))]
 fn first_of_all<L: Ledger>(
     alloc: Global,
     places: &[Place],
