@@ -1,6 +1,6 @@
 -- What the first instructions are, and that there are some wherever instructions that compute match.
-use Rattle.std.proofs.Common.{◌≡◌, ℕ, zero, suc, ◌+◌, ◌<◌, ◌≤◌, Bool, true, false, ◌&&◌, cond, List, [], ◌∷◌, map, length, get_or, ◌⊎◌, inl, inr, Option, Some, None, refl, sym, ap, ◌∙◌, subst, arith}
-use Rattle.std.specs.Prelude.{ℤ, pos, find, flat_map, filter, All, Contains, Result, Ok, Err, IfOk, IfSome, IfNone}
+use Rattle.std.proofs.Common.{◌≡◌, ℕ, zero, suc, ◌<◌, Bool, true, false, ◌&&◌, cond, List, [], ◌∷◌, length, get_or, ◌⊎◌, inl, inr, Option, Some, None, refl, sym, ap, ◌∙◌, subst, arith}
+use Rattle.std.specs.Prelude.{ℤ, pos, find, filter, All, Contains, Result, Ok, Err, IfOk, IfSome, IfNone}
 use Rattle.rvs_base.specs.declared.memory_refusal.NoMemory.{NoMemory}
 use Rattle.std.specs.List.{list_any, range_with_len}
 use Rattle.std.proofs.lemmas.Bool.{eqb-true}
@@ -18,14 +18,13 @@ use Rattle.rvs_cross.specs.declared.cross.Variable.{Variable}
 use Rattle.rvs_cross.specs.declared.cross.Variable.TheVariants.{First, Second, Third}
 use Rattle.rvs_cross.specs.declared.cross.Field.{Field}
 use Rattle.rvs_cross.specs.declared.cross.Field.TheVariants.{Rd, Rs1, Rs2}
-use Rattle.rvs_cross.specs.declared.cross.Assignment.{Assignment}
 use Rattle.rvs_cross.specs.Cross.{Place}
 use Rattle.rvs_cross.specs.Windows.{Values, value_of, register_in, is_listed, fits, all_fit, is_used, says_of, choices_for, values_among, matches}
 use Rattle.rvs_cross.specs.Assigned.{assigned_field, register_by, assigned_in, assigned}
 use Rattle.rvs_cross.specs.Sequences.{middle_registers, middle, at_rs1, at_rd, over_registers, in_format, insns_of, listed, candidates, solution, onto, solutions, assignments, first_of, first_solutions, first_sequence, IsComputing, Solvable}
-use Rattle.rvs_cross.proofs.Members.{In, by_test, in_any, any_in, in_map, map_in, in_flat, flat_in, in_range, range_in}
+use Rattle.rvs_cross.proofs.Members.{In, in_any, any_in, in_map, map_in, in_flat, flat_in, in_range, range_in}
 use Rattle.rvs_cross.proofs.Turns.{some_of}
-use Rattle.rvs_cross.proofs.Binding.{both, next, Bound, bound_where_used, nothing_where_unused, Among, in_values, values_in}
+use Rattle.rvs_cross.proofs.Binding.{both, next, bound_where_used, in_values, values_in}
 
 -- ---- lists
 

@@ -7,7 +7,6 @@ use Rattle.rvs_cross.specs.Sequences.{assignments}
 use Rattle.rvs_cross.proofs.Assignments.{choices_are, assignments_are, sequence_is, within_bound}
 use Rattle.rvs_cross.proofs.solving.first_of_all.Goals as goal
 
-
 pub returns-clause-first : goal.returns-clause-first
 returns-clause-first g c =
     let ps = map place_view c.args.places.now in

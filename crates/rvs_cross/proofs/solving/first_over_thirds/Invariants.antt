@@ -1,4 +1,4 @@
-use Rattle.std.proofs.Common.{◌≡◌, ◌≤◌, ◌+◌, ◌*◌, map, length, drop}
+use Rattle.std.proofs.Common.{◌≡◌, ◌≤◌, ◌+◌, ◌*◌, map, drop}
 use Rattle.rvs_cross.specs.CrossView.{place_view}
 use Rattle.rvs_cross.specs.Windows.{with_third}
 use Rattle.rvs_cross.specs.Sequences.{count_of, first_solutions}

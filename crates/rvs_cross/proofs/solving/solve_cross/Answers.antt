@@ -1,4 +1,4 @@
-use Rattle.std.proofs.Common.{◌≡◌, List, map, length, ap, subst, ◌∙◌}
+use Rattle.std.proofs.Common.{◌≡◌, List, map, length, subst, ◌∙◌}
 use Rattle.std.specs.Prelude.{IfOk, All, true}
 use Rattle.std.proofs.lemmas.List.{length-map}
 use Rattle.rvs_cross.specs.declared.cross.Place as code
@@ -6,7 +6,7 @@ use Rattle.rvs_cross.specs.CrossView.{place_view, cross_view}
 use Rattle.rvs_cross.specs.Windows.{matches}
 use Rattle.rvs_cross.specs.Sequences.{IsComputing, first_sequence}
 use Rattle.rvs_cross.proofs.Turns.{some_of}
-use Rattle.rvs_cross.proofs.Solved.{Answer, answer_some, answer_none}
+use Rattle.rvs_cross.proofs.Solved.{answer_some, answer_none}
 use Rattle.rvs_cross.proofs.solving.solve_cross.Goals as goal
 
 pub returns-clause-length : goal.returns-clause-length
