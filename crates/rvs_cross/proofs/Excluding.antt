@@ -1,5 +1,5 @@
 -- What an assignment excludes from a field, no instruction of the place has there.
-use Rattle.std.proofs.Common.{◌≡◌, ℕ, Bool, true, false, not, ◌&&◌, ◌||◌, List, [], ◌∷◌, Option, None, refl, sym, ap, ◌∙◌}
+use Rattle.std.proofs.Common.{◌≡◌, ℕ, Bool, true, false, not, ◌&&◌, List, [], ◌∷◌, Option, None, refl, sym, ap, ◌∙◌}
 use Rattle.std.specs.Prelude.{ℤ, find}
 use Rattle.std.specs.List.{list_all}
 use Rattle.rvs_insn.specs.declared.op.Op.{Op}
@@ -11,7 +11,7 @@ use Rattle.rvs_cross.specs.Cross.{Place}
 use Rattle.rvs_cross.specs.Windows.{Values, value_of, register_in, same_register, is_set, is_listed, meets, fits}
 use Rattle.rvs_cross.specs.Sequences.{at_rs1, at_rd}
 use Rattle.rvs_cross.specs.Choosing.{same_field, allows_one, allows}
-use Rattle.rvs_cross.proofs.Members.{In, by_test, or_left, or_right, map_in, flat_in}
+use Rattle.rvs_cross.proofs.Members.{by_test, or_left, or_right, map_in, flat_in}
 use Rattle.rvs_cross.proofs.Binding.{both}
 use Rattle.rvs_cross.proofs.Searching.{find_none}
 

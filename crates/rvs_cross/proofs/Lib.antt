@@ -1,3 +1,4 @@
+pub mod Assignments
 pub mod Binding
 pub mod Choices
 pub mod Excluding
@@ -7,6 +8,8 @@ pub mod Names
 pub mod Noting
 pub mod Rows
 pub mod Searching
+pub mod Solutions
+pub mod Solved
 pub mod Strips
 pub mod Turns
 pub mod Words

@@ -1,5 +1,5 @@
 -- One turn of a loop that searches a list of lists.
-use Rattle.std.proofs.Common.{◌≡◌, ℕ, ◌+◌, ◌*◌, ◌<◌, ◌≤◌, Bool, true, false, cond, List, [], ◌∷◌, ◌++◌, map, length, get_or, drop, take, inl, inr, Option, Some, None, refl, sym, ap, ◌∙◌, arith, add-one, drop-cons}
+use Rattle.std.proofs.Common.{◌≡◌, ℕ, ◌+◌, ◌*◌, ◌<◌, ◌≤◌, Bool, true, false, cond, List, [], ◌∷◌, ◌++◌, length, get_or, drop, take, inl, inr, Option, Some, None, refl, sym, ap, ◌∙◌, arith, add-one, drop-cons}
 use Rattle.std.specs.Prelude.{find, filter, flat_map}
 use Rattle.std.specs.Option.{option_or}
 use Rattle.std.proofs.Math.Nat.{mul-le-mul_left}
@@ -35,24 +35,6 @@ turn_none p f xs k d whole h inv e =
     inv ∙ find_turn p f xs k d h ∙ ap (λ o. option_or o (find p (flat_map f (drop (k + 1) xs))))
     (sym e)
 
--- ---- a list of places
-
-pub map_found : {X Y : Type 0} (p : Y → Bool) (f : X → Y) (xs : List X) (k : ℕ) (d : X) (y : Y)
-    (whole : Option Y) (hit : Bool) → k < length xs → whole ≡ find p (map f (drop k xs))
-    → y ≡ f (get_or xs k d) → hit ≡ p y → hit ≡ true → Some y ≡ whole
-map_found p f xs k d y whole hit h inv is e t =
-    sym (inv ∙ ap (λ l. find p (map f l)) (rest_at xs k d h)
-    ∙ ap (λ z. cond (p z) (Some z) (find p (map f (drop (k + 1) xs)))) (sym is)
-    ∙ ap (λ b. cond b (Some y) (find p (map f (drop (k + 1) xs)))) (sym e ∙ t))
-
-pub map_passed : {X Y : Type 0} (p : Y → Bool) (f : X → Y) (xs : List X) (k : ℕ) (d : X) (y : Y)
-    (whole : Option Y) (hit : Bool) → k < length xs → whole ≡ find p (map f (drop k xs))
-    → y ≡ f (get_or xs k d) → hit ≡ p y → hit ≡ false → whole ≡ find p (map f (drop (k + 1) xs))
-map_passed p f xs k d y whole hit h inv is e t =
-    inv ∙ ap (λ l. find p (map f l)) (rest_at xs k d h)
-    ∙ ap (λ z. cond (p z) (Some z) (find p (map f (drop (k + 1) xs)))) (sym is)
-    ∙ ap (λ b. cond b (Some y) (find p (map f (drop (k + 1) xs)))) (sym e ∙ t)
-
 pub find_none : {X : Type 0} (p : X → Bool) (xs : List X) → ((x : X) → In x xs → p x ≡ false)
     → find p xs ≡ None
 find_none p [] h = refl
@@ -65,12 +47,6 @@ pub within_rows : (new before entry k n each : ℕ) → k < n → before ≤ ent
     → new ≤ before + each → new ≤ entry + n * each
 within_rows new before entry k n each h a b = let e : each * (k + 1) ≤ each * n =
     mul-le-mul_left each (omega arith) in omega (arith, e)
-
-pub within_sum : {X : Type 0} (f : X → ℕ) (xs : List X) (k : ℕ) (d : X) (new before entry : ℕ)
-    → k < length xs → before ≤ entry + sum_by f (take k xs) → new ≤ before + f (get_or xs k d)
-    → new ≤ entry + sum_by f xs
-within_sum f xs k d new before entry h a b =
-    omega (arith, sum_by_more f xs k d h, sum_by-take-le f xs (k + 1))
 
 pub sum_turn : {X : Type 0} (f : X → ℕ) (xs : List X) (k : ℕ) (d : X) (new before entry : ℕ)
     → k < length xs → before ≤ entry + sum_by f (take k xs) → new ≤ before + f (get_or xs k d)

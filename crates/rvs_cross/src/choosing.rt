@@ -25,12 +25,7 @@ fn same_field(left: Field, right: Field) -> bool
 }
 
 /// Whether an assignment doesn't exclude the register from the field.
-fn allows_one(
-    values: &Values,
-    field: Field,
-    register: Option<u8>,
-    assignment: &Assignment,
-) -> bool
+fn allows_one(values: &Values, field: Field, register: Option<u8>, assignment: &Assignment) -> bool
     ensures { result ≡ allows_one values.now field register assignment.now }
 {
     !same_field(field, assignment.field)
@@ -163,7 +158,16 @@ fn first_with_immediate<L: Ledger>(
     ensures cost { steps.new
         ≤ steps.old + length (over_registers op (Some (pos 1)) middle middle (None ∷ [])) }
 {
-    first_over_rds(values, place, op, Some(1), &MIDDLE, &MIDDLE, &NOTHING, steps)
+    first_over_rds(
+        values,
+        place,
+        op,
+        Some(1),
+        &MIDDLE,
+        &MIDDLE,
+        &NOTHING,
+        steps,
+    )
 }
 
 /// The first of a mnemonic that computes in registers.

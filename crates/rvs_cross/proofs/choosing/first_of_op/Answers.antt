@@ -1,4 +1,4 @@
-use Rattle.std.proofs.Common.{◌≡◌, [], None, sym, ap, ◌∙◌, arith}
+use Rattle.std.proofs.Common.{◌≡◌, [], sym, ap, ◌∙◌, arith}
 use Rattle.std.specs.Prelude.{find}
 use Rattle.rvs_insn.specs.declared.op.Format.TheVariants.{R, I, Shift}
 use Rattle.rvs_cross.specs.CrossView.{place_view}

@@ -1,6 +1,5 @@
 use Rattle.std.proofs.Common.{length, arith}
 use Rattle.std.specs.Prelude.{find, flat_map}
-use Rattle.std.proofs.lemmas.List.Concat.{length-flat_map}
 use Rattle.rvs_insn.specs.declared.op.Op.{Op}
 use Rattle.rvs_cross.specs.CrossView.{place_view}
 use Rattle.rvs_cross.specs.Windows.{fits}

@@ -1,4 +1,4 @@
-use Rattle.std.proofs.Common.{◌*◌, length, arith}
+use Rattle.std.proofs.Common.{arith}
 use Rattle.std.specs.Prelude.{find}
 use Rattle.rvs_cross.specs.CrossView.{place_view}
 use Rattle.rvs_cross.specs.Windows.{fits}
