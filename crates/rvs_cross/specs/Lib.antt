@@ -1,5 +1,6 @@
 pub mod Cross
 pub mod CrossView
+pub mod First
 pub mod Parse
 pub mod Refusals
 pub mod Sequences

@@ -2,11 +2,13 @@
 #![tactic(auto)]
 
 mod cross;
+mod first;
 mod parsing;
 mod refusal;
 mod solving;
 
 pub use cross::{Assignment, Cross, Field, Place, Variable, places};
+pub use first::first_ops;
 pub use parsing::parse_cross;
 pub use refusal::{CrossRead, CrossRefusal};
 pub use solving::solve_cross;
