@@ -12,11 +12,11 @@ drop_zero : {X : Type 0} (xs : List X) → drop 0 xs ≡ xs
 drop_zero [] = refl
 drop_zero (x ∷ xs) = refl
 
-last_all : {X : Type 0} (n : ℕ) (xs : List X) → length xs ≤ n → last n xs ≡ xs
+pub last_all : {X : Type 0} (n : ℕ) (xs : List X) → length xs ≤ n → last n xs ≡ xs
 last_all n xs h =
     let e : length xs - n ≡ 0 = omega arith in ap (λ k. drop k xs) e ∙ drop_zero xs
 
-last_back : {X : Type 0} (n : ℕ) (xs ys : List X) → n ≤ length ys → last n (xs ++ ys) ≡ last n ys
+pub last_back : {X : Type 0} (n : ℕ) (xs ys : List X) → n ≤ length ys → last n (xs ++ ys) ≡ last n ys
 last_back n xs ys h =
     let e : length (xs ++ ys) - n ≡ length xs + (length ys - n) = omega (arith, length-append xs ys) in
     ap (λ k. drop k (xs ++ ys)) e ∙ drop-append-add xs ys (length ys - n)

@@ -1,0 +1,71 @@
+-- Instructions that match a cross point are as many as its places, they all decode, and the first is
+-- listed.
+use Rattle.std.proofs.Common.{◌≡◌, ◌≢◌, ℕ, Bool, true, false, ◌&&◌, ◌||◌, List, [], ◌∷◌, ◌++◌, Option, Some, None, refl, sym, ap, ◌∙◌, length, arith}
+use Rattle.std.proofs.lemmas.List.Folds.{list_any_none}
+use Rattle.std.specs.List.{list_any}
+use Rattle.rvs_cross.specs.Cross.{Place}
+use Rattle.rvs_cross.specs.First.{first_ops}
+use Rattle.rvs_cross.specs.Windows.{Values, all_fit, all_values, fits_decoded, is_listed, matches}
+use Rattle.rvs_insn.specs.Fields.{Fields}
+
+and_false : (a b : Bool) → b ≡ false → (a && b) ≡ false
+and_false true b h = h
+and_false false b h = refl
+
+length_fits : (v : Values) (ps : List Place) (is : List (Option Fields))
+    → length is ≢ length ps → all_fit v ps is ≡ false
+length_fits v [] [] h = absurd (h refl)
+length_fits v [] (i ∷ is) h = refl
+length_fits v (p ∷ ps) [] h = refl
+length_fits v (p ∷ ps) (i ∷ is) h =
+    let other : length is ≢ length ps = omega arith in
+    and_false (fits_decoded v p i) (all_fit v ps is) (length_fits v ps is other)
+
+-- of another length
+pub length_matches : (ps : List Place) (is : List (Option Fields))
+    → length is ≢ length ps → matches ps is ≡ false
+unfolding matches
+length_matches ps is h =
+    list_any_none (λ v. all_fit v ps is) all_values (λ k d l. length_fits _ ps is h)
+
+decoded_fits : (v : Values) (ps : List Place) (xs ys : List (Option Fields))
+    → all_fit v ps (xs ++ None ∷ ys) ≡ false
+decoded_fits v [] [] ys = refl
+decoded_fits v [] (x ∷ xs) ys = refl
+decoded_fits v (p ∷ ps) [] ys = refl
+decoded_fits v (p ∷ ps) (x ∷ xs) ys =
+    and_false (fits_decoded v p x) (all_fit v ps (xs ++ None ∷ ys)) (decoded_fits v ps xs ys)
+
+-- one doesn't decode
+pub decoded_matches : (ps : List Place) (xs ys : List (Option Fields))
+    → matches ps (xs ++ None ∷ ys) ≡ false
+unfolding matches
+decoded_matches ps xs ys =
+    list_any_none (λ v. all_fit v ps (xs ++ None ∷ ys)) all_values (λ k d l. decoded_fits _ ps xs ys)
+
+front_true : (a b c : Bool) → ((a && b) && c) ≡ true → a ≡ true
+front_true true b c h = refl
+front_true false b c h = cc
+
+first_fits : (v : Values) (ps : List Place) (i : Fields) (is : List (Option Fields))
+    → all_fit v ps (Some i ∷ is) ≡ true → is_listed (first_ops ps) i.op ≡ true
+first_fits v [] i is h = cc
+first_fits v (p ∷ ps) i is h = front_true (is_listed p.ops i.op) _ (all_fit v ps is) h
+
+any_gives : (passes : Values → Bool) (b : Bool) → ((v : Values) → passes v ≡ true → b ≡ true)
+    → (vs : List Values) → list_any passes vs ≡ true → b ≡ true
+any_gives passes b gives [] h = cc
+any_gives passes b gives (v ∷ vs) h =
+    turn (passes v) (gives v) (any_gives passes b gives vs) h
+  where
+    turn : (t : Bool) → (t ≡ true → b ≡ true) → (list_any passes vs ≡ true → b ≡ true)
+        → (t || list_any passes vs) ≡ true → b ≡ true
+    turn true here later h = here refl
+    turn false here later h = later h
+
+pub first_matches : (ps : List Place) (i : Fields) (is : List (Option Fields))
+    → matches ps (Some i ∷ is) ≡ true → is_listed (first_ops ps) i.op ≡ true
+unfolding matches
+first_matches ps i is h =
+    any_gives (λ v. all_fit v ps (Some i ∷ is)) (is_listed (first_ops ps) i.op)
+    (λ v. first_fits v ps i is) all_values h
