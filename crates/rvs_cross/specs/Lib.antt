@@ -1,3 +1,4 @@
+pub mod Assigned
 pub mod Cross
 pub mod CrossView
 pub mod First

@@ -1,6 +1,6 @@
 -- The instructions that solve a cross point.
-use Rattle.std.specs.Prelude.{◌≡◌, ℕ, ◌==◌, ℤ, pos, Bool, true, false, ◌&&◌, ◌||◌, List, [], ◌∷◌, map, filter, flat_map, find, Option, Some, None, option_map, All, Contains}
-use Rattle.std.specs.List.{list_any, range_with_len}
+use Rattle.std.specs.Prelude.{◌≡◌, ℕ, pos, true, List, [], ◌∷◌, map, filter, flat_map, find, Option, Some, None, All, Contains}
+use Rattle.std.specs.List.{range_with_len}
 use Rattle.rvs_insn.specs.declared.op.Op.{Op}
 use Rattle.rvs_insn.specs.declared.op.Format.{Format}
 use Rattle.rvs_insn.specs.declared.op.Format.TheVariants.{R, I, Shift}
@@ -8,11 +8,8 @@ use Rattle.rvs_insn.specs.Isa.{Isa}
 use Rattle.rvs_insn.specs.Table.{row, all_ops}
 use Rattle.rvs_insn.specs.Names.{is_admitted_op}
 use Rattle.rvs_insn.specs.Fields.{Fields}
-use Rattle.rvs_cross.specs.declared.cross.Variable.{Variable}
-use Rattle.rvs_cross.specs.declared.cross.Variable.TheVariants.{First, Second, Third}
-use Rattle.rvs_cross.specs.declared.cross.Assignment.{Assignment}
 use Rattle.rvs_cross.specs.Cross.{Place}
-use Rattle.rvs_cross.specs.Windows.{Values, fits, matches}
+use Rattle.rvs_cross.specs.Windows.{Values, fits, matches, values_among}
 
 -- x8 to x15
 abbrev pub middle_registers : List ℕ
@@ -67,30 +64,9 @@ abbrev pub solutions : Isa → Values → List Place → Option (List Fields)
 solutions spec v [] = Some []
 solutions spec v (p ∷ ps) = onto (solution spec v p) (solutions spec v ps)
 
--- a place says something of the variable
-abbrev pub same_variable : Variable → Variable → Bool
-same_variable First First = true
-same_variable Second Second = true
-same_variable Third Third = true
-same_variable _ _ = false
-
-abbrev pub says_of : Variable → Place → Bool
-says_of x p = list_any (λ (s : Assignment). same_variable x s.variable) p.sets
-
-abbrev pub is_used : List Place → Variable → Bool
-is_used ps x = list_any (says_of x) ps
-
--- the registers that a variable may stand for; one that isn't there has no choice
-abbrev pub registers_for : Bool → List ℕ
-registers_for true = middle_registers
-registers_for false = 0 ∷ []
-
 -- the registers of the variables, in their order
-unfoldable pub assignments : List Place → List Values
-assignments ps =
-    flat_map (λ a. flat_map (λ b. map (λ c. record { first = a; second = b; third = c })
-    (registers_for (is_used ps Third))) (registers_for (is_used ps Second))) (registers_for
-    (is_used ps First))
+abbrev pub assignments : List Place → List Values
+assignments ps = values_among middle_registers ps
 
 -- the first that there is
 abbrev pub first_of : Option (List Fields) → Option (List Fields) → Option (List Fields)
