@@ -2,10 +2,10 @@
 -- listed.
 use Rattle.std.proofs.Common.{◌≡◌, ◌≢◌, ℕ, Bool, true, false, ◌&&◌, ◌||◌, List, [], ◌∷◌, ◌++◌, Option, Some, None, refl, sym, ap, ◌∙◌, length, arith}
 use Rattle.std.proofs.lemmas.List.Folds.{list_any_none}
-use Rattle.std.specs.List.{list_any}
+use Rattle.std.specs.List.{list_any, range_with_len}
 use Rattle.rvs_cross.specs.Cross.{Place}
 use Rattle.rvs_cross.specs.First.{first_ops}
-use Rattle.rvs_cross.specs.Windows.{Values, all_fit, all_values, fits_decoded, is_listed, matches}
+use Rattle.rvs_cross.specs.Windows.{Values, all_fit, fits_decoded, is_listed, matches, values_among}
 use Rattle.rvs_insn.specs.Fields.{Fields}
 
 and_false : (a b : Bool) → b ≡ false → (a && b) ≡ false
@@ -26,7 +26,7 @@ pub length_matches : (ps : List Place) (is : List (Option Fields))
     → length is ≢ length ps → matches ps is ≡ false
 unfolding matches
 length_matches ps is h =
-    list_any_none (λ v. all_fit v ps is) all_values (λ k d l. length_fits _ ps is h)
+    list_any_none (λ v. all_fit v ps is) (values_among (range_with_len 0 32) ps) (λ k d l. length_fits _ ps is h)
 
 decoded_fits : (v : Values) (ps : List Place) (xs ys : List (Option Fields))
     → all_fit v ps (xs ++ None ∷ ys) ≡ false
@@ -41,7 +41,7 @@ pub decoded_matches : (ps : List Place) (xs ys : List (Option Fields))
     → matches ps (xs ++ None ∷ ys) ≡ false
 unfolding matches
 decoded_matches ps xs ys =
-    list_any_none (λ v. all_fit v ps (xs ++ None ∷ ys)) all_values (λ k d l. decoded_fits _ ps xs ys)
+    list_any_none (λ v. all_fit v ps (xs ++ None ∷ ys)) (values_among (range_with_len 0 32) ps) (λ k d l. decoded_fits _ ps xs ys)
 
 front_true : (a b c : Bool) → ((a && b) && c) ≡ true → a ≡ true
 front_true true b c h = refl
@@ -68,4 +68,4 @@ pub first_matches : (ps : List Place) (i : Fields) (is : List (Option Fields))
 unfolding matches
 first_matches ps i is h =
     any_gives (λ v. all_fit v ps (Some i ∷ is)) (is_listed (first_ops ps) i.op)
-    (λ v. first_fits v ps i is) all_values h
+    (λ v. first_fits v ps i is) (values_among (range_with_len 0 32) ps) h
