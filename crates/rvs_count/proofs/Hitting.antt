@@ -1,6 +1,7 @@
 -- What one instruction of a log adds to the counts.
 use Rattle.std.proofs.Common.{◌≡◌, ℕ, zero, suc, ◌+◌, ◌≤◌, Bool, true, false, cond, ◌||◌, List, [], ◌∷◌, Option, Some, None, refl, sym, ap, ◌∙◌, length, arith, All}
 use Rattle.std.specs.Option.{option_and_then}
+use Rattle.rvs_cgf.specs.declared.group.Label.{Label}
 use Rattle.rvs_insn.specs.Fields.{Fields, insn_of_word}
 use Rattle.rvs_log.specs.Entries.{Entry, entry_at}
 use Rattle.rvs_machine.specs.Traces.{word_of, rs1_of_word, rs2_of_word}
@@ -45,6 +46,20 @@ some_hit aims run cs words pc word i s =
     ∙ ap (λ v. with (Some i) v (word_of words i.rs2)) (sym v1)
     ∙ ap (λ v. with (Some i) (word_of words (rs1_of_word word)) v) (sym v2)
     ∙ ap (λ (o : Option Fields). with o (word_of words (rs1_of_word word)) (word_of words (rs2_of_word word))) (sym s)
+
+-- the two passes over the points
+pub both_counted : (index crosses : List Label) (run run' : List Fields) (cs cs1 cs2 : List ℕ) (words : List ℕ) (pc word : ℕ) (i : Fields)
+    → crosses ≡ index → insn_of_word word ≡ Some i → run' ≡ run_with run (Some i)
+    → cs1 ≡ added (λ a. hits_insn a (Some i) (word_of words i.rs1) (word_of words i.rs2)) (aims_in index) cs
+    → cs2 ≡ added (λ a. ends_run a.point.meaning run') (aims_in crosses) cs1
+    → cs2 ≡ counts_with (aims_in index) (run_with run (decoded (entry_at words pc word))) (entry_at words pc word) cs
+both_counted index crosses run run' cs cs1 cs2 words pc word i same s r first second =
+    second
+    ∙ ap (λ (ls : List Label). added (λ a. ends_run a.point.meaning run') (aims_in ls) cs1) same
+    ∙ ap (λ l. added (λ a. ends_run a.point.meaning run') (aims_in index) l) first
+    ∙ ap (λ (l : List Fields). added (λ a. ends_run a.point.meaning l) (aims_in index)
+    (added (λ a. hits_insn a (Some i) (word_of words i.rs1) (word_of words i.rs2)) (aims_in index) cs)) r
+    ∙ some_hit (aims_in index) run cs words pc word i s
 
 pub entry_counted : (t : Tallied) (b : Bool) (e : Entry) (cs : List ℕ) (run : List Fields)
     → b ≡ true → run ≡ run_with t.run (decoded e)

@@ -4,7 +4,7 @@ use Rattle.std.proofs.lemmas.Bool.Decides.{nat_tests, Decides-int_eq}
 use Rattle.std.specs.Prelude.{◌==◌, option_map, unsigned_abs}
 use Rattle.std.specs.Int.{int_rem_euclid}
 use Rattle.std.specs.Ordering.{int_eq}
-use Rattle.rvs_cgf.specs.Groups.{Point, Meaning, op_is, reg_is, regs, nums}
+use Rattle.rvs_cgf.specs.Groups.{Point, Meaning, op_is, reg_is, regs, nums, window}
 use Rattle.rvs_cgf.specs.Hits.{holds, is_meant, is_register}
 use Rattle.rvs_cgf.specs.declared.group.Kind.{Kind}
 use Rattle.rvs_cgf.specs.declared.group.Kind.TheVariants as kind
@@ -228,8 +228,10 @@ meant_once kind.Rs2 (reg_is n) op t h = rs2_once t n (register_there n (t.reg re
 meant_once kind.Mnemonic (reg_is n) op t h = cc
 meant_once kind.OpComb (reg_is n) op t h = cc
 meant_once kind.ValComb (reg_is n) op t h = cc
+meant_once kind.CrossComb (reg_is n) op t h = cc
 meant_once k (regs f) op t h = zero_once t
 meant_once k (nums f) op t h = nums_once f t (equated f) refl h
+meant_once k (window ps) op t h = cc
 
 pub seen_once : (p : Point) (op : Op) (t : Table) → holds p op t ≡ true
     → seen (bucket_of p) (visited t) ≡ 1

@@ -1,5 +1,5 @@
 // The instructions that came last.
-ghost use Rattle.std.specs.Prelude.{◌≡◌, ◌≤◌, [], None, Some, length};
+ghost use Rattle.std.specs.Prelude.{◌≡◌, ◌≤◌, ◌-◌, ◌∷◌, ◌++◌, [], None, Some, drop, length};
 ghost use Rattle.rvs_count.specs.Runs.{run_with};
 
 use rvs_insn::{Insn, Op};
@@ -21,6 +21,23 @@ impl Model for Run {
     ghost view = { λ r. drop (6 - r.len) r.list };
 
     ghost invariant = { λ r. (r.len ≤ 6) × (length r.list ≡ 6) };
+}
+
+/// The last five of six instructions, and one more.
+fn shifted(list: [Insn; 6], insn: Insn) -> [Insn; 6]
+    requires { length list ≡ 6 }
+    ensures { result ≡ drop 1 list ++ insn ∷ [] }
+{
+    [list[1], list[2], list[3], list[4], list[5], insn]
+}
+
+/// The last of six instructions.
+fn last_of(list: &[Insn], count: usize) -> &[Insn]
+    requires all { length list.now ≡ 6 }
+    requires some { count ≤ 6 }
+    ensures { result.now ≡ drop (6 - count) list.now }
+{
+    &list[6 - count..]
 }
 
 impl Run {
@@ -52,11 +69,8 @@ impl Run {
     pub(crate) fn push(&mut self, insn: &Insn)
         ensures { self.new ≡ run_with self.old (Some insn.now) }
     {
-        let [_, first, second, third, fourth, fifth] = self.list;
-        self.list = [first, second, third, fourth, fifth, *insn];
-        if self.len < 6 {
-            self.len += 1;
-        }
+        self.list = shifted(self.list, *insn);
+        self.len = (self.len + 1).min(6);
     }
 
     /// The instructions.
@@ -64,6 +78,6 @@ impl Run {
         ensures items { result.now ≡ self.now }
         ensures few { length result.now ≤ 6 }
     {
-        &self.list[6 - self.len..]
+        last_of(&self.list, self.len)
     }
 }
