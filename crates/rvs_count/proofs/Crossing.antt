@@ -1,5 +1,5 @@
 -- Cross points among the points, and what the ends of a run add to their counts.
-use Rattle.std.proofs.Common.{◌≡◌, ◌≢◌, ℕ, zero, suc, ◌+◌, ◌<◌, ◌≤◌, ◌⊎◌, inl, inr, Bool, true, false, cond, ◌&&◌, ◌||◌, List, [], ◌∷◌, ◌++◌, Option, Some, refl, sym, ap, ◌∙◌, length, drop, arith}
+use Rattle.std.proofs.Common.{◌≡◌, ◌≢◌, ℕ, zero, suc, ◌+◌, ◌<◌, ◌≤◌, ◌⊎◌, inl, inr, Bool, true, false, cond, ◌||◌, List, [], ◌∷◌, ◌++◌, Option, Some, refl, sym, ap, ◌∙◌, length, drop, arith}
 use Rattle.std.proofs.Math.ListN.{drop_of_length-le}
 use Rattle.std.proofs.lemmas.Bool.{cases_lt}
 use Rattle.std.proofs.lemmas.List.{length-map}
@@ -79,16 +79,16 @@ cross_points ops [] = refl
 cross_points ops (p ∷ ps) =
     ap (λ b. is_window (meaning_view p.meaning) || b) (cross_points ops ps)
 
-pub cross_label : (l : Label)
-    → (l.selected && list_any (λ (p : Point). is_window (meaning_view p.meaning)) l.points)
-    ≡ list_any (λ (a : Aim). is_window a.point.meaning) (aims_of_label (label_view l))
-cross_label l = turn l.selected
-  where
-    turn : (b : Bool)
-        → (b && list_any (λ (p : Point). is_window (meaning_view p.meaning)) l.points)
-        ≡ list_any is_cross (cond b (aims_of_points l.ops (map point_view l.points)) [])
-    turn true = cross_points l.ops l.points
-    turn false = refl
+pub selected_label : (l : Label) (points : List Point) (has : Bool) → l.selected ≡ true
+    → points ≡ l.points
+    → has ≡ list_any (λ (p : Point). is_window (meaning_view p.meaning)) points
+    → has ≡ list_any (λ (a : Aim). is_window a.point.meaning) (aims_of_label (label_view l))
+selected_label l points has s e h =
+    let aims = aims_of_points l.ops (map point_view l.points) in
+    h
+    ∙ ap (λ ps. list_any (λ (p : Point). is_window (meaning_view p.meaning)) ps) e
+    ∙ cross_points l.ops l.points
+    ∙ ap (λ b. list_any is_cross (cond b aims [])) (sym s)
 
 pub cross_labels : (labels : List Label)
     → list_any (λ (l : Label). list_any (λ (a : Aim). is_window a.point.meaning) (aims_of_label (label_view l))) labels

@@ -9,5 +9,6 @@ pub mod Places
 pub mod Reports
 pub mod Seen
 pub mod Sequels
+pub mod Shifts
 pub mod Streams
 pub mod Sums

@@ -1,11 +1,20 @@
 -- Instructions that match a cross point are as many as its places, they all decode, and the first is
 -- listed.
 use Rattle.std.proofs.Common.{◌≡◌, ◌≢◌, ℕ, Bool, true, false, ◌&&◌, ◌||◌, List, [], ◌∷◌, ◌++◌, Option, Some, None, refl, sym, ap, ◌∙◌, length, arith}
+use Rattle.std.proofs.lemmas.Bool.Decides.{nat_tests}
+use Rattle.std.proofs.lemmas.List.{length-map}
 use Rattle.std.proofs.lemmas.List.Folds.{list_any_none}
 use Rattle.std.specs.List.{list_any, range_with_len}
+use Rattle.std.specs.Prelude.{◌==◌, map}
+use Rattle.rvs_cgf.specs.GroupView.{meaning_view}
+use Rattle.rvs_cgf.specs.declared.group.Meaning as code
+use Rattle.rvs_cgf.specs.declared.group.Meaning.TheVariants.{Window}
 use Rattle.rvs_cross.specs.Cross.{Place}
+use Rattle.rvs_cross.specs.CrossView.{cross_view, place_view}
 use Rattle.rvs_cross.specs.First.{first_ops}
+use Rattle.rvs_cross.specs.declared.cross.Cross.{Cross}
 use Rattle.rvs_cross.specs.Windows.{Values, all_fit, fits_decoded, is_listed, matches, values_among}
+use Rattle.rvs_count.specs.Index.{is_matched}
 use Rattle.rvs_insn.specs.Fields.{Fields}
 
 and_false : (a b : Bool) → b ≡ false → (a && b) ≡ false
@@ -62,6 +71,21 @@ any_gives passes b gives (v ∷ vs) h =
         → (t || list_any passes vs) ≡ true → b ≡ true
     turn true here later h = here refl
     turn false here later h = later h
+
+-- so many instructions aren't as many as there are places
+pub other_length : (m : code.Meaning) (c : Cross) (run : List Fields) (count : ℕ) → m ≡ Window c
+    → count ≡ length c.list → count ≢ length run
+    → (count == length run) ≡ is_matched (meaning_view m) run
+other_length m c run count e size other =
+    let some : Fields → Option Fields = λ i. Some i in
+    let unlike : length (map some run) ≢ length (cross_view c) =
+    λ same. other (size ∙ sym (length-map c.list place_view) ∙ sym same ∙ length-map run some) in
+    differ count (length run) other
+    ∙ sym (length_matches (cross_view c) (map some run) unlike)
+    ∙ ap (λ m. is_matched (meaning_view m) run) (sym e)
+  where
+    differ : (a b : ℕ) → a ≢ b → (a == b) ≡ false
+    differ a b h = grind (arith, nat_tests)
 
 pub first_matches : (ps : List Place) (i : Fields) (is : List (Option Fields))
     → matches ps (Some i ∷ is) ≡ true → is_listed (first_ops ps) i.op ≡ true

@@ -61,7 +61,6 @@ fn any_cross(points: &[Point]) -> bool
 }
 
 /// Whether a label that is selected has a cross point.
-#[tactic(auto, using(crate::proofs::Crossing::cross_label))]
 fn has_cross(label: &Label) -> bool
     ensures { result
         ≡ list_any (λ a. is_window a.point.meaning) (aims_of_label (label_view label.now)) }
@@ -69,12 +68,18 @@ fn has_cross(label: &Label) -> bool
     label.selected && any_cross(label.points.as_slice())
 }
 
+fn any_has_cross(labels: &[Label]) -> bool
+    ensures { result ≡ list_any (λ l. list_any (λ a. is_window a.point.meaning)
+        (aims_of_label (label_view l))) labels.now }
+{
+    labels.iter().any(|label| has_cross(label))
+}
+
 /// Whether one of the labels has.
-#[tactic(auto, using(crate::proofs::Crossing::cross_labels))]
 fn have_crosses(labels: &[Label]) -> bool
     ensures { result ≡ list_any (λ a. is_window a.point.meaning) (aims_in labels.now) }
 {
-    labels.iter().any(|label| has_cross(label))
+    any_has_cross(labels)
 }
 
 /// The lists of all numbers of places and mnemonics.
@@ -122,7 +127,8 @@ impl<'g> Crosses<'g> {
         ensures { counts.new.items
             ≡ added (λ a. is_matched a.point.meaning window.now) (aims_in self.now) counts.old.items }
     {
-        let key = (window.len() - 1) * MNEMONICS + number(window[0].op);
+        let first = &window[0];
+        let key = (window.len() - 1) * MNEMONICS + number(first.op);
         let slots = self.lists.as_slice()[key].as_slice();
         add_matched(slots, window, counts);
     }

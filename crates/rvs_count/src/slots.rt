@@ -1,5 +1,6 @@
 // The points that an instruction of a mnemonic may hit, alone or as the first of several.
 ghost use Rattle.std.specs.Prelude.{◌≡◌, ◌==◌, ◌<◌, ◌+◌, ◌^◌, ◌++◌, ◌∷◌, [], IfOk, OnOk, if◌then◌else◌, length, map};
+ghost use Rattle.std.specs.List.{list_any};
 ghost use Rattle.rvs_cgf.specs.GroupView.{label_view, meaning_view, point_view};
 ghost use Rattle.rvs_cross.specs.CrossView.{cross_view};
 ghost use Rattle.rvs_cross.specs.First.{first_ops as first_of};
@@ -35,13 +36,19 @@ fn fits(mnemonic: usize, point: &Point) -> bool
     }
 }
 
+fn is_listed(ops: &[Op], mnemonic: usize) -> bool
+    ensures { result ≡ list_any (λ op. spec.number op == mnemonic) ops.now }
+{
+    ops.iter().any(|op| number(*op) == mnemonic)
+}
+
 /// Whether the first place of a cross point lists the mnemonic of this number.
 fn lists_first(cross: &Cross, mnemonic: usize) -> bool
     ensures { result ≡ lists_number mnemonic (first_of (cross_view cross.now)) }
 {
     match first_ops(cross) {
         None => true,
-        Some(ops) => ops.iter().any(|op| number(*op) == mnemonic),
+        Some(ops) => is_listed(ops, mnemonic),
     }
 }
 
