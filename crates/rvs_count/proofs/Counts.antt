@@ -3,14 +3,11 @@ use Rattle.std.proofs.Common.{◌≡◌, ℕ, ◌+◌, Bool, true, false, cond, 
 use Rattle.std.proofs.lemmas.List.{map-append}
 use Rattle.std.proofs.lemmas.List.Sums.{sum_by_push}
 use Rattle.std.specs.Prelude.{count_by, map}
-use Rattle.rvs_cgf.specs.Groups as group
 use Rattle.rvs_cgf.specs.Groups.{Meaning, op_is, reg_is, regs, nums, window}
-use Rattle.rvs_cgf.specs.Hits.{has_op, is_meant}
+use Rattle.rvs_cgf.specs.Hits.{has_op}
 use Rattle.rvs_cgf.specs.declared.group.Kind.{Kind}
 use Rattle.rvs_cross.specs.Cross.{Place}
 use Rattle.rvs_cross.specs.Windows.{matches}
-use Rattle.rvs_expr.specs.Meaning.{Table}
-use Rattle.rvs_facts.specs.Facts.{facts_of}
 use Rattle.rvs_insn.specs.Fields.{Fields}
 use Rattle.rvs_insn.specs.declared.op.Op.{Op}
 use Rattle.rvs_log.specs.Entries.{Entry}

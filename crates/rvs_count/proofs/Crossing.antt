@@ -6,7 +6,6 @@ use Rattle.std.proofs.lemmas.List.{length-map}
 use Rattle.std.proofs.lemmas.List.Folds.{list_any-append}
 use Rattle.std.specs.List.{list_any}
 use Rattle.std.specs.Prelude.{map}
-use Rattle.rvs_cgf.specs.Groups as group
 use Rattle.rvs_cgf.specs.Groups.{Meaning, op_is, reg_is, regs, nums, window}
 use Rattle.rvs_cgf.specs.GroupView.{label_view, meaning_view, point_view}
 use Rattle.rvs_cgf.specs.declared.group.Label.{Label}

@@ -1,6 +1,6 @@
 -- A window of instructions that ends with the newest is seen in what a counter keeps of them.
-use Rattle.std.proofs.Common.{◌≡◌, ◌≢◌, ℕ, zero, suc, ◌+◌, ◌-◌, ◌<◌, ◌≤◌, ◌⊎◌, inl, inr, Bool, true, false, cond, List, [], ◌∷◌, ◌++◌, Option, Some, None, refl, sym, ap, ◌∙◌, length, take, drop, arith, append_assoc, append-nil, length-append}
-use Rattle.std.proofs.Math.Seq.{drop-append-add, take-length}
+use Rattle.std.proofs.Common.{◌≡◌, ◌≢◌, ℕ, zero, suc, ◌+◌, ◌-◌, ◌<◌, ◌≤◌, ◌⊎◌, inl, inr, Bool, false, cond, List, [], ◌∷◌, ◌++◌, Option, Some, None, refl, sym, ap, ◌∙◌, length, take, drop, arith, append_assoc, append-nil, length-append}
+use Rattle.std.proofs.Math.Seq.{drop-append-add}
 use Rattle.std.proofs.lemmas.Bool.{cases_lt}
 use Rattle.std.proofs.lemmas.List.{drop-append-le, drop-map, length-drop, length-map, map-append, take-append-drop, take-append-le, length_push}
 use Rattle.std.proofs.lemmas.List.Sums.{fold-append, sum_by-cons}

@@ -1,6 +1,6 @@
-use Rattle.std.proofs.Common.{◌≡◌, ◌+◌, ◌^◌, ◌≤◌, ℕ, List, All, ap, subst, sym, ◌∙◌, arith, length}
+use Rattle.std.proofs.Common.{◌+◌, ◌^◌, ◌≤◌, ℕ, List, All, ap, subst, sym, ◌∙◌, arith, length}
 use Rattle.rvs_insn.specs.Fields.{Fields}
-use Rattle.rvs_count.specs.Counting.{Aim, aims_in}
+use Rattle.rvs_count.specs.Counting.{aims_in}
 use Rattle.rvs_count.specs.Index.{is_matched}
 use Rattle.rvs_count.specs.State.{added}
 use Rattle.rvs_count.proofs.Crossing.{aims_sized, ends_added, ends_done, ends_more}

@@ -1,8 +1,8 @@
-use Rattle.std.proofs.Common.{◌≡◌, ◌+◌, ◌-◌, ◌*◌, ◌<◌, ℕ, List, sym, ap, ◌∙◌, arith, length, vec_len}
+use Rattle.std.proofs.Common.{◌≡◌, ◌+◌, ◌-◌, ◌*◌, sym, ap, ◌∙◌, arith, length, vec_len}
 use Rattle.rvs_facts.specs.Mnemonics.{number}
 use Rattle.rvs_insn.specs.Fields.{Fields}
 use Rattle.rvs_count.specs.Counting.{aims_in}
-use Rattle.rvs_count.specs.Index.{is_for, places, places_for, windows_key}
+use Rattle.rvs_count.specs.Index.{is_for, places_for, windows_key}
 use Rattle.rvs_count.proofs.Places.{added_window, slots_at, slots_few, slots_low}
 use Rattle.rvs_count.proofs.crosses.Crosses.add_window.Goals as goal
 

@@ -1,10 +1,9 @@
-use Rattle.std.proofs.Common.{◌≡◌, ◌+◌, ◌*◌, ◌<◌, ℕ, List, Option, Some, sym, ap, ◌∙◌, ◌&&◌, arith, length, vec_len}
-use Rattle.std.specs.Prelude.{IfSome}
+use Rattle.std.proofs.Common.{◌+◌, ◌*◌, ◌<◌, ℕ, Option, Some, sym, ap, ◌∙◌, ◌&&◌, arith, length, vec_len}
 use Rattle.rvs_facts.specs.Mnemonics.{number}
 use Rattle.rvs_insn.specs.Fields.{Fields}
 use Rattle.rvs_count.specs.Buckets.{is_seen}
 use Rattle.rvs_count.specs.Counting.{Aim, aims_in, hits_insn}
-use Rattle.rvs_count.specs.Index.{insns_key, is_for, places, places_for}
+use Rattle.rvs_count.specs.Index.{insns_key, is_for, places_for}
 use Rattle.rvs_count.specs.State.{added}
 use Rattle.rvs_count.proofs.Places.{added_bucket, none_added, slots_at, slots_few, slots_low}
 use Rattle.rvs_count.proofs.index.Index.add_bucket.Goals as goal

@@ -22,7 +22,8 @@ add-requires-in-Some-clause-low c =
     let P : List ℕ → Type 0 = λ l. All (λ (n : ℕ). n ≤ c.self.inside.instructions + 1) l in
     let low : P c.add.new.counts.items =
     subst P (sym c.add.ensures) (added_low _ (aims_in c.self.inside.index) c.self.inside.counts.items c.self.inside.instructions c.self.invariant.low) in
-    λ k d l. omega (arith, low k d l, c.requires.low)
+    let same = ap (λ (t : Tallied). t.instructions) c.self.view_is in
+    λ k d l. omega (arith, low k d l, c.requires.low, same)
 
 -- what both passes add
 counted : (c : After-add-in-Some)
