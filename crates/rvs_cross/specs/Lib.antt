@@ -1,8 +1,13 @@
 pub mod Assigned
 pub mod Cross
 pub mod CrossView
+pub mod Entries
 pub mod First
+pub mod Lists
+pub mod ListsView
+pub mod Outcomes
 pub mod Parse
 pub mod Refusals
 pub mod Sequences
+pub mod Variables
 pub mod Windows
