@@ -1,6 +1,6 @@
 -- The registers that make instructions match are those that the first assignments find.
-use Rattle.std.proofs.Common.{◌≡◌, ℕ, Bool, true, false, ◌&&◌, ◌||◌, cond, List, [], ◌∷◌, map, inl, inr, Option, Some, None, refl, sym, ap, ◌∙◌, subst, arith}
-use Rattle.std.specs.Prelude.{find, flat_map, option_map}
+use Rattle.std.proofs.Common.{◌≡◌, ℕ, Bool, true, false, ◌&&◌, ◌||◌, cond, List, [], ◌∷◌, inl, inr, Option, Some, None, refl, sym, ap, ◌∙◌, subst, arith}
+use Rattle.std.specs.Prelude.{find, option_map}
 use Rattle.std.specs.List.{list_any, list_all, range_with_len}
 use Rattle.std.proofs.lemmas.Bool.{eqb-true}
 use Rattle.rvs_insn.specs.Fields.{Fields, IsRegister}
@@ -8,7 +8,7 @@ use Rattle.rvs_cross.specs.declared.cross.Variable.{Variable}
 use Rattle.rvs_cross.specs.declared.cross.Variable.TheVariants.{First, Second, Third}
 use Rattle.rvs_cross.specs.declared.cross.Assignment.{Assignment}
 use Rattle.rvs_cross.specs.Cross.{Place}
-use Rattle.rvs_cross.specs.Windows.{Values, value_of, register_in, same_register, is_set, is_listed, meets, fits, all_fit, same_variable, says_of, is_used, choices_for, values_among, matches}
+use Rattle.rvs_cross.specs.Windows.{Values, value_of, register_in, same_register, is_set, is_listed, meets, fits, all_fit, same_variable, says_of, is_used, choices_for, with_third, with_second, values_among, matches}
 use Rattle.rvs_cross.specs.Assigned.{register_by, assigned_in, assigned}
 use Rattle.rvs_cross.proofs.Members.{In, by_test, or_rest, in_any, any_in, in_map, map_in, in_flat, flat_in, in_range}
 use Rattle.rvs_cross.proofs.Turns.{some_of}
@@ -117,13 +117,12 @@ pub record Among (registers : List ℕ) (ps : List Place) (v : Values) : Type 0 
   pub third : In v.third (choices_for registers (is_used ps Third))
 
 abbrev at_second : List ℕ → List Place → Option ℕ → Option ℕ → List Values
-at_second registers ps a b =
-    map (λ c. record { first = a; second = b; third = c })
-    (choices_for registers (is_used ps Third))
+at_second registers ps a b = with_third (choices_for registers (is_used ps Third)) a b
 
 abbrev at_first : List ℕ → List Place → Option ℕ → List Values
 at_first registers ps a =
-    flat_map (at_second registers ps a) (choices_for registers (is_used ps Second))
+    with_second (choices_for registers (is_used ps Second))
+    (choices_for registers (is_used ps Third)) a
 
 pub in_values : (registers : List ℕ) (ps : List Place) (v : Values) → Among registers ps v
     → In v (values_among registers ps)

@@ -1,4 +1,5 @@
 pub mod Assigned
+pub mod Choosing
 pub mod Cross
 pub mod CrossView
 pub mod Entries

@@ -96,12 +96,17 @@ abbrev pub choices_for : List ℕ → Bool → List (Option ℕ)
 choices_for registers true = map Some registers
 choices_for registers false = None ∷ []
 
--- what the variables may stand for, in their order
+-- what the variables may stand for, each over a list, in their order
+abbrev pub with_third : List (Option ℕ) → Option ℕ → Option ℕ → List Values
+with_third thirds a b = map (λ c. record { first = a; second = b; third = c }) thirds
+
+abbrev pub with_second : List (Option ℕ) → List (Option ℕ) → Option ℕ → List Values
+with_second seconds thirds a = flat_map (with_third thirds a) seconds
+
 unfoldable pub values_among : List ℕ → List Place → List Values
 values_among registers ps =
-    flat_map (λ a. flat_map (λ b. map (λ c. record { first = a; second = b; third = c })
+    flat_map (with_second (choices_for registers (is_used ps variable.Second))
     (choices_for registers (is_used ps variable.Third)))
-    (choices_for registers (is_used ps variable.Second)))
     (choices_for registers (is_used ps variable.First))
 
 -- instructions match a cross point where some registers for its variables make each of them what

@@ -2,6 +2,7 @@
 #![tactic(auto)]
 
 mod building;
+mod choosing;
 mod cross;
 mod cutting;
 mod entries;

@@ -41,7 +41,7 @@ fn same_variable(left: Variable, right: Variable) -> bool
 }
 
 /// Whether a place says something of a variable.
-fn says_of(place: &Place, variable: Variable) -> bool
+pub(crate) fn says_of(place: &Place, variable: Variable) -> bool
     ensures { result ≡ windows.says_of variable (place_view place.now) }
 {
     let sets = place.sets.as_slice();

@@ -31,7 +31,7 @@ impl Model for Values {
 }
 
 /// What a variable stands for.
-fn value_of(values: &Values, variable: Variable) -> Option<u8>
+pub(crate) fn value_of(values: &Values, variable: Variable) -> Option<u8>
     ensures { result ≡ value_of values.now variable }
 {
     match variable {
@@ -53,7 +53,7 @@ pub(crate) fn register_in(insn: &Insn, field: Field) -> Option<u8>
     }
 }
 
-fn same_register(left: Option<u8>, right: Option<u8>) -> bool
+pub(crate) fn same_register(left: Option<u8>, right: Option<u8>) -> bool
     ensures { result ≡ same_register left right }
 {
     match (left, right) {
