@@ -6,6 +6,7 @@ mod choosing;
 mod cross;
 mod cutting;
 mod entries;
+mod first;
 mod fitting;
 mod laws;
 mod lists;
@@ -19,6 +20,7 @@ mod values;
 mod variables;
 
 pub use cross::{Assignment, Cross, Field, Place, Variable, places};
+pub use first::first_ops;
 pub use laws::one_mnemonic_is_read;
 pub use matching::matches;
 pub use parsing::parse_cross;
