@@ -10,12 +10,13 @@ use Rattle.rvs_expr_text.specs.declared.words.Language.TheVariants.{Numbers, Reg
 use Rattle.rvs_expr_text.specs.declared.lexeme.NumName.{NumName}
 use Rattle.rvs_expr.specs.Typed.{Formula}
 use Rattle.rvs_expr.specs.Parse.{parse}
+use Rattle.rvs_cross.specs.Parse as crosses
 use Rattle.rvs_abstract.specs.Calls as calls
 use Rattle.rvs_abstract.specs.Sizes.{is_size}
 use Rattle.rvs_abstract.specs.declared.family.Family.{Family}
 use Rattle.rvs_cgf.specs.Keys.{is_printable, is_skipped}
-use Rattle.rvs_cgf.specs.Groups.{Meaning, reg_is, regs, nums, Point, Skipped, Refusal, Found, refused, ◌>>=◌, ◌>>◌, holds, Taken, same_kind, point, has, with_point, add, with_skipped, skip, is_empty_scalar, for_each, abstract_key, is_shaped, register_point, register_entry, expressed, expression, op_entry, op_key, value_point, add_value, values, called, abstract_entry, abstract_node, numeric_key, numeric_entry, value_entry, skipped_entry, entry_of, all_entries, passed_over_map, passed_over, length_of, value_of}
-use Rattle.rvs_cgf.specs.Valid.{found, meaning_of, IsMeant}
+use Rattle.rvs_cgf.specs.Groups.{Meaning, reg_is, regs, nums, window, Point, Skipped, Refusal, Found, refused, ◌>>=◌, ◌>>◌, holds, Taken, same_kind, point, has, with_point, add, with_skipped, skip, is_empty_scalar, for_each, abstract_key, is_shaped, register_point, register_entry, expressed, expression, op_entry, op_key, value_point, add_value, values, called, abstract_entry, abstract_node, numeric_key, numeric_entry, value_entry, crossed, cross_entry, skipped_entry, entry_of, all_entries, passed_over_map, passed_over, length_of, value_of}
+use Rattle.rvs_cgf.specs.Valid.{found, places, meaning_of, IsMeant}
 use Rattle.rvs_cgf.specs.declared.walk.Sort.{Sort}
 use Rattle.rvs_cgf.specs.declared.walk.Sort.TheVariants as sort
 use Rattle.rvs_cgf.specs.declared.group.Kind.{Kind}
@@ -157,6 +158,18 @@ value-kept P kept label key d t u h e =
     (λ b g. abstract_node-kept P kept label key d t u h g)
     (λ b g. numeric-kept P kept label key d t u h g)
 
+pub crossed-kept : (P : Taken → Type 0) → Kept P (IsOf kind.CrossComb) → (label key : List ℕ) → is_printable key ≡ true → (r : crosses.Found) → crosses.parse key ≡ r → (t u : Taken) → P t → crossed label key r t ≡ Ok u → P u
+crossed-kept P kept label key shown (Ok (crosses.read ps)) is t u h e =
+    add-kept P (IsOf kind.CrossComb) kept label (codes "cross_comb") key (point kind.CrossComb key (window ps)) t u h
+    (record { meant = record { printable = shown; meaning_is = ap (λ r. option_map window (places r)) is }; other = refl; kind_is = refl; read = refl }) e
+crossed-kept P kept label key shown (Ok crosses.skipped) is t u h e = skip-kept P (IsOf kind.CrossComb) kept (codes "cross_comb") key t u h e
+crossed-kept P kept label key shown (Err r) is t u h e = err-not _ u e
+
+pub cross-kept : (P : Taken → Type 0) → Kept P (IsOf kind.CrossComb) → (label key : List ℕ) (d : Data) (t u : Taken) → P t → cross_entry label key d t ≡ Ok u → P u
+cross-kept P kept label key d t u h e =
+    holds-then (is_shaped key d) label (codes "cross_comb") key fault.BadShape (crossed label key (crosses.parse key) t) u e
+    (λ s g. crossed-kept P kept label key (printable-is key d s) (crosses.parse key) refl t u h g)
+
 pub skipped-kept : (P : Taken → Type 0) (Q : Point → Type 0) → Kept P Q → (label node key : List ℕ) (d : Data) (t u : Taken) → P t → skipped_entry label node key d t ≡ Ok u → P u
 skipped-kept P Q kept label node key d t u h e =
     holds-then (is_shaped key d) label node key fault.BadShape (skip node key t) u e (λ s g. skip-kept P Q kept node key t u h g)
@@ -179,6 +192,7 @@ kind_of sort.Mnemonic = kind.Mnemonic
 kind_of (sort.Register k) = k
 kind_of sort.Operation = kind.OpComb
 kind_of sort.Numeric = kind.ValComb
+kind_of sort.Crossed = kind.CrossComb
 kind_of sort.Skipped = kind.Mnemonic
 
 pub entry-kept : (P : Taken → Type 0) (isa : Isa) (s : Sort) → Kept P (IsOf (kind_of s)) → is_other s ≡ true → (label node key : List ℕ) (d : Data) (t u : Taken) → P t → entry_of isa s label node key d t ≡ Ok u → P u
@@ -189,8 +203,10 @@ entry-kept P isa (sort.Register kind.Rd) kept other label node key d t u h e = r
 entry-kept P isa (sort.Register kind.Mnemonic) kept other label node key d t u h e = cc
 entry-kept P isa (sort.Register kind.OpComb) kept other label node key d t u h e = cc
 entry-kept P isa (sort.Register kind.ValComb) kept other label node key d t u h e = cc
+entry-kept P isa (sort.Register kind.CrossComb) kept other label node key d t u h e = cc
 entry-kept P isa sort.Operation kept other label node key d t u h e = op-kept P kept label key d t u h e
 entry-kept P isa sort.Numeric kept other label node key d t u h e = value-kept P kept label key d t u h e
+entry-kept P isa sort.Crossed kept other label node key d t u h e = cross-kept P kept label key d t u h e
 entry-kept P isa sort.Skipped kept other label node key d t u h e = skipped-kept P (IsOf kind.Mnemonic) kept label node key d t u h e
 
 pub entries-kept : (P : Taken → Type 0) (isa : Isa) (s : Sort) (label node : List ℕ) → ((key : List ℕ) (d : Data) (t u : Taken) → P t → entry_of isa s label node key d t ≡ Ok u → P u)

@@ -14,9 +14,11 @@ use Rattle.rvs_expr_text.specs.declared.words.Language.{Language}
 use Rattle.rvs_expr_text.specs.declared.words.Language.TheVariants.{Numbers, Registers}
 use Rattle.rvs_expr.specs.Typed.{Formula}
 use Rattle.rvs_expr.specs.Parse.{parse}
+use Rattle.rvs_cross.specs.Parse as crosses
+use Rattle.rvs_cross.specs.Parse.{parse as parse_cross}
 use Rattle.rvs_cgf.specs.Keys.{is_printable, is_skipped}
-use Rattle.rvs_cgf.specs.Groups.{Meaning, op_is, reg_is, regs, nums, Point, Skipped, Found, refused, ◌>>=◌, ◌>>◌, holds, Taken, same_kind, point, has, with_point, add, is_empty_scalar, for_each, abstract_key, is_shaped, admitted, register_point, expressed, expression, numeric_entry, abstract_node, entry_of, all_entries, op_in, ops_of}
-use Rattle.rvs_cgf.specs.Valid.{found, meaning_of, are_distinct, IsMeant}
+use Rattle.rvs_cgf.specs.Groups.{Meaning, op_is, reg_is, regs, nums, window, Point, Skipped, Found, refused, ◌>>=◌, ◌>>◌, holds, Taken, same_kind, point, has, with_point, add, is_empty_scalar, for_each, abstract_key, is_shaped, admitted, register_point, expressed, expression, numeric_entry, abstract_node, crossed, entry_of, all_entries, op_in, ops_of}
+use Rattle.rvs_cgf.specs.Valid.{found, places, meaning_of, are_distinct, IsMeant}
 use Rattle.rvs_cgf.specs.Spelled.{Block, block, joined, blocks, SpellsKeys, kinds_are_apart, is_expression, is_read}
 use Rattle.rvs_cgf.specs.declared.walk.Sort.{Sort}
 use Rattle.rvs_cgf.specs.declared.walk.Sort.TheVariants as sort
@@ -51,6 +53,11 @@ pub some-not : {A G : Type 0} (x : A) → None ≡ Some x → G
 some-not x e = cc
 
 -- ---- one entry
+-- a cross point has brackets
+cross-says : places (parse_cross abstract_key) ≡ None
+unfolding parse_cross
+cross-says = refl
+
 -- no key is `abstract_comb`
 pub abstract-says : (k : Kind) → meaning_of k abstract_key ≡ None
 unfolding op_of_name parse
@@ -60,6 +67,7 @@ abstract-says kind.Rs2 = refl
 abstract-says kind.Rd = refl
 abstract-says kind.OpComb = refl
 abstract-says kind.ValComb = refl
+abstract-says kind.CrossComb = ap (option_map window) cross-says
 
 pub not-abstract : (k : Kind) (key : List ℕ) (m : Meaning) → meaning_of k key ≡ Some m → (b : Bool) → bytes_eq key abstract_key ≡ b → b ≡ false
 not-abstract k key m e true s = some-not m (sym (abstract-says k) ∙ ap (meaning_of k) (sym (same-bytes key abstract_key s)) ∙ e)
@@ -87,6 +95,7 @@ sort_of kind.Rs2 = sort.Register kind.Rs2
 sort_of kind.Rd = sort.Register kind.Rd
 sort_of kind.OpComb = sort.Operation
 sort_of kind.ValComb = sort.Numeric
+sort_of kind.CrossComb = sort.Crossed
 
 -- the mnemonic that a meaning is of is admitted
 abbrev pub is_fit : Isa → Meaning → Bool
@@ -149,6 +158,20 @@ reads-numeric isa key m meant r label node d t s h c =
     ∙ holds-yes (is_shaped key d) label (codes "val_comb") key fault.BadShape _ (shaped-yes (point kind.ValComb key m) d meant s)
     ∙ expression-yes label (codes "val_comb") kind.ValComb nums Numbers key m t r meant.meaning_is h c
 
+pub cross-by : (label key : List ℕ) (r : crosses.Found) (m : Meaning) (t : Taken) → option_map window (places r) ≡ Some m → crossed label key r t ≡ add label (codes "cross_comb") key (point kind.CrossComb key m) t
+cross-by label key (Ok (crosses.read ps)) m t e = ap (λ x. add label (codes "cross_comb") key (point kind.CrossComb key x) t) (inner (window ps) m e)
+  where
+    inner : (x y : Meaning) → Some x ≡ Some y → x ≡ y
+    inner x y e = cc
+cross-by label key (Ok crosses.skipped) m t e = some-not m e
+cross-by label key (Err r) m t e = some-not m e
+
+pub reads-crossed : (isa : Isa) (key : List ℕ) (m : Meaning) → IsMeant (point kind.CrossComb key m) → Reads isa sort.Crossed (point kind.CrossComb key m)
+reads-crossed isa key m meant label node d t s h c =
+    holds-yes (is_shaped key d) label (codes "cross_comb") key fault.BadShape _ (shaped-yes (point kind.CrossComb key m) d meant s)
+    ∙ cross-by label key (parse_cross key) m t meant.meaning_is
+    ∙ add-yes label (codes "cross_comb") key (point kind.CrossComb key m) t h c
+
 pub reads_by : (isa : Isa) (k : Kind) (key : List ℕ) (m : Meaning) → IsMeant (point k key m) → not (is_expression k && is_skipped key) ≡ true → is_fit isa m ≡ true → Reads isa (sort_of k) (point k key m)
 reads_by isa kind.Mnemonic key m meant r f = reads-mnemonic isa key m meant f
 reads_by isa kind.Rs1 key m meant r f = reads-register isa kind.Rs1 key m meant meant.meaning_is
@@ -156,6 +179,7 @@ reads_by isa kind.Rs2 key m meant r f = reads-register isa kind.Rs2 key m meant 
 reads_by isa kind.Rd key m meant r f = reads-register isa kind.Rd key m meant meant.meaning_is
 reads_by isa kind.OpComb key m meant r f = reads-operation isa key m meant (not-is (is_skipped key) r)
 reads_by isa kind.ValComb key m meant r f = reads-numeric isa key m meant (not-is (is_skipped key) r)
+reads_by isa kind.CrossComb key m meant r f = reads-crossed isa key m meant
 
 -- ---- the points under one line
 abbrev pub ReadsAll : Isa → Sort → List Point → Type 0
@@ -233,36 +257,49 @@ kind-is kind.Mnemonic kind.Rs2 e = cc
 kind-is kind.Mnemonic kind.Rd e = cc
 kind-is kind.Mnemonic kind.OpComb e = cc
 kind-is kind.Mnemonic kind.ValComb e = cc
+kind-is kind.Mnemonic kind.CrossComb e = cc
 kind-is kind.Rs1 kind.Mnemonic e = cc
 kind-is kind.Rs1 kind.Rs1 e = refl
 kind-is kind.Rs1 kind.Rs2 e = cc
 kind-is kind.Rs1 kind.Rd e = cc
 kind-is kind.Rs1 kind.OpComb e = cc
 kind-is kind.Rs1 kind.ValComb e = cc
+kind-is kind.Rs1 kind.CrossComb e = cc
 kind-is kind.Rs2 kind.Mnemonic e = cc
 kind-is kind.Rs2 kind.Rs1 e = cc
 kind-is kind.Rs2 kind.Rs2 e = refl
 kind-is kind.Rs2 kind.Rd e = cc
 kind-is kind.Rs2 kind.OpComb e = cc
 kind-is kind.Rs2 kind.ValComb e = cc
+kind-is kind.Rs2 kind.CrossComb e = cc
 kind-is kind.Rd kind.Mnemonic e = cc
 kind-is kind.Rd kind.Rs1 e = cc
 kind-is kind.Rd kind.Rs2 e = cc
 kind-is kind.Rd kind.Rd e = refl
 kind-is kind.Rd kind.OpComb e = cc
 kind-is kind.Rd kind.ValComb e = cc
+kind-is kind.Rd kind.CrossComb e = cc
 kind-is kind.OpComb kind.Mnemonic e = cc
 kind-is kind.OpComb kind.Rs1 e = cc
 kind-is kind.OpComb kind.Rs2 e = cc
 kind-is kind.OpComb kind.Rd e = cc
 kind-is kind.OpComb kind.OpComb e = refl
 kind-is kind.OpComb kind.ValComb e = cc
+kind-is kind.OpComb kind.CrossComb e = cc
 kind-is kind.ValComb kind.Mnemonic e = cc
 kind-is kind.ValComb kind.Rs1 e = cc
 kind-is kind.ValComb kind.Rs2 e = cc
 kind-is kind.ValComb kind.Rd e = cc
 kind-is kind.ValComb kind.OpComb e = cc
 kind-is kind.ValComb kind.ValComb e = refl
+kind-is kind.ValComb kind.CrossComb e = cc
+kind-is kind.CrossComb kind.Mnemonic e = cc
+kind-is kind.CrossComb kind.Rs1 e = cc
+kind-is kind.CrossComb kind.Rs2 e = cc
+kind-is kind.CrossComb kind.Rd e = cc
+kind-is kind.CrossComb kind.OpComb e = cc
+kind-is kind.CrossComb kind.ValComb e = cc
+kind-is kind.CrossComb kind.CrossComb e = refl
 
 pub joined-points : (p : Point) (bs : List Block) → points_in (joined p bs) ≡ p ∷ points_in bs
 joined-points p [] = refl
@@ -302,12 +339,14 @@ fit-first isa (op_is op) ops e = and-left (is_admitted_op isa op) (list_all (is_
 fit-first isa (reg_is r) ops e = refl
 fit-first isa (regs f) ops e = refl
 fit-first isa (nums f) ops e = refl
+fit-first isa (window ps) ops e = refl
 
 pub fit-rest : (isa : Isa) (m : Meaning) (ops : List Op) → list_all (is_admitted_op isa) (op_in m ++ ops) ≡ true → list_all (is_admitted_op isa) ops ≡ true
 fit-rest isa (op_is op) ops e = and-right (is_admitted_op isa op) (list_all (is_admitted_op isa) ops) e
 fit-rest isa (reg_is r) ops e = e
 fit-rest isa (regs f) ops e = e
 fit-rest isa (nums f) ops e = e
+fit-rest isa (window ps) ops e = e
 
 pub blocks-read : (isa : Isa) (ps : List Point) → All IsMeant ps → list_all is_read ps ≡ true → list_all (is_admitted_op isa) (ops_of ps) ≡ true → AllRead isa (blocks ps)
 blocks-read isa [] h r f = tt
@@ -370,6 +409,14 @@ pub no-formula : (mean : Formula → Meaning) → ((f : Formula) → op_in (mean
 no-formula mean none (Ok f) m e = ap op_in (sym (meaning-is (mean f) m e)) ∙ none f
 no-formula mean none (Err x) m e = some-not m e
 
+pub no-places : (r : crosses.Found) (m : Meaning) → option_map window (places r) ≡ Some m → op_in m ≡ []
+no-places (Ok (crosses.read ps)) m e = ap op_in (sym (inner (window ps) m e))
+  where
+    inner : (x y : Meaning) → Some x ≡ Some y → x ≡ y
+    inner x y e = cc
+no-places (Ok crosses.skipped) m e = some-not m e
+no-places (Err r) m e = some-not m e
+
 -- other kinds have no mnemonics
 pub op-none : (k : Kind) (key : List ℕ) (m : Meaning) → same_kind k kind.Mnemonic ≡ false → meaning_of k key ≡ Some m → op_in m ≡ []
 op-none kind.Mnemonic key m o e = cc
@@ -378,6 +425,7 @@ op-none kind.Rs2 key m o e = no-reg (register_number key) m e
 op-none kind.Rd key m o e = no-reg (register_number key) m e
 op-none kind.OpComb key m o e = no-formula regs (λ f. refl) (parse Registers [] key) m e
 op-none kind.ValComb key m o e = no-formula nums (λ f. refl) (parse Numbers [] key) m e
+op-none kind.CrossComb key m o e = no-places (parse_cross key) m e
 
 pub no-ops : (k : Kind) (ps : List Point) → same_kind k kind.Mnemonic ≡ false → MeantUnder k ps → ops_of ps ≡ []
 no-ops k [] o h = refl

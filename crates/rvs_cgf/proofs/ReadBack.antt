@@ -29,6 +29,7 @@ role-main kind.Rs2 e = cc
 role-main kind.Rd e = cc
 role-main kind.OpComb e = cc
 role-main kind.ValComb e = cc
+role-main kind.CrossComb e = cc
 
 role-other : (k : Kind) → same_kind k kind.Mnemonic ≡ false → role_of (kind_name k) ≡ role.Entries (sort_of k)
 role-other kind.Mnemonic e = cc
@@ -37,6 +38,7 @@ role-other kind.Rs2 e = refl
 role-other kind.Rd e = refl
 role-other kind.OpComb e = refl
 role-other kind.ValComb e = refl
+role-other kind.CrossComb e = refl
 
 abbrev nodes-at : Taken → List Point → Nodes
 nodes-at t first = record { taken = t; first = first }
@@ -111,6 +113,7 @@ no-config kind.Rs2 = refl
 no-config kind.Rd = refl
 no-config kind.OpComb = refl
 no-config kind.ValComb = refl
+no-config kind.CrossComb = refl
 
 no-opcode : (k : Kind) → bytes_eq (kind_name k) (codes "opcode") ≡ false
 no-opcode kind.Mnemonic = refl
@@ -119,6 +122,7 @@ no-opcode kind.Rs2 = refl
 no-opcode kind.Rd = refl
 no-opcode kind.OpComb = refl
 no-opcode kind.ValComb = refl
+no-opcode kind.CrossComb = refl
 
 main-name : (k : Kind) → bytes_eq (kind_name k) (codes "mnemonics") ≡ same_kind k kind.Mnemonic
 main-name kind.Mnemonic = refl
@@ -127,6 +131,7 @@ main-name kind.Rs2 = refl
 main-name kind.Rd = refl
 main-name kind.OpComb = refl
 main-name kind.ValComb = refl
+main-name kind.CrossComb = refl
 
 -- the node of the mnemonics
 record MainAt (bs : List Block) (es : Pairs) : Type 0 where

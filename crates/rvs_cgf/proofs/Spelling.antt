@@ -78,7 +78,8 @@ node-is node s e =
     role-then (bytes_eq node (codes "rd")) (role.Entries (sort.Register kind.Rd)) _ _ e4 (λ b x. this-node node _ s x (record { named = b; other = refl })) (λ e5.
     role-then (bytes_eq node (codes "op_comb")) (role.Entries sort.Operation) _ _ e5 (λ b x. this-node node _ s x (record { named = b; other = refl })) (λ e6.
     role-then (bytes_eq node (codes "val_comb")) (role.Entries sort.Numeric) _ _ e6 (λ b x. this-node node _ s x (record { named = b; other = refl })) (λ e7.
-    role-then (is_passed_over node) role.PassedOver role.Unknown _ e7 (λ b x. cc) (λ x. cc))))))))
+    role-then (bytes_eq node (codes "cross_comb")) (role.Entries sort.Crossed) _ _ e7 (λ b x. this-node node _ s x (record { named = b; other = refl })) (λ e8.
+    role-then (is_passed_over node) role.PassedOver role.Unknown _ e8 (λ b x. cc) (λ x. cc)))))))))
 
 -- ---- the nodes of a label
 abbrev named_among : List ℕ → Pairs → Bool

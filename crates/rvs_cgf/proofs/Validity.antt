@@ -78,7 +78,8 @@ role-good node =
     (if-good (bytes_eq node (codes "rd")) (role.Entries (sort.Register kind.Rd)) _ refl
     (if-good (bytes_eq node (codes "op_comb")) (role.Entries sort.Operation) _ refl
     (if-good (bytes_eq node (codes "val_comb")) (role.Entries sort.Numeric) _ refl
-    (if-good (is_passed_over node) role.PassedOver role.Unknown refl refl)))))))
+    (if-good (bytes_eq node (codes "cross_comb")) (role.Entries sort.Crossed) _ refl
+    (if-good (is_passed_over node) role.PassedOver role.Unknown refl refl))))))))
 
 first-fits : (n : Nodes) → Fits n → Fits (with_first n)
 first-fits n h = record {
@@ -156,6 +157,7 @@ main-kind kind.Rs2 key m h e = cc
 main-kind kind.Rd key m h e = cc
 main-kind kind.OpComb key m h e = cc
 main-kind kind.ValComb key m h e = cc
+main-kind kind.CrossComb key m h e = cc
 
 named-op : {G : Type 0} (o : Option Op) (m : Meaning) → option_map op_is o ≡ Some m → ((op : Op) → o ≡ Some op → m ≡ op_is op → G) → G
 named-op None m e g = cc
@@ -181,6 +183,7 @@ main-of-all kind.Rs2 e = cc
 main-of-all kind.Rd e = cc
 main-of-all kind.OpComb e = cc
 main-of-all kind.ValComb e = cc
+main-of-all kind.CrossComb e = cc
 
 op-not-there : (ps : List Point) (op : Op) (key : List ℕ) → op_of_name key ≡ Some op → All IsMeant ps → list_all is_mnemonic ps ≡ true → has kind.Mnemonic key ps ≡ false → list_any (is_same op) (ops_of ps) ≡ false
 op-not-there [] op key e meant mains h = refl

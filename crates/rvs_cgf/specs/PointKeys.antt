@@ -16,6 +16,7 @@ mark kind.Rs2 = 50
 mark kind.Rd = 100
 mark kind.OpComb = 111
 mark kind.ValComb = 118
+mark kind.CrossComb = 99
 
 -- the texts are those of the points
 abbrev pub AreKeysOf : {Y : Type 0} → BTreeSet (String Y) → List Point → Type 0

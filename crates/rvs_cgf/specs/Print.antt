@@ -4,11 +4,15 @@ use Rattle.std.specs.List.{flat_map}
 use Rattle.std.specs.Fmt.{decimal}
 use Rattle.rvs_abstract.specs.Refusals as calls
 use Rattle.rvs_expr_text.specs.Refusal as expr
+use Rattle.rvs_expr_text.specs.declared.refusal.ExprRefusal.{ExprRefusal}
+use Rattle.rvs_cross.specs.Refusals as crosses
+use Rattle.rvs_cross.specs.declared.refusal.CrossRefusal.{CrossRefusal}
+use Rattle.rvs_cross.specs.declared.refusal.CrossRefusal.TheVariants as cross
 use Rattle.rvs_cgf.specs.Groups.{Label, Point, Skipped, Refusal, same_kind}
 use Rattle.rvs_cgf.specs.declared.group.Kind.{Kind}
 use Rattle.rvs_cgf.specs.declared.group.Kind.TheVariants as kind
 use Rattle.rvs_cgf.specs.declared.refusal.CgfKind.{CgfKind}
-use Rattle.rvs_cgf.specs.declared.refusal.CgfKind.TheVariants.{BadLabelName, BadShape, UnknownNode, UnknownMnemonic, BadRegister, BadExpr, BadAbstract, BadConfig, TooManyLabels, TooManyPoints, NoMemory}
+use Rattle.rvs_cgf.specs.declared.refusal.CgfKind.TheVariants.{BadLabelName, BadShape, UnknownNode, UnknownMnemonic, BadRegister, BadExpr, BadAbstract, BadCross, BadConfig, TooManyLabels, TooManyPoints, NoMemory}
 
 -- ---- groups with all their points written out
 abbrev pub kind_name : Kind → List ℕ
@@ -18,6 +22,7 @@ kind_name kind.Rs2 = codes "rs2"
 kind_name kind.Rd = codes "rd"
 kind_name kind.OpComb = codes "op_comb"
 kind_name kind.ValComb = codes "val_comb"
+kind_name kind.CrossComb = codes "cross_comb"
 
 abbrev pub doubled_byte : ℕ → List ℕ
 doubled_byte c = if c == 39 then 39 ∷ 39 ∷ [] else c ∷ []
@@ -64,6 +69,7 @@ number_of UnknownMnemonic = 4
 number_of BadRegister = 5
 number_of (BadExpr why) = 6
 number_of (BadAbstract why) = 7
+number_of (BadCross why) = 8
 number_of BadConfig = 9
 number_of TooManyLabels = 10
 number_of TooManyPoints = 11
@@ -74,12 +80,23 @@ abbrev pub or_dash : List ℕ → List ℕ
 or_dash [] = codes "-"
 or_dash (c ∷ cs) = c ∷ cs
 
+abbrev pub expr_text : ExprRefusal → List ℕ
+expr_text why = codes " expr " ++ (decimal (expr.number_of why.kind) ++ (codes " column " ++ decimal why.column))
+
+-- the name that a cross point may not have, or why its expression is refused
+abbrev pub cross_detail : CrossRefusal → List ℕ
+cross_detail (cross.UnassignedVariable name) = codes " " ++ name
+cross_detail (cross.UnknownMnemonic name) = codes " " ++ name
+cross_detail (cross.Expr why) = expr_text why
+cross_detail _ = []
+
 abbrev pub inner_text : CgfKind → List ℕ
-inner_text (BadExpr why) = codes " expr " ++ (decimal (expr.number_of why.kind) ++ (codes " column " ++ decimal why.column))
+inner_text (BadExpr why) = expr_text why
 inner_text (BadAbstract why) = codes " abstract " ++ decimal (calls.number_of why)
+inner_text (BadCross why) = codes " cross " ++ (decimal (crosses.number_of why) ++ cross_detail why)
 inner_text _ = []
 
--- the number of the rule, the label, the node and the key, and why an expression or a call is refused
+-- the number of the rule, the label, the node and the key, and why an expression, a call or a cross point is refused
 abbrev pub refusal_text : Refusal → List ℕ
 refusal_text r =
     codes "cgf " ++ (decimal (number_of r.kind) ++ (codes " " ++ (or_dash r.place.label ++ (codes " " ++ (or_dash r.place.node

@@ -8,15 +8,22 @@ use Rattle.rvs_expr_text.specs.declared.words.Language.TheVariants.{Numbers, Reg
 use Rattle.rvs_expr_text.specs.Refusal.{Found}
 use Rattle.rvs_expr_text.specs.Words.{register_number}
 use Rattle.rvs_expr.specs.Parse.{parse}
+use Rattle.rvs_cross.specs.Cross.{Place}
+use Rattle.rvs_cross.specs.Parse as crosses
 use Rattle.rvs_facts.specs.Mnemonics.{is_same}
 use Rattle.rvs_cgf.specs.Keys.{is_label_name, is_printable}
-use Rattle.rvs_cgf.specs.Groups.{Meaning, op_is, reg_is, regs, nums, Point, Label, has}
+use Rattle.rvs_cgf.specs.Groups.{Meaning, op_is, reg_is, regs, nums, window, Point, Label, has}
 use Rattle.rvs_cgf.specs.declared.group.Kind.{Kind}
 use Rattle.rvs_cgf.specs.declared.group.Kind.TheVariants as kind
 
 abbrev pub found : {A : Type 0} → Found A → Option A
 found (Ok x) = Some x
 found (Err e) = None
+
+-- the places of a cross point that is read
+abbrev pub places : crosses.Found → Option (List Place)
+places (Ok (crosses.read ps)) = Some ps
+places _ = None
 
 -- what a key says under its kind
 abbrev pub meaning_of : Kind → List ℕ → Option Meaning
@@ -26,6 +33,7 @@ meaning_of kind.Rs2 key = option_map reg_is (register_number key)
 meaning_of kind.Rd key = option_map reg_is (register_number key)
 meaning_of kind.OpComb key = option_map regs (found (parse Registers [] key))
 meaning_of kind.ValComb key = option_map nums (found (parse Numbers [] key))
+meaning_of kind.CrossComb key = option_map window (places (crosses.parse key))
 
 -- no two points have one kind and key
 abbrev pub are_distinct : List Point → Bool

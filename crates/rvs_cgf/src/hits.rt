@@ -31,7 +31,8 @@ fn is_register(number: u8, field: Option<u8>) -> bool
 }
 
 /// Whether an instruction of this mnemonic and with these facts is what a point of this kind
-/// means. It takes no memory, and one step where the point has an expression.
+/// means; none alone is what a cross point means. It takes no memory, and one step where the point
+/// has an expression.
 pub fn is_meant<F: Facts, L: Ledger>(
     kind: Kind,
     meaning: &Meaning,
@@ -47,13 +48,15 @@ pub fn is_meant<F: Facts, L: Ledger>(
         Meaning::RegIs(number) => is_register(*number, field(kind, facts)),
         Meaning::Regs(expr) => expr.eval(facts, steps),
         Meaning::Nums(expr) => expr.eval(facts, steps),
+        Meaning::Window(_) => false,
     }
 }
 
 impl Point {
     /// Whether an instruction of this mnemonic and with these facts is what the point means: its
-    /// mnemonic is the key, or its field is, or the expression is defined and true. It takes no
-    /// memory, and one step where the point has an expression.
+    /// mnemonic is the key, or its field is, or the expression is defined and true; none alone is
+    /// what a cross point means. It takes no memory, and one step where the point has an
+    /// expression.
     pub fn holds<F: Facts, L: Ledger>(&self, op: Op, facts: &F, steps: &mut Steps<L>) -> bool
         ensures value { result ≡ spec.holds (point_view self.now) op (F.table facts.now) }
         ensures steps { steps.new ≡ steps.old + spec.steps_of (point_view self.now).meaning }

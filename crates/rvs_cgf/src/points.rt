@@ -31,6 +31,7 @@ fn mark(kind: Kind) -> &'static str
         Kind::Rd => "d",
         Kind::OpComb => "o",
         Kind::ValComb => "v",
+        Kind::CrossComb => "c",
     }
 }
 

@@ -9,6 +9,7 @@ use crate::refusal::{CgfKind, CgfRefusal};
 use crate::walk::same_kind;
 use rvs_abstract::AbstractRefusal;
 use rvs_base::{NoMemory, Text};
+use rvs_cross::CrossRefusal;
 use rvs_expr::ExprRefusal;
 use std::alloc::Global;
 
@@ -24,6 +25,7 @@ impl Kind {
             Kind::Rd => "rd",
             Kind::OpComb => "op_comb",
             Kind::ValComb => "val_comb",
+            Kind::CrossComb => "cross_comb",
         }
     }
 }
@@ -188,7 +190,7 @@ fn or_dash(text: &str) -> &str
 }
 
 fn expr_text(alloc: Global, why: ExprRefusal) -> Result<Text, NoMemory>
-    ensures { IfOk result (λ text. text ≡ spec.inner_text (CgfKind.BadExpr why)) }
+    ensures { IfOk result (λ text. text ≡ spec.expr_text why) }
 {
     let number = why.kind.number();
     let column = why.column;
@@ -202,19 +204,49 @@ fn abstract_text(alloc: Global, why: AbstractRefusal) -> Result<Text, NoMemory>
     Ok(Text::from(format!(in alloc; " abstract {number}")?))
 }
 
-fn inner_text(alloc: Global, kind: CgfKind) -> Result<Text, NoMemory>
-    ensures { IfOk result (λ text. text ≡ spec.inner_text kind) }
+fn name_text(alloc: Global, name: &str) -> Result<Text, NoMemory>
+    ensures { IfOk result (λ text. text ≡ codes " " ++ name.now) }
+{
+    let mut text = Text::new(alloc);
+    text.push_str(" ")?;
+    text.push_str(name)?;
+    Ok(text)
+}
+
+/// The name that a cross point may not have, or why its expression is refused.
+fn cross_detail(alloc: Global, why: &CrossRefusal) -> Result<Text, NoMemory>
+    ensures { IfOk result (λ text. text ≡ spec.cross_detail why.now) }
+{
+    match why {
+        CrossRefusal::UnassignedVariable { name } => name_text(alloc, name.as_str()),
+        CrossRefusal::UnknownMnemonic { name } => name_text(alloc, name.as_str()),
+        CrossRefusal::Expr(why) => expr_text(alloc, *why),
+        _ => Ok(Text::new(alloc)),
+    }
+}
+
+fn cross_text(alloc: Global, why: &CrossRefusal) -> Result<Text, NoMemory>
+    ensures { IfOk result (λ text. text ≡ spec.inner_text (CgfKind.BadCross why.now)) }
+{
+    let number = why.number();
+    let detail = cross_detail(alloc, why)?;
+    Ok(Text::from(format!(in alloc; " cross {number}{detail}")?))
+}
+
+fn inner_text(alloc: Global, kind: &CgfKind) -> Result<Text, NoMemory>
+    ensures { IfOk result (λ text. text ≡ spec.inner_text kind.now) }
 {
     match kind {
-        CgfKind::BadExpr(why) => expr_text(alloc, why),
-        CgfKind::BadAbstract(why) => abstract_text(alloc, why),
+        CgfKind::BadExpr(why) => expr_text(alloc, *why),
+        CgfKind::BadAbstract(why) => abstract_text(alloc, *why),
+        CgfKind::BadCross(why) => cross_text(alloc, why),
         _ => Ok(Text::new(alloc)),
     }
 }
 
 /// A refusal as a fault line has it behind the file's name: `cgf`, the number of the rule, the
-/// label, the node and the key, each `-` where it is empty, and why an expression or a call of a
-/// family is refused.
+/// label, the node and the key, each `-` where it is empty, and why an expression, a call of a
+/// family or a cross point is refused.
 ///
 /// # Errors
 ///
@@ -226,6 +258,6 @@ pub fn refusal_text(alloc: Global, refusal: &CgfRefusal) -> Result<Text, NoMemor
     let label = or_dash(refusal.label.as_str());
     let node = or_dash(refusal.node.as_str());
     let key = or_dash(refusal.key.as_str());
-    let inner = inner_text(alloc, refusal.kind)?;
+    let inner = inner_text(alloc, &refusal.kind)?;
     Ok(Text::from(format!(in alloc; "cgf {number} {label} {node} {key}{inner}")?))
 }

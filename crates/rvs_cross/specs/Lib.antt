@@ -2,7 +2,12 @@ pub mod Assigned
 pub mod Choosing
 pub mod Cross
 pub mod CrossView
+pub mod Entries
+pub mod Lists
+pub mod ListsView
+pub mod Outcomes
 pub mod Parse
 pub mod Refusals
 pub mod Sequences
+pub mod Variables
 pub mod Windows

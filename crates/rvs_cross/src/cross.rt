@@ -57,6 +57,19 @@ pub struct Cross {
     ghost few: { length list ≤ 6 } by { Prim.hlevel props },
 }
 
+impl Cross {
+    ghost use Rattle.std.specs.Prelude.{◌≡◌, ◌≤◌, length};
+
+    /// The cross point of these places. It takes no memory.
+    pub(crate) fn new(list: Items<Place>) -> Self
+        requires some { 1 ≤ length list }
+        requires few { length list ≤ 6 }
+        ensures { result.list ≡ list }
+    {
+        Cross { list }
+    }
+}
+
 /// How many places a cross point has: 1 to 6. It takes no memory.
 pub fn places(cross: &Cross) -> usize
     ensures count { result ≡ length cross.now.list }

@@ -1,16 +1,25 @@
 //! Cross points: what neighbouring instructions have to be.
 #![tactic(auto)]
 
+mod building;
 mod choosing;
 mod cross;
+mod cutting;
+mod entries;
 mod fitting;
+mod laws;
+mod lists;
 mod matching;
 mod parsing;
 mod refusal;
 mod solving;
+#[cfg(test)]
+mod tests;
 mod values;
+mod variables;
 
 pub use cross::{Assignment, Cross, Field, Place, Variable, places};
+pub use laws::one_mnemonic_is_read;
 pub use matching::matches;
 pub use parsing::parse_cross;
 pub use refusal::{CrossRead, CrossRefusal};

@@ -3,7 +3,7 @@ ghost use Rattle.std.specs.Prelude.{◌≡◌};
 ghost use Rattle.rvs_cross.specs.Refusals.{number_of};
 
 use crate::cross::Cross;
-use rvs_base::Text;
+use rvs_base::{NoMemory, Text};
 use rvs_expr::ExprRefusal;
 use std::alloc::{AllocError, AllocFailed};
 
@@ -79,6 +79,17 @@ impl<T: Drop> From<AllocFailed<T>> for CrossRefusal {
     ghost from_gives = { λ _ refusal. refusal ≡ NoMemory };
 
     fn from(_: AllocFailed<T>) -> Self {
+        CrossRefusal::NoMemory
+    }
+}
+
+impl From<NoMemory> for CrossRefusal {
+    ghost use Rattle.std.specs.Prelude.{◌≡◌};
+    ghost use Rattle.rvs_cross.specs.declared.refusal.CrossRefusal.TheVariants as refusal;
+
+    ghost from_gives = { λ _ answer. answer ≡ refusal.NoMemory };
+
+    fn from(_: NoMemory) -> Self {
         CrossRefusal::NoMemory
     }
 }

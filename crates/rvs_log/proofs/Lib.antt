@@ -3,5 +3,8 @@ pub mod Back
 pub mod Cuts
 pub mod Digits
 pub mod Logs
+pub mod Octets
 pub mod Returns
+pub mod RunLogs
+pub mod RunWords
 pub mod Values

@@ -20,33 +20,13 @@ use Rattle.rvs_asm.specs.Symbols.{Table, address_of}
 use Rattle.rvs_asm.specs.Places.{Reading, body_of, padding, offset, address, next, start, labels}
 use Rattle.rvs_asm.specs.Bytes.{linked, value_in, number_bytes, value_bytes, repeated, nop_word, filler, bytes_of, section}
 use Rattle.rvs_asm.specs.Faults.{first_fault, second_fault, first_missing, needed}
+use Rattle.rvs_log.proofs.Octets.{AreBytes, joined, front, word_bytes}
 use Rattle.rvs_asm.specs.Answer.{text_readings, image_of, region_checked, if_all_there, if_linked, if_placed, answer}
-
-abbrev pub AreBytes : List ℕ → Type 0
-AreBytes [] = Unit {0}
-AreBytes (b ∷ bs) = (b < 256) × AreBytes bs
 
 -- the bytes of an image
 pub record HasBytes (image : ImageValue) : Type 0 where
   pub text : AreBytes image.text
   pub ram : AreBytes image.data_bytes
-
-pub bytes_below : (bs : List ℕ) → AreBytes bs → (k : ℕ) → slice_index bs k < 256
-bytes_below [] h k = omega arith
-bytes_below (b ∷ bs) h zero = h.0
-bytes_below (b ∷ bs) h (suc k) = bytes_below bs h.1 k
-
-joined : (a b : List ℕ) → AreBytes a → AreBytes b → AreBytes (a ++ b)
-joined [] b g h = h
-joined (x ∷ a) b g h = (g.0, joined a b g.1 h)
-
-front : (n : ℕ) (bs : List ℕ) → AreBytes bs → AreBytes (take n bs)
-front zero bs h = tt
-front (suc n) [] h = tt
-front (suc n) (b ∷ bs) h = (h.0, front n bs h.1)
-
-word_bytes : (w : ℕ) → AreBytes (to_le_bytes w32 w)
-word_bytes w = (omega arith, (omega arith, (omega arith, (omega arith, tt))))
 
 -- what a result holds, where it holds something
 abbrev Holds : {A E : Type 0} → (A → Type 0) → Result A E → Type 0

@@ -24,7 +24,6 @@ mod GroupInputs
 mod NormalizeEnds
 mod LogReads
 mod ImageBytes
-mod RunWords
 mod LogEntries
 mod CoverageEnds
 mod Lines
@@ -34,6 +33,7 @@ mod GenerateEnds
 mod Runnable
 mod RunSteps
 mod RunReads
+mod DemoEnds
 mod RunEnds
 mod OneTest
 mod Saying

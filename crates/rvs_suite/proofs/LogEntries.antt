@@ -5,23 +5,18 @@ use Rattle.rvs_base.specs.Host.{Files}
 use Rattle.rvs_insn.specs.Isa.{Isa}
 use Rattle.rvs_machine.specs.Image.{ImageValue}
 use Rattle.rvs_machine.specs.ImageText.{image_of_bytes}
-use Rattle.rvs_machine.specs.declared.event.Executed.{Executed}
 use Rattle.rvs_machine.specs.declared.reading.ImageRefusal.{ImageRefusal}
-use Rattle.rvs_machine.specs.Machine.{started}
-use Rattle.rvs_machine.specs.Run.{Outcome, run_of}
-use Rattle.rvs_machine.specs.Traces.{Follows}
-use Rattle.rvs_machine.proofs.Traces.{traces_follow}
+use Rattle.rvs_machine.specs.Run.{Outcome}
 use Rattle.rvs_asm.specs.Answer.{answer}
 use Rattle.rvs_asm.specs.declared.refusal.AsmRefusal.{AsmRefusal}
-use Rattle.rvs_log.specs.Registers.{zeros}
 use Rattle.rvs_log.specs.Entries.{entries_of}
 use Rattle.rvs_log.specs.Logs.{log_of, as_entry}
-use Rattle.rvs_log.proofs.Logs.{logs_read_back}
+use Rattle.rvs_log.proofs.RunLogs.{trace_of, run_entries}
 use Rattle.rvs_suite.specs.TestRun.{is_image_name, file_found, text_found, limit_of}
 use Rattle.rvs_suite.specs.Halting.{BothHalt}
 use Rattle.rvs_suite.specs.declared.test_run.Run.{Run}
-use Rattle.rvs_suite.proofs.ImageBytes.{HasBytes, of_file, of_text, bytes_below}
-use Rattle.rvs_suite.proofs.RunWords.{run_words, start_words}
+use Rattle.rvs_log.proofs.Octets.{bytes_below}
+use Rattle.rvs_suite.proofs.ImageBytes.{HasBytes, of_file, of_text}
 
 file_is : (name : List ℕ) (r : Result ImageValue ImageRefusal) (image : ImageValue)
     → file_found name r ≡ Ok image → r ≡ Ok image
@@ -42,21 +37,10 @@ found_bytes true isa name bytes image h =
 found_bytes false isa name bytes image h =
     of_text isa bytes image (text_is name (answer isa bytes) image h)
 
-abbrev trace_of : ImageValue → Isa → ℕ → List Executed
-trace_of image isa n = (run_of (started image isa).setup n (started image isa).state).trace
-
--- the registers begin as zeros
-run_follows : (image : ImageValue) (isa : Isa) (n : ℕ) → Follows zeros (trace_of image isa n)
-unfolding zeros
-run_follows image isa n = traces_follow (started image isa).setup n (started image isa).state refl
-
 image_entries : (image : ImageValue) (isa : Isa) (n : ℕ) → HasBytes image
     → entries_of (log_of (trace_of image isa n)) ≡ map as_entry (trace_of image isa n)
 image_entries image isa n h =
-    let start = start_words image.data_bytes (bytes_below image.data_bytes h.ram) in
-    let text = bytes_below image.text h.text in
-    let words = run_words (started image isa).setup n (started image isa).state text start in
-    logs_read_back (trace_of image isa n) words (run_follows image isa n)
+    run_entries image isa n (bytes_below image.text h.text) (bytes_below image.data_bytes h.ram)
 
 pub halting_entries : (files : Files) (isa test : List ℕ) (steps : Option ℕ) (run : Run)
     → BothHalt files isa test steps run → entries_of (log_of run.trace) ≡ map as_entry run.trace

@@ -12,6 +12,7 @@ use Rattle.rvs_suite.specs.Commands.{command_of}
 use Rattle.rvs_suite.specs.Call.{Call, call, world_of}
 use Rattle.rvs_suite.specs.Comparing as comparing
 use Rattle.rvs_suite.specs.Validating as validating
+use Rattle.rvs_suite.specs.Demonstrating as demonstrating
 use Rattle.rvs_suite.specs.Covering as covering
 use Rattle.rvs_suite.specs.Generating as generating
 use Rattle.rvs_suite.specs.Normalizing as normalizing
@@ -31,6 +32,7 @@ use Rattle.rvs_suite.proofs.GenerateEnds.{makes}
 use Rattle.rvs_suite.proofs.NormalizeEnds.{normalizes}
 use Rattle.rvs_suite.proofs.CoverageEnds.{covers}
 use Rattle.rvs_suite.proofs.RunEnds.{judges}
+use Rattle.rvs_suite.proofs.DemoEnds.{demonstrates}
 
 -- a call whose command ran
 pub record RanCall (call : Call) : Type 0 where
@@ -118,3 +120,6 @@ coverage-promise r files isa names log windows t is = covers files isa names log
 
 pub run-promise : {call : Call} → RanCall call → judging.Promise call
 run-promise r files program isa names device work t is = judges files program isa names device work (record { ran = r.ran; told = t; asks = is })
+
+pub demo-promise : {call : Call} → RanCall call → demonstrating.Promise call
+demo-promise r files count t is = demonstrates files count (record { ran = r.ran; told = t; asks = is })

@@ -1,5 +1,6 @@
 -- What every call of `run` promises.
 use Rattle.std.proofs.Common.{◌≡◌, ◌⊎◌, inl, inr, ℕ, true, is_some, List, [], ◌∷◌, ◌++◌, length, option_map, Option, Some, None, Result, Ok, Err, refl, sym, ap, subst, ◌∙◌}
+use Rattle.std.proofs.lemmas.List.{append_cancel_left}
 use Rattle.rvs_base.specs.Host.{Files, Tells}
 use Rattle.rvs_base.specs.Sink.{appended}
 use Rattle.rvs_base.specs.declared.host.DeviceRun.{DeviceRun}
@@ -16,13 +17,16 @@ use Rattle.rvs_plan.specs.declared.status.Status.{Status}
 use Rattle.rvs_plan.specs.declared.status.Status.TheVariants as answer
 use Rattle.rvs_plan.specs.declared.status.Finish.{Finish}
 use Rattle.rvs_plan.specs.declared.status.Finish.TheVariants as finish
+use Rattle.rvs_device.specs.Judging.{Spells}
+use Rattle.rvs_device.specs.declared.verdicts.TestVerdict.{TestVerdict}
 use Rattle.rvs_device.proofs.Passing as passing
-use Rattle.rvs_suite.specs.Call.{Call, world_of}
+use Rattle.rvs_suite.specs.Call.{Call, world_of, NothingFailed, AnswersOnly}
 use Rattle.rvs_suite.specs.Answered.{HasLeft}
 use Rattle.rvs_suite.specs.GenerateTexts.{listing}
-use Rattle.rvs_suite.specs.RunTests.{tally_line, tallies, verdict_of_all, RunInputs, run_inputs, bench_of, runs, run}
+use Rattle.rvs_suite.specs.RunTests.{Bench, tally_line, tallies, passes, with_one, verdict_of_all, RunInputs, run_inputs, bench_of, runs, run}
 use Rattle.rvs_suite.specs.RunLeft.{verdict_lines, passed_onto, with_all_judged}
-use Rattle.rvs_suite.specs.Judging.{run_inputs_in, tests_in, HasJudged, Runs}
+use Rattle.rvs_suite.specs.Judging.{run_inputs_in, tests_in, task_of, HasJudged, Runs}
+use Rattle.rvs_suite.specs.declared.gathering.Test.{Test}
 use Rattle.rvs_suite.specs.declared.command.Command.TheVariants.{Run}
 use Rattle.rvs_suite.proofs.Answered.{RunsOn, ran-command}
 use Rattle.rvs_suite.proofs.Ends.{means-end, was_refused, was_missing}
@@ -137,6 +141,34 @@ left {call} files program isa names device work end t r =
     left-by program work (run_inputs_in files isa names device) files end r.effects t
     (behind files (run_inputs isa names device) (runs program work) (run_inputs_in files isa names device) (Ok end) r.effects (contents (world_of call.old)) (finds-run files isa names device) t.files r.saw r.goes) r.did
 
+-- ---- one test that passes
+one_passes : (bench : Bench) (test : Test) (run : DeviceRun) → Spells (task_of bench test) run.after
+    → verdict_of_all 1 (passed_onto bench 0 (test ∷ []) (run ∷ [])) ≡ finish.Done
+one_passes bench test run spells =
+    ap (λ (v : TestVerdict). verdict_of_all 1 (with_one 0 (passes v)))
+    ((passing.passes (task_of bench test) run.status run.after).1 spells)
+
+-- so it isn't the one that doesn't
+not-failed : {call : Call} (program work : List ℕ) (inputs : RunInputs) (test : Test) (before : List DeviceRun) (run : DeviceRun)
+    → HasJudged call program work finish.NotPassed inputs → tests_in inputs ≡ test ∷ [] → call.old.host.runs ≡ Some before
+    → call.new.host.runs ≡ Some (before ++ run ∷ []) → Spells (task_of (bench_of program work inputs) test) run.after → ⊥
+not-failed {call} program work inputs test before run judged one old new spells =
+    let bench = bench_of program work inputs in
+    let both : Some (before ++ run ∷ []) ≡ Some (before ++ judged.runs) =
+        sym new ∙ judged.made ∙ ap (λ (r : Option (List DeviceRun)). option_map (λ b. b ++ judged.runs) r) old in
+    let same : before ++ run ∷ [] ≡ before ++ judged.runs = cc in
+    let runs_are = append_cancel_left before (run ∷ []) judged.runs same in
+    let verdict = subst (λ (tests : List Test). finish.NotPassed ≡ verdict_of_all (length tests) (passed_onto bench 0 tests judged.runs)) one judged.verdict in
+    let said = subst (λ (news : List DeviceRun). finish.NotPassed ≡ verdict_of_all 1 (passed_onto bench 0 (test ∷ []) news)) (sym runs_are) verdict in
+    let no : finish.NotPassed ≡ finish.Done = said ∙ one_passes bench test run spells in cc
+
+given-left : {call : Call} (program work : List ℕ) (inputs : RunInputs) (found : Result RunInputs Stop)
+    → found ≡ Ok inputs → HasLeft found (HasJudged call program work finish.NotPassed) → HasJudged call program work finish.NotPassed inputs
+given-left {call} program work inputs found is l =
+    let both : Ok l.given ≡ Ok inputs = sym l.accepted ∙ is in
+    let same : l.given ≡ inputs = cc in
+    subst (λ (g : RunInputs). HasJudged call program work finish.NotPassed g) same l.left
+
 -- ---- the promise
 pub judges : {call : Call} (files : Files) (program isa : List ℕ) (names : List (List ℕ)) (device work : List ℕ) → RunsOn call files (Run program isa names device work) → Runs call files program isa names device work
 judges {call} files program isa names device work r =
@@ -165,6 +197,16 @@ judges {call} files program isa names device work r =
       ];
       by_absence = λ name given none. elim (asked_means ran files command r.told refl none) [
         | inl m ↦ inl (means-end plan files call.status (Err (why.NoFile name)) m (stops files program isa names device work (why.NoFile name) given))
+        | inr no_memory ↦ inr no_memory
+      ];
+      alone = λ inputs test before run given one was now spells none. elim (asked_means ran files command r.told refl none) [
+        | inl m ↦ elim (ended files program isa names device work inputs call.status m.end given m.comes m.status_is) [
+          | inl done ↦ inl done
+          | inr (inl not_passed) ↦ absurd (not-failed {call = call} program work inputs test before run
+              (given-left {call = call} program work inputs (run_inputs_in files isa names device) given
+              (left {call = call} files program isa names device work finish.NotPassed r.told (at_status ran files command answer.NotPassed r.told refl not_passed).completes)) one was now spells)
+          | inr (inr no_memory) ↦ inr no_memory
+        ]
         | inr no_memory ↦ inr no_memory
       ];
       others_kept = λ files' other. run-spares r.ran files files' program isa names device work other r.told r.asks;

@@ -11,9 +11,9 @@ use Rattle.rvs_plan.specs.Plan.{Plan, Ends, Does, Asks, Runs, Goes, ◌>>=◌}
 use Rattle.rvs_plan.specs.declared.stop.Stop.{Stop}
 use Rattle.rvs_plan.specs.declared.status.Finish.{Finish}
 use Rattle.rvs_sig.specs.Words.{text_of_words}
-use Rattle.rvs_device.specs.Judging.{Task, task}
 use Rattle.rvs_device.specs.Printed.{verdict_line}
 use Rattle.rvs_suite.specs.Generate.{path_of}
+use Rattle.rvs_suite.specs.Judging.{task_of}
 use Rattle.rvs_suite.specs.Tests.{reference_words}
 use Rattle.rvs_suite.specs.RunTests.{Bench, reference_path, device_path, passes, judges_one, judges_all, with_one}
 use Rattle.rvs_suite.specs.RunLeft.{IsRunOf, AreRunsOf, verdict_by, verdict_lines, passed_onto, with_judged, with_all_judged}
@@ -121,9 +121,6 @@ appended-twice None one more = refl
 appended-twice (Some out) one more = ap (λ (x : List ℕ). Some x) (append_assoc out one more)
 
 -- ---- one test
-abbrev task_of : Bench → Test → Task
-task_of bench test = task bench.device.command bench.program (path_of bench.work test.name) (device_path bench.work test.name) (reference_words bench.isa test)
-
 abbrev run_with : Bench → Test → Files → Answer → DeviceRun
 run_with bench test files answer = run_over (task_of bench test).words (path_of bench.work test.name) (device_path bench.work test.name) (started bench test files) answer.left answer.status
 

@@ -18,6 +18,7 @@ use Rattle.rvs_plan.specs.declared.status.Finish.{Finish}
 use Rattle.rvs_insn.specs.Isa.{Isa}
 use Rattle.rvs_suite.specs.Compare as comparing
 use Rattle.rvs_suite.specs.Validate.{print_said}
+use Rattle.rvs_suite.specs.Demonstrate.{demonstrate}
 use Rattle.rvs_suite.specs.Specification.{specification}
 use Rattle.rvs_cgf.specs.Groups.{Label}
 use Rattle.rvs_test.specs.Made.{text_of_label}
@@ -38,7 +39,7 @@ use Rattle.rvs_suite.proofs.LogReads.{reads-reported}
 use Rattle.rvs_suite.proofs.RunReads.{reads-run}
 use Rattle.rvs_suite.proofs.Running.{Ran, answers}
 use Rattle.rvs_suite.specs.declared.command.Command.{Command}
-use Rattle.rvs_suite.specs.declared.command.Command.TheVariants.{Unknown, Compare, Validate, Normalize, Generate, Reference, Coverage, Run}
+use Rattle.rvs_suite.specs.declared.command.Command.TheVariants.{Unknown, Compare, Validate, Normalize, Generate, Reference, Coverage, Run, Demo}
 use Rattle.rvs_suite.specs.declared.test_run.Run.{Run as TestRun}
 use Rattle.rvs_suite.specs.declared.gathering.Test.{Test}
 
@@ -159,6 +160,7 @@ stops_untouched (Run program isa names device work) =
 stops_untouched (Coverage isa names log windows) =
     untouched-then (reported isa names log windows) print_report (reads-reported isa names log windows) (λ report effects stop c goes.
     absurd (goes-on (print_report report) effects stop tt goes))
+stops_untouched (Demo count) = λ effects stop c goes. absurd (goes-on (demonstrate count) effects stop tt goes)
 stops_untouched (Reference isa test signature log steps) =
     untouched-then (specification isa) (λ said. reference_on test signature log steps said.spec) (reads-specification isa) (λ said.
     untouched-then (trial steps said.spec test) (records signature log) (reads-trial steps said.spec test) (λ run effects stop c goes.

@@ -1,10 +1,11 @@
 -- What the words of a command line ask for.
-use Rattle.std.specs.Prelude.{ℕ, ◌+◌, ◌*◌, ◌-◌, ◌&&◌, nat_le, if◌then◌else◌, List, [], ◌∷◌, length, bytes_eq, Option, Some, None, option_map, codes}
+use Rattle.std.specs.Prelude.{ℕ, ◌+◌, ◌*◌, ◌-◌, ◌&&◌, nat_le, if◌then◌else◌, List, [], ◌∷◌, length, bytes_eq, Option, Some, None, option_map, option_and_then, codes}
+use Rattle.rvs_demo.specs.Sizes.{size_of}
 use Rattle.rvs_suite.specs.Words.{is_positional, pairs_of, values_of, are_known, only, at_most_one}
 use Rattle.rvs_suite.specs.Windows.{windows_of}
 use Rattle.rvs_suite.specs.declared.words.Pair.{Pair}
 use Rattle.rvs_suite.specs.declared.command.Command.{Command}
-use Rattle.rvs_suite.specs.declared.command.Command.TheVariants.{Unknown, Compare, Validate, Normalize, Generate, Reference, Coverage, Run}
+use Rattle.rvs_suite.specs.declared.command.Command.TheVariants.{Unknown, Compare, Validate, Normalize, Generate, Reference, Coverage, Run, Demo}
 
 -- two names of files
 abbrev pub compare_command : List (List ℕ) → Command
@@ -141,6 +142,11 @@ abbrev pub run_command : List ℕ → List (List ℕ) → Command
 run_command program words =
     given (pairs_of words) (λ pairs. if are_known run_options pairs then run_of program pairs else Unknown)
 
+-- how many instructions are to be generated, from 1 to 1,000,000
+abbrev pub demo_command : List (List ℕ) → Command
+demo_command (text ∷ []) = given (option_and_then size_of (number_of text)) (λ count. Demo count)
+demo_command words = Unknown
+
 -- the command of this name, with the words behind it
 abbrev pub named_command : List ℕ → List ℕ → List (List ℕ) → Command
 named_command program name words =
@@ -151,7 +157,8 @@ named_command program name words =
     else (if bytes_eq name (codes "reference") then reference_command words
     else (if bytes_eq name (codes "coverage") then coverage_command words
     else (if bytes_eq name (codes "run") then run_command program words
-    else Unknown))))))
+    else (if bytes_eq name (codes "demo") then demo_command words
+    else Unknown)))))))
 
 -- the command of the words, the first of which is the program's own name
 abbrev pub command_of : List (List ℕ) → Command

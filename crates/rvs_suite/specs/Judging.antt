@@ -1,5 +1,5 @@
 -- What every call of `run` promises.
-use Rattle.std.specs.Prelude.{◌≡◌, ◌≢◌, ◌⊎◌, ◌↔◌, ℕ, List, [], ◌++◌, length, Some, option_map, Result, Ok, Err}
+use Rattle.std.specs.Prelude.{◌≡◌, ◌≢◌, ◌⊎◌, ◌↔◌, ℕ, List, [], ◌∷◌, ◌++◌, length, Some, option_map, Result, Ok, Err}
 use Rattle.rvs_base.specs.Host.{Files, Tells}
 use Rattle.rvs_base.specs.Sink.{appended}
 use Rattle.rvs_base.specs.declared.host.DeviceRun.{DeviceRun}
@@ -8,7 +8,7 @@ use Rattle.rvs_plan.specs.declared.stop.Stop.TheVariants as why
 use Rattle.rvs_plan.specs.declared.status.Finish.{Finish}
 use Rattle.rvs_plan.specs.declared.status.Finish.TheVariants as finish
 use Rattle.rvs_plan.specs.declared.status.Status.TheVariants.{Done, NotPassed, Refused, HostFault, NoMemory}
-use Rattle.rvs_device.specs.Judging.{Spells, task}
+use Rattle.rvs_device.specs.Judging.{Spells, Task, task}
 use Rattle.rvs_device.specs.declared.verdicts.TestVerdict.TheVariants.{Pass}
 use Rattle.rvs_suite.specs.Answered.{HasLeft, HasRefused, HasMissed}
 use Rattle.rvs_suite.specs.Call.{Call, Asks, NothingFailed, HostRose, AnswersOnly}
@@ -45,10 +45,16 @@ pub record HasJudged (call : Call) (program work : List ℕ) (end : Finish) (inp
   pub verdict : end ≡ verdict_of_all (length (tests_in inputs))
       (passed_onto (bench_of program work inputs) 0 (tests_in inputs) runs)
 
+-- what the device is asked on a test
+abbrev pub task_of : Bench → Test → Task
+task_of bench test =
+    task bench.device.command bench.program (path_of bench.work test.name) (device_path bench.work test.name)
+    (reference_words bench.isa test)
+
 -- a test passes exactly where what its run left spells the words of the reference machine
 abbrev pub PassesBySpelling : Bench → Test → DeviceRun → Type 0
 PassesBySpelling bench test run = (verdict_by bench test run ≡ Pass (length (reference_words bench.isa test)) run.status)
-    ↔ Spells (task bench.device.command bench.program (path_of bench.work test.name) (device_path bench.work test.name) (reference_words bench.isa test)) run.after
+    ↔ Spells (task_of bench test) run.after
 
 -- a file that is none of those of a test in this folder
 pub record IsOther (work other : List ℕ) : Type 0 where
@@ -71,6 +77,11 @@ pub record Runs (call : Call) (files : Files) (program isa : List ℕ) (names : 
   pub by_absence : (name : List ℕ) → run_inputs_in files isa names device ≡ Err (why.NoFile name) → NothingFailed call → AnswersOnly call HostFault
   -- a pass says that the device left the reference's words
   pub passes : (inputs : RunInputs) (test : Test) (run : DeviceRun) → PassesBySpelling (bench_of program work inputs) test run
+  -- where one test was made, and the one run on it left the reference's words, it is done
+  pub alone : (inputs : RunInputs) (test : Test) (before : List DeviceRun) (run : DeviceRun)
+      → run_inputs_in files isa names device ≡ Ok inputs → tests_in inputs ≡ test ∷ []
+      → call.old.host.runs ≡ Some before → call.new.host.runs ≡ Some (before ++ run ∷ [])
+      → Spells (task_of (bench_of program work inputs) test) run.after → NothingFailed call → AnswersOnly call Done
   -- it changes no file but those of its tests, however it ends
   pub others_kept : (files' : Files) (other : List ℕ) → IsOther work other → call.new.host.files ≡ Some files' → files' other ≡ files other
 

@@ -37,3 +37,5 @@ pub mod RunTests
 pub mod RunView
 pub mod RunLeft
 pub mod Judging
+pub mod Demonstrate
+pub mod Demonstrating

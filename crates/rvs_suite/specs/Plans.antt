@@ -14,8 +14,9 @@ use Rattle.rvs_suite.specs.Generate as generating
 use Rattle.rvs_suite.specs.Normalize as normalizing
 use Rattle.rvs_suite.specs.Reference as running
 use Rattle.rvs_suite.specs.RunTests as judging
+use Rattle.rvs_suite.specs.Demonstrate as demonstrating
 use Rattle.rvs_suite.specs.declared.command.Command.{Command}
-use Rattle.rvs_suite.specs.declared.command.Command.TheVariants.{Unknown, Compare, Validate, Normalize, Generate, Reference, Coverage, Run}
+use Rattle.rvs_suite.specs.declared.command.Command.TheVariants.{Unknown, Compare, Validate, Normalize, Generate, Reference, Coverage, Run, Demo}
 
 -- the plan of a command
 abbrev pub plan_of : Command → Plan Finish
@@ -27,6 +28,7 @@ plan_of (Generate isa groups work) = generating.generate isa groups work
 plan_of (Reference isa test signature log steps) = running.reference isa test signature log steps
 plan_of (Coverage isa groups log windows) = covering.coverage isa groups log windows
 plan_of (Run program isa groups device work) = judging.run program isa groups device work
+plan_of (Demo count) = demonstrating.demonstrate count
 
 -- the effects that the words of a command line mean, and the status that they lead to
 abbrev pub effects_of : List (List ℕ) → Plan Finish

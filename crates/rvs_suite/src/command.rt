@@ -1,7 +1,8 @@
 // What a command line asks for.
-ghost use Rattle.std.specs.Prelude.{◌≡◌, IfOk, codes};
+ghost use Rattle.std.specs.Prelude.{◌≡◌, IfOk, codes, option_and_then};
+ghost use Rattle.rvs_demo.specs.Sizes.{size_of};
 ghost use Rattle.rvs_suite.specs.Words.{texts, values_of, are_known};
-ghost use Rattle.rvs_suite.specs.Commands.{compare_command, validate_options, validate_of, validate_command, number_of, within_steps, steps_of, reference_options, reference_run, reference_of, reference_command, named_command, command_of};
+ghost use Rattle.rvs_suite.specs.Commands.{compare_command, validate_options, validate_of, validate_command, number_of, within_steps, steps_of, reference_options, reference_run, reference_of, reference_command, given, demo_command, named_command, command_of};
 
 use crate::group_commands::{read_coverage, read_generate, read_normalize, read_run};
 use crate::words::{
@@ -9,6 +10,7 @@ use crate::words::{
 };
 use rvs_base::{Items, NoMemory, Text};
 use rvs_count::Window;
+use rvs_demo::DemoSize;
 use std::alloc::Global;
 
 /// A command with what it is given.
@@ -71,6 +73,10 @@ pub enum Command {
         /// The folder of the tests and signatures, which has to be there.
         work: Text,
     },
+    /// Run a generated program, and count its coverage.
+    Demo {
+        count: DemoSize,
+    },
 }
 
 /// Reads the words of a command line, the first of which is the program's own name.
@@ -104,6 +110,7 @@ fn read_named(
         "reference" => read_reference(alloc, words),
         "coverage" => read_coverage(alloc, words),
         "run" => read_run(alloc, program, words),
+        "demo" => Ok(read_demo(words)),
         _ => Ok(Command::Unknown),
     }
 }
@@ -214,6 +221,30 @@ fn read_steps(alloc: Global, pairs: &[Pair]) -> Result<Option<Option<u64>>, NoMe
         [text] => Ok(steps_in(text.as_str()).map(Some)),
         _ => Ok(None),
     }
+}
+
+fn read_demo(words: &[String]) -> Command
+    ensures { result ≡ demo_command (texts words.now) }
+{
+    match words {
+        [text] => demo_of(text.as_str()),
+        _ => Command::Unknown,
+    }
+}
+
+fn demo_of(text: &str) -> Command
+    ensures { result ≡ given (option_and_then size_of (number_of text.now)) Command.Demo }
+{
+    match size_in(text) {
+        None => Command::Unknown,
+        Some(count) => Command::Demo { count },
+    }
+}
+
+fn size_in(text: &str) -> Option<DemoSize>
+    ensures { result ≡ option_and_then size_of (number_of text.now) }
+{
+    DemoSize::new(read_number(text)?)
 }
 
 fn steps_in(text: &str) -> Option<u64>

@@ -21,34 +21,48 @@ const CHAIN: [(&str, &str); 3] = [
     ),
 ];
 
-fn add(alloc: Global, files: &mut Files, name: &str, text: &str) -> Result<(), Fail> {
-    let name = Text::from(String::from_str(alloc, name)?);
-    files.push((name, Items::from(text.as_bytes().to_vec(alloc)?)))?;
-    Ok(())
+const FILES: [(&str, &str); 2] = [
+    ("i.yaml", "hart_ids: [0]\nhart0:\n  ISA: RV32IM\n"),
+    ("add.cgf", "add:\n  mnemonics:\n    add: 0\n"),
+];
+
+fn files(alloc: Global) -> Result<Files, Fail> {
+    let mut files: Files = Items::new(alloc);
+    for (name, text) in FILES {
+        let name = Text::from(String::from_str(alloc, name)?);
+        files.push((name, Items::from(text.as_bytes().to_vec(alloc)?)))?;
+    }
+    Ok(files)
 }
 
 #[test]
 fn a_test_is_written_run_and_counted(rt: HostRuntime) -> Result<(), Fail> {
     let alloc = rt.alloc();
-    let mut files: Files = Items::new(alloc);
-    add(
-        alloc,
-        &mut files,
-        "i.yaml",
-        "hart_ids: [0]\nhart0:\n  ISA: RV32IM\n",
-    )?;
-    add(
-        alloc,
-        &mut files,
-        "add.cgf",
-        "add:\n  mnemonics:\n    add: 0\n",
-    )?;
-    let mut host = MemoryHost::new(files, Items::new(alloc), Items::new(alloc));
+    let mut host = MemoryHost::new(files(alloc)?, Items::new(alloc), Items::new(alloc));
     for (line, said) in CHAIN {
         let run = run_on(alloc, line, &mut host, &NO_FAULTS)?;
         expect(&rt, &run, Status::Done, said, "");
     }
     let signature = host.file("w/add.sig").ok_or("no signature")?;
     assert_eq!(rt; signature, "00000002\n00000000\n".as_bytes());
+    Ok(())
+}
+
+/// How many calls of the host `generate` makes: three to read each of its inputs, and one to write
+/// its test.
+const CALLS: u64 = 7;
+
+#[test]
+fn each_call_of_generate_fails_in_turn(rt: HostRuntime) -> Result<(), Fail> {
+    let alloc = rt.alloc();
+    let (words, _) = CHAIN[0];
+    for call in 0..CALLS {
+        let fail = Items::from([call].as_slice().to_vec(alloc)?);
+        let mut host = MemoryHost::new(files(alloc)?, fail, Items::new(alloc));
+        let run = run_on(alloc, words, &mut host, &NO_FAULTS)?;
+        assert_eq!(rt; run.status, Status::HostFault);
+        assert!(rt; run.err.bytes().starts_with(b"rvsuite: cannot "));
+        assert!(rt; host.file("w/add.S").is_none());
+    }
     Ok(())
 }

@@ -6,6 +6,7 @@ mod comparing;
 #[cfg(test)]
 mod coverage_tests;
 mod covering;
+mod demonstrating;
 mod device_file;
 mod gathering;
 #[cfg(test)]

@@ -1,6 +1,7 @@
 // Whole runs of `reference` over a host and sinks in memory. No clause says that a run has the memory that it wants, nor how its lines are spelt.
-use crate::{Status, run_suite};
-use rvs_base::{Files, Items, MemoryHost, MemorySink, Text};
+use crate::Status;
+use crate::tests::{NO_FAULTS, Outcome, expect, run_on};
+use rvs_base::{Files, Items, MemoryHost, Text};
 use std::alloc::Global;
 use std::process::Abort;
 use std::test::Fail;
@@ -26,12 +27,11 @@ const CALL_TEXT: &str = "ecall\n.data\nbegin_signature:\nend_signature:\ntohost:
 const LOG: &str =
     "core   0: 3 0x80000000 (0x810002b7) x5  0x81000000\ncore   0: 3 0x80000004 (0x00100313) x6  0x00000001\ncore   0: 3 0x80000008 (0x0062a223)\n";
 
+/// What a run says, and the host that it leaves.
 #[derive(Drop)]
-struct Outcome {
-    status: Status,
+struct Run {
+    outcome: Outcome,
     host: MemoryHost,
-    out: MemorySink,
-    err: MemorySink,
 }
 
 fn add(alloc: Global, files: &mut Files, name: &str, text: &str) -> Result<(), Fail> {
@@ -40,43 +40,24 @@ fn add(alloc: Global, files: &mut Files, name: &str, text: &str) -> Result<(), F
     Ok(())
 }
 
-// Runs `test`, which is called `a.img` or `t.S` in the words. The listed calls of the host fail.
+/// Runs `test`, which is called `a.img` or `t.S` in the words. The listed calls of the host fail.
 fn reference(
     alloc: Global,
     options: &str,
     name: &str,
     test: &str,
     fail: &[u64],
-) -> Result<Outcome, Fail> {
-    let mut list = Vec::new(alloc);
-    for word in ["rvsuite", "reference", "--isa", "i.yaml"] {
-        list.push(String::from_str(alloc, word)?)?;
-    }
-    for word in options.split(' ') {
-        list.push(String::from_str(alloc, word)?)?;
-    }
+) -> Result<Run, Fail> {
     let mut files: Files = Items::new(alloc);
     add(alloc, &mut files, "i.yaml", ISA)?;
     add(alloc, &mut files, name, test)?;
     let mut host = MemoryHost::new(files, Items::from(fail.to_vec(alloc)?), Items::new(alloc));
-    let mut out = MemorySink::new(Items::new(alloc));
-    let mut err = MemorySink::new(Items::new(alloc));
-    let status = run_suite(alloc, list.as_slice(), &mut host, &mut out, &mut err);
-    Ok(Outcome {
-        status,
-        host,
-        out,
-        err,
-    })
+    let words = format!(in alloc; "rvsuite reference --isa i.yaml {options}")?;
+    let outcome = run_on(alloc, words.as_str(), &mut host, &NO_FAULTS)?;
+    Ok(Run { outcome, host })
 }
 
-fn expect(rt: &impl Abort, run: &Outcome, status: Status, out: &str, err: &str) {
-    assert_eq!(rt; run.out.bytes(), out.as_bytes());
-    assert_eq!(rt; run.err.bytes(), err.as_bytes());
-    assert_eq!(rt; run.status, status);
-}
-
-fn expect_file(rt: &impl Abort, run: &Outcome, name: &str, text: &str) {
+fn expect_file(rt: &impl Abort, run: &Run, name: &str, text: &str) {
     match run.host.file(name) {
         Some(bytes) => assert_eq!(rt; bytes, text.as_bytes()),
         None => assert!(rt; false),
@@ -91,7 +72,7 @@ fn an_image_is_run(rt: HostRuntime) -> Result<(), Fail> {
         "--steps 0000003 --signature a.sig --test a.img",
     ] {
         let run = reference(rt.alloc(), options, "a.img", IMAGE, &[])?;
-        expect(&rt, &run, Status::Done, "3 instructions, 1 words\n", "");
+        expect(&rt, &run.outcome, Status::Done, "3 instructions, 1 words\n", "");
         expect_file(&rt, &run, "a.sig", "00000007\n");
     }
     Ok(())
@@ -101,7 +82,7 @@ fn an_image_is_run(rt: HostRuntime) -> Result<(), Fail> {
 fn a_text_is_run_and_logged(rt: HostRuntime) -> Result<(), Fail> {
     let options = "--test t.S --signature t.sig --log t.log";
     let run = reference(rt.alloc(), options, "t.S", TEXT, &[])?;
-    expect(&rt, &run, Status::Done, "3 instructions, 1 words\n", "");
+    expect(&rt, &run.outcome, Status::Done, "3 instructions, 1 words\n", "");
     expect_file(&rt, &run, "t.sig", "00000007\n");
     expect_file(&rt, &run, "t.log", LOG);
     Ok(())
@@ -160,7 +141,7 @@ fn refused_tests_leave_no_files(rt: HostRuntime) -> Result<(), Fail> {
         ),
     ] {
         let run = reference(rt.alloc(), options, name, test, &[])?;
-        expect(&rt, &run, Status::Refused, "", err);
+        expect(&rt, &run.outcome, Status::Refused, "", err);
         assert!(rt; run.host.file("a.sig").is_none());
     }
     Ok(())
@@ -172,7 +153,7 @@ fn a_failed_write_is_told(rt: HostRuntime) -> Result<(), Fail> {
     let run = reference(rt.alloc(), options, "t.S", TEXT, &[6])?;
     expect(
         &rt,
-        &run,
+        &run.outcome,
         Status::HostFault,
         "",
         "rvsuite: cannot write t.sig\n",
@@ -181,7 +162,7 @@ fn a_failed_write_is_told(rt: HostRuntime) -> Result<(), Fail> {
     let run = reference(rt.alloc(), options, "t.S", TEXT, &[7])?;
     expect(
         &rt,
-        &run,
+        &run.outcome,
         Status::HostFault,
         "",
         "rvsuite: cannot write t.log\n",

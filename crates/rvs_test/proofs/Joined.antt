@@ -18,10 +18,13 @@ use Rattle.rvs_expr.specs.Facts.{Extends}
 use Rattle.rvs_expr.proofs.Meanings.{truth-more}
 use Rattle.rvs_facts.specs.Facts.{facts_of}
 use Rattle.rvs_facts.specs.Mnemonics.{number, is_same}
+use Rattle.rvs_cross.specs.Cross.{Place}
+use Rattle.rvs_cross.specs.Sequences.{first_sequence}
+use Rattle.rvs_cross.proofs.Sequences.{sequence_matches}
 use Rattle.rvs_cgf.specs.declared.group.Kind.{Kind}
 use Rattle.rvs_cgf.specs.declared.group.Kind.TheVariants.{Rd}
 use Rattle.rvs_cgf.specs.Groups as groups
-use Rattle.rvs_cgf.specs.Groups.{Meaning, op_is, reg_is, regs, nums, Label}
+use Rattle.rvs_cgf.specs.Groups.{Meaning, op_is, reg_is, regs, nums, window, Label}
 use Rattle.rvs_cgf.specs.Hits.{is_register, field_of, is_meant, has_op}
 use Rattle.rvs_cgf.specs.Hits as points
 use Rattle.rvs_cgf.specs.Valid.{IsValid}
@@ -30,7 +33,7 @@ use Rattle.rvs_solver.specs.Point.{hits, constants_of}
 use Rattle.rvs_solver.specs.First.{all_choices, first_choice}
 use Rattle.rvs_solver.specs.Solving.{first_of_point, first_at, IsSolvableAt}
 use Rattle.rvs_solver.specs.declared.solved.Solved.{Solved}
-use Rattle.rvs_solver.specs.declared.solved.Solved.TheVariants.{One}
+use Rattle.rvs_solver.specs.declared.solved.Solved.TheVariants.{One, Many}
 use Rattle.rvs_solver.proofs.Search.{Each}
 use Rattle.rvs_solver.proofs.Product.{each_append, each_flat, each_map, each_any}
 use Rattle.rvs_solver.proofs.Operands.{all_from_each}
@@ -40,8 +43,8 @@ use Rattle.rvs_test.specs.declared.made.Claim.{Claim}
 use Rattle.rvs_test.specs.TestText.{step_limit, test_text}
 use Rattle.rvs_test.specs.Claim.{IsOnly, insns_of, IsHit, AreHit, IsTest}
 use Rattle.rvs_test.specs.Made.{places, is_solved, solved_among, cases_among, numbered, claims_of, unsolved_of, cases_of, named_at}
-use Rattle.rvs_test.specs.Claimed.{IsClaimed, TestRuns, IsAccounted}
-use Rattle.rvs_test.proofs.Solvings.{IsFirst, first_is, cases_ready, cases_few, claims_same, name_text, points_text}
+use Rattle.rvs_test.specs.Claimed.{HitsAlone, HitsTogether, HitsAs, words_of_case, IsClaimed, TestRuns, IsAccounted}
+use Rattle.rvs_test.proofs.Solvings.{IsSingle, IsFirst, IsFirstWindow, first_is, cases_ready, cases_few, claims_same, name_text, points_text}
 use Rattle.rvs_test.proofs.Main.{tests_run, steps_high}
 
 -- ---- a choice has a mnemonic of the label
@@ -120,6 +123,7 @@ meant_more k (op_is op) c v1 v2 e h = h
 meant_more k (reg_is n) c v1 v2 e h = ap (is_register n) (sym (same_field k c v1 v2)) ∙ h
 meant_more k (regs f) c v1 v2 e h = more_true (table_of c) (facts_of (fields_of c) v1 v2) f e h
 meant_more k (nums f) c v1 v2 e h = more_true (table_of c) (facts_of (fields_of c) v1 v2) f e h
+meant_more k (window ps) c v1 v2 e h = h
 
 both_true : (s t : Bool) → s ≡ true → t ≡ true → (s && t) ≡ true
 both_true s t h k = rw (h, k) refl
@@ -136,41 +140,83 @@ none_more : (es : List Executed) → insns_of es ≡ [] → es ≡ []
 none_more [] h = refl
 none_more (e ∷ es) h = cc
 
+single_hits : (l : Label) (p : groups.Point) (m : Meaning) (e : Executed) (more : List Executed)
+    (outcome : ℕ × ℕ) → IsSingle m → HitsAlone l p e more outcome → HitsAs l p m e more outcome
+single_hits l p (op_is op) e more outcome single h = h
+single_hits l p (reg_is n) e more outcome single h = h
+single_hits l p (regs f) e more outcome single h = h
+single_hits l p (nums f) e more outcome single h = h
+single_hits l p (window ps) e more outcome single h = absurd single
+
+-- a choice is one instruction
+by_choice : (isa : Isa) (l : Label) (image : ImageValue) (o : Outcome) (j k : ℕ)
+    (c : ChoiceValue) (p : groups.Point) → slice_get l.points k ≡ Some p → IsSingle p.meaning
+    → first_choice isa l.ops p.kind p.meaning ≡ Some c → IsHit image isa o j (One c)
+    → IsClaimed isa l image o (record { case = j; point = k })
+by_choice isa l image o j k c p at single found i =
+    let e = i.entry in
+    let whole : insn_of_word e.word ∷ insns_of i.more ≡ Some (fields_of c) ∷ [] = i.window in
+    record {
+      point = p;
+      is = at;
+      at = i.at;
+      symbol = i.symbol;
+      entry = e;
+      more = i.more;
+      only = i.only;
+      hit = single_hits l p p.meaning e i.more (words_of_case image isa o j) single (record {
+        alone =
+            none_more i.more
+            (rest_is (insn_of_word e.word) (Some (fields_of c)) (insns_of i.more) [] whole);
+        insn = fields_of c;
+        decoded = head_is (insn_of_word e.word) (Some (fields_of c)) (insns_of i.more) [] whole;
+        hit =
+            both_true (has_op l.ops c.op) (points.holds p c.op (facts_of (fields_of c) e.v1 e.v2))
+            (found_each (hits p.kind p.meaning) (λ (x : ChoiceValue). has_op l.ops x.op ≡ true)
+            (all_choices isa l.ops (constants_of p.meaning)) c
+            (listed isa l.ops (constants_of p.meaning)) found)
+            (meant_more p.kind p.meaning c e.v1 e.v2 i.facts
+            (found_hits (hits p.kind p.meaning)
+            (all_choices isa l.ops (constants_of p.meaning)) c found));
+        left = λ t. (i.first t, i.second t);
+      });
+    }
+
+-- instructions one after the other match the cross point
+by_window : (isa : Isa) (l : Label) (image : ImageValue) (o : Outcome) (j k : ℕ)
+    (is : List Fields) (p : groups.Point) (ps : List Place) → slice_get l.points k ≡ Some p
+    → p.meaning ≡ window ps → first_sequence isa ps ≡ Some is → IsHit image isa o j (Many is)
+    → IsClaimed isa l image o (record { case = j; point = k })
+by_window isa l image o j k is p ps at means found i =
+    let e = i.entry in
+    let outcome = words_of_case image isa o j in
+    let together : HitsTogether ps e i.more outcome = record {
+      insns = is;
+      decoded = i.window;
+      hit = sequence_matches isa ps is found;
+      left = λ t. (i.first t, i.second t);
+    } in
+    record {
+      point = p;
+      is = at;
+      at = i.at;
+      symbol = i.symbol;
+      entry = e;
+      more = i.more;
+      only = i.only;
+      hit = subst (λ (m : Meaning). HitsAs l p m e i.more outcome) (sym means) together;
+    }
+
 claimed_one : (isa : Isa) (l : Label) (image : ImageValue) (o : Outcome) (j k : ℕ) (s : Solved)
     → first_at isa l k ≡ Some s → IsHit image isa o j s
     → IsClaimed isa l image o (record { case = j; point = k })
-claimed_one isa l image o j k s h hit = by (first_is isa l k s h) where
-  by : IsFirst isa l k s → IsClaimed isa l image o (record { case = j; point = k })
-  by f = of f.choice f.point f.at f.found (subst (IsHit image isa o j) (sym f.is) hit) where
-    of : (c : ChoiceValue) (p : groups.Point) → slice_get l.points k ≡ Some p
-        → first_choice isa l.ops p.kind p.meaning ≡ Some c → IsHit image isa o j (One c)
-        → IsClaimed isa l image o (record { case = j; point = k })
-    of c p at found i =
-        let e = i.entry in
-        let alone : i.more ≡ [] =
-        none_more i.more
-        (rest_is (insn_of_word e.word) (Some (fields_of c)) (insns_of i.more) [] i.window) in
-        record {
-          point = p;
-          is = at;
-          at = i.at;
-          symbol = i.symbol;
-          entry = e;
-          only = subst (λ m. IsOnly i.at e m o.trace) alone i.only;
-          insn = fields_of c;
-          decoded =
-              head_is (insn_of_word e.word) (Some (fields_of c)) (insns_of i.more) [] i.window;
-          hit =
-              both_true (has_op l.ops c.op) (points.holds p c.op (facts_of (fields_of c) e.v1 e.v2))
-              (found_each (hits p.kind p.meaning) (λ (x : ChoiceValue). has_op l.ops x.op ≡ true)
-              (all_choices isa l.ops (constants_of p.meaning)) c
-              (listed isa l.ops (constants_of p.meaning)) found)
-              (meant_more p.kind p.meaning c e.v1 e.v2 i.facts
-              (found_hits (hits p.kind p.meaning)
-              (all_choices isa l.ops (constants_of p.meaning)) c found));
-          first = i.first;
-          second = i.second;
-        }
+claimed_one isa l image o j k s h hit =
+    elim (first_is isa l k s h) [
+      | inl f ↦ by_choice isa l image o j k f.choice f.point f.at f.single f.found
+          (subst (IsHit image isa o j) (sym f.is) hit)
+      | inr f ↦ by_window isa l image o j k f.insns f.point f.places f.at f.means f.found
+          (subst (IsHit image isa o j) (sym f.is) hit)
+    ]
 
 hit_more : (isa : Isa) (l : Label) (image : ImageValue) (o : Outcome) (j k : ℕ) (cs : List Solved)
     (ks : List ℕ) (s : Option Solved) → first_at isa l k ≡ s
@@ -275,28 +321,10 @@ found_there p (y ∷ ys) x h = here_or (p y) y x (find p ys) ys h (found_there p
 
 solvable : (isa : Isa) (l : Label) (k : ℕ) (s : Solved) → first_at isa l k ≡ Some s
     → IsSolvableAt isa l k
-solvable isa l k s h =
-    let f = first_is isa l k s h in
-    let all = all_choices isa l.ops (constants_of f.point.meaning) in
-    record {
-      point = f.point;
-      is = f.at;
-      solvable = (
-        f.choice,
-        found_there (hits f.point.kind f.point.meaning) all f.choice f.found,
-        found_hits (hits f.point.kind f.point.meaning) all f.choice f.found,
-      );
-    }
-
-no_first : (o : Option ChoiceValue) → option_map One o ≡ None → o ≡ None
-no_first None h = refl
-no_first (Some c) h = cc
+solvable isa l k s h = solved_solvable isa l k s h
 
 not_solvable : (isa : Isa) (l : Label) (k : ℕ) → first_at isa l k ≡ None → IsSolvableAt isa l k → ⊥
-not_solvable isa l k h w =
-    nothing_hits isa l.ops w.point.kind w.point.meaning
-    (no_first (first_choice isa l.ops w.point.kind w.point.meaning)
-    (sym (ap (option_and_then (first_of_point isa l)) w.is) ∙ h)) w.solvable
+not_solvable isa l k h w = unsolved_not_solvable isa l k h w
 
 in_range : (a n k : ℕ) → k < n → Contains (range_with_len a n) (a + k)
 in_range a zero k h = absurd (omega arith)

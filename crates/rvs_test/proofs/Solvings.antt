@@ -5,7 +5,11 @@ use Rattle.std.specs.List.{list_all, range_with_len}
 use Rattle.std.proofs.lemmas.Bool.Decides.{nat_tests}
 use Rattle.std.proofs.lemmas.List.FromFn.{length-range_with_len}
 use Rattle.std.proofs.lemmas.Option.{slice_get_within, get_or_from_slice_get}
+use Rattle.std.proofs.Common.{◌⊎◌, inl, inr}
 use Rattle.rvs_insn.specs.Isa.{Isa}
+use Rattle.rvs_insn.specs.Fields.{Fields}
+use Rattle.rvs_cross.specs.Cross.{Place}
+use Rattle.rvs_cross.specs.Sequences.{first_sequence}
 use Rattle.rvs_asm_text.specs.Text.{is_text_byte}
 use Rattle.rvs_abstract.specs.Calls.{is_letter, is_digit}
 use Rattle.rvs_cgf.specs.Keys.{is_name_byte, is_label_name}
@@ -14,18 +18,19 @@ use Rattle.rvs_cgf.specs.Valid.{IsMeant, IsValid}
 use Rattle.rvs_cgf.specs.declared.group.Kind.{Kind}
 use Rattle.rvs_cgf.specs.declared.group.Kind.TheVariants.{Mnemonic}
 use Rattle.rvs_cgf.specs.Groups as groups
-use Rattle.rvs_cgf.specs.Groups.{Label}
+use Rattle.rvs_cgf.specs.Groups.{Meaning, op_is, reg_is, regs, nums, window, Label}
 use Rattle.rvs_solver.specs.Choices.{ChoiceValue}
 use Rattle.rvs_solver.specs.First.{first_choice}
-use Rattle.rvs_solver.specs.Solving.{first_of_point, first_at}
+use Rattle.rvs_solver.specs.Solving.{first_meant, first_of_point, first_at}
 use Rattle.rvs_solver.specs.declared.solved.Solved.{Solved}
-use Rattle.rvs_solver.specs.declared.solved.Solved.TheVariants.{One}
+use Rattle.rvs_solver.specs.declared.solved.Solved.TheVariants.{One, Many}
 use Rattle.rvs_test.specs.declared.made.Claim.{Claim}
 use Rattle.rvs_test.specs.TestText.{Point, claim_lines, line_of_claim}
 use Rattle.rvs_test.specs.Claim.{IsReady, AreReady, ArePrintable}
 use Rattle.rvs_test.specs.Made.{places, is_solved, solved_among, cases_among, numbered, claims_of, cases_of, named_or_none, named_at}
 use Rattle.rvs_test.proofs.Chars.{all_map, both, tested, untested}
 use Rattle.rvs_test.proofs.Ready.{first_ready}
+use Rattle.rvs_test.proofs.Sequences.{places_few, sequence_ready}
 use Rattle.rvs_solver.proofs.Search.{Each}
 use Rattle.rvs_solver.proofs.Operands.{all_from_each}
 use Rattle.rvs_test.proofs.Ranges.{range_below}
@@ -33,38 +38,109 @@ use Rattle.rvs_test.proofs.Loops.{numbered_length}
 
 -- ---- what solves a point
 
+-- a meaning of one instruction
+abbrev pub IsSingle : Meaning → Type 0
+IsSingle (window ps) = ⊥
+IsSingle m = Unit {0}
+
 -- a point of the label, and the first choice that hits it
 pub record IsFirst (isa : Isa) (l : Label) (k : ℕ) (s : Solved) : Type 0 where
   pub point : groups.Point
   pub choice : ChoiceValue
   pub at : slice_get l.points k ≡ Some point
+  pub single : IsSingle point.meaning
   pub found : first_choice isa l.ops point.kind point.meaning ≡ Some choice
   pub is : One choice ≡ s
 
+-- a cross point of the label, and the first instructions that match it
+pub record IsFirstWindow (isa : Isa) (l : Label) (k : ℕ) (s : Solved) : Type 0 where
+  pub point : groups.Point
+  pub places : List Place
+  pub insns : List Fields
+  pub at : slice_get l.points k ≡ Some point
+  pub means : point.meaning ≡ window places
+  pub found : first_sequence isa places ≡ Some insns
+  pub is : Many insns ≡ s
+
 chosen : (isa : Isa) (l : Label) (k : ℕ) (s : Solved) (p : groups.Point) (o : Option ChoiceValue)
-    → slice_get l.points k ≡ Some p → first_choice isa l.ops p.kind p.meaning ≡ o
-    → option_map One o ≡ Some s → IsFirst isa l k s
-chosen isa l k s p None at found h = cc
-chosen isa l k s p (Some c) at found h =
-    let is : One c ≡ s = cc in record { point = p; choice = c; at = at; found = found; is = is }
+    → slice_get l.points k ≡ Some p → IsSingle p.meaning
+    → first_choice isa l.ops p.kind p.meaning ≡ o → option_map One o ≡ Some s → IsFirst isa l k s
+chosen isa l k s p None at single found h = cc
+chosen isa l k s p (Some c) at single found h =
+    let is : One c ≡ s = cc in
+    record { point = p; choice = c; at = at; single = single; found = found; is = is }
+
+matched : (isa : Isa) (l : Label) (k : ℕ) (s : Solved) (p : groups.Point) (ps : List Place)
+    (o : Option (List Fields)) → slice_get l.points k ≡ Some p → p.meaning ≡ window ps
+    → first_sequence isa ps ≡ o → option_map Many o ≡ Some s → IsFirstWindow isa l k s
+matched isa l k s p ps None at means found h = cc
+matched isa l k s p ps (Some is) at means found h =
+    let same : Many is ≡ s = cc in
+    record {
+      point = p;
+      places = ps;
+      insns = is;
+      at = at;
+      means = means;
+      found = found;
+      is = same;
+    }
+
+alone : (isa : Isa) (l : Label) (k : ℕ) (s : Solved) (p : groups.Point) (m : Meaning)
+    → slice_get l.points k ≡ Some p → p.meaning ≡ m → IsSingle m
+    → option_map One (first_choice isa l.ops p.kind m) ≡ Some s → IsFirst isa l k s
+alone isa l k s p m at means single h =
+    chosen isa l k s p (first_choice isa l.ops p.kind p.meaning) at
+    (subst IsSingle (sym means) single) refl
+    (ap (λ (x : Meaning). option_map One (first_choice isa l.ops p.kind x)) means ∙ h)
+
+-- by what the point means
+by_meaning : (isa : Isa) (l : Label) (k : ℕ) (s : Solved) (p : groups.Point) (m : Meaning)
+    → slice_get l.points k ≡ Some p → p.meaning ≡ m → first_meant isa l p.kind m ≡ Some s
+    → IsFirst isa l k s ⊎ IsFirstWindow isa l k s
+by_meaning isa l k s p (window ps) at means h =
+    inr (matched isa l k s p ps (first_sequence isa ps) at means refl h)
+by_meaning isa l k s p (op_is op) at means h = inl (alone isa l k s p (op_is op) at means tt h)
+by_meaning isa l k s p (reg_is n) at means h = inl (alone isa l k s p (reg_is n) at means tt h)
+by_meaning isa l k s p (regs f) at means h = inl (alone isa l k s p (regs f) at means tt h)
+by_meaning isa l k s p (nums f) at means h = inl (alone isa l k s p (nums f) at means tt h)
 
 pointed : (isa : Isa) (l : Label) (k : ℕ) (s : Solved) (o : Option groups.Point)
     → slice_get l.points k ≡ o → option_and_then (first_of_point isa l) o ≡ Some s
-    → IsFirst isa l k s
+    → IsFirst isa l k s ⊎ IsFirstWindow isa l k s
 pointed isa l k s None at h = cc
-pointed isa l k s (Some p) at h =
-    chosen isa l k s p (first_choice isa l.ops p.kind p.meaning) at refl h
+pointed isa l k s (Some p) at h = by_meaning isa l k s p p.meaning at refl h
 
 pub first_is : (isa : Isa) (l : Label) (k : ℕ) (s : Solved) → first_at isa l k ≡ Some s
-    → IsFirst isa l k s
+    → IsFirst isa l k s ⊎ IsFirstWindow isa l k s
 first_is isa l k s h = pointed isa l k s (slice_get l.points k) refl h
+
+meant_at : (isa : Isa) (l : Label) (k : ℕ) (p : groups.Point) → IsValid isa l
+    → slice_get l.points k ≡ Some p → IsMeant p
+meant_at isa l k p v at =
+    let low : k < length l.points = slice_get_within l.points k p at in
+    let is : get_or l.points k p ≡ p = get_or_from_slice_get l.points k p p at in
+    subst IsMeant is (v.meant k p low)
+
+window_ready : (isa : Isa) (l : Label) (k : ℕ) (s : Solved) → isa.e ≡ false → IsValid isa l
+    → IsFirstWindow isa l k s → IsReady isa s
+window_ready isa l k s e v f =
+    let few = places_few f.point f.places (meant_at isa l k f.point v f.at) f.means in
+    subst (IsReady isa) f.is (sequence_ready isa f.places f.insns e few.0 few.1 f.found)
+
+choice_ready : (isa : Isa) (l : Label) (k : ℕ) (s : Solved) → isa.e ≡ false → IsValid isa l
+    → IsFirst isa l k s → IsReady isa s
+choice_ready isa l k s e v f =
+    let r = first_ready isa l.ops f.point.kind f.point.meaning f.choice e v.admitted f.found in
+    subst (IsReady isa) f.is (r.sound, r.made)
 
 pub solved_ready : (isa : Isa) (l : Label) (k : ℕ) (s : Solved) → isa.e ≡ false → IsValid isa l
     → first_at isa l k ≡ Some s → IsReady isa s
 solved_ready isa l k s e v h =
-    let f = first_is isa l k s h in
-    let r = first_ready isa l.ops f.point.kind f.point.meaning f.choice e v.admitted f.found in
-    subst (IsReady isa) f.is (r.sound, r.made)
+    elim (first_is isa l k s h) [
+      | inl f ↦ choice_ready isa l k s e v f
+      | inr f ↦ window_ready isa l k s e v f
+    ]
 
 -- ---- all cases
 

@@ -1,5 +1,5 @@
 -- What a test's text claims of its run.
-use Rattle.std.specs.Prelude.{◌≡◌, ◌≤◌, ◌⊎◌, ℕ, ◌+◌, ◌*◌, true, List, [], length, All, Contains, Some, slice_index, slice_get}
+use Rattle.std.specs.Prelude.{◌≡◌, ◌≤◌, ◌⊎◌, ℕ, ◌+◌, ◌*◌, true, List, [], ◌∷◌, length, map, All, Contains, Some, slice_index, slice_get}
 use Rattle.rvs_insn.specs.Isa.{Isa}
 use Rattle.rvs_insn.specs.Fields.{Fields, insn_of_word}
 use Rattle.rvs_machine.specs.declared.event.Executed.{Executed}
@@ -10,16 +10,47 @@ use Rattle.rvs_machine.specs.Run.{Outcome, run_of}
 use Rattle.rvs_asm_text.specs.Header.{header_steps}
 use Rattle.rvs_asm.specs.Answer.{Assembles}
 use Rattle.rvs_facts.specs.Facts.{facts_of}
-use Rattle.rvs_cgf.specs.Groups.{Point, Label}
+use Rattle.rvs_cross.specs.Cross.{Place}
+use Rattle.rvs_cross.specs.Windows.{matches}
+use Rattle.rvs_cgf.specs.Groups.{Meaning, window, Point, Label}
 use Rattle.rvs_cgf.specs.Hits.{hits}
 use Rattle.rvs_solver.specs.Solving.{IsSolvableAt}
 use Rattle.rvs_test.specs.declared.made.Claim.{Claim}
 use Rattle.rvs_test.specs.declared.statement.Name.TheVariants.{Case}
 use Rattle.rvs_test.specs.Statements.{name_of}
-use Rattle.rvs_test.specs.Claim.{symbol_address, IsOnly, outcome_at, words_after}
+use Rattle.rvs_test.specs.TestText.{first_rd, last_rd}
+use Rattle.rvs_test.specs.Claim.{symbol_address, IsOnly, outcome_at, last_word, words_after, insns_of}
 
--- exactly one instruction was executed at the case's symbol. It hits the point, and its outcome is
--- in the signature
+-- one instruction alone hits the point, and the outcome is that of its format
+pub record HitsAlone (l : Label) (p : Point) (e : Executed) (more : List Executed)
+    (outcome : ℕ × ℕ) : Type 0 where
+  pub alone : more ≡ []
+  pub insn : Fields
+  pub decoded : insn_of_word e.word ≡ Some insn
+  pub hit : hits l.ops p insn.op (facts_of insn e.v1 e.v2) ≡ true
+  pub left : outcome ≡ outcome_at insn e
+
+-- instructions one right after the other match the cross point, and the outcome is what they wrote
+-- to the rd of the first and of the last of them
+pub record HitsTogether (ps : List Place) (e : Executed) (more : List Executed)
+    (outcome : ℕ × ℕ) : Type 0 where
+  pub insns : List Fields
+  pub decoded : insns_of (e ∷ more) ≡ map (λ i. Some i) insns
+  pub hit : matches ps (map (λ i. Some i) insns) ≡ true
+  pub left : outcome
+      ≡ (last_word (first_rd insns) (e ∷ more), last_word (last_rd insns) (e ∷ more))
+
+abbrev pub HitsAs : Label → Point → Meaning → Executed → List Executed → ℕ × ℕ → Type 0
+HitsAs l p (window ps) e more outcome = HitsTogether ps e more outcome
+HitsAs l p m e more outcome = HitsAlone l p e more outcome
+
+-- the two words of a case in the signature
+abbrev pub words_of_case : ImageValue → Isa → Outcome → ℕ → ℕ × ℕ
+words_of_case image isa o k =
+    (slice_index (words_after image isa o) (2 * k), slice_index (words_after image isa o) (2 * k + 1))
+
+-- exactly one instruction was executed at the case's symbol. It hits the point, together with those
+-- behind it where the point is a cross point, and the outcome is in the signature
 pub record IsClaimed (isa : Isa) (l : Label) (image : ImageValue) (o : Outcome)
     (c : Claim) : Type 0 where
   pub point : Point
@@ -27,12 +58,10 @@ pub record IsClaimed (isa : Isa) (l : Label) (image : ImageValue) (o : Outcome)
   pub at : ℕ
   pub symbol : symbol_address image.symbols (name_of (Case c.case)) ≡ Some at
   pub entry : Executed
-  pub only : IsOnly at entry [] o.trace
-  pub insn : Fields
-  pub decoded : insn_of_word entry.word ≡ Some insn
-  pub hit : hits l.ops point insn.op (facts_of insn entry.v1 entry.v2) ≡ true
-  pub first : slice_index (words_after image isa o) (2 * c.case) ≡ (outcome_at insn entry).0
-  pub second : slice_index (words_after image isa o) (2 * c.case + 1) ≡ (outcome_at insn entry).1
+  -- the other instructions of a cross point's window
+  pub more : List Executed
+  pub only : IsOnly at entry more o.trace
+  pub hit : HitsAs l point point.meaning entry more (words_of_case image isa o c.case)
 
 -- a run halts in time, hits each claimed point, and leaves two words a case and no others
 pub record IsRun (isa : Isa) (l : Label) (image : ImageValue) (claims : List Claim) (limit : ℕ)

@@ -104,3 +104,6 @@ returns-in-Run g c =
     let four = subst (λ (x : List ℕ). MeetsWith IsAnswer (run c.in-Run.program c.in-Run.isa c.in-Run.groups x work) old new result) d three in
     let met = subst (λ (x : List ℕ). MeetsWith IsAnswer (run c.in-Run.program c.in-Run.isa c.in-Run.groups c.in-Run.device x) old new result) w four in
     rw c.in-Run.is (Performs-meets (λ is. cc) met)
+
+pub returns-in-Demo : goal.returns-in-Demo
+returns-in-Demo g c = rw c.in-Demo.is (Performs-meets (λ is. cc) (c.demonstrate.ensures (g.H.Host.state c.args.host.now)))

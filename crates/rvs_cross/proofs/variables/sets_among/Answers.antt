@@ -1,0 +1,13 @@
+use Rattle.std.proofs.Common.{rules, tests, lit<}
+use Rattle.std.proofs.lemmas.Iterator.{items_from_collect}
+use Rattle.std.proofs.lemmas.Iterator.Consumers.{YieldsList-at, YieldsList-from_filter_map}
+use Rattle.std.proofs.lemmas.Iterator.Splits.{YieldsList-from_str_split}
+use Rattle.rvs_cross.specs.Variables.{set_of}
+use Rattle.rvs_cross.proofs.variables.sets_among.Goals as goal
+
+pub returns : goal.returns
+returns c =
+    items_from_collect _ c.collect.ensures.ran
+    (YieldsList-from_filter_map _ (set_of c.args.variables.now)
+    (YieldsList-at c.filter_map.ensures.source (YieldsList-from_str_split 59 c.args.entry.now (lit< tt) c.split.ensures.text c.split.ensures.has_more c.split.ensures.pattern))
+    c.filter_map.ensures.closure (λ x r q k. search (rules, tests)))

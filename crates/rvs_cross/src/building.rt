@@ -1,0 +1,147 @@
+// The places of a cross point.
+ghost use Rattle.std.specs.Prelude.{◌≡◌, ◌≢◌, ◌-◌, ◌≤◌, IfOk, drop, length, map, option_map, take};
+ghost use Rattle.rvs_expr_text.specs.declared.refusal.ExprKind.TheVariants as expr_kind;
+ghost use Rattle.rvs_expr.specs.TypedView.{view};
+ghost use Rattle.rvs_cross.specs.declared.refusal.CrossRefusal.TheVariants as refusal;
+ghost use Rattle.rvs_abstract.specs.Calls.{name_length};
+ghost use Rattle.rvs_cross.specs.CrossView.{place_view};
+ghost use Rattle.rvs_cross.specs.Outcomes.{AnswersWith};
+ghost use Rattle.rvs_cross.specs.Parse as spec;
+
+use crate::cross::Place;
+use crate::cutting::trimmed;
+use crate::entries::ops;
+use crate::refusal::CrossRefusal;
+use crate::variables::sets;
+use rvs_abstract::name_length;
+use rvs_base::{Items, Text};
+use rvs_expr::{Expr, ExprKind, ExprRefusal, parse_reg};
+use std::alloc::Global;
+
+/// What stands at a column.
+fn behind_column(column: u64, text: &[u8]) -> &[u8]
+    ensures { result.now ≡ drop (column - 1) text.now }
+{
+    let start = column.saturating_sub(1) as usize;
+    if start < text.len() {
+        &text[start..]
+    } else {
+        &[]
+    }
+}
+
+/// The name at the front.
+fn name_before(text: &[u8]) -> &str
+    ensures { result.now ≡ take (name_length text.now) text.now }
+{
+    str::from_utf8(&text[..name_length(text)]).unwrap()
+}
+
+/// The name at a column.
+fn name_at(column: u64, text: &str) -> &str
+    ensures { result.now ≡ spec.name_at column text.now }
+{
+    name_before(behind_column(column, text.as_bytes()))
+}
+
+/// The refusal of a name, or want of memory.
+fn unassigned(alloc: Global, name: &str) -> CrossRefusal
+    ensures { result ≢ refusal.NoMemory → result ≡ refusal.UnassignedVariable name.now }
+{
+    match String::from_str(alloc, name) {
+        Ok(name) => CrossRefusal::UnassignedVariable {
+            name: Text::from(name),
+        },
+        Err(_) => CrossRefusal::NoMemory,
+    }
+}
+
+/// The refusal of a mnemonic, or want of memory.
+pub fn unknown(alloc: Global, name: &str) -> CrossRefusal
+    ensures { result ≢ refusal.NoMemory → result ≡ refusal.UnknownMnemonic name.now }
+{
+    match String::from_str(alloc, name) {
+        Ok(name) => CrossRefusal::UnknownMnemonic {
+            name: Text::from(name),
+        },
+        Err(_) => CrossRefusal::NoMemory,
+    }
+}
+
+/// The refusal of an entry that is no expression, or want of memory.
+fn refused(alloc: Global, text: &str, why: ExprRefusal) -> CrossRefusal
+    ensures { result ≢ refusal.NoMemory → (why.kind ≢ expr_kind.NoMemory)
+        × (result ≡ spec.refusal_of text.now why why.kind) }
+{
+    match why.kind {
+        ExprKind::NoMemory => CrossRefusal::NoMemory,
+        ExprKind::UnknownName => unassigned(alloc, name_at(why.column, text)),
+        _ => CrossRefusal::Expr(why),
+    }
+}
+
+/// The expression of an entry without spaces at its ends.
+fn condition(alloc: Global, variables: &[Text], text: &str) -> Result<Option<Expr>, CrossRefusal>
+    requires { length variables.now ≤ 3 }
+    ensures { AnswersWith (option_map view) result (spec.condition variables.now text.now) }
+{
+    if text == "?" {
+        return Ok(None);
+    }
+    match parse_reg(alloc, text, variables) {
+        Ok(expr) => Ok(Some(expr)),
+        Err(why) => Err(refused(alloc, text, why)),
+    }
+}
+
+/// The place of three entries.
+fn place(
+    alloc: Global,
+    variables: &[Text],
+    mnemonics: &str,
+    assignments: &str,
+    entry: &str,
+) -> Result<Place, CrossRefusal>
+    requires { length variables.now ≤ 3 }
+    ensures { AnswersWith place_view result
+        (spec.place variables.now mnemonics.now assignments.now entry.now) }
+{
+    match condition(alloc, variables, trimmed(entry)) {
+        Ok(condition) => {
+            let ops = ops(alloc, mnemonics)?;
+            let sets = sets(alloc, variables, assignments)?;
+            Ok(Place {
+                ops,
+                sets,
+                condition,
+            })
+        }
+        Err(why) => Err(why),
+    }
+}
+
+/// The places of the entries of three lists.
+pub fn places(
+    alloc: Global,
+    variables: &[Text],
+    mnemonics: &[&str],
+    assignments: &[&str],
+    conditions: &[&str],
+) -> Result<Items<Place>, CrossRefusal>
+    requires few { length variables.now ≤ 3 }
+    requires sets { length assignments.now ≡ length mnemonics.now }
+    requires conditions { length conditions.now ≡ length mnemonics.now }
+    ensures places { AnswersWith (map place_view) result
+        (spec.places variables.now (map (λ t. t.now) mnemonics.now)
+        (map (λ t. t.now) assignments.now) (map (λ t. t.now) conditions.now)) }
+    ensures length { IfOk result (λ ps. length ps ≡ length mnemonics.now) }
+{
+    let mut list = Items::new(alloc);
+    for (i, entry) in mnemonics.iter().enumerate() {
+        match place(alloc, variables, entry, assignments[i], conditions[i]) {
+            Ok(place) => list.push(place)?,
+            Err(why) => return Err(why),
+        }
+    }
+    Ok(list)
+}

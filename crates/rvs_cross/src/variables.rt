@@ -1,0 +1,136 @@
+// The variables of a cross point.
+ghost use Rattle.std.specs.Prelude.{◌≡◌, ◌≤◌, IfOk, bytes_eq, length, map};
+ghost use Rattle.std.specs.List.{position};
+ghost use Rattle.rvs_cross.specs.Outcomes.{AnswersWith, for_each};
+ghost use Rattle.rvs_cross.specs.Variables as spec;
+
+use crate::cross::{Assignment, Variable};
+use crate::cutting::parts;
+use crate::entries::assignment;
+use crate::refusal::CrossRefusal;
+use rvs_base::{Items, Text};
+use std::alloc::{AllocError, Global};
+
+fn is_noted(variables: &[Text], name: &str) -> bool
+    ensures { result ≡ spec.is_noted variables.now name.now }
+{
+    variables.iter().any(|variable| variable.as_str() == name)
+}
+
+/// The variables with one more, where it isn't there yet.
+fn note(alloc: Global, name: &str, variables: Items<Text>) -> Result<Items<Text>, CrossRefusal>
+    ensures { AnswersWith (λ v. v) result (spec.note name.now variables) }
+{
+    if is_noted(variables.as_slice(), name) {
+        return Ok(variables);
+    }
+    if variables.as_slice().len() >= 3 {
+        return Err(CrossRefusal::TooManyVariables);
+    }
+    let mut variables = variables;
+    variables.push(Text::from(String::from_str(alloc, name)?))?;
+    Ok(variables)
+}
+
+/// The variables with that of an assignment.
+fn note_part(alloc: Global, part: &str, variables: Items<Text>) -> Result<Items<Text>, CrossRefusal>
+    ensures { AnswersWith (λ v. v) result (spec.note_part part.now variables) }
+{
+    match assignment(part) {
+        Some((name, _)) => note(alloc, name, variables),
+        None => Ok(variables),
+    }
+}
+
+fn note_parts(
+    alloc: Global,
+    parts: &[&str],
+    variables: Items<Text>,
+) -> Result<Items<Text>, CrossRefusal>
+    ensures { AnswersWith (λ v. v) result
+        (for_each spec.note_part (map (λ t. t.now) parts.now) variables) }
+{
+    let mut variables = variables;
+    for part in parts {
+        match note_part(alloc, part, variables) {
+            Ok(next) => variables = next,
+            Err(why) => return Err(why),
+        }
+    }
+    Ok(variables)
+}
+
+/// The variables with those of an entry.
+fn note_entry(
+    alloc: Global,
+    entry: &str,
+    variables: Items<Text>,
+) -> Result<Items<Text>, CrossRefusal>
+    ensures { AnswersWith (λ v. v) result (spec.note_entry entry.now variables) }
+{
+    let parts = parts(alloc, ';', entry)?;
+    note_parts(alloc, parts.as_slice(), variables)
+}
+
+/// The variables of these entries, at most three, in the order in which they appear first.
+#[tactic(auto, using(crate::proofs::Noting::at_most_three))]
+pub fn variables(alloc: Global, entries: &[&str]) -> Result<Items<Text>, CrossRefusal>
+    ensures noted { AnswersWith (λ v. v) result (spec.variables (map (λ t. t.now) entries.now)) }
+    ensures few { IfOk result (λ v. length v ≤ 3) }
+{
+    let mut variables = Items::new(alloc);
+    for entry in entries {
+        match note_entry(alloc, entry, variables) {
+            Ok(next) => variables = next,
+            Err(why) => return Err(why),
+        }
+    }
+    Ok(variables)
+}
+
+/// Where a name stands among the variables.
+fn place_of(variables: &[Text], name: &str) -> Option<usize>
+    ensures { result ≡ position (λ v. bytes_eq v name.now) variables.now }
+{
+    variables
+        .iter()
+        .position(|variable| variable.as_str() == name)
+}
+
+fn variable_named(variables: &[Text], name: &str) -> Variable
+    ensures { result ≡ spec.variable_named variables.now name.now }
+{
+    match place_of(variables, name) {
+        Some(0) => Variable::First,
+        Some(1) => Variable::Second,
+        _ => Variable::Third,
+    }
+}
+
+fn set_of(variables: &[Text], part: &str) -> Option<Assignment>
+    ensures { result ≡ spec.set_of variables.now part.now }
+{
+    match assignment(part) {
+        Some((name, field)) => Some(Assignment {
+            variable: variable_named(variables, name),
+            field,
+        }),
+        None => None,
+    }
+}
+
+fn sets_among(alloc: Global, variables: &[Text], entry: &str) -> Result<Vec<Assignment>, AllocError>
+    ensures { IfOk result (λ v. v.items ≡ spec.sets variables.now entry.now) }
+{
+    entry
+        .split(';')
+        .filter_map(|part| set_of(variables, part))
+        .collect(alloc)
+}
+
+/// The assignments of an entry.
+pub fn sets(alloc: Global, variables: &[Text], entry: &str) -> Result<Items<Assignment>, AllocError>
+    ensures { IfOk result (λ sets. sets ≡ spec.sets variables.now entry.now) }
+{
+    Ok(Items::from(sets_among(alloc, variables, entry)?))
+}

@@ -1,0 +1,32 @@
+-- One more of the instructions that are drawn.
+use Rattle.std.proofs.Common.{◌≡◌, ℕ, suc, ◌+◌, ◌-◌, ◌<◌, ◌/◌, List, ◌∷◌, ◌++◌, refl, sym, ap, subst, ◌∙◌, append_assoc, arith}
+use Rattle.std.proofs.lemmas.List.Concat.{flat_map-cons}
+use Rattle.std.specs.Int.{w32, to_le_bytes}
+use Rattle.rvs_insn.specs.Fields.{Fields}
+use Rattle.rvs_insn.specs.Word.{word_of}
+use Rattle.rvs_demo.specs.Program.{code, drawn, generated, next_seed}
+
+abbrev bytes_of : Fields → List ℕ
+bytes_of i = to_le_bytes w32 (word_of i)
+
+split : (n i s : ℕ) → i < n
+    → code (generated (n - i) s)
+    ≡ bytes_of (drawn (next_seed s / 256)) ++ code (generated (n - (i + 1)) (next_seed s))
+split n i s less =
+    let e : n - i ≡ suc (n - (i + 1)) = omega arith in
+    ap (λ k. code (generated k s)) e
+    ∙ flat_map-cons bytes_of (drawn (next_seed s / 256)) (generated (n - (i + 1)) (next_seed s))
+
+pub generated_next : (old now new all : List ℕ) (n i s next : ℕ) (insn : Fields) → i < n
+    → old ++ all ≡ now ++ code (generated (n - i) s) → next ≡ next_seed s
+    → insn ≡ drawn (next / 256) → new ≡ now ++ bytes_of insn
+    → old ++ all ≡ new ++ code (generated (n - (i + 1)) next)
+generated_next old now new all n i s next insn less inv is drawn_is pushed =
+    let rest = code (generated (n - (i + 1)) next) in
+    let more : bytes_of (drawn (next_seed s / 256)) ++ code (generated (n - (i + 1)) (next_seed s)) ≡ bytes_of insn ++ rest =
+        λ k. bytes_of (both (sym is) (sym drawn_is) k) ++ code (generated (n - (i + 1)) (sym is k)) in
+    inv ∙ ap (λ l. now ++ l) (split n i s less ∙ more) ∙ sym (append_assoc now (bytes_of insn) rest)
+    ∙ ap (λ l. l ++ rest) (sym pushed)
+  where
+    both : next_seed s ≡ next → drawn (next / 256) ≡ insn → drawn (next_seed s / 256) ≡ insn
+    both e f = ap (λ k. drawn (k / 256)) e ∙ f

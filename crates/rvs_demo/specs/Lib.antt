@@ -1,0 +1,5 @@
+pub mod Counted
+pub mod Demo
+pub mod Label
+pub mod Program
+pub mod Sizes

@@ -1,0 +1,44 @@
+// The demonstration.
+ghost use Rattle.std.specs.Prelude.{◌≡◌, [], ◌∷◌, IfOk, map};
+ghost use Rattle.rvs_cgf.specs.GroupView.{label_view};
+ghost use Rattle.rvs_demo.specs.Demo as spec;
+ghost use Rattle.rvs_demo.specs.Label.{label};
+
+use crate::counting::count_run;
+use crate::label::label;
+use crate::program::{CORE, image};
+use crate::size::DemoSize;
+use rvs_base::{Items, NoMemory, Text};
+use rvs_cgf::Groups;
+use rvs_count::Counter;
+use rvs_machine::Machine;
+use std::alloc::Global;
+
+/// The group of the demonstration alone.
+fn groups(alloc: Global) -> Result<Groups, NoMemory>
+    ensures { IfOk result (λ groups. map label_view groups ≡ label ∷ []) }
+{
+    let mut groups: Groups = Items::new(alloc);
+    groups.push(label(alloc)?)?;
+    Ok(groups)
+}
+
+/// Runs the program with so many generated instructions, and counts its coverage: the lines of its
+/// log are counted as they come, and neither the log nor the run is kept. It takes four bytes of
+/// memory for each instruction.
+///
+/// # Errors
+///
+/// [`NoMemory`].
+pub fn demo_text(alloc: Global, size: DemoSize) -> Result<Text, NoMemory>
+    ensures { IfOk result (λ text. text ≡ spec.demo_text size) }
+{
+    let count = size.count();
+    let groups = groups(alloc)?;
+    let mut machine = Machine::new(image(alloc, count)?, CORE);
+    let mut counter = Counter::new(alloc, &groups, Items::new(alloc))?;
+    count_run(&mut machine, &mut counter, count + 11);
+    counter.finish();
+    let report = counter.report(alloc)?;
+    Ok(Text::from(format!(in alloc; "demo {count}\n{report}", report = report.as_str())?))
+}

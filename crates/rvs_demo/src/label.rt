@@ -1,0 +1,145 @@
+// The coverage group of the demonstration.
+ghost use Rattle.std.specs.Prelude.{◌≡◌, ◌++◌, IfOk, OnOk, map, option_map};
+ghost use Rattle.rvs_cgf.specs.GroupView.{label_view, meaning_view, point_view};
+ghost use Rattle.rvs_cgf.specs.Valid.{meaning_of};
+ghost use Rattle.rvs_demo.specs.Label as spec;
+
+use rvs_base::{Items, NoMemory, Text};
+use rvs_cgf::{Kind, Label, Meaning, Point};
+use rvs_cross::{CrossRead, CrossRefusal, parse_cross};
+use rvs_expr::{ExprKind, parse_num, parse_reg};
+use rvs_expr_text::register_number;
+use rvs_insn::{Op, op_of};
+use std::alloc::Global;
+
+/// The registers of the program, which are those of the group's points.
+const REGISTERS: [&str; 8] = ["x8", "x9", "x10", "x11", "x12", "x13", "x14", "x15"];
+
+fn over_registers(alloc: Global, key: &str) -> Result<Option<Meaning>, NoMemory>
+    ensures { IfOk result (λ m. option_map meaning_view m ≡ meaning_of Kind.OpComb key.now) }
+{
+    match parse_reg(alloc, key, &[]) {
+        Ok(expr) => Ok(Some(Meaning::Regs(expr))),
+        Err(refusal) => match refusal.kind {
+            ExprKind::NoMemory => Err(NoMemory),
+            _ => Ok(None),
+        },
+    }
+}
+
+fn over_numbers(alloc: Global, key: &str) -> Result<Option<Meaning>, NoMemory>
+    ensures { IfOk result (λ m. option_map meaning_view m ≡ meaning_of Kind.ValComb key.now) }
+{
+    match parse_num(alloc, key) {
+        Ok(expr) => Ok(Some(Meaning::Nums(expr))),
+        Err(refusal) => match refusal.kind {
+            ExprKind::NoMemory => Err(NoMemory),
+            _ => Ok(None),
+        },
+    }
+}
+
+fn over_neighbours(alloc: Global, key: &str) -> Result<Option<Meaning>, NoMemory>
+    ensures { IfOk result (λ m. option_map meaning_view m ≡ meaning_of Kind.CrossComb key.now) }
+{
+    match parse_cross(alloc, key) {
+        Ok(CrossRead::Read(cross)) => Ok(Some(Meaning::Window(cross))),
+        Ok(CrossRead::Skipped) => Ok(None),
+        Err(CrossRefusal::NoMemory) => Err(NoMemory),
+        Err(_) => Ok(None),
+    }
+}
+
+/// What a key says under its kind, where it says something.
+fn meaning(alloc: Global, kind: Kind, key: &str) -> Result<Option<Meaning>, NoMemory>
+    ensures { IfOk result (λ m. option_map meaning_view m ≡ meaning_of kind key.now) }
+{
+    match kind {
+        Kind::Mnemonic => Ok(op_of(key).map(Meaning::OpIs)),
+        Kind::Rs1 | Kind::Rs2 | Kind::Rd => {
+            Ok(register_number(key.as_bytes()).map(Meaning::RegIs))
+        },
+        Kind::OpComb => over_registers(alloc, key),
+        Kind::ValComb => over_numbers(alloc, key),
+        Kind::CrossComb => over_neighbours(alloc, key),
+    }
+}
+
+/// The point of a key, where it says something.
+fn point(alloc: Global, kind: Kind, key: &str) -> Result<Option<Point>, NoMemory>
+    ensures { IfOk result (λ p. option_map point_view p
+        ≡ option_map (spec.point kind key.now) (meaning_of kind key.now)) }
+{
+    match meaning(alloc, kind, key)? {
+        None => Ok(None),
+        Some(meaning) => {
+            let key = Text::from(String::from_str(alloc, key)?);
+            Ok(Some(Point { kind, key, meaning }))
+        }
+    }
+}
+
+/// Adds the points of some keys.
+fn add_points(
+    alloc: Global,
+    points: &mut Vec<Point>,
+    kind: Kind,
+    keys: &[&str],
+) -> Result<(), NoMemory>
+    ensures { OnOk result (map point_view points.new.items ≡ map point_view points.old.items
+        ++ spec.points_of kind (map (λ key. key.now) keys.now)) }
+{
+    for key in keys {
+        if let Some(point) = point(alloc, kind, *key)? {
+            points.push(point)?;
+        }
+    }
+    Ok(())
+}
+
+/// The points of the group.
+fn points(alloc: Global) -> Result<Vec<Point>, NoMemory>
+    ensures { IfOk result (λ points. map point_view points.items ≡ spec.points) }
+{
+    let mut points = Vec::new(alloc);
+    let mnemonics = ["add", "sub", "xor", "or", "and", "slt", "sltu", "mul"];
+    add_points(alloc, &mut points, Kind::Mnemonic, &mnemonics)?;
+    add_points(alloc, &mut points, Kind::Rs1, &REGISTERS)?;
+    add_points(alloc, &mut points, Kind::Rs2, &REGISTERS)?;
+    add_points(alloc, &mut points, Kind::Rd, &REGISTERS)?;
+    let equations = ["rs1 == rs2", "rs1 != rs2", "rs1 == rd"];
+    add_points(alloc, &mut points, Kind::OpComb, &equations)?;
+    let comparisons = ["rs1_val > 0", "rs1_val < 0", "rs1_val == 0"];
+    add_points(alloc, &mut points, Kind::ValComb, &comparisons)?;
+    let hazards = ["[? : ?] :: [a=rd : ?] :: [? : rs1 == a or rs2 == a]"];
+    add_points(alloc, &mut points, Kind::CrossComb, &hazards)?;
+    Ok(points)
+}
+
+/// The group of the demonstration: its eight mnemonics, the registers x8 to x15, equations,
+/// comparisons, and that an instruction reads what the one before it writes.
+///
+/// # Errors
+///
+/// [`NoMemory`].
+pub(crate) fn label(alloc: Global) -> Result<Label, NoMemory>
+    ensures { IfOk result (λ label. label_view label ≡ spec.label) }
+{
+    let ops = [
+        Op::Add,
+        Op::Sub,
+        Op::Xor,
+        Op::Or,
+        Op::And,
+        Op::Slt,
+        Op::Sltu,
+        Op::Mul,
+    ];
+    Ok(Label {
+        name: Text::from(String::from_str(alloc, "demo")?),
+        selected: true,
+        ops: Items::from(ops.to_vec(alloc)?),
+        points: Items::from(points(alloc)?),
+        skipped: Items::new(alloc),
+    })
+}

@@ -1,0 +1,194 @@
+// The program of the demonstration, in memory.
+ghost use Rattle.std.specs.Prelude.{◌≡◌, ◌≤◌, ◌<◌, ◌+◌, ◌%◌, ◌++◌, ◌^◌, All, IfOk, OnOk};
+ghost use Rattle.std.specs.Int.{w32, to_le_bytes};
+ghost use Rattle.rvs_insn.specs.Word.{word_of, IsEncodable};
+ghost use Rattle.rvs_demo.specs.Program as spec;
+
+use rvs_base::{Items, NoMemory};
+use rvs_insn::{Insn, IsaSpec, Op, encode};
+use rvs_machine::{DATA_BASE, Image};
+use std::alloc::Global;
+
+/// The core of the demonstration: RV32IM, without misaligned data.
+pub(crate) const CORE: IsaSpec = IsaSpec {
+    e: false,
+    m: true,
+    a: false,
+    zicsr: false,
+    zifencei: false,
+    misaligned: false,
+    address_bits: 32,
+};
+
+/// The number behind one, of those that the program is drawn from.
+fn next_seed(seed: u64) -> u64
+    requires { seed < 2 ^ 31 }
+    ensures next { result ≡ spec.next_seed seed }
+    ensures low { result < 2 ^ 31 }
+{
+    (seed * 1_103_515_245 + 12_345) % 0x8000_0000
+}
+
+/// The mnemonic of a number below 8.
+fn drawn_op(number: u64) -> Op
+    ensures { result ≡ spec.drawn_op number }
+{
+    match number {
+        0 => Op::Add,
+        1 => Op::Sub,
+        2 => Op::Xor,
+        3 => Op::Or,
+        4 => Op::And,
+        5 => Op::Slt,
+        6 => Op::Sltu,
+        _ => Op::Mul,
+    }
+}
+
+/// One of x8 to x15.
+fn drawn_register(number: u64) -> u8
+    ensures register { result ≡ 8 + number % 8 }
+    ensures low { result < 32 }
+{
+    8 + (number % 8) as u8
+}
+
+/// An instruction over x8 to x15.
+#[tactic(auto, using(crate::proofs::Drawn::drawn_encodable))]
+fn drawn(number: u64) -> Insn
+    ensures insn { result ≡ spec.drawn number }
+    ensures encodable { IsEncodable result }
+{
+    Insn {
+        op: drawn_op(number % 8),
+        rd: Some(drawn_register(number / 8)),
+        rs1: Some(drawn_register(number / 64)),
+        rs2: Some(drawn_register(number / 512)),
+        imm: None,
+    }
+}
+
+fn push_insn(text: &mut Vec<u8>, insn: &Insn) -> Result<(), NoMemory>
+    requires { IsEncodable insn.now }
+    ensures { OnOk result (text.new.items ≡ text.old.items ++ to_le_bytes w32 (word_of insn.now)) }
+{
+    text.extend_from_slice(&encode(insn).to_le_bytes())?;
+    Ok(())
+}
+
+/// Adds instructions that are drawn from the seeds behind one.
+fn push_generated(text: &mut Vec<u8>, count: u64, seed: u64) -> Result<(), NoMemory>
+    requires { seed < 2 ^ 31 }
+    ensures { OnOk result (text.new.items
+        ≡ text.old.items ++ spec.code (spec.generated count seed)) }
+{
+    let mut state = seed;
+    for _ in 0..count {
+        state = next_seed(state);
+        push_insn(text, &drawn(state / 256))?;
+    }
+    Ok(())
+}
+
+#[tactic(auto, using(std::proofs::lemmas::List::flat_map_more))]
+fn push_insns(text: &mut Vec<u8>, insns: &[Insn]) -> Result<(), NoMemory>
+    requires { All IsEncodable insns.now }
+    ensures { OnOk result (text.new.items ≡ text.old.items ++ spec.code insns.now) }
+{
+    for insn in insns {
+        push_insn(text, insn)?;
+    }
+    Ok(())
+}
+
+/// `addi` of a register's own number.
+fn own_number(register: u8) -> Insn
+    requires { register < 32 }
+    ensures insn { result ≡ spec.own_number register }
+    ensures encodable { IsEncodable result }
+{
+    Insn {
+        op: Op::Addi,
+        rd: Some(register),
+        rs1: Some(0),
+        rs2: None,
+        imm: Some(i32::from(register)),
+    }
+}
+
+/// Adds that x8 to x15 get their own numbers.
+fn push_beginning(text: &mut Vec<u8>) -> Result<(), NoMemory>
+    ensures { OnOk result (text.new.items ≡ text.old.items ++ spec.code spec.beginning) }
+{
+    push_insns(
+        text,
+        &[
+            own_number(8),
+            own_number(9),
+            own_number(10),
+            own_number(11),
+            own_number(12),
+            own_number(13),
+            own_number(14),
+            own_number(15),
+        ],
+    )
+}
+
+/// Adds that a word of 1 is stored where it halts the run.
+fn push_ending(text: &mut Vec<u8>) -> Result<(), NoMemory>
+    ensures { OnOk result (text.new.items ≡ text.old.items ++ spec.code spec.ending) }
+{
+    let base = Insn {
+        op: Op::Lui,
+        rd: Some(5),
+        rs1: None,
+        rs2: None,
+        imm: Some(0x8_1000),
+    };
+    let one = Insn {
+        op: Op::Addi,
+        rd: Some(6),
+        rs1: Some(0),
+        rs2: None,
+        imm: Some(1),
+    };
+    let halt = Insn {
+        op: Op::Sw,
+        rd: None,
+        rs1: Some(5),
+        rs2: Some(6),
+        imm: Some(0),
+    };
+    push_insns(text, &[base, one, halt])
+}
+
+/// The bytes of the program with so many generated instructions.
+fn text(alloc: Global, count: u64) -> Result<Vec<u8>, NoMemory>
+    requires { count ≤ 1000000 }
+    ensures { IfOk result (λ text. text.items ≡ spec.code (spec.program count)) }
+{
+    let mut text = Vec::new(alloc);
+    push_beginning(&mut text)?;
+    push_generated(&mut text, count, count)?;
+    push_ending(&mut text)?;
+    Ok(text)
+}
+
+/// The program with so many generated instructions, in memory.
+///
+/// # Errors
+///
+/// [`NoMemory`].
+pub(crate) fn image(alloc: Global, count: u64) -> Result<Image, NoMemory>
+    requires { count ≤ 1000000 }
+    ensures { IfOk result (λ image. image ≡ spec.image count) }
+{
+    let text = Items::from(text(alloc, count)?);
+    let data = Items::from([0; 8].to_vec(alloc)?);
+    let symbols = Items::new(alloc);
+    match Image::new(text, data, DATA_BASE, DATA_BASE, DATA_BASE, symbols) {
+        Some(image) => Ok(image),
+        None => unreachable!(),
+    }
+}
