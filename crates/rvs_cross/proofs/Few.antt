@@ -9,7 +9,7 @@ use Rattle.rvs_cross.specs.Outcomes.{Outcome, ◌>>=◌}
 use Rattle.rvs_cross.specs.Lists.{Lists, lists, entries}
 use Rattle.rvs_cross.specs.Entries.{has_class, first_unknown}
 use Rattle.rvs_cross.specs.Variables.{variables}
-use Rattle.rvs_cross.specs.Parse.{Answer, read, skipped, Found, place, places, is_shaped, is_even, with_variables, with_known, with_unknown, with_names, checked, with_lists, parse}
+use Rattle.rvs_cross.specs.Parse.{Answer, read, skipped, Found, place, places, is_shaped, same_lengths, with_variables, with_known, with_unknown, with_names, checked, with_lists, parse}
 
 -- a step that was read, and what followed from it
 bound : {A B : Type 0} (r : Outcome A) (f : A → Outcome B) (b : B) → (r >>= f) ≡ Ok b
@@ -61,7 +61,7 @@ named l None ps e f few h =
     with_places l vars.0 ps e f few vars.2
 
 -- by the tests in their order
-by_tests : (l : Lists) (ps : List Place) (shaped even long class : Bool) → is_even l ≡ even
+by_tests : (l : Lists) (ps : List Place) (shaped even long class : Bool) → same_lengths l ≡ even
     → nat_lt 6 (length (entries l.mnemonics)) ≡ long
     → (if not shaped then Err BadList
     else (if not even then Err LengthsDiffer
@@ -80,7 +80,7 @@ by_tests l ps true true false false e f h =
 by_lists : (o : Option Lists) (ps : List Place) → with_lists o ≡ Ok (read ps) → AreFew ps
 by_lists None ps h = absurd cc
 by_lists (Some l) ps h =
-    by_tests l ps (is_shaped l) (is_even l) (nat_lt 6 (length (entries l.mnemonics)))
+    by_tests l ps (is_shaped l) (same_lengths l) (nat_lt 6 (length (entries l.mnemonics)))
     (list_any has_class (entries l.mnemonics)) refl refl h
 
 pub read_places : (text : List ℕ) (ps : List Place) → parse text ≡ Ok (read ps)

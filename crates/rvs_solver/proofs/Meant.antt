@@ -1,6 +1,7 @@
 -- What solves a point, by what it means.
 use Rattle.std.proofs.Common.{◌≡◌, ℕ, ◌+◌, ◌≤◌, true, List, length, map, Option, Some, None, refl, sym, ap, subst}
-use Rattle.std.specs.Prelude.{option_map, IfSome, IfNone, All}
+use Rattle.std.specs.Prelude.{option_map, IfSome, IfNone, All, Result, Ok, Err, IfOk}
+use Rattle.rvs_base.specs.declared.memory_refusal.NoMemory.{NoMemory}
 use Rattle.rvs_insn.specs.declared.op.Op.{Op}
 use Rattle.rvs_insn.specs.Isa.{Isa}
 use Rattle.rvs_cgf.specs.Groups.{Meaning, op_is, reg_is, regs, nums, window, Point}
@@ -52,3 +53,10 @@ pub least_choice : (spec : Isa) (ops : List Op) (p : Point) (c : ChoiceValue)
     → Some c ≡ first_choice spec ops p.kind p.meaning → IsLeastChoice spec ops p (One c)
 least_choice spec ops p c h =
     record { choice = c; one = refl; least = is_least spec ops p.kind p.meaning c (sym h) }
+
+-- ---- the same of an answer
+
+pub ok_then : (P Q : Option Solved → Type 0) → ((o : Option Solved) → P o → Q o)
+    → (r : Result (Option Solved) NoMemory) → IfOk r P → IfOk r Q
+ok_then P Q h (Ok o) p = h o p
+ok_then P Q h (Err e) p = tt
