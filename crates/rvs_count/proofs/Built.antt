@@ -1,8 +1,7 @@
 -- The lists are built label by label.
-use Rattle.std.proofs.Common.{◌≡◌, ℕ, zero, suc, ◌+◌, ◌/◌, ◌%◌, ◌<◌, ◌≤◌, ◌⊎◌, inl, inr, Bool, true, false, cond, ◌&&◌, subst, List, [], ◌∷◌, ◌++◌, refl, sym, ap, ◌∙◌, length, drop, get_or, replicate, arith, append_assoc, length-append}
+use Rattle.std.proofs.Common.{◌≡◌, ℕ, zero, suc, ◌+◌, ◌<◌, ◌≤◌, ◌⊎◌, inl, inr, Bool, true, false, cond, ◌&&◌, subst, List, [], ◌∷◌, ◌++◌, refl, sym, ap, ◌∙◌, length, drop, get_or, replicate, arith, append_assoc, length-append}
 use Rattle.std.proofs.lemmas.Bool.{cases_lt}
 use Rattle.std.proofs.lemmas.List.{length-map, get_or_at, get_or_append_left}
-use Rattle.std.specs.Prelude.{◌==◌}
 use Rattle.std.specs.Prelude.{map}
 use Rattle.rvs_cgf.specs.Groups as group
 use Rattle.rvs_cgf.specs.GroupView.{label_view, point_view}
@@ -10,10 +9,13 @@ use Rattle.rvs_cgf.specs.declared.group.Label.{Label}
 use Rattle.rvs_cgf.specs.declared.group.Point.{Point}
 use Rattle.rvs_insn.specs.declared.op.Op.{Op}
 use Rattle.rvs_count.specs.Counting.{Aim, count, aims_in, aims_of_label, aims_of_points}
-use Rattle.rvs_count.specs.Index.{Place, places, has_number, is_for, stands, places_for, places_in, IsIndex}
+use Rattle.rvs_count.specs.Index.{Place, places, admits, is_for, stands, places_for, places_in, IsIndex}
 use Rattle.rvs_count.specs.State.{Tallied, tally_of}
+use Rattle.rvs_count.specs.declared.key.ListKey.{ListKey}
 use Rattle.rvs_count.specs.declared.slot.Slot.{Slot}
 use Rattle.rvs_count.specs.declared.window.Window.{Window}
+use Rattle.rvs_count.proofs.Counts.{none_counted}
+use Rattle.rvs_insn.specs.Fields.{Fields}
 use Rattle.rvs_log.specs.Registers.{zeros}
 
 -- the next label
@@ -49,8 +51,8 @@ zeros_more labels counts counts' k d h e =
     ∙ ap (λ n. counts ++ replicate n 0) (sym (ap (λ l. length l) (aims_more labels k d h) ∙ length-append here rest))
 
 -- the points of a label, where it has the mnemonic and where it doesn't
-places_has : (key : ℕ) (ops : List Op) (at : ℕ) (points : List group.Point)
-    → has_number (key / 365) ops ≡ true
+places_has : (key : ListKey) (ops : List Op) (at : ℕ) (points : List group.Point)
+    → admits key ops ≡ true
     → places_for (is_for key) at (aims_of_points ops points) ≡ places_in key at points
 places_has key ops at [] h = refl
 places_has key ops at (p ∷ ps) h =
@@ -61,8 +63,8 @@ places_has key ops at (p ∷ ps) h =
     ∙ ap (λ l. elim (stands key p) as (λ _. List Place) [ true ↦ (p, at) ∷ l | false ↦ l ])
     (places_has key ops (at + 1) ps h)
 
-places_lacks : (key : ℕ) (ops : List Op) (at : ℕ) (points : List group.Point)
-    → has_number (key / 365) ops ≡ false
+places_lacks : (key : ListKey) (ops : List Op) (at : ℕ) (points : List group.Point)
+    → admits key ops ≡ false
     → places_for (is_for key) at (aims_of_points ops points) ≡ []
 places_lacks key ops at [] h = refl
 places_lacks key ops at (p ∷ ps) h =
@@ -110,49 +112,49 @@ slots_more passes labels slots slots' k first next d h e n =
     ∙ ap (λ l. places slots ++ places_for passes first l) (sym (aims_more labels k d h))
 
 -- the next point
-in_more : (bucket : ℕ) (points : List Point) (k at : ℕ) (d : Point) → k < length points
-    → places_in bucket at (map point_view (drop k points))
-    ≡ places_in bucket at (point_view (get_or points k d) ∷ []) ++ places_in bucket (at + 1) (map point_view (drop (k + 1) points))
-in_more bucket [] k at d h = absurd (omega arith)
-in_more bucket (p ∷ ps) zero at d h = turn (stands bucket (point_view p))
+in_more : (key : ListKey) (points : List Point) (k at : ℕ) (d : Point) → k < length points
+    → places_in key at (map point_view (drop k points))
+    ≡ places_in key at (point_view (get_or points k d) ∷ []) ++ places_in key (at + 1) (map point_view (drop (k + 1) points))
+in_more key [] k at d h = absurd (omega arith)
+in_more key (p ∷ ps) zero at d h = turn (stands key (point_view p))
   where
     rest : List Place
-    rest = places_in bucket (at + 1) (map point_view ps)
+    rest = places_in key (at + 1) (map point_view ps)
 
     turn : (b : Bool)
-        → (elim b as (λ _. List Place) [ true ↦ (point_view p, at) ∷ places_in bucket (at + 1) (map point_view ps) | false ↦ places_in bucket (at + 1) (map point_view ps) ])
-        ≡ (elim b as (λ _. List Place) [ true ↦ (point_view p, at) ∷ [] | false ↦ [] ]) ++ places_in bucket (at + 1) (map point_view ps)
+        → (elim b as (λ _. List Place) [ true ↦ (point_view p, at) ∷ places_in key (at + 1) (map point_view ps) | false ↦ places_in key (at + 1) (map point_view ps) ])
+        ≡ (elim b as (λ _. List Place) [ true ↦ (point_view p, at) ∷ [] | false ↦ [] ]) ++ places_in key (at + 1) (map point_view ps)
     turn true = refl
     turn false = refl
-in_more bucket (p ∷ ps) (suc k) at d h =
+in_more key (p ∷ ps) (suc k) at d h =
     let e : suc k + 1 ≡ suc (k + 1) = omega arith in
-    in_more bucket ps k at d (omega arith)
-    ∙ ap (λ n. places_in bucket at (point_view (get_or ps k d) ∷ []) ++ places_in bucket (at + 1) (map point_view (drop n (p ∷ ps)))) (sym e)
+    in_more key ps k at d (omega arith)
+    ∙ ap (λ n. places_in key at (point_view (get_or ps k d) ∷ []) ++ places_in key (at + 1) (map point_view (drop n (p ∷ ps)))) (sym e)
 
 -- one more point
-pub points_more : (bucket : ℕ) (points : List Point) (slots slots' : List Slot) (k at : ℕ) (d : Point)
+pub points_more : (key : ListKey) (points : List Point) (slots slots' : List Slot) (k at : ℕ) (d : Point)
     → k < length points
-    → places slots' ≡ places slots ++ places_in bucket at (point_view (get_or points k d) ∷ [])
-    → places slots' ++ places_in bucket (at + 1) (map point_view (drop (k + 1) points))
-    ≡ places slots ++ places_in bucket at (map point_view (drop k points))
-points_more bucket points slots slots' k at d h e =
-    let rest = places_in bucket (at + 1) (map point_view (drop (k + 1) points)) in
+    → places slots' ≡ places slots ++ places_in key at (point_view (get_or points k d) ∷ [])
+    → places slots' ++ places_in key (at + 1) (map point_view (drop (k + 1) points))
+    ≡ places slots ++ places_in key at (map point_view (drop k points))
+points_more key points slots slots' k at d h e =
+    let rest = places_in key (at + 1) (map point_view (drop (k + 1) points)) in
     ap (λ l. l ++ rest) e
-    ∙ append_assoc (places slots) (places_in bucket at (point_view (get_or points k d) ∷ [])) rest
-    ∙ ap (λ l. places slots ++ l) (sym (in_more bucket points k at d h))
+    ∙ append_assoc (places slots) (places_in key at (point_view (get_or points k d) ∷ [])) rest
+    ∙ ap (λ l. places slots ++ l) (sym (in_more key points k at d h))
 
 -- the points of one label by its mnemonics
-pub places_label : (key : ℕ) (label : Label) (first : ℕ) (has : Bool) → label.selected ≡ true
-    → has ≡ has_number (key / 365) label.ops
+pub places_label : (key : ListKey) (label : Label) (first : ℕ) (has : Bool) → label.selected ≡ true
+    → has ≡ admits key label.ops
     → cond has (places_in key first (map point_view label.points)) []
     ≡ places_for (is_for key) first (aims_of_label (label_view label))
 places_label key label first has s h =
     let points = map point_view label.points in
     ap (λ b. cond b (places_in key first points) []) h
-    ∙ turn (has_number (key / 365) label.ops) refl
+    ∙ turn (admits key label.ops) refl
     ∙ ap (λ b. places_for (is_for key) first (cond b (aims_of_points label.ops points) [])) (sym s)
   where
-    turn : (b : Bool) → has_number (key / 365) label.ops ≡ b
+    turn : (b : Bool) → admits key label.ops ≡ b
         → cond b (places_in key first (map point_view label.points)) []
         ≡ places_for (is_for key) first (aims_of_points label.ops (map point_view label.points))
     turn true e = sym (places_has key label.ops first (map point_view label.points) e)
@@ -171,32 +173,36 @@ label_length label s =
 -- before the first line
 pub zero_counts : (aims : List Aim) → replicate {A = ℕ} (length aims) 0 ≡ map (count []) aims
 zero_counts [] = refl
-zero_counts (a ∷ aims) = ap (λ l. 0 ∷ l) (zero_counts aims)
+zero_counts (a ∷ aims) =
+    ap (λ n. n ∷ replicate (length aims) 0) (none_counted a)
+    ∙ ap (λ l. count [] a ∷ l) (zero_counts aims)
 
 -- one more list
-pub IsIndex-more : (labels : List Label) (lists lists' : List (List Slot)) (slots : List Slot)
+pub IsIndex-more : (key_of : ℕ → ListKey) (labels : List Label) (lists lists' : List (List Slot)) (slots : List Slot)
     → lists' ≡ lists ++ slots ∷ []
-    → places slots ≡ places_for (is_for (length lists)) 0 (aims_in labels) → IsIndex labels lists
-    → IsIndex labels lists'
-IsIndex-more labels lists lists' slots e p h =
-    let P : List (List Slot) → Type 0 = λ ls. IsIndex labels ls in
+    → places slots ≡ places_for (is_for (key_of (length lists))) 0 (aims_in labels)
+    → IsIndex key_of labels lists
+    → IsIndex key_of labels lists'
+IsIndex-more key_of labels lists lists' slots e p h =
+    let P : List (List Slot) → Type 0 = λ ls. IsIndex key_of labels ls in
     subst P (sym e) (record { each = λ key d l. pick key d l (cases_lt key (length lists)) })
   where
     pick : (key : ℕ) (d : List Slot) → key < length (lists ++ slots ∷ [])
         → (key < length lists) ⊎ (length lists ≤ key)
-        → places (get_or (lists ++ slots ∷ []) key d) ≡ places_for (is_for key) 0 (aims_in labels)
+        → places (get_or (lists ++ slots ∷ []) key d)
+        ≡ places_for (is_for (key_of key)) 0 (aims_in labels)
     pick key d l (inl below) = ap places (get_or_append_left lists (slots ∷ []) d key below)
         ∙ h.each key d below
     pick key d l (inr above) =
         let same : key ≡ length lists = omega (arith, l, above, length-append lists (slots ∷ [])) in
         ap places (get_or_at lists slots [] d key (sym same))
         ∙ p
-        ∙ ap (λ k. places_for (is_for k) 0 (aims_in labels)) (sym same)
+        ∙ ap (λ k. places_for (is_for (key_of k)) 0 (aims_in labels)) (sym same)
 
 -- a new tally
-pub new_tally : (labels index : List Label) (windows : List Window) (counts words : List ℕ)
+pub new_tally : (labels index : List Label) (windows : List Window) (counts words : List ℕ) (run : List Fields)
     → index ≡ labels
-    → counts ≡ replicate {A = ℕ} (length (aims_in labels)) 0 → words ≡ zeros
+    → counts ≡ replicate {A = ℕ} (length (aims_in labels)) 0 → words ≡ zeros → run ≡ []
     → record {
       labels =
           index;
@@ -204,20 +210,23 @@ pub new_tally : (labels index : List Label) (windows : List Window) (counts word
           windows;
       counts = counts;
       instructions = 0;
+      run = run;
       heard = record { words = words; started = false };
     }
     ≡ tally_of labels windows []
-new_tally labels index windows counts words i n w =
-    let with : List Label → List ℕ → List ℕ → Tallied =
-    λ ls cs ws. record {
+new_tally labels index windows counts words run i n w r =
+    let with : List Label → List ℕ → List ℕ → List Fields → Tallied =
+    λ ls cs ws run. record {
       labels =
           ls;
       windows =
           windows;
       counts = cs;
       instructions = 0;
+      run = run;
       heard = record { words = ws; started = false };
     } in
-    ap (λ ls. with ls counts words) i
-    ∙ ap (λ cs. with labels cs words) (n ∙ zero_counts (aims_in labels))
-    ∙ ap (λ ws. with labels (map (count []) (aims_in labels)) ws) w
+    ap (λ ls. with ls counts words run) i
+    ∙ ap (λ cs. with labels cs words run) (n ∙ zero_counts (aims_in labels))
+    ∙ ap (λ ws. with labels (map (count []) (aims_in labels)) ws run) w
+    ∙ ap (λ run. with labels (map (count []) (aims_in labels)) zeros run) r

@@ -1,5 +1,5 @@
 -- A file that is fed piece by piece.
-use Rattle.std.proofs.Common.{◌≡◌, ℕ, ◌+◌, ◌^◌, ◌<◌, ◌≤◌, true, List, [], ◌++◌, Option, Some, None, refl, sym, ap, ◌∙◌, length, take, drop, arith, append_assoc, append-nil, length-append}
+use Rattle.std.proofs.Common.{◌≡◌, ℕ, ◌+◌, ◌^◌, ◌<◌, true, List, [], ◌++◌, Option, Some, None, refl, sym, ap, ◌∙◌, length, take, drop, arith, append_assoc, append-nil, length-append}
 use Rattle.std.specs.Prelude.{is_some}
 use Rattle.rvs_base.specs.Host.{HostState, Files, Tells, ReadsOnly, Opens, Takes}
 use Rattle.rvs_count.specs.State.{CountState, state_of}

@@ -1,45 +1,69 @@
 -- What one instruction of a log adds to the counts.
-use Rattle.std.proofs.Common.{◌≡◌, ℕ, zero, suc, ◌+◌, ◌≤◌, Bool, true, false, cond, List, [], ◌∷◌, Option, Some, None, refl, sym, ap, ◌∙◌, length, arith, All}
+use Rattle.std.proofs.Common.{◌≡◌, ℕ, zero, suc, ◌+◌, ◌≤◌, Bool, true, false, cond, ◌||◌, List, [], ◌∷◌, Option, Some, None, refl, sym, ap, ◌∙◌, length, arith, All}
 use Rattle.std.specs.Option.{option_and_then}
+use Rattle.rvs_cgf.specs.declared.group.Label.{Label}
 use Rattle.rvs_insn.specs.Fields.{Fields, insn_of_word}
 use Rattle.rvs_log.specs.Entries.{Entry, entry_at}
 use Rattle.rvs_machine.specs.Traces.{word_of, rs1_of_word, rs2_of_word}
-use Rattle.rvs_count.specs.Counting.{Aim, aims_in, hits, hits_insn}
-use Rattle.rvs_count.specs.State.{Tallied, added, counts_with, with_entry}
+use Rattle.rvs_count.specs.Counting.{Aim, aims_in, decoded, hits_insn}
+use Rattle.rvs_count.specs.Runs.{run_with}
+use Rattle.rvs_count.specs.State.{Tallied, added, counts_with, ends_run, with_entry}
+use Rattle.rvs_count.proofs.Counts.{apart}
+use Rattle.rvs_count.proofs.Crossing.{AllSized, added_sum, none_added}
 
 -- an instruction that doesn't decode hits nothing
-none_added : (aims : List Aim) (cs : List ℕ) (v1 v2 : ℕ) → length cs ≡ length aims
-    → cs ≡ added (λ a. hits_insn a None v1 v2) aims cs
-none_added [] [] v1 v2 l = refl
-none_added [] (c ∷ cs) v1 v2 l = absurd (omega arith)
-none_added (a ∷ aims) [] v1 v2 l = absurd (omega arith)
-none_added (a ∷ aims) (c ∷ cs) v1 v2 l =
-    let z : c ≡ c + 0 = omega arith in
-    ap (λ n. n ∷ cs) z ∙ ap (λ l. (c + 0) ∷ l) (none_added aims cs v1 v2 (omega arith))
+missed_all : (aims : List Aim) (cs : List ℕ) (v1 v2 : ℕ)
+    → added (λ a. hits_insn a None v1 v2 || ends_run a.point.meaning []) aims cs
+    ≡ added (λ a. ends_run a.point.meaning []) aims cs
+missed_all aims cs v1 v2 = refl
 
-pub none_hit : (aims : List Aim) (cs : List ℕ) (words : List ℕ) (pc word : ℕ)
-    → length cs ≡ length aims
-    → insn_of_word word ≡ None → cs ≡ counts_with aims (entry_at words pc word) cs
-none_hit aims cs words pc word l s =
+pub none_hit : (aims : List Aim) (run : List Fields) (cs : List ℕ) (words : List ℕ) (pc word : ℕ)
+    → AllSized aims → insn_of_word word ≡ None
+    → cs ≡ counts_with aims (run_with run (decoded (entry_at words pc word))) (entry_at words pc word) cs
+none_hit aims run cs words pc word sized s =
     let e = entry_at words pc word in
-    none_added aims cs e.v1 e.v2 l
-    ∙ ap (λ (o : Option Fields). added (λ a. hits_insn a o e.v1 e.v2) aims cs) (sym s)
+    let with : Option Fields → List ℕ =
+    λ o. added (λ a. hits_insn a o e.v1 e.v2 || ends_run a.point.meaning (run_with run o)) aims cs in
+    sym (none_added aims cs sized)
+    ∙ sym (missed_all aims cs e.v1 e.v2)
+    ∙ ap with (sym s)
 
-pub some_hit : (aims : List Aim) (cs : List ℕ) (words : List ℕ) (pc word : ℕ) (i : Fields)
+pub some_hit : (aims : List Aim) (run : List Fields) (cs : List ℕ) (words : List ℕ) (pc word : ℕ) (i : Fields)
     → insn_of_word word ≡ Some i
-    → added (λ a. hits_insn a (Some i) (word_of words i.rs1) (word_of words i.rs2)) aims cs
-    ≡ counts_with aims (entry_at words pc word) cs
-some_hit aims cs words pc word i s =
+    → added (λ a. ends_run a.point.meaning (run_with run (Some i))) aims
+    (added (λ a. hits_insn a (Some i) (word_of words i.rs1) (word_of words i.rs2)) aims cs)
+    ≡ counts_with aims (run_with run (decoded (entry_at words pc word))) (entry_at words pc word) cs
+some_hit aims run cs words pc word i s =
     let v1 : word_of words (rs1_of_word word) ≡ word_of words i.rs1 =
     ap (λ (o : Option Fields). word_of words (option_and_then (λ (i : Fields). i.rs1) o)) s in
     let v2 : word_of words (rs2_of_word word) ≡ word_of words i.rs2 =
     ap (λ (o : Option Fields). word_of words (option_and_then (λ (i : Fields). i.rs2) o)) s in
-    ap (λ v. added (λ a. hits_insn a (Some i) v (word_of words i.rs2)) aims cs) (sym v1)
-    ∙ ap (λ v. added (λ a. hits_insn a (Some i) (word_of words (rs1_of_word word)) v) aims cs) (sym v2)
-    ∙ ap (λ (o : Option Fields). added (λ a. hits_insn a o (word_of words (rs1_of_word word)) (word_of words (rs2_of_word word))) aims cs) (sym s)
+    let with : Option Fields → ℕ → ℕ → List ℕ =
+    λ o w1 w2. added (λ a. hits_insn a o w1 w2 || ends_run a.point.meaning (run_with run o)) aims cs in
+    added_sum (λ a. hits_insn a (Some i) (word_of words i.rs1) (word_of words i.rs2)) (λ a. ends_run a.point.meaning (run_with run (Some i)))
+    (λ a. hits_insn a (Some i) (word_of words i.rs1) (word_of words i.rs2) || ends_run a.point.meaning (run_with run (Some i)))
+    (apart (Some i) (word_of words i.rs1) (word_of words i.rs2) (run_with run (Some i))) aims cs
+    ∙ ap (λ v. with (Some i) v (word_of words i.rs2)) (sym v1)
+    ∙ ap (λ v. with (Some i) (word_of words (rs1_of_word word)) v) (sym v2)
+    ∙ ap (λ (o : Option Fields). with o (word_of words (rs1_of_word word)) (word_of words (rs2_of_word word))) (sym s)
 
-pub entry_counted : (t : Tallied) (b : Bool) (e : Entry) (cs : List ℕ) → b ≡ true
-    → cs ≡ counts_with (aims_in t.labels) e t.counts
+-- the two passes over the points
+pub both_counted : (index crosses : List Label) (run run' : List Fields) (cs cs1 cs2 : List ℕ) (words : List ℕ) (pc word : ℕ) (i : Fields)
+    → crosses ≡ index → insn_of_word word ≡ Some i → run' ≡ run_with run (Some i)
+    → cs1 ≡ added (λ a. hits_insn a (Some i) (word_of words i.rs1) (word_of words i.rs2)) (aims_in index) cs
+    → cs2 ≡ added (λ a. ends_run a.point.meaning run') (aims_in crosses) cs1
+    → cs2 ≡ counts_with (aims_in index) (run_with run (decoded (entry_at words pc word))) (entry_at words pc word) cs
+both_counted index crosses run run' cs cs1 cs2 words pc word i same s r first second =
+    second
+    ∙ ap (λ (ls : List Label). added (λ a. ends_run a.point.meaning run') (aims_in ls) cs1) same
+    ∙ ap (λ l. added (λ a. ends_run a.point.meaning run') (aims_in index) l) first
+    ∙ ap (λ (l : List Fields). added (λ a. ends_run a.point.meaning l) (aims_in index)
+    (added (λ a. hits_insn a (Some i) (word_of words i.rs1) (word_of words i.rs2)) (aims_in index) cs)) r
+    ∙ some_hit (aims_in index) run cs words pc word i s
+
+pub entry_counted : (t : Tallied) (b : Bool) (e : Entry) (cs : List ℕ) (run : List Fields)
+    → b ≡ true → run ≡ run_with t.run (decoded e)
+    → cs ≡ counts_with (aims_in t.labels) (run_with t.run (decoded e)) e t.counts
     → record {
       labels =
           t.labels;
@@ -47,19 +71,24 @@ pub entry_counted : (t : Tallied) (b : Bool) (e : Entry) (cs : List ℕ) → b �
           t.windows;
       counts = cs;
       instructions = t.instructions + 1;
+      run = run;
       heard = t.heard;
     }
     ≡ with_entry t b e
-entry_counted t b e cs h c =
-    ap (λ cs. record {
+entry_counted t b e cs run h r c =
+    let with : List ℕ → List Fields → Tallied =
+    λ cs run. record {
       labels =
           t.labels;
       windows =
           t.windows;
       counts = cs;
       instructions = t.instructions + 1;
+      run = run;
       heard = t.heard;
-    }) c
+    } in
+    ap (λ cs. with cs run) c
+    ∙ ap (λ run. with (counts_with (aims_in t.labels) (run_with t.run (decoded e)) e t.counts) run) r
     ∙ ap (λ b. with_entry t b e) (sym h)
 
 -- ---- bounds

@@ -1,9 +1,14 @@
 pub mod Built
+pub mod Counts
+pub mod Crossing
 pub mod Ends
 pub mod Feeding
 pub mod Hitting
+pub mod Matching
 pub mod Places
 pub mod Reports
 pub mod Seen
+pub mod Sequels
+pub mod Shifts
 pub mod Streams
 pub mod Sums

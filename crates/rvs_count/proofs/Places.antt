@@ -1,22 +1,27 @@
 -- The lists give the points that an instruction may hit, and no others count.
-use Rattle.std.proofs.Common.{◌≡◌, ℕ, zero, suc, ◌+◌, ◌*◌, ◌/◌, ◌%◌, ◌<◌, ◌≤◌, Bool, true, false, cond, ◌&&◌, List, [], ◌∷◌, ◌++◌, Option, Some, None, refl, sym, ap, ◌∙◌, length, drop, get_or, set, arith, append_assoc, length-append, All}
+use Rattle.std.proofs.Common.{◌≡◌, ◌≢◌, ℕ, zero, suc, ◌+◌, ◌-◌, ◌*◌, ◌/◌, ◌%◌, ◌<◌, ◌≤◌, Bool, true, false, cond, ◌&&◌, List, [], ◌∷◌, ◌++◌, Option, Some, None, refl, sym, ap, ◌∙◌, length, drop, get_or, set, arith, append_assoc, All}
 use Rattle.std.proofs.lemmas.List.{get_or_at, set_at, length_push, length-map}
 use Rattle.std.proofs.lemmas.Bool.Decides.{nat_tests}
 use Rattle.std.specs.Prelude.{◌==◌, map}
-use Rattle.rvs_cgf.specs.Groups.{Meaning, op_is, reg_is, regs, nums}
+use Rattle.rvs_cgf.specs.Groups.{Point, Meaning, op_is, reg_is, regs, nums, window}
 use Rattle.rvs_cgf.specs.Hits.{has_op, holds, is_meant}
 use Rattle.rvs_cgf.specs.declared.group.Kind.{Kind}
 use Rattle.rvs_cgf.specs.declared.group.Label.{Label}
 use Rattle.rvs_expr.specs.Meaning.{Table}
 use Rattle.rvs_facts.specs.Facts.{facts_of}
 use Rattle.rvs_facts.specs.Mnemonics.{number}
+use Rattle.rvs_cross.specs.Cross as cross
+use Rattle.rvs_cross.specs.First.{first_ops}
+use Rattle.rvs_cross.specs.Windows.{is_listed, matches}
 use Rattle.rvs_insn.specs.Fields.{Fields}
 use Rattle.rvs_insn.specs.declared.op.Op.{Op}
 use Rattle.rvs_count.specs.Buckets.{bucket_of, is_seen}
 use Rattle.rvs_count.specs.Counting.{Aim, aims_in, hits_insn}
-use Rattle.rvs_count.specs.Index.{Place, place_of, places, has_number, is_for, meaning_fits, places_for, IsIndex, raised, raised_all}
+use Rattle.rvs_count.specs.Index.{Place, place_of, places, has_number, insns_key, is_for, is_matched, lists_number, meaning_fits, places_for, window_fits, windows_key, IsIndex, raised, raised_all}
 use Rattle.rvs_count.specs.State.{added}
+use Rattle.rvs_count.specs.declared.key.ListKey.{ListKey}
 use Rattle.rvs_count.specs.declared.slot.Slot.{Slot}
+use Rattle.rvs_count.proofs.Matching.{first_matches, length_matches}
 
 raised_at : (h : Bool) (front cs : List ℕ) (c k : ℕ) → length front ≡ k
     → raised h k (front ++ c ∷ cs) ≡ front ++ (c + cond h 1 0) ∷ cs
@@ -25,60 +30,60 @@ raised_at true front cs c k e =
     ∙ set_at front c cs (c + 1) k e
 raised_at false front cs c k e = let z : c ≡ c + 0 = omega arith in ap (λ n. front ++ n ∷ cs) z
 
--- an instruction that points of some mnemonics are held against hits those that hold
-abbrev hit_by : (Aim → Bool) → Op → Table → Aim → Bool
-hit_by passes op t a = passes a && holds a.point op t
+-- of the points of a list those are hit that pass
+abbrev hit_by : (Aim → Bool) → (Point → Bool) → Aim → Bool
+hit_by passes hit a = passes a && hit a.point
 
 -- the counts after the places of a list
-raised_from : (passes : Aim → Bool) (op : Op) (t : Table) (aims : List Aim) (front cs : List ℕ) (k : ℕ)
+raised_from : (passes : Aim → Bool) (hit : Point → Bool) (aims : List Aim) (front cs : List ℕ) (k : ℕ)
     → length front ≡ k → length cs ≡ length aims
-    → raised_all op t (places_for passes k aims) (front ++ cs)
-    ≡ front ++ added (hit_by passes op t) aims cs
-raised_from passes op t [] front [] k f l = refl
-raised_from passes op t [] front (c ∷ cs) k f l = absurd (omega arith)
-raised_from passes op t (a ∷ aims) front [] k f l = absurd (omega arith)
-raised_from passes op t (a ∷ aims) front (c ∷ cs) k f l =
+    → raised_all hit (places_for passes k aims) (front ++ cs)
+    ≡ front ++ added (hit_by passes hit) aims cs
+raised_from passes hit [] front [] k f l = refl
+raised_from passes hit [] front (c ∷ cs) k f l = absurd (omega arith)
+raised_from passes hit (a ∷ aims) front [] k f l = absurd (omega arith)
+raised_from passes hit (a ∷ aims) front (c ∷ cs) k f l =
     turn (passes a) (λ h.
-    raised_from passes op t aims (front ++ (c + cond h 1 0) ∷ []) cs (k + 1)
+    raised_from passes hit aims (front ++ (c + cond h 1 0) ∷ []) cs (k + 1)
     (length_push front (c + cond h 1 0) ∙ ap (λ n. n + 1) f) (omega arith))
   where
     after : List ℕ → List ℕ
-    after cs = raised_all op t (places_for passes (k + 1) aims) cs
+    after cs = raised_all hit (places_for passes (k + 1) aims) cs
 
     rest : (h : Bool)
-        → raised_all op t (places_for passes (k + 1) aims) ((front ++ (c + cond h 1 0) ∷ []) ++ cs)
-        ≡ (front ++ (c + cond h 1 0) ∷ []) ++ added (hit_by passes op t) aims cs
-        → raised_all op t (places_for passes (k + 1) aims) (front ++ (c + cond h 1 0) ∷ cs)
-        ≡ front ++ (c + cond h 1 0) ∷ added (hit_by passes op t) aims cs
+        → raised_all hit (places_for passes (k + 1) aims) ((front ++ (c + cond h 1 0) ∷ []) ++ cs)
+        ≡ (front ++ (c + cond h 1 0) ∷ []) ++ added (hit_by passes hit) aims cs
+        → raised_all hit (places_for passes (k + 1) aims) (front ++ (c + cond h 1 0) ∷ cs)
+        ≡ front ++ (c + cond h 1 0) ∷ added (hit_by passes hit) aims cs
     rest h p =
-        ap (λ l. raised_all op t (places_for passes (k + 1) aims) l)
+        ap (λ l. raised_all hit (places_for passes (k + 1) aims) l)
         (sym (append_assoc front ((c + cond h 1 0) ∷ []) cs))
         ∙ p
-        ∙ append_assoc front ((c + cond h 1 0) ∷ []) (added (hit_by passes op t) aims cs)
+        ∙ append_assoc front ((c + cond h 1 0) ∷ []) (added (hit_by passes hit) aims cs)
 
     turn : (b : Bool)
         → ((h : Bool)
-        → raised_all op t (places_for passes (k + 1) aims) ((front ++ (c + cond h 1 0) ∷ []) ++ cs)
-        ≡ (front ++ (c + cond h 1 0) ∷ []) ++ added (hit_by passes op t) aims cs)
-        → raised_all op t (elim b as (λ _. List Place) [
+        → raised_all hit (places_for passes (k + 1) aims) ((front ++ (c + cond h 1 0) ∷ []) ++ cs)
+        ≡ (front ++ (c + cond h 1 0) ∷ []) ++ added (hit_by passes hit) aims cs)
+        → raised_all hit (elim b as (λ _. List Place) [
           | true ↦ (a.point, k) ∷ places_for passes (k + 1) aims
           | false ↦ places_for passes (k + 1) aims
         ]) (front ++ c ∷ cs)
-        ≡ front ++ (c + cond (b && holds a.point op t) 1 0) ∷ added (hit_by passes op t) aims cs
+        ≡ front ++ (c + cond (b && hit a.point) 1 0) ∷ added (hit_by passes hit) aims cs
     turn true p =
-        let h = holds a.point op t in
-        ap (λ l. raised_all op t (places_for passes (k + 1) aims) l) (raised_at h front cs c k f)
+        let h = hit a.point in
+        ap (λ l. raised_all hit (places_for passes (k + 1) aims) l) (raised_at h front cs c k f)
         ∙ rest h (p h)
     turn false p =
         let z : c ≡ c + 0 = omega arith in
-        ap (λ n. raised_all op t (places_for passes (k + 1) aims) (front ++ n ∷ cs)) z
+        ap (λ n. raised_all hit (places_for passes (k + 1) aims) (front ++ n ∷ cs)) z
         ∙ rest false (p false)
 
 -- the list at a number
-pub slots_at : (labels : List Label) (lists got : List (List Slot)) (key : ℕ) (d slots : List Slot)
-    → IsIndex labels lists → key < length lists → got ≡ lists → slots ≡ d → d ≡ get_or got key d
-    → places slots ≡ places_for (is_for key) 0 (aims_in labels)
-slots_at labels lists got key d slots index h all s at =
+pub slots_at : (key_of : ℕ → ListKey) (labels : List Label) (lists got : List (List Slot)) (key : ℕ) (d slots : List Slot)
+    → IsIndex key_of labels lists → key < length lists → got ≡ lists → slots ≡ d → d ≡ get_or got key d
+    → places slots ≡ places_for (is_for (key_of key)) 0 (aims_in labels)
+slots_at key_of labels lists got key d slots index h all s at =
     ap places (s ∙ at ∙ ap (λ ls. get_or ls key d) all) ∙ index.each key d h
 
 -- what the points of a bucket add
@@ -91,9 +96,10 @@ fits_hit (op_is o) k op t h = turned (number o) (number op) h
 fits_hit (reg_is n) k op t h = refl
 fits_hit (regs f) k op t h = refl
 fits_hit (nums f) k op t h = refl
+fits_hit (window ps) k op t h = refl
 
 same_hit : (n b : ℕ) (i : Fields) (v1 v2 : ℕ) (a : Aim) → n ≡ number i.op → b < 365
-    → hit_by (is_for (n * 365 + b)) i.op (facts_of i v1 v2) a
+    → hit_by (is_for (insns_key (n * 365 + b))) (λ p. holds p i.op (facts_of i v1 v2)) a
     ≡ (is_seen (Some b) a.point && hits_insn a (Some i) v1 v2)
 same_hit n b i v1 v2 a same low =
     let h = holds a.point i.op (facts_of i v1 v2) in
@@ -122,15 +128,80 @@ added_same p q (a ∷ aims) (c ∷ cs) h =
 
 pub added_bucket : (labels : List Label) (i : Fields) (v1 v2 n b : ℕ) (slots : List Slot) (cs cs' : List ℕ)
     → n ≡ number i.op → b < 365
-    → places slots ≡ places_for (is_for (n * 365 + b)) 0 (aims_in labels)
+    → places slots ≡ places_for (is_for (insns_key (n * 365 + b))) 0 (aims_in labels)
     → length cs ≡ length (aims_in labels)
-    → cs' ≡ raised_all i.op (facts_of i v1 v2) (places slots) cs
+    → cs' ≡ raised_all (λ p. holds p i.op (facts_of i v1 v2)) (places slots) cs
     → cs' ≡ added (λ a. is_seen (Some b) a.point && hits_insn a (Some i) v1 v2) (aims_in labels) cs
 added_bucket labels i v1 v2 n b slots cs cs' same low p l e =
     e
-    ∙ ap (λ ps. raised_all i.op (facts_of i v1 v2) ps cs) p
-    ∙ raised_from (is_for (n * 365 + b)) i.op (facts_of i v1 v2) (aims_in labels) [] cs 0 refl l
+    ∙ ap (λ ps. raised_all (λ p. holds p i.op (facts_of i v1 v2)) ps cs) p
+    ∙ raised_from (is_for (insns_key (n * 365 + b))) (λ p. holds p i.op (facts_of i v1 v2)) (aims_in labels) [] cs 0 refl l
     ∙ added_same _ _ (aims_in labels) cs (λ a. same_hit n b i v1 v2 a same low)
+
+-- what the cross points of a list add
+listed_number : (op : Op) (ops : Option (List Op))
+    → is_listed ops op ≡ true → lists_number (number op) ops ≡ true
+listed_number op None h = refl
+listed_number op (Some ops) h = h
+
+differ : (a b : ℕ) → (a == b) ≡ false → a ≢ b
+differ a b h = λ e. grind (arith, nat_tests)
+
+-- those that match are as many as the places
+count_fits : (ps : List cross.Place) (is : List (Option Fields)) (count : ℕ) → count ≡ length is
+    → matches ps is ≡ true → (length ps == count) ≡ true
+count_fits ps is count c h = turn (length ps == count) refl
+  where
+    turn : (b : Bool) → (length ps == count) ≡ b → b ≡ true
+    turn true e = refl
+    turn false e =
+        let other : length is ≢ length ps = λ s. differ (length ps) count e (sym s ∙ sym c) in
+        sym (length_matches ps is other) ∙ h
+
+both_true : (a b : Bool) → a ≡ true → b ≡ true → (a && b) ≡ true
+both_true true b p q = q
+both_true false b p q = cc
+
+window_fit : (m : Meaning) (i : Fields) (is : List Fields) (count n : ℕ) → count ≡ length (i ∷ is)
+    → n ≡ number i.op → is_matched m (i ∷ is) ≡ true → window_fits count n m ≡ true
+window_fit (op_is op) i is count n c e h = cc
+window_fit (reg_is r) i is count n c e h = cc
+window_fit (regs f) i is count n c e h = cc
+window_fit (nums f) i is count n c e h = cc
+window_fit (window ps) i is count n c e h =
+    let some : Fields → Option Fields = λ i. Some i in
+    both_true (length ps == count) (lists_number n (first_ops ps))
+    (count_fits ps (map some (i ∷ is)) count (c ∙ sym (length-map (i ∷ is) some)) h)
+    (ap (λ n. lists_number n (first_ops ps)) e ∙ listed_number i.op (first_ops ps) (first_matches ps i (map some is) h))
+
+same_match : (i : Fields) (is : List Fields) (key : ℕ) (a : Aim) → length (i ∷ is) ≤ 6
+    → key ≡ length is * 48 + number i.op → number i.op < 48
+    → hit_by (is_for (windows_key key)) (λ p. is_matched p.meaning (i ∷ is)) a
+    ≡ is_matched a.point.meaning (i ∷ is)
+same_match i is key a few e low =
+    turned (window_fits (key / 48 + 1) (key % 48) a.point.meaning) (is_matched a.point.meaning (i ∷ is))
+    (window_fit a.point.meaning i is (key / 48 + 1) (key % 48) (omega (arith, e, low)) (omega (arith, e, low)))
+  where
+    turned : (f r : Bool) → (r ≡ true → f ≡ true) → (f && r) ≡ r
+    turned true r h = refl
+    turned false true h = h refl
+    turned false false h = refl
+
+pub added_window : (labels : List Label) (run : List Fields) (i d : Fields) (key : ℕ) (slots : List Slot) (cs cs' : List ℕ)
+    → 0 < length run → length run ≤ 6 → i ≡ get_or run 0 d
+    → key ≡ (length run - 1) * 48 + number i.op → number i.op < 48
+    → places slots ≡ places_for (is_for (windows_key key)) 0 (aims_in labels)
+    → length cs ≡ length (aims_in labels)
+    → cs' ≡ raised_all (λ p. is_matched p.meaning run) (places slots) cs
+    → cs' ≡ added (λ a. is_matched a.point.meaning run) (aims_in labels) cs
+added_window labels [] i d key slots cs cs' some few first at low p l e = absurd (omega arith)
+added_window labels (j ∷ is) i d key slots cs cs' some few first at low p l e =
+    let from : key ≡ length is * 48 + number j.op = omega (arith, at, ap (λ (i : Fields). number i.op) first) in
+    let small : number j.op < 48 = omega (arith, low, ap (λ (i : Fields). number i.op) first) in
+    e
+    ∙ ap (λ ps. raised_all (λ p. is_matched p.meaning (j ∷ is)) ps cs) p
+    ∙ raised_from (is_for (windows_key key)) (λ p. is_matched p.meaning (j ∷ is)) (aims_in labels) [] cs 0 refl l
+    ∙ added_same _ _ (aims_in labels) cs (λ a. same_match j is key a few from small)
 
 pub none_added : (aims : List Aim) (hit : Aim → Bool) (cs : List ℕ) → length cs ≡ length aims
     → cs ≡ added (λ a. is_seen None a.point && hit a) aims cs

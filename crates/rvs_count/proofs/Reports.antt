@@ -7,7 +7,7 @@ use Rattle.rvs_cgf.specs.declared.group.Point.{Point}
 use Rattle.rvs_cgf.specs.declared.group.Skipped.{Skipped}
 use Rattle.rvs_count.specs.Counting.{aims_in, aims_of_label, aims_of_points}
 use Rattle.rvs_count.specs.Report.{point_line, points_text, skipped_line, label_text, width, labels_text}
-use Rattle.rvs_count.proofs.Built.{aims_more, label_length}
+use Rattle.rvs_count.proofs.Built.{aims_more}
 
 drop-at : {A : Type 0} (xs : List A) (i : ℕ) (d : A) → i < length xs
     → drop i xs ≡ get_or xs i d ∷ drop (i + 1) xs

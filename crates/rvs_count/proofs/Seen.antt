@@ -1,10 +1,8 @@
 -- An instruction that hits a point looks at the point's list, and at no list twice.
-use Rattle.std.proofs.Common.{◌≡◌, ℕ, ℤ, pos, negsuc, ◌+◌, ◌-◌, ◌%◌, ◌<◌, ◌≤◌, ◌⊎◌, inl, inr, Bool, true, false, cond, ◌&&◌, List, [], ◌∷◌, Option, Some, None, refl, sym, ap, subst, ◌∙◌, arith}
+use Rattle.std.proofs.Common.{◌≡◌, ℕ, ℤ, pos, negsuc, ◌+◌, ◌<◌, ◌≤◌, ◌⊎◌, inl, inr, Bool, true, false, cond, List, [], ◌∷◌, Option, Some, None, refl, sym, ap, ◌∙◌, arith}
 use Rattle.std.proofs.lemmas.Bool.Decides.{nat_tests, Decides-int_eq}
-use Rattle.std.specs.Prelude.{◌==◌, option_map, unsigned_abs}
-use Rattle.std.specs.Int.{int_rem_euclid}
-use Rattle.std.specs.Ordering.{int_eq}
-use Rattle.rvs_cgf.specs.Groups.{Point, Meaning, op_is, reg_is, regs, nums}
+use Rattle.std.specs.Prelude.{◌==◌, option_map}
+use Rattle.rvs_cgf.specs.Groups.{Point, Meaning, op_is, reg_is, regs, nums, window}
 use Rattle.rvs_cgf.specs.Hits.{holds, is_meant, is_register}
 use Rattle.rvs_cgf.specs.declared.group.Kind.{Kind}
 use Rattle.rvs_cgf.specs.declared.group.Kind.TheVariants as kind
@@ -17,7 +15,7 @@ use Rattle.rvs_expr_text.specs.declared.lexeme.NumName.{NumName}
 use Rattle.rvs_expr_text.specs.declared.lexeme.NumName.TheVariants.{Rs1Val, Rs2Val, ImmVal, EaAlign}
 use Rattle.rvs_expr_text.specs.declared.lexeme.RegName.TheVariants as register
 use Rattle.rvs_insn.specs.declared.op.Op.{Op}
-use Rattle.rvs_count.specs.Buckets.{residue, register_bucket, name_bucket, number_bucket, equation_bucket, meaning_bucket, bucket_of, is_seen, visited}
+use Rattle.rvs_count.specs.Buckets.{residue, register_bucket, name_bucket, number_bucket, equation_bucket, meaning_bucket, bucket_of, visited}
 
 pub residue_low : (z : ℤ) → residue z < 67
 residue_low (pos n) = omega arith
@@ -228,8 +226,10 @@ meant_once kind.Rs2 (reg_is n) op t h = rs2_once t n (register_there n (t.reg re
 meant_once kind.Mnemonic (reg_is n) op t h = cc
 meant_once kind.OpComb (reg_is n) op t h = cc
 meant_once kind.ValComb (reg_is n) op t h = cc
+meant_once kind.CrossComb (reg_is n) op t h = cc
 meant_once k (regs f) op t h = zero_once t
 meant_once k (nums f) op t h = nums_once f t (equated f) refl h
+meant_once k (window ps) op t h = cc
 
 pub seen_once : (p : Point) (op : Op) (t : Table) → holds p op t ≡ true
     → seen (bucket_of p) (visited t) ≡ 1

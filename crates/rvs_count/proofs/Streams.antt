@@ -4,17 +4,20 @@ use Rattle.std.proofs.Math.Seq.{take-length}
 use Rattle.std.proofs.lemmas.Bool.Decides.{nat_tests}
 use Rattle.std.proofs.lemmas.List.{map-append, length_push}
 use Rattle.std.proofs.lemmas.List.Elements.{filter-append}
-use Rattle.std.proofs.lemmas.List.Sums.{sum_by_push}
 use Rattle.std.specs.Prelude.{◌==◌, nat_le, map}
 use Rattle.rvs_log.specs.Grammar.{Reading, Says, Writes, Nothing, reading_of, after_core, after_brackets, write_line}
 use Rattle.rvs_log.specs.Cutting.{held_after, last_of, lines_after, lines_held}
 use Rattle.rvs_log.specs.Lines.{whole_from, tail_from, whole_lines, tail_of, line_says, without_return, held, held_more, held_says}
 use Rattle.rvs_log.specs.Entries.{Entry, Heard, unheard, hear, heard, entry_at, entry_in, entries_in}
 use Rattle.rvs_cgf.specs.declared.group.Label.{Label}
-use Rattle.rvs_count.specs.Counting.{Aim, aims_in, hits, count, is_in, kept}
+use Rattle.rvs_insn.specs.Fields.{Fields}
+use Rattle.rvs_count.specs.Counting.{aims_in, count, decoded, is_in, kept}
+use Rattle.rvs_count.specs.Runs.{run_of, run_with}
 use Rattle.rvs_count.specs.declared.window.Window.{Window}
 use Rattle.rvs_count.specs.Bounds.{waiting_len}
-use Rattle.rvs_count.specs.State.{CountState, Tallied, tally_from, tally_of, state_with, state_at, state_of, counts_with, with_entry, with_reading, with_end, with_bytes, with_all}
+use Rattle.rvs_count.proofs.Counts.{counts_snoc, run_more}
+use Rattle.rvs_count.proofs.Crossing.{aims_sized}
+use Rattle.rvs_count.specs.State.{CountState, Tallied, tally_from, tally_of, state_with, state_at, state_of, with_entry, with_reading, with_end, with_bytes, with_all}
 
 -- ---- lines
 abbrev pub ended_if : Bool → List ℕ → List (List ℕ)
@@ -121,14 +124,7 @@ waiting_grows (Some bytes) (b ∷ bs) =
     turn true e = omega arith
     turn false e = omega arith
 
--- ---- counts
-counts_snoc : (aims : List Aim) (es : List Entry) (e : Entry)
-    → counts_with aims e (map (count es) aims) ≡ map (count (es ++ e ∷ [])) aims
-counts_snoc [] es e = refl
-counts_snoc (a ∷ aims) es e =
-    ap (λ n. n ∷ counts_with aims e (map (count es) aims)) (sym (sum_by_push (λ (x : Entry). cond (hits a x) 1 0) es e))
-    ∙ ap (λ l. count (es ++ e ∷ []) a ∷ l) (counts_snoc aims es e)
-
+-- ---- instructions
 entries_snoc : (h : Heard) (rs : List Reading) (r : Reading)
     → entries_in h (rs ++ r ∷ []) ≡ entries_in h rs ++ entry_in (heard h rs) r
 entries_snoc h [] r = append-nil (entry_in h r)
@@ -140,28 +136,26 @@ heard_snoc : (h : Heard) (rs : List Reading) (r : Reading)
 heard_snoc h [] r = refl
 heard_snoc h (q ∷ rs) r = heard_snoc (hear h q) rs r
 
+-- with these counts, so many instructions and this run
+abbrev tally_with : List Label → List Window → Heard → List ℕ → ℕ → List Fields → Tallied
+tally_with labels windows h counts instructions run = record {
+  labels = labels;
+  windows = windows;
+  counts = counts;
+  instructions = instructions;
+  run = run;
+  heard = h;
+}
+
 entry_step : (labels : List Label) (windows : List Window) (es : List Entry) (h h' : Heard) (e : Entry) (b : Bool)
     → record (with_entry (tally_from labels windows es h) b e) { heard = h' }
     ≡ tally_from labels windows (es ++ cond b (e ∷ []) []) h'
 entry_step labels windows es h h' e true =
-    ap (λ cs. record {
-      labels =
-          labels;
-      windows =
-          windows;
-      counts = cs;
-      instructions = length es + 1;
-      heard = h';
-    }) (counts_snoc (aims_in labels) es e)
-    ∙ ap (λ n. record {
-      labels =
-          labels;
-      windows =
-          windows;
-      counts = map (count (es ++ e ∷ [])) (aims_in labels);
-      instructions = n;
-      heard = h';
-    }) (sym (length_push es e))
+    let all = es ++ e ∷ [] in
+    let run = run_with (run_of (map decoded es)) (decoded e) in
+    ap (λ cs. tally_with labels windows h' cs (length es + 1) run) (counts_snoc (aims_in labels) (aims_sized labels) es e)
+    ∙ ap (λ n. tally_with labels windows h' (map (count all) (aims_in labels)) n run) (sym (length_push es e))
+    ∙ ap (λ r. tally_with labels windows h' (map (count all) (aims_in labels)) (length all) r) (run_more es e)
 entry_step labels windows es h h' e false =
     ap (λ l. tally_from labels windows l h') (sym (append-nil es))
 

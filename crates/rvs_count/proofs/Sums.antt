@@ -1,5 +1,5 @@
 -- What all the lists that are looked at add together.
-use Rattle.std.proofs.Common.{◌≡◌, ℕ, zero, suc, ◌+◌, ◌<◌, ◌≤◌, Bool, true, false, cond, ◌&&◌, List, [], ◌∷◌, Option, Some, None, refl, sym, ap, ◌∙◌, length, drop, get_or, arith}
+use Rattle.std.proofs.Common.{◌≡◌, ℕ, zero, suc, ◌+◌, ◌<◌, ◌≤◌, Bool, true, false, ◌&&◌, List, [], ◌∷◌, Option, Some, None, refl, sym, ap, ◌∙◌, length, drop, get_or, arith}
 use Rattle.std.specs.Prelude.{◌==◌}
 use Rattle.rvs_cgf.specs.Groups.{Point}
 use Rattle.rvs_cgf.specs.Hits.{has_op, holds}

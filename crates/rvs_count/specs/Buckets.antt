@@ -1,7 +1,7 @@
 -- Where a point is looked for: lists of points, so that an instruction is held against few of them.
 use Rattle.std.specs.Prelude.{ℕ, ℤ, pos, ◌+◌, ◌%◌, ◌==◌, Bool, false, List, [], ◌∷◌, Option, Some, None, option_map, unsigned_abs}
 use Rattle.std.specs.Int.{int_rem_euclid}
-use Rattle.rvs_cgf.specs.Groups.{Point, Meaning, op_is, reg_is, regs, nums}
+use Rattle.rvs_cgf.specs.Groups.{Point, Meaning, op_is, reg_is, regs, nums, window}
 use Rattle.rvs_cgf.specs.declared.group.Kind.{Kind}
 use Rattle.rvs_cgf.specs.declared.group.Kind.TheVariants as kind
 use Rattle.rvs_expr.specs.Equated.{equated}
@@ -41,8 +41,9 @@ meaning_bucket k (op_is op) = 0
 meaning_bucket k (reg_is n) = register_bucket k n
 meaning_bucket k (regs f) = 0
 meaning_bucket k (nums f) = equation_bucket (equated f)
+meaning_bucket k (window ps) = 365
 
--- the list of a point; all others are in the first list
+-- the list of a point; all others are in the first list, but cross points, which are in none
 abbrev pub bucket_of : Point → ℕ
 bucket_of p = meaning_bucket p.kind p.meaning
 

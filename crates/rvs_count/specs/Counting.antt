@@ -1,14 +1,17 @@
 -- How often the points of groups are hit by the instructions of a log.
-use Rattle.std.specs.Prelude.{ℕ, ◌==◌, ◌||◌, nat_le, nat_lt, Bool, false, ◌&&◌, if◌then◌else◌, List, [], map, length, count_by, filter, Option, Some, None}
+use Rattle.std.specs.Prelude.{ℕ, ◌==◌, ◌||◌, nat_le, nat_lt, Bool, false, ◌&&◌, if◌then◌else◌, List, [], map, length, take, count_by, filter, Option, Some, None}
 use Rattle.std.specs.List.{list_any, flat_map}
 use Rattle.rvs_cgf.specs.Groups as group
 use Rattle.rvs_cgf.specs.GroupView.{label_view}
 use Rattle.rvs_cgf.specs.Hits as hit
 use Rattle.rvs_cgf.specs.declared.group.Label.{Label}
+use Rattle.rvs_cross.specs.Cross.{Place}
+use Rattle.rvs_cross.specs.Windows.{matches}
 use Rattle.rvs_facts.specs.Facts.{facts_of}
 use Rattle.rvs_insn.specs.declared.op.Op.{Op}
 use Rattle.rvs_insn.specs.Fields.{Fields, insn_of_word}
 use Rattle.rvs_log.specs.Entries.{Entry}
+use Rattle.rvs_count.specs.Runs.{suffixes}
 use Rattle.rvs_count.specs.declared.window.Window.{Window}
 
 -- a point with the mnemonics of its label
@@ -35,12 +38,29 @@ abbrev pub hits_insn : Aim → Option Fields → ℕ → ℕ → Bool
 hits_insn a None v1 v2 = false
 hits_insn a (Some i) v1 v2 = hit.hits a.ops a.point i.op (facts_of i v1 v2)
 
-abbrev pub hits : Aim → Entry → Bool
-hits a e = hits_insn a (insn_of_word e.word) e.v1 e.v2
+-- the instruction of an entry, where its word is one
+abbrev pub decoded : Entry → Option Fields
+decoded e = insn_of_word e.word
 
--- how many instructions of a list hit the point
+abbrev pub hits : Aim → Entry → Bool
+hits a e = hits_insn a (decoded e) e.v1 e.v2
+
+-- the first instructions of a list match a cross point of these places
+abbrev pub begins : List Place → List (Option Fields) → Bool
+begins ps is = matches ps (take (length ps) is)
+
+-- at how many instructions of a list those from there on match it
+abbrev pub window_hits : List Place → List (Option Fields) → ℕ
+window_hits ps is = count_by (begins ps) (suffixes is)
+
+-- a cross point is hit by neighbours, whatever its label's mnemonics; any other by one instruction
+abbrev pub count_for : group.Meaning → List Entry → Aim → ℕ
+count_for (group.window ps) es a = window_hits ps (map decoded es)
+count_for _ es a = count_by (hits a) es
+
+-- how often the instructions of a list hit the point
 abbrev pub count : List Entry → Aim → ℕ
-count es a = count_by (hits a) es
+count es a = count_for a.point.meaning es a
 
 -- the addresses that a window has
 abbrev pub within : ℕ → Window → Bool

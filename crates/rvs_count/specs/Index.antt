@@ -1,16 +1,19 @@
 -- The points by mnemonic.
-use Rattle.std.specs.Prelude.{◌≡◌, ℕ, ◌+◌, ◌/◌, ◌%◌, ◌<◌, ◌==◌, ◌&&◌, Bool, true, false, List, [], ◌∷◌, length, map, Option, slice_index, slice_index_or, slice_set}
+use Rattle.std.specs.Prelude.{◌≡◌, ℕ, ◌+◌, ◌/◌, ◌%◌, ◌<◌, ◌==◌, ◌&&◌, Bool, true, false, List, [], ◌∷◌, length, map, Option, Some, None, slice_index, slice_index_or, slice_set}
 use Rattle.std.specs.List.{list_any}
-use Rattle.rvs_cgf.specs.Groups.{Meaning, op_is, Point}
+use Rattle.rvs_cgf.specs.Groups.{Meaning, op_is, window, Point}
 use Rattle.rvs_cgf.specs.GroupView.{point_view}
-use Rattle.rvs_cgf.specs.Hits.{holds}
 use Rattle.rvs_cgf.specs.declared.group.Label.{Label}
-use Rattle.rvs_expr.specs.Meaning.{Table}
+use Rattle.rvs_cross.specs.First.{first_ops}
 use Rattle.rvs_facts.specs.Mnemonics.{number}
+use Rattle.rvs_cross.specs.Windows.{matches}
+use Rattle.rvs_insn.specs.Fields.{Fields}
 use Rattle.rvs_insn.specs.declared.op.Op.{Op}
 use Rattle.rvs_count.specs.Buckets.{bucket_of, is_seen}
 use Rattle.rvs_count.specs.State.{added}
 use Rattle.rvs_count.specs.Counting.{Aim, aims_in}
+use Rattle.rvs_count.specs.declared.key.ListKey.{ListKey}
+use Rattle.rvs_count.specs.declared.key.ListKey.TheVariants.{Insns, Windows}
 use Rattle.rvs_count.specs.declared.slot.Slot.{Slot}
 
 -- a point, and its place among the counts
@@ -32,13 +35,36 @@ abbrev pub meaning_fits : ℕ → Meaning → Bool
 meaning_fits n (op_is op) = n == number op
 meaning_fits n _ = true
 
--- a list's number says a mnemonic and a bucket
-abbrev pub stands : ℕ → Point → Bool
-stands key p = bucket_of p == key % 365 && meaning_fits (key / 365) p.meaning
+-- the mnemonic of this number is listed; where none are, all are
+abbrev pub lists_number : ℕ → Option (List Op) → Bool
+lists_number n None = true
+lists_number n (Some ops) = list_any (λ op. number op == n) ops
 
--- the point stands in the list of this number, under a label with the mnemonic
-abbrev pub is_for : ℕ → Aim → Bool
-is_for key a = has_number (key / 365) a.ops && stands key a.point
+-- an instruction of the mnemonic of this number may be the first of so many that hit the point
+abbrev pub window_fits : ℕ → ℕ → Meaning → Bool
+window_fits count n (window ps) = length ps == count && lists_number n (first_ops ps)
+window_fits count n _ = false
+
+-- the point stands in the list of this key, under a label that the list admits
+abbrev pub stands : ListKey → Point → Bool
+stands (Insns n bucket) p = bucket_of p == bucket && meaning_fits n p.meaning
+stands (Windows count n) p = window_fits count n p.meaning
+
+-- a cross point is looked for whatever its label's mnemonics
+abbrev pub admits : ListKey → List Op → Bool
+admits (Insns n bucket) ops = has_number n ops
+admits (Windows count n) ops = true
+
+abbrev pub is_for : ListKey → Aim → Bool
+is_for key a = admits key a.ops && stands key a.point
+
+-- a list's number says a mnemonic and a bucket
+abbrev pub insns_key : ℕ → ListKey
+insns_key n = Insns (n / 365) (n % 365)
+
+-- or how many places there are, and a mnemonic
+abbrev pub windows_key : ℕ → ListKey
+windows_key n = Windows (n / 48 + 1) (n % 48)
 
 -- the points that pass, counted from a place
 abbrev pub places_for : (Aim → Bool) → ℕ → List Aim → List Place
@@ -50,7 +76,7 @@ places_for passes at (a ∷ aims) =
     ]
 
 -- the points of a list, counted from a place
-abbrev pub places_in : ℕ → ℕ → List Point → List Place
+abbrev pub places_in : ListKey → ℕ → List Point → List Place
 places_in key at [] = []
 places_in key at (p ∷ ps) =
     elim (stands key p) [
@@ -58,20 +84,36 @@ places_in key at (p ∷ ps) =
       | false ↦ places_in key (at + 1) ps
     ]
 
--- lists for the first mnemonics and buckets
-pub record IsIndex (labels : List Label) (lists : List (List Slot)) : Type 0 where
-  pub each : (key : ℕ) (d : List Slot) → key < length lists
-      → places (slice_index_or lists key d) ≡ places_for (is_for key) 0 (aims_in labels)
+-- lists for the first numbers
+pub record IsIndex (key_of : ℕ → ListKey) (labels : List Label) (lists : List (List Slot)) : Type 0 where
+  pub each : (n : ℕ) (d : List Slot) → n < length lists
+      → places (slice_index_or lists n d) ≡ places_for (is_for (key_of n)) 0 (aims_in labels)
+
+-- a point of this meaning is a cross point
+abbrev pub is_window : Meaning → Bool
+is_window (window ps) = true
+is_window _ = false
+
+-- lists for all cross points, and whether there is one
+pub record IsCrossIndex (labels : List Label) (lists : List (List Slot)) (has : Bool) : Type 0 where
+  pub index : IsIndex windows_key labels lists
+  pub count : length lists ≡ 288
+  pub same : has ≡ list_any (λ a. is_window a.point.meaning) (aims_in labels)
+
+-- a point of this meaning is a cross point that these instructions match
+abbrev pub is_matched : Meaning → List Fields → Bool
+is_matched (window ps) run = matches ps (map (λ i. Some i) run)
+is_matched _ run = false
 
 -- one more at a place
 abbrev pub raised : Bool → ℕ → List ℕ → List ℕ
 raised true at counts = slice_set counts at (slice_index counts at + 1)
 raised false at counts = counts
 
--- the counts after an instruction of these facts
-abbrev pub raised_all : Op → Table → List Place → List ℕ → List ℕ
-raised_all op t [] counts = counts
-raised_all op t (p ∷ ps) counts = raised_all op t ps (raised (holds p.0 op t) p.1 counts)
+-- the counts after the points of a list, of which some are hit
+abbrev pub raised_all : (Point → Bool) → List Place → List ℕ → List ℕ
+raised_all hit [] counts = counts
+raised_all hit (p ∷ ps) counts = raised_all hit ps (raised (hit p.0) p.1 counts)
 
 -- one more for each point that passes, list by list
 abbrev pub added_all : (Aim → Bool) → List (Option ℕ) → List Aim → List ℕ → List ℕ

@@ -4,5 +4,6 @@ pub mod Counting
 pub mod Feeds
 pub mod Index
 pub mod Report
+pub mod Runs
 pub mod Sound
 pub mod State

@@ -10,9 +10,11 @@ tallied t = record {
   windows = t.windows;
   counts = t.counts.items;
   instructions = t.instructions;
+  run = t.run;
   heard = record { words = t.registers; started = t.started };
 }
 
 pub record IsSound (t : Inside) : Type 0 where
+  pub crosses : t.crosses ≡ t.index
   pub count : length t.counts.items ≡ length (aims_in t.index)
   pub low : All (λ n. n ≤ t.instructions) t.counts.items

@@ -1,20 +1,24 @@
 -- What a counter has after some bytes of a log.
-use Rattle.std.specs.Prelude.{ℕ, ◌+◌, ◌==◌, Bool, true, false, if◌then◌else◌, List, [], ◌∷◌, ◌++◌, map, length, Option, Some}
+use Rattle.std.specs.Prelude.{ℕ, ◌+◌, ◌==◌, ◌||◌, Bool, true, false, if◌then◌else◌, List, [], ◌∷◌, ◌++◌, map, length, Option, Some}
 use Rattle.rvs_log.specs.Grammar.{Reading, Says, Writes, Nothing}
 use Rattle.rvs_log.specs.Lines.{whole_lines, tail_of, line_says, held, held_more, held_says}
 use Rattle.rvs_log.specs.Entries.{Entry, Heard, unheard, hear, heard, heard_write, entry_at, entries_in}
+use Rattle.rvs_cgf.specs.Groups.{Meaning, window}
 use Rattle.rvs_cgf.specs.declared.group.Label.{Label}
-use Rattle.rvs_count.specs.Counting.{Aim, aims_in, hits, count, is_in, kept}
+use Rattle.rvs_cross.specs.Windows.{matches}
+use Rattle.rvs_insn.specs.Fields.{Fields}
+use Rattle.rvs_count.specs.Counting.{Aim, aims_in, decoded, hits, count, is_in, kept}
+use Rattle.rvs_count.specs.Runs.{last, run_of, run_with}
 use Rattle.rvs_count.specs.declared.window.Window.{Window}
 
 -- what was counted in some lines: for these labels and windows, how often each point was hit and
--- how many
--- instructions there were; and what of the lines matters for those that follow
+-- how many instructions there were; and what of the lines matters for those that follow
 pub record Tallied : Type 0 where
   pub labels : List Label
   pub windows : List Window
   pub counts : List ℕ
   pub instructions : ℕ
+  pub run : List Fields
   pub heard : Heard
 
 pub record CountState : Type 0 where
@@ -33,6 +37,7 @@ tally_from labels windows es h =
       windows = windows;
       counts = map (count es) (aims_in labels);
       instructions = length es;
+      run = run_of (map decoded es);
       heard = h;
     }
 
@@ -57,9 +62,14 @@ added passes [] cs = cs
 added passes (a ∷ aims) [] = []
 added passes (a ∷ aims) (c ∷ cs) = (c + (if passes a then 1 else 0)) ∷ added passes aims cs
 
--- the counts after one more instruction
-abbrev pub counts_with : List Aim → Entry → List ℕ → List ℕ
-counts_with aims e cs = added (λ a. hits a e) aims cs
+-- a point of this meaning is a cross point that the last instructions of a run match
+abbrev pub ends_run : Meaning → List Fields → Bool
+ends_run (window ps) run = matches ps (last (length ps) (map (λ i. Some i) run))
+ends_run _ run = false
+
+-- the counts after one more instruction, with which a run ends
+abbrev pub counts_with : List Aim → List Fields → Entry → List ℕ → List ℕ
+counts_with aims run e cs = added (λ a. hits a e || ends_run a.point.meaning run) aims cs
 
 -- after one more instruction, where the windows leave it
 abbrev pub with_entry : Tallied → Bool → Entry → Tallied
@@ -67,8 +77,9 @@ with_entry t false e = t
 with_entry t true e =
     record t {
       counts =
-          counts_with (aims_in t.labels) e t.counts;
+          counts_with (aims_in t.labels) (run_with t.run (decoded e)) e t.counts;
       instructions = t.instructions + 1;
+      run = run_with t.run (decoded e);
     }
 
 -- after one more line

@@ -56,7 +56,8 @@ fn equation_bucket(equation: Option<(NumName, i64)>) -> usize
 }
 
 /// The list that a point stands in, by its shape: a register by its field and number, `name ==
-/// constant` by the name and the constant's remainder, and all others in the first.
+/// constant` by the name and the constant's remainder, and all others in the first; but a cross
+/// point stands in none.
 pub(crate) fn bucket_of(point: &Point) -> usize
     ensures { result ≡ spec.bucket_of (point_view point.now) }
 {
@@ -65,6 +66,7 @@ pub(crate) fn bucket_of(point: &Point) -> usize
         Meaning::RegIs(register) => register_bucket(point.kind, *register),
         Meaning::Regs(_) => 0,
         Meaning::Nums(expr) => equation_bucket(expr.equation()),
+        Meaning::Window(_) => BUCKETS,
     }
 }
 

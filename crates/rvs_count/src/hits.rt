@@ -1,5 +1,6 @@
 // Counting the hits of one instruction.
 ghost use Rattle.std.specs.Prelude.{◌≡◌, ◌<◌, ◌≤◌, ◌+◌, ◌^◌, All, length, vec_len};
+ghost use Rattle.rvs_cgf.specs.Hits.{holds};
 ghost use Rattle.rvs_facts.specs.Facts.{facts_of};
 ghost use Rattle.rvs_count.specs.Index.{places, raised, raised_all};
 
@@ -11,7 +12,7 @@ use std::marker::Brand;
 use std::sync::ledger::{Blank, Ledger};
 
 /// Adds one to a count, where its point is hit.
-fn raise(counts: &mut Vec<u64>, at: usize, hit: bool)
+pub(crate) fn raise(counts: &mut Vec<u64>, at: usize, hit: bool)
     requires within { at < vec_len counts.old }
     requires room { All (λ n. n + 1 < 2 ^ 64) counts.old.items }
     ensures items { counts.new.items ≡ raised hit at counts.old.items }
@@ -34,7 +35,7 @@ fn add_hits<F: Facts, L: Ledger>(
     requires few { length slots.now ≤ vec_len counts.old }
     requires low { All (λ n. n ≤ 2 ^ 41) counts.old.items }
     ensures { counts.new.items
-        ≡ raised_all op (F.table facts.now) (places slots.now) counts.old.items }
+        ≡ raised_all (λ p. holds p op (F.table facts.now)) (places slots.now) counts.old.items }
 {
     for slot in slots {
         let hit = slot.holds(op, facts, steps);
@@ -50,8 +51,8 @@ fn add_counted<L: Ledger>(blank: Blank, slots: &[Slot<'_>], facts: Known<'_>, co
     requires within { All (λ s. s.at < vec_len counts.old) slots.now }
     requires few { length slots.now ≤ vec_len counts.old }
     requires low { All (λ n. n ≤ 2 ^ 41) counts.old.items }
-    ensures { counts.new.items ≡ raised_all facts.entry.insn.now.op
-        (facts_of facts.entry.insn.now facts.entry.first facts.entry.second)
+    ensures { counts.new.items ≡ raised_all (λ p. holds p facts.entry.insn.now.op
+        (facts_of facts.entry.insn.now facts.entry.first facts.entry.second))
         (places slots.now) counts.old.items }
 {
     let mut steps: Steps<L> = Steps::new(blank);
@@ -64,8 +65,8 @@ pub(crate) fn add_insn(slots: &[Slot<'_>], facts: Known<'_>, counts: &mut Vec<u6
     requires within { All (λ s. s.at < vec_len counts.old) slots.now }
     requires few { length slots.now ≤ vec_len counts.old }
     requires low { All (λ n. n ≤ 2 ^ 41) counts.old.items }
-    ensures { counts.new.items ≡ raised_all facts.entry.insn.now.op
-        (facts_of facts.entry.insn.now facts.entry.first facts.entry.second)
+    ensures { counts.new.items ≡ raised_all (λ p. holds p facts.entry.insn.now.op
+        (facts_of facts.entry.insn.now facts.entry.first facts.entry.second))
         (places slots.now) counts.old.items }
 {
     add_counted::<Brand>(Blank::new(1), slots, facts, counts);

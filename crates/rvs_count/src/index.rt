@@ -3,11 +3,12 @@ ghost use Rattle.std.specs.Prelude.{◌≡◌, ◌≤◌, ◌<◌, ◌^◌, ◌&
 ghost use Rattle.rvs_machine.specs.Traces.{word_of};
 ghost use Rattle.rvs_count.specs.Buckets.{is_seen};
 ghost use Rattle.rvs_count.specs.Counting.{aims_in, hits_insn};
-ghost use Rattle.rvs_count.specs.Index.{IsIndex, added_all};
+ghost use Rattle.rvs_count.specs.Index.{IsIndex, added_all, insns_key};
 ghost use Rattle.rvs_count.specs.State.{added};
 
 use crate::buckets::{BUCKETS, visited};
 use crate::hits::add_insn;
+use crate::key::{ListKey, MNEMONICS};
 use crate::known_facts::{Known, take_facts};
 use crate::slot::Slot;
 use crate::slots::slots_of;
@@ -19,11 +20,11 @@ use rvs_log::{Registers, facts_of};
 use std::alloc::Global;
 use std::marker::Model;
 
-/// How many lists there are: for each of the 48 mnemonics one a bucket.
-const LISTS: usize = 48 * BUCKETS;
+/// How many lists there are: for each mnemonic one a bucket.
+const LISTS: usize = MNEMONICS * BUCKETS;
 
-/// The points of the selected labels by mnemonic and by shape: an instruction is held against few
-/// of the points of its own mnemonic's labels.
+/// The points of the selected labels by mnemonic and by shape, but no cross points: an instruction
+/// is held against few of the points of its own mnemonic's labels.
 #[derive(Drop)]
 pub(crate) struct Index<'g> {
     labels: &'g [Label],
@@ -35,7 +36,7 @@ impl<'g> Model for Index<'g> {
     ghost use Rattle.std.specs.Coded.{codes};
     ghost use Rattle.rvs_expr.specs.contracts.expr.Expr as expr;
     ghost use Rattle.rvs_cgf.specs.declared.group.Label as group;
-    ghost use Rattle.rvs_count.specs.Index.{IsIndex};
+    ghost use Rattle.rvs_count.specs.Index.{IsIndex, insns_key};
 
     ghost Value = { List group.Label };
 
@@ -43,18 +44,18 @@ impl<'g> Model for Index<'g> {
 
     ghost view = { λ i. i.labels.now };
 
-    ghost invariant = { λ i. IsIndex i.labels.now i.lists × (length i.lists ≡ 17520) };
+    ghost invariant = { λ i. IsIndex insns_key i.labels.now i.lists × (length i.lists ≡ 17520) };
 }
 
 /// The lists of all mnemonics and buckets.
 fn lists<'g>(alloc: Global, labels: &'g [Label]) -> Result<Items<Items<Slot<'g>>>, NoMemory>
     requires room { length (aims_in labels.now) < 2 ^ 63 }
-    ensures index { IfOk result (IsIndex labels.now) }
+    ensures index { IfOk result (IsIndex insns_key labels.now) }
     ensures all { IfOk result (λ lists. length lists ≡ 17520) }
 {
     let mut lists = Items::new(alloc);
-    for key in 0..LISTS {
-        lists.push(slots_of(alloc, labels, key)?)?;
+    for number in 0..LISTS {
+        lists.push(slots_of(alloc, labels, ListKey::of_insns(number))?)?;
     }
     Ok(lists)
 }

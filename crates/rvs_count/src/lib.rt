@@ -3,11 +3,15 @@
 
 mod buckets;
 mod counter;
+mod crosses;
 mod file;
 mod hits;
 mod index;
+mod key;
 mod known_facts;
+mod matched;
 mod report;
+mod run;
 mod slot;
 mod slots;
 mod tally;

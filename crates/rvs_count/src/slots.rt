@@ -1,14 +1,20 @@
-// The points that an instruction of a mnemonic may hit.
+// The points that an instruction of a mnemonic may hit, alone or as the first of several.
 ghost use Rattle.std.specs.Prelude.{◌≡◌, ◌==◌, ◌<◌, ◌+◌, ◌^◌, ◌++◌, ◌∷◌, [], IfOk, OnOk, if◌then◌else◌, length, map};
+ghost use Rattle.std.specs.List.{list_any};
 ghost use Rattle.rvs_cgf.specs.GroupView.{label_view, meaning_view, point_view};
+ghost use Rattle.rvs_cross.specs.CrossView.{cross_view};
+ghost use Rattle.rvs_cross.specs.First.{first_ops as first_of};
 ghost use Rattle.rvs_facts.specs.Mnemonics as spec;
 ghost use Rattle.rvs_count.specs.Counting.{aims_in, aims_of_label};
-ghost use Rattle.rvs_count.specs.Index.{has_number, is_for, meaning_fits, places, places_for, places_in, stands};
+ghost use Rattle.rvs_count.specs.Index as index;
+ghost use Rattle.rvs_count.specs.Index.{has_number, is_for, lists_number, meaning_fits, places, places_for, places_in, stands, window_fits};
 
-use crate::buckets::{BUCKETS, bucket_of};
+use crate::buckets::bucket_of;
+use crate::key::ListKey;
 use crate::slot::Slot;
 use rvs_base::{Items, NoMemory};
 use rvs_cgf::{Label, Meaning, Point};
+use rvs_cross::{Cross, first_ops, places as place_count};
 use rvs_facts::number;
 use rvs_insn::Op;
 use std::alloc::Global;
@@ -30,18 +36,50 @@ fn fits(mnemonic: usize, point: &Point) -> bool
     }
 }
 
-/// Whether a point stands in the list of this number, under a label with its mnemonic.
-fn stands_in(key: usize, point: &Point) -> bool
+fn is_listed(ops: &[Op], mnemonic: usize) -> bool
+    ensures { result ≡ list_any (λ op. spec.number op == mnemonic) ops.now }
+{
+    ops.iter().any(|op| number(*op) == mnemonic)
+}
+
+/// Whether the first place of a cross point lists the mnemonic of this number.
+fn lists_first(cross: &Cross, mnemonic: usize) -> bool
+    ensures { result ≡ lists_number mnemonic (first_of (cross_view cross.now)) }
+{
+    match first_ops(cross) {
+        None => true,
+        Some(ops) => is_listed(ops, mnemonic),
+    }
+}
+
+/// Whether a point is a cross point of so many places of which an instruction of the mnemonic of
+/// this number may be the first.
+fn fits_window(count: usize, mnemonic: usize, point: &Point) -> bool
+    ensures { result ≡ window_fits count mnemonic (meaning_view point.now.meaning) }
+{
+    match &point.meaning {
+        Meaning::Window(cross) => place_count(cross) == count && lists_first(cross, mnemonic),
+        _ => false,
+    }
+}
+
+/// Whether a point stands in the list of this key, under a label that the list admits.
+fn stands_in(key: ListKey, point: &Point) -> bool
     ensures { result ≡ stands key (point_view point.now) }
 {
-    bucket_of(point) == key % BUCKETS && fits(key / BUCKETS, point)
+    match key {
+        ListKey::Insns { mnemonic, bucket } => {
+            bucket_of(point) == bucket && fits(mnemonic, point)
+        },
+        ListKey::Windows { places, mnemonic } => fits_window(places, mnemonic, point),
+    }
 }
 
 /// Adds a point, where it stands in the list.
 fn add_point<'g>(
     slots: &mut Items<Slot<'g>>,
     point: &'g Point,
-    key: usize,
+    key: ListKey,
     at: usize,
 ) -> Result<(), NoMemory>
     ensures { OnOk result (places slots.new ≡ places slots.old
@@ -58,7 +96,7 @@ fn add_point<'g>(
 fn add_points<'g>(
     slots: &mut Items<Slot<'g>>,
     points: &'g [Point],
-    key: usize,
+    key: ListKey,
     first: usize,
 ) -> Result<(), NoMemory>
     requires room { first + length points.now < 2 ^ 63 }
@@ -73,19 +111,19 @@ fn add_points<'g>(
     Ok(())
 }
 
-/// Adds them where the label has the mnemonic.
+/// Adds them where the list admits the label.
 fn add_if<'g>(
     slots: &mut Items<Slot<'g>>,
     points: &'g [Point],
-    has: bool,
-    key: usize,
+    admitted: bool,
+    key: ListKey,
     first: usize,
 ) -> Result<(), NoMemory>
     requires room { first + length points.now < 2 ^ 63 }
     ensures { OnOk result (places slots.new ≡ places slots.old
-        ++ (if has then places_in key first (map point_view points.now) else [])) }
+        ++ (if admitted then places_in key first (map point_view points.now) else [])) }
 {
-    if has {
+    if admitted {
         add_points(slots, points, key, first)
     } else {
         Ok(())
@@ -99,12 +137,22 @@ fn has(ops: &[Op], mnemonic: usize) -> bool
     ops.iter().any(|op| mnemonic == number(*op))
 }
 
-/// Adds the points of a label to the list of this number, and gives the place of the next label's.
+/// Whether the list of this key may have points of a label with these mnemonics.
+fn admits(key: ListKey, ops: &[Op]) -> bool
+    ensures { result ≡ index.admits key ops.now }
+{
+    match key {
+        ListKey::Insns { mnemonic, .. } => has(ops, mnemonic),
+        ListKey::Windows { .. } => true,
+    }
+}
+
+/// Adds the points of a label to the list of this key, and gives the place of the next label's.
 #[tactic(auto, using(crate::proofs::Built::places_label, crate::proofs::Built::label_length))]
 fn add_label<'g>(
     slots: &mut Items<Slot<'g>>,
     label: &'g Label,
-    key: usize,
+    key: ListKey,
     first: usize,
 ) -> Result<usize, NoMemory>
     requires room { first + length (aims_of_label (label_view label.now)) < 2 ^ 63 }
@@ -118,16 +166,16 @@ fn add_label<'g>(
         return Ok(first);
     }
     let points = label.points.as_slice();
-    let has = has(label.ops.as_slice(), key / BUCKETS);
-    add_if(slots, points, has, key, first)?;
+    let admitted = admits(key, label.ops.as_slice());
+    add_if(slots, points, admitted, key, first)?;
     Ok(first + points.len())
 }
 
-/// The list of this number.
+/// The list of this key.
 pub(crate) fn slots_of<'g>(
     alloc: Global,
     labels: &'g [Label],
-    key: usize,
+    key: ListKey,
 ) -> Result<Items<Slot<'g>>, NoMemory>
     requires room { length (aims_in labels.now) < 2 ^ 63 }
     ensures { IfOk result (λ slots. places slots ≡ places_for (is_for key) 0 (aims_in labels.now)) }

@@ -8,8 +8,10 @@ ghost use Rattle.rvs_count.specs.Counting.{is_in};
 ghost use Rattle.rvs_count.specs.Report.{report_of};
 ghost use Rattle.rvs_count.specs.State.{tally_of, with_entry, with_reading};
 
+use crate::crosses::Crosses;
 use crate::index::Index;
 use crate::report::report;
+use crate::run::Run;
 use crate::window::Window;
 use crate::windows::leaves;
 use crate::zeros::zeros;
@@ -24,9 +26,11 @@ use std::marker::Model;
 #[derive(Drop)]
 pub(crate) struct Tally<'g> {
     index: Index<'g>,
+    crosses: Crosses<'g>,
     windows: Items<Window>,
     counts: Vec<u64>,
     instructions: u64,
+    run: Run,
     registers: Registers,
     started: bool,
 }
@@ -58,11 +62,14 @@ impl<'g> Tally<'g> {
     {
         let counts = zeros(alloc, groups.as_slice())?;
         let index = Index::new(alloc, groups.as_slice())?;
+        let crosses = Crosses::new(alloc, groups.as_slice())?;
         Ok(Tally {
             index,
+            crosses,
             windows,
             counts,
             instructions: 0,
+            run: Run::new(),
             registers: Registers::new(),
             started: false,
         })
@@ -99,8 +106,12 @@ impl<'g> Tally<'g> {
         if leaves(self.windows.as_slice(), entry.pc) {
             self.instructions += 1;
             match &entry.insn {
-                None => {},
-                Some(insn) => self.index.add(insn, &self.registers, &mut self.counts),
+                None => self.run.clear(),
+                Some(insn) => {
+                    self.index.add(insn, &self.registers, &mut self.counts);
+                    self.run.push(insn);
+                    self.crosses.add(self.run.as_slice(), &mut self.counts);
+                },
             }
         }
     }

@@ -1,5 +1,14 @@
-pub mod Rows
+pub mod Assignments
+pub mod Binding
+pub mod Choices
+pub mod Excluding
+pub mod Members
 pub mod Names
 pub mod Noting
+pub mod Rows
+pub mod Searching
+pub mod Solutions
+pub mod Solved
 pub mod Strips
+pub mod Turns
 pub mod Words

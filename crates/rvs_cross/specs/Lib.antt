@@ -1,6 +1,9 @@
+pub mod Assigned
+pub mod Choosing
 pub mod Cross
 pub mod CrossView
 pub mod Entries
+pub mod First
 pub mod Lists
 pub mod ListsView
 pub mod Outcomes

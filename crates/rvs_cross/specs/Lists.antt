@@ -1,5 +1,5 @@
 -- The three lists of a cross point, and the parts of a list.
-use Rattle.std.specs.Prelude.{ℕ, ◌==◌, nat_lt, if◌then◌else◌, List, ◌++◌, take, drop, length, Option, Some, None, bytes_eq, codes}
+use Rattle.std.specs.Prelude.{ℕ, ◌==◌, nat_lt, if◌then◌else◌, List, take, drop, length, Option, Some, None, bytes_eq, codes}
 use Rattle.std.specs.Option.{option_and_then}
 use Rattle.std.specs.List.{position_or_len, before_first, after_first, slice_split}
 use Rattle.rvs_abstract.specs.Calls.{without_spaces}
@@ -7,7 +7,9 @@ use Rattle.rvs_abstract.specs.Calls.{without_spaces}
 -- what stands behind these letters, where a text begins with them
 abbrev pub behind : List ℕ → List ℕ → Option (List ℕ)
 behind letters text =
-    if bytes_eq (take (length letters) text) letters then Some (drop (length letters) text) else None
+    if bytes_eq (take (length letters) text) letters
+    then Some (drop (length letters) text)
+    else None
 
 -- the same, where spaces may stand before the letters
 abbrev pub behind_token : List ℕ → List ℕ → Option (List ℕ)
@@ -42,7 +44,7 @@ pub record Lists : Type 0 where
   pub assignments : List ℕ
   pub conditions : List ℕ
 
--- nothing but spaces follows the third list
+-- the three lists by what the first, the second and the third are; nothing but spaces follows
 abbrev pub third : List ℕ → List ℕ → (List ℕ × List ℕ) → Option Lists
 third a b c =
     if length (without_spaces c.1) == 0

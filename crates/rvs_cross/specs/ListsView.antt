@@ -3,4 +3,8 @@ use Rattle.rvs_cross.specs.Lists as spec
 use Rattle.rvs_cross.specs.declared.lists.Lists.{Lists}
 
 abbrev pub lists_view : Lists → spec.Lists
-lists_view l = record { mnemonics = l.mnemonics.now; assignments = l.assignments.now; conditions = l.conditions.now }
+lists_view l = record {
+  mnemonics = l.mnemonics.now;
+  assignments = l.assignments.now;
+  conditions = l.conditions.now;
+}

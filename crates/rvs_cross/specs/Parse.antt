@@ -1,4 +1,4 @@
--- The cross point that a text is: three lists of entries, its first fault, or that it names a class.
+-- The cross point that a text is, its first fault, or that it names a class of instructions.
 use Rattle.std.specs.Prelude.{◌≡◌, ◌≢◌, ℕ, ◌-◌, ◌==◌, ◌&&◌, nat_lt, not, Bool, if◌then◌else◌, List, [], ◌∷◌, take, drop, length, Option, Some, None, Result, Ok, Err, bytes_eq, codes}
 use Rattle.std.specs.List.{list_any, list_all}
 use Rattle.rvs_expr_text.specs.declared.refusal.ExprKind.{ExprKind}
@@ -51,38 +51,45 @@ kept text (Err why) = Err (refusal_of text why why.kind)
 
 abbrev pub condition : List (List ℕ) → List ℕ → Outcome (Option Formula)
 condition vars text =
-    if bytes_eq text (codes "?") then Ok None else kept text (expr.parse Registers vars text)
+    if bytes_eq text (codes "?") then Ok None
+    else kept text (expr.parse Registers vars text)
 
 -- ---- places
 abbrev pub place : List (List ℕ) → List ℕ → List ℕ → List ℕ → Outcome Place
 place vars a b c =
-    condition vars (trimmed c) >>= (λ f. Ok (record { ops = ops a; sets = sets vars b; condition = f }))
+    condition vars (trimmed c)
+    >>= (λ f. Ok (record { ops = ops a; sets = sets vars b; condition = f }))
 
 -- one place for each entry of the three lists
-abbrev pub places : List (List ℕ) → List (List ℕ) → List (List ℕ) → List (List ℕ) → Outcome (List Place)
+abbrev pub places :
+    List (List ℕ) → List (List ℕ) → List (List ℕ) → List (List ℕ) → Outcome (List Place)
 places vars (a ∷ xs) (b ∷ ys) (c ∷ zs) =
     place vars a b c >>= (λ p. places vars xs ys zs >>= (λ ps. Ok (p ∷ ps)))
 places vars _ _ _ = Ok []
 
 -- ---- the checks, in their order
 abbrev pub is_shaped : Lists → Bool
-is_shaped l = list_all lists_ops (entries l.mnemonics) && list_all lists_sets (entries l.assignments)
+is_shaped l =
+    list_all lists_ops (entries l.mnemonics) && list_all lists_sets (entries l.assignments)
 
-abbrev pub is_even : Lists → Bool
-is_even l =
+abbrev pub same_lengths : Lists → Bool
+same_lengths l =
     length (entries l.assignments) == length (entries l.mnemonics)
     && length (entries l.conditions) == length (entries l.mnemonics)
 
--- the entries of the three lists
+-- what the entries of the three lists come to, by their variables
 abbrev pub with_variables : List (List ℕ) → List (List ℕ) → List (List ℕ) → List (List ℕ) → Found
 with_variables a b c vars = places vars a b c >>= (λ ps. Ok (read ps))
 
+-- the same, where each mnemonic is known
 abbrev pub with_known : List (List ℕ) → List (List ℕ) → List (List ℕ) → Found
 with_known a b c = variables b >>= with_variables a b c
 
+-- what the lists come to, by the first mnemonic that isn't known
 abbrev pub with_unknown : Lists → Option (List ℕ) → Found
 with_unknown l (Some part) = Err (UnknownMnemonic (trimmed part))
-with_unknown l None = with_known (entries l.mnemonics) (entries l.assignments) (entries l.conditions)
+with_unknown l None =
+    with_known (entries l.mnemonics) (entries l.assignments) (entries l.conditions)
 
 abbrev pub with_names : Lists → Found
 with_names l = with_unknown l (first_unknown (entries l.mnemonics))
@@ -90,7 +97,7 @@ with_names l = with_unknown l (first_unknown (entries l.mnemonics))
 abbrev pub checked : Lists → Found
 checked l =
     if not (is_shaped l) then Err BadList
-    else (if not (is_even l) then Err LengthsDiffer
+    else (if not (same_lengths l) then Err LengthsDiffer
     else (if nat_lt 6 (length (entries l.mnemonics)) then Err TooManyPlaces
     else (if list_any has_class (entries l.mnemonics) then Ok skipped else with_names l)))
 

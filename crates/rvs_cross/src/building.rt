@@ -81,11 +81,7 @@ fn refused(alloc: Global, text: &str, why: ExprRefusal) -> CrossRefusal
 }
 
 /// The expression of an entry without spaces at its ends.
-fn condition(
-    alloc: Global,
-    variables: &[Text],
-    text: &str,
-) -> Result<Option<Expr>, CrossRefusal>
+fn condition(alloc: Global, variables: &[Text], text: &str) -> Result<Option<Expr>, CrossRefusal>
     requires { length variables.now ≤ 3 }
     ensures { AnswersWith (option_map view) result (spec.condition variables.now text.now) }
 {

@@ -2,16 +2,28 @@
 #![tactic(auto)]
 
 mod building;
+mod choosing;
 mod cross;
 mod cutting;
 mod entries;
+mod first;
+mod fitting;
+mod laws;
 mod lists;
+mod matching;
 mod parsing;
 mod refusal;
 mod solving;
+mod values;
 mod variables;
 
 pub use cross::{Assignment, Cross, Field, Place, Variable, places};
+pub use first::first_ops;
+pub use laws::one_mnemonic_is_read;
+pub use matching::matches;
 pub use parsing::parse_cross;
 pub use refusal::{CrossRead, CrossRefusal};
 pub use solving::solve_cross;
+
+#[cfg(test)]
+mod tests;

@@ -57,8 +57,8 @@ fn is_shaped(lists: &Lists<'_>) -> bool
 }
 
 /// Whether the lists have the same number of entries.
-fn is_even(lists: &Lists<'_>) -> bool
-    ensures { result ≡ spec.is_even (lists_view lists.now) }
+fn same_lengths(lists: &Lists<'_>) -> bool
+    ensures { result ≡ spec.same_lengths (lists_view lists.now) }
 {
     let places = count(lists.mnemonics);
     count(lists.assignments) == places && count(lists.conditions) == places
@@ -95,7 +95,7 @@ fn with_known(
 
 /// The cross point of lists that name no class.
 fn with_names(alloc: Global, lists: &Lists<'_>) -> Result<CrossRead, CrossRefusal>
-    requires even { spec.is_even (lists_view lists.now) ≡ true }
+    requires even { spec.same_lengths (lists_view lists.now) ≡ true }
     requires few { length (entries lists.now.mnemonics.now) ≤ 6 }
     ensures { Answers result (spec.with_names (lists_view lists.now)) }
 {
@@ -120,7 +120,7 @@ fn checked(alloc: Global, lists: &Lists<'_>) -> Result<CrossRead, CrossRefusal>
     if !is_shaped(lists) {
         return Err(CrossRefusal::BadList);
     }
-    if !is_even(lists) {
+    if !same_lengths(lists) {
         return Err(CrossRefusal::LengthsDiffer);
     }
     if count(lists.mnemonics) > 6 {

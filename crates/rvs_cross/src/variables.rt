@@ -119,11 +119,7 @@ fn set_of(variables: &[Text], part: &str) -> Option<Assignment>
     }
 }
 
-fn sets_among(
-    alloc: Global,
-    variables: &[Text],
-    entry: &str,
-) -> Result<Vec<Assignment>, AllocError>
+fn sets_among(alloc: Global, variables: &[Text], entry: &str) -> Result<Vec<Assignment>, AllocError>
     ensures { IfOk result (λ v. v.items ≡ spec.sets variables.now entry.now) }
 {
     entry
@@ -133,11 +129,7 @@ fn sets_among(
 }
 
 /// The assignments of an entry.
-pub fn sets(
-    alloc: Global,
-    variables: &[Text],
-    entry: &str,
-) -> Result<Items<Assignment>, AllocError>
+pub fn sets(alloc: Global, variables: &[Text], entry: &str) -> Result<Items<Assignment>, AllocError>
     ensures { IfOk result (λ sets. sets ≡ spec.sets variables.now entry.now) }
 {
     Ok(Items::from(sets_among(alloc, variables, entry)?))

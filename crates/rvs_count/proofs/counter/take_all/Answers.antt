@@ -1,9 +1,7 @@
-use Rattle.std.proofs.Common.{◌≡◌, ◌≤◌, ◌∷◌, [], ◌∙◌, List, ℕ, ap, sym, length, drop, take, arith, length-drop}
+use Rattle.std.proofs.Common.{◌≡◌, ◌∷◌, [], ◌∙◌, ap, sym, length, drop, take, arith, length-drop}
 use Rattle.std.specs.Option.{option_copied}
-use Rattle.rvs_log.specs.Cutting.{held_after, lines_after, one_or_none}
-use Rattle.rvs_log.specs.Grammar.{reading_of}
-use Rattle.rvs_count.specs.Bounds.{waiting_len}
-use Rattle.rvs_count.specs.State.{Tallied, state_with, with_all, with_reading}
+use Rattle.rvs_log.specs.Cutting.{lines_after, one_or_none}
+use Rattle.rvs_count.specs.State.{state_with, with_all}
 use Rattle.rvs_count.proofs.Streams.{all_line, all_rest, line_low, rest_low, some_used}
 use Rattle.rvs_count.proofs.counter.take_all.Goals as goal
 

@@ -1,4 +1,4 @@
-use Rattle.std.proofs.Common.{◌≡◌, ◌∙◌, None, Some, ap, arith, sym}
+use Rattle.std.proofs.Common.{◌≡◌, ◌∙◌, Some, ap, arith, sym}
 use Rattle.std.specs.Option.{option_copied}
 use Rattle.rvs_log.specs.Cutting.{last_of}
 use Rattle.rvs_count.proofs.Streams.{last_none, last_some, some_waits}

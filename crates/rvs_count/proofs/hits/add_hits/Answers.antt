@@ -23,10 +23,10 @@ loop-slot-preserved g c =
     record {
       same =
           c.loop-slot.invariant.same
-          ∙ ap (λ (ps : List Place). raised_all c.args.op t ps c.loop-slot.counts.items)
+          ∙ ap (λ (ps : List Place). raised_all (λ p. holds p c.args.op t) ps c.loop-slot.counts.items)
           (slots_next c.args.slots.now c.loop-slot.slot-index s c.loop-slot-test.true)
-          ∙ ap (λ (s : Slot). raised_all c.args.op t (place_of s ∷ rest) c.loop-slot.counts.items) (sym c.slot-item.is)
-          ∙ ap (λ cs. raised_all c.args.op t rest cs) (sym e);
+          ∙ ap (λ (s : Slot). raised_all (λ p. holds p c.args.op t) (place_of s ∷ rest) c.loop-slot.counts.items) (sym c.slot-item.is)
+          ∙ ap (λ cs. raised_all (λ p. holds p c.args.op t) rest cs) (sym e);
       len = c.raise.ensures.len ∙ c.loop-slot.invariant.len;
       low = λ k d l. omega (arith, low k d l);
     }

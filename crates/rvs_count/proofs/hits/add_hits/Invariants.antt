@@ -1,11 +1,12 @@
 use Rattle.std.proofs.Common.{◌≡◌, ◌≤◌, ◌+◌, ◌^◌, ℕ, All, drop, vec_len}
+use Rattle.rvs_cgf.specs.Hits.{holds}
 use Rattle.rvs_count.specs.Index.{places, raised_all}
 use Rattle.rvs_count.proofs.hits.add_hits.Given as goal
 
 abbrev pub invariant-loop-slot : goal.invariant-loop-slot
 invariant-loop-slot g l = record {
-  same : raised_all l.op (g.F.Facts.table l.facts) (places l.slots) l.initial.counts.items
-      ≡ raised_all l.op (g.F.Facts.table l.facts) (places (drop l.slot-index l.slots)) l.counts.items;
+  same : raised_all (λ p. holds p l.op (g.F.Facts.table l.facts)) (places l.slots) l.initial.counts.items
+      ≡ raised_all (λ p. holds p l.op (g.F.Facts.table l.facts)) (places (drop l.slot-index l.slots)) l.counts.items;
   len : vec_len l.counts ≡ vec_len l.initial.counts;
   low : All (λ (n : ℕ). n ≤ 2 ^ 41 + l.slot-index) l.counts.items;
 }

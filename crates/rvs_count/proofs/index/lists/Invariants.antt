@@ -1,9 +1,9 @@
 use Rattle.std.proofs.Common.{◌≡◌, length}
-use Rattle.rvs_count.specs.Index.{IsIndex}
+use Rattle.rvs_count.specs.Index.{IsIndex, insns_key}
 use Rattle.rvs_count.proofs.index.lists.Given as goal
 
-abbrev pub invariant-loop-key : goal.invariant-loop-key
-invariant-loop-key l = record {
-  index : IsIndex l.labels l.lists;
-  count : length l.lists ≡ l.key;
+abbrev pub invariant-loop-number : goal.invariant-loop-number
+invariant-loop-number l = record {
+  index : IsIndex insns_key l.labels l.lists;
+  count : length l.lists ≡ l.number;
 }

@@ -1,4 +1,4 @@
-use Rattle.std.proofs.Common.{◌≡◌, ◌++◌, ◌∷◌, [], ◌∙◌, ap, sym, map, drop, length, length-append, arith, ◌+◌}
+use Rattle.std.proofs.Common.{◌∷◌, [], ◌∙◌, ap, sym, map, drop, length, length-append, ◌+◌}
 use Rattle.std.proofs.lemmas.List.{map-append}
 use Rattle.rvs_cross.specs.Parse.{places}
 use Rattle.rvs_cross.specs.CrossView.{place_view}

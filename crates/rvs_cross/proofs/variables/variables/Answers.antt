@@ -1,4 +1,4 @@
-use Rattle.std.proofs.Common.{◌≡◌, Ok, List, ℕ, map, arith}
+use Rattle.std.proofs.Common.{◌≡◌, Ok, map, arith}
 use Rattle.std.proofs.lemmas.Grind.{common_steps}
 use Rattle.rvs_cross.specs.Variables.{variables}
 use Rattle.rvs_cross.proofs.Noting.{at_most_three}

@@ -1,7 +1,7 @@
-use Rattle.std.proofs.Common.{◌≡◌, ◌∙◌, ap, sym, subst, arith}
+use Rattle.std.proofs.Common.{◌∙◌, ap, arith}
 use Rattle.rvs_log.specs.Lines.{held_says}
 use Rattle.rvs_count.specs.Bounds.{waiting_len}
-use Rattle.rvs_count.specs.State.{CountState, Tallied, state_with, with_end, with_reading}
+use Rattle.rvs_count.specs.State.{CountState, Tallied, state_with, with_reading}
 use Rattle.rvs_count.proofs.Ends.{ended_again, finished}
 use Rattle.rvs_count.proofs.Streams.{last_adds}
 use Rattle.rvs_count.proofs.counter.Counter.finish.Goals as goal

@@ -1,8 +1,6 @@
-use Rattle.std.proofs.Common.{◌≡◌, ◌+◌, ℕ, List, Option, Some, ◌∙◌, ap, refl}
+use Rattle.std.proofs.Common.{ℕ, List, Option, Some, ◌∙◌, ap}
 use Rattle.rvs_insn.specs.Fields.{Fields}
 use Rattle.rvs_machine.specs.Traces.{word_of}
-use Rattle.rvs_facts.specs.Facts.{facts_of}
-use Rattle.rvs_count.specs.Buckets.{visited}
 use Rattle.rvs_count.specs.Counting.{aims_in, hits_insn}
 use Rattle.rvs_count.specs.Index.{added_all}
 use Rattle.rvs_count.specs.State.{added}

@@ -1,4 +1,4 @@
-use Rattle.std.proofs.Common.{◌≡◌, ◌+◌, ◌^◌, ◌≤◌, ℕ, List, All, Some, None, ◌∙◌, ap, sym, subst, arith, length}
+use Rattle.std.proofs.Common.{◌+◌, ◌^◌, ◌≤◌, ℕ, List, All, Some, None, ◌∙◌, ap, sym, subst, arith, length}
 use Rattle.rvs_count.specs.Counting.{Aim, aims_in, hits_insn}
 use Rattle.rvs_count.proofs.Hitting.{added_length, added_low}
 use Rattle.rvs_count.proofs.Sums.{all_done, all_more}

@@ -1,0 +1,69 @@
+// Counting the cross points that neighbours match.
+ghost use Rattle.std.specs.Prelude.{◌≡◌, ◌<◌, ◌≤◌, ◌^◌, All, length, vec_len};
+ghost use Rattle.rvs_cgf.specs.GroupView.{meaning_view};
+ghost use Rattle.rvs_count.specs.Index as spec;
+ghost use Rattle.rvs_count.specs.Index.{is_matched, raised_all};
+
+use crate::hits::raise;
+use crate::slot::Slot;
+use rvs_cgf::{Meaning, Point};
+use rvs_cross::{matches, places};
+use rvs_expr::Steps;
+use rvs_insn::Insn;
+use std::marker::Brand;
+use std::sync::ledger::{Blank, Ledger};
+
+/// Whether a point is a cross point that these instructions match.
+fn is_hit<L: Ledger>(point: &Point, window: &[Insn], steps: &mut Steps<L>) -> bool
+    ensures { result ≡ is_matched (meaning_view point.now.meaning) window.now }
+{
+    match &point.meaning {
+        Meaning::Window(cross) => places(cross) == window.len() && matches(cross, window, steps),
+        _ => false,
+    }
+}
+
+/// Adds one to the counts of those that they match.
+fn add_hits<L: Ledger>(
+    slots: &[Slot<'_>],
+    window: &[Insn],
+    counts: &mut Vec<u64>,
+    steps: &mut Steps<L>,
+)
+    requires within { All (λ s. s.at < vec_len counts.old) slots.now }
+    requires few { length slots.now ≤ vec_len counts.old }
+    requires low { All (λ n. n ≤ 2 ^ 42) counts.old.items }
+    ensures { counts.new.items
+        ≡ raised_all (λ p. is_matched p.meaning window.now) (spec.places slots.now) counts.old.items }
+{
+    for slot in slots {
+        let hit = is_hit(slot.point, window, steps);
+        raise(counts, slot.at, hit);
+    }
+}
+
+/// The same, with a counter of evaluations that no one reads.
+fn add_counted<L: Ledger>(blank: Blank, slots: &[Slot<'_>], window: &[Insn], counts: &mut Vec<u64>)
+    requires name { blank.name ≡ L.name }
+    requires parts { blank.parts ≡ L.parts }
+    requires some { 0 < blank.parts }
+    requires within { All (λ s. s.at < vec_len counts.old) slots.now }
+    requires few { length slots.now ≤ vec_len counts.old }
+    requires low { All (λ n. n ≤ 2 ^ 42) counts.old.items }
+    ensures { counts.new.items
+        ≡ raised_all (λ p. is_matched p.meaning window.now) (spec.places slots.now) counts.old.items }
+{
+    let mut steps: Steps<L> = Steps::new(blank);
+    add_hits(slots, window, counts, &mut steps);
+}
+
+/// Adds one to the counts of the points of a list that these instructions match.
+pub(crate) fn add_matched(slots: &[Slot<'_>], window: &[Insn], counts: &mut Vec<u64>)
+    requires within { All (λ s. s.at < vec_len counts.old) slots.now }
+    requires few { length slots.now ≤ vec_len counts.old }
+    requires low { All (λ n. n ≤ 2 ^ 42) counts.old.items }
+    ensures { counts.new.items
+        ≡ raised_all (λ p. is_matched p.meaning window.now) (spec.places slots.now) counts.old.items }
+{
+    add_counted::<Brand>(Blank::new(1), slots, window, counts);
+}

@@ -1,0 +1,82 @@
+-- What an assignment excludes from a field, no instruction of the place has there.
+use Rattle.std.proofs.Common.{◌≡◌, ℕ, Bool, true, false, not, ◌&&◌, List, [], ◌∷◌, Option, None, refl, sym, ap, ◌∙◌}
+use Rattle.std.specs.Prelude.{ℤ, find}
+use Rattle.std.specs.List.{list_all}
+use Rattle.rvs_insn.specs.declared.op.Op.{Op}
+use Rattle.rvs_insn.specs.Fields.{Fields}
+use Rattle.rvs_cross.specs.declared.cross.Field.{Field}
+use Rattle.rvs_cross.specs.declared.cross.Field.TheVariants.{Rd, Rs1, Rs2}
+use Rattle.rvs_cross.specs.declared.cross.Assignment.{Assignment}
+use Rattle.rvs_cross.specs.Cross.{Place}
+use Rattle.rvs_cross.specs.Windows.{Values, value_of, register_in, same_register, is_set, is_listed, meets, fits}
+use Rattle.rvs_cross.specs.Sequences.{at_rs1, at_rd}
+use Rattle.rvs_cross.specs.Choosing.{same_field, allows_one, allows}
+use Rattle.rvs_cross.proofs.Members.{by_test, or_left, or_right, map_in, flat_in}
+use Rattle.rvs_cross.proofs.Binding.{both}
+use Rattle.rvs_cross.proofs.Searching.{find_none}
+
+field_is : (f g : Field) → same_field f g ≡ true → g ≡ f
+field_is Rd Rd h = refl
+field_is Rd Rs1 h = cc
+field_is Rd Rs2 h = cc
+field_is Rs1 Rd h = cc
+field_is Rs1 Rs1 h = refl
+field_is Rs1 Rs2 h = cc
+field_is Rs2 Rd h = cc
+field_is Rs2 Rs1 h = cc
+field_is Rs2 Rs2 h = refl
+
+one_allowed : (v : Values) (i : Fields) (f : Field) (r : Option ℕ) (s : Assignment)
+    → register_in i f ≡ r → is_set v i s ≡ true → allows_one v f r s ≡ true
+one_allowed v i f r s e h =
+    by_test (same_field f s.field)
+    (λ t. or_right (not (same_field f s.field)) (same_register (value_of v s.variable) r)
+    (ap (same_register (value_of v s.variable))
+    (sym (ap (register_in i) (field_is f s.field t) ∙ e)) ∙ h))
+    (λ t. or_left (not (same_field f s.field)) (same_register (value_of v s.variable) r)
+    (ap not t))
+
+and_true : (a b : Bool) → a ≡ true → b ≡ true → (a && b) ≡ true
+and_true true b h k = k
+and_true false b h k = cc
+
+allowed : (v : Values) (i : Fields) (f : Field) (r : Option ℕ) (sets : List Assignment)
+    → register_in i f ≡ r → list_all (is_set v i) sets ≡ true → allows v sets f r ≡ true
+allowed v i f r [] e h = refl
+allowed v i f r (s ∷ sets) e h =
+    let parts = both (is_set v i s) (list_all (is_set v i) sets) h in
+    and_true (allows_one v f r s) (allows v sets f r) (one_allowed v i f r s e parts.0)
+    (allowed v i f r sets e parts.1)
+
+excluded : (v : Values) (p : Place) (i : Fields) (f : Field) (r : Option ℕ) → register_in i f ≡ r
+    → allows v p.sets f r ≡ false → fits v p i ≡ false
+excluded v p i f r e h =
+    by_test (fits v p i)
+    (λ t. let parts = both (is_listed p.ops i.op)
+    (list_all (is_set v i) p.sets && meets v i p.condition) t in
+    let sets = both (list_all (is_set v i) p.sets) (meets v i p.condition) parts.1 in
+    let yes = allowed v i f r p.sets e sets.0 in cc)
+    (λ t. t)
+
+-- no instruction with an excluded `rs1`
+pub none_at_rs1 : (v : Values) (p : Place) (op : Op) (imm : Option ℤ) (rs2s : List (Option ℕ))
+    (d s : Option ℕ) (sets : List Assignment) (good : Bool) → sets ≡ p.sets
+    → good ≡ allows v sets Rs1 s → good ≡ false → None ≡ find (fits v p) (at_rs1 op imm rs2s d s)
+none_at_rs1 v p op imm rs2s d s sets good e g h =
+    sym (find_none (fits v p) (at_rs1 op imm rs2s d s)
+    (λ i m. let t = map_in (λ t. record { op = op; rd = d; rs1 = s; rs2 = t; imm = imm }) rs2s i m in
+    excluded v p i Rs1 s (sym (ap (λ (j : Fields). j.rs1) t.is))
+    (ap (λ l. allows v l Rs1 s) (sym e) ∙ sym g ∙ h)))
+
+-- or an excluded `rd`
+pub none_at_rd : (v : Values) (p : Place) (op : Op) (imm : Option ℤ) (rs1s rs2s : List (Option ℕ))
+    (d : Option ℕ) (sets : List Assignment) (good : Bool) → sets ≡ p.sets
+    → good ≡ allows v sets Rd d → good ≡ false
+    → None ≡ find (fits v p) (at_rd op imm rs1s rs2s d)
+none_at_rd v p op imm rs1s rs2s d sets good e g h =
+    sym (find_none (fits v p) (at_rd op imm rs1s rs2s d)
+    (λ i m. let q = flat_in (at_rs1 op imm rs2s d) rs1s i m in
+    let t = map_in (λ t. record { op = op; rd = d; rs1 = q.item; rs2 = t; imm = imm }) rs2s i
+    q.inner in
+    excluded v p i Rd d (sym (ap (λ (j : Fields). j.rd) t.is))
+    (ap (λ l. allows v l Rd d) (sym e) ∙ sym g ∙ h)))

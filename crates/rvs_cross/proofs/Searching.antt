@@ -1,0 +1,82 @@
+-- One turn of a loop that searches a list of lists.
+use Rattle.std.proofs.Common.{◌≡◌, ℕ, ◌+◌, ◌*◌, ◌<◌, ◌≤◌, Bool, true, false, cond, List, [], ◌∷◌, ◌++◌, length, get_or, drop, take, inl, inr, Option, Some, None, refl, sym, ap, ◌∙◌, arith, add-one, drop-cons}
+use Rattle.std.specs.Prelude.{find, filter, flat_map}
+use Rattle.std.specs.Option.{option_or}
+use Rattle.std.proofs.Math.Nat.{mul-le-mul_left}
+use Rattle.std.proofs.lemmas.List.Folds.{find-append}
+use Rattle.std.proofs.lemmas.List.Concat.{length-flat_map}
+use Rattle.std.proofs.lemmas.List.Sums.{sum_by_more, sum_by-take-le}
+use Rattle.std.specs.List.{sum_by}
+use Rattle.rvs_cross.proofs.Members.{In}
+
+pub rest_at : {X : Type 0} (xs : List X) (k : ℕ) (d : X) → k < length xs
+    → drop k xs ≡ get_or xs k d ∷ drop (k + 1) xs
+rest_at xs k d h = rw (add-one, drop-cons xs k d)
+
+-- ---- lists of lists
+
+find_turn : {X Y : Type 0} (p : Y → Bool) (f : X → List Y) (xs : List X) (k : ℕ) (d : X)
+    → k < length xs → find p (flat_map f (drop k xs))
+    ≡ option_or (find p (f (get_or xs k d))) (find p (flat_map f (drop (k + 1) xs)))
+find_turn p f xs k d h = ap (λ l. find p (flat_map f l)) (rest_at xs k d h)
+    ∙ find-append p (f (get_or xs k d)) (flat_map f (drop (k + 1) xs))
+
+pub turn_found : {X Y : Type 0} (p : Y → Bool) (f : X → List Y) (xs : List X) (k : ℕ) (d : X)
+    (y : Y) (whole : Option Y) → k < length xs → whole ≡ find p (flat_map f (drop k xs))
+    → Some y ≡ find p (f (get_or xs k d)) → Some y ≡ whole
+turn_found p f xs k d y whole h inv e =
+    sym (inv ∙ find_turn p f xs k d h
+    ∙ ap (λ o. option_or o (find p (flat_map f (drop (k + 1) xs)))) (sym e))
+
+pub turn_none : {X Y : Type 0} (p : Y → Bool) (f : X → List Y) (xs : List X) (k : ℕ) (d : X)
+    (whole : Option Y) → k < length xs → whole ≡ find p (flat_map f (drop k xs))
+    → None ≡ find p (f (get_or xs k d)) → whole ≡ find p (flat_map f (drop (k + 1) xs))
+turn_none p f xs k d whole h inv e =
+    inv ∙ find_turn p f xs k d h ∙ ap (λ o. option_or o (find p (flat_map f (drop (k + 1) xs))))
+    (sym e)
+
+pub find_none : {X : Type 0} (p : X → Bool) (xs : List X) → ((x : X) → In x xs → p x ≡ false)
+    → find p xs ≡ None
+find_none p [] h = refl
+find_none p (x ∷ xs) h = ap (λ t. cond t (Some x) (find p xs)) (h x (inl refl))
+    ∙ find_none p xs (λ y i. h y (inr i))
+
+-- ---- costs
+
+pub within_rows : (new before entry k n each : ℕ) → k < n → before ≤ entry + k * each
+    → new ≤ before + each → new ≤ entry + n * each
+within_rows new before entry k n each h a b = let e : each * (k + 1) ≤ each * n =
+    mul-le-mul_left each (omega arith) in omega (arith, e)
+
+pub sum_turn : {X : Type 0} (f : X → ℕ) (xs : List X) (k : ℕ) (d : X) (new before entry : ℕ)
+    → k < length xs → before ≤ entry + sum_by f (take k xs) → new ≤ before + f (get_or xs k d)
+    → new ≤ entry + sum_by f (take (k + 1) xs)
+sum_turn f xs k d new before entry h a b = omega (arith, sum_by_more f xs k d h)
+
+pub all_flat : {X Y : Type 0} (f : X → List Y) (xs : List X) (k : ℕ) (new entry : ℕ)
+    → new ≤ entry + sum_by (λ x. length (f x)) (take k xs)
+    → new ≤ entry + length (flat_map f xs)
+all_flat f xs k new entry h =
+    omega (arith, length-flat_map f xs, sum_by-take-le (λ x. length (f x)) xs k)
+
+pub within_flat : {X Y : Type 0} (f : X → List Y) (xs : List X) (k : ℕ) (d : X)
+    (new before entry : ℕ) → k < length xs
+    → before ≤ entry + sum_by (λ x. length (f x)) (take k xs)
+    → new ≤ before + length (f (get_or xs k d)) → new ≤ entry + length (flat_map f xs)
+within_flat f xs k d new before entry h a b =
+    all_flat f xs (k + 1) new entry (sum_turn (λ x. length (f x)) xs k d new before entry h a b)
+
+-- ---- a test before
+
+picked : {X Y : Type 0} (f : X → List Y) (g : Bool → X → List Y)
+    → ((x : X) → g true x ≡ f x) → ((x : X) → g false x ≡ []) → (t : Bool) (x : X) (xs : List X)
+    → flat_map f (cond t (x ∷ xs) xs) ≡ g t x ++ flat_map f xs
+picked f g kept gone true x xs = ap (λ l. l ++ flat_map f xs) (sym (kept x))
+picked f g kept gone false x xs = ap (λ l. l ++ flat_map f xs) (sym (gone x))
+
+pub flat_filter : {X Y : Type 0} (f : X → List Y) (g : Bool → X → List Y) (q : X → Bool)
+    → ((x : X) → g true x ≡ f x) → ((x : X) → g false x ≡ []) → (xs : List X)
+    → flat_map f (filter q xs) ≡ flat_map (λ x. g (q x) x) xs
+flat_filter f g q kept gone [] = refl
+flat_filter f g q kept gone (x ∷ xs) = picked f g kept gone (q x) x (filter q xs)
+    ∙ ap (λ l. g (q x) x ++ l) (flat_filter f g q kept gone xs)

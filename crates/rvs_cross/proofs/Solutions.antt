@@ -1,0 +1,60 @@
+-- Turns of the search for instructions of all places.
+use Rattle.std.proofs.Common.{◌≡◌, ℕ, ◌+◌, ◌<◌, List, [], ◌∷◌, ◌++◌, length, get_or, drop, Option, Some, None, refl, sym, ap, ◌∙◌}
+use Rattle.std.specs.Prelude.{flat_map}
+use Rattle.rvs_insn.specs.Isa.{Isa}
+use Rattle.rvs_insn.specs.Fields.{Fields}
+use Rattle.rvs_cross.specs.declared.cross.Place.{Place}
+use Rattle.rvs_cross.specs.Cross as spec
+use Rattle.rvs_cross.specs.CrossView.{place_view}
+use Rattle.rvs_cross.specs.Windows.{Values}
+use Rattle.rvs_cross.specs.Sequences.{candidates, solutions, first_of, first_solutions}
+use Rattle.rvs_cross.proofs.Searching.{rest_at}
+
+-- ---- one instruction for each place
+
+-- what is found before what is still to be found
+abbrev pub behind : List Fields → Option (List Fields) → Option (List Fields)
+behind is None = None
+behind is (Some js) = Some (is ++ js)
+
+-- how many instructions a place may have
+abbrev pub one_count : Isa → Place → ℕ
+one_count s p = length (candidates s (place_view p))
+
+-- ---- over values of the variables
+
+first_append : (s : Isa) (ps : List spec.Place) (vs ws : List Values)
+    → first_solutions s ps (vs ++ ws)
+    ≡ first_of (first_solutions s ps vs) (first_solutions s ps ws)
+first_append s ps [] ws = refl
+first_append s ps (v ∷ vs) ws =
+    ap (first_of (solutions s v ps)) (first_append s ps vs ws)
+    ∙ of_three (solutions s v ps) (first_solutions s ps vs) (first_solutions s ps ws) where
+      of_three : (a b c : Option (List Fields))
+          → first_of a (first_of b c) ≡ first_of (first_of a b) c
+      of_three None b c = refl
+      of_three (Some is) b c = refl
+
+first_turn : {X : Type 0} (s : Isa) (ps : List spec.Place) (f : X → List Values) (xs : List X)
+    (k : ℕ) (d : X) → k < length xs → first_solutions s ps (flat_map f (drop k xs))
+    ≡ first_of (first_solutions s ps (f (get_or xs k d)))
+    (first_solutions s ps (flat_map f (drop (k + 1) xs)))
+first_turn s ps f xs k d h = ap (λ l. first_solutions s ps (flat_map f l)) (rest_at xs k d h)
+    ∙ first_append s ps (f (get_or xs k d)) (flat_map f (drop (k + 1) xs))
+
+pub values_found : {X : Type 0} (s : Isa) (ps : List spec.Place) (f : X → List Values)
+    (xs : List X) (k : ℕ) (d : X) (is : List Fields) (whole : Option (List Fields)) → k < length xs
+    → whole ≡ first_solutions s ps (flat_map f (drop k xs))
+    → Some is ≡ first_solutions s ps (f (get_or xs k d)) → Some is ≡ whole
+values_found s ps f xs k d is whole h inv e =
+    sym (inv ∙ first_turn s ps f xs k d h
+    ∙ ap (λ o. first_of o (first_solutions s ps (flat_map f (drop (k + 1) xs)))) (sym e))
+
+pub values_none : {X : Type 0} (s : Isa) (ps : List spec.Place) (f : X → List Values)
+    (xs : List X) (k : ℕ) (d : X) (whole : Option (List Fields)) → k < length xs
+    → whole ≡ first_solutions s ps (flat_map f (drop k xs))
+    → None ≡ first_solutions s ps (f (get_or xs k d))
+    → whole ≡ first_solutions s ps (flat_map f (drop (k + 1) xs))
+values_none s ps f xs k d whole h inv e =
+    inv ∙ first_turn s ps f xs k d h
+    ∙ ap (λ o. first_of o (first_solutions s ps (flat_map f (drop (k + 1) xs)))) (sym e)
