@@ -1,2 +1,7 @@
 mod Drawn
 mod Generated
+mod Passing
+mod Points
+mod Regions
+mod Standing
+mod Whole

@@ -9,7 +9,7 @@ use Rattle.rvs_cgf.specs.Groups.{Point, Label, point}
 use Rattle.rvs_cgf.specs.Valid.{meaning_of}
 
 -- the points that keys say under a kind
-abbrev pub points_of : Kind → List (List ℕ) → List Point
+unfoldable pub points_of : Kind → List (List ℕ) → List Point
 points_of kind keys = filter_map (λ key. option_map (point kind key) (meaning_of kind key)) keys
 
 unfoldable pub mnemonics : List (List ℕ)

@@ -1,6 +1,7 @@
 // The coverage group of the demonstration.
 ghost use Rattle.std.specs.Prelude.{◌≡◌, ◌++◌, IfOk, OnOk, map, option_map};
 ghost use Rattle.rvs_cgf.specs.GroupView.{label_view, meaning_view, point_view};
+ghost use Rattle.rvs_cgf.specs.Groups as group;
 ghost use Rattle.rvs_cgf.specs.Valid.{meaning_of};
 ghost use Rattle.rvs_demo.specs.Label as spec;
 
@@ -11,9 +12,6 @@ use rvs_expr::{ExprKind, parse_num, parse_reg};
 use rvs_expr_text::register_number;
 use rvs_insn::{Op, op_of};
 use std::alloc::Global;
-
-/// The registers of the program, which are those of the group's points.
-const REGISTERS: [&str; 8] = ["x8", "x9", "x10", "x11", "x12", "x13", "x14", "x15"];
 
 fn over_registers(alloc: Global, key: &str) -> Result<Option<Meaning>, NoMemory>
     ensures { IfOk result (λ m. option_map meaning_view m ≡ meaning_of Kind.OpComb key.now) }
@@ -68,7 +66,7 @@ fn meaning(alloc: Global, kind: Kind, key: &str) -> Result<Option<Meaning>, NoMe
 /// The point of a key, where it says something.
 fn point(alloc: Global, kind: Kind, key: &str) -> Result<Option<Point>, NoMemory>
     ensures { IfOk result (λ p. option_map point_view p
-        ≡ option_map (spec.point kind key.now) (meaning_of kind key.now)) }
+        ≡ option_map (group.point kind key.now) (meaning_of kind key.now)) }
 {
     match meaning(alloc, kind, key)? {
         None => Ok(None),
@@ -80,6 +78,7 @@ fn point(alloc: Global, kind: Kind, key: &str) -> Result<Option<Point>, NoMemory
 }
 
 /// Adds the points of some keys.
+#[tactic(auto, unfolding(crate::specs::Label::points_of))]
 fn add_points(
     alloc: Global,
     points: &mut Vec<Point>,
@@ -90,11 +89,58 @@ fn add_points(
         ++ spec.points_of kind (map (λ key. key.now) keys.now)) }
 {
     for key in keys {
-        if let Some(point) = point(alloc, kind, *key)? {
-            points.push(point)?;
+        match point(alloc, kind, *key)? {
+            None => {},
+            Some(point) => points.push(point)?,
         }
     }
     Ok(())
+}
+
+#[tactic(auto, unfolding(crate::specs::Label::mnemonics))]
+fn add_mnemonics(alloc: Global, points: &mut Vec<Point>) -> Result<(), NoMemory>
+    ensures { OnOk result (map point_view points.new.items ≡ map point_view points.old.items
+        ++ spec.points_of Kind.Mnemonic spec.mnemonics) }
+{
+    let keys = ["add", "sub", "xor", "or", "and", "slt", "sltu", "mul"];
+    add_points(alloc, points, Kind::Mnemonic, &keys)
+}
+
+/// Adds the points of the registers of the program.
+#[tactic(auto, unfolding(crate::specs::Label::registers))]
+fn add_registers(alloc: Global, points: &mut Vec<Point>, kind: Kind) -> Result<(), NoMemory>
+    ensures { OnOk result (map point_view points.new.items ≡ map point_view points.old.items
+        ++ spec.points_of kind spec.registers) }
+{
+    let keys = ["x8", "x9", "x10", "x11", "x12", "x13", "x14", "x15"];
+    add_points(alloc, points, kind, &keys)
+}
+
+#[tactic(auto, unfolding(crate::specs::Label::equations))]
+fn add_equations(alloc: Global, points: &mut Vec<Point>) -> Result<(), NoMemory>
+    ensures { OnOk result (map point_view points.new.items ≡ map point_view points.old.items
+        ++ spec.points_of Kind.OpComb spec.equations) }
+{
+    let keys = ["rs1 == rs2", "rs1 != rs2", "rs1 == rd"];
+    add_points(alloc, points, Kind::OpComb, &keys)
+}
+
+#[tactic(auto, unfolding(crate::specs::Label::comparisons))]
+fn add_comparisons(alloc: Global, points: &mut Vec<Point>) -> Result<(), NoMemory>
+    ensures { OnOk result (map point_view points.new.items ≡ map point_view points.old.items
+        ++ spec.points_of Kind.ValComb spec.comparisons) }
+{
+    let keys = ["rs1_val > 0", "rs1_val < 0", "rs1_val == 0"];
+    add_points(alloc, points, Kind::ValComb, &keys)
+}
+
+#[tactic(auto, unfolding(crate::specs::Label::hazards))]
+fn add_hazards(alloc: Global, points: &mut Vec<Point>) -> Result<(), NoMemory>
+    ensures { OnOk result (map point_view points.new.items ≡ map point_view points.old.items
+        ++ spec.points_of Kind.CrossComb spec.hazards) }
+{
+    let keys = ["[? : ?] :: [a=rd : ?] :: [? : rs1 == a or rs2 == a]"];
+    add_points(alloc, points, Kind::CrossComb, &keys)
 }
 
 /// The points of the group.
@@ -102,28 +148,19 @@ fn points(alloc: Global) -> Result<Vec<Point>, NoMemory>
     ensures { IfOk result (λ points. map point_view points.items ≡ spec.points) }
 {
     let mut points = Vec::new(alloc);
-    let mnemonics = ["add", "sub", "xor", "or", "and", "slt", "sltu", "mul"];
-    add_points(alloc, &mut points, Kind::Mnemonic, &mnemonics)?;
-    add_points(alloc, &mut points, Kind::Rs1, &REGISTERS)?;
-    add_points(alloc, &mut points, Kind::Rs2, &REGISTERS)?;
-    add_points(alloc, &mut points, Kind::Rd, &REGISTERS)?;
-    let equations = ["rs1 == rs2", "rs1 != rs2", "rs1 == rd"];
-    add_points(alloc, &mut points, Kind::OpComb, &equations)?;
-    let comparisons = ["rs1_val > 0", "rs1_val < 0", "rs1_val == 0"];
-    add_points(alloc, &mut points, Kind::ValComb, &comparisons)?;
-    let hazards = ["[? : ?] :: [a=rd : ?] :: [? : rs1 == a or rs2 == a]"];
-    add_points(alloc, &mut points, Kind::CrossComb, &hazards)?;
+    add_mnemonics(alloc, &mut points)?;
+    add_registers(alloc, &mut points, Kind::Rs1)?;
+    add_registers(alloc, &mut points, Kind::Rs2)?;
+    add_registers(alloc, &mut points, Kind::Rd)?;
+    add_equations(alloc, &mut points)?;
+    add_comparisons(alloc, &mut points)?;
+    add_hazards(alloc, &mut points)?;
     Ok(points)
 }
 
-/// The group of the demonstration: its eight mnemonics, the registers x8 to x15, equations,
-/// comparisons, and that an instruction reads what the one before it writes.
-///
-/// # Errors
-///
-/// [`NoMemory`].
-pub(crate) fn label(alloc: Global) -> Result<Label, NoMemory>
-    ensures { IfOk result (λ label. label_view label ≡ spec.label) }
+/// The mnemonics of the group, in order.
+fn ops(alloc: Global) -> Result<Vec<Op>, NoMemory>
+    ensures { IfOk result (λ ops. ops.items ≡ spec.ops) }
 {
     let ops = [
         Op::Add,
@@ -135,10 +172,23 @@ pub(crate) fn label(alloc: Global) -> Result<Label, NoMemory>
         Op::Sltu,
         Op::Mul,
     ];
+    Ok(ops.to_vec(alloc)?)
+}
+
+/// The group of the demonstration: its eight mnemonics, the registers x8 to x15, equations,
+/// comparisons, and that an instruction reads what the one before it writes.
+///
+/// # Errors
+///
+/// [`NoMemory`].
+#[tactic(auto, unfolding(crate::specs::Label::label))]
+pub(crate) fn label(alloc: Global) -> Result<Label, NoMemory>
+    ensures { IfOk result (λ label. label_view label ≡ spec.label) }
+{
     Ok(Label {
         name: Text::from(String::from_str(alloc, "demo")?),
         selected: true,
-        ops: Items::from(ops.to_vec(alloc)?),
+        ops: Items::from(ops(alloc)?),
         points: Items::from(points(alloc)?),
         skipped: Items::new(alloc),
     })

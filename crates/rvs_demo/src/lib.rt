@@ -6,6 +6,8 @@ mod demo;
 mod label;
 mod program;
 mod size;
+#[cfg(test)]
+mod tests;
 
 pub use demo::demo_text;
 pub use size::DemoSize;
