@@ -28,7 +28,7 @@ places_length vars (x ∷ xs) (y ∷ ys) (z ∷ zs) ps e f h =
     let one = bound (place vars x y z) _ ps h in
     let more = bound (places vars xs ys zs) _ ps one.2 in
     let n : length more.0 ≡ length xs =
-        places_length vars xs ys zs more.0 (omega (arith, e)) (omega (arith, f)) more.1 in
+    places_length vars xs ys zs more.0 (omega (arith, e)) (omega (arith, f)) more.1 in
     let same : one.0 ∷ more.0 ≡ ps = cc in
     subst (λ (l : List Place). length l ≡ suc (length xs)) same (omega (arith, n))
 
