@@ -1,6 +1,6 @@
 -- What solves a point, by what it means.
-use Rattle.std.proofs.Common.{◌≡◌, ℕ, ◌+◌, ◌≤◌, true, List, length, map, Option, Some, None, refl, sym, ap, subst}
-use Rattle.std.specs.Prelude.{option_map, IfSome, IfNone, All, Result, Ok, Err, IfOk}
+use Rattle.std.proofs.Common.{◌≡◌, ℕ, ◌+◌, ◌≤◌, List, Option, Some, None, refl, sym}
+use Rattle.std.specs.Prelude.{option_map, IfSome, IfNone, Result, Ok, Err, IfOk}
 use Rattle.rvs_base.specs.declared.memory_refusal.NoMemory.{NoMemory}
 use Rattle.rvs_insn.specs.declared.op.Op.{Op}
 use Rattle.rvs_insn.specs.Isa.{Isa}
@@ -9,9 +9,9 @@ use Rattle.rvs_cgf.specs.declared.group.Kind.{Kind}
 use Rattle.rvs_solver.specs.declared.solved.Solved.{Solved}
 use Rattle.rvs_solver.specs.declared.solved.Solved.TheVariants.{One}
 use Rattle.rvs_solver.specs.Choices.{ChoiceValue}
-use Rattle.rvs_solver.specs.First.{first_choice, Solvable, HasOneWordEach}
+use Rattle.rvs_solver.specs.First.{first_choice, Solvable}
 use Rattle.rvs_solver.specs.Bound.{bound}
-use Rattle.rvs_solver.specs.Solving.{IsSingle, first_meant, IsLeastChoice, SolvesAs, IsSolvableAs, bound_meant, HaveOneWordEach}
+use Rattle.rvs_solver.specs.Solving.{IsSingle, first_meant, IsLeastChoice, SolvesAs, IsSolvableAs, bound_meant}
 use Rattle.rvs_solver.proofs.Answer.{is_least}
 
 pub first_single : (spec : Isa) (ops : List Op) (k : Kind) (m : Meaning) → IsSingle m

@@ -1,8 +1,7 @@
-use Rattle.std.proofs.Common.{◌≡◌, ◌∙◌, ◌≤◌, ◌+◌, List, Option, get_or, ap, subst}
-use Rattle.std.specs.Prelude.{slice_get, Some, IfSome, IfNone}
+use Rattle.std.proofs.Common.{◌≡◌, ◌∙◌, ◌≤◌, ◌+◌, List, get_or, ap, subst}
+use Rattle.std.specs.Prelude.{IfSome, IfNone}
 use Rattle.rvs_insn.specs.declared.op.Op.{Op}
 use Rattle.rvs_cgf.specs.GroupView.{meaning_view, point_view, label_view}
-use Rattle.rvs_solver.specs.declared.solved.Solved.{Solved}
 use Rattle.rvs_solver.specs.Solving.{first_meant, first_at, SolvesAs, IsLeastAt, IsSolvableAs, IsSolvableAt, bound_meant, bound_at}
 use Rattle.rvs_solver.proofs.Labels.{point_there, valid_there, first_there, least_there, none_there, cost_there}
 use Rattle.rvs_solver.proofs.Meant.{ok_then}

@@ -1,7 +1,7 @@
-use Rattle.std.proofs.Common.{◌≡◌, ◌∙◌, ◌≤◌, ◌+◌, List, Option, sym, ap, subst}
-use Rattle.std.specs.Prelude.{Some, IfSome, IfNone, IfOk, option_map}
+use Rattle.std.proofs.Common.{◌≡◌, ◌∙◌, ◌≤◌, ◌+◌, sym, subst}
+use Rattle.std.specs.Prelude.{IfSome, IfNone, IfOk, option_map}
 use Rattle.rvs_cgf.specs.Groups.{Meaning}
-use Rattle.rvs_cgf.specs.GroupView.{meaning_view, point_view}
+use Rattle.rvs_cgf.specs.GroupView.{point_view}
 use Rattle.rvs_solver.specs.declared.solved.Solved.TheVariants.{One}
 use Rattle.rvs_solver.specs.First.{first_choice, Solvable}
 use Rattle.rvs_solver.specs.Bound.{bound}
