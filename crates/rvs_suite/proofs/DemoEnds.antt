@@ -44,7 +44,7 @@ pub demonstrates : {call : Call} (files : Files) (count : ℕ) → RunsOn call f
     → Demonstrates call count
 demonstrates {call} files count r =
     let a = answered (HasPrinted call count) r (works files count)
-        (λ given left. ap (λ (c : Contents). c.out) left) in
+    (λ given left. ap (λ (c : Contents). c.out) left) in
     record {
       done = λ is. (a.done is).left;
       by_words = λ none. a.by_inputs tt refl none;

@@ -47,7 +47,10 @@ fn a_test_is_written_run_and_counted(rt: HostRuntime) -> Result<(), Fail> {
         expect(&rt, &run, Status::Done, said, "");
     }
     let signature = host.file("w/add.sig").ok_or("no signature")?;
-    assert_eq!(rt; signature, "00000002\n00000000\n00020020\n00020020\n".as_bytes());
+    assert_eq!(rt;
+        signature,
+        "00000002\n00000000\n00020020\n00020020\n".as_bytes()
+    );
     Ok(())
 }
 

@@ -346,7 +346,7 @@ by_first_window : (isa : Isa) (l : Label) (k : ℕ) (s : Solved) → IsFirstWind
 by_first_window isa l k s f =
     let whole = sequence_solves isa f.places f.insns f.found in
     let match : cross.Solvable isa f.places =
-        record { insns = f.insns; computing = whole.computing; matching = whole.matching } in
+    record { insns = f.insns; computing = whole.computing; matching = whole.matching } in
     record {
       point = f.point;
       is = f.at;

@@ -102,9 +102,10 @@ computing isa i e c =
 all_computing : (isa : Isa) (is : List Fields) → isa.e ≡ false → All (cross.IsComputing isa) is
     → AllComputing isa is
 all_computing isa [] e all = tt
-all_computing isa (i ∷ is) e all =
-    (computing isa i e (all 0 i (omega arith)),
-    all_computing isa is e (λ k d less. all (suc k) d (omega (arith, less))))
+all_computing isa (i ∷ is) e all = (
+  computing isa i e (all 0 i (omega arith)),
+  all_computing isa is e (λ k d less. all (suc k) d (omega (arith, less))),
+)
 
 pub sequence_ready : (isa : Isa) (ps : List Place) (is : List Fields) → isa.e ≡ false
     → 1 ≤ length ps → length ps ≤ 6 → first_sequence isa ps ≡ Some is → IsSequence isa is
