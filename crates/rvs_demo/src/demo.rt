@@ -31,7 +31,8 @@ fn groups(alloc: Global) -> Result<Groups, NoMemory>
 ///
 /// [`NoMemory`].
 pub fn demo_text(alloc: Global, size: DemoSize) -> Result<Text, NoMemory>
-    ensures { IfOk result (λ text. text ≡ spec.demo_text size) }
+    ensures text { IfOk result (λ text. text ≡ spec.demo_text size) }
+    ensures whole { spec.IsWhole size }
 {
     let count = size.count();
     let groups = groups(alloc)?;
