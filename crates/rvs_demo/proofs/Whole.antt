@@ -104,11 +104,14 @@ ending_there n =
     (stand_from (setup_of n) ending (code (front n)) [] e ending_run)
 
 -- ---- the end
+apart : (m n : ℕ) → m < n → m ≢ n
+apart m n h = λ e. omega arith
+
 -- the words of x5 and x6
 base_kept : (regs : List ℕ) (v w : ℕ) → length regs ≡ 32
     → read_reg (write_reg (write_reg regs (Some 5) (Some v)) (Some 6) (Some w)) (Some 5) ≡ v
 base_kept regs v w long =
-    let ne : 5 ≢ 6 = λ (e : 5 ≡ 6). omega arith in
+    let ne = apart 5 6 (omega arith) in
     let low : 5 < length regs = omega (arith, long) in
     get_or-set_other (write_reg regs (Some 5) (Some v)) 6 5 w 0 ne ∙ get_or-set_same regs 5 v 0 low
 
