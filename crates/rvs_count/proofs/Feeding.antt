@@ -5,7 +5,7 @@ use Rattle.rvs_base.specs.Host.{HostState, Files, Tells, ReadsOnly, Opens, Takes
 use Rattle.rvs_count.specs.State.{CountState, state_of}
 use Rattle.rvs_count.specs.Feeds.{Fed, FeedsFile, FeedsFront, IsLong}
 
-Fed-none : (c : CountState) → Fed c c []
+pub Fed-none : (c : CountState) → Fed c c []
 Fed-none c = record {
   state = λ labels windows before n e.
       let z : n ≡ n + length {A = ℕ} [] = omega arith in
@@ -15,7 +15,7 @@ Fed-none c = record {
   fed = omega arith;
 }
 
-Fed-more : (c c' c'' : CountState) (a b : List ℕ) → Fed c c' a → Fed c' c'' b → Fed c c'' (a ++ b)
+pub Fed-more : (c c' c'' : CountState) (a b : List ℕ) → Fed c c' a → Fed c' c'' b → Fed c c'' (a ++ b)
 Fed-more c c' c'' a b f g = record {
   state = λ labels windows before n e.
       let z : n + length a + length b ≡ n + length (a ++ b) = omega (arith, length-append a b) in

@@ -3,5 +3,7 @@ mod Generated
 mod Passing
 mod Points
 mod Regions
+mod Reported
+mod Running
 mod Standing
 mod Whole

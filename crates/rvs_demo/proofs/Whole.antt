@@ -13,6 +13,7 @@ use Rattle.rvs_machine.specs.Machine.{Setup, started, read_reg, write_reg}
 use Rattle.rvs_machine.specs.Run.{run_of}
 use Rattle.rvs_machine.proofs.Steps.{only_writes, state, sw, halting_step}
 use Rattle.rvs_demo.specs.Program.{code, core, drawn, drawn_op, generated, next_seed, own_number, beginning, ending, program, image}
+use Rattle.rvs_demo.specs.Demo.{run, IsWhole}
 use Rattle.rvs_demo.proofs.Drawn.{drawn_encodable, drawn_form}
 use Rattle.rvs_demo.proofs.Regions.{code_length, generated_length}
 use Rattle.rvs_demo.proofs.Standing.{AllRun, StandFrom, stand_from}
@@ -104,11 +105,14 @@ ending_there n =
     (stand_from (setup_of n) ending (code (front n)) [] e ending_run)
 
 -- ---- the end
+apart : (m n : ℕ) → m < n → m ≢ n
+apart m n h = λ e. omega arith
+
 -- the words of x5 and x6
 base_kept : (regs : List ℕ) (v w : ℕ) → length regs ≡ 32
     → read_reg (write_reg (write_reg regs (Some 5) (Some v)) (Some 6) (Some w)) (Some 5) ≡ v
 base_kept regs v w long =
-    let ne : 5 ≢ 6 = λ (e : 5 ≡ 6). omega arith in
+    let ne = apart 5 6 (omega arith) in
     let low : 5 < length regs = omega (arith, long) in
     get_or-set_other (write_reg regs (Some 5) (Some v)) 6 5 w 0 ne ∙ get_or-set_same regs 5 v 0 low
 
@@ -137,7 +141,7 @@ ends n pc there room regs long =
     (passed (pc + 4) one regs1) second
     (halts_now setup 0 (state (pc + 4 + 4) regs2 ram) _ _ last))
 
-pub halts : (n : ℕ) → n ≤ 1000000
+halts : (n : ℕ) → n ≤ 1000000
     → HaltsAfter (run_of (setup_of n) (n + 11) (started (image n) core).state) (n + 11)
 halts n h =
     let size = front_length n in
@@ -149,3 +153,7 @@ halts n h =
     let e : length (front n) + 3 ≡ n + 11 = omega (arith, size) in
     halts_at (setup_of n) (length (front n) + 3) (n + 11) (length (front n) + 3) (n + 11)
     text_base text_base (replicate 32 0) (replicate 8 0) e e refl whole
+
+pub is_whole : (n : ℕ) → n ≤ 1000000 → IsWhole n
+unfolding run
+is_whole n h = halts n h

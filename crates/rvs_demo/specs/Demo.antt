@@ -1,5 +1,6 @@
 -- What the demonstration prints.
-use Rattle.std.specs.Prelude.{ℕ, ◌+◌, List, [], ◌∷◌, ◌++◌, map, length, codes, decimal}
+use Rattle.std.specs.Prelude.{◌≡◌, ℕ, ◌+◌, List, [], ◌∷◌, ◌++◌, map, length, codes, decimal}
+use Rattle.rvs_machine.specs.declared.event.End.TheVariants.{Halted}
 use Rattle.rvs_machine.specs.Machine.{started}
 use Rattle.rvs_machine.specs.Run.{Outcome, run_of}
 use Rattle.rvs_log.specs.Entries.{Entry}
@@ -24,3 +25,7 @@ report n =
 
 unfoldable pub demo_text : ℕ → List ℕ
 demo_text n = codes "demo " ++ (decimal n ++ (codes "\n" ++ report n))
+
+-- the run comes to its end, and executes as many instructions as the program has
+abbrev pub IsWhole : ℕ → Type 0
+IsWhole n = ((run n).end ≡ Halted) × (length (run n).trace ≡ n + 11)

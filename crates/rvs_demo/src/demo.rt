@@ -1,5 +1,5 @@
 // The demonstration.
-ghost use Rattle.std.specs.Prelude.{◌≡◌, [], ◌∷◌, IfOk, map};
+ghost use Rattle.std.specs.Prelude.{◌≡◌, ◌≤◌, [], ◌∷◌, IfOk, map};
 ghost use Rattle.rvs_cgf.specs.GroupView.{label_view};
 ghost use Rattle.rvs_demo.specs.Demo as spec;
 ghost use Rattle.rvs_demo.specs.Label.{label};
@@ -23,6 +23,19 @@ fn groups(alloc: Global) -> Result<Groups, NoMemory>
     Ok(groups)
 }
 
+/// The report of what the program with so many generated instructions hits.
+fn report(alloc: Global, count: u64) -> Result<Text, NoMemory>
+    requires { count ≤ 1000000 }
+    ensures { IfOk result (λ text. text ≡ spec.report count) }
+{
+    let groups = groups(alloc)?;
+    let mut machine = Machine::new(image(alloc, count)?, CORE);
+    let mut counter = Counter::new(alloc, &groups, Items::new(alloc))?;
+    count_run(&mut machine, &mut counter, count + 11);
+    counter.finish();
+    counter.report(alloc)
+}
+
 /// Runs the program with so many generated instructions, and counts its coverage: the lines of its
 /// log are counted as they come, and neither the log nor the run is kept. It takes four bytes of
 /// memory for each instruction.
@@ -30,15 +43,12 @@ fn groups(alloc: Global) -> Result<Groups, NoMemory>
 /// # Errors
 ///
 /// [`NoMemory`].
+#[tactic(auto, unfolding(crate::specs::Demo::demo_text))]
 pub fn demo_text(alloc: Global, size: DemoSize) -> Result<Text, NoMemory>
-    ensures { IfOk result (λ text. text ≡ spec.demo_text size) }
+    ensures text { IfOk result (λ text. text ≡ spec.demo_text size) }
+    ensures whole { spec.IsWhole size }
 {
     let count = size.count();
-    let groups = groups(alloc)?;
-    let mut machine = Machine::new(image(alloc, count)?, CORE);
-    let mut counter = Counter::new(alloc, &groups, Items::new(alloc))?;
-    count_run(&mut machine, &mut counter, count + 11);
-    counter.finish();
-    let report = counter.report(alloc)?;
+    let report = report(alloc, count)?;
     Ok(Text::from(format!(in alloc; "demo {count}\n{report}", report = report.as_str())?))
 }

@@ -1,0 +1,109 @@
+-- What a run logs, step by step, and what a counter was fed of it.
+use Rattle.std.proofs.Common.{◌≡◌, ℕ, zero, suc, ◌+◌, ◌-◌, ◌*◌, ◌<◌, ◌≤◌, true, false, List, [], ◌∷◌, ◌++◌, refl, sym, ap, subst, ◌∙◌, append_assoc, append-nil, arith}
+use Rattle.rvs_machine.specs.declared.event.Event.{Event}
+use Rattle.rvs_machine.specs.declared.event.Event.TheVariants.{Ran, Halted, Trapped}
+use Rattle.rvs_machine.specs.Machine.{Setup, State, Whole, step_of}
+use Rattle.rvs_machine.specs.Run.{Outcome, follow, run_of}
+use Rattle.rvs_log.specs.Logs.{log_of}
+use Rattle.rvs_log.specs.Written.{line_of}
+use Rattle.rvs_count.specs.State.{CountState}
+use Rattle.rvs_count.specs.Feeds.{Fed}
+use Rattle.rvs_count.proofs.Feeding.{Fed-none, Fed-more}
+use Rattle.rvs_demo.specs.Counted.{executed_in, goes_on}
+
+-- the log of a run of at most n steps
+abbrev pub log_from : Setup → ℕ → State → List ℕ
+log_from setup n s = log_of (run_of setup n s).trace
+
+-- of one step
+abbrev pub piece_of : Setup → State → List ℕ
+piece_of setup s = log_of (executed_in (step_of setup s).0)
+
+after_event : (go : State → Outcome) (ev : Event) (s : State) → goes_on ev ≡ true
+    → log_of (follow go ev s).trace ≡ log_of (executed_in ev) ++ log_of (go s).trace
+after_event go (Ran e) s h =
+    ap (λ l. l ++ log_of (go s).trace) (sym (append-nil (line_of e ++ 10 ∷ [])))
+after_event go (Halted e) s h = absurd cc
+after_event go (Trapped t) s h = absurd cc
+
+at_event : (go : State → Outcome) (ev : Event) (s : State) → goes_on ev ≡ false
+    → log_of (follow go ev s).trace ≡ log_of (executed_in ev)
+at_event go (Ran e) s h = absurd cc
+at_event go (Halted e) s h = refl
+at_event go (Trapped t) s h = refl
+
+log_goes : (setup : Setup) (n : ℕ) (s : State) → goes_on (step_of setup s).0 ≡ true
+    → log_from setup (suc n) s ≡ piece_of setup s ++ log_from setup n (step_of setup s).1
+log_goes setup n s h = after_event (run_of setup n) (step_of setup s).0 (step_of setup s).1 h
+
+log_stops : (setup : Setup) (n : ℕ) (s : State) → goes_on (step_of setup s).0 ≡ false
+    → log_from setup (suc n) s ≡ piece_of setup s
+log_stops setup n s h = at_event (run_of setup n) (step_of setup s).0 (step_of setup s).1 h
+
+-- the machine after its step
+abbrev pub stepped : Whole → Whole
+stepped m = record m { state = (step_of m.setup m.state).1 }
+
+-- i steps of a run were made, and the counter was fed what they log
+pub record Running (limit i : ℕ) (first now : Whole) (old new : CountState) : Type 0 where
+  pub done : List ℕ
+  pub fed : Fed old new done
+  pub log : log_from first.setup limit first.state
+      ≡ done ++ log_from now.setup (limit - i) now.state
+  pub low : new.fed ≤ old.fed + 65 * i
+
+pub Running-start : (limit : ℕ) (m : Whole) (c : CountState) → Running limit 0 m m c c
+Running-start limit m c =
+    let e : limit ≡ limit - 0 = omega arith in
+    record {
+      done = [];
+      fed = Fed-none c;
+      log = ap (λ n. log_from m.setup n m.state) e;
+      low = omega arith;
+    }
+
+pub Running-more : (limit i : ℕ) (first now next : Whole) (old mid new : CountState) → i < limit
+    → Running limit i first now old mid → goes_on (step_of now.setup now.state).0 ≡ true
+    → next ≡ stepped now → Fed mid new (piece_of now.setup now.state) → new.fed ≤ mid.fed + 65
+    → Running limit (i + 1) first next old new
+Running-more limit i first now next old mid new less r goes is fed low =
+    let left = limit - (i + 1) in
+    let e : limit - i ≡ suc left = omega arith in
+    let piece = piece_of now.setup now.state in
+    let rest = log_from now.setup left (step_of now.setup now.state).1 in
+    let P : Whole → Type 0 = λ m. Running limit (i + 1) first m old new in
+    subst P (sym is)
+    (record {
+      done = r.done ++ piece;
+      fed = Fed-more old mid new r.done piece r.fed fed;
+      log =
+          r.log
+              ∙ ap (λ n. r.done ++ log_from now.setup n now.state) e
+              ∙ ap (λ l. r.done ++ l) (log_goes now.setup left now.state goes)
+              ∙ sym (append_assoc r.done piece rest);
+      low = omega (arith, r.low);
+    })
+
+-- all of it, where the run ends before its limit
+pub Running-stops : (limit i : ℕ) (first now : Whole) (old mid new : CountState) → i < limit
+    → Running limit i first now old mid → goes_on (step_of now.setup now.state).0 ≡ false
+    → Fed mid new (piece_of now.setup now.state)
+    → Fed old new (log_from first.setup limit first.state)
+Running-stops limit i first now old mid new less r stops fed =
+    let left = limit - (i + 1) in
+    let e : limit - i ≡ suc left = omega arith in
+    let all : log_from first.setup limit first.state
+    ≡ r.done ++ piece_of now.setup now.state =
+    r.log ∙ ap (λ n. r.done ++ log_from now.setup n now.state) e
+    ∙ ap (λ l. r.done ++ l) (log_stops now.setup left now.state stops) in
+    subst (Fed old new) (sym all)
+    (Fed-more old mid new r.done (piece_of now.setup now.state) r.fed fed)
+
+-- and where it comes to its limit
+pub Running-ends : (limit i : ℕ) (first now : Whole) (old new : CountState) → limit ≤ i
+    → Running limit i first now old new → Fed old new (log_from first.setup limit first.state)
+Running-ends limit i first now old new over r =
+    let e : limit - i ≡ 0 = omega arith in
+    let all : log_from first.setup limit first.state ≡ r.done =
+    r.log ∙ ap (λ n. r.done ++ log_from now.setup n now.state) e ∙ append-nil r.done in
+    subst (Fed old new) (sym all) r.fed
