@@ -8,6 +8,7 @@ use Rattle.rvs_plan.specs.declared.stop.Stop.{Stop}
 use Rattle.rvs_plan.specs.declared.stop.Stop.TheVariants as why
 use Rattle.rvs_plan.specs.declared.status.Status.TheVariants.{Refused}
 use Rattle.rvs_demo.specs.Demo.{demo_text}
+use Rattle.rvs_demo.proofs.Whole.{is_whole}
 use Rattle.rvs_suite.specs.Call.{Call}
 use Rattle.rvs_suite.specs.Answered.{Answered, HasRefused}
 use Rattle.rvs_suite.specs.Demonstrate.{demonstrate}
@@ -47,6 +48,7 @@ demonstrates {call} files count r =
     (λ given left. ap (λ (c : Contents). c.out) left) in
     record {
       done = λ is. (a.done is).left;
+      whole = λ low. is_whole count low;
       by_words = λ none. a.by_inputs tt refl none;
       no_verdict = a.no_verdict;
       no_refusal = never-refused (HasPrinted call count) a;
