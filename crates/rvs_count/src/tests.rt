@@ -134,12 +134,12 @@ fn check_cut(
 /// Cuts a log at every place into two pieces.
 fn check_cuts(
     rt: &impl Abort,
-    groups: (Global, &Groups),
+    alloc: Global,
+    groups: &Groups,
     log: &[u8],
     instructions: u64,
     counts: &[u64],
 ) -> Result<(), Fail> {
-    let (alloc, groups) = groups;
     for at in 0..log.len() {
         let mut counter = Counter::new(alloc, groups, Items::new(alloc))?;
         check_cut(rt, &mut counter, log.split_at(at), instructions, counts)?;
@@ -151,7 +151,7 @@ fn check_cuts(
 fn logs_are_cut_at_every_place(rt: HostRuntime) -> Result<(), Fail> {
     let groups = add_groups(rt.alloc())?;
     for (log, instructions, counts) in &LOGS {
-        check_cuts(&rt, (rt.alloc(), &groups), log, *instructions, counts)?;
+        check_cuts(&rt, rt.alloc(), &groups, log, *instructions, counts)?;
     }
     Ok(())
 }
@@ -161,7 +161,7 @@ fn neighbours_match_a_cross_point(rt: HostRuntime) -> Result<(), Fail> {
     let key = "[(add,sub) : (add,sub)] :: [a=rd : ?] :: [? : rs1==a]";
     let groups = cross_groups(rt.alloc(), key, cross_of(rt.alloc(), key)?)?;
     for (log, instructions, counts) in &NEIGHBOURS {
-        check_cuts(&rt, (rt.alloc(), &groups), log, *instructions, counts)?;
+        check_cuts(&rt, rt.alloc(), &groups, log, *instructions, counts)?;
     }
     Ok(())
 }
@@ -172,7 +172,7 @@ fn a_long_line_changes_nothing(rt: HostRuntime) -> Result<(), Fail> {
     log.push(b'\n')?;
     log.extend_from_slice(LOGS[1].0)?;
     let groups = add_groups(rt.alloc())?;
-    check_cuts(&rt, (rt.alloc(), &groups), log.as_slice(), 2, &[1, 0])
+    check_cuts(&rt, rt.alloc(), &groups, log.as_slice(), 2, &[1, 0])
 }
 
 #[test]
