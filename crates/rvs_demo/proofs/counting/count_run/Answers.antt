@@ -1,7 +1,7 @@
-use Rattle.std.proofs.Common.{◌≡◌, ◌≤◌, ◌+◌, ◌*◌, true, false, sym, arith}
+use Rattle.std.proofs.Common.{◌≡◌, true, false, sym, arith}
 use Rattle.rvs_machine.specs.Machine.{step_of}
 use Rattle.rvs_demo.specs.Counted.{goes_on}
-use Rattle.rvs_demo.proofs.Running.{Running-start, Running-more, Running-stops, Running-ends}
+use Rattle.rvs_demo.proofs.Running.{Running-start, Running-more, Running-stops}
 use Rattle.rvs_demo.proofs.counting.count_run.Goals as goal
 
 pub loop-init : goal.loop-init

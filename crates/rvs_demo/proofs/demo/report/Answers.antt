@@ -1,4 +1,4 @@
-use Rattle.std.proofs.Common.{◌≡◌, ◌≤◌, ◌+◌, ◌*◌, [], Result, Ok, Err, IfOk, ap, ◌∙◌, arith}
+use Rattle.std.proofs.Common.{◌≡◌, [], Result, Ok, Err, IfOk, ap, ◌∙◌, arith}
 use Rattle.rvs_machine.specs.Machine.{started}
 use Rattle.rvs_count.specs.State.{CountState}
 use Rattle.rvs_count.proofs.Ends.{fed_of}

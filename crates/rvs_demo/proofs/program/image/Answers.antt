@@ -1,4 +1,4 @@
-use Rattle.std.proofs.Common.{◌≡◌, ℕ, List, [], Option, Some, None, sym, ap, ◌∙◌, replicate, rules}
+use Rattle.std.proofs.Common.{◌≡◌, ℕ, List, [], Some, None, sym, ap, ◌∙◌, replicate, rules}
 use Rattle.rvs_machine.specs.Image.{ImageValue, data_base, if_image}
 use Rattle.rvs_machine.specs.declared.symbol.Symbol.{Symbol}
 use Rattle.rvs_demo.specs.Program.{code, program, image}
