@@ -22,8 +22,13 @@ made text bytes symbols n p q r = λ i. image_with (p i) (q i) (r i)
 
 pub unreachable-requires : goal.unreachable-requires
 unreachable-requires c =
-    let text : c.from-text.result ≡ code (program c.args.count) = c.from-text.ensures ∙ c.in_ok-text.ensures in
+    let text : c.from-text.result ≡ code (program c.args.count) =
+    c.from-text.ensures ∙ c.in_ok-text.ensures in
     let items : c.in_ok-to_vec.field-0.items ≡ replicate 8 0 = search rules in
-    let same = made c.from-text.result c.from-data.result c.new-symbols.result c.args.count text (c.from-data.ensures ∙ items) c.new-symbols.ensures in
-    let none : None ≡ Some (image c.args.count) = sym c.in-None.is ∙ c.new.ensures ∙ ap if_image same ∙ in_order c.args.count c.requires in
+    let same =
+    made c.from-text.result c.from-data.result c.new-symbols.result c.args.count text
+    (c.from-data.ensures ∙ items) c.new-symbols.ensures in
+    let none : None ≡ Some (image c.args.count) =
+    sym c.in-None.is ∙ c.new.ensures ∙ ap if_image same
+    ∙ in_order c.args.count c.requires in
     cc
