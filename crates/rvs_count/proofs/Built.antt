@@ -1,7 +1,6 @@
 -- The lists are built label by label.
-use Rattle.std.proofs.Common.{◌≡◌, ℕ, zero, suc, ◌+◌, ◌<◌, ◌≤◌, ◌⊎◌, inl, inr, Bool, true, false, cond, ◌&&◌, subst, List, [], ◌∷◌, ◌++◌, refl, sym, ap, ◌∙◌, length, drop, get_or, replicate, arith, append_assoc, length-append}
-use Rattle.std.proofs.lemmas.Bool.{cases_lt}
-use Rattle.std.proofs.lemmas.List.{length-map, get_or_at, get_or_append_left}
+use Rattle.std.proofs.Common.{◌≡◌, ℕ, zero, suc, ◌+◌, ◌<◌, Bool, true, false, cond, ◌&&◌, List, [], ◌∷◌, ◌++◌, refl, sym, ap, ◌∙◌, length, drop, get_or, replicate, arith, append_assoc, length-append}
+use Rattle.std.proofs.lemmas.List.{length-map}
 use Rattle.std.specs.Prelude.{map}
 use Rattle.rvs_cgf.specs.Groups as group
 use Rattle.rvs_cgf.specs.GroupView.{label_view, point_view}
@@ -9,7 +8,7 @@ use Rattle.rvs_cgf.specs.declared.group.Label.{Label}
 use Rattle.rvs_cgf.specs.declared.group.Point.{Point}
 use Rattle.rvs_insn.specs.declared.op.Op.{Op}
 use Rattle.rvs_count.specs.Counting.{Aim, count, aims_in, aims_of_label, aims_of_points}
-use Rattle.rvs_count.specs.Index.{Place, places, admits, is_for, stands, places_for, places_in, IsIndex}
+use Rattle.rvs_count.specs.Index.{Place, places, admits, is_for, stands, places_for, places_in}
 use Rattle.rvs_count.specs.State.{Tallied, tally_of}
 use Rattle.rvs_count.specs.declared.key.ListKey.{ListKey}
 use Rattle.rvs_count.specs.declared.slot.Slot.{Slot}
@@ -176,28 +175,6 @@ zero_counts [] = refl
 zero_counts (a ∷ aims) =
     ap (λ n. n ∷ replicate (length aims) 0) (none_counted a)
     ∙ ap (λ l. count [] a ∷ l) (zero_counts aims)
-
--- one more list
-pub IsIndex-more : (key_of : ℕ → ListKey) (labels : List Label) (lists lists' : List (List Slot)) (slots : List Slot)
-    → lists' ≡ lists ++ slots ∷ []
-    → places slots ≡ places_for (is_for (key_of (length lists))) 0 (aims_in labels)
-    → IsIndex key_of labels lists
-    → IsIndex key_of labels lists'
-IsIndex-more key_of labels lists lists' slots e p h =
-    let P : List (List Slot) → Type 0 = λ ls. IsIndex key_of labels ls in
-    subst P (sym e) (record { each = λ key d l. pick key d l (cases_lt key (length lists)) })
-  where
-    pick : (key : ℕ) (d : List Slot) → key < length (lists ++ slots ∷ [])
-        → (key < length lists) ⊎ (length lists ≤ key)
-        → places (get_or (lists ++ slots ∷ []) key d)
-        ≡ places_for (is_for (key_of key)) 0 (aims_in labels)
-    pick key d l (inl below) = ap places (get_or_append_left lists (slots ∷ []) d key below)
-        ∙ h.each key d below
-    pick key d l (inr above) =
-        let same : key ≡ length lists = omega (arith, l, above, length-append lists (slots ∷ [])) in
-        ap places (get_or_at lists slots [] d key (sym same))
-        ∙ p
-        ∙ ap (λ k. places_for (is_for (key_of k)) 0 (aims_in labels)) (sym same)
 
 -- a new tally
 pub new_tally : (labels index : List Label) (windows : List Window) (counts words : List ℕ) (run : List Fields)

@@ -1,7 +1,8 @@
 -- The lists give the points that an instruction may hit, and no others count.
-use Rattle.std.proofs.Common.{◌≡◌, ◌≢◌, ℕ, zero, suc, ◌+◌, ◌-◌, ◌*◌, ◌/◌, ◌%◌, ◌<◌, ◌≤◌, Bool, true, false, cond, ◌&&◌, List, [], ◌∷◌, ◌++◌, Option, Some, None, refl, sym, ap, ◌∙◌, length, drop, get_or, set, arith, append_assoc, All}
+use Rattle.std.proofs.Common.{◌≡◌, ◌≢◌, ℕ, zero, suc, ◌+◌, ◌-◌, ◌*◌, ◌/◌, ◌%◌, ◌<◌, ◌≤◌, Bool, true, false, cond, ◌&&◌, ◌||◌, List, [], ◌∷◌, ◌++◌, Option, Some, None, refl, sym, ap, ◌∙◌, length, drop, get_or, set, arith, append_assoc, All}
 use Rattle.std.proofs.lemmas.List.{get_or_at, set_at, length_push, length-map}
 use Rattle.std.proofs.lemmas.Bool.Decides.{nat_tests}
+use Rattle.std.specs.List.{list_any}
 use Rattle.std.specs.Prelude.{◌==◌, map}
 use Rattle.rvs_cgf.specs.Groups.{Point, Meaning, op_is, reg_is, regs, nums, window}
 use Rattle.rvs_cgf.specs.Hits.{has_op, holds, is_meant}
@@ -9,7 +10,7 @@ use Rattle.rvs_cgf.specs.declared.group.Kind.{Kind}
 use Rattle.rvs_cgf.specs.declared.group.Label.{Label}
 use Rattle.rvs_expr.specs.Meaning.{Table}
 use Rattle.rvs_facts.specs.Facts.{facts_of}
-use Rattle.rvs_facts.specs.Mnemonics.{number}
+use Rattle.rvs_facts.specs.Mnemonics.{is_same, number}
 use Rattle.rvs_cross.specs.Cross as cross
 use Rattle.rvs_cross.specs.First.{first_ops}
 use Rattle.rvs_cross.specs.Windows.{is_listed, matches}
@@ -139,10 +140,20 @@ added_bucket labels i v1 v2 n b slots cs cs' same low p l e =
     ∙ added_same _ _ (aims_in labels) cs (λ a. same_hit n b i v1 v2 a same low)
 
 -- what the cross points of a list add
+turned_number : (op : Op) (ops : List Op)
+    → list_any (λ o. is_same o op) ops ≡ has_number (number op) ops
+turned_number op [] = refl
+turned_number op (o ∷ ops) =
+    ap (λ b. b || list_any (λ o. is_same o op) ops) (turned (number o) (number op))
+    ∙ ap (λ b. number op == number o || b) (turned_number op ops)
+  where
+    turned : (a b : ℕ) → (a == b) ≡ (b == a)
+    turned a b = grind (arith, nat_tests)
+
 listed_number : (op : Op) (ops : Option (List Op))
     → is_listed ops op ≡ true → lists_number (number op) ops ≡ true
 listed_number op None h = refl
-listed_number op (Some ops) h = h
+listed_number op (Some ops) h = sym (turned_number op ops) ∙ h
 
 differ : (a b : ℕ) → (a == b) ≡ false → a ≢ b
 differ a b h = λ e. grind (arith, nat_tests)

@@ -38,7 +38,7 @@ meaning_fits n _ = true
 -- the mnemonic of this number is listed; where none are, all are
 abbrev pub lists_number : ℕ → Option (List Op) → Bool
 lists_number n None = true
-lists_number n (Some ops) = list_any (λ op. number op == n) ops
+lists_number n (Some ops) = has_number n ops
 
 -- an instruction of the mnemonic of this number may be the first of so many that hit the point
 abbrev pub window_fits : ℕ → ℕ → Meaning → Bool

@@ -1,6 +1,5 @@
 // The points that an instruction of a mnemonic may hit, alone or as the first of several.
 ghost use Rattle.std.specs.Prelude.{◌≡◌, ◌==◌, ◌<◌, ◌+◌, ◌^◌, ◌++◌, ◌∷◌, [], IfOk, OnOk, if◌then◌else◌, length, map};
-ghost use Rattle.std.specs.List.{list_any};
 ghost use Rattle.rvs_cgf.specs.GroupView.{label_view, meaning_view, point_view};
 ghost use Rattle.rvs_cross.specs.CrossView.{cross_view};
 ghost use Rattle.rvs_cross.specs.First.{first_ops as first_of};
@@ -36,10 +35,11 @@ fn fits(mnemonic: usize, point: &Point) -> bool
     }
 }
 
-fn is_listed(ops: &[Op], mnemonic: usize) -> bool
-    ensures { result ≡ list_any (λ op. spec.number op == mnemonic) ops.now }
+/// Whether the mnemonic of this number is among them.
+fn has(ops: &[Op], mnemonic: usize) -> bool
+    ensures { result ≡ has_number mnemonic ops.now }
 {
-    ops.iter().any(|op| number(*op) == mnemonic)
+    ops.iter().any(|op| mnemonic == number(*op))
 }
 
 /// Whether the first place of a cross point lists the mnemonic of this number.
@@ -48,7 +48,7 @@ fn lists_first(cross: &Cross, mnemonic: usize) -> bool
 {
     match first_ops(cross) {
         None => true,
-        Some(ops) => is_listed(ops, mnemonic),
+        Some(ops) => has(ops, mnemonic),
     }
 }
 
@@ -128,13 +128,6 @@ fn add_if<'g>(
     } else {
         Ok(())
     }
-}
-
-/// Whether the mnemonic of this number is among them.
-fn has(ops: &[Op], mnemonic: usize) -> bool
-    ensures { result ≡ has_number mnemonic ops.now }
-{
-    ops.iter().any(|op| mnemonic == number(*op))
 }
 
 /// Whether the list of this key may have points of a label with these mnemonics.

@@ -2,6 +2,7 @@
 use crate::{Counter, Window, count_file, count_log};
 use rvs_base::{Files, Items, MemoryHost, NoMemory, Text};
 use rvs_cgf::{Groups, Kind, Label, Meaning, Point};
+use rvs_cross::{Cross, CrossRead, parse_cross};
 use rvs_expr::{Expr, NumName};
 use rvs_insn::Op;
 use std::alloc::Global;
@@ -44,10 +45,43 @@ core 0: 3 0x80000004 (0x005282b3) x0 0x6",
     ),
 ];
 
+/// Logs of `add x8, x9, x10`, `add x11, x8, x9`, `sub x12, x11, x9`, in the second with a word that
+/// doesn't decode between the first two; and how often an `add` or `sub` reads what the one before
+/// it wrote.
+static NEIGHBOURS: [(&[u8], u64, [u64; 1]); 2] = [
+    (
+        b"core 0: 3 0x80000000 (0x00a48433)\ncore 0: 3 0x80000004 (0x009405b3)\n\
+core 0: 3 0x80000008 (0x40958633)\n",
+        3,
+        [2],
+    ),
+    (
+        b"core 0: 3 0x80000000 (0x00a48433)\ncore 0: 3 0x80000004 (0xffffffff)\n\
+core 0: 3 0x80000008 (0x009405b3)\ncore 0: 3 0x8000000c (0x40958633)\n",
+        4,
+        [1],
+    ),
+];
+
 fn text(alloc: Global, text: &str) -> Result<Text, NoMemory> {
     let mut own = Text::new(alloc);
     own.push_str(text)?;
     Ok(own)
+}
+
+/// A label with a mnemonic and points.
+fn groups_of(alloc: Global, op: Op, points: Items<Point>) -> Result<Groups, NoMemory> {
+    let mut ops = Items::new(alloc);
+    ops.push(op)?;
+    let mut groups = Items::new(alloc);
+    groups.push(Label {
+        name: text(alloc, "a")?,
+        selected: true,
+        ops,
+        points,
+        skipped: Items::new(alloc),
+    })?;
+    Ok(groups)
 }
 
 /// A label with the mnemonic `add` and the points `rs1_val == 6` and `rs1_val == 0`.
@@ -60,17 +94,25 @@ fn add_groups(alloc: Global) -> Result<Groups, NoMemory> {
             meaning: Meaning::Nums(Expr::equals(alloc, NumName::Rs1Val, value)?),
         })?;
     }
-    let mut ops = Items::new(alloc);
-    ops.push(Op::Add)?;
-    let mut groups = Items::new(alloc);
-    groups.push(Label {
-        name: text(alloc, "a")?,
-        selected: true,
-        ops,
-        points,
-        skipped: Items::new(alloc),
+    groups_of(alloc, Op::Add, points)
+}
+
+fn cross_of(alloc: Global, text: &str) -> Result<Cross, &'static str> {
+    match parse_cross(alloc, text) {
+        Ok(CrossRead::Read(cross)) => Ok(cross),
+        _ => Err("no cross point"),
+    }
+}
+
+/// A label with a mnemonic that no log has, and one cross point.
+fn cross_groups(alloc: Global, key: &str, cross: Cross) -> Result<Groups, NoMemory> {
+    let mut points = Items::new(alloc);
+    points.push(Point {
+        kind: Kind::CrossComb,
+        key: text(alloc, key)?,
+        meaning: Meaning::Window(cross),
     })?;
-    Ok(groups)
+    groups_of(alloc, Op::Mul, points)
 }
 
 /// Feeds a log in two pieces.
@@ -92,14 +134,14 @@ fn check_cut(
 /// Cuts a log at every place into two pieces.
 fn check_cuts(
     rt: &impl Abort,
-    alloc: Global,
+    groups: (Global, &Groups),
     log: &[u8],
     instructions: u64,
     counts: &[u64],
 ) -> Result<(), Fail> {
-    let groups = add_groups(alloc)?;
+    let (alloc, groups) = groups;
     for at in 0..log.len() {
-        let mut counter = Counter::new(alloc, &groups, Items::new(alloc))?;
+        let mut counter = Counter::new(alloc, groups, Items::new(alloc))?;
         check_cut(rt, &mut counter, log.split_at(at), instructions, counts)?;
     }
     Ok(())
@@ -107,8 +149,19 @@ fn check_cuts(
 
 #[test]
 fn logs_are_cut_at_every_place(rt: HostRuntime) -> Result<(), Fail> {
+    let groups = add_groups(rt.alloc())?;
     for (log, instructions, counts) in &LOGS {
-        check_cuts(&rt, rt.alloc(), log, *instructions, counts)?;
+        check_cuts(&rt, (rt.alloc(), &groups), log, *instructions, counts)?;
+    }
+    Ok(())
+}
+
+#[test]
+fn neighbours_match_a_cross_point(rt: HostRuntime) -> Result<(), Fail> {
+    let key = "[(add,sub) : (add,sub)] :: [a=rd : ?] :: [? : rs1==a]";
+    let groups = cross_groups(rt.alloc(), key, cross_of(rt.alloc(), key)?)?;
+    for (log, instructions, counts) in &NEIGHBOURS {
+        check_cuts(&rt, (rt.alloc(), &groups), log, *instructions, counts)?;
     }
     Ok(())
 }
@@ -118,7 +171,8 @@ fn a_long_line_changes_nothing(rt: HostRuntime) -> Result<(), Fail> {
     let mut log = [b'x'; 5_000].to_vec(rt.alloc())?;
     log.push(b'\n')?;
     log.extend_from_slice(LOGS[1].0)?;
-    check_cuts(&rt, rt.alloc(), log.as_slice(), 2, &[1, 0])
+    let groups = add_groups(rt.alloc())?;
+    check_cuts(&rt, (rt.alloc(), &groups), log.as_slice(), 2, &[1, 0])
 }
 
 #[test]

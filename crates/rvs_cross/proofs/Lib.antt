@@ -2,6 +2,7 @@ pub mod Assignments
 pub mod Binding
 pub mod Choices
 pub mod Excluding
+pub mod Few
 pub mod Members
 pub mod Names
 pub mod Noting

@@ -14,6 +14,8 @@ mod matching;
 mod parsing;
 mod refusal;
 mod solving;
+#[cfg(test)]
+mod tests;
 mod values;
 mod variables;
 
@@ -24,6 +26,3 @@ pub use matching::matches;
 pub use parsing::parse_cross;
 pub use refusal::{CrossRead, CrossRefusal};
 pub use solving::solve_cross;
-
-#[cfg(test)]
-mod tests;

@@ -29,7 +29,8 @@ pub fn solve_cross<L: Ledger>(
     spec: &IsaSpec,
     steps: &mut Steps<L>,
 ) -> Result<Option<Items<Insn>>, NoMemory>
-    ensures first { IfOk result (λ found. found ≡ first_sequence spec.now (cross_view cross.now)) }
+    ensures first { IfOk result (λ found.
+        found ≡ first_sequence spec.now (cross_view cross.now)) }
     ensures length { IfOk result (λ found. IfSome found (λ is.
         length is ≡ length cross.now.list)) }
     ensures computing { IfOk result (λ found. IfSome found (All (IsComputing spec.now))) }

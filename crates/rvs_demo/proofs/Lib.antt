@@ -6,4 +6,4 @@ mod Regions
 mod Reported
 mod Running
 mod Standing
-mod Whole
+pub mod Whole

@@ -28,5 +28,5 @@ pub run_entries : (image : ImageValue) (isa : Isa) (n : ℕ) → Below 256 image
     → entries_of (log_of (trace_of image isa n)) ≡ map as_entry (trace_of image isa n)
 run_entries image isa n text ram =
     let words = run_words (started image isa).setup n (started image isa).state text
-        (start_words image.data_bytes ram) in
+    (start_words image.data_bytes ram) in
     logs_read_back (trace_of image isa n) words (run_follows image isa n)

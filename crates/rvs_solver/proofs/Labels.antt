@@ -13,21 +13,18 @@ use Rattle.rvs_expr.specs.Typed.{Formula}
 use Rattle.rvs_expr.specs.Parse.{parse}
 use Rattle.rvs_expr.specs.Only.{only_numbers, only_registers}
 use Rattle.rvs_expr.proofs.OneLanguage.{numbers_alone, registers_alone}
-use Rattle.rvs_cgf.specs.Groups.{Meaning, op_is, reg_is, regs, nums, Point as PointOf, Label as LabelOf}
+use Rattle.rvs_cgf.specs.Groups.{Meaning, op_is, reg_is, regs, nums, window, Point as PointOf, Label as LabelOf}
 use Rattle.rvs_cgf.specs.GroupView.{meaning_view, point_view, label_view}
-use Rattle.rvs_cgf.specs.Valid.{found, meaning_of, IsValid}
+use Rattle.rvs_cross.specs.Cross.{Place}
+use Rattle.rvs_cross.specs.Parse as crosses
+use Rattle.rvs_cgf.specs.Valid.{found, places, meaning_of, IsValid}
 use Rattle.rvs_cgf.specs.declared.group.Kind.{Kind}
-use Rattle.rvs_cgf.specs.declared.group.Kind.TheVariants.{Mnemonic, Rs1, Rs2, Rd, OpComb, ValComb}
+use Rattle.rvs_cgf.specs.declared.group.Kind.TheVariants.{Mnemonic, Rs1, Rs2, Rd, OpComb, ValComb, CrossComb}
 use Rattle.rvs_cgf.specs.declared.group.Point.{Point}
 use Rattle.rvs_cgf.specs.declared.group.Label.{Label}
-use Rattle.rvs_solver.specs.Choices.{ChoiceValue}
 use Rattle.rvs_solver.specs.Point.{is_valid}
-use Rattle.rvs_solver.specs.First.{first_choice, Solvable, HasOneWordEach}
-use Rattle.rvs_solver.specs.Bound.{bound}
-use Rattle.rvs_solver.specs.Solving.{first_of_point, first_at, bound_at, bound_or_none, IsLeastAt, IsSolvableAt, HaveOneWordEach}
+use Rattle.rvs_solver.specs.Solving.{first_meant, first_of_point, first_at, bound_meant, bound_at, bound_or_none, SolvesAs, IsLeastAt, IsSolvable, IsSolvableAs, IsSolvableAt}
 use Rattle.rvs_solver.specs.declared.solved.Solved.{Solved}
-use Rattle.rvs_solver.specs.declared.solved.Solved.TheVariants.{One}
-use Rattle.rvs_solver.proofs.Answer.{is_least}
 
 -- ---- meanings of keys are of one language
 
@@ -50,6 +47,11 @@ nums_valid : (r : Found Formula) (m : Meaning) → ((f : Formula) → r ≡ Ok f
 nums_valid (Ok f) m only h = let is : nums f ≡ m = cc in ap is_valid (sym is) ∙ only f refl
 nums_valid (Err e) m only h = cc
 
+window_valid : (o : Option (List Place)) (m : Meaning) → option_map window o ≡ Some m
+    → is_valid m ≡ true
+window_valid None m h = cc
+window_valid (Some ps) m h = let is : window ps ≡ m = cc in ap is_valid (sym is)
+
 meaning_valid : (k : Kind) (key : List ℕ) (m : Meaning) → meaning_of k key ≡ Some m
     → is_valid m ≡ true
 meaning_valid Mnemonic key m h = op_valid (op_of_name key) m h
@@ -58,6 +60,7 @@ meaning_valid Rs2 key m h = reg_valid (register_number key) m h
 meaning_valid Rd key m h = reg_valid (register_number key) m h
 meaning_valid OpComb key m h = regs_valid (parse Registers [] key) m (registers_alone [] key) h
 meaning_valid ValComb key m h = nums_valid (parse Numbers [] key) m (numbers_alone [] key) h
+meaning_valid CrossComb key m h = window_valid (places (crosses.parse key)) m h
 
 pub point_valid : (isa : Isa) (l : LabelOf) (k : ℕ) (d : PointOf) → IsValid isa l
     → k < length l.points → is_valid (get_or l.points k d).meaning ≡ true
@@ -84,54 +87,30 @@ valid_there isa l k p v h is =
 
 -- ---- what solve promises
 
-pub first_there : (isa : Isa) (l : LabelOf) (k : ℕ) (p : PointOf) (r : Option ChoiceValue)
-    (s : Option Solved) → slice_get l.points k ≡ Some p
-    → r ≡ first_choice isa l.ops p.kind p.meaning → s ≡ option_map One r → s ≡ first_at isa l k
-first_there isa l k p r s at h is =
-    is ∙ ap (option_map One) h ∙ sym (ap (option_and_then (first_of_point isa l)) at)
+pub first_there : (isa : Isa) (l : LabelOf) (k : ℕ) (p : PointOf) (s : Option Solved)
+    → slice_get l.points k ≡ Some p → s ≡ first_meant isa l.ops p.kind p.meaning
+    → s ≡ first_at isa l k
+first_there isa l k p s at is = is ∙ sym (ap (option_and_then (first_of_point isa l)) at)
 
 some_is : {A : Type 0} (x y : A) → Some x ≡ Some y → x ≡ y
 some_is x y h = cc
 
-pub none_there : (isa : Isa) (l : LabelOf) (k : ℕ) (p : PointOf) (r : Option ChoiceValue)
-    (s : Option Solved) → slice_get l.points k ≡ Some p
-    → IfNone r (Solvable isa l.ops p.kind p.meaning → ⊥) → s ≡ option_map One r
+pub none_there : (isa : Isa) (l : LabelOf) (k : ℕ) (p : PointOf) (s : Option Solved)
+    → slice_get l.points k ≡ Some p
+    → IfNone s (IsSolvableAs isa l.ops p.kind p.meaning → ⊥)
     → IfNone s (IsSolvableAt isa l k → ⊥)
-none_there isa l k p None s at h is =
-    let P : Option Solved → Type 0 = λ o. IfNone o (IsSolvableAt isa l k → ⊥) in
-    subst P (sym is) (λ w. h (subst (λ (x : PointOf). Solvable isa l.ops x.kind x.meaning)
-    (some_is w.point p (sym w.is ∙ at)) w.solvable))
-none_there isa l k p (Some c) s at h is = let P : Option Solved → Type 0 =
-    λ o. IfNone o (IsSolvableAt isa l k → ⊥) in subst P (sym is) tt
+none_there isa l k p None at h = λ w. h (subst (λ (x : PointOf). IsSolvable isa l x)
+    (some_is w.point p (sym w.is ∙ at)) w.solvable)
+none_there isa l k p (Some s) at h = tt
 
-pub least_there : (isa : Isa) (l : LabelOf) (k : ℕ) (p : PointOf) (r : Option ChoiceValue)
-    (s : Option Solved) → slice_get l.points k ≡ Some p
-    → r ≡ first_choice isa l.ops p.kind p.meaning → s ≡ option_map One r
+pub least_there : (isa : Isa) (l : LabelOf) (k : ℕ) (p : PointOf) (s : Option Solved)
+    → slice_get l.points k ≡ Some p → IfSome s (SolvesAs isa l.ops p p.meaning)
     → IfSome s (IsLeastAt isa l k)
-least_there isa l k p None s at h is = let P : Option Solved → Type 0 =
-    λ o. IfSome o (IsLeastAt isa l k) in subst P (sym is) tt
-least_there isa l k p (Some c) s at h is =
-    let P : Option Solved → Type 0 = λ o. IfSome o (IsLeastAt isa l k) in
-    let there : IsLeastAt isa l k (One c) =
-    record {
-      point = p;
-      is = at;
-      choice = c;
-      one = refl;
-      least =
-          is_least isa l.ops p.kind p.meaning c (sym h);
-    } in
-    subst P (sym is) there
-
-pub words_there : (r : Option ChoiceValue) (s : Option Solved) → IfSome r HasOneWordEach
-    → s ≡ option_map One r → IfSome s HaveOneWordEach
-words_there None s h is = let P : Option Solved → Type 0 =
-    λ o. IfSome o HaveOneWordEach in subst P (sym is) tt
-words_there (Some c) s h is = let P : Option Solved → Type 0 =
-    λ o. IfSome o HaveOneWordEach in subst P (sym is) h
+least_there isa l k p None at h = tt
+least_there isa l k p (Some s) at h = record { point = p; is = at; solves = h }
 
 pub cost_there : (isa : Isa) (l : LabelOf) (k : ℕ) (p : PointOf) (new old : ℕ)
-    → slice_get l.points k ≡ Some p → new ≤ old + bound isa l.ops p.meaning
+    → slice_get l.points k ≡ Some p → new ≤ old + bound_meant isa l.ops p.meaning
     → new ≤ old + bound_at isa l k
 cost_there isa l k p new old at h = let P : Option PointOf → Type 0 =
     λ o. new ≤ old + bound_or_none isa l o in subst P (sym at) h

@@ -16,3 +16,4 @@ pub mod Others
 pub mod Mnemonics
 pub mod OneWord
 pub mod Labels
+pub mod Meant

@@ -8,7 +8,7 @@ use Rattle.rvs_insn.specs.Isa.{Isa}
 use Rattle.rvs_insn.specs.Table.{row}
 use Rattle.rvs_cgf.specs.declared.group.Kind.{Kind}
 use Rattle.rvs_cgf.specs.Groups.{Meaning}
-use Rattle.rvs_cgf.specs.Groups.{op_is, reg_is, regs, nums}
+use Rattle.rvs_cgf.specs.Groups.{op_is, reg_is, regs, nums, window}
 use Rattle.rvs_cgf.specs.Hits.{steps_of}
 use Rattle.rvs_solver.specs.Datasets.{rds, rs1s, rs2s}
 use Rattle.rvs_solver.specs.Choices.{choices}
@@ -78,3 +78,5 @@ register_cost_call spec op form a b d (regs e) o not_values =
     (ap not_system (sym o.form_is) ∙ has_choice form o.not_none)) in
     omega (arith, same)
 register_cost_call spec op form a b d (nums e) o not_values = cc
+register_cost_call spec op form a b d (window ps) o not_values =
+    no_cost (length a) (length b) (length d)

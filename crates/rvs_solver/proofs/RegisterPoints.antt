@@ -16,7 +16,7 @@ use Rattle.rvs_cgf.specs.Hits.{is_register, field_of}
 use Rattle.rvs_cgf.specs.declared.group.Kind.{Kind}
 use Rattle.rvs_cgf.specs.declared.group.Kind.TheVariants.{Rd}
 use Rattle.rvs_cgf.specs.Groups.{Meaning}
-use Rattle.rvs_cgf.specs.Groups.{op_is, reg_is, regs, nums}
+use Rattle.rvs_cgf.specs.Groups.{op_is, reg_is, regs, nums, window}
 use Rattle.rvs_solver.specs.Datasets.{rds, rs1s, rs2s, words, base_words, immediates, alignments, aligned, dataset, distance_list}
 use Rattle.rvs_solver.specs.Choices.{Registers, Numbers, choice_of, table_of, is_same, is_zero, has_one_word, is_kept, at_alignment, at_immediate, numbers, registers, with_registers, choices}
 use Rattle.rvs_solver.specs.Point.{hits, is_valid, is_on_values}
@@ -41,6 +41,7 @@ same_hit kind (regs e) op r n m valid not_values =
     register_frame e (table_of (choice_of op r n)) (table_of (choice_of op r m)) valid
     (λ name. refl)
 same_hit kind (nums e) op r n m valid not_values = cc
+same_hit kind (window ps) op r n m valid not_values = refl
 
 never : {X : Type 0} (xs : List X) → find (λ x. false) xs ≡ None
 never [] = refl

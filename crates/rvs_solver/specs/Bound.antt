@@ -11,7 +11,7 @@ use Rattle.rvs_expr.specs.Typed.{Formula}
 use Rattle.rvs_solver.specs.Truth.{constants_in, holds_within}
 use Rattle.rvs_solver.specs.declared.operand.Operand.{Operand}
 use Rattle.rvs_cgf.specs.Groups.{Meaning}
-use Rattle.rvs_cgf.specs.Groups.{op_is, reg_is, regs, nums}
+use Rattle.rvs_cgf.specs.Groups.{op_is, reg_is, regs, nums, window}
 use Rattle.rvs_solver.specs.Datasets.{rds, rs1s, rs2s, words, immediates, alignments, address}
 use Rattle.rvs_solver.specs.Choices.{Registers, Numbers, choice_of, table_of}
 
@@ -103,6 +103,7 @@ bound_of spec (op_is key) op = 0
 bound_of spec (reg_is key) op = 0
 bound_of spec (regs e) op = register_bound spec (row op).form
 bound_of spec (nums e) op = value_bound spec e op (row op).form
+bound_of spec (window ps) op = 0
 
 unfoldable pub bound : Isa → List Op → Meaning → ℕ
 bound spec ops meaning = sum_by (bound_of spec meaning) ops

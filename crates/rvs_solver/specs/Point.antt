@@ -1,7 +1,7 @@
 -- When a choice hits a point.
 use Rattle.std.specs.Prelude.{ℤ, Bool, true, false, List, []}
 use Rattle.rvs_expr.specs.Only.{only_numbers, only_registers}
-use Rattle.rvs_cgf.specs.Groups.{Meaning, op_is, reg_is, regs, nums}
+use Rattle.rvs_cgf.specs.Groups.{Meaning, op_is, reg_is, regs, nums, window}
 use Rattle.rvs_cgf.specs.Hits.{is_meant}
 use Rattle.rvs_cgf.specs.declared.group.Kind.{Kind}
 use Rattle.rvs_solver.specs.Truth.{constants_in}
@@ -17,6 +17,7 @@ is_valid (op_is op) = true
 is_valid (reg_is r) = true
 is_valid (regs e) = only_registers e
 is_valid (nums e) = only_numbers e
+is_valid (window ps) = true
 
 -- the constants that join the values of operands
 abbrev pub constants_of : Meaning → List ℤ

@@ -1,12 +1,16 @@
 // The first choice that hits a point.
 ghost use Rattle.std.specs.Prelude.{◌≡◌, [], ◌+◌, ◌*◌, ◌≤◌, ◌<◌, length, option_map, true, false, IfOk, IfNone, IfSome, find, flat_map, sum_by};
 ghost use Rattle.rvs_insn.specs.Table.{row};
-ghost use Rattle.rvs_cgf.specs.GroupView.{meaning_view, label_view};
+ghost use Rattle.rvs_cross.specs.CrossView.{cross_view};
+ghost use Rattle.rvs_cross.specs.Sequences.{first_sequence};
+ghost use Rattle.rvs_cross.specs.Sequences as sequences;
+ghost use Rattle.rvs_cgf.specs.Groups.{window};
+ghost use Rattle.rvs_cgf.specs.GroupView.{meaning_view, point_view, label_view};
 ghost use Rattle.rvs_cgf.specs.Valid.{IsValid};
 ghost use Rattle.rvs_solver.specs.Choices.{choices, ChoiceValue};
 ghost use Rattle.rvs_solver.specs.Point.{hits, is_valid, is_on_values, constants_of};
-ghost use Rattle.rvs_solver.specs.First.{all_choices, first_choice, Solvable, HasOneWordEach};
-ghost use Rattle.rvs_solver.specs.Solving.{first_at, bound_at, IsLeastAt, IsSolvableAt, HaveOneWordEach};
+ghost use Rattle.rvs_solver.specs.First.{first_choice, Solvable, HasOneWordEach};
+ghost use Rattle.rvs_solver.specs.Solving.{first_at, first_meant, bound_at, bound_meant, IsSingle, IsLeastAt, IsLeastChoice, IsWindow, SolvesAs, IsSolvableAs, IsSolvableAt, HaveOneWordEach};
 ghost use Rattle.rvs_solver.specs.Bound.{bound_of, bound, register_bound};
 
 use crate::choice::Choice;
@@ -16,13 +20,14 @@ use crate::solved::Solved;
 use crate::values::first_value;
 use rvs_base::NoMemory;
 use rvs_cgf::{Kind, Label, Meaning, Point};
+use rvs_cross::{Cross, solve_cross};
 use rvs_expr::Steps;
 use rvs_insn::{Format, IsaSpec, Op, format};
 use std::alloc::Global;
 use std::sync::ledger::Ledger;
 
-/// The first choice, in the order of the datasets, that hits a point of a label, and none exactly
-/// where no choice does.
+/// What solves a point of a label: the first choice, in the order of the datasets, that hits it,
+/// and for a cross point the first instructions that match it; none exactly where nothing does.
 ///
 /// The point is named by its place in the label, which is valid for the core. No list of choices
 /// is made, so the memory doesn't depend on how many there are.
@@ -48,16 +53,89 @@ pub fn solve<L: Ledger>(
         label.now) point) }
 {
     let point = &label.points.as_slice()[point];
-    let choice = solve_point(alloc, label.ops.as_slice(), point, spec, steps)?;
-    Ok(one(choice))
+    solve_meant(alloc, label.ops.as_slice(), point, spec, steps)
 }
 
-fn one(choice: Option<Choice>) -> Option<Solved>
-    ensures { result ≡ option_map Solved.One choice }
+/// What solves a point over some mnemonics.
+fn solve_meant<L: Ledger>(
+    alloc: Global,
+    ops: &[Op],
+    point: &Point,
+    spec: &IsaSpec,
+    steps: &mut Steps<L>,
+) -> Result<Option<Solved>, NoMemory>
+    requires { is_valid (meaning_view point.now.meaning) ≡ true }
+    ensures first { IfOk result (λ s. s ≡ first_meant spec.now ops.now point.now.kind (meaning_view
+        point.now.meaning)) }
+    ensures least { IfOk result (λ s. IfSome s (SolvesAs spec.now ops.now (point_view point.now)
+        (meaning_view point.now.meaning))) }
+    ensures none { IfOk result (λ s. IfNone s (IsSolvableAs spec.now ops.now point.now.kind
+        (meaning_view point.now.meaning) → ⊥)) }
+    ensures words { IfOk result (λ s. IfSome s HaveOneWordEach) }
+    ensures cost { IfOk result (λ s. steps.new ≤ steps.old + bound_meant spec.now ops.now
+        (meaning_view point.now.meaning)) }
 {
-    match choice {
-        Some(choice) => Some(Solved::One(choice)),
-        None => None,
+    match window_of(&point.meaning) {
+        Some(cross) => solve_window(alloc, cross, spec, steps),
+        None => solve_choice(alloc, ops, point, spec, steps),
+    }
+}
+
+/// The cross point that a point means, where it means one.
+fn window_of(meaning: &Meaning) -> Option<&Cross>
+    ensures some { IfSome result (λ c. meaning_view meaning.now ≡ window (cross_view c.now)) }
+    ensures none { IfNone result (IsSingle (meaning_view meaning.now)) }
+{
+    match meaning {
+        Meaning::Window(cross) => Some(cross),
+        Meaning::OpIs(_) | Meaning::RegIs(_) | Meaning::Regs(_) | Meaning::Nums(_) => None,
+    }
+}
+
+/// What solves a cross point.
+fn solve_window<L: Ledger>(
+    alloc: Global,
+    cross: &Cross,
+    spec: &IsaSpec,
+    steps: &mut Steps<L>,
+) -> Result<Option<Solved>, NoMemory>
+    ensures first { IfOk result (λ s. s ≡ option_map Solved.Many (first_sequence spec.now
+        (cross_view cross.now))) }
+    ensures least { IfOk result (λ s. IfSome s (IsWindow spec.now (cross_view cross.now))) }
+    ensures none { IfOk result (λ s. IfNone s (sequences.Solvable spec.now (cross_view cross.now) →
+        ⊥)) }
+    ensures words { IfOk result (λ s. IfSome s HaveOneWordEach) }
+    ensures cost { IfOk result (λ s. steps.new ≤ steps.old + sequences.bound spec.now (cross_view
+        cross.now)) }
+{
+    match solve_cross(alloc, cross, spec, steps)? {
+        Some(insns) => Ok(Some(Solved::Many(insns))),
+        None => Ok(None),
+    }
+}
+
+/// The first choice that hits a point that one instruction hits.
+fn solve_choice<L: Ledger>(
+    alloc: Global,
+    ops: &[Op],
+    point: &Point,
+    spec: &IsaSpec,
+    steps: &mut Steps<L>,
+) -> Result<Option<Solved>, NoMemory>
+    requires { is_valid (meaning_view point.now.meaning) ≡ true }
+    ensures first { IfOk result (λ s. s ≡ option_map Solved.One (first_choice spec.now ops.now
+        point.now.kind (meaning_view point.now.meaning))) }
+    ensures least { IfOk result (λ s. IfSome s (IsLeastChoice spec.now ops.now (point_view
+        point.now))) }
+    ensures none { IfOk result (λ s. IfNone s (Solvable spec.now ops.now point.now.kind
+        (meaning_view point.now.meaning) → ⊥)) }
+    ensures words { IfOk result (λ s. IfSome s HaveOneWordEach) }
+    ensures cost { IfOk result (λ s. steps.new ≤ steps.old + bound spec.now ops.now (meaning_view
+        point.now.meaning)) }
+{
+    match solve_point(alloc, ops, point, spec, steps)? {
+        Some(choice) => Ok(Some(Solved::One(choice))),
+        None => Ok(None),
     }
 }
 
@@ -121,7 +199,7 @@ fn first_of_op<L: Ledger>(
 {
     match meaning {
         Meaning::Nums(expr) => first_value(alloc, expr, op, spec, steps),
-        Meaning::OpIs(_) | Meaning::RegIs(_) | Meaning::Regs(_) => {
+        Meaning::OpIs(_) | Meaning::RegIs(_) | Meaning::Regs(_) | Meaning::Window(_) => {
             Ok(first_of_registers(op, kind, meaning, spec, steps))
         },
     }

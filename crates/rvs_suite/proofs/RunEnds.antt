@@ -155,7 +155,7 @@ not-failed : {call : Call} (program work : List ℕ) (inputs : RunInputs) (test 
 not-failed {call} program work inputs test before run judged one old new spells =
     let bench = bench_of program work inputs in
     let both : Some (before ++ run ∷ []) ≡ Some (before ++ judged.runs) =
-        sym new ∙ judged.made ∙ ap (λ (r : Option (List DeviceRun)). option_map (λ b. b ++ judged.runs) r) old in
+    sym new ∙ judged.made ∙ ap (λ (r : Option (List DeviceRun)). option_map (λ b. b ++ judged.runs) r) old in
     let same : before ++ run ∷ [] ≡ before ++ judged.runs = cc in
     let runs_are = append_cancel_left before (run ∷ []) judged.runs same in
     let verdict = subst (λ (tests : List Test). finish.NotPassed ≡ verdict_of_all (length tests) (passed_onto bench 0 tests judged.runs)) one judged.verdict in

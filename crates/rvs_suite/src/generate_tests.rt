@@ -9,21 +9,24 @@ use std::test::Fail;
 const CHAIN: [(&str, &str); 3] = [
     (
         "rvsuite generate --isa i.yaml --cgf add.cgf --work w",
-        "label add\ncase 0 mnemonics add\nsteps 112\ntotal 1 tests, 1 cases, 0 unsolved, 0 skipped\n",
+        "label add\ncase 0 mnemonics add\ncase 1 cross_comb [(add,sub) : (add,sub)] :: [a=rd : ?] :: [? : rs1==a]\nsteps 144\ntotal 1 tests, 2 cases, 0 unsolved, 0 skipped\n",
     ),
     (
         "rvsuite reference --isa i.yaml --test w/add.S --signature w/add.sig --log w/add.log",
-        "44 instructions, 2 words\n",
+        "69 instructions, 4 words\n",
     ),
     (
         "rvsuite coverage --isa i.yaml --cgf add.cgf --log w/add.log",
-        "instructions 44\nlabel add hit 1 of 1\n1 mnemonics add\ntotal hit 1 of 1\n",
+        "instructions 69\nlabel add hit 2 of 2\n3 mnemonics add\n1 cross_comb [(add,sub) : (add,sub)] :: [a=rd : ?] :: [? : rs1==a]\ntotal hit 2 of 2\n",
     ),
 ];
 
 const FILES: [(&str, &str); 2] = [
     ("i.yaml", "hart_ids: [0]\nhart0:\n  ISA: RV32IM\n"),
-    ("add.cgf", "add:\n  mnemonics:\n    add: 0\n"),
+    (
+        "add.cgf",
+        "add:\n  mnemonics:\n    add: 0\n  cross_comb:\n    '[(add,sub) : (add,sub)] :: [a=rd : ?] :: [? : rs1==a]': 0\n",
+    ),
 ];
 
 fn files(alloc: Global) -> Result<Files, Fail> {
@@ -44,7 +47,10 @@ fn a_test_is_written_run_and_counted(rt: HostRuntime) -> Result<(), Fail> {
         expect(&rt, &run, Status::Done, said, "");
     }
     let signature = host.file("w/add.sig").ok_or("no signature")?;
-    assert_eq!(rt; signature, "00000002\n00000000\n".as_bytes());
+    assert_eq!(rt;
+        signature,
+        "00000002\n00000000\n00020020\n00020020\n".as_bytes()
+    );
     Ok(())
 }
 

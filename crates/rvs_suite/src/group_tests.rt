@@ -36,7 +36,13 @@ cgf 2 l - -\u{2}l: a\n\u{1}\
 cgf 2 l - -\u{2}l: {}\n\u{1}\
 cgf 2 l - -\u{2}l: {mnemonics: {add: 0}, opcode: {add: 0}}\n\u{1}\
 cgf 2 l mnemonics -\u{2}l: {mnemonics: {}}\n\u{1}\
-cgf 3 l cross_comb -\u{2}l: {mnemonics: {add: 0}, cross_comb: {}}\n\u{1}\
+cgf 3 l cross_combs -\u{2}l: {mnemonics: {add: 0}, cross_combs: {}}\n\u{1}\
+l:\n  mnemonics:\n    'add': 0\n  cross_comb:\n    '[mul : ?] :: [a=rd : ?] :: [? : rs1==a]': 0\n  # skipped cross_comb [rv32i_arith] :: [?] :: [?]\n\u{2}l:\n  mnemonics: {add: 0}\n  cross_comb:\n    '[mul : ?] :: [a=rd : ?] :: [? : rs1==a]': 0\n    '[rv32i_arith] :: [?] :: [?]': 0\n\u{1}\
+cgf 8 l cross_comb [add-x] :: [?] :: [?] cross 1\u{2}l: {mnemonics: {add: 0}, cross_comb: {'[add-x] :: [?] :: [?]': 0}}\n\u{1}\
+cgf 8 l cross_comb [add] :: [?] :: [rs1==a] cross 5 a\u{2}l: {mnemonics: {add: 0}, cross_comb: {'[add] :: [?] :: [rs1==a]': 0}}\n\u{1}\
+cgf 8 l cross_comb [lr.w] :: [?] :: [?] cross 6 lr.w\u{2}l: {mnemonics: {add: 0}, cross_comb: {'[lr.w] :: [?] :: [?]': 0}}\n\u{1}\
+cgf 8 l cross_comb [add] :: [?] :: [   rs1 = x1] cross 7 expr 1 column 5\u{2}l: {mnemonics: {add: 0}, cross_comb: {'[add] :: [?] :: [   rs1 = x1]': 0}}\n\u{1}\
+cgf 2 l cross_comb abstract_comb\u{2}l: {mnemonics: {add: 0}, cross_comb: {abstract_comb: 0}}\n\u{1}\
 l:\n  mnemonics:\n    'add': 0\n\u{2}datasets: [a]\nl: {mnemonics: {add: 0}}\n\u{1}\
 cgf 6 l op_comb rs1_val == 1 expr 4 column 1\u{2}l: {mnemonics: {add: 0}, op_comb: {rs1 == rs2 != rd: 0, rs1_val == 1: 0}}\n";
 

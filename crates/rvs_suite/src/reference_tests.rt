@@ -72,7 +72,13 @@ fn an_image_is_run(rt: HostRuntime) -> Result<(), Fail> {
         "--steps 0000003 --signature a.sig --test a.img",
     ] {
         let run = reference(rt.alloc(), options, "a.img", IMAGE, &[])?;
-        expect(&rt, &run.outcome, Status::Done, "3 instructions, 1 words\n", "");
+        expect(
+            &rt,
+            &run.outcome,
+            Status::Done,
+            "3 instructions, 1 words\n",
+            "",
+        );
         expect_file(&rt, &run, "a.sig", "00000007\n");
     }
     Ok(())
@@ -82,7 +88,13 @@ fn an_image_is_run(rt: HostRuntime) -> Result<(), Fail> {
 fn a_text_is_run_and_logged(rt: HostRuntime) -> Result<(), Fail> {
     let options = "--test t.S --signature t.sig --log t.log";
     let run = reference(rt.alloc(), options, "t.S", TEXT, &[])?;
-    expect(&rt, &run.outcome, Status::Done, "3 instructions, 1 words\n", "");
+    expect(
+        &rt,
+        &run.outcome,
+        Status::Done,
+        "3 instructions, 1 words\n",
+        "",
+    );
     expect_file(&rt, &run, "t.sig", "00000007\n");
     expect_file(&rt, &run, "t.log", LOG);
     Ok(())

@@ -168,6 +168,11 @@ fn words_that_are_no_command(rt: HostRuntime) -> Result<(), Fail> {
         "rvsuite reference --isa i.yaml --test t.S --signature t.sig --steps 2000001",
         "rvsuite reference --isa i.yaml --test t.S --signature t.sig --steps 00000001",
         "rvsuite run --isa=i.yaml --cgf=a.cgf --device=d.yaml",
+        "rvsuite demo",
+        "rvsuite demo 0",
+        "rvsuite demo 1000001",
+        "rvsuite demo 1 2",
+        "rvsuite demo -1",
         "rvsuite --help",
         "rvsuite",
     ] {
@@ -370,5 +375,16 @@ fn a_slow_sink_gets_all(rt: HostRuntime) -> Result<(), Fail> {
     let status = run_suite(rt.alloc(), list.as_slice(), &mut host, &mut out, &mut err);
     assert_eq!(rt; out.sink.bytes(), b"PASS 1 words\n".as_slice());
     assert_eq!(rt; status, Status::Done);
+    Ok(())
+}
+
+#[test]
+fn a_program_is_demonstrated(rt: HostRuntime) -> Result<(), Fail> {
+    let words = "rvsuite demo 0000001";
+    let run = run(rt.alloc(), words, Items::new(rt.alloc()), &NO_FAULTS)?;
+    assert_eq!(rt; run.status, Status::Done);
+    let begins = "demo 1\ninstructions 12\nlabel demo hit 7 of 39\n";
+    assert!(rt; run.out.bytes().starts_with(begins.as_bytes()));
+    assert!(rt; run.out.bytes().ends_with(b"total hit 7 of 39\n"));
     Ok(())
 }

@@ -20,7 +20,8 @@ use Rattle.rvs_facts.specs.Facts.{facts_of}
 use Rattle.rvs_facts.specs.Mnemonics.{number, is_same}
 use Rattle.rvs_cross.specs.Cross.{Place}
 use Rattle.rvs_cross.specs.Sequences.{first_sequence}
-use Rattle.rvs_cross.proofs.Sequences.{sequence_matches}
+use Rattle.rvs_cross.specs.Sequences as cross
+use Rattle.rvs_cross.proofs.Solved.{sequence_solves, nothing_solves}
 use Rattle.rvs_cgf.specs.declared.group.Kind.{Kind}
 use Rattle.rvs_cgf.specs.declared.group.Kind.TheVariants.{Rd}
 use Rattle.rvs_cgf.specs.Groups as groups
@@ -30,8 +31,8 @@ use Rattle.rvs_cgf.specs.Hits as points
 use Rattle.rvs_cgf.specs.Valid.{IsValid}
 use Rattle.rvs_solver.specs.Choices.{ChoiceValue, choice_of, fields_of, table_of, is_kept, is_same as is_same_register, numbers, registers, with_registers, choices}
 use Rattle.rvs_solver.specs.Point.{hits, constants_of}
-use Rattle.rvs_solver.specs.First.{all_choices, first_choice}
-use Rattle.rvs_solver.specs.Solving.{first_of_point, first_at, IsSolvableAt}
+use Rattle.rvs_solver.specs.First.{all_choices, first_choice, Solvable}
+use Rattle.rvs_solver.specs.Solving.{IsSingle, first_meant, first_of_point, first_at, IsSolvableAs, IsSolvableAt}
 use Rattle.rvs_solver.specs.declared.solved.Solved.{Solved}
 use Rattle.rvs_solver.specs.declared.solved.Solved.TheVariants.{One, Many}
 use Rattle.rvs_solver.proofs.Search.{Each}
@@ -44,7 +45,7 @@ use Rattle.rvs_test.specs.TestText.{step_limit, test_text}
 use Rattle.rvs_test.specs.Claim.{IsOnly, insns_of, IsHit, AreHit, IsTest}
 use Rattle.rvs_test.specs.Made.{places, is_solved, solved_among, cases_among, numbered, claims_of, unsolved_of, cases_of, named_at}
 use Rattle.rvs_test.specs.Claimed.{HitsAlone, HitsTogether, HitsAs, words_of_case, IsClaimed, TestRuns, IsAccounted}
-use Rattle.rvs_test.proofs.Solvings.{IsSingle, IsFirst, IsFirstWindow, first_is, cases_ready, cases_few, claims_same, name_text, points_text}
+use Rattle.rvs_test.proofs.Solvings.{IsFirst, IsFirstWindow, first_is, cases_ready, cases_few, claims_same, name_text, points_text}
 use Rattle.rvs_test.proofs.Main.{tests_run, steps_high}
 
 -- ---- a choice has a mnemonic of the label
@@ -193,7 +194,7 @@ by_window isa l image o j k is p ps at means found i =
     let together : HitsTogether ps e i.more outcome = record {
       insns = is;
       decoded = i.window;
-      hit = sequence_matches isa ps is found;
+      hit = (sequence_solves isa ps is found).matching;
       left = λ t. (i.first t, i.second t);
     } in
     record {
@@ -319,12 +320,69 @@ found_there : {X : Type 0} (p : X → Bool) (xs : List X) (x : X) → find p xs 
 found_there p [] x h = cc
 found_there p (y ∷ ys) x h = here_or (p y) y x (find p ys) ys h (found_there p ys x)
 
+single_solvable : (isa : Isa) (ops : List Op) (k : Kind) (m : Meaning) → IsSingle m
+    → Solvable isa ops k m → IsSolvableAs isa ops k m
+single_solvable isa ops k (op_is op) single h = h
+single_solvable isa ops k (reg_is n) single h = h
+single_solvable isa ops k (regs f) single h = h
+single_solvable isa ops k (nums f) single h = h
+single_solvable isa ops k (window ps) single h = absurd single
+
+by_first : (isa : Isa) (l : Label) (k : ℕ) (s : Solved) → IsFirst isa l k s → IsSolvableAt isa l k
+by_first isa l k s f =
+    let all = all_choices isa l.ops (constants_of f.point.meaning) in
+    record {
+      point = f.point;
+      is = f.at;
+      solvable = single_solvable isa l.ops f.point.kind f.point.meaning f.single (
+        f.choice,
+        found_there (hits f.point.kind f.point.meaning) all f.choice f.found,
+        found_hits (hits f.point.kind f.point.meaning) all f.choice f.found,
+      );
+    }
+
+by_first_window : (isa : Isa) (l : Label) (k : ℕ) (s : Solved) → IsFirstWindow isa l k s
+    → IsSolvableAt isa l k
+by_first_window isa l k s f =
+    let whole = sequence_solves isa f.places f.insns f.found in
+    let match : cross.Solvable isa f.places =
+    record { insns = f.insns; computing = whole.computing; matching = whole.matching } in
+    record {
+      point = f.point;
+      is = f.at;
+      solvable =
+          subst (λ (m : Meaning). IsSolvableAs isa l.ops f.point.kind m) (sym f.means) match;
+    }
+
 solvable : (isa : Isa) (l : Label) (k : ℕ) (s : Solved) → first_at isa l k ≡ Some s
     → IsSolvableAt isa l k
-solvable isa l k s h = solved_solvable isa l k s h
+solvable isa l k s h =
+    elim (first_is isa l k s h) [
+      | inl f ↦ by_first isa l k s f
+      | inr f ↦ by_first_window isa l k s f
+    ]
+
+none_first : {A : Type 0} (f : A → Solved) (o : Option A) → option_map f o ≡ None → o ≡ None
+none_first f None h = refl
+none_first f (Some c) h = cc
+
+nothing_meant : (isa : Isa) (ops : List Op) (k : Kind) (m : Meaning)
+    → first_meant isa ops k m ≡ None → IsSolvableAs isa ops k m → ⊥
+nothing_meant isa ops k (window ps) h w =
+    nothing_solves isa ps (none_first Many (first_sequence isa ps) h) w
+nothing_meant isa ops k (op_is op) h w =
+    nothing_hits isa ops k (op_is op) (none_first One (first_choice isa ops k (op_is op)) h) w
+nothing_meant isa ops k (reg_is n) h w =
+    nothing_hits isa ops k (reg_is n) (none_first One (first_choice isa ops k (reg_is n)) h) w
+nothing_meant isa ops k (regs f) h w =
+    nothing_hits isa ops k (regs f) (none_first One (first_choice isa ops k (regs f)) h) w
+nothing_meant isa ops k (nums f) h w =
+    nothing_hits isa ops k (nums f) (none_first One (first_choice isa ops k (nums f)) h) w
 
 not_solvable : (isa : Isa) (l : Label) (k : ℕ) → first_at isa l k ≡ None → IsSolvableAt isa l k → ⊥
-not_solvable isa l k h w = unsolved_not_solvable isa l k h w
+not_solvable isa l k h w =
+    nothing_meant isa l.ops w.point.kind w.point.meaning
+    (sym (ap (option_and_then (first_of_point isa l)) w.is) ∙ h) w.solvable
 
 in_range : (a n k : ℕ) → k < n → Contains (range_with_len a n) (a + k)
 in_range a zero k h = absurd (omega arith)

@@ -13,8 +13,8 @@ use Rattle.rvs_cross.specs.Cross.{Place}
 use Rattle.rvs_cross.specs.Parse as crosses
 use Rattle.rvs_cross.specs.Sequences.{middle_registers, in_format, insns_of, first_sequence}
 use Rattle.rvs_cross.specs.Sequences as cross
-use Rattle.rvs_cross.proofs.Places.{read_places}
-use Rattle.rvs_cross.proofs.Sequences.{sequence_length, sequence_computes}
+use Rattle.rvs_cross.proofs.Few.{read_places}
+use Rattle.rvs_cross.proofs.Solved.{sequence_solves}
 use Rattle.rvs_cgf.specs.Groups.{Meaning, op_is, reg_is, regs, nums, window, Point}
 use Rattle.rvs_cgf.specs.Valid.{IsMeant, meaning_of, places}
 use Rattle.rvs_cgf.specs.declared.group.Kind.{Kind}
@@ -102,18 +102,20 @@ computing isa i e c =
 all_computing : (isa : Isa) (is : List Fields) → isa.e ≡ false → All (cross.IsComputing isa) is
     → AllComputing isa is
 all_computing isa [] e all = tt
-all_computing isa (i ∷ is) e all =
-    (computing isa i e (all 0 i (omega arith)),
-    all_computing isa is e (λ k d less. all (suc k) d (omega (arith, less))))
+all_computing isa (i ∷ is) e all = (
+  computing isa i e (all 0 i (omega arith)),
+  all_computing isa is e (λ k d less. all (suc k) d (omega (arith, less))),
+)
 
 pub sequence_ready : (isa : Isa) (ps : List Place) (is : List Fields) → isa.e ≡ false
     → 1 ≤ length ps → length ps ≤ 6 → first_sequence isa ps ≡ Some is → IsSequence isa is
 sequence_ready isa ps is e some few found =
-    let n : length is ≡ length ps = sequence_length isa ps is found in
+    let whole = sequence_solves isa ps is found in
+    let n : length is ≡ length ps = whole.count in
     record {
       some = omega (arith, n, some);
       most = omega (arith, n, few);
-      all = all_computing isa is e (sequence_computes isa ps is found);
+      all = all_computing isa is e whole.computing;
     }
 
 -- ---- the places of a cross point

@@ -21,7 +21,7 @@ use Rattle.rvs_cgf.specs.Groups as groups
 use Rattle.rvs_cgf.specs.Groups.{Meaning, op_is, reg_is, regs, nums, window, Label}
 use Rattle.rvs_solver.specs.Choices.{ChoiceValue}
 use Rattle.rvs_solver.specs.First.{first_choice}
-use Rattle.rvs_solver.specs.Solving.{first_meant, first_of_point, first_at}
+use Rattle.rvs_solver.specs.Solving.{IsSingle, first_meant, first_of_point, first_at}
 use Rattle.rvs_solver.specs.declared.solved.Solved.{Solved}
 use Rattle.rvs_solver.specs.declared.solved.Solved.TheVariants.{One, Many}
 use Rattle.rvs_test.specs.declared.made.Claim.{Claim}
@@ -37,11 +37,6 @@ use Rattle.rvs_test.proofs.Ranges.{range_below}
 use Rattle.rvs_test.proofs.Loops.{numbered_length}
 
 -- ---- what solves a point
-
--- a meaning of one instruction
-abbrev pub IsSingle : Meaning → Type 0
-IsSingle (window ps) = ⊥
-IsSingle m = Unit {0}
 
 -- a point of the label, and the first choice that hits it
 pub record IsFirst (isa : Isa) (l : Label) (k : ℕ) (s : Solved) : Type 0 where
@@ -96,7 +91,7 @@ alone isa l k s p m at means single h =
 
 -- by what the point means
 by_meaning : (isa : Isa) (l : Label) (k : ℕ) (s : Solved) (p : groups.Point) (m : Meaning)
-    → slice_get l.points k ≡ Some p → p.meaning ≡ m → first_meant isa l p.kind m ≡ Some s
+    → slice_get l.points k ≡ Some p → p.meaning ≡ m → first_meant isa l.ops p.kind m ≡ Some s
     → IsFirst isa l k s ⊎ IsFirstWindow isa l k s
 by_meaning isa l k s p (window ps) at means h =
     inr (matched isa l k s p ps (first_sequence isa ps) at means refl h)

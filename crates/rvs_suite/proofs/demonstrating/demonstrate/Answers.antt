@@ -16,10 +16,10 @@ returns-in_err-text g c = λ host.
 pub returns-in_err-print : goal.returns-in_err-print
 returns-in_err-print g c = λ host.
     let p = err_from_is_err_and c.from_residual-in_err-print.result c.from_residual-in_err-print.ensures.1 in
-    let text : c.as_bytes.result.now ≡ demo_text c.args.count = c.as_bytes.ensures.value ∙ c.as_str.ensures ∙ c.in_ok-text.ensures in
+    let text : c.as_bytes.result.now ≡ demo_text c.args.count = c.as_bytes.ensures.value ∙ c.as_str.ensures ∙ c.in_ok-text.ensures.text in
     rw (p.1, p.2) (Meets-stop (λ _. gives Done) (rw text at (c.in_err-print.ensures host)))
 
 pub returns : goal.returns
 returns g c = λ host.
-    let text : c.as_bytes.result.now ≡ demo_text c.args.count = c.as_bytes.ensures.value ∙ c.as_str.ensures ∙ c.in_ok-text.ensures in
+    let text : c.as_bytes.result.now ≡ demo_text c.args.count = c.as_bytes.ensures.value ∙ c.as_str.ensures ∙ c.in_ok-text.ensures.text in
     Meets-then (λ _. gives Done) (rw text at (c.in_ok-print.ensures host)) (Meets-gives Done (world host (g.O.Sink.state c.print.new.out)))
