@@ -8,5 +8,6 @@ loop-preserved c = (
   generated_next c.args.text.now.items c.loop.text.items
       c.push_insn.new.text.items (code (generated c.args.count c.args.seed))
       c.args.count c.loop.counter c.loop.state c.next_seed-state.result c.drawn.result
-      c.loop-test.true c.loop.invariant.1 c.next_seed-state.ensures.next c.drawn.ensures.insn c.in_ok-push_insn.ensures,
+      c.loop-test.true c.loop.invariant.1 c.next_seed-state.ensures.next
+      c.drawn.ensures.insn c.in_ok-push_insn.ensures,
 )
