@@ -13,11 +13,11 @@ const CHAIN: [(&str, &str); 3] = [
     ),
     (
         "rvsuite reference --isa i.yaml --test w/add.S --signature w/add.sig --log w/add.log",
-        "69 instructions, 4 words\n",
+        "66 instructions, 4 words\n",
     ),
     (
         "rvsuite coverage --isa i.yaml --cgf add.cgf --log w/add.log",
-        "instructions 69\nlabel add hit 2 of 2\n3 mnemonics add\n1 cross_comb [(add,sub) : (add,sub)] :: [a=rd : ?] :: [? : rs1==a]\ntotal hit 2 of 2\n",
+        "instructions 66\nlabel add hit 2 of 2\n3 mnemonics add\n1 cross_comb [(add,sub) : (add,sub)] :: [a=rd : ?] :: [? : rs1==a]\ntotal hit 2 of 2\n",
     ),
 ];
 
