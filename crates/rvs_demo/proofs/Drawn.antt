@@ -2,7 +2,6 @@
 use Rattle.std.proofs.Common.{◌≡◌, ℕ, ◌+◌, ◌%◌, ◌/◌, ◌<◌, Bool, true, false, ◌==◌, if◌then◌else◌, Some, None, refl, sym, subst, arith}
 use Rattle.rvs_insn.specs.declared.op.Format.{Format}
 use Rattle.rvs_insn.specs.declared.op.Format.TheVariants.{R}
-use Rattle.rvs_insn.specs.declared.op.Op.{Op}
 use Rattle.rvs_insn.specs.declared.op.Op.TheVariants.{Add, Sub, Xor, Or, And, Slt, Sltu, Mul}
 use Rattle.rvs_insn.specs.Table.{row}
 use Rattle.rvs_insn.specs.Word.{AreOf, IsEncodable}
@@ -26,5 +25,7 @@ drawn_form k = form_by (k == 0) (k == 1) (k == 2) (k == 3) (k == 4) (k == 5) (k 
 pub drawn_encodable : (t : ℕ) → IsEncodable (drawn t)
 drawn_encodable t =
     let low : (n : ℕ) → 8 + n % 8 < 32 = λ n. omega arith in
-    subst (λ (form : Format). AreOf form (Some (8 + t / 8 % 8)) (Some (8 + t / 64 % 8)) (Some (8 + t / 512 % 8)) None)
+    subst
+    (λ (form : Format). AreOf form (Some (8 + t / 8 % 8)) (Some (8 + t / 64 % 8))
+    (Some (8 + t / 512 % 8)) None)
     (sym (drawn_form (t % 8))) (low (t / 8), low (t / 64), low (t / 512))

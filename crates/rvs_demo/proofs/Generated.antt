@@ -1,5 +1,5 @@
 -- One more of the instructions that are drawn.
-use Rattle.std.proofs.Common.{◌≡◌, ℕ, suc, ◌+◌, ◌-◌, ◌<◌, ◌/◌, List, ◌∷◌, ◌++◌, refl, sym, ap, subst, ◌∙◌, append_assoc, arith}
+use Rattle.std.proofs.Common.{◌≡◌, ℕ, suc, ◌+◌, ◌-◌, ◌<◌, ◌/◌, List, ◌++◌, sym, ap, ◌∙◌, append_assoc, arith}
 use Rattle.std.proofs.lemmas.List.Concat.{flat_map-cons}
 use Rattle.std.specs.Int.{w32, to_le_bytes}
 use Rattle.rvs_insn.specs.Fields.{Fields}
@@ -23,8 +23,11 @@ pub generated_next : (old now new all : List ℕ) (n i s next : ℕ) (insn : Fie
     → old ++ all ≡ new ++ code (generated (n - (i + 1)) next)
 generated_next old now new all n i s next insn less inv is drawn_is pushed =
     let rest = code (generated (n - (i + 1)) next) in
-    let more : bytes_of (drawn (next_seed s / 256)) ++ code (generated (n - (i + 1)) (next_seed s)) ≡ bytes_of insn ++ rest =
-        λ k. bytes_of (both (sym is) (sym drawn_is) k) ++ code (generated (n - (i + 1)) (sym is k)) in
+    let more :
+    bytes_of (drawn (next_seed s / 256)) ++ code (generated (n - (i + 1)) (next_seed s))
+    ≡ bytes_of insn ++ rest =
+    λ k. bytes_of (both (sym is) (sym drawn_is) k)
+    ++ code (generated (n - (i + 1)) (sym is k)) in
     inv ∙ ap (λ l. now ++ l) (split n i s less ∙ more) ∙ sym (append_assoc now (bytes_of insn) rest)
     ∙ ap (λ l. l ++ rest) (sym pushed)
   where

@@ -1,5 +1,5 @@
 -- What a run logs, step by step, and what a counter was fed of it.
-use Rattle.std.proofs.Common.{◌≡◌, ℕ, zero, suc, ◌+◌, ◌-◌, ◌*◌, ◌<◌, ◌≤◌, true, false, List, [], ◌∷◌, ◌++◌, refl, sym, ap, subst, ◌∙◌, append_assoc, append-nil, arith}
+use Rattle.std.proofs.Common.{◌≡◌, ℕ, suc, ◌+◌, ◌-◌, ◌*◌, ◌<◌, ◌≤◌, true, false, List, [], ◌∷◌, ◌++◌, refl, sym, ap, subst, ◌∙◌, append_assoc, append-nil, arith}
 use Rattle.rvs_machine.specs.declared.event.Event.{Event}
 use Rattle.rvs_machine.specs.declared.event.Event.TheVariants.{Ran, Halted, Trapped}
 use Rattle.rvs_machine.specs.Machine.{Setup, State, Whole, step_of}
@@ -78,9 +78,9 @@ Running-more limit i first now next old mid new less r goes is fed low =
       fed = Fed-more old mid new r.done piece r.fed fed;
       log =
           r.log
-              ∙ ap (λ n. r.done ++ log_from now.setup n now.state) e
-              ∙ ap (λ l. r.done ++ l) (log_goes now.setup left now.state goes)
-              ∙ sym (append_assoc r.done piece rest);
+          ∙ ap (λ n. r.done ++ log_from now.setup n now.state) e
+          ∙ ap (λ l. r.done ++ l) (log_goes now.setup left now.state goes)
+          ∙ sym (append_assoc r.done piece rest);
       low = omega (arith, r.low);
     })
 

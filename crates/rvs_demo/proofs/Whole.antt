@@ -7,7 +7,7 @@ use Rattle.std.specs.Int.{w32, to_le_bytes}
 use Rattle.rvs_insn.specs.declared.op.Op.TheVariants.{Lui, Addi}
 use Rattle.rvs_insn.specs.Fields.{Fields}
 use Rattle.rvs_insn.specs.Names.{is_admitted, is_m}
-use Rattle.rvs_insn.specs.Word.{word_of, IsEncodable}
+use Rattle.rvs_insn.specs.Word.{word_of}
 use Rattle.rvs_machine.specs.Image.{text_base, data_base}
 use Rattle.rvs_machine.specs.Machine.{Setup, started, read_reg, write_reg}
 use Rattle.rvs_machine.specs.Run.{run_of}

@@ -1,5 +1,5 @@
 -- What one step adds to a log.
-use Rattle.std.specs.Prelude.{ℕ, Bool, true, false, List, [], ◌∷◌}
+use Rattle.std.specs.Prelude.{Bool, true, false, List, [], ◌∷◌}
 use Rattle.rvs_machine.specs.declared.event.Executed.{Executed}
 use Rattle.rvs_machine.specs.declared.event.Event.{Event}
 use Rattle.rvs_machine.specs.declared.event.Event.TheVariants.{Ran, Halted, Trapped}

@@ -11,7 +11,16 @@ use Rattle.rvs_machine.specs.Image.{ImageValue, data_base}
 
 -- RV32IM, without misaligned data
 abbrev pub core : Isa
-core = record { e = false; m = true; a = false; zicsr = false; zifencei = false; misaligned = false; address_bits = 32 }
+core =
+    record {
+      e = false;
+      m = true;
+      a = false;
+      zicsr = false;
+      zifencei = false;
+      misaligned = false;
+      address_bits = 32;
+    }
 
 -- the numbers that the program is drawn from, each from the one before it
 abbrev pub next_seed : ℕ → ℕ

@@ -55,8 +55,8 @@ fn count_step(machine: &mut Machine, counter: &mut Counter<'_>) -> bool
     }
 }
 
-/// Runs a machine for at most so many steps, and counts what is executed, line by line, as it comes.
-/// It takes no memory.
+/// Runs a machine for at most so many steps, and counts what is executed, line by line, as it
+/// comes. It takes no memory.
 pub(crate) fn count_run(machine: &mut Machine, counter: &mut Counter<'_>, limit: u64)
     requires { counter.old.fed + 65 * limit ≤ 2 ^ 40 }
     ensures { Fed counter.old counter.new

@@ -1,4 +1,4 @@
-use Rattle.std.proofs.Common.{◌≡◌, ℕ, List, [], Option, Some, None, sym, ap, ◌∙◌, replicate, rules}
+use Rattle.std.proofs.Common.{◌≡◌, ℕ, List, [], Some, None, sym, ap, ◌∙◌, replicate, rules}
 use Rattle.rvs_machine.specs.Image.{ImageValue, data_base, if_image}
 use Rattle.rvs_machine.specs.declared.symbol.Symbol.{Symbol}
 use Rattle.rvs_demo.specs.Program.{code, program, image}
@@ -22,8 +22,13 @@ made text bytes symbols n p q r = λ i. image_with (p i) (q i) (r i)
 
 pub unreachable-requires : goal.unreachable-requires
 unreachable-requires c =
-    let text : c.from-text.result ≡ code (program c.args.count) = c.from-text.ensures ∙ c.in_ok-text.ensures in
+    let text : c.from-text.result ≡ code (program c.args.count) =
+    c.from-text.ensures ∙ c.in_ok-text.ensures in
     let items : c.in_ok-to_vec.field-0.items ≡ replicate 8 0 = search rules in
-    let same = made c.from-text.result c.from-data.result c.new-symbols.result c.args.count text (c.from-data.ensures ∙ items) c.new-symbols.ensures in
-    let none : None ≡ Some (image c.args.count) = sym c.in-None.is ∙ c.new.ensures ∙ ap if_image same ∙ in_order c.args.count c.requires in
+    let same =
+    made c.from-text.result c.from-data.result c.new-symbols.result c.args.count text
+    (c.from-data.ensures ∙ items) c.new-symbols.ensures in
+    let none : None ≡ Some (image c.args.count) =
+    sym c.in-None.is ∙ c.new.ensures ∙ ap if_image same
+    ∙ in_order c.args.count c.requires in
     cc
