@@ -345,13 +345,13 @@ by_first_window : (isa : Isa) (l : Label) (k : ℕ) (s : Solved) → IsFirstWind
     → IsSolvableAt isa l k
 by_first_window isa l k s f =
     let whole = sequence_solves isa f.places f.insns f.found in
-    let match : cross.Solvable isa f.places =
+    let solves : cross.Solvable isa f.places =
     record { insns = f.insns; computing = whole.computing; matching = whole.matching } in
     record {
       point = f.point;
       is = f.at;
       solvable =
-          subst (λ (m : Meaning). IsSolvableAs isa l.ops f.point.kind m) (sym f.means) match;
+          subst (λ (m : Meaning). IsSolvableAs isa l.ops f.point.kind m) (sym f.means) solves;
     }
 
 solvable : (isa : Isa) (l : Label) (k : ℕ) (s : Solved) → first_at isa l k ≡ Some s

@@ -11,7 +11,7 @@ use Rattle.rvs_insn.specs.Fields.{Fields}
 use Rattle.rvs_insn.specs.Word.{AreOf, IsEncodable}
 use Rattle.rvs_cross.specs.Cross.{Place}
 use Rattle.rvs_cross.specs.Parse as crosses
-use Rattle.rvs_cross.specs.Sequences.{middle_registers, in_format, insns_of, first_sequence}
+use Rattle.rvs_cross.specs.Sequences.{middle_registers, middle, at_rs1, at_rd, over_registers, in_format, insns_of, first_sequence}
 use Rattle.rvs_cross.specs.Sequences as cross
 use Rattle.rvs_cross.proofs.Few.{read_places}
 use Rattle.rvs_cross.proofs.Solved.{sequence_solves}
@@ -21,6 +21,7 @@ use Rattle.rvs_cgf.specs.declared.group.Kind.{Kind}
 use Rattle.rvs_cgf.specs.declared.group.Kind.TheVariants as kind
 use Rattle.rvs_solver.proofs.Search.{Each}
 use Rattle.rvs_solver.proofs.Product.{each_flat, each_map}
+use Rattle.rvs_solver.proofs.Operands.{each_then}
 use Rattle.rvs_test.specs.Sound.{computes, IsMiddle, IsComputing, AllComputing, IsSequence}
 
 -- ---- the instructions of a mnemonic
@@ -28,13 +29,41 @@ use Rattle.rvs_test.specs.Sound.{computes, IsMiddle, IsComputing, AllComputing, 
 abbrev IsInner : ℕ → Type 0
 IsInner r = (8 ≤ r) × (r < 16)
 
+-- a register that is there, from x8 to x15
+abbrev IsThere : Option ℕ → Type 0
+IsThere None = ⊥
+IsThere (Some r) = IsInner r
+
+abbrev IsMissing : Option ℕ → Type 0
+IsMissing None = Unit {0}
+IsMissing (Some r) = ⊥
+
 range_inner : (a n : ℕ) → 8 ≤ a → a + n ≤ 16 → Each IsInner (range_with_len a n)
 range_inner a zero low high = tt
 range_inner a (suc n) low high =
     ((low, omega arith), range_inner (a + 1) n (omega arith) (omega arith))
 
-inner : Each IsInner middle_registers
-inner = range_inner 8 8 (omega arith) (omega arith)
+inner : Each IsThere middle
+inner =
+    each_map Some IsInner IsThere (λ r h. h) middle_registers
+    (range_inner 8 8 (omega arith) (omega arith))
+
+record IsOver (op : Op) (imm : Option ℤ) (P : Option ℕ → Type 0) (i : Fields) : Type 0 where
+  op_is : i.op ≡ op
+  imm_is : i.imm ≡ imm
+  rd : IsThere i.rd
+  rs1 : IsThere i.rs1
+  rs2 : P i.rs2
+
+over_each : (op : Op) (imm : Option ℤ) (P : Option ℕ → Type 0) (rs2s : List (Option ℕ))
+    → Each P rs2s → Each (IsOver op imm P) (over_registers op imm middle middle rs2s)
+unfolding over_registers
+over_each op imm P rs2s all =
+    each_flat (at_rd op imm middle rs2s) IsThere (IsOver op imm P)
+    (λ d hd. each_flat (at_rs1 op imm rs2s d) IsThere (IsOver op imm P)
+    (λ s hs. each_map (λ t. record { op = op; rd = d; rs1 = s; rs2 = t; imm = imm }) P (IsOver op imm P)
+    (λ t ht. record { op_is = refl; imm_is = refl; rd = hd; rs1 = hs; rs2 = ht }) rs2s all)
+    middle inner) middle inner
 
 record IsOf (op : Op) (i : Fields) : Type 0 where
   form : computes (row op).form ≡ true
@@ -43,37 +72,91 @@ record IsOf (op : Op) (i : Fields) : Type 0 where
   rs1 : IsMiddle i.rs1
   rs2 : IsMiddle i.rs2
 
+is_middle : (o : Option ℕ) → IsThere o → IsMiddle o
+is_middle (Some r) h = h
+is_middle None h = absurd h
+
+no_middle : (o : Option ℕ) → IsMissing o → IsMiddle o
+no_middle None h = tt
+no_middle (Some r) h = absurd h
+
+-- the fields are those of the format
+of_r : (rd rs1 rs2 : Option ℕ) → IsThere rd → IsThere rs1 → IsThere rs2
+    → AreOf R rd rs1 rs2 None
+of_r (Some d) (Some s) (Some t) a b c =
+    (omega (arith, a.1), omega (arith, b.1), omega (arith, c.1))
+of_r None rs1 rs2 a b c = absurd a
+of_r (Some d) None rs2 a b c = absurd b
+of_r (Some d) (Some s) None a b c = absurd c
+
+of_i : (rd rs1 rs2 : Option ℕ) → IsThere rd → IsThere rs1 → IsMissing rs2
+    → AreOf I rd rs1 rs2 (Some (pos 1))
+of_i (Some d) (Some s) None a b c = (omega (arith, a.1), omega (arith, b.1), omega arith)
+of_i None rs1 rs2 a b c = absurd a
+of_i (Some d) None rs2 a b c = absurd b
+of_i (Some d) (Some s) (Some t) a b c = absurd c
+
+of_shift : (rd rs1 rs2 : Option ℕ) → IsThere rd → IsThere rs1 → IsMissing rs2
+    → AreOf Shift rd rs1 rs2 (Some (pos 1))
+of_shift (Some d) (Some s) None a b c = (omega (arith, a.1), omega (arith, b.1), omega arith)
+of_shift None rs1 rs2 a b c = absurd a
+of_shift (Some d) None rs2 a b c = absurd b
+of_shift (Some d) (Some s) (Some t) a b c = absurd c
+
+-- those of an instruction of this mnemonic
+encodable_by : (form : Format) (op : Op) (i : Fields) (imm : Option ℤ) → (row op).form ≡ form
+    → i.op ≡ op → i.imm ≡ imm → AreOf form i.rd i.rs1 i.rs2 imm → IsEncodable i
+encodable_by form op i imm e same_op same_imm h =
+    subst (λ (f : Format). AreOf f i.rd i.rs1 i.rs2 i.imm)
+    (sym (ap (λ (o : Op). (row o).form) same_op ∙ e))
+    (subst (λ (z : Option ℤ). AreOf form i.rd i.rs1 i.rs2 z) (sym same_imm) h)
+
+with_sources : (op : Op) (i : Fields) → (row op).form ≡ R → IsOver op None IsThere i → IsOf op i
+with_sources op i e o =
+    record {
+      form = ap computes e;
+      encodable = encodable_by R op i None e o.op_is o.imm_is (of_r i.rd i.rs1 i.rs2 o.rd o.rs1 o.rs2);
+      rd = is_middle i.rd o.rd;
+      rs1 = is_middle i.rs1 o.rs1;
+      rs2 = is_middle i.rs2 o.rs2;
+    }
+
+with_immediate : (op : Op) (i : Fields) → (row op).form ≡ I
+    → IsOver op (Some (pos 1)) IsMissing i → IsOf op i
+with_immediate op i e o =
+    record {
+      form = ap computes e;
+      encodable = encodable_by I op i (Some (pos 1)) e o.op_is o.imm_is
+          (of_i i.rd i.rs1 i.rs2 o.rd o.rs1 o.rs2);
+      rd = is_middle i.rd o.rd;
+      rs1 = is_middle i.rs1 o.rs1;
+      rs2 = no_middle i.rs2 o.rs2;
+    }
+
+with_amount : (op : Op) (i : Fields) → (row op).form ≡ Shift
+    → IsOver op (Some (pos 1)) IsMissing i → IsOf op i
+with_amount op i e o =
+    record {
+      form = ap computes e;
+      encodable = encodable_by Shift op i (Some (pos 1)) e o.op_is o.imm_is
+          (of_shift i.rd i.rs1 i.rs2 o.rd o.rs1 o.rs2);
+      rd = is_middle i.rd o.rd;
+      rs1 = is_middle i.rs1 o.rs1;
+      rs2 = no_middle i.rs2 o.rs2;
+    }
+
 of_form : (form : Format) (op : Op) → (row op).form ≡ form → Each (IsOf op) (in_format form op)
 of_form R op e =
-    each_flat _ IsInner (IsOf op) (λ d hd. each_flat _ IsInner (IsOf op) (λ s hs. each_map _ IsInner (IsOf op)
-    (λ t ht. record {
-      form = ap computes e;
-      encodable = subst (λ (f : Format). AreOf f (Some d) (Some s) (Some t) None) (sym e)
-          (omega (arith, hd.1), omega (arith, hs.1), omega (arith, ht.1));
-      rd = hd;
-      rs1 = hs;
-      rs2 = ht;
-    }) middle_registers inner) middle_registers inner) middle_registers inner
+    each_then (IsOver op None IsThere) (IsOf op) (λ i o. with_sources op i e o)
+    (over_registers op None middle middle middle) (over_each op None IsThere middle inner)
 of_form I op e =
-    each_flat _ IsInner (IsOf op) (λ d hd. each_map _ IsInner (IsOf op)
-    (λ s hs. record {
-      form = ap computes e;
-      encodable = subst (λ (f : Format). AreOf f (Some d) (Some s) None (Some (pos 1))) (sym e)
-          (omega (arith, hd.1), omega (arith, hs.1), omega arith);
-      rd = hd;
-      rs1 = hs;
-      rs2 = tt;
-    }) middle_registers inner) middle_registers inner
+    each_then (IsOver op (Some (pos 1)) IsMissing) (IsOf op) (λ i o. with_immediate op i e o)
+    (over_registers op (Some (pos 1)) middle middle (None ∷ []))
+    (over_each op (Some (pos 1)) IsMissing (None ∷ []) (tt, tt))
 of_form Shift op e =
-    each_flat _ IsInner (IsOf op) (λ d hd. each_map _ IsInner (IsOf op)
-    (λ s hs. record {
-      form = ap computes e;
-      encodable = subst (λ (f : Format). AreOf f (Some d) (Some s) None (Some (pos 1))) (sym e)
-          (omega (arith, hd.1), omega (arith, hs.1), omega arith);
-      rd = hd;
-      rs1 = hs;
-      rs2 = tt;
-    }) middle_registers inner) middle_registers inner
+    each_then (IsOver op (Some (pos 1)) IsMissing) (IsOf op) (λ i o. with_amount op i e o)
+    (over_registers op (Some (pos 1)) middle middle (None ∷ []))
+    (over_each op (Some (pos 1)) IsMissing (None ∷ []) (tt, tt))
 of_form form op e = tt
 
 of_mnemonic : (op : Op) → Each (IsOf op) (insns_of op)
