@@ -162,6 +162,13 @@ not-failed {call} program work inputs test before run judged one old new spells 
     let said = subst (λ (news : List DeviceRun). finish.NotPassed ≡ verdict_of_all 1 (passed_onto bench 0 (test ∷ []) news)) (sym runs_are) verdict in
     let no : finish.NotPassed ≡ finish.Done = said ∙ one_passes bench test run spells in cc
 
+done-only : (status : Status)
+    → (status ≡ answer.Done) ⊎ (status ≡ answer.NotPassed) ⊎ (status ≡ answer.NoMemory)
+    → (status ≡ answer.NotPassed → ⊥) → (status ≡ answer.Done) ⊎ (status ≡ answer.NoMemory)
+done-only status (inl done) never = inl done
+done-only status (inr (inl not_passed)) never = absurd (never not_passed)
+done-only status (inr (inr no_memory)) never = inr no_memory
+
 given-left : {call : Call} (program work : List ℕ) (inputs : RunInputs) (found : Result RunInputs Stop)
     → found ≡ Ok inputs → HasLeft found (HasJudged call program work finish.NotPassed) → HasJudged call program work finish.NotPassed inputs
 given-left {call} program work inputs found is l =
@@ -200,13 +207,11 @@ judges {call} files program isa names device work r =
         | inr no_memory ↦ inr no_memory
       ];
       alone = λ inputs test before run given one was now spells none. elim (asked_means ran files command r.told refl none) [
-        | inl m ↦ elim (ended files program isa names device work inputs call.status m.end given m.comes m.status_is) [
-          | inl done ↦ inl done
-          | inr (inl not_passed) ↦ absurd (not-failed {call = call} program work inputs test before run
-              (given-left {call = call} program work inputs (run_inputs_in files isa names device) given
-              (left {call = call} files program isa names device work finish.NotPassed r.told (at_status ran files command answer.NotPassed r.told refl not_passed).completes)) one was now spells)
-          | inr (inr no_memory) ↦ inr no_memory
-        ]
+        | inl m ↦ done-only call.status
+            (ended files program isa names device work inputs call.status m.end given m.comes m.status_is)
+            (λ not_passed. not-failed {call = call} program work inputs test before run
+            (given-left {call = call} program work inputs (run_inputs_in files isa names device) given
+            (left {call = call} files program isa names device work finish.NotPassed r.told (at_status ran files command answer.NotPassed r.told refl not_passed).completes)) one was now spells)
         | inr no_memory ↦ inr no_memory
       ];
       others_kept = λ files' other. run-spares r.ran files files' program isa names device work other r.told r.asks;
