@@ -21,7 +21,7 @@ use Rattle.rvs_suite.proofs.Keeping.{keeps}
 abbrev nothing_read : Result (Unit {0}) Stop
 nothing_read = Ok tt
 
-works : (files : Files) (count : ℕ) → Works (Demo count) files nothing_read
+abbrev works : (files : Files) (count : ℕ) → Works (Demo count) files nothing_read
 works files count =
     record {
       inputs = gives tt;
