@@ -3,35 +3,23 @@
 
 mod command;
 mod comparing;
-#[cfg(test)]
-mod coverage_tests;
 mod covering;
 mod demonstrating;
 mod device_file;
 mod gathering;
-#[cfg(test)]
-mod generate_tests;
 mod generating;
 mod group_commands;
 mod group_files;
-#[cfg(test)]
-mod group_tests;
 mod isa_file;
 mod judging;
-#[cfg(test)]
-mod judging_tests;
 mod listing;
 mod making;
 mod normalizing;
 mod reference;
-#[cfg(test)]
-mod reference_tests;
 mod run;
 mod suite;
 mod test_file;
 mod test_run;
-#[cfg(test)]
-mod tests;
 mod texts;
 mod validating;
 mod windows;

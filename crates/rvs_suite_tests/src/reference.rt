@@ -1,7 +1,7 @@
-// Whole runs of `reference` over a host and sinks in memory. No clause says that a run has the memory that it wants, nor how its lines are spelt.
-use crate::Status;
-use crate::tests::{NO_FAULTS, Outcome, expect, run_on};
-use rvs_base::{Files, Items, MemoryHost, Text};
+// Whole runs of `reference`.
+use crate::runs::{NO_FAULTS, Outcome, expect, files_of, run_on};
+use rvs_base::{Items, MemoryHost};
+use rvs_suite::Status;
 use std::alloc::Global;
 use std::process::Abort;
 use std::test::Fail;
@@ -34,12 +34,6 @@ struct Run {
     host: MemoryHost,
 }
 
-fn add(alloc: Global, files: &mut Files, name: &str, text: &str) -> Result<(), Fail> {
-    let name = Text::from(String::from_str(alloc, name)?);
-    files.push((name, Items::from(text.as_bytes().to_vec(alloc)?)))?;
-    Ok(())
-}
-
 /// Runs `test`, which is called `a.img` or `t.S` in the words. The listed calls of the host fail.
 fn reference(
     alloc: Global,
@@ -48,9 +42,7 @@ fn reference(
     test: &str,
     fail: &[u64],
 ) -> Result<Run, Fail> {
-    let mut files: Files = Items::new(alloc);
-    add(alloc, &mut files, "i.yaml", ISA)?;
-    add(alloc, &mut files, name, test)?;
+    let files = files_of(alloc, &[("i.yaml", ISA), (name, test)])?;
     let mut host = MemoryHost::new(files, Items::from(fail.to_vec(alloc)?), Items::new(alloc));
     let words = format!(in alloc; "rvsuite reference --isa i.yaml {options}")?;
     let outcome = run_on(alloc, words.as_str(), &mut host, &NO_FAULTS)?;

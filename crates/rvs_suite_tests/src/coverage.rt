@@ -1,7 +1,7 @@
 // Whole runs of `coverage` and `normalize`.
-use crate::Status;
-use crate::tests::{NO_FAULTS, expect, run};
-use rvs_base::{Files, Items, Text};
+use crate::runs::{NO_FAULTS, expect, files_of, run};
+use rvs_base::Files;
+use rvs_suite::Status;
 use std::alloc::Global;
 use std::test::Fail;
 
@@ -59,24 +59,15 @@ const GROUP: &str =
 const NORMAL: &str =
     "addi:\n  mnemonics:\n    'addi': 0\n  rd:\n    'x6': 0\n  val_comb:\n    'imm_val == 1': 0\n    'imm_val == 2': 0\n";
 
-fn add(alloc: Global, files: &mut Files, name: &str, text: &str) -> Result<(), Fail> {
-    let name = Text::from(String::from_str(alloc, name)?);
-    files.push((name, Items::from(text.as_bytes().to_vec(alloc)?)))?;
-    Ok(())
-}
+const FILES: [(&str, &str); 4] = [
+    ("i.yaml", "hart_ids: [0]\nhart0:\n  ISA: RV32IM\n"),
+    ("addi.cgf", GROUP),
+    ("bad.cgf", "bad: {mnemonics: {foo: 0}}\n"),
+    ("t.log", LOG),
+];
 
 fn inputs(alloc: Global) -> Result<Files, Fail> {
-    let mut files: Files = Items::new(alloc);
-    add(
-        alloc,
-        &mut files,
-        "i.yaml",
-        "hart_ids: [0]\nhart0:\n  ISA: RV32IM\n",
-    )?;
-    add(alloc, &mut files, "addi.cgf", GROUP)?;
-    add(alloc, &mut files, "bad.cgf", "bad: {mnemonics: {foo: 0}}\n")?;
-    add(alloc, &mut files, "t.log", LOG)?;
-    Ok(files)
+    files_of(alloc, &FILES)
 }
 
 #[test]

@@ -1,8 +1,7 @@
 // A test that is written, run and counted.
-use crate::Status;
-use crate::tests::{NO_FAULTS, expect, run_on};
-use rvs_base::{Files, Items, MemoryHost, Text};
-use std::alloc::Global;
+use crate::runs::{NO_FAULTS, expect, files_of, run_on};
+use rvs_base::{Items, MemoryHost};
+use rvs_suite::Status;
 use std::test::Fail;
 
 /// Words with one space between them, and the output.
@@ -29,19 +28,14 @@ const FILES: [(&str, &str); 2] = [
     ),
 ];
 
-fn files(alloc: Global) -> Result<Files, Fail> {
-    let mut files: Files = Items::new(alloc);
-    for (name, text) in FILES {
-        let name = Text::from(String::from_str(alloc, name)?);
-        files.push((name, Items::from(text.as_bytes().to_vec(alloc)?)))?;
-    }
-    Ok(files)
-}
-
 #[test]
 fn a_test_is_written_run_and_counted(rt: HostRuntime) -> Result<(), Fail> {
     let alloc = rt.alloc();
-    let mut host = MemoryHost::new(files(alloc)?, Items::new(alloc), Items::new(alloc));
+    let mut host = MemoryHost::new(
+        files_of(alloc, &FILES)?,
+        Items::new(alloc),
+        Items::new(alloc),
+    );
     for (line, said) in CHAIN {
         let run = run_on(alloc, line, &mut host, &NO_FAULTS)?;
         expect(&rt, &run, Status::Done, said, "");
@@ -64,7 +58,7 @@ fn each_call_of_generate_fails_in_turn(rt: HostRuntime) -> Result<(), Fail> {
     let (words, _) = CHAIN[0];
     for call in 0..CALLS {
         let fail = Items::from([call].as_slice().to_vec(alloc)?);
-        let mut host = MemoryHost::new(files(alloc)?, fail, Items::new(alloc));
+        let mut host = MemoryHost::new(files_of(alloc, &FILES)?, fail, Items::new(alloc));
         let run = run_on(alloc, words, &mut host, &NO_FAULTS)?;
         assert_eq!(rt; run.status, Status::HostFault);
         assert!(rt; run.err.bytes().starts_with(b"rvsuite: cannot "));

@@ -1,7 +1,7 @@
 // Whole runs of `run` over a device in memory.
-use crate::Status;
-use crate::tests::{Faults, NO_FAULTS, expect, run_on};
-use rvs_base::{Answer, Files, Items, Leaves, MemoryHost, Text};
+use crate::runs::{Faults, NO_FAULTS, expect, files_of, run_on};
+use rvs_base::{Answer, Items, Leaves, MemoryHost};
+use rvs_suite::Status;
 use std::alloc::Global;
 use std::test::Fail;
 
@@ -60,15 +60,6 @@ const FILES: [(&str, &str); 5] = [
     ("-w/add.device.sig", "00000002\n00000000\n"),
 ];
 
-fn files(alloc: Global) -> Result<Files, Fail> {
-    let mut files: Files = Items::new(alloc);
-    for (name, text) in FILES {
-        let name = Text::from(String::from_str(alloc, name)?);
-        files.push((name, Items::from(text.as_bytes().to_vec(alloc)?)))?;
-    }
-    Ok(files)
-}
-
 fn answers(alloc: Global, left: Option<&str>) -> Result<Items<Answer>, Fail> {
     let leaves = match left {
         None => Leaves::Untouched,
@@ -81,7 +72,7 @@ fn answers(alloc: Global, left: Option<&str>) -> Result<Items<Answer>, Fail> {
 
 fn host(alloc: Global, left: Option<&str>, fail: &[u64]) -> Result<MemoryHost, Fail> {
     let fail = Items::from(fail.to_vec(alloc)?);
-    Ok(MemoryHost::new(files(alloc)?, fail, answers(alloc, left)?))
+    Ok(MemoryHost::new(files_of(alloc, &FILES)?, fail, answers(alloc, left)?))
 }
 
 #[test]

@@ -1,62 +1,11 @@
-// Whole runs over a host and sinks in memory. No clause says that a run has the memory that it wants, nor how its lines are spelt.
-use crate::{Status, run_suite};
-use rvs_base::{Bytes, Failed, Files, Items, MemoryHost, MemorySink, Sink, Text};
-use std::alloc::Global;
-use std::process::Abort;
-use std::test::Fail;
-
-#[derive(Clone, Copy)]
-pub struct Faults<'f> {
-    pub host: &'f [u64],
-    pub out: &'f [u64],
-    pub err: &'f [u64],
-}
-
-pub const NO_FAULTS: Faults<'static> = Faults {
-    host: &[],
-    out: &[],
-    err: &[],
+// Whole runs of `compare`, of words that are no command, and over a slow sink.
+use crate::runs::{
+    Faults, NO_FAULTS, Outcome, add, copied, expect, files_of, lines, run, status_of,
 };
-
-#[derive(Drop)]
-pub struct Outcome {
-    pub status: Status,
-    pub out: MemorySink,
-    pub err: MemorySink,
-}
-
-pub fn expect(rt: &impl Abort, run: &Outcome, status: Status, out: &str, err: &str) {
-    assert_eq!(rt; run.out.bytes(), out.as_bytes());
-    assert_eq!(rt; run.err.bytes(), err.as_bytes());
-    assert_eq!(rt; run.status, status);
-}
-
-fn copied(alloc: Global, text: &str) -> Result<Bytes, Fail> {
-    Ok(Items::from(text.as_bytes().to_vec(alloc)?))
-}
-
-// Words have one space between them. The host has its own list of faults.
-pub fn run_on(
-    alloc: Global,
-    words: &str,
-    host: &mut MemoryHost,
-    faults: &Faults,
-) -> Result<Outcome, Fail> {
-    let mut list = Vec::new(alloc);
-    for word in words.split(' ') {
-        list.push(String::from_str(alloc, word)?)?;
-    }
-    let mut out = MemorySink::new(Items::from(faults.out.to_vec(alloc)?));
-    let mut err = MemorySink::new(Items::from(faults.err.to_vec(alloc)?));
-    let status = run_suite(alloc, list.as_slice(), host, &mut out, &mut err);
-    Ok(Outcome { status, out, err })
-}
-
-pub fn run(alloc: Global, words: &str, files: Files, faults: &Faults) -> Result<Outcome, Fail> {
-    let failing = Items::from(faults.host.to_vec(alloc)?);
-    let mut host = MemoryHost::new(files, failing, Items::new(alloc));
-    run_on(alloc, words, &mut host, faults)
-}
+use rvs_base::{Bytes, Failed, Files, Items, MemoryHost, MemorySink, Sink};
+use rvs_suite::Status;
+use std::alloc::Global;
+use std::test::Fail;
 
 // Compares `a.sig`, which is there, with `b.sig`, where that is there.
 fn compare(
@@ -66,9 +15,9 @@ fn compare(
     faults: &Faults,
 ) -> Result<Outcome, Fail> {
     let mut files: Files = Items::new(alloc);
-    files.push((Text::from(String::from_str(alloc, "a.sig")?), left))?;
+    add(alloc, &mut files, "a.sig", left)?;
     if let Some(right) = right {
-        files.push((Text::from(String::from_str(alloc, "b.sig")?), right))?;
+        add(alloc, &mut files, "b.sig", right)?;
     }
     run(alloc, "rvsuite compare a.sig b.sig", files, faults)
 }
@@ -231,88 +180,6 @@ fn each_fault_is_told(rt: HostRuntime) -> Result<(), Fail> {
     Ok(())
 }
 
-fn lines(alloc: Global, line: &str, count: u32, end: &str) -> Result<Bytes, Fail> {
-    let mut text = String::new(alloc);
-    for _ in 0..count {
-        text.push_str(line)?;
-    }
-    text.push_str(end)?;
-    copied(alloc, text.as_str())
-}
-
-// Checks `i.yaml`, which has these bytes.
-fn validate(alloc: Global, isa: Bytes) -> Result<Outcome, Fail> {
-    let mut files: Files = Items::new(alloc);
-    files.push((Text::from(String::from_str(alloc, "i.yaml")?), isa))?;
-    run(alloc, "rvsuite validate --isa i.yaml", files, &NO_FAULTS)
-}
-
-#[test]
-fn specifications_are_printed(rt: HostRuntime) -> Result<(), Fail> {
-    for (isa, out) in [
-        (
-            "hart_ids: [0]\nhart0:\n  ISA: RV32IM\n",
-            "isa RV32IM\nmisaligned false\naddress_bits 32\nmisa 0x40001100\n",
-        ),
-        (
-            "hart_ids: [0]\nhart0:\n  ISA: RV32IM\n  User_Spec_Version: '2.3'\n",
-            "isa RV32IM\nmisaligned false\naddress_bits 32\nmisa 0x40001100\nunread hart0.User_Spec_Version\n",
-        ),
-        (
-            "hart_ids: [0]\nhart0:\n  ISA: RV32IMZicsr_Zifencei\n",
-            "isa RV32IMZicsr_Zifencei\nmisaligned false\naddress_bits 32\nmisa 0x40001100\n",
-        ),
-        (
-            "hart_ids: [0]\nhart0:\n  ISA: RV32I_Zicsr\n",
-            "isa RV32IZicsr\nmisaligned false\naddress_bits 32\nmisa 0x40000100\n",
-        ),
-    ] {
-        let run = validate(rt.alloc(), copied(rt.alloc(), isa)?)?;
-        expect(&rt, &run, Status::Done, out, "");
-    }
-    Ok(())
-}
-
-#[test]
-fn specifications_are_refused(rt: HostRuntime) -> Result<(), Fail> {
-    for (isa, err) in [
-        (
-            "hart_ids: [0]\nhart0:\n  ISA: RV32IM\n  misa:\n    reset-val: 0x40000100\n",
-            "rvsuite: i.yaml: isa 7 hart0.misa.reset-val stated 0x40000100 expected 0x40001100\n",
-        ),
-        (
-            "hart_ids: [0]\nhart0:\n  ISA: RV32IMC\n",
-            "rvsuite: i.yaml: isa 4 hart0.ISA\n",
-        ),
-        (
-            "hart_ids: [0]\nhart0:\n  ISA: RV64I\n",
-            "rvsuite: i.yaml: isa 3 hart0.ISA\n",
-        ),
-        ("[]", "rvsuite: i.yaml: isa 1 \n"),
-        ("a: 0\nb: 0\na: 1\n", "rvsuite: i.yaml: yaml 6 line 3\n"),
-        ("a:\n\tb: 0\n", "rvsuite: i.yaml: yaml 2 line 2\n"),
-        ("a: *z\n", "rvsuite: i.yaml: yaml 7 line 1\n"),
-    ] {
-        let run = validate(rt.alloc(), copied(rt.alloc(), isa)?)?;
-        expect(&rt, &run, Status::Refused, "", err);
-    }
-    Ok(())
-}
-
-#[test]
-fn long_specifications_are_refused(rt: HostRuntime) -> Result<(), Fail> {
-    // A comment fills the file up to its limit.
-    let isa = "#\nhart_ids: [0]\nhart0:\n  ISA: RV32I\n";
-    let most = lines(rt.alloc(), "#", 65_500, isa)?;
-    let out = "isa RV32I\nmisaligned false\naddress_bits 32\nmisa 0x40000100\n";
-    expect(&rt, &validate(rt.alloc(), most)?, Status::Done, out, "");
-    let more = lines(rt.alloc(), "#", 65_501, isa)?;
-    let run = validate(rt.alloc(), more)?;
-    let err = "rvsuite: i.yaml: length 65536\n";
-    expect(&rt, &run, Status::Refused, "", err);
-    Ok(())
-}
-
 #[test]
 fn long_files_are_refused(rt: HostRuntime) -> Result<(), Fail> {
     // Lines of ten bytes fill a file up to its limit.
@@ -360,31 +227,15 @@ impl Sink for Trickle {
 
 #[test]
 fn a_slow_sink_gets_all(rt: HostRuntime) -> Result<(), Fail> {
-    let mut list = Vec::new(rt.alloc());
-    for word in ["rvsuite", "compare", "a.sig", "a.sig"] {
-        list.push(String::from_str(rt.alloc(), word)?)?;
-    }
-    let mut files: Files = Items::new(rt.alloc());
-    let name = Text::from(String::from_str(rt.alloc(), "a.sig")?);
-    files.push((name, copied(rt.alloc(), "0000000c\n")?))?;
-    let mut host = MemoryHost::new(files, Items::new(rt.alloc()), Items::new(rt.alloc()));
-    let mut out = Trickle {
-        sink: MemorySink::new(Items::new(rt.alloc())),
-    };
-    let mut err = MemorySink::new(Items::new(rt.alloc()));
-    let status = run_suite(rt.alloc(), list.as_slice(), &mut host, &mut out, &mut err);
+    let alloc = rt.alloc();
+    let files = files_of(alloc, &[("a.sig", "0000000c\n")])?;
+    let mut host = MemoryHost::new(files, Items::new(alloc), Items::new(alloc));
+    let sink = MemorySink::new(Items::new(alloc));
+    let mut out = Trickle { sink };
+    let mut err = MemorySink::new(Items::new(alloc));
+    let words = "rvsuite compare a.sig a.sig";
+    let status = status_of(alloc, words, &mut host, &mut out, &mut err)?;
     assert_eq!(rt; out.sink.bytes(), b"PASS 1 words\n".as_slice());
     assert_eq!(rt; status, Status::Done);
-    Ok(())
-}
-
-#[test]
-fn a_program_is_demonstrated(rt: HostRuntime) -> Result<(), Fail> {
-    let words = "rvsuite demo 0000001";
-    let run = run(rt.alloc(), words, Items::new(rt.alloc()), &NO_FAULTS)?;
-    assert_eq!(rt; run.status, Status::Done);
-    let begins = "demo 1\ninstructions 12\nlabel demo hit 7 of 39\n";
-    assert!(rt; run.out.bytes().starts_with(begins.as_bytes()));
-    assert!(rt; run.out.bytes().ends_with(b"total hit 7 of 39\n"));
     Ok(())
 }
