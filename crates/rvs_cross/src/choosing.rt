@@ -12,7 +12,7 @@ use crate::fitting::fits;
 use crate::values::{Values, same_register, value_of};
 use rvs_base::Items;
 use rvs_expr::Steps;
-use rvs_insn::{Format, Insn, IsaSpec, Op, admits_op, format};
+use rvs_insn::{Format, Insn, IsaSpec, Op, admits_op, all_ops, format};
 use std::sync::ledger::Ledger;
 
 fn same_field(left: Field, right: Field) -> bool
@@ -234,7 +234,7 @@ fn listed(ops: &Option<Items<Op>>) -> &[Op]
     ensures { result.now ≡ listed ops.now }
 {
     match ops {
-        None => &ALL_OPS,
+        None => all_ops(),
         Some(ops) => ops.as_slice(),
     }
 }
@@ -272,55 +272,3 @@ static MIDDLE: [Option<u8>; 8] = [
 ];
 
 static NOTHING: [Option<u8>; 1] = [None];
-
-/// The mnemonics in the table's order.
-static ALL_OPS: [Op; 48] = [
-    Op::Lui,
-    Op::Auipc,
-    Op::Jal,
-    Op::Jalr,
-    Op::Beq,
-    Op::Bne,
-    Op::Blt,
-    Op::Bge,
-    Op::Bltu,
-    Op::Bgeu,
-    Op::Lb,
-    Op::Lh,
-    Op::Lw,
-    Op::Lbu,
-    Op::Lhu,
-    Op::Sb,
-    Op::Sh,
-    Op::Sw,
-    Op::Addi,
-    Op::Slti,
-    Op::Sltiu,
-    Op::Xori,
-    Op::Ori,
-    Op::Andi,
-    Op::Slli,
-    Op::Srli,
-    Op::Srai,
-    Op::Add,
-    Op::Sub,
-    Op::Sll,
-    Op::Slt,
-    Op::Sltu,
-    Op::Xor,
-    Op::Srl,
-    Op::Sra,
-    Op::Or,
-    Op::And,
-    Op::Mul,
-    Op::Mulh,
-    Op::Mulhsu,
-    Op::Mulhu,
-    Op::Div,
-    Op::Divu,
-    Op::Rem,
-    Op::Remu,
-    Op::Fence,
-    Op::Ecall,
-    Op::Ebreak,
-];

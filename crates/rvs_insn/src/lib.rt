@@ -18,5 +18,5 @@ pub use insn::Insn;
 pub use laws::{columns_by_name, names_are_found, one_row_each};
 pub use names::{admits, admits_op, isa_text, op_of};
 pub use op::{Format, Op};
-pub use rows::{format, op_name, reads_unsigned};
+pub use rows::{all_ops, format, op_name, reads_unsigned};
 pub use spec::IsaSpec;

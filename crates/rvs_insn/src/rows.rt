@@ -5,7 +5,7 @@ ghost use Rattle.rvs_insn.specs.Table.{row, all_ops};
 use crate::op::{Format, Op};
 
 /// The mnemonics in the table's order.
-pub(crate) fn all_ops() -> &'static [Op]
+pub fn all_ops() -> &'static [Op]
     ensures { result.now ≡ all_ops }
 {
     &ALL_OPS
