@@ -311,7 +311,7 @@ selected-plain isa (l ∷ ls) h = by l.selected refl (selected-plain isa ls (All
     by true e rest = (All-head (IsPlainIfSelected isa) l ls h e, rest)
     by false e rest = rest
 
-groups-spelled : (isa : Isa) (d : Data) (ls : List Label) → nodes_are_own d ≡ true → groups_of isa d ≡ Ok ls → CanBeSpelled isa ls
+pub groups-spelled : (isa : Isa) (d : Data) (ls : List Label) → nodes_are_own d ≡ true → groups_of isa d ≡ Ok ls → CanBeSpelled isa ls
 unfolding groups_of
 groups-spelled isa d ls own e =
     if-ok (is_empty_scalar d) (Ok []) _ ls e

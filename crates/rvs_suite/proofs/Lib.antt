@@ -21,6 +21,7 @@ mod Finding
 mod Answered
 mod Readers
 mod GroupInputs
+mod NormalAgain
 mod NormalizeEnds
 mod LogReads
 mod ImageBytes

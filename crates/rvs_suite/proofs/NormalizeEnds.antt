@@ -9,6 +9,7 @@ use Rattle.rvs_suite.specs.Normalizing as normalizing
 use Rattle.rvs_suite.specs.declared.command.Command.TheVariants.{Normalize}
 use Rattle.rvs_suite.proofs.Answered.{Works, RunsOn, answered}
 use Rattle.rvs_suite.proofs.GroupInputs.{reads-inputs, finds-inputs}
+use Rattle.rvs_suite.proofs.NormalAgain.{normal-again}
 use Rattle.rvs_suite.proofs.Keeping.{WritesNone, WritesNone-then, reads-none, keeps}
 
 abbrev works : (files : Files) (isa : List ℕ) (names : List (List ℕ)) → Works (Normalize isa names) files (inputs_in files isa names)
@@ -21,4 +22,5 @@ pub normalizes : {call : Call} (files : Files) (isa : List ℕ) (names : List (L
 normalizes {call} files isa names r = record {
   answered = answered (normalizing.HasPrinted call) r (works files isa names) (λ inputs left. ap (λ (c : Contents). c.out) left);
   files_kept = keeps r.ran files (Normalize isa names) r.told r.asks (writes-normalize isa names);
+  again = λ after name inputs read short same there. normal-again files after isa names name inputs read short same there;
 }

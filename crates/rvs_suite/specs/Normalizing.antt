@@ -1,11 +1,12 @@
 -- What every call of `normalize` promises.
-use Rattle.std.specs.Prelude.{◌≡◌, List, ℕ}
+use Rattle.std.specs.Prelude.{◌≡◌, ◌≤◌, ℕ, List, [], ◌∷◌, length, map, Some, Ok}
 use Rattle.rvs_base.specs.Host.{Files, Tells}
 use Rattle.rvs_base.specs.Sink.{appended}
 use Rattle.rvs_cgf.specs.Print.{normal_text}
+use Rattle.rvs_cgf.specs.Spelled.{bare, selected}
 use Rattle.rvs_suite.specs.Answered.{Answered}
 use Rattle.rvs_suite.specs.Call.{Call, Asks}
-use Rattle.rvs_suite.specs.GroupFiles.{Inputs, inputs_in}
+use Rattle.rvs_suite.specs.GroupFiles.{Inputs, groups_limit, inputs_in}
 use Rattle.rvs_suite.specs.declared.command.Command.TheVariants.{Normalize}
 
 -- the output has the groups with all points written out
@@ -18,6 +19,12 @@ pub record Normalizes (call : Call) (files : Files) (isa : List ℕ) (names : Li
   pub answered : Answered call (inputs_in files isa names) (HasPrinted call)
   -- it writes no file, however it ends
   pub files_kept : call.new.host.files ≡ call.old.host.files
+  -- what it put, kept in a file within the limit of group files and read with the same ISA file, gives the selected labels with the same mnemonics and points, and nothing skipped
+  pub again :
+      (after : Files) (name : List ℕ) (inputs : Inputs) → inputs_in files isa names ≡ Ok inputs
+      → length (normal_text inputs.groups) ≤ groups_limit → after isa ≡ files isa
+      → after name ≡ Some (normal_text inputs.groups)
+      → inputs_in after isa (name ∷ []) ≡ Ok (record { isa = inputs.isa; groups = map bare (selected inputs.groups) })
 
 -- the same of every call: over told files, where its words ask for `normalize`
 abbrev pub Promise : Call → Type 0

@@ -1,0 +1,143 @@
+-- The answer for lines of which each front has a tree, and for lines of rows.
+use Rattle.std.proofs.Common.{◌≡◌, ℕ, zero, suc, ◌*◌, ◌≤◌, Bool, true, false, List, [], ◌∷◌, ◌++◌, length, refl, sym, ap, subst, ◌∙◌, arith, append_assoc, append-nil, Ok}
+use Rattle.std.specs.Prelude.{◌||◌, map, take, nat_lt, not}
+use Rattle.std.proofs.lemmas.Bool.Decides.{nat_tests}
+use Rattle.rvs_tree.specs.Data.{Data, depth}
+use Rattle.rvs_tree.specs.Value.{Value}
+use Rattle.rvs_yaml_text.specs.Scalar.{is_blank}
+use Rattle.rvs_yaml_text.specs.Text.{words_of}
+use Rattle.rvs_yaml.specs.Checks.{◌>>=◌, ◌>>◌}
+use Rattle.rvs_yaml.specs.Block.{tree_of}
+use Rattle.rvs_yaml.specs.Answer.{within_limits, front, at_end, answer_after, answer, HasTree}
+use Rattle.rvs_normal.proofs.Lines.{fed, AreInked, lines-fed}
+use Rattle.rvs_normal.proofs.Rows.{Row, row_text, row_words, row-inked, line-words}
+use Rattle.rvs_normal.proofs.Columns.{Col, words}
+use Rattle.rvs_normal.proofs.Placed.{AreRows, rows_words, no-words, lines, cols, row_cols, words-by-columns}
+use Rattle.rvs_normal.proofs.Apart.{Distinct}
+use Rattle.rvs_normal.proofs.Trees.{Group, all_cols, AreGroups, group_names, HasGroups, groups_cost, groups-block, groups-within}
+use Rattle.rvs_normal.proofs.Cuts.{cut_groups, groups-cut, groups-distinct, are-groups, groups-cost}
+
+take-none : {X : Type 0} (xs : List X) → take 0 xs ≡ []
+take-none [] = refl
+take-none (x ∷ xs) = refl
+
+take-nil : {X : Type 0} (n : ℕ) → ◌≡◌ {A = List X} (take n []) []
+take-nil zero = refl
+take-nil (suc n) = refl
+
+-- ---- from fronts to the answer
+answered : (done ls : List (List ℕ)) (tree : Data) → ((m : ℕ) → HasTree (done ++ take m ls))
+    → front (done ++ ls) ≡ Ok tree → answer_after done ls ≡ Ok tree
+answered done [] tree trees whole = ap (at_end (length done)) (ap front (sym (append-nil done)) ∙ whole)
+answered done (l ∷ ls) tree trees whole =
+    let first : HasTree (done ++ (l ∷ [])) = subst (λ xs. HasTree (done ++ (l ∷ xs))) (take-none ls) (trees 1) in
+    rw (first.1, answer_after)
+    (answered (done ++ (l ∷ [])) ls tree (λ m. subst HasTree (sym (append_assoc done (l ∷ []) (take m ls))) (trees (suc m))) (ap front (append_assoc done (l ∷ []) ls) ∙ whole))
+
+-- ---- the tree of rows, and of rows with an empty line behind them
+abbrev pub IsTail : List (List ℕ) → Type 0
+IsTail tail = (n : ℕ) (started : Bool) → words_of n started tail ≡ []
+
+no-tail : IsTail []
+no-tail n started = refl
+
+empty-line : IsTail ([] ∷ [])
+empty-line n started = ap (λ ws. ws ++ []) (no-words n started)
+
+words-of : (n : ℕ) (started : Bool) (rs : List Row) (tail : List (List ℕ)) → AreRows rs
+    → IsTail tail → words_of n started (map row_text rs ++ tail) ≡ rows_words n rs
+words-of n started [] tail good is = is n started
+words-of n started (r ∷ rs) tail good is =
+    ap (λ ws. ws ++ words_of (suc n) (started || not (is_blank true (row_text r))) (map row_text rs ++ tail)) (line-words n started r good.0)
+    ∙ ap (λ ws. row_words n r ++ ws) (words-of (suc n) (started || not (is_blank true (row_text r))) rs tail good.1 is)
+
+small-enough : (v : Value) → 64 * v.nodes ≤ 32000000 → depth v.tree ≤ 4 → within_limits v ≡ Ok tt
+small-enough v n d =
+    let deep : nat_lt 32 (depth v.tree) ≡ false = grind (arith, nat_tests) in
+    let many : nat_lt 500000 v.nodes ≡ false = grind (arith, nat_tests) in
+    rw (deep, many) refl
+
+pub record Reads (gs : List Group) (ls : List (List ℕ)) : Type 0 where
+  pub value : Value
+  pub is : front ls ≡ Ok value.tree
+  pub has : HasGroups gs value
+
+pub tree-of-rows : (rs : List Row) (gs : List Group) (tail : List (List ℕ)) → AreRows rs
+    → IsTail tail → cols rs ≡ all_cols gs → Distinct (group_names gs) → AreGroups gs
+    → groups_cost gs ≤ 31999936 → Reads gs (map row_text rs ++ tail)
+tree-of-rows rs gs tail good is same apart ok few =
+    let b = groups-block gs apart ok [] 1 (lines 1 rs) in
+    let w = groups-within gs b.0 b.2 in
+    let read : tree_of (words_of 1 false (map row_text rs ++ tail)) ≡ Ok b.0 =
+    ap tree_of (words-of 1 false rs tail good is ∙ words-by-columns 1 rs ∙ ap (words (lines 1 rs)) same) ∙ ap (λ f. f >>= (λ g. Ok g.value)) b.1 in
+    let small = small-enough b.0 (omega (arith, w.nodes, few)) w.depth in
+    record {
+      value = b.0;
+      is = ap (λ r. r >>= (λ v. within_limits v >> Ok v.tree)) read ∙ ap (λ u. u >> Ok b.0.tree) small;
+      has = b.2;
+    }
+
+-- ---- fronts of rows
+are-rows-take : (n : ℕ) (rs : List Row) → AreRows rs → AreRows (take n rs)
+are-rows-take zero [] good = tt
+are-rows-take zero (r ∷ rs) good = tt
+are-rows-take (suc n) [] good = tt
+are-rows-take (suc n) (r ∷ rs) good = (good.0, are-rows-take n rs good.1)
+
+-- so many and these
+abbrev pub more : List Col → ℕ → ℕ
+more [] n = n
+more (x ∷ xs) n = suc (more xs n)
+
+abbrev pub count : ℕ → List Row → ℕ
+count zero rs = 0
+count (suc n) [] = 0
+count (suc n) (r ∷ rs) = more (row_cols r) (count n rs)
+
+take-behind : (xs ys : List Col) (n : ℕ) → take (more xs n) (xs ++ ys) ≡ xs ++ take n ys
+take-behind [] ys n = refl
+take-behind (x ∷ xs) ys n = ap (λ r. x ∷ r) (take-behind xs ys n)
+
+cols-take : (n : ℕ) (rs : List Row) → cols (take n rs) ≡ take (count n rs) (cols rs)
+cols-take zero [] = refl
+cols-take zero (r ∷ rs) = sym (take-none (cols (r ∷ rs)))
+cols-take (suc n) [] = refl
+cols-take (suc n) (r ∷ rs) = ap (λ cs. row_cols r ++ cs) (cols-take n rs) ∙ sym (take-behind (row_cols r) (cols rs) (count n rs))
+
+line-fronts : (P : List (List ℕ) → Type 0) (m : ℕ) (rs : List Row)
+    → ((k : ℕ) → P (map row_text (take k rs))) → P (map row_text rs ++ ([] ∷ []))
+    → P (take m (map row_text rs ++ ([] ∷ [])))
+line-fronts P zero [] p q = p 0
+line-fronts P zero (r ∷ rs) p q = p 0
+line-fronts P (suc m) [] p q = subst (λ ls. P ([] ∷ ls)) (sym (take-nil m)) q
+line-fronts P (suc m) (r ∷ rs) p q = line-fronts (λ ls. P (row_text r ∷ ls)) m rs (λ k. p (suc k)) q
+
+front-tree : (k : ℕ) (rs : List Row) (gs : List Group) → AreRows rs → cols rs ≡ all_cols gs
+    → Distinct (group_names gs) → AreGroups gs → groups_cost gs ≤ 31999936
+    → HasTree (map row_text (take k rs))
+front-tree k rs gs good same apart ok few =
+    let n = count k rs in
+    let t = tree-of-rows (take k rs) (cut_groups n gs) [] (are-rows-take k rs good) no-tail (cols-take k rs ∙ ap (take n) same ∙ groups-cut n gs) (groups-distinct n gs apart) (are-groups n gs ok) (omega (arith, groups-cost n gs, few)) in
+    (t.value.tree, ap front (sym (append-nil (map row_text (take k rs)))) ∙ t.is)
+
+inked-rows : (rs : List Row) → AreRows rs → AreInked (map row_text rs)
+inked-rows [] good = tt
+inked-rows (r ∷ rs) good = (row-inked r good.0, inked-rows rs good.1)
+
+-- ---- the answer
+pub record Answers (gs : List Group) (bytes : List ℕ) : Type 0 where
+  pub value : Value
+  pub is : answer bytes ≡ Ok value.tree
+  pub has : HasGroups gs value
+
+pub rows-answered : (rs : List Row) (gs : List Group) → AreRows rs → cols rs ≡ all_cols gs
+    → Distinct (group_names gs) → AreGroups gs → groups_cost gs ≤ 31999936
+    → Answers gs (fed (map row_text rs))
+rows-answered rs gs good same apart ok few =
+    let t = tree-of-rows rs gs ([] ∷ []) good empty-line same apart ok few in
+    record {
+      value = t.value;
+      is = ap (answer_after []) (lines-fed (map row_text rs) (inked-rows rs good))
+          ∙ answered [] (map row_text rs ++ ([] ∷ [])) t.value.tree (λ m. line-fronts HasTree m rs (λ k. front-tree k rs gs good same apart ok few) (t.value.tree, t.is)) t.is;
+      has = t.has;
+    }

@@ -1,0 +1,249 @@
+-- Keys and names that differ.
+use Rattle.std.proofs.Common.{◌≡◌, ℕ, Bool, true, false, List, [], ◌∷◌, ◌++◌, refl, sym, subst, ◌∙◌, true≢false}
+use Rattle.std.specs.Prelude.{◌&&◌, ◌||◌, not, map, bytes_eq}
+use Rattle.std.specs.List.{list_any}
+use Rattle.std.proofs.lemmas.List.Folds.{list_any-append}
+use Rattle.std.proofs.lemmas.Slice.Eq.{bytes_eq-Decides}
+use Rattle.rvs_tree.specs.Value.{has_key}
+use Rattle.rvs_cgf.specs.Groups.{Point, Label, same_kind, is_point, has}
+use Rattle.rvs_cgf.specs.declared.group.Kind.{Kind}
+use Rattle.rvs_cgf.specs.declared.group.Kind.TheVariants.{Mnemonic, Rs1, Rs2, Rd, OpComb, ValComb, CrossComb}
+use Rattle.rvs_cgf.specs.Print.{kind_name}
+use Rattle.rvs_cgf.specs.Spelled.{Block, joined, blocks, kinds_are_apart}
+use Rattle.rvs_cgf.specs.Valid.{are_distinct}
+use Rattle.rvs_normal.specs.Again.{names_are_apart}
+use Rattle.rvs_normal.proofs.Lines.{both}
+use Rattle.rvs_normal.proofs.Placed.{keys}
+use Rattle.rvs_normal.proofs.Blocks.{AreFree}
+
+-- none of them is this one, which stands before them
+abbrev pub Differs : List ℕ → List (List ℕ) → Type 0
+Differs k [] = Unit {0}
+Differs k (m ∷ ms) = (bytes_eq k m ≡ false) × Differs k ms
+
+abbrev pub Distinct : List (List ℕ) → Type 0
+Distinct [] = Unit {0}
+Distinct (k ∷ ks) = Differs k ks × Distinct ks
+
+-- none of them is in the list
+abbrev pub FreeOf : List (List ℕ) → List (List ℕ) → Type 0
+FreeOf seen [] = Unit {0}
+FreeOf seen (k ∷ ks) = (has_key k seen ≡ false) × FreeOf seen ks
+
+or-false : (p q : Bool) → p ≡ false → q ≡ false → (p || (q || false)) ≡ false
+or-false false false h k = refl
+or-false false true h k = cc
+or-false true q h k = cc
+
+one-more : (seen : List (List ℕ)) (k : List ℕ) (ms : List (List ℕ)) → FreeOf seen ms → Differs k ms
+    → FreeOf (seen ++ (k ∷ [])) ms
+one-more seen k [] f d = tt
+one-more seen k (m ∷ ms) f d = (list_any-append (λ l. bytes_eq l m) seen (k ∷ []) ∙ or-false (has_key m seen) (bytes_eq k m) f.0 d.0, one-more seen k ms f.1 d.1)
+
+free-from : (seen ks : List (List ℕ)) → FreeOf seen ks → Distinct ks → AreFree seen ks
+free-from seen [] f d = tt
+free-from seen (k ∷ ks) f d = (f.0, free-from (seen ++ (k ∷ [])) ks (one-more seen k ks f.1 d.0) d.1)
+
+free-of-one : (k : List ℕ) (ks : List (List ℕ)) → Differs k ks → FreeOf (k ∷ []) ks
+free-of-one k [] d = tt
+free-of-one k (m ∷ ms) d = (or-false false (bytes_eq k m) refl d.0, free-of-one k ms d.1)
+
+pub free : (k : List ℕ) (ks : List (List ℕ)) → Distinct (k ∷ ks) → AreFree (k ∷ []) ks
+free k ks d = free-from (k ∷ []) ks (free-of-one k ks d.0) d.1
+
+-- ---- kinds
+pub kind-is : (j k : Kind) → same_kind j k ≡ true → j ≡ k
+kind-is Mnemonic Mnemonic h = refl
+kind-is Mnemonic Rs1 h = cc
+kind-is Mnemonic Rs2 h = cc
+kind-is Mnemonic Rd h = cc
+kind-is Mnemonic OpComb h = cc
+kind-is Mnemonic ValComb h = cc
+kind-is Mnemonic CrossComb h = cc
+kind-is Rs1 Mnemonic h = cc
+kind-is Rs1 Rs1 h = refl
+kind-is Rs1 Rs2 h = cc
+kind-is Rs1 Rd h = cc
+kind-is Rs1 OpComb h = cc
+kind-is Rs1 ValComb h = cc
+kind-is Rs1 CrossComb h = cc
+kind-is Rs2 Mnemonic h = cc
+kind-is Rs2 Rs1 h = cc
+kind-is Rs2 Rs2 h = refl
+kind-is Rs2 Rd h = cc
+kind-is Rs2 OpComb h = cc
+kind-is Rs2 ValComb h = cc
+kind-is Rs2 CrossComb h = cc
+kind-is Rd Mnemonic h = cc
+kind-is Rd Rs1 h = cc
+kind-is Rd Rs2 h = cc
+kind-is Rd Rd h = refl
+kind-is Rd OpComb h = cc
+kind-is Rd ValComb h = cc
+kind-is Rd CrossComb h = cc
+kind-is OpComb Mnemonic h = cc
+kind-is OpComb Rs1 h = cc
+kind-is OpComb Rs2 h = cc
+kind-is OpComb Rd h = cc
+kind-is OpComb OpComb h = refl
+kind-is OpComb ValComb h = cc
+kind-is OpComb CrossComb h = cc
+kind-is ValComb Mnemonic h = cc
+kind-is ValComb Rs1 h = cc
+kind-is ValComb Rs2 h = cc
+kind-is ValComb Rd h = cc
+kind-is ValComb OpComb h = cc
+kind-is ValComb ValComb h = refl
+kind-is ValComb CrossComb h = cc
+kind-is CrossComb Mnemonic h = cc
+kind-is CrossComb Rs1 h = cc
+kind-is CrossComb Rs2 h = cc
+kind-is CrossComb Rd h = cc
+kind-is CrossComb OpComb h = cc
+kind-is CrossComb ValComb h = cc
+kind-is CrossComb CrossComb h = refl
+
+name-apart : (j k : Kind) → same_kind k j ≡ false → bytes_eq (kind_name j) (kind_name k) ≡ false
+name-apart Mnemonic Mnemonic h = cc
+name-apart Mnemonic Rs1 h = refl
+name-apart Mnemonic Rs2 h = refl
+name-apart Mnemonic Rd h = refl
+name-apart Mnemonic OpComb h = refl
+name-apart Mnemonic ValComb h = refl
+name-apart Mnemonic CrossComb h = refl
+name-apart Rs1 Mnemonic h = refl
+name-apart Rs1 Rs1 h = cc
+name-apart Rs1 Rs2 h = refl
+name-apart Rs1 Rd h = refl
+name-apart Rs1 OpComb h = refl
+name-apart Rs1 ValComb h = refl
+name-apart Rs1 CrossComb h = refl
+name-apart Rs2 Mnemonic h = refl
+name-apart Rs2 Rs1 h = refl
+name-apart Rs2 Rs2 h = cc
+name-apart Rs2 Rd h = refl
+name-apart Rs2 OpComb h = refl
+name-apart Rs2 ValComb h = refl
+name-apart Rs2 CrossComb h = refl
+name-apart Rd Mnemonic h = refl
+name-apart Rd Rs1 h = refl
+name-apart Rd Rs2 h = refl
+name-apart Rd Rd h = cc
+name-apart Rd OpComb h = refl
+name-apart Rd ValComb h = refl
+name-apart Rd CrossComb h = refl
+name-apart OpComb Mnemonic h = refl
+name-apart OpComb Rs1 h = refl
+name-apart OpComb Rs2 h = refl
+name-apart OpComb Rd h = refl
+name-apart OpComb OpComb h = cc
+name-apart OpComb ValComb h = refl
+name-apart OpComb CrossComb h = refl
+name-apart ValComb Mnemonic h = refl
+name-apart ValComb Rs1 h = refl
+name-apart ValComb Rs2 h = refl
+name-apart ValComb Rd h = refl
+name-apart ValComb OpComb h = refl
+name-apart ValComb ValComb h = cc
+name-apart ValComb CrossComb h = refl
+name-apart CrossComb Mnemonic h = refl
+name-apart CrossComb Rs1 h = refl
+name-apart CrossComb Rs2 h = refl
+name-apart CrossComb Rd h = refl
+name-apart CrossComb OpComb h = refl
+name-apart CrossComb ValComb h = refl
+name-apart CrossComb CrossComb h = cc
+
+kind-through : (a b c : Kind) → same_kind a b ≡ true → same_kind b c ≡ true → same_kind a c ≡ true
+kind-through a b c h k = subst (λ d. same_kind d c ≡ true) (sym (kind-is a b h)) k
+
+-- ---- tests
+pub or-both : (p q : Bool) → (p || q) ≡ false → (p ≡ false) × (q ≡ false)
+or-both false q h = (refl, h)
+or-both true q h = cc
+
+pub not-true : (p : Bool) → not p ≡ true → p ≡ false
+not-true false h = refl
+not-true true h = cc
+
+and-false : (p q : Bool) → (p && q) ≡ false → p ≡ true → q ≡ false
+and-false true q h e = h
+and-false false q h e = cc
+
+pub eq-back : (a b : List ℕ) → bytes_eq a b ≡ false → bytes_eq b a ≡ false
+eq-back a b h = by-case (bytes_eq b a) refl
+  where
+    by-case : (s : Bool) → bytes_eq b a ≡ s → bytes_eq b a ≡ false
+    by-case false e = e
+    by-case true e = absurd (true≢false (sym ((bytes_eq-Decides a b).1 (sym ((bytes_eq-Decides b a).0 e))) ∙ h))
+
+-- ---- keys of blocks
+abbrev pub NotHas : Kind → List ℕ → List Block → Type 0
+NotHas k key [] = Unit {0}
+NotHas k key (b ∷ bs) = (same_kind b.kind k ≡ true → Differs key (keys b.points)) × NotHas k key bs
+
+other-key : (k : Kind) (key : List ℕ) (q : Point) → is_point k key q ≡ false
+    → same_kind q.kind k ≡ true → bytes_eq key q.key ≡ false
+other-key k key q h s = eq-back q.key key (and-false (same_kind q.kind k) (bytes_eq q.key key) h s)
+
+joined-not-has : (k : Kind) (key : List ℕ) (q : Point) (bs : List Block) → is_point k key q ≡ false
+    → NotHas k key bs → NotHas k key (joined q bs)
+joined-not-has k key q [] h n = (λ s. (other-key k key q h s, tt), tt)
+joined-not-has k key q (b ∷ bs) h n = by-case (same_kind b.kind q.kind) refl
+  where
+    by-case : (s : Bool) → same_kind b.kind q.kind ≡ s → NotHas k key (joined q (b ∷ bs))
+    by-case true e = rw (e, joined) (λ s. (other-key k key q h s, n.0 (kind-through b.kind q.kind k e s)), n.1)
+    by-case false e = rw (e, joined) (λ s. (other-key k key q h s, tt), n)
+
+not-has : (k : Kind) (key : List ℕ) (ps : List Point) → has k key ps ≡ false
+    → NotHas k key (blocks ps)
+not-has k key [] h = tt
+not-has k key (q ∷ qs) h = let p = or-both (is_point k key q) (has k key qs) h in joined-not-has k key q (blocks qs) p.0 (not-has k key qs p.1)
+
+abbrev pub AllDistinct : List Block → Type 0
+AllDistinct [] = Unit {0}
+AllDistinct (b ∷ bs) = Distinct (keys b.points) × AllDistinct bs
+
+joined-distinct : (p : Point) (bs : List Block) → NotHas p.kind p.key bs → AllDistinct bs
+    → AllDistinct (joined p bs)
+joined-distinct p [] n d = ((tt, tt), tt)
+joined-distinct p (b ∷ bs) n d = by-case (same_kind b.kind p.kind) refl
+  where
+    by-case : (s : Bool) → same_kind b.kind p.kind ≡ s → AllDistinct (joined p (b ∷ bs))
+    by-case true e = rw (e, joined) ((n.0 e, d.0), d.1)
+    by-case false e = rw (e, joined) ((tt, tt), d)
+
+pub distinct-blocks : (ps : List Point) → are_distinct ps ≡ true → AllDistinct (blocks ps)
+distinct-blocks [] h = tt
+distinct-blocks (p ∷ ps) h =
+    let q = both (not (has p.kind p.key ps)) (are_distinct ps) h in
+    joined-distinct p (blocks ps) (not-has p.kind p.key ps (not-true (has p.kind p.key ps) q.0)) (distinct-blocks ps q.1)
+
+-- ---- names of nodes
+other-names : (b : Block) (bs : List Block) → list_any (λ c. same_kind c.kind b.kind) bs ≡ false
+    → Differs (kind_name b.kind) (map (λ c. kind_name c.kind) bs)
+other-names b [] h = tt
+other-names b (c ∷ bs) h =
+    let p = or-both (same_kind c.kind b.kind) (list_any (λ d. same_kind d.kind b.kind) bs) h in
+    (name-apart b.kind c.kind p.0, other-names b bs p.1)
+
+pub node-names : (bs : List Block) → kinds_are_apart bs ≡ true
+    → Distinct (map (λ b. kind_name b.kind) bs)
+node-names [] h = tt
+node-names (b ∷ bs) h =
+    let p = both (not (list_any (λ c. same_kind c.kind b.kind) bs)) (kinds_are_apart bs) h in
+    (other-names b bs (not-true (list_any (λ c. same_kind c.kind b.kind) bs) p.0), node-names bs p.1)
+
+-- ---- names of labels
+other-labels : (l : Label) (ls : List Label) → list_any (λ m. bytes_eq l.name m.name) ls ≡ false
+    → Differs l.name (map (λ m. m.name) ls)
+other-labels l [] h = tt
+other-labels l (m ∷ ls) h =
+    let p = or-both (bytes_eq l.name m.name) (list_any (λ n. bytes_eq l.name n.name) ls) h in
+    (p.0, other-labels l ls p.1)
+
+pub label-names : (ls : List Label) → names_are_apart ls ≡ true → Distinct (map (λ l. l.name) ls)
+label-names [] h = tt
+label-names (l ∷ ls) h =
+    let p = both (not (list_any (λ m. bytes_eq l.name m.name) ls)) (names_are_apart ls) h in
+    (other-labels l ls (not-true (list_any (λ m. bytes_eq l.name m.name) ls) p.0), label-names ls p.1)

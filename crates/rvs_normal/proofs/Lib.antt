@@ -1,0 +1,17 @@
+pub mod Lines
+pub mod Rows
+pub mod Outlines
+pub mod Columns
+pub mod Blocks
+pub mod Sizes
+pub mod Printed
+pub mod Placed
+pub mod Apart
+pub mod Trees
+pub mod Cuts
+pub mod Answered
+pub mod Spelling
+pub mod KeysOnce
+pub mod OnceRead
+pub mod Notes
+pub mod ReadAgain

@@ -1,0 +1,191 @@
+-- The words of printed groups are those of parts in parts.
+use Rattle.std.proofs.Common.{◌≡◌, ℕ, suc, Bool, true, false, List, [], ◌∷◌, ◌++◌, refl, sym, ap, ◌∙◌, append_assoc, append-nil, Option, Some, None}
+use Rattle.std.specs.Prelude.{◌||◌, not, if◌then◌else◌, map, filter, codes}
+use Rattle.rvs_yaml_text.specs.Word.{Word}
+use Rattle.rvs_yaml_text.specs.Scalar.{is_blank}
+use Rattle.rvs_yaml_text.specs.Text.{words_of, line_words}
+use Rattle.rvs_cgf.specs.Groups.{Point, Skipped, Label, same_kind}
+use Rattle.rvs_cgf.specs.declared.group.Kind.{Kind}
+use Rattle.rvs_cgf.specs.declared.group.Kind.TheVariants.{Mnemonic, Rs1, Rs2, Rd, OpComb, ValComb, CrossComb}
+use Rattle.rvs_cgf.specs.Print.{kind_name, goes_on}
+use Rattle.rvs_cgf.specs.Spelled.{Block, joined, blocks, selected}
+use Rattle.rvs_normal.proofs.Lines.{inked-utf8}
+use Rattle.rvs_normal.proofs.Rows.{Row, label_row, node_row, point_row, note_row, inner_note_row, row_text, IsRow, row_words, line-words}
+use Rattle.rvs_normal.proofs.Columns.{Col, words, Part, opener, parts_cols, point_col, points_cols}
+use Rattle.rvs_normal.proofs.Printed.{head_rows, points_rows, skipped_row, label_rows, rows}
+
+abbrev pub AreRows : List Row → Type 0
+AreRows [] = Unit {0}
+AreRows (r ∷ rs) = IsRow r × AreRows rs
+
+abbrev pub rows_words : ℕ → List Row → List Word
+rows_words n [] = []
+rows_words n (r ∷ rs) = row_words n r ++ rows_words (suc n) rs
+
+pub no-words : (n : ℕ) (started : Bool) → line_words n started [] ≡ []
+no-words n started = rw (inked-utf8 [] refl, line_words) refl
+
+pub words-of-rows : (n : ℕ) (started : Bool) (rs : List Row) → AreRows rs
+    → words_of n started (map row_text rs ++ ([] ∷ [])) ≡ rows_words n rs
+words-of-rows n started [] good = ap (λ ws. ws ++ []) (no-words n started)
+words-of-rows n started (r ∷ rs) good =
+    ap (λ ws. ws ++ words_of (suc n) (started || not (is_blank true (row_text r))) (map row_text rs ++ ([] ∷ []))) (line-words n started r good.0)
+    ∙ ap (λ ws. row_words n r ++ ws) (words-of-rows (suc n) (started || not (is_blank true (row_text r))) rs good.1)
+
+-- ---- columns
+abbrev pub row_cols : Row → List Col
+row_cols (label_row name) = opener 0 name ∷ []
+row_cols (node_row name) = opener 2 name ∷ []
+row_cols (point_row k) = point_col 4 (codes "0") k ∷ []
+row_cols _ = []
+
+abbrev pub cols : List Row → List Col
+cols [] = []
+cols (r ∷ rs) = row_cols r ++ cols rs
+
+-- the lines of rows with words
+abbrev pub row_lines : ℕ → Row → List ℕ
+row_lines n (label_row name) = n ∷ []
+row_lines n (node_row name) = n ∷ []
+row_lines n (point_row k) = n ∷ []
+row_lines n _ = []
+
+abbrev pub lines : ℕ → List Row → List ℕ
+lines n [] = []
+lines n (r ∷ rs) = row_lines n r ++ lines (suc n) rs
+
+pub words-by-columns : (n : ℕ) (rs : List Row) → rows_words n rs ≡ words (lines n rs) (cols rs)
+words-by-columns n [] = refl
+words-by-columns n (label_row name ∷ rs) = ap (λ ws. row_words n (label_row name) ++ ws) (words-by-columns (suc n) rs)
+words-by-columns n (node_row name ∷ rs) = ap (λ ws. row_words n (node_row name) ++ ws) (words-by-columns (suc n) rs)
+words-by-columns n (point_row k ∷ rs) = ap (λ ws. row_words n (point_row k) ++ ws) (words-by-columns (suc n) rs)
+words-by-columns n (note_row t ∷ rs) = words-by-columns (suc n) rs
+words-by-columns n (inner_note_row t ∷ rs) = words-by-columns (suc n) rs
+
+cols-append : (xs ys : List Row) → cols (xs ++ ys) ≡ cols xs ++ cols ys
+cols-append [] ys = refl
+cols-append (x ∷ xs) ys = ap (λ cs. row_cols x ++ cs) (cols-append xs ys) ∙ sym (append_assoc (row_cols x) (cols xs) (cols ys))
+
+-- ---- parts
+abbrev pub keys : List Point → List (List ℕ)
+keys ps = map (λ p. p.key) ps
+
+abbrev pub node_part : Block → Part
+node_part b = record { name = kind_name b.kind; inner = points_cols 4 (codes "0") (keys b.points) }
+
+abbrev pub label_part : Label → Part
+label_part l = record { name = l.name; inner = parts_cols 2 (map node_part (blocks l.points)) }
+
+-- the columns of blocks behind a point of a kind
+abbrev pub head_cols : Option Kind → Kind → List Col
+head_cols before k = if goes_on before k then [] else opener 2 (kind_name k) ∷ []
+
+abbrev pub cols_behind : Option Kind → List Block → List Col
+cols_behind before [] = []
+cols_behind before (b ∷ bs) = head_cols before b.kind ++ (points_cols 4 (codes "0") (keys b.points) ++ parts_cols 2 (map node_part bs))
+
+whole : (bs : List Block) → cols_behind None bs ≡ parts_cols 2 (map node_part bs)
+whole [] = refl
+whole (b ∷ bs) = refl
+
+pub same-kind-back : (j k : Kind) → same_kind j k ≡ same_kind k j
+same-kind-back Mnemonic Mnemonic = refl
+same-kind-back Mnemonic Rs1 = refl
+same-kind-back Mnemonic Rs2 = refl
+same-kind-back Mnemonic Rd = refl
+same-kind-back Mnemonic OpComb = refl
+same-kind-back Mnemonic ValComb = refl
+same-kind-back Mnemonic CrossComb = refl
+same-kind-back Rs1 Mnemonic = refl
+same-kind-back Rs1 Rs1 = refl
+same-kind-back Rs1 Rs2 = refl
+same-kind-back Rs1 Rd = refl
+same-kind-back Rs1 OpComb = refl
+same-kind-back Rs1 ValComb = refl
+same-kind-back Rs1 CrossComb = refl
+same-kind-back Rs2 Mnemonic = refl
+same-kind-back Rs2 Rs1 = refl
+same-kind-back Rs2 Rs2 = refl
+same-kind-back Rs2 Rd = refl
+same-kind-back Rs2 OpComb = refl
+same-kind-back Rs2 ValComb = refl
+same-kind-back Rs2 CrossComb = refl
+same-kind-back Rd Mnemonic = refl
+same-kind-back Rd Rs1 = refl
+same-kind-back Rd Rs2 = refl
+same-kind-back Rd Rd = refl
+same-kind-back Rd OpComb = refl
+same-kind-back Rd ValComb = refl
+same-kind-back Rd CrossComb = refl
+same-kind-back OpComb Mnemonic = refl
+same-kind-back OpComb Rs1 = refl
+same-kind-back OpComb Rs2 = refl
+same-kind-back OpComb Rd = refl
+same-kind-back OpComb OpComb = refl
+same-kind-back OpComb ValComb = refl
+same-kind-back OpComb CrossComb = refl
+same-kind-back ValComb Mnemonic = refl
+same-kind-back ValComb Rs1 = refl
+same-kind-back ValComb Rs2 = refl
+same-kind-back ValComb Rd = refl
+same-kind-back ValComb OpComb = refl
+same-kind-back ValComb ValComb = refl
+same-kind-back ValComb CrossComb = refl
+same-kind-back CrossComb Mnemonic = refl
+same-kind-back CrossComb Rs1 = refl
+same-kind-back CrossComb Rs2 = refl
+same-kind-back CrossComb Rd = refl
+same-kind-back CrossComb OpComb = refl
+same-kind-back CrossComb ValComb = refl
+same-kind-back CrossComb CrossComb = refl
+
+joined-cols : (before : Option Kind) (p : Point) (bs : List Block)
+    → head_cols before p.kind ++ (point_col 4 (codes "0") p.key ∷ cols_behind (Some p.kind) bs) ≡ cols_behind before (joined p bs)
+joined-cols before p [] = refl
+joined-cols before p (b ∷ bs) = by-case (same_kind b.kind p.kind) refl
+  where
+    by-case : (s : Bool) → same_kind b.kind p.kind ≡ s
+        → head_cols before p.kind ++ (point_col 4 (codes "0") p.key ∷ cols_behind (Some p.kind) (b ∷ bs)) ≡ cols_behind before (joined p (b ∷ bs))
+    by-case true e = rw (e, joined, same-kind-back p.kind b.kind ∙ e, head_cols) refl
+    by-case false e = rw (e, joined, same-kind-back p.kind b.kind ∙ e, head_cols) refl
+
+points-cols : (before : Option Kind) (ps : List Point)
+    → cols (points_rows before ps) ≡ cols_behind before (blocks ps)
+points-cols before [] = refl
+points-cols before (p ∷ ps) =
+    cols-append (head_rows before p.kind) (point_row p.key ∷ points_rows (Some p.kind) ps)
+    ∙ ap (λ cs. cs ++ (point_col 4 (codes "0") p.key ∷ cols (points_rows (Some p.kind) ps))) (head-cols before p.kind)
+    ∙ ap (λ cs. head_cols before p.kind ++ (point_col 4 (codes "0") p.key ∷ cs)) (points-cols (Some p.kind) ps)
+    ∙ joined-cols before p (blocks ps)
+  where
+    head-cols : (before : Option Kind) (k : Kind) → cols (head_rows before k) ≡ head_cols before k
+    head-cols before k = by-case (goes_on before k) refl
+      where
+        by-case : (s : Bool) → goes_on before k ≡ s → cols (head_rows before k) ≡ head_cols before k
+        by-case true e = rw (e, head_rows, head_cols) refl
+        by-case false e = rw (e, head_rows, head_cols) refl
+
+skipped-cols : (ss : List Skipped) → cols (map skipped_row ss) ≡ []
+skipped-cols [] = refl
+skipped-cols (s ∷ ss) = skipped-cols ss
+
+label-cols : (l : Label) → l.selected ≡ true
+    → cols (label_rows l) ≡ opener 0 l.name ∷ (label_part l).inner
+label-cols l e = rw (e, label_rows)
+    (ap (λ cs. opener 0 l.name ∷ cs)
+    (cols-append (points_rows None l.points) (map skipped_row l.skipped)
+    ∙ ap (λ cs. cols (points_rows None l.points) ++ cs) (skipped-cols l.skipped)
+    ∙ append-nil (cols (points_rows None l.points))
+    ∙ points-cols None l.points ∙ whole (blocks l.points)))
+
+passed-over : (l : Label) → l.selected ≡ false → cols (label_rows l) ≡ []
+passed-over l e = rw (e, label_rows) refl
+
+pub groups-cols : (ls : List Label) → cols (rows ls) ≡ parts_cols 0 (map label_part (selected ls))
+groups-cols [] = refl
+groups-cols (l ∷ ls) = cols-append (label_rows l) (rows ls) ∙ ap (λ cs. cols (label_rows l) ++ cs) (groups-cols ls) ∙ by-case l.selected refl
+  where
+    by-case : (s : Bool) → l.selected ≡ s
+        → cols (label_rows l) ++ parts_cols 0 (map label_part (selected ls)) ≡ parts_cols 0 (map label_part (selected (l ∷ ls)))
+    by-case true e = ap (λ cs. cs ++ parts_cols 0 (map label_part (selected ls))) (label-cols l e) ∙ rw (e, selected, filter) refl
+    by-case false e = ap (λ cs. cs ++ parts_cols 0 (map label_part (selected ls))) (passed-over l e) ∙ rw (e, selected, filter) refl

@@ -1,0 +1,249 @@
+-- The normal text of groups that were read is read again as the selected ones.
+use Rattle.std.proofs.Common.{◌≡◌, ℕ, ◌+◌, ◌*◌, ◌≤◌, ◌<◌, Bool, true, false, List, [], ◌∷◌, ◌++◌, length, refl, sym, ap, subst, ◌∙◌, arith, append_assoc, append-nil, Option, Some, None, Ok, Err, All, true≢false, bytes_eq}
+use Rattle.std.specs.Prelude.{◌||◌, ◌==◌, not, codes, sum_by}
+use Rattle.std.specs.List.{list_all, list_any, flat_map}
+use Rattle.std.proofs.lemmas.List.{length-append}
+use Rattle.std.proofs.lemmas.List.Sums.{sum_by-cons}
+use Rattle.std.proofs.lemmas.List.Elements.{All-head, All-tail}
+use Rattle.rvs_insn.specs.Isa.{Isa}
+use Rattle.rvs_insn.specs.Names.{is_admitted_op}
+use Rattle.rvs_tree.specs.Data.{Data, Entries, no_entries, entry, pairs_of, own_pairs, scalar, sequence, mapping}
+use Rattle.rvs_tree.specs.Value.{Value}
+use Rattle.rvs_yaml_text.specs.Text.{lines_of, words_of}
+use Rattle.rvs_yaml.specs.Checks.{Checked, ◌>>=◌, ◌>>◌}
+use Rattle.rvs_yaml.specs.Block.{tree_of}
+use Rattle.rvs_yaml.specs.Answer.{within_limits, front, at_end, answer_after, answer}
+use Rattle.rvs_cgf.specs.Keys.{is_printable}
+use Rattle.rvs_cgf.specs.Groups.{Point, Label, size_of, groups_of, ops_of}
+use Rattle.rvs_cgf.specs.Print.{doubled, doubled_byte, head_line, point_line, points_text, skipped_line, label_text, normal_text}
+use Rattle.rvs_cgf.specs.Valid.{IsMeant}
+use Rattle.rvs_cgf.specs.Spelled.{IsPlain, ArePlain, selected, keys_are_own, nodes_are_own, are_admitted}
+use Rattle.rvs_cgf.specs.declared.group.Kind.{Kind}
+use Rattle.rvs_cgf.proofs.Spelling.{groups-spelled}
+use Rattle.rvs_cgf.proofs.ReadBack.{spelled_is_read}
+use Rattle.rvs_normal.specs.Once.{KeysOnce, EntriesOnce}
+use Rattle.rvs_normal.specs.Again.{names_are_apart, IsReadAgain}
+use Rattle.rvs_normal.proofs.Lines.{both, and-true}
+use Rattle.rvs_normal.proofs.Apart.{or-both, not-true}
+use Rattle.rvs_normal.proofs.OnceRead.{Has, TreeOwned, tree-owned}
+use Rattle.rvs_normal.proofs.Notes.{AllNotes, read-well}
+use Rattle.rvs_normal.proofs.Spelling.{IsPrinted, ArePrinted, IsSome, AllSome, points_cost, labels_cost, printed-is-read, selected-first, selected-others}
+
+-- ---- trees of texts
+tree-of-answer : (done ls : List (List ℕ)) (tree : Data) → answer_after done ls ≡ Ok tree
+    → front (done ++ ls) ≡ Ok tree
+tree-of-answer done [] tree h = ap front (append-nil done) ∙ ended (front done) h
+  where
+    ended : (r : Checked Data) → at_end (length done) r ≡ Ok tree → r ≡ Ok tree
+    ended (Ok d) h = cc
+    ended (Err k) h = cc
+tree-of-answer done (l ∷ ls) tree h = by-front (front (done ++ (l ∷ []))) refl (tree-of-answer (done ++ (l ∷ [])) ls tree)
+  where
+    by-front : (r : Checked Data) → front (done ++ (l ∷ [])) ≡ r
+        → (answer_after (done ++ (l ∷ [])) ls ≡ Ok tree → front ((done ++ (l ∷ [])) ++ ls) ≡ Ok tree)
+        → front (done ++ (l ∷ ls)) ≡ Ok tree
+    by-front (Ok d) e k = ap front (sym (append_assoc done (l ∷ []) ls)) ∙ k (sym (rw (e, answer_after) refl) ∙ h)
+    by-front (Err kind) e k =
+        let bad : answer_after done (l ∷ ls) ≡ Err (length (done ++ (l ∷ [])), kind) = rw (e, answer_after) refl in
+        let worse = sym bad ∙ h in
+        cc
+
+front-owned : (r : Checked Value) (tree : Data) → Has TreeOwned r
+    → (r >>= (λ v. within_limits v >> Ok v.tree)) ≡ Ok tree → KeysOnce tree
+front-owned (Err k) tree o h = cc
+front-owned (Ok v) tree o h = subst KeysOnce (kept (within_limits v) h) o
+  where
+    kept : (c : Checked (Unit {0})) → (c >> Ok v.tree) ≡ Ok tree → v.tree ≡ tree
+    kept (Ok u) h = cc
+    kept (Err k) h = cc
+
+pub answer-owned : (bytes : List ℕ) (tree : Data) → answer bytes ≡ Ok tree → KeysOnce tree
+answer-owned bytes tree h = front-owned (tree_of (words_of 1 false (lines_of bytes))) tree (tree-owned (words_of 1 false (lines_of bytes))) (tree-of-answer [] (lines_of bytes) tree h)
+
+top-own : (d : Data) → KeysOnce d → keys_are_own (own_pairs d) ≡ true
+top-own (scalar t l) o = refl
+top-own (sequence is l) o = refl
+top-own (mapping es l) o = o.0
+
+each-own : (es : Entries) → EntriesOnce es
+    → list_all (λ e. keys_are_own (own_pairs e.1)) (pairs_of es) ≡ true
+each-own no_entries o = refl
+each-own (entry k d es) o = and-true (keys_are_own (own_pairs d)) (list_all (λ e. keys_are_own (own_pairs e.1)) (pairs_of es)) (top-own d o.0) (each-own es o.1)
+
+nodes-own : (d : Data) → KeysOnce d → nodes_are_own d ≡ true
+nodes-own (scalar t l) o = refl
+nodes-own (sequence is l) o = refl
+nodes-own (mapping es l) o = each-own es o.1
+
+-- ---- labels that are printed
+points-printable : (ps : List Point) → All IsMeant ps → list_all (λ p. is_printable p.key) ps ≡ true
+points-printable [] h = refl
+points-printable (p ∷ ps) h = and-true (is_printable p.key) (list_all (λ p. is_printable p.key) ps) (All-head IsMeant p ps h).printable (points-printable ps (All-tail IsMeant p ps h))
+
+plain-printed : (isa : Isa) (l : Label) → IsPlain isa l → IsPrinted l
+plain-printed isa l h = record {
+  named = h.valid.named;
+  keys_printable = points-printable l.points h.valid.meant;
+  distinct = h.valid.distinct;
+  apart = h.apart;
+}
+
+all-printed : (isa : Isa) (ls : List Label) → ArePlain isa (selected ls) → AllNotes ls
+    → ArePrinted ls
+all-printed isa [] h n = tt
+all-printed isa (l ∷ ls) h n = by-case l.selected refl (λ q. all-printed isa ls q n.1)
+  where
+    by-case : (b : Bool) → l.selected ≡ b → (ArePlain isa (selected ls) → ArePrinted ls)
+        → ArePrinted (l ∷ ls)
+    by-case true e others =
+        let q = subst (ArePlain isa) (selected-first l ls e) h in
+        ((λ s. plain-printed isa l q.0), n.0, others q.1)
+    by-case false e others = ((λ s. absurd (true≢false (sym s ∙ e))), n.0, others (subst (ArePlain isa) (selected-others l ls e) h))
+
+-- a label with mnemonics has points
+some-points : (isa : Isa) (l : Label) → IsPlain isa l → IsSome l.points
+some-points isa l h = by-points l.points (subst (λ ops. 0 < length ops) h.ops_are h.valid.some_op)
+  where
+    by-points : (ps : List Point) → 0 < length (ops_of ps) → IsSome ps
+    by-points [] k = absurd (none k)
+      where
+        none : 0 < 0 → ⊥
+        none k = omega arith
+    by-points (p ∷ ps) k = tt
+
+all-some : (isa : Isa) (ls : List Label) → ArePlain isa ls → AllSome ls
+all-some isa [] h = tt
+all-some isa (l ∷ ls) h = (some-points isa l h.0, all-some isa ls h.1)
+
+any-selected : (l : Label) (ls : List Label) → list_any (λ m. bytes_eq l.name m.name) ls ≡ false
+    → list_any (λ m. bytes_eq l.name m.name) (selected ls) ≡ false
+any-selected l [] h = refl
+any-selected l (m ∷ ls) h =
+    let p = or-both (bytes_eq l.name m.name) (list_any (λ n. bytes_eq l.name n.name) ls) h in
+    by-case m.selected refl p.0 (any-selected l ls p.1)
+  where
+    or-ends : (p q : Bool) → p ≡ false → q ≡ false → (p || q) ≡ false
+    or-ends false q e f = f
+    or-ends true q e f = cc
+
+    by-case : (b : Bool) → m.selected ≡ b → bytes_eq l.name m.name ≡ false
+        → list_any (λ n. bytes_eq l.name n.name) (selected ls) ≡ false
+        → list_any (λ n. bytes_eq l.name n.name) (selected (m ∷ ls)) ≡ false
+    by-case true e p q = ap (list_any (λ (n : Label). bytes_eq l.name n.name)) (selected-first m ls e) ∙ or-ends (bytes_eq l.name m.name) (list_any (λ n. bytes_eq l.name n.name) (selected ls)) p q
+    by-case false e p q = ap (list_any (λ (n : Label). bytes_eq l.name n.name)) (selected-others m ls e) ∙ q
+
+not-made : (p : Bool) → p ≡ false → not p ≡ true
+not-made false h = refl
+not-made true h = cc
+
+selected-apart : (ls : List Label) → names_are_apart ls ≡ true
+    → names_are_apart (selected ls) ≡ true
+selected-apart [] h = refl
+selected-apart (l ∷ ls) h =
+    let p = both (not (list_any (λ m. bytes_eq l.name m.name) ls)) (names_are_apart ls) h in
+    by-case l.selected refl (any-selected l ls (not-true (list_any (λ m. bytes_eq l.name m.name) ls) p.0)) (selected-apart ls p.1)
+  where
+    by-case : (b : Bool) → l.selected ≡ b
+        → list_any (λ m. bytes_eq l.name m.name) (selected ls) ≡ false
+        → names_are_apart (selected ls) ≡ true → names_are_apart (selected (l ∷ ls)) ≡ true
+    by-case true e p q = ap names_are_apart (selected-first l ls e) ∙ and-true (not (list_any (λ m. bytes_eq l.name m.name) (selected ls))) (names_are_apart (selected ls)) (not-made (list_any (λ m. bytes_eq l.name m.name) (selected ls)) p) q
+    by-case false e p q = ap names_are_apart (selected-others l ls e) ∙ q
+
+-- ---- how long the text is
+abbrev key_letters : List Point → ℕ
+key_letters [] = 0
+key_letters (p ∷ ps) = length p.key + key_letters ps
+
+abbrev letters : List Label → ℕ
+letters [] = 0
+letters (l ∷ ls) = (length l.name + key_letters l.points) + letters ls
+
+doubled-long : (k : List ℕ) → length k ≤ length (doubled k)
+doubled-long [] = omega arith
+doubled-long (c ∷ cs) = by-case (c == 39) refl (doubled-long cs)
+  where
+    by-case : (b : Bool) → (c == 39) ≡ b → length cs ≤ length (doubled cs)
+        → length (c ∷ cs) ≤ length (doubled (c ∷ cs))
+    by-case true e h = rw (e, doubled_byte) (omega (arith, h))
+    by-case false e h = rw (e, doubled_byte) (omega (arith, h))
+
+point-long : (k : List ℕ) → length k ≤ length (point_line k)
+point-long k = omega (arith, doubled-long k, length-append (doubled k) (codes "': 0\n"))
+
+points-long : (before : Option Kind) (ps : List Point)
+    → key_letters ps ≤ length (points_text before ps)
+points-long before [] = omega arith
+points-long before (p ∷ ps) =
+    omega (
+      arith,
+      point-long p.key,
+      points-long (Some p.kind) ps,
+      length-append (head_line before p.kind ++ point_line p.key) (points_text (Some p.kind) ps),
+      length-append (head_line before p.kind) (point_line p.key),
+    )
+
+label-long : (l : Label) → l.selected ≡ true
+    → length l.name + key_letters l.points ≤ length (label_text l)
+label-long l e =
+    rw (e, label_text) (omega (
+      arith,
+      points-long None l.points,
+      length-append (l.name ++ codes ":\n") (points_text None l.points ++ flat_map skipped_line l.skipped),
+      length-append l.name (codes ":\n"),
+      length-append (points_text None l.points) (flat_map skipped_line l.skipped),
+    ))
+
+text-long : (ls : List Label) → letters (selected ls) ≤ length (normal_text ls)
+text-long [] = omega arith
+text-long (l ∷ ls) = by-case l.selected refl (text-long ls)
+  where
+    by-case : (b : Bool) → l.selected ≡ b → letters (selected ls) ≤ length (normal_text ls)
+        → letters (selected (l ∷ ls)) ≤ length (normal_text (l ∷ ls))
+    by-case true e h = let same = ap letters (selected-first l ls e) in omega (arith, same, h, label-long l e, length-append (label_text l) (normal_text ls))
+    by-case false e h = let same = ap letters (selected-others l ls e) in omega (arith, same, h, length-append (label_text l) (normal_text ls))
+
+-- ---- how many nodes
+abbrev point_count : List Label → ℕ
+point_count [] = 0
+point_count (l ∷ ls) = length l.points + point_count ls
+
+points-cost : (ps : List Point) → points_cost ps ≡ 138 * length ps + key_letters ps
+points-cost [] = omega arith
+points-cost (p ∷ ps) = omega (arith, points-cost ps)
+
+labels-cost : (ls : List Label)
+    → labels_cost ls ≡ 64 * length ls + 138 * point_count ls + letters ls
+labels-cost [] = omega arith
+labels-cost (l ∷ ls) = omega (arith, points-cost l.points, labels-cost ls)
+
+times-more : (n m : ℕ) → 0 < m → n ≤ n * m
+times-more n m h = grind arith
+
+points-few : (isa : Isa) (ls : List Label) → ArePlain isa ls → point_count ls ≤ sum_by size_of ls
+points-few isa [] h = omega arith
+points-few isa (l ∷ ls) h = omega (arith, sum_by-cons size_of l ls, points-few isa ls h.1, times-more (length l.points) (length l.ops) h.0.valid.some_op)
+
+-- ---- the whole
+plain-admitted : (isa : Isa) (ls : List Label) → ArePlain isa ls
+    → list_all (λ l. list_all (is_admitted_op isa) l.ops) ls ≡ true
+plain-admitted isa [] h = refl
+plain-admitted isa (l ∷ ls) h = and-true (list_all (is_admitted_op isa) l.ops) (list_all (λ m. list_all (is_admitted_op isa) m.ops) ls) h.0.valid.admitted (plain-admitted isa ls h.1)
+
+pub read-again : (isa other : Isa) (bytes : List ℕ) (d : Data) (ls : List Label)
+    → answer bytes ≡ Ok d → groups_of isa d ≡ Ok ls → length (normal_text ls) ≤ 4194304
+    → are_admitted other ls ≡ true → IsReadAgain other ls
+read-again isa other bytes d ls a g short admits =
+    let owned = answer-owned bytes d a in
+    let can = groups-spelled isa d ls (nodes-own d owned) g in
+    let well = read-well isa d ls (top-own d owned) g in
+    let cost : labels_cost (selected ls) ≤ 31999936 = omega (arith, labels-cost (selected ls), points-few isa (selected ls) can.plain, can.few_labels, can.few_points, text-long ls, short) in
+    let r = printed-is-read ls (all-printed isa ls can.plain well.notes) (all-some isa (selected ls) can.plain) (selected-apart ls well.apart) cost in
+    record {
+      tree = r.tree;
+      is = r.is;
+      groups_are = spelled_is_read isa other ls r.tree can admits r.spells;
+    }
+
+pub own-admitted : (isa : Isa) (bytes : List ℕ) (d : Data) (ls : List Label) → answer bytes ≡ Ok d
+    → groups_of isa d ≡ Ok ls → are_admitted isa ls ≡ true
+own-admitted isa bytes d ls a g = plain-admitted isa (selected ls) (groups-spelled isa d ls (nodes-own d (answer-owned bytes d a)) g).plain

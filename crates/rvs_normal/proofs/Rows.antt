@@ -1,0 +1,210 @@
+-- The lines of printed groups, and their words.
+use Rattle.std.proofs.Common.{◌≡◌, ℕ, Bool, true, false, List, [], ◌∷◌, ◌++◌, refl, ap, ◌∙◌, arith, Some, None}
+use Rattle.std.specs.Prelude.{◌&&◌, ◌||◌, ◌==◌, nat_le}
+use Rattle.std.specs.List.{list_all}
+use Rattle.std.proofs.lemmas.Bool.Decides.{nat_tests}
+use Rattle.rvs_yaml_text.specs.Bytes.{space_byte, single_quote_byte, hash_byte, dash_byte, dot_byte, colon_byte}
+use Rattle.rvs_yaml_text.specs.Word.{nothing, text, key, Word}
+use Rattle.rvs_yaml_text.specs.Scalar.{onto, is_blank, key_split, trimmed, start_fault, key_name, quoted_name, is_unsupported_start, is_reserved_start, is_indicator_byte}
+use Rattle.rvs_yaml_text.specs.Printed.{in_quotes, doubled}
+use Rattle.rvs_yaml_text.specs.Text.{word_at, words_at, last_words, line_words, is_mark, key_of, shape_from, plain_key}
+use Rattle.rvs_yaml_text.proofs.Printing.{printed-reads-back}
+use Rattle.rvs_cgf.specs.Keys.{is_printable}
+use Rattle.rvs_normal.proofs.Lines.{is_ink, both, and-true, inked-append, inked-utf8}
+
+-- ---- names
+abbrev pub is_first : ℕ → Bool
+is_first c = (nat_le 48 c && nat_le c 57) || ((nat_le 65 c && nat_le c 90) || ((nat_le 97 c && nat_le c 122) || c == 95))
+
+abbrev pub is_next : ℕ → Bool
+is_next c = is_first c || (c == 45 || c == 46)
+
+abbrev pub is_plain : List ℕ → Bool
+is_plain [] = false
+is_plain (c ∷ cs) = is_first c && list_all is_next cs
+
+-- what a byte of a name isn't
+record NotMarks (c : ℕ) : Type 0 where
+  space : (c == 32) ≡ false
+  hash : (c == 35) ≡ false
+  colon : (c == 58) ≡ false
+
+not-marks : (c : ℕ) → is_next c ≡ true → NotMarks c
+not-marks c h = record {
+  space = grind (arith, nat_tests);
+  hash = grind (arith, nat_tests);
+  colon = grind (arith, nat_tests);
+}
+
+split-name : (spaced : Bool) (cs : List ℕ) → list_all is_next cs ≡ true
+    → key_split spaced (cs ++ (colon_byte ∷ [])) ≡ Some (cs, [])
+split-name spaced [] h = refl
+split-name spaced (c ∷ cs) h =
+    let p = both (is_next c) (list_all is_next cs) h in
+    let n = not-marks c p.0 in
+    rw (n.hash, n.colon, key_split) (ap (onto c) (split-name (c == 32) cs p.1))
+
+pub trimmed-name : (cs : List ℕ) → list_all is_next cs ≡ true → trimmed cs ≡ cs
+trimmed-name [] h = refl
+trimmed-name (c ∷ []) h = rw ((not-marks c (both (is_next c) true h).0).space) refl
+trimmed-name (c ∷ d ∷ cs) h = let p = both (is_next c) (list_all is_next (d ∷ cs)) h in rw (trimmed-name (d ∷ cs) p.1) refl
+
+-- ---- a name with a colon behind it
+record NotStart (c : ℕ) : Type 0 where
+  unsupported : is_unsupported_start c ≡ false
+  reserved : is_reserved_start c ≡ false
+  question : (c == 63) ≡ false
+  indicator : is_indicator_byte c ≡ false
+  space : (c == 32) ≡ false
+  tab : (c == 9) ≡ false
+  hash : (c == 35) ≡ false
+  dash : (c == 45) ≡ false
+  dot : (c == 46) ≡ false
+  single : (c == 39) ≡ false
+  double : (c == 34) ≡ false
+  less : (c == 60) ≡ false
+
+not-start : (c : ℕ) → is_first c ≡ true → NotStart c
+not-start c h = record {
+  unsupported = grind (arith, nat_tests);
+  reserved = grind (arith, nat_tests);
+  question = grind (arith, nat_tests);
+  indicator = grind (arith, nat_tests);
+  space = grind (arith, nat_tests);
+  tab = grind (arith, nat_tests);
+  hash = grind (arith, nat_tests);
+  dash = grind (arith, nat_tests);
+  dot = grind (arith, nat_tests);
+  single = grind (arith, nat_tests);
+  double = grind (arith, nat_tests);
+  less = grind (arith, nat_tests);
+}
+
+first-next : (c : ℕ) → is_first c ≡ true → is_next c ≡ true
+first-next c h = rw h refl
+
+starts-well : (c : ℕ) (cs : List ℕ) → is_first c ≡ true → start_fault (c ∷ cs) ≡ None
+starts-well c cs h = let n = not-start c h in rw (n.unsupported, n.reserved, n.indicator, n.question, start_fault) refl
+
+key-of-name : (c : ℕ) (cs : List ℕ) → is_first c ≡ true → list_all is_next cs ≡ true
+    → key_of (c ∷ (cs ++ (colon_byte ∷ []))) ≡ Some (key_name (c ∷ cs), [])
+key-of-name c cs h k =
+    let n = not-start c h in
+    let all : list_all is_next (c ∷ cs) ≡ true = and-true (is_next c) (list_all is_next cs) (first-next c h) k in
+    rw (n.single, n.double, key_of, starts-well c (cs ++ (colon_byte ∷ [])) h, split-name false (c ∷ cs) all, trimmed-name (c ∷ cs) all, plain_key) refl
+
+at-last : (line column c : ℕ) (bs : List ℕ) → (c == 32) ≡ false → (c == 45) ≡ false
+    → words_at line false column (c ∷ bs) ≡ last_words line column (c ∷ bs)
+at-last line column c bs s d = rw (s, d, words_at) refl
+
+not-blank : (c : ℕ) (bs : List ℕ) → is_first c ≡ true → is_blank true (c ∷ bs) ≡ false
+not-blank c bs h = let n = not-start c h in rw (n.hash, n.space, n.tab, is_blank) refl
+
+last-word : (line column c : ℕ) (bs : List ℕ) → is_blank true (c ∷ bs) ≡ false → (c == 9) ≡ false
+    → last_words line column (c ∷ bs) ≡ word_at line column (shape_from (c ∷ bs) (key_of (c ∷ bs))) ∷ []
+last-word line column c bs b t = rw (b, t, last_words) refl
+
+pub name-word : (line column c : ℕ) (cs : List ℕ) → is_first c ≡ true → list_all is_next cs ≡ true
+    → words_at line false column (c ∷ (cs ++ (colon_byte ∷ []))) ≡ word_at line column (key (key_name (c ∷ cs)) None nothing) ∷ []
+name-word line column c cs h k =
+    let n = not-start c h in
+    at-last line column c (cs ++ (colon_byte ∷ [])) n.space n.dash
+    ∙ last-word line column c (cs ++ (colon_byte ∷ [])) (not-blank c (cs ++ (colon_byte ∷ [])) h) n.tab
+    ∙ ap (λ o. word_at line column (shape_from (c ∷ (cs ++ (colon_byte ∷ []))) o) ∷ []) (key-of-name c cs h k)
+
+pub merges-nothing : (c : ℕ) (cs : List ℕ) → is_first c ≡ true → (key_name (c ∷ cs)).merges ≡ false
+merges-nothing c cs h = let n = not-start c h in rw (n.less) refl
+
+-- ---- keys in quotes
+pub quoted-word : (line : ℕ) (k : List ℕ)
+    → words_at line false 4 (in_quotes k ++ (colon_byte ∷ space_byte ∷ 48 ∷ [])) ≡ word_at line 4 (key (quoted_name k) None (text (48 ∷ []))) ∷ []
+quoted-word line k =
+    ap (λ o. word_at line 4 (shape_from (in_quotes k ++ (colon_byte ∷ space_byte ∷ 48 ∷ [])) o) ∷ []) (printed-reads-back.keys k (space_byte ∷ 48 ∷ []) refl)
+
+-- ---- lines
+pub data Row : Type 0 where
+  label_row : List ℕ → Row
+  node_row : List ℕ → Row
+  point_row : List ℕ → Row
+  note_row : List ℕ → Row
+  inner_note_row : List ℕ → Row
+
+abbrev pub row_text : Row → List ℕ
+row_text (label_row name) = name ++ (colon_byte ∷ [])
+row_text (node_row name) = space_byte ∷ space_byte ∷ (name ++ (colon_byte ∷ []))
+row_text (point_row k) = space_byte ∷ space_byte ∷ space_byte ∷ space_byte ∷ (in_quotes k ++ (colon_byte ∷ space_byte ∷ 48 ∷ []))
+row_text (note_row t) = hash_byte ∷ t
+row_text (inner_note_row t) = space_byte ∷ space_byte ∷ hash_byte ∷ t
+
+abbrev pub IsRow : Row → Type 0
+IsRow (label_row name) = is_plain name ≡ true
+IsRow (node_row name) = is_plain name ≡ true
+IsRow (point_row k) = is_printable k ≡ true
+IsRow (note_row t) = is_printable t ≡ true
+IsRow (inner_note_row t) = is_printable t ≡ true
+
+abbrev pub row_words : ℕ → Row → List Word
+row_words line (label_row name) = word_at line 0 (key (key_name name) None nothing) ∷ []
+row_words line (node_row name) = word_at line 2 (key (key_name name) None nothing) ∷ []
+row_words line (point_row k) = word_at line 4 (key (quoted_name k) None (text (48 ∷ []))) ∷ []
+row_words line (note_row t) = []
+row_words line (inner_note_row t) = []
+
+next-ink : (c : ℕ) → is_next c ≡ true → is_ink c ≡ true
+next-ink c h = grind (arith, nat_tests)
+
+name-inked : (cs : List ℕ) → list_all is_next cs ≡ true → is_printable cs ≡ true
+name-inked [] h = refl
+name-inked (c ∷ cs) h = let p = both (is_next c) (list_all is_next cs) h in and-true (is_ink c) (is_printable cs) (next-ink c p.0) (name-inked cs p.1)
+
+pub plain-inked : (name : List ℕ) → is_plain name ≡ true → is_printable name ≡ true
+plain-inked [] h = refl
+plain-inked (c ∷ cs) h = let p = both (is_first c) (list_all is_next cs) h in and-true (is_ink c) (is_printable cs) (next-ink c (first-next c p.0)) (name-inked cs p.1)
+
+doubled-inked : (k : List ℕ) → is_printable k ≡ true → is_printable (doubled k) ≡ true
+doubled-inked [] h = refl
+doubled-inked (c ∷ cs) h =
+    let p = both (is_ink c) (is_printable cs) h in
+    doubled-one c cs (c == single_quote_byte) refl p.0 (doubled-inked cs p.1)
+  where
+    doubled-one : (c : ℕ) (cs : List ℕ) (b : Bool) → (c == single_quote_byte) ≡ b → is_ink c ≡ true
+        → is_printable (doubled cs) ≡ true → is_printable (doubled (c ∷ cs)) ≡ true
+    doubled-one c cs true e i r = rw (e, doubled) r
+    doubled-one c cs false e i r = rw (e, doubled) (and-true (is_ink c) (is_printable (doubled cs)) i r)
+
+pub row-inked : (r : Row) → IsRow r → is_printable (row_text r) ≡ true
+row-inked (label_row name) h = inked-append name (colon_byte ∷ []) (plain-inked name h) refl
+row-inked (node_row name) h = inked-append name (colon_byte ∷ []) (plain-inked name h) refl
+row-inked (point_row k) h = inked-append (in_quotes k) (colon_byte ∷ space_byte ∷ 48 ∷ []) (inked-append (doubled k) (single_quote_byte ∷ []) (doubled-inked k h) refl) refl
+row-inked (note_row t) h = h
+row-inked (inner_note_row t) h = h
+
+words-of-row : (line : ℕ) (r : Row) → IsRow r
+    → words_at line false 0 (row_text r) ≡ row_words line r
+words-of-row line (label_row []) h = cc
+words-of-row line (label_row (c ∷ cs)) h = let p = both (is_first c) (list_all is_next cs) h in name-word line 0 c cs p.0 p.1
+words-of-row line (node_row []) h = cc
+words-of-row line (node_row (c ∷ cs)) h = let p = both (is_first c) (list_all is_next cs) h in name-word line 2 c cs p.0 p.1
+words-of-row line (point_row k) h = quoted-word line k
+words-of-row line (note_row t) h = refl
+words-of-row line (inner_note_row t) h = refl
+
+no-mark : (r : Row) → IsRow r → is_mark dash_byte (row_text r) ≡ false
+no-mark (label_row []) h = cc
+no-mark (label_row (c ∷ cs)) h = let n = not-start c (both (is_first c) (list_all is_next cs) h).0 in rw (n.dash) refl
+no-mark (node_row name) h = refl
+no-mark (point_row k) h = refl
+no-mark (note_row t) h = refl
+no-mark (inner_note_row t) h = refl
+
+no-dots : (r : Row) → IsRow r → is_mark dot_byte (row_text r) ≡ false
+no-dots (label_row []) h = cc
+no-dots (label_row (c ∷ cs)) h = let n = not-start c (both (is_first c) (list_all is_next cs) h).0 in rw (n.dot) refl
+no-dots (node_row name) h = refl
+no-dots (point_row k) h = refl
+no-dots (note_row t) h = refl
+no-dots (inner_note_row t) h = refl
+
+pub line-words : (line : ℕ) (started : Bool) (r : Row) → IsRow r
+    → line_words line started (row_text r) ≡ row_words line r
+line-words line started r h = rw (inked-utf8 (row_text r) (row-inked r h), no-mark r h, no-dots r h, line_words) (words-of-row line r h)

@@ -1,0 +1,25 @@
+-- Groups whose normal text is read again.
+use Rattle.std.specs.Prelude.{◌≡◌, Bool, true, not, ◌&&◌, List, [], ◌∷◌, map, bytes_eq, Ok}
+use Rattle.std.specs.List.{list_any, list_all}
+use Rattle.rvs_insn.specs.Isa.{Isa}
+use Rattle.rvs_tree.specs.Data.{Data}
+use Rattle.rvs_yaml.specs.Answer.{answer}
+use Rattle.rvs_cgf.specs.Keys.{is_printable}
+use Rattle.rvs_cgf.specs.Groups.{Label, groups_of}
+use Rattle.rvs_cgf.specs.Print.{normal_text}
+use Rattle.rvs_cgf.specs.Spelled.{bare, selected}
+
+-- no two labels have one name
+abbrev pub names_are_apart : List Label → Bool
+names_are_apart [] = true
+names_are_apart (l ∷ ls) = not (list_any (λ m. bytes_eq l.name m.name) ls) && names_are_apart ls
+
+-- what the comments on a label say is printable
+abbrev pub notes_are_printable : Label → Bool
+notes_are_printable l = is_printable l.name && list_all (λ s. is_printable s.node && is_printable s.key) l.skipped
+
+-- the normal text is accepted, and gives for this core the selected labels with the same mnemonics and points, and nothing skipped
+pub record IsReadAgain (isa : Isa) (groups : List Label) : Type 0 where
+  pub tree : Data
+  pub is : answer (normal_text groups) ≡ Ok tree
+  pub groups_are : groups_of isa tree ≡ Ok (map bare (selected groups))

@@ -1,0 +1,28 @@
+// Laws of texts and groups.
+ghost use Rattle.std.specs.Prelude.{◌≡◌, ◌≤◌, ℕ, List, length, true, Ok};
+ghost use Rattle.rvs_insn.specs.Isa.{Isa};
+ghost use Rattle.rvs_tree.specs.Data.{Data};
+ghost use Rattle.rvs_yaml.specs.Answer.{answer};
+ghost use Rattle.rvs_cgf.specs.Groups.{Label, groups_of};
+ghost use Rattle.rvs_cgf.specs.Print.{normal_text};
+ghost use Rattle.rvs_cgf.specs.Spelled.{are_admitted};
+ghost use Rattle.rvs_normal.specs.Once.{KeysOnce};
+ghost use Rattle.rvs_normal.specs.Again.{IsReadAgain};
+
+/// Each map of an accepted text has each of its keys once, whatever it merges.
+pub fn keys_stand_once()
+    ensures { (bytes : List ℕ) (tree : Data) → answer bytes ≡ Ok tree → KeysOnce tree }
+{}
+
+/// The normal text of groups that were read from a text is accepted again, where it has at most
+/// 4 MiB as every file of groups, and gives the selected labels with the same mnemonics and points,
+/// and nothing skipped: for their own core, and for every other that admits their mnemonics.
+pub fn normal_text_is_read_again()
+    ensures again { (isa other : Isa) (bytes : List ℕ) (tree : Data) (groups : List Label)
+        → answer bytes ≡ Ok tree → groups_of isa tree ≡ Ok groups
+        → length (normal_text groups) ≤ 4194304 → are_admitted other groups ≡ true
+        → IsReadAgain other groups }
+    ensures own_core { (isa : Isa) (bytes : List ℕ) (tree : Data) (groups : List Label)
+        → answer bytes ≡ Ok tree → groups_of isa tree ≡ Ok groups
+        → are_admitted isa groups ≡ true }
+{}
