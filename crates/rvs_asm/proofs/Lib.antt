@@ -8,3 +8,5 @@ pub mod Stands
 pub mod Joins
 pub mod Empty
 pub mod Firsts
+pub mod Sizes
+pub mod Offsets
