@@ -8,3 +8,6 @@ pub mod Stands
 pub mod Joins
 pub mod Empty
 pub mod Firsts
+pub mod Valued
+pub mod Sizes
+pub mod Offsets

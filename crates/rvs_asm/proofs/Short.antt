@@ -16,7 +16,7 @@ use Rattle.rvs_asm.specs.Places.{Reading, body_of, label_of, size_of, next, own_
 use Rattle.rvs_asm.specs.Faults.{is_misaligned, is_double, is_refused, body_fault, fault, at_line, first_fault}
 
 -- a test that gives no fault
-unpicked : (t : Bool) (k : AsmKind) (o : Option AsmKind) → cond t (Some k) o ≡ None → (t ≡ false) × (o ≡ None)
+pub unpicked : (t : Bool) (k : AsmKind) (o : Option AsmKind) → cond t (Some k) o ≡ None → (t ≡ false) × (o ≡ None)
 unpicked true k o h = cc
 unpicked false k o h = (refl, h)
 
@@ -55,7 +55,7 @@ entered_line : (isa : Isa) (ss : Table) (p : Place) (r : Reading) → IsPlace p 
 entered_line isa ss p (Err f) here h = cc
 entered_line isa ss p (Ok line) here h = entered isa p line.body here (unpicked (is_double ss line.label) DoubleSymbol (body_fault isa p line.body) h).1
 
-no_first : (n : ℕ) (k : Option AsmKind) (o : Option AsmRefusal) → option_or (at_line n k) o ≡ None → (k ≡ None) × (o ≡ None)
+pub no_first : (n : ℕ) (k : Option AsmKind) (o : Option AsmRefusal) → option_or (at_line n k) o ≡ None → (k ≡ None) × (o ≡ None)
 no_first n None o h = (refl, h)
 no_first n (Some k) o h = cc
 

@@ -6,3 +6,4 @@ pub mod Answer
 pub mod KindNumbers
 pub mod Refusals
 pub mod Laws
+pub mod Standing

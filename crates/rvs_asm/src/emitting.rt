@@ -1,7 +1,7 @@
 // The bytes of statements.
-ghost use Rattle.std.specs.Prelude.{◌≡◌, ◌≤◌, ◌++◌, None, OnOk, IfOk};
+ghost use Rattle.std.specs.Prelude.{◌≡◌, ◌≤◌, ◌++◌, Some, None, true, false, if◌then◌else◌, OnOk, IfOk, OnSome, IfSome, IfNone};
 ghost use Rattle.std.specs.Int.{w32, to_le_bytes};
-ghost use Rattle.std.specs.List.{flat_map, list_any};
+ghost use Rattle.std.specs.List.{flat_map};
 ghost use Rattle.rvs_insn.specs.Table.{row};
 ghost use Rattle.rvs_insn.specs.Word.{IsEncodable, low_bits, word_of};
 ghost use Rattle.rvs_asm_text.specs.Instructions.{IsReady};
@@ -9,7 +9,8 @@ ghost use Rattle.rvs_asm_text.specs.Directives.{data_value};
 ghost use Rattle.rvs_asm.specs.Symbols.{address_of};
 ghost use Rattle.rvs_asm.specs.Places.{IsPlace, address};
 ghost use Rattle.rvs_asm.specs.Bytes.{number_bytes, repeated, filler, value_in, value_bytes, linked, bytes_of};
-ghost use Rattle.rvs_asm.specs.Faults.{symbol_fault, link_fault, values_fault, lacks_symbol};
+ghost use Rattle.rvs_asm.specs.declared.refusal.AsmKind.TheVariants.{UnknownSymbol};
+ghost use Rattle.rvs_asm.specs.Faults.{symbol_fault, link_fault, values_fault, lacks_symbol, lacks_link};
 
 use crate::linking::link_insn;
 use crate::place::{Place, gap, mark_at, offset_in};
@@ -78,86 +79,67 @@ fn push_padding(out: &mut Vec<u8>, in_text: bool, count: u32) -> Result<(), NoMe
     }
 }
 
-/// The number of a value of data.
-fn value_number(symbols: &Symbols, value: &Value<'_>) -> i64
-    ensures { result ≡ value_in (address_of symbols.now) value.now.link value.now.number }
+/// The number of a value of data, if its symbol is there.
+fn value_number(symbols: &Symbols, value: &Value<'_>) -> Option<i64>
+    ensures there { OnSome result (lacks_link symbols.now value.now.link ≡ false) }
+    ensures number { IfSome result (λ number. number
+        ≡ value_in (address_of symbols.now) value.now.link value.now.number) }
+    ensures missing { IfNone result (lacks_link symbols.now value.now.link ≡ true) }
 {
     match &value.link {
         Link::Whole(name) => match symbols.get(name.as_str()) {
-            Some(mark) => mark.at as i64,
-            None => 0,
+            Some(mark) => Some(mark.at as i64),
+            None => None,
         },
-        Link::Own | Link::High(_) | Link::Low(_) | Link::Distance(_) => value.number,
+        Link::Own | Link::High(_) | Link::Low(_) | Link::Distance(_) => Some(value.number),
     }
 }
 
-/// Adds a value of data, if the text is one.
-fn push_value(out: &mut Vec<u8>, symbols: &Symbols, size: u8, text: &[u8]) -> Result<(), NoMemory>
+/// Adds a value of data under all symbols, if the text is one, or gives its fault.
+fn push_value(
+    out: &mut Vec<u8>,
+    symbols: &Symbols,
+    size: u8,
+    text: &[u8],
+) -> Result<Option<AsmKind>, NoMemory>
     requires { size ≤ 4 }
-    ensures { OnOk result (out.new.items ≡ out.old.items ++ value_bytes (address_of symbols.now) size (data_value size text.now)) }
+    ensures fault { IfOk result (λ fault. fault
+        ≡ (if lacks_symbol symbols.now (data_value size text.now)
+        then Some UnknownSymbol else None)) }
+    ensures bytes { IfOk result (λ fault. fault ≡ None → out.new.items
+        ≡ out.old.items ++ value_bytes (address_of symbols.now) size (data_value size text.now)) }
 {
     match read_value(size, text) {
-        Some(value) => push_number(out, size, value_number(symbols, &value)),
-        None => Ok(()),
+        Some(value) => match value_number(symbols, &value) {
+            Some(number) => {
+                push_number(out, size, number)?;
+                Ok(None)
+            },
+            None => Ok(Some(AsmKind::UnknownSymbol)),
+        },
+        None => Ok(None),
     }
 }
 
-/// Adds values of data.
+/// Adds values of data under all symbols, or gives their fault.
 fn push_values(
     out: &mut Vec<u8>,
     symbols: &Symbols,
     size: u8,
     mut operands: Operands<'_>,
-) -> Result<(), NoMemory>
-    requires { size ≤ 4 }
-    ensures { OnOk result (out.new.items ≡ out.old.items ++ flat_map (λ text. value_bytes (address_of symbols.now) size (data_value size text)) operands.entry) }
-{
-    while let Some(text) = operands.next() {
-        push_value(out, symbols, size, text)?;
-    }
-    Ok(())
-}
-
-/// Whether a value of data names a symbol that isn't there.
-fn lacks_value_symbol(symbols: &Symbols, size: u8, text: &[u8]) -> bool
-    ensures { result ≡ lacks_symbol symbols.now (data_value size text.now) }
-{
-    match read_value(size, text) {
-        Some(value) => match &value.link {
-            Link::Whole(name) => symbols.get(name.as_str()).is_none(),
-            Link::Own | Link::High(_) | Link::Low(_) | Link::Distance(_) => false,
-        },
-        None => false,
-    }
-}
-
-/// Whether one of the values names a symbol that isn't there.
-fn lack_symbols(symbols: &Symbols, size: u8, mut operands: Operands<'_>) -> bool
-    ensures { result ≡ list_any (λ text. lacks_symbol symbols.now (data_value size text)) operands.entry }
-{
-    while let Some(text) = operands.next() {
-        if lacks_value_symbol(symbols, size, text) {
-            return true;
-        }
-    }
-    false
-}
-
-/// Adds values of data under all symbols, or gives their fault.
-fn push_known_values(
-    out: &mut Vec<u8>,
-    symbols: &Symbols,
-    size: u8,
-    operands: &Operands<'_>,
 ) -> Result<Option<AsmKind>, NoMemory>
     requires { size ≤ 4 }
-    ensures fault { IfOk result (λ fault. fault ≡ values_fault symbols.now size operands.now) }
-    ensures bytes { IfOk result (λ fault. fault ≡ None → out.new.items ≡ out.old.items ++ flat_map (λ text. value_bytes (address_of symbols.now) size (data_value size text)) operands.now) }
+    ensures fault { IfOk result (λ fault. fault ≡ values_fault symbols.now size operands.entry) }
+    ensures bytes { IfOk result (λ fault. fault ≡ None → out.new.items
+        ≡ out.old.items ++ flat_map (λ text. value_bytes (address_of symbols.now) size
+        (data_value size text)) operands.entry) }
 {
-    if lack_symbols(symbols, size, operands.again()) {
-        return Ok(Some(AsmKind::UnknownSymbol));
+    while let Some(text) = operands.next() {
+        match push_value(out, symbols, size, text)? {
+            Some(kind) => return Ok(Some(kind)),
+            None => {},
+        }
     }
-    push_values(out, symbols, size, operands.again())?;
     Ok(None)
 }
 
@@ -197,7 +179,7 @@ pub fn push_body(
     match body {
         Body::Nothing | Body::ToText | Body::ToData => Ok(None),
         Body::Insn(insn, link) => push_insn(out, symbols, mark_at(place).at, insn, link),
-        Body::Values(size, operands) => push_known_values(out, symbols, *size, operands),
+        Body::Values(size, operands) => push_values(out, symbols, *size, operands.again()),
         Body::Align(power) => {
             push_padding(out, place.in_text, gap(offset_in(place), *power))?;
             Ok(None)

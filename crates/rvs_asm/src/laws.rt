@@ -1,5 +1,6 @@
 // Laws of the assembler's definitions.
 ghost use Rattle.rvs_asm.specs.Laws.{PartsMakeAddress, OneImageEach, ImagesAreAnswered, RefusedHaveNone, FirstFaultsAreFirst, SecondFaultsAreFirst};
+ghost use Rattle.rvs_asm.specs.Standing.{LinesHaveTheirSizes, LinesStand};
 
 /// `%hi` and the signed `%lo` of every address make the address modulo 2^32.
 pub fn parts_make_the_address()
@@ -20,4 +21,12 @@ pub fn refusals_are_first()
     ensures none { RefusedHaveNone }
     ensures first { FirstFaultsAreFirst }
     ensures second { SecondFaultsAreFirst }
+{}
+
+/// A line that is read makes as many bytes as its size says, and in an image they lie in the place
+/// of the line, behind those of the lines before it, with the address that its label marks.
+#[tactic(auto, using(crate::proofs::Sizes::lines_have_their_sizes, crate::proofs::Offsets::lines_stand))]
+pub fn lines_stand_in_their_places()
+    ensures sizes { LinesHaveTheirSizes }
+    ensures places { LinesStand }
 {}

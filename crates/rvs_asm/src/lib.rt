@@ -13,7 +13,9 @@ mod second_pass;
 mod symbols;
 
 pub use assembling::assemble;
-pub use laws::{one_image_each, parts_make_the_address, refusals_are_first};
+pub use laws::{
+    lines_stand_in_their_places, one_image_each, parts_make_the_address, refusals_are_first,
+};
 pub use mark::Mark;
 pub use place::Place;
 pub use refusal::{AsmKind, AsmRefusal};

@@ -62,96 +62,105 @@ static ALL_OPS: [Op; 48] = [
     Op::Ebreak,
 ];
 
+/// A row: the mnemonic's name, its format, the bits that its words have in common, and whether the
+/// words of `rs1` and of `rs2` are read as unsigned numbers.
+#[derive(Clone, Copy)]
+struct Row {
+    name: &'static str,
+    format: Format,
+    bits: u32,
+    unsigned1: bool,
+    unsigned2: bool,
+}
+
+fn make_row(name: &'static str, format: Format, bits: u32, unsigned1: bool, unsigned2: bool) -> Row
+    ensures name { result.name.now ≡ name.now }
+    ensures form { result.format ≡ format }
+    ensures bits { result.bits ≡ bits }
+    ensures first { result.unsigned1 ≡ unsigned1 }
+    ensures second { result.unsigned2 ≡ unsigned2 }
+{
+    Row {
+        name,
+        format,
+        bits,
+        unsigned1,
+        unsigned2,
+    }
+}
+
+/// The table: a row for each mnemonic.
+fn row_of(op: Op) -> Row
+    ensures name { result.name.now ≡ (row op).name }
+    ensures form { result.format ≡ (row op).form }
+    ensures bits { result.bits ≡ (row op).bits }
+    ensures first { result.unsigned1 ≡ (row op).unsigned1 }
+    ensures second { result.unsigned2 ≡ (row op).unsigned2 }
+{
+    match op {
+        Op::Lui => make_row("lui", Format::Upper, 0x0000_0037, false, false),
+        Op::Auipc => make_row("auipc", Format::Upper, 0x0000_0017, false, false),
+        Op::Jal => make_row("jal", Format::Jump, 0x0000_006f, false, false),
+        Op::Jalr => make_row("jalr", Format::JumpReg, 0x0000_0067, false, false),
+        Op::Beq => make_row("beq", Format::Branch, 0x0000_0063, false, false),
+        Op::Bne => make_row("bne", Format::Branch, 0x0000_1063, false, false),
+        Op::Blt => make_row("blt", Format::Branch, 0x0000_4063, false, false),
+        Op::Bge => make_row("bge", Format::Branch, 0x0000_5063, false, false),
+        Op::Bltu => make_row("bltu", Format::Branch, 0x0000_6063, true, true),
+        Op::Bgeu => make_row("bgeu", Format::Branch, 0x0000_7063, true, true),
+        Op::Lb => make_row("lb", Format::Load, 0x0000_0003, false, false),
+        Op::Lh => make_row("lh", Format::Load, 0x0000_1003, false, false),
+        Op::Lw => make_row("lw", Format::Load, 0x0000_2003, false, false),
+        Op::Lbu => make_row("lbu", Format::Load, 0x0000_4003, false, false),
+        Op::Lhu => make_row("lhu", Format::Load, 0x0000_5003, false, false),
+        Op::Sb => make_row("sb", Format::Store, 0x0000_0023, false, false),
+        Op::Sh => make_row("sh", Format::Store, 0x0000_1023, false, false),
+        Op::Sw => make_row("sw", Format::Store, 0x0000_2023, false, false),
+        Op::Addi => make_row("addi", Format::I, 0x0000_0013, false, false),
+        Op::Slti => make_row("slti", Format::I, 0x0000_2013, false, false),
+        Op::Sltiu => make_row("sltiu", Format::I, 0x0000_3013, true, false),
+        Op::Xori => make_row("xori", Format::I, 0x0000_4013, false, false),
+        Op::Ori => make_row("ori", Format::I, 0x0000_6013, false, false),
+        Op::Andi => make_row("andi", Format::I, 0x0000_7013, false, false),
+        Op::Slli => make_row("slli", Format::Shift, 0x0000_1013, false, false),
+        Op::Srli => make_row("srli", Format::Shift, 0x0000_5013, false, false),
+        Op::Srai => make_row("srai", Format::Shift, 0x4000_5013, false, false),
+        Op::Add => make_row("add", Format::R, 0x0000_0033, false, false),
+        Op::Sub => make_row("sub", Format::R, 0x4000_0033, false, false),
+        Op::Sll => make_row("sll", Format::R, 0x0000_1033, false, false),
+        Op::Slt => make_row("slt", Format::R, 0x0000_2033, false, false),
+        Op::Sltu => make_row("sltu", Format::R, 0x0000_3033, true, true),
+        Op::Xor => make_row("xor", Format::R, 0x0000_4033, false, false),
+        Op::Srl => make_row("srl", Format::R, 0x0000_5033, false, false),
+        Op::Sra => make_row("sra", Format::R, 0x4000_5033, false, false),
+        Op::Or => make_row("or", Format::R, 0x0000_6033, false, false),
+        Op::And => make_row("and", Format::R, 0x0000_7033, false, false),
+        Op::Mul => make_row("mul", Format::R, 0x0200_0033, false, false),
+        Op::Mulh => make_row("mulh", Format::R, 0x0200_1033, false, false),
+        Op::Mulhsu => make_row("mulhsu", Format::R, 0x0200_2033, false, true),
+        Op::Mulhu => make_row("mulhu", Format::R, 0x0200_3033, true, true),
+        Op::Div => make_row("div", Format::R, 0x0200_4033, false, false),
+        Op::Divu => make_row("divu", Format::R, 0x0200_5033, true, true),
+        Op::Rem => make_row("rem", Format::R, 0x0200_6033, false, false),
+        Op::Remu => make_row("remu", Format::R, 0x0200_7033, true, true),
+        Op::Fence => make_row("fence", Format::Fence, 0x0000_000f, false, false),
+        Op::Ecall => make_row("ecall", Format::System, 0x0000_0073, false, false),
+        Op::Ebreak => make_row("ebreak", Format::System, 0x0010_0073, false, false),
+    }
+}
+
 /// The mnemonic as the assembler and the manual write it, as `sltiu`.
 pub fn op_name(op: Op) -> &'static str
     ensures { result.now ≡ (row op).name }
 {
-    match op {
-        Op::Lui => "lui",
-        Op::Auipc => "auipc",
-        Op::Jal => "jal",
-        Op::Jalr => "jalr",
-        Op::Beq => "beq",
-        Op::Bne => "bne",
-        Op::Blt => "blt",
-        Op::Bge => "bge",
-        Op::Bltu => "bltu",
-        Op::Bgeu => "bgeu",
-        Op::Lb => "lb",
-        Op::Lh => "lh",
-        Op::Lw => "lw",
-        Op::Lbu => "lbu",
-        Op::Lhu => "lhu",
-        Op::Sb => "sb",
-        Op::Sh => "sh",
-        Op::Sw => "sw",
-        Op::Addi => "addi",
-        Op::Slti => "slti",
-        Op::Sltiu => "sltiu",
-        Op::Xori => "xori",
-        Op::Ori => "ori",
-        Op::Andi => "andi",
-        Op::Slli => "slli",
-        Op::Srli => "srli",
-        Op::Srai => "srai",
-        Op::Add => "add",
-        Op::Sub => "sub",
-        Op::Sll => "sll",
-        Op::Slt => "slt",
-        Op::Sltu => "sltu",
-        Op::Xor => "xor",
-        Op::Srl => "srl",
-        Op::Sra => "sra",
-        Op::Or => "or",
-        Op::And => "and",
-        Op::Mul => "mul",
-        Op::Mulh => "mulh",
-        Op::Mulhsu => "mulhsu",
-        Op::Mulhu => "mulhu",
-        Op::Div => "div",
-        Op::Divu => "divu",
-        Op::Rem => "rem",
-        Op::Remu => "remu",
-        Op::Fence => "fence",
-        Op::Ecall => "ecall",
-        Op::Ebreak => "ebreak",
-    }
+    row_of(op).name
 }
 
 /// The layout of the mnemonic's operands.
 pub fn format(op: Op) -> Format
     ensures { result ≡ (row op).form }
 {
-    match op {
-        Op::Lui | Op::Auipc => Format::Upper,
-        Op::Jal => Format::Jump,
-        Op::Jalr => Format::JumpReg,
-        Op::Beq | Op::Bne | Op::Blt | Op::Bge | Op::Bltu | Op::Bgeu => Format::Branch,
-        Op::Lb | Op::Lh | Op::Lw | Op::Lbu | Op::Lhu => Format::Load,
-        Op::Sb | Op::Sh | Op::Sw => Format::Store,
-        Op::Addi | Op::Slti | Op::Sltiu | Op::Xori | Op::Ori | Op::Andi => Format::I,
-        Op::Slli | Op::Srli | Op::Srai => Format::Shift,
-        Op::Add
-        | Op::Sub
-        | Op::Sll
-        | Op::Slt
-        | Op::Sltu
-        | Op::Xor
-        | Op::Srl
-        | Op::Sra
-        | Op::Or
-        | Op::And
-        | Op::Mul
-        | Op::Mulh
-        | Op::Mulhsu
-        | Op::Mulhu
-        | Op::Div
-        | Op::Divu
-        | Op::Rem
-        | Op::Remu => Format::R,
-        Op::Fence => Format::Fence,
-        Op::Ecall | Op::Ebreak => Format::System,
-    }
+    row_of(op).format
 }
 
 /// Whether the words of `rs1` and of `rs2` are read as unsigned numbers.
@@ -159,66 +168,13 @@ pub fn reads_unsigned(op: Op) -> (bool, bool)
     ensures first { result.0 ≡ (row op).unsigned1 }
     ensures second { result.1 ≡ (row op).unsigned2 }
 {
-    match op {
-        Op::Bltu | Op::Bgeu | Op::Sltu | Op::Mulhu | Op::Divu | Op::Remu => (true, true),
-        Op::Sltiu => (true, false),
-        Op::Mulhsu => (false, true),
-        _ => (false, false),
-    }
+    let row = row_of(op);
+    (row.unsigned1, row.unsigned2)
 }
 
 /// The bits that the mnemonic's words have in common.
 pub(crate) fn row_bits(op: Op) -> u32
     ensures { result ≡ (row op).bits }
 {
-    match op {
-        Op::Lui => 0x0000_0037,
-        Op::Auipc => 0x0000_0017,
-        Op::Jal => 0x0000_006f,
-        Op::Jalr => 0x0000_0067,
-        Op::Beq => 0x0000_0063,
-        Op::Bne => 0x0000_1063,
-        Op::Blt => 0x0000_4063,
-        Op::Bge => 0x0000_5063,
-        Op::Bltu => 0x0000_6063,
-        Op::Bgeu => 0x0000_7063,
-        Op::Lb => 0x0000_0003,
-        Op::Lh => 0x0000_1003,
-        Op::Lw => 0x0000_2003,
-        Op::Lbu => 0x0000_4003,
-        Op::Lhu => 0x0000_5003,
-        Op::Sb => 0x0000_0023,
-        Op::Sh => 0x0000_1023,
-        Op::Sw => 0x0000_2023,
-        Op::Addi => 0x0000_0013,
-        Op::Slti => 0x0000_2013,
-        Op::Sltiu => 0x0000_3013,
-        Op::Xori => 0x0000_4013,
-        Op::Ori => 0x0000_6013,
-        Op::Andi => 0x0000_7013,
-        Op::Slli => 0x0000_1013,
-        Op::Srli => 0x0000_5013,
-        Op::Srai => 0x4000_5013,
-        Op::Add => 0x0000_0033,
-        Op::Sub => 0x4000_0033,
-        Op::Sll => 0x0000_1033,
-        Op::Slt => 0x0000_2033,
-        Op::Sltu => 0x0000_3033,
-        Op::Xor => 0x0000_4033,
-        Op::Srl => 0x0000_5033,
-        Op::Sra => 0x4000_5033,
-        Op::Or => 0x0000_6033,
-        Op::And => 0x0000_7033,
-        Op::Mul => 0x0200_0033,
-        Op::Mulh => 0x0200_1033,
-        Op::Mulhsu => 0x0200_2033,
-        Op::Mulhu => 0x0200_3033,
-        Op::Div => 0x0200_4033,
-        Op::Divu => 0x0200_5033,
-        Op::Rem => 0x0200_6033,
-        Op::Remu => 0x0200_7033,
-        Op::Fence => 0x0000_000f,
-        Op::Ecall => 0x0000_0073,
-        Op::Ebreak => 0x0010_0073,
-    }
+    row_of(op).bits
 }

@@ -8,3 +8,4 @@ pub mod Refusal
 pub mod Unread
 pub mod Print
 pub mod Laws
+pub mod Reads

@@ -17,6 +17,9 @@ mod value;
 
 pub use checked::Checked;
 pub use checks::check;
-pub use laws::{canonical_texts_are_accepted, isa_texts_are_read_as_spelled};
+pub use laws::{
+    canonical_texts_are_accepted, isa_texts_are_read_as_spelled,
+    unread_paths_are_those_that_no_check_reads,
+};
 pub use print::{print_checked, refusal_text};
 pub use refusal::{IsaKind, IsaRefusal};

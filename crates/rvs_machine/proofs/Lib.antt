@@ -13,3 +13,5 @@ pub mod Loads
 pub mod Stores
 pub mod Jumps
 pub mod Commits
+pub mod FileTree
+pub mod FirstFaults
