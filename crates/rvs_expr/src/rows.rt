@@ -6,7 +6,7 @@ ghost use Rattle.rvs_expr.specs.Meaning.{IsNarrowFormula};
 ghost use Rattle.rvs_expr.specs.Total.{num_place};
 ghost use Rattle.rvs_expr.specs.Row.{true_with};
 
-use crate::evaluating::{num_place, truth};
+use crate::evaluating::{is_true, num_place};
 use crate::formula::Formula;
 use crate::steps::Steps;
 use crate::values::Values;
@@ -35,7 +35,7 @@ fn is_true_with(formula: &Formula, values: &Values, name: NumName, number: i64) 
     requires small { unsigned_abs number ≤ 2 ^ 32 }
     ensures { result ≡ true_with name number values.now.nums values.now.regs (view formula.now) }
 {
-    truth(formula, &with_value(values, name, number))
+    is_true(formula, &with_value(values, name, number))
 }
 
 /// The place of the first of these numbers of a name with which the formula is true.

@@ -14,6 +14,6 @@ returns-in-None-clause-value g c =
 pub returns-in-Some-clause-value : goal.returns-in-Some-clause-value
 returns-in-Some-clause-value g c =
     let t = g.F.Facts.table c.args.facts.now in
-    c.truth.ensures
+    c.is_true.ensures
     ∙ holds_by t (typed.view c.self.inside.top) c.self.inside.names (Some (c.in-Some.values.nums, c.in-Some.values.regs)) c.self.invariant.2 c.in-Some.ensures
     ∙ ap (λ top. holds t (typed.view top)) c.self.view_is
