@@ -5,8 +5,7 @@ ghost use Rattle.rvs_expr.specs.Equated as spec;
 ghost use Rattle.rvs_expr.specs.Equation.{number_of};
 ghost use Rattle.rvs_expr.specs.Meaning.{IsNarrow, IsNarrowFormula, nothing, value};
 
-use crate::evaluating::value_of;
-use crate::facts::NoFacts;
+use crate::evaluating::constant_of;
 use crate::formula::{Comparison, Formula, Num, NumChain};
 use rvs_base::NoMemory;
 use rvs_expr_text::NumName;
@@ -42,7 +41,7 @@ fn constant(num: &Num) -> Option<i64>
     requires { IsNarrow (num_view num.now) }
     ensures { result ≡ spec.small (value nothing (num_view num.now)) }
 {
-    match value_of(num, &NoFacts) {
+    match constant_of(num) {
         None => None,
         Some(value) => small(value),
     }
