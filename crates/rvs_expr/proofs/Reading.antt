@@ -32,10 +32,10 @@ both-none f None p false y e g h = refl
 both-none f (Some v) p false y e g h = ap (both f (Some v)) (h e)
 
 -- ---- where the values are those of the table
-pub record Gives (t : Table) (zs : List ℤ) (p : NumName → Bool) : Type 0 where
+record Gives (t : Table) (zs : List ℤ) (p : NumName → Bool) : Type 0 where
   pub num : (n : NumName) → p n ≡ true → t.num n ≡ Some (slice_index_or zs (num_place n) (pos 0))
 
-pub record GivesRegs (t : Table) (ns : List ℕ) (p : RegName → Bool) : Type 0 where
+record GivesRegs (t : Table) (ns : List ℕ) (p : RegName → Bool) : Type 0 where
   pub reg : (r : RegName) → p r ≡ true → t.reg r ≡ Some (slice_index_or ns (reg_place r) 0)
 
 gives-left : (t : Table) (zs : List ℤ) (p q : NumName → Bool) → Gives t zs (λ n. p n || q n) → Gives t zs p
@@ -85,7 +85,7 @@ reg-chain-is : (t : Table) (ns : List ℕ) (c : RegChain) → GivesRegs t ns (ch
 reg-chain-is t ns (reg_pair a op b) g = both-is (λ x y. (equation op x y, y)) _ _ _ _ (reg-is t ns a (regs-left t ns (is_reg a) (is_reg b) (record { reg = λ r e. g.reg r e }))) (reg-is t ns b (regs-right t ns (is_reg a) (is_reg b) (record { reg = λ r e. g.reg r e })))
 reg-chain-is t ns (reg_more c op b) g = both-is (λ p y. (p.0 && equation op p.1 y, y)) _ _ _ _ (reg-chain-is t ns c (regs-left t ns (chain_uses_reg c) (is_reg b) (record { reg = λ r e. g.reg r e }))) (reg-is t ns b (regs-right t ns (chain_uses_reg c) (is_reg b) (record { reg = λ r e. g.reg r e })))
 
-pub truth-is : (t : Table) (zs : List ℤ) (ns : List ℕ) (f : Formula) → Gives t zs (uses f) → GivesRegs t ns (uses_reg f) → truth t f ≡ Some (true_over zs ns f)
+truth-is : (t : Table) (zs : List ℤ) (ns : List ℕ) (f : Formula) → Gives t zs (uses f) → GivesRegs t ns (uses_reg f) → truth t f ≡ Some (true_over zs ns f)
 truth-is t zs ns (numbers c) g h = ap (option_map (λ p. p.0)) (chain-is t zs c (record { num = λ n e. g.num n e }))
 truth-is t zs ns (registers c) g h = ap (option_map (λ p. p.0)) (reg-chain-is t ns c (record { reg = λ r e. h.reg r e }))
 truth-is t zs ns (negation a) g h = ap (option_map not) (truth-is t zs ns a (record { num = λ n e. g.num n e }) (record { reg = λ r e. h.reg r e }))
@@ -128,7 +128,7 @@ chain-none : (t : Table) (n : NumName) → t.num n ≡ None → (c : NumChain) �
 chain-none t n h (pair a op b) u = both-none (λ x y. (compare op x y, y)) _ _ (num_uses a n) (num_uses b n) u (value-none t n h a) (value-none t n h b)
 chain-none t n h (more c op b) u = both-none (λ p y. (p.0 && compare op p.1 y, y)) _ _ (chain_uses c n) (num_uses b n) u (chain-none t n h c) (value-none t n h b)
 
-pub truth-none : (t : Table) (n : NumName) → t.num n ≡ None → (f : Formula) → uses f n ≡ true → truth t f ≡ None
+truth-none : (t : Table) (n : NumName) → t.num n ≡ None → (f : Formula) → uses f n ≡ true → truth t f ≡ None
 truth-none t n h (numbers c) u = ap (option_map (λ p. p.0)) (chain-none t n h c u)
 truth-none t n h (registers c) u = cc
 truth-none t n h (negation a) u = ap (option_map not) (truth-none t n h a u)
@@ -151,21 +151,21 @@ truth-reg-none t r h (conjunction a b) u = both-none (λ x y. x && y) _ _ (uses_
 truth-reg-none t r h (disjunction a b) u = both-none (λ x y. x || y) _ _ (uses_reg a r) (uses_reg b r) u (truth-reg-none t r h a) (truth-reg-none t r h b)
 
 -- ---- all that is asked for
-pub asked-some : {A : Type 0} (u : Bool) (d : A) (o : Option A) (x : A) → asked u d o ≡ Some x → u ≡ true → o ≡ Some x
+asked-some : {A : Type 0} (u : Bool) (d : A) (o : Option A) (x : A) → asked u d o ≡ Some x → u ≡ true → o ≡ Some x
 asked-some true d o x e u = e
 asked-some false d o x e u = cc
 
-pub asked-none : {A : Type 0} (u : Bool) (d : A) (o : Option A) → asked u d o ≡ None → (u ≡ true) × (o ≡ None)
+asked-none : {A : Type 0} (u : Bool) (d : A) (o : Option A) → asked u d o ≡ None → (u ≡ true) × (o ≡ None)
 asked-none true d o e = (refl, e)
 asked-none false d o e = absurd (cc)
 
-pub some-is : {A : Type 0} (x y : A) → Some x ≡ Some y → x ≡ y
+some-is : {A : Type 0} (x y : A) → Some x ≡ Some y → x ≡ y
 some-is x y e = cc
 
-pub none-some : {A : Type 0} (x : A) → None ≡ Some x → ⊥
+none-some : {A : Type 0} (x : A) → None ≡ Some x → ⊥
 none-some x e = cc
 
-pub some-none : {A : Type 0} (x : A) → Some x ≡ None → ⊥
+some-none : {A : Type 0} (x : A) → Some x ≡ None → ⊥
 some-none x e = cc
 
 record Four (o p q r : Option ℤ) (zs : List ℤ) : Type 0 where
@@ -189,7 +189,7 @@ four (Some a) (Some b) None r zs e = absurd (none-some zs e)
 four (Some a) (Some b) (Some c) None zs e = absurd (none-some zs e)
 four (Some a) (Some b) (Some c) (Some d) zs e = four-same a b c d zs (some-is _ _ e)
 
-pub one-of-four : (G : Type 0) (o p q r : Option ℤ) → (o ≡ None → G) → (p ≡ None → G) → (q ≡ None → G) → (r ≡ None → G) → sequence (o ∷ p ∷ q ∷ r ∷ []) ≡ None → G
+one-of-four : (G : Type 0) (o p q r : Option ℤ) → (o ≡ None → G) → (p ≡ None → G) → (q ≡ None → G) → (r ≡ None → G) → sequence (o ∷ p ∷ q ∷ r ∷ []) ≡ None → G
 one-of-four G None p q r f g h k e = f refl
 one-of-four G (Some a) None q r f g h k e = g refl
 one-of-four G (Some a) (Some b) None r f g h k e = h refl
@@ -233,7 +233,7 @@ one-of-six G (Some a) (Some b) (Some c) (Some d) (Some x) None f0 f1 f2 f3 f4 f5
 one-of-six G (Some a) (Some b) (Some c) (Some d) (Some x) (Some y) f0 f1 f2 f3 f4 f5 e = absurd (some-none _ e)
 
 -- ---- the names of a formula
-pub each-num : (P : NumName → Type 0) → P Rs1Val → P Rs2Val → P ImmVal → P EaAlign → (n : NumName) → P n
+each-num : (P : NumName → Type 0) → P Rs1Val → P Rs2Val → P ImmVal → P EaAlign → (n : NumName) → P n
 each-num P a b c d Rs1Val = a
 each-num P a b c d Rs2Val = b
 each-num P a b c d ImmVal = c
@@ -299,10 +299,10 @@ none-any false false false false true y e = absurd (true-false e)
 none-any false false false false false true e = absurd (true-false e)
 none-any false false false false false false e = (refl, refl, refl, refl, refl, refl)
 
-pub false-true : false ≡ true → ⊥
+false-true : false ≡ true → ⊥
 false-true e = cc
 
-pub regs-give : (t : Table) (f : Formula) (ns : List ℕ) (any : Bool) → any_reg f ≡ any → (if any then asked_regs (names_of f) t else Some (0 ∷ 0 ∷ 0 ∷ 0 ∷ 0 ∷ 0 ∷ [])) ≡ Some ns → GivesRegs t ns (uses_reg f)
+regs-give : (t : Table) (f : Formula) (ns : List ℕ) (any : Bool) → any_reg f ≡ any → (if any then asked_regs (names_of f) t else Some (0 ∷ 0 ∷ 0 ∷ 0 ∷ 0 ∷ 0 ∷ [])) ≡ Some ns → GivesRegs t ns (uses_reg f)
 regs-give t f ns true a e = asked-regs-give t f ns e
 regs-give t f ns false a e =
     let n = none-any (uses_reg f Rd) (uses_reg f Rs1) (uses_reg f Rs2) (uses_reg f Var0) (uses_reg f Var1) (uses_reg f Var2) a in
@@ -316,11 +316,11 @@ regs-give t f ns false a e =
           (λ u. absurd (false-true (sym n.5 ∙ u)));
     }
 
-pub regs-none : (t : Table) (f : Formula) (any : Bool) → (if any then asked_regs (names_of f) t else Some (0 ∷ 0 ∷ 0 ∷ 0 ∷ 0 ∷ 0 ∷ [])) ≡ None → truth t f ≡ None
+regs-none : (t : Table) (f : Formula) (any : Bool) → (if any then asked_regs (names_of f) t else Some (0 ∷ 0 ∷ 0 ∷ 0 ∷ 0 ∷ 0 ∷ [])) ≡ None → truth t f ≡ None
 regs-none t f true e = asked-regs-none t f e
 regs-none t f false e = absurd (some-none _ e)
 
-pub any-named : (f : Formula) → any_reg f ≡ (names_of f).registers
+any-named : (f : Formula) → any_reg f ≡ (names_of f).registers
 unfolding names_of
 any-named f = refl
 

@@ -2,7 +2,6 @@
 ghost use Rattle.std.specs.Prelude.{◌≡◌, ◌||◌};
 ghost use Rattle.rvs_expr.specs.TypedView.{reg_view, reg_chain_view, view};
 ghost use Rattle.rvs_expr.specs.Named as spec;
-ghost use Rattle.rvs_expr.specs.Row as row;
 
 use crate::formula::{Formula, Reg, RegChain};
 use crate::parts::uses;
@@ -99,18 +98,4 @@ fn any(rd: bool, rs1: bool, rs2: bool, var0: bool, var1: bool, var2: bool) -> bo
     ensures { result ≡ (rd || (rs1 || (rs2 || (var0 || (var1 || var2))))) }
 {
     rd || rs1 || rs2 || var0 || var1 || var2
-}
-
-/// The names but this one.
-pub(crate) fn without(names: &Names, name: NumName) -> Names
-    ensures { result ≡ row.without name names.now }
-{
-    let mut others = *names;
-    match name {
-        NumName::Rs1Val => others.rs1_val = false,
-        NumName::Rs2Val => others.rs2_val = false,
-        NumName::ImmVal => others.imm_val = false,
-        NumName::EaAlign => others.ea_align = false,
-    }
-    others
 }

@@ -1,10 +1,6 @@
 // Expressions, as what they are read as or why they are refused.
-ghost use Rattle.std.specs.Prelude.{◌≡◌, ◌<◌, ◌≤◌, ◌^◌, All, unsigned_abs};
-
-use crate::{Expr, ExprRefusal, Facts, NumName, RegName, Steps, parse_num, parse_reg};
+use crate::{Expr, ExprRefusal, NumName, parse_num, parse_reg};
 use std::alloc::{AllocError, Global};
-use std::marker::Brand;
-use std::sync::ledger::{Blank, Ledger};
 use std::test::Fail;
 
 /// Kind and column of a refusal, or `ok`, and an expression of numbers, one a line.
@@ -62,52 +58,5 @@ fn tells(rt: HostRuntime) -> Result<(), Fail> {
         constants.constants(),
         [-4_294_967_296, 4_294_967_296, 5].as_slice()
     );
-    Ok(())
-}
-
-/// Facts by which all numbers are the same.
-#[derive(Drop)]
-struct Same(u8);
-
-impl Facts for Same {
-    ghost use Rattle.std.specs.Prelude.{Some, None, pos};
-
-    ghost table = { λ f. record { reg = λ _. None; num = λ _. Some (pos f.0) } };
-
-    fn reg(&self, _: RegName) -> Option<u8> {
-        None
-    }
-
-    fn num(&self, _: NumName) -> Option<i64> {
-        Some(i64::from(self.0))
-    }
-}
-
-/// The place of the first value of `rs1_val`, all other numbers being 7.
-fn first<L: Ledger>(blank: Blank, expr: &Expr, numbers: &[i64]) -> Option<usize>
-    requires name { blank.name ≡ L.name }
-    requires parts { blank.parts ≡ L.parts }
-    requires some { 0 < blank.parts }
-    requires small { All (λ z. unsigned_abs z ≤ 2 ^ 32) numbers.now }
-{
-    let mut steps: Steps<L> = Steps::new(blank);
-    expr.first_true(&Same(7), NumName::Rs1Val, numbers, &mut steps)
-}
-
-fn first_of(expr: &Expr, numbers: &[i64]) -> Option<usize>
-    requires small { All (λ z. unsigned_abs z ≤ 2 ^ 32) numbers.now }
-{
-    first::<Brand>(Blank::new(1), expr, numbers)
-}
-
-#[test]
-fn finds(rt: HostRuntime) -> Result<(), Fail> {
-    let alloc = rt.alloc();
-    let text = "rs1_val * rs2_val == -21 and imm_val == 7";
-    let expr = parse_num(alloc, text).map_err(|_| "no expression")?;
-    let row: [i64; 4] = [7, 3, -3, -3];
-    let none: [i64; 2] = [7, 3];
-    assert_eq!(rt; first_of(&expr, &row), Some(2));
-    assert_eq!(rt; first_of(&expr, &none), None);
     Ok(())
 }
