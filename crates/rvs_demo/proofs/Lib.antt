@@ -7,3 +7,4 @@ mod Reported
 mod Running
 mod Standing
 pub mod Whole
+mod Counted
