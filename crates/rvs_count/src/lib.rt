@@ -5,6 +5,7 @@ mod buckets;
 mod counter;
 mod crosses;
 mod file;
+mod filled;
 mod hits;
 mod index;
 mod key;
