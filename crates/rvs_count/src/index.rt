@@ -87,12 +87,12 @@ impl<'g> Index<'g> {
     }
 
     /// Adds one to the counts of the points of a bucket that an instruction hits.
-    fn add_bucket(&self, bucket: Option<usize>, facts: Known<'_>, counts: &mut Vec<u64>)
+    fn add_bucket(&self, bucket: Option<usize>, facts: &Known<'_>, counts: &mut Vec<u64>)
         requires bucket { IfSome bucket (λ b. b < 365) }
         requires count { length counts.old.items ≡ length (aims_in self.now) }
         requires low { All (λ n. n ≤ 2 ^ 41) counts.old.items }
         ensures { counts.new.items ≡ added (λ a. is_seen bucket a.point
-            && hits_insn a (Some facts.entry.insn.now) facts.entry.first facts.entry.second)
+            && hits_insn a (Some facts.now.insn.now) facts.now.first facts.now.second)
             (aims_in self.now) counts.old.items }
     {
         match bucket {
@@ -107,13 +107,13 @@ impl<'g> Index<'g> {
     }
 
     /// The same for several buckets.
-    fn add_buckets(&self, buckets: &[Option<usize>], facts: Known<'_>, counts: &mut Vec<u64>)
+    fn add_buckets(&self, buckets: &[Option<usize>], facts: &Known<'_>, counts: &mut Vec<u64>)
         requires buckets { All (λ o. IfSome o (λ b. b < 365)) buckets.now }
         requires few { length buckets.now ≤ 8 }
         requires count { length counts.old.items ≡ length (aims_in self.now) }
         requires low { All (λ n. n ≤ 2 ^ 40) counts.old.items }
         ensures { counts.new.items ≡ added_all
-            (λ a. hits_insn a (Some facts.entry.insn.now) facts.entry.first facts.entry.second)
+            (λ a. hits_insn a (Some facts.now.insn.now) facts.now.first facts.now.second)
             buckets.now (aims_in self.now) counts.old.items }
     {
         for bucket in buckets {
@@ -132,6 +132,6 @@ impl<'g> Index<'g> {
     {
         let facts = take_facts(facts_of(insn, before));
         let buckets = visited(&facts);
-        self.add_buckets(&buckets, facts, counts);
+        self.add_buckets(&buckets, &facts, counts);
     }
 }

@@ -37,7 +37,7 @@ pub returns-in-None : goal.returns-in-None
 returns-in-None c =
     let hit : Aim
     → _ =
-    λ a. hits_insn a (Some c.args.facts.insn.now) c.args.facts.first c.args.facts.second in
+    λ a. hits_insn a (Some c.args.facts.now.insn.now) c.args.facts.now.first c.args.facts.now.second in
     none_added (aims_in c.args.self.now) hit c.args.counts.now.items c.requires.count
     ∙ ap (λ (o : Option ℕ). added (λ a. is_seen o a.point && hit a) (aims_in c.args.self.now) c.args.counts.now.items) (sym c.in-None.is)
 
@@ -50,8 +50,8 @@ returns-in-Some c =
     (omega (arith, low, c.number.ensures.low, c.self.invariant.1)) c.as_slice.ensures c.list_at-slots.ensures in
     let hit : Aim
     → _ =
-    λ a. hits_insn a (Some c.args.facts.insn.now) c.args.facts.first c.args.facts.second in
-    added_bucket c.args.self.now c.args.facts.insn.now c.args.facts.first c.args.facts.second c.number.result c.in-Some.bucket
+    λ a. hits_insn a (Some c.args.facts.now.insn.now) c.args.facts.now.first c.args.facts.now.second in
+    added_bucket c.args.self.now c.args.facts.now.insn.now c.args.facts.now.first c.args.facts.now.second c.number.result c.in-Some.bucket
     c.list_at-slots.result.now c.args.counts.now.items c.add_insn.new.counts.items
     (c.number.ensures.place ∙ ap (λ (i : Fields). number i.op) c.insn.view_is) low
     (mine ∙ ap (λ ls. places_for (is_for (insns_key key)) 0 (aims_in ls)) c.self.view_is)
