@@ -44,7 +44,12 @@ fn add_hits<F: Facts, L: Ledger>(
 }
 
 /// The same, with a counter of evaluations that no one reads.
-fn add_counted<L: Ledger>(blank: Blank, slots: &[Slot<'_>], facts: &Known<'_>, counts: &mut Vec<u64>)
+fn add_counted<L: Ledger>(
+    blank: Blank,
+    slots: &[Slot<'_>],
+    facts: &Known<'_>,
+    counts: &mut Vec<u64>,
+)
     requires name { blank.name ≡ L.name }
     requires parts { blank.parts ≡ L.parts }
     requires some { 0 < blank.parts }

@@ -13,6 +13,7 @@ mod known_facts;
 mod matched;
 mod report;
 mod run;
+mod shortcut;
 mod slot;
 mod slots;
 mod tally;
