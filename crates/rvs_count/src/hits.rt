@@ -18,9 +18,7 @@ pub(crate) fn raise(counts: &mut Vec<u64>, at: usize, hit: bool)
     ensures items { counts.new.items ≡ raised hit at counts.old.items }
     ensures len { vec_len counts.new ≡ vec_len counts.old }
 {
-    if hit {
-        counts[at] += 1;
-    }
+    counts[at] += u64::from(hit);
 }
 
 /// Adds one to the counts of the points that are hit.
