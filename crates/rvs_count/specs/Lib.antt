@@ -5,5 +5,6 @@ pub mod Feeds
 pub mod Index
 pub mod Report
 pub mod Runs
+pub mod Shortcuts
 pub mod Sound
 pub mod State

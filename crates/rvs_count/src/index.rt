@@ -7,6 +7,7 @@ ghost use Rattle.rvs_count.specs.Index.{IsIndex, added_all, insns_key};
 ghost use Rattle.rvs_count.specs.State.{added};
 
 use crate::buckets::{BUCKETS, visited};
+use crate::filled::{filled, list_at};
 use crate::hits::add_insn;
 use crate::key::{ListKey, MNEMONICS};
 use crate::known_facts::{Known, take_facts};
@@ -29,14 +30,16 @@ const LISTS: usize = MNEMONICS * BUCKETS;
 pub(crate) struct Index<'g> {
     labels: &'g [Label],
     lists: Items<Items<Slot<'g>>>,
+    /// Which of the lists have a point.
+    filled: Items<bool>,
 }
 
 impl<'g> Model for Index<'g> {
-    ghost use Rattle.std.specs.Prelude.{◌≡◌, List, length};
+    ghost use Rattle.std.specs.Prelude.{◌≡◌, List, length, map};
     ghost use Rattle.std.specs.Coded.{codes};
     ghost use Rattle.rvs_expr.specs.contracts.expr.Expr as expr;
     ghost use Rattle.rvs_cgf.specs.declared.group.Label as group;
-    ghost use Rattle.rvs_count.specs.Index.{IsIndex, insns_key};
+    ghost use Rattle.rvs_count.specs.Index.{IsIndex, insns_key, is_filled};
 
     ghost Value = { List group.Label };
 
@@ -44,7 +47,8 @@ impl<'g> Model for Index<'g> {
 
     ghost view = { λ i. i.labels.now };
 
-    ghost invariant = { λ i. IsIndex insns_key i.labels.now i.lists × (length i.lists ≡ 17520) };
+    ghost invariant = { λ i. IsIndex insns_key i.labels.now i.lists × (length i.lists ≡ 17520)
+        × (i.filled ≡ map is_filled i.lists) };
 }
 
 /// The lists of all mnemonics and buckets.
@@ -67,7 +71,12 @@ impl<'g> Index<'g> {
         ensures { IfOk result (λ i. i ≡ labels.now) }
     {
         let lists = lists(alloc, labels)?;
-        Ok(Index { labels, lists })
+        let filled = filled(alloc, lists.as_slice())?;
+        Ok(Index {
+            labels,
+            lists,
+            filled,
+        })
     }
 
     /// The labels.
@@ -78,12 +87,12 @@ impl<'g> Index<'g> {
     }
 
     /// Adds one to the counts of the points of a bucket that an instruction hits.
-    fn add_bucket(&self, bucket: Option<usize>, facts: Known<'_>, counts: &mut Vec<u64>)
+    fn add_bucket(&self, bucket: Option<usize>, facts: &Known<'_>, counts: &mut Vec<u64>)
         requires bucket { IfSome bucket (λ b. b < 365) }
         requires count { length counts.old.items ≡ length (aims_in self.now) }
         requires low { All (λ n. n ≤ 2 ^ 41) counts.old.items }
         ensures { counts.new.items ≡ added (λ a. is_seen bucket a.point
-            && hits_insn a (Some facts.entry.insn.now) facts.entry.first facts.entry.second)
+            && hits_insn a (Some facts.now.insn.now) facts.now.first facts.now.second)
             (aims_in self.now) counts.old.items }
     {
         match bucket {
@@ -91,20 +100,20 @@ impl<'g> Index<'g> {
             Some(bucket) => {
                 let insn = facts.insn;
                 let key = number(insn.op) * BUCKETS + bucket;
-                let slots = self.lists.as_slice()[key].as_slice();
+                let slots = list_at(self.lists.as_slice(), self.filled.as_slice(), key);
                 add_insn(slots, facts, counts);
             },
         }
     }
 
     /// The same for several buckets.
-    fn add_buckets(&self, buckets: &[Option<usize>], facts: Known<'_>, counts: &mut Vec<u64>)
+    fn add_buckets(&self, buckets: &[Option<usize>], facts: &Known<'_>, counts: &mut Vec<u64>)
         requires buckets { All (λ o. IfSome o (λ b. b < 365)) buckets.now }
         requires few { length buckets.now ≤ 8 }
         requires count { length counts.old.items ≡ length (aims_in self.now) }
         requires low { All (λ n. n ≤ 2 ^ 40) counts.old.items }
         ensures { counts.new.items ≡ added_all
-            (λ a. hits_insn a (Some facts.entry.insn.now) facts.entry.first facts.entry.second)
+            (λ a. hits_insn a (Some facts.now.insn.now) facts.now.first facts.now.second)
             buckets.now (aims_in self.now) counts.old.items }
     {
         for bucket in buckets {
@@ -123,6 +132,6 @@ impl<'g> Index<'g> {
     {
         let facts = take_facts(facts_of(insn, before));
         let buckets = visited(&facts);
-        self.add_buckets(&buckets, facts, counts);
+        self.add_buckets(&buckets, &facts, counts);
     }
 }

@@ -3,46 +3,25 @@ ghost use Rattle.std.specs.Prelude.{◌≡◌, IfSome};
 ghost use Rattle.std.proofs.Props.{props};
 ghost use Rattle.rvs_cgf.specs.GroupView.{point_view};
 ghost use Rattle.rvs_cgf.specs.Hits as hit;
-ghost use Rattle.rvs_expr.specs.Equated as equated;
+ghost use Rattle.rvs_count.specs.Shortcuts.{says};
 ghost use Rattle.rvs_expr.specs.Meaning.{Table};
 ghost use Rattle.rvs_insn.specs.declared.op.Op as mnemonic;
 
-use rvs_cgf::{Meaning, Point};
-use rvs_expr::{Facts, NumName, Steps};
+use crate::shortcut::{Shortcut, shortcut_of};
+use rvs_cgf::Point;
+use rvs_expr::{Facts, Steps};
 use rvs_insn::Op;
 use std::sync::ledger::Ledger;
 
-/// A point and its place among the counts; and the name and the number, where the point says that
-/// the name has this number, which is then compared without the expression.
+/// A point and its place among the counts; and what it says, where that is a mnemonic, a register
+/// or a number, which are then compared without the point.
 #[derive(Clone, Copy)]
 pub struct Slot<'g> {
     pub point: &'g Point,
     pub at: usize,
-    pub equation: Option<(NumName, i64)>,
-    ghost same: { IfSome equation (λ e. (op : mnemonic.Op) (t : Table) →
-        hit.holds (point_view point.now) op t
-        ≡ equated.is_value e.1 (t.num e.0)) } by { Prim.hlevel props },
-}
-
-/// The name and the number, where the point says that they are equal.
-fn equation_of(point: &Point) -> Option<(NumName, i64)>
-    ensures { IfSome result (λ e. (op : mnemonic.Op) (t : Table) →
-        hit.holds (point_view point.now) op t ≡ equated.is_value e.1 (t.num e.0)) }
-{
-    match &point.meaning {
-        Meaning::Nums(expr) => expr.equation(),
-        _ => None,
-    }
-}
-
-/// Whether a number is there and is this one.
-fn is_value(value: i64, found: Option<i64>) -> bool
-    ensures { result ≡ equated.is_value value found }
-{
-    match found {
-        None => false,
-        Some(found) => found == value,
-    }
+    pub shortcut: Option<Shortcut>,
+    ghost same: { IfSome shortcut (λ s. (op : mnemonic.Op) (t : Table) →
+        hit.holds (point_view point.now) op t ≡ says s op t) } by { Prim.hlevel props },
 }
 
 impl<'g> Slot<'g> {
@@ -51,11 +30,11 @@ impl<'g> Slot<'g> {
         ensures point { result.point.now ≡ point.now }
         ensures place { result.at ≡ at }
     {
-        let equation = equation_of(point);
+        let shortcut = shortcut_of(point);
         Slot {
             point,
             at,
-            equation,
+            shortcut,
         }
     }
 
@@ -63,9 +42,9 @@ impl<'g> Slot<'g> {
     pub(crate) fn holds<F: Facts, L: Ledger>(&self, op: Op, facts: &F, steps: &mut Steps<L>) -> bool
         ensures { result ≡ hit.holds (point_view self.now.point.now) op (F.table facts.now) }
     {
-        match self.equation {
+        match self.shortcut {
             None => self.point.holds(op, facts, steps),
-            Some((name, value)) => is_value(value, facts.num(name)),
+            Some(shortcut) => shortcut.holds(op, facts),
         }
     }
 }

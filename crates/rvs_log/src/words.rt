@@ -1,7 +1,7 @@
 // Words in hexadecimal digits.
-ghost use Rattle.std.specs.Prelude.{◌≡◌, ◌<◌, ◌==◌, ℕ, List, IfSome, Some, None, if◌then◌else◌};
+ghost use Rattle.std.specs.Prelude.{◌≡◌, ◌<◌, ◌≤◌, ◌==◌, ◌+◌, ◌*◌, ◌∷◌, ℕ, List, IfSome, Some, None, if◌then◌else◌, length};
 ghost use Rattle.std.specs.Option.{option_map};
-ghost use Rattle.rvs_log.specs.Grammar.{hex_at, hex_digits, hex_value};
+ghost use Rattle.rvs_log.specs.Grammar.{hex_at, hex_digits, hex_run, hex_value};
 
 /// The value of a hexadecimal digit by its byte, and 255 for the other bytes. A table has no branch
 /// that depends on the digit.
@@ -51,13 +51,59 @@ fn spelled(count: u32, value: u32, rest: &[u8]) -> Option<(u32, &[u8])>
     }
 }
 
-/// The word that one to sixteen hexadecimal digits at the front spell, and what follows them.
-fn word_digits(text: &[u8]) -> Option<(u32, &[u8])>
-    ensures { option_map (λ found. (found.0, found.1.now)) result ≡ hex_digits text.now }
+/// The same, and 255 for a byte that is no digit.
+#[tactic(auto, using(crate::proofs::Values::entry_some))]
+fn value_at(byte: u8) -> u32
+    ensures digit { result < 255 → hex_value byte ≡ Some result }
+    ensures low { result ≤ 255 }
 {
-    let mut value: u32 = 0;
-    let mut count: u32 = 0;
-    let mut rest = text;
+    u32::from(VALUES[usize::from(byte)])
+}
+
+/// The number that four bytes spell, where each is a hexadecimal digit.
+#[tactic(auto, using(crate::proofs::Digits::four_more))]
+fn four_digits(a: u8, b: u8, c: u8, d: u8) -> Option<u32>
+    ensures run { IfSome result (λ n. (v : ℕ) (bs : List ℕ) →
+        hex_run v (a ∷ b ∷ c ∷ d ∷ bs) ≡ hex_run (65536 * v + n) bs) }
+    ensures small { IfSome result (λ n. n < 65536) }
+{
+    let first = value_at(a);
+    let second = value_at(b);
+    let third = value_at(c);
+    let fourth = value_at(d);
+    if first + second + third + fourth < 255 {
+        Some(4096 * first + 256 * second + 16 * third + fourth)
+    } else {
+        None
+    }
+}
+
+/// The number that the first eight bytes spell, where they are hexadecimal digits, and what follows
+/// them. Most words of a log have as many.
+fn eight_digits(text: &[u8]) -> Option<(u32, &[u8])>
+    ensures run { IfSome result (λ found. hex_run 0 text.now ≡ hex_run found.0 found.1.now) }
+    ensures count { IfSome result (λ found. 8 + length found.1.now ≡ length text.now) }
+{
+    match text {
+        [a, b, c, d, e, f, g, h, rest @ ..] => {
+            let high = four_digits(*a, *b, *c, *d)?;
+            let low = four_digits(*e, *f, *g, *h)?;
+            Some((65536 * high + low, rest))
+        },
+        _ => None,
+    }
+}
+
+/// The word that some digits spell with those that follow them, and what follows those.
+fn more_digits(value: u32, count: u32, rest: &[u8]) -> Option<(u32, &[u8])>
+    requires { count ≤ 16 }
+    ensures { (text : List ℕ) → hex_run 0 text ≡ hex_run value rest.now
+        → count + length rest.now ≡ length text
+        → option_map (λ found. (found.0, found.1.now)) result ≡ hex_digits text }
+{
+    let mut value = value;
+    let mut count = count;
+    let mut rest = rest;
     while let [first, after @ ..] = rest {
         let digit = match digit_value(*first) {
             None => return spelled(count, value, rest),
@@ -71,6 +117,16 @@ fn word_digits(text: &[u8]) -> Option<(u32, &[u8])>
         rest = after;
     }
     spelled(count, value, &[])
+}
+
+/// The word that one to sixteen hexadecimal digits at the front spell, and what follows them.
+fn word_digits(text: &[u8]) -> Option<(u32, &[u8])>
+    ensures { option_map (λ found. (found.0, found.1.now)) result ≡ hex_digits text.now }
+{
+    match eight_digits(text) {
+        None => more_digits(0, 0, text),
+        Some((value, rest)) => more_digits(value, 8, rest),
+    }
 }
 
 /// The word that stands at the front in hexadecimal digits after `0x`, and what follows it.

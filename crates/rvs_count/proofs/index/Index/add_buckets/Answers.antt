@@ -12,7 +12,7 @@ pub loop-bucket-preserved : goal.loop-bucket-preserved
 loop-bucket-preserved c =
     let hit : Aim
     → _ =
-    λ a. hits_insn a (Some c.args.facts.insn.now) c.args.facts.first c.args.facts.second in
+    λ a. hits_insn a (Some c.args.facts.now.insn.now) c.args.facts.now.first c.args.facts.now.second in
     let P : List ℕ
     → Type 0 = λ l. All (λ (n : ℕ). n ≤ 2 ^ 40 + (c.loop-bucket.bucket-index + 1)) l in
     let low : All (λ (n : ℕ). n ≤ 2 ^ 40 + c.loop-bucket.bucket-index + 1) _ = added_low _ (aims_in c.args.self.now) c.loop-bucket.counts.items (2 ^ 40 + c.loop-bucket.bucket-index) c.loop-bucket.invariant.low in
@@ -30,6 +30,6 @@ pub returns : goal.returns
 returns c =
     let hit : Aim
     → _ =
-    λ a. hits_insn a (Some c.args.facts.insn.now) c.args.facts.first c.args.facts.second in
+    λ a. hits_insn a (Some c.args.facts.now.insn.now) c.args.facts.now.first c.args.facts.now.second in
     sym (all_done hit c.args.buckets.now (aims_in c.args.self.now) c.loop-bucket.counts.items c.loop-bucket.bucket-index c.loop-bucket-test.false)
     ∙ c.loop-bucket.invariant.same
