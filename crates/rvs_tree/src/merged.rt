@@ -188,7 +188,7 @@ pub fn map_value(alloc: Global, line: u64, own: &EntryList) -> Result<Value, All
 fn shared_trees(alloc: Global, values: &[Value]) -> Result<Vec<Rc<Tree>>, AllocError>
     ensures { IfOk result (λ v. map rc_view v.items ≡ spec.trees (values_view values.now)) }
 {
-    let mut trees = Vec::new(alloc);
+    let mut trees = Vec::with_capacity(alloc, values.len())?;
     for value in values {
         trees.push(value.tree.clone()?)?;
     }
