@@ -1,6 +1,7 @@
 pub mod Depths
 pub mod Growing
 pub mod Merging
+pub mod Sharing
 pub mod Sifting
 pub mod OwnKeys
 pub mod Sums

@@ -5,6 +5,7 @@ pub mod OwnKeys
 -- How the code bounds the depth, what stands for a value, and what the values of the code stand for.
 pub mod Bound
 pub mod Sifted
+pub mod Alone
 pub mod Standin
 pub mod TreeSize
 pub mod TreeView

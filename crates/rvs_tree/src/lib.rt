@@ -2,6 +2,7 @@
 //! depth bounded, in lists and maps, with what a map merges resolved.
 #![tactic(auto)]
 
+mod alone;
 mod counted;
 mod entry_list;
 mod keys;

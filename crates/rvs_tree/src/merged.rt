@@ -7,12 +7,14 @@ ghost use Rattle.rvs_tree.specs.TreeView.{view, rc_view};
 ghost use Rattle.rvs_tree.specs.ValueView.{value_view, values_view, written_view, entries_view};
 ghost use Rattle.rvs_tree.specs.PairsView.{pairs_view};
 
+use crate::alone::{alone_value, merged_alone};
 use crate::counted::Value;
 use crate::entry_list::EntryList;
 use crate::keys::with_key;
 use crate::members::DEEP;
 use crate::pairs::Pairs;
 use crate::tree::Tree;
+use crate::value::UNKNOWN;
 use crate::value_list::ValueList;
 use crate::written::Written;
 use std::alloc::{AllocError, Global};
@@ -148,22 +150,37 @@ fn resolved_pairs(alloc: Global, own: &EntryList) -> Result<Pairs, AllocError>
     Ok(pairs)
 }
 
-/// The map of these entries, which begins on this line.
-pub fn map_value(alloc: Global, line: u64, own: &EntryList) -> Result<Value, AllocError>
-    ensures value { IfOk result (λ v. value_view v ≡ spec.map_value line (entries_view own.now.entries.items)) }
-    ensures depth { IfOk result (λ v. v.depth ≡ min (own.now.depth + 1) 33) }
+/// The tree of these entries, which begins on this line.
+pub(crate) fn resolved_tree(
+    alloc: Global,
+    line: u64,
+    own: &EntryList,
+) -> Result<Rc<Tree>, AllocError>
+    ensures { IfOk result (λ t. view t.value ≡ (spec.map_value line (entries_view own.now.entries.items)).tree) }
 {
     let Pairs {
         keys,
         values,
         seen: _,
     } = resolved_pairs(alloc, own)?;
-    let tree = Tree::new_map(alloc, keys, values, line)?;
+    Tree::new_map(alloc, keys, values, line)
+}
+
+/// The map of these entries, which begins on this line.
+pub fn map_value(alloc: Global, line: u64, own: &EntryList) -> Result<Value, AllocError>
+    ensures value { IfOk result (λ v. value_view v ≡ spec.map_value line (entries_view own.now.entries.items)) }
+    ensures depth { IfOk result (λ v. v.depth ≡ min (own.now.depth + 1) 33) }
+{
+    if let Some(value) = merged_alone(own) {
+        return alone_value(alloc, line, own, value);
+    }
+    let tree = resolved_tree(alloc, line, own)?;
     Ok(Value {
         tree,
         nodes: own.nodes,
         depth: (own.depth + 1).min(DEEP),
         mergeable: true,
+        brings: UNKNOWN,
     })
 }
 
@@ -171,7 +188,7 @@ pub fn map_value(alloc: Global, line: u64, own: &EntryList) -> Result<Value, All
 fn shared_trees(alloc: Global, values: &[Value]) -> Result<Vec<Rc<Tree>>, AllocError>
     ensures { IfOk result (λ v. map rc_view v.items ≡ spec.trees (values_view values.now)) }
 {
-    let mut trees = Vec::new(alloc);
+    let mut trees = Vec::with_capacity(alloc, values.len())?;
     for value in values {
         trees.push(value.tree.clone()?)?;
     }
@@ -189,6 +206,7 @@ pub fn list_value(alloc: Global, line: u64, list: &ValueList) -> Result<Value, A
         nodes: list.nodes,
         depth: (list.depth + 1).min(DEEP),
         mergeable: list.all_maps,
+        brings: UNKNOWN,
     })
 }
 

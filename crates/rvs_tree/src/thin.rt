@@ -10,6 +10,7 @@ use crate::counted::Value;
 use crate::entry_list::EntryList;
 use crate::members::DEEP;
 use crate::tree::Tree;
+use crate::value::UNKNOWN;
 use crate::value_list::ValueList;
 use std::alloc::{AllocError, Global};
 use std::rc::Rc;
@@ -48,6 +49,7 @@ pub fn thin_value(alloc: Global, value: &Value) -> Result<Value, AllocError>
         nodes: value.nodes,
         depth: value.depth,
         mergeable: value.mergeable,
+        brings: UNKNOWN,
     })
 }
 
@@ -61,6 +63,7 @@ pub fn thin_map_value(alloc: Global, line: u64, own: &EntryList) -> Result<Value
         nodes: own.nodes,
         depth: (own.depth + 1).min(DEEP),
         mergeable: true,
+        brings: UNKNOWN,
     })
 }
 
@@ -74,5 +77,6 @@ pub fn thin_list_value(alloc: Global, line: u64, list: &ValueList) -> Result<Val
         nodes: list.nodes,
         depth: (list.depth + 1).min(DEEP),
         mergeable: list.all_maps,
+        brings: UNKNOWN,
     })
 }

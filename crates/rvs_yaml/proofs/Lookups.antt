@@ -1,10 +1,10 @@
 -- Looking anchors up, block after block.
-use Rattle.std.proofs.Common.{◌≡◌, ℕ, ◌+◌, ◌<◌, Bool, true, false, cond, List, [], ◌∷◌, ◌++◌, map, reverse, length, take, get_or, Some, None, refl, ap, ◌∙◌}
+use Rattle.std.proofs.Common.{◌≡◌, ℕ, ◌+◌, ◌<◌, Bool, true, false, cond, List, [], ◌∷◌, ◌++◌, map, reverse, length, take, get_or, Some, None, refl, sym, ap, ◌∙◌, append_assoc, append-nil}
 use Rattle.std.specs.Prelude.{bytes_eq}
 use Rattle.std.proofs.lemmas.List.{take_more, reverse-append}
 use Rattle.rvs_tree.specs.Value.{Value}
 use Rattle.rvs_yaml.specs.Anchors.{Anchors, lookup}
-use Rattle.rvs_yaml.specs.StackView.{open_view, stack_view}
+use Rattle.rvs_yaml.specs.StackView.{open_view, stack_view, anchors_at, anchors_in}
 use Rattle.rvs_yaml.specs.declared.open.Open.{Open}
 use Rattle.rvs_tree.proofs.Sums.{map-append}
 
@@ -32,3 +32,8 @@ stack-push bs b = ap reverse (map-append open_view bs (b ∷ [])) ∙ reverse-pu
 
 pub stack-more : (bs : List Open) (i : ℕ) (b : Open) → i < length bs → stack_view (take (i + 1) bs) ≡ open_view (get_or bs i b) ∷ stack_view (take i bs)
 stack-more bs i b h = ap stack_view (take_more bs i b h) ∙ stack-push (take i bs) (get_or bs i b)
+
+pub anchors_in-push : (bs : List Open) (places : List ℕ) (place : ℕ) → anchors_in bs (places ++ place ∷ []) ≡ anchors_in bs places ++ anchors_at bs place
+anchors_in-push bs [] place = append-nil (anchors_at bs place)
+anchors_in-push bs (p ∷ places) place =
+    ap (λ xs. anchors_at bs p ++ xs) (anchors_in-push bs places place) ∙ sym (append_assoc (anchors_at bs p) (anchors_in bs places) (anchors_at bs place))

@@ -1,10 +1,12 @@
 -- Sketches of collections with one member more, and how deep trees are.
 use Rattle.std.proofs.Common.{◌≡◌, ℕ, ◌+◌, ◌-◌, ◌<◌, ◌≤◌, Bool, true, false, List, [], ◌∷◌, length, take, slice_get, Some, None, Ok, Err, refl, sym, ap, ◌∙◌, arith}
-use Rattle.std.specs.Prelude.{◌&&◌, ◌||◌, not, nat_lt}
+use Rattle.std.specs.Prelude.{◌++◌, ◌&&◌, ◌||◌, not, nat_lt, min, if◌then◌else◌}
 use Rattle.std.proofs.lemmas.Bool.Decides.{nat_tests}
 use Rattle.rvs_yaml.specs.Checks.{Checked, ◌>>=◌, check}
-use Rattle.rvs_tree.specs.Data.{Data, scalar, sequence, mapping, depth}
-use Rattle.rvs_tree.specs.Value.{Value, scalar_value, merged_pairs, is_map_or_empty}
+use Rattle.rvs_tree.proofs.Growing.{own-more}
+use Rattle.rvs_tree.proofs.Merging.{map-depth}
+use Rattle.rvs_tree.specs.Data.{Data, scalar, sequence, mapping, entries_of, depth}
+use Rattle.rvs_tree.specs.Value.{Value, Written, scalar_value, merged_pairs, is_map_or_empty, explicit_keys, resolved}
 use Rattle.rvs_tree.specs.Bound.{pairs_depth}
 use Rattle.rvs_yaml.specs.StepParts.{closed_value}
 use Rattle.rvs_yaml.specs.Front.{own_value, ends, front_value}
@@ -106,3 +108,13 @@ sketch-ok bs m b sk new t h (v, s, e) f = sketch-next bs m b new t v h e (f v s)
 -- with no block left, the value is what was looked at
 pub ended-sketch : (bs : List Open) (n : ℕ) (sk : Sketch) (t : Checked Value) → n ≡ 0 → ((w : Value) × IsSketch w sk × (ends w (stack_view (take n bs)) ≡ t)) → (w : Value) × (t ≡ Ok w) × IsSketch w sk
 ended-sketch bs n sk t z (w, s, e) = (w, sym e ∙ ap (λ m. ends w (stack_view (take m bs))) z, s)
+
+least-by : (b : Bool) (ws : List Written) (w : Written) (n : ℕ) → w.merges ≡ b → n ≤ depth w.value.tree →
+    (if b then 1 else min (n + 1) 33) ≤ depth (mapping (entries_of (resolved (explicit_keys (ws ++ w ∷ [])) [] (ws ++ w ∷ []))) 0)
+least-by true ws w n e h = omega arith
+least-by false ws w n e h = omega (arith, h, map-depth (ws ++ w ∷ []), (own-more ws w e).0)
+
+-- a map is deeper than the value of its last entry, unless that is merged
+pub least-map : (ws : List Written) (w : Written) (n : ℕ) → n ≤ depth w.value.tree →
+    (if w.merges then 1 else min (n + 1) 33) ≤ depth (mapping (entries_of (resolved (explicit_keys (ws ++ w ∷ [])) [] (ws ++ w ∷ []))) 0)
+least-map ws w n h = least-by w.merges ws w n refl h

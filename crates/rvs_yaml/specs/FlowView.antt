@@ -18,7 +18,7 @@ abbrev pub place_view : Place → spec.Place
 place_view (Member l) = spec.member (values_view l.values.items)
 place_view (BehindMember l) = spec.behind_member (values_view l.values.items)
 place_view (KeyPlace l) = spec.key_place (entries_view l.entries.items)
-place_view (EntryValue l k) = spec.entry_value (entries_view l.entries.items) (key_view k)
+place_view (EntryValue p) = spec.entry_value (entries_view p.value.list.entries.items) (key_view p.value.key)
 place_view (BehindEntry l) = spec.behind_entry (entries_view l.entries.items)
 
 abbrev pub level_view : Level → word_spec.Bracket × spec.Place

@@ -12,6 +12,7 @@ use Rattle.rvs_yaml.specs.declared.sketch.Sketch.{Sketch}
 
 pub record IsSketch (v : Value) (s : Sketch) : Type 0 where
   pub bounded : min (depth v.tree) 33 ≤ s.depth
+  pub reached : s.least ≤ depth v.tree
   pub counted : v.nodes ≡ s.nodes
   pub map : is_map_or_empty v.tree ≡ s.is_map
   pub merging : is_mergeable v.tree ≡ s.mergeable

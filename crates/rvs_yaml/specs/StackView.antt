@@ -1,5 +1,5 @@
 -- What the open blocks of the code stand for.
-use Rattle.std.specs.Prelude.{ℕ, ◌++◌, List, map, reverse}
+use Rattle.std.specs.Prelude.{ℕ, ◌++◌, List, [], ◌∷◌, map, reverse, Option, Some, None, slice_get}
 use Rattle.rvs_yaml.specs.Anchors as anchors_spec
 use Rattle.rvs_tree.specs.Value as value_spec
 use Rattle.rvs_yaml.specs.Block as block_spec
@@ -41,9 +41,22 @@ open_view b = parts.opened (block_view b.block) (head_view b.head) (value_view b
 abbrev pub stack_view : List Open → List spec.Open
 stack_view bs = reverse (map open_view bs)
 
--- the anchors in these blocks
+abbrev pub anchors_of : Option Open → anchors_spec.Anchors
+anchors_of None = []
+anchors_of (Some b) = anchors_view b.block.anchors.anchors.items
+
+-- the anchors in the block at a place
+abbrev pub anchors_at : List Open → ℕ → anchors_spec.Anchors
+anchors_at bs place = anchors_of (slice_get bs place)
+
+-- the anchors in the blocks at these places
+abbrev pub anchors_in : List Open → List ℕ → anchors_spec.Anchors
+anchors_in bs [] = []
+anchors_in bs (place ∷ places) = anchors_at bs place ++ anchors_in bs places
+
+-- the anchors in a block and around it
 abbrev pub all_known : Known → anchors_spec.Anchors
-all_known k = anchors_view k.latest.now.anchors.items ++ spec.known_of (stack_view k.blocks.now)
+all_known k = anchors_view k.latest.now.anchors.items ++ anchors_in k.blocks.now k.places.now
 
 -- the anchors that are known at a place, or what stands for their values
 abbrev pub known_view : Known → anchors_spec.Anchors

@@ -19,7 +19,7 @@ ghost use Rattle.rvs_yaml.specs.StackView.{all_known, anchors_view, stack_view};
 use crate::flow_text::{flow_value, thin_flow_value};
 use crate::front::{MOST_DEPTH, MOST_NODES, sketch_with, thin_sketch};
 use crate::height::flow_height;
-use crate::known::Known;
+use crate::known::{Known, anchored_places};
 use crate::open::{Block, Open};
 use rvs_tree::{DEEP, Value};
 use rvs_yaml_text::{Bracket, Content, Shape, YamlKind};
@@ -74,10 +74,13 @@ fn check_paid(
     if top.head.sort.opens_block() {
         return Ok(());
     }
+    let outer = &blocks[..blocks.len() - 1];
+    let places = anchored_places(alloc, outer)?;
     let known = Known {
         poor: true,
         latest: &top.block.anchors,
-        blocks: &blocks[..blocks.len() - 1],
+        blocks: outer,
+        places: places.as_slice(),
     };
     let thin = thin_flow_value(alloc, &known, top.head.line, bracket, text)?;
     check_thin(alloc, &known, blocks, &thin, text)
@@ -94,10 +97,12 @@ fn value_in(
 ) -> Result<Value, YamlKind>
     ensures { Gives value_view result (flow_value (anchors_view block.now.anchors.anchors.items ++ known_of (stack_view blocks.now)) line (bracket_view bracket) (tokens_of text.now)) }
 {
+    let places = anchored_places(alloc, blocks)?;
     let known = Known {
         poor: false,
         latest: &block.anchors,
         blocks,
+        places: places.as_slice(),
     };
     flow_value(alloc, &known, line, bracket, text)
 }

@@ -15,7 +15,7 @@ ghost use Rattle.rvs_yaml.specs.FlowView.{place_view, reading_view, levels_view}
 
 use crate::entry::entry_of;
 use crate::known::Known;
-use crate::reading::{Level, Place, Reading};
+use crate::reading::{Level, Pending, Place, Reading};
 use rvs_tree::{
     EntryList, Value, ValueList, Written, list_value, map_value, scalar_value, thin_list_value,
     thin_map_value,
@@ -39,10 +39,10 @@ fn with_value(alloc: Global, place: Place, value: Value) -> Result<Place, YamlKi
 {
     match place {
         Place::Member(list) => Ok(Place::BehindMember(list.with(value)?)),
-        Place::EntryValue(list, key) => Ok(Place::BehindEntry(list.with(
-            alloc,
-            entry_of(key, value),
-        )?)),
+        Place::EntryValue(pending) => {
+            let Pending { list, key } = Box::into_inner(pending);
+            Ok(Place::BehindEntry(list.with(alloc, entry_of(key, value))?))
+        }
         _ => Err(YamlKind::BadFlow),
     }
 }
@@ -66,18 +66,18 @@ fn is_new(list: &EntryList, key: &Key) -> bool
 }
 
 /// The place behind a key and its colon.
-fn with_key(place: Place, key: Key) -> Result<Place, YamlKind>
-    ensures { Agrees place_view result (spec.with_key (place_view place) (key_view key)) }
+fn with_key(alloc: Global, place: Place, key: Key) -> Result<Place, YamlKind>
+    ensures { Gives place_view result (spec.with_key (place_view place) (key_view key)) }
 {
     match place {
         Place::KeyPlace(list) => {
             if is_new(&list, &key) {
-                Ok(Place::EntryValue(list, key))
+                Ok(Place::EntryValue(Box::new(alloc, Pending { list, key })?))
             } else {
                 Err(YamlKind::DuplicateKey)
             }
         }
-        Place::Member(_) | Place::EntryValue(_, _) => Err(YamlKind::BadScalar),
+        Place::Member(_) | Place::EntryValue(_) => Err(YamlKind::BadScalar),
         _ => Err(YamlKind::BadFlow),
     }
 }
@@ -94,7 +94,7 @@ fn cut_key_fault(place: &Place, key: &Key) -> YamlKind
                 YamlKind::DuplicateKey
             }
         }
-        Place::Member(_) | Place::EntryValue(_, _) => YamlKind::BadScalar,
+        Place::Member(_) | Place::EntryValue(_) => YamlKind::BadScalar,
         _ => YamlKind::BadFlow,
     }
 }
@@ -105,7 +105,7 @@ fn colon_scalar_fault(place: &Place, byte: u8) -> YamlKind
 {
     match place {
         Place::Member(_) => bad_unless(byte == b',' || byte == b']'),
-        Place::EntryValue(_, _) => bad_unless(byte == b',' || byte == b'}'),
+        Place::EntryValue(_) => bad_unless(byte == b',' || byte == b'}'),
         _ => YamlKind::BadFlow,
     }
 }
@@ -141,7 +141,7 @@ fn alias_here(
     ensures { Gives value_view result (parts.alias_at (known_view known.now) (place_view place.now) name.now) }
 {
     match place {
-        Place::Member(_) | Place::EntryValue(_, _) => {
+        Place::Member(_) | Place::EntryValue(_) => {
             if name.is_empty() {
                 return Err(YamlKind::BadFlow);
             }
@@ -187,7 +187,7 @@ fn with_token(
         Token::Comma => with_comma(place),
         Token::Colon => Err(start_fault(&place, YamlKind::BadScalar)),
         Token::Scalar(key) => with_scalar(alloc, line, place, key),
-        Token::Keyed(key) => with_key(place, key),
+        Token::Keyed(key) => with_key(alloc, place, key),
         Token::CutKey(key) => Err(cut_key_fault(&place, &key)),
         Token::ColonScalar(byte) => Err(colon_scalar_fault(&place, byte)),
         Token::Alias(name) => with_alias(alloc, known, place, name),
@@ -202,7 +202,7 @@ fn may_open(place: &Place) -> Result<(), YamlKind>
     ensures { Agrees (λ u. u) result (spec.may_open (place_view place.now)) }
 {
     match place {
-        Place::Member(_) | Place::EntryValue(_, _) => Ok(()),
+        Place::Member(_) | Place::EntryValue(_) => Ok(()),
         Place::KeyPlace(_) => Err(YamlKind::Unsupported),
         _ => Err(YamlKind::BadFlow),
     }

@@ -1,5 +1,5 @@
 // The limits on the tree of the lines so far.
-ghost use Rattle.std.specs.Prelude.{◌≡◌, ◌≤◌, ◌∷◌, ◌++◌, ◌&&◌, [], ℕ, List, min, not, nat_lt, IfOk};
+ghost use Rattle.std.specs.Prelude.{◌≡◌, ◌≤◌, ◌∷◌, ◌++◌, ◌+◌, ◌&&◌, [], ℕ, List, min, not, nat_lt, if◌then◌else◌, IfOk};
 ghost use Rattle.rvs_tree.specs.Data as data_spec;
 ghost use Rattle.rvs_tree.specs.Value as value_spec;
 ghost use Rattle.rvs_yaml.specs.StepParts as parts;
@@ -38,6 +38,7 @@ fn sketch_of(value: &Value) -> Sketch
 {
     Sketch {
         depth: value.depth,
+        least: 1,
         nodes: value.nodes,
         is_map: is_map_or_empty(&value.tree),
         mergeable: value.mergeable,
@@ -51,6 +52,7 @@ pub(crate) fn thin_sketch(thin: &Value, deepest: u64) -> Sketch
 {
     Sketch {
         depth: deepest,
+        least: 1,
         nodes: thin.nodes,
         is_map: is_map_or_empty(&thin.tree),
         mergeable: thin.mergeable,
@@ -63,6 +65,7 @@ fn empty_sketch() -> Sketch
 {
     Sketch {
         depth: 1,
+        least: 1,
         nodes: 1,
         is_map: true,
         mergeable: true,
@@ -82,6 +85,7 @@ fn list_sketch(list: &ValueList, last: &Sketch) -> Sketch
 {
     Sketch {
         depth: (list.depth.max(last.depth) + 1).min(DEEP),
+        least: (last.least + 1).min(DEEP),
         nodes: plus(list.nodes, last.nodes),
         is_map: false,
         mergeable: both(list.all_maps, last.is_map),
@@ -101,6 +105,17 @@ fn brought_depth(key: &Key, last: &Sketch) -> u64
     last.depth.saturating_sub(hidden)
 }
 
+/// The depth that a map has at least with this open entry. Of what is merged nothing need be left.
+fn least_depth(key: &Key, last: &Sketch) -> u64
+    ensures { result ≡ (if key.now.merges then 1 else min (last.now.least + 1) 33) }
+{
+    if key.merges {
+        1
+    } else {
+        (last.least + 1).min(DEEP)
+    }
+}
+
 /// What is known of a map with one entry more, which brings values of at most this depth.
 fn map_sketch(entries: &EntryList, key: &Key, last: &Sketch, deepest: u64) -> Sketch
     requires { deepest ≤ 33 }
@@ -108,6 +123,7 @@ fn map_sketch(entries: &EntryList, key: &Key, last: &Sketch, deepest: u64) -> Sk
 {
     Sketch {
         depth: (entries.depth.max(deepest) + 1).min(DEEP),
+        least: least_depth(key, last),
         nodes: plus(
             plus(entries.nodes, text_nodes(key.name.as_str())),
             last.nodes,
@@ -335,6 +351,9 @@ pub(crate) fn check_front(alloc: Global, blocks: &[Open<'_>]) -> Result<(), Yaml
     ensures { Gives (λ u. u) result (spec.checked_front (stack_view blocks.now)) }
 {
     let sketch = sketch_front(blocks)?;
+    if sketch.least > MOST_DEPTH {
+        return Err(YamlKind::TooDeep);
+    }
     if sketch.depth > MOST_DEPTH {
         let value = front_value(alloc, blocks)?;
         if is_deeper(&value.tree, MOST_DEPTH) {

@@ -2,13 +2,20 @@
 use rvs_tree::{EntryList, Value, ValueList};
 use rvs_yaml_text::{Bracket, Key};
 
-/// What may come next in an open collection.
+/// The entries of an open map, and the key whose value comes next.
+#[derive(Drop)]
+pub(crate) struct Pending {
+    pub list: EntryList,
+    pub key: Key,
+}
+
+/// What may come next in an open collection. It is kept small, since a text may open millions.
 #[derive(Drop)]
 pub(crate) enum Place {
     Member(ValueList),
     BehindMember(ValueList),
     KeyPlace(EntryList),
-    EntryValue(EntryList, Key),
+    EntryValue(Box<Pending>),
     BehindEntry(EntryList),
 }
 

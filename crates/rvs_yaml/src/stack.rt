@@ -13,7 +13,7 @@ ghost use Rattle.rvs_yaml_text.specs.WordView.{content_view, shape_view, word_vi
 
 use crate::anchoring::{joined, no_anchors, with_anchor};
 use crate::entry::entry_of;
-use crate::known::Known;
+use crate::known::{Known, needed_places};
 use crate::open::{Anchor, Block, Done, Found, Open};
 use crate::own::content_value;
 use rvs_tree::{EntryList, Value, ValueList, list_value, map_value, scalar_value, shared_value};
@@ -177,10 +177,12 @@ fn own_of<'a>(
 ) -> Result<Value, YamlKind>
     ensures { Gives value_view result (block_spec.content_value (anchors_view block.now.anchors.anchors.items ++ spec.known_of (stack_view blocks.now)) line (content_view content.entry)) }
 {
+    let places = needed_places(alloc, blocks, &content)?;
     let known = Known {
         poor: false,
         latest: &block.anchors,
         blocks,
+        places: places.as_slice(),
     };
     content_value(alloc, &known, line, content)
 }

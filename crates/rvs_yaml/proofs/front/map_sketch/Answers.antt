@@ -6,6 +6,7 @@ use Rattle.rvs_yaml_text.specs.KeyView.{key_view}
 use Rattle.rvs_tree.proofs.Sums.{written_nodes_from-push}
 use Rattle.rvs_tree.proofs.Depths.{written_depth-push}
 use Rattle.rvs_tree.proofs.Merging.{map-depth}
+use Rattle.rvs_yaml.proofs.Sketching.{least-map}
 use Rattle.rvs_yaml.proofs.front.map_sketch.Goals as goal
 
 pub returns : goal.returns
@@ -15,6 +16,7 @@ returns c = λ line v s b.
     let all = ws ++ w ∷ [] in
     record {
       bounded = omega (arith, map-depth all, written_depth-push ws w, b, c.args.entries.now.bounded);
+      reached = omega (arith, c.least_depth.ensures, least-map ws w c.args.last.now.least s.reached);
       counted = written_nodes_from-push 1 ws w
           ∙ ap (λ n. plus (plus n (text_nodes w.key)) v.nodes) (sym c.args.entries.now.added_up)
           ∙ ap (λ n. plus (plus c.args.entries.now.nodes n) v.nodes) (sym (c.text_nodes.ensures ∙ ap text_nodes c.as_str.ensures.value))
