@@ -38,3 +38,5 @@ mod DemoEnds
 mod RunEnds
 mod OneTest
 mod Saying
+mod OptionPairs
+mod CommandWords

@@ -1,0 +1,15 @@
+// What command lines ask for.
+ghost use Rattle.rvs_suite.specs.CommandLaws.{ComparesAreRead, ValidatesAreRead, NormalizesAreRead, GeneratesAreRead, ReferencesAreRead, CoveragesAreRead, RunsAreRead, DemosAreRead};
+
+/// The words of each command, with its options in the usual order, ask for that command with these
+/// values, whichever form each option has, and whichever of those stand that needn't.
+pub fn commands_are_read()
+    ensures compare { ComparesAreRead }
+    ensures validate { ValidatesAreRead }
+    ensures normalize { NormalizesAreRead }
+    ensures generate { GeneratesAreRead }
+    ensures reference { ReferencesAreRead }
+    ensures coverage { CoveragesAreRead }
+    ensures run { RunsAreRead }
+    ensures demo { DemosAreRead }
+{}
