@@ -40,3 +40,4 @@ mod OneTest
 mod Saying
 mod OptionPairs
 mod CommandWords
+mod OptionOrder

@@ -1,9 +1,10 @@
 -- What a command line asks for, by what stands in it.
-use Rattle.std.specs.Prelude.{◌≡◌, ◌≤◌, ℕ, Bool, true, nat_le, if◌then◌else◌, List, [], ◌∷◌, ◌++◌, length, map, Option, Some, None, option_map, option_and_then, codes}
-use Rattle.std.specs.List.{flat_map, list_all}
-use Rattle.rvs_suite.specs.Words.{is_positional}
+use Rattle.std.specs.Prelude.{◌≡◌, ◌≤◌, ℕ, Bool, true, nat_le, if◌then◌else◌, List, [], ◌∷◌, ◌++◌, length, map, Option, Some, None, option_map, option_and_then, codes, bytes_eq}
+use Rattle.std.specs.List.{flat_map, list_all, list_any}
+use Rattle.rvs_suite.specs.Words.{is_positional, pairs_of}
 use Rattle.rvs_suite.specs.Commands.{number_of, most_groups, steps_of, command_of}
 use Rattle.rvs_suite.specs.Windows.{windows_of}
+use Rattle.rvs_suite.specs.declared.words.Pair.{Pair}
 use Rattle.rvs_count.specs.declared.window.Window.{Window}
 use Rattle.rvs_suite.specs.declared.command.Command.TheVariants.{Compare, Validate, Normalize, Generate, Reference, Coverage, Run, Demo}
 use Rattle.rvs_demo.specs.Sizes.{size_of}
@@ -101,3 +102,21 @@ abbrev pub DemosAreRead : Type 0
 DemosAreRead =
     (program text : List ℕ) (count : ℕ) → option_and_then size_of (number_of text) ≡ Some count
     → command_of (program ∷ codes "demo" ∷ text ∷ []) ≡ Demo count
+
+-- the commands whose words are options
+abbrev pub option_commands : List (List ℕ)
+option_commands =
+    codes "validate" ∷ codes "normalize" ∷ codes "generate" ∷ codes "reference" ∷ codes "coverage"
+    ∷ codes "run" ∷ []
+
+abbrev pub takes_options : List ℕ → Bool
+takes_options name = list_any (λ (known : List ℕ). bytes_eq name known) option_commands
+
+-- neighbouring options of different names may change places
+abbrev pub OptionsChangePlaces : Type 0
+OptionsChangePlaces =
+    (program name : List ℕ) (words others : List (List ℕ)) (front behind : List Pair)
+    (first second : Pair) → takes_options name ≡ true → (first.name ≡ second.name → ⊥)
+    → pairs_of words ≡ Some (front ++ first ∷ second ∷ behind)
+    → pairs_of others ≡ Some (front ++ second ∷ first ∷ behind)
+    → command_of (program ∷ name ∷ words) ≡ command_of (program ∷ name ∷ others)

@@ -1,5 +1,5 @@
 // What command lines ask for.
-ghost use Rattle.rvs_suite.specs.CommandLaws.{ComparesAreRead, ValidatesAreRead, NormalizesAreRead, GeneratesAreRead, ReferencesAreRead, CoveragesAreRead, RunsAreRead, DemosAreRead};
+ghost use Rattle.rvs_suite.specs.CommandLaws.{ComparesAreRead, ValidatesAreRead, NormalizesAreRead, GeneratesAreRead, ReferencesAreRead, CoveragesAreRead, RunsAreRead, DemosAreRead, OptionsChangePlaces};
 
 /// The words of each command, with its options in the usual order, ask for that command with these
 /// values, whichever form each option has, and whichever of those stand that needn't.
@@ -12,4 +12,10 @@ pub fn commands_are_read()
     ensures coverage { CoveragesAreRead }
     ensures run { RunsAreRead }
     ensures demo { DemosAreRead }
+{}
+
+/// The order of options doesn't matter: neighbouring ones of different names may change places, and
+/// the words ask for the same.
+pub fn options_stand_in_any_order()
+    ensures { OptionsChangePlaces }
 {}
