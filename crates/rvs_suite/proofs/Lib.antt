@@ -41,3 +41,4 @@ mod Saying
 mod OptionPairs
 mod CommandWords
 mod OptionOrder
+mod CommandNumbers

@@ -1,5 +1,6 @@
 -- What a command line asks for, by what stands in it.
 use Rattle.std.specs.Prelude.{◌≡◌, ◌≤◌, ℕ, Bool, true, nat_le, if◌then◌else◌, List, [], ◌∷◌, ◌++◌, length, map, Option, Some, None, option_map, option_and_then, codes, bytes_eq}
+use Rattle.std.specs.Fmt.{decimal}
 use Rattle.std.specs.List.{flat_map, list_all, list_any}
 use Rattle.rvs_suite.specs.Words.{is_positional, pairs_of}
 use Rattle.rvs_suite.specs.Commands.{number_of, most_groups, steps_of, command_of}
@@ -120,3 +121,15 @@ OptionsChangePlaces =
     → pairs_of words ≡ Some (front ++ first ∷ second ∷ behind)
     → pairs_of others ≡ Some (front ++ second ∷ first ∷ behind)
     → command_of (program ∷ name ∷ words) ≡ command_of (program ∷ name ∷ others)
+
+-- the decimal text of a number of steps, which may be the next word
+abbrev pub StepsAreRead : Type 0
+StepsAreRead =
+    (steps : ℕ) → 1 ≤ steps → steps ≤ 2000000 → (is_positional (decimal steps) ≡ true)
+    × (steps_of (decimal steps ∷ []) ≡ Some (Some steps))
+
+-- the decimal text of a number of instructions
+abbrev pub CountsAreRead : Type 0
+CountsAreRead =
+    (program : List ℕ) (count : ℕ) → 1 ≤ count → count ≤ 1000000
+    → command_of (program ∷ codes "demo" ∷ decimal count ∷ []) ≡ Demo count

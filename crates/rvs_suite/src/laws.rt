@@ -1,5 +1,5 @@
 // What command lines ask for.
-ghost use Rattle.rvs_suite.specs.CommandLaws.{ComparesAreRead, ValidatesAreRead, NormalizesAreRead, GeneratesAreRead, ReferencesAreRead, CoveragesAreRead, RunsAreRead, DemosAreRead, OptionsChangePlaces};
+ghost use Rattle.rvs_suite.specs.CommandLaws.{ComparesAreRead, ValidatesAreRead, NormalizesAreRead, GeneratesAreRead, ReferencesAreRead, CoveragesAreRead, RunsAreRead, DemosAreRead, OptionsChangePlaces, StepsAreRead, CountsAreRead};
 
 /// The words of each command, with its options in the usual order, ask for that command with these
 /// values, whichever form each option has, and whichever of those stand that needn't.
@@ -18,4 +18,10 @@ pub fn commands_are_read()
 /// the words ask for the same.
 pub fn options_stand_in_any_order()
     ensures { OptionsChangePlaces }
+{}
+
+/// The decimal text of a number within the limit gives that number.
+pub fn numbers_are_read()
+    ensures steps { StepsAreRead }
+    ensures count { CountsAreRead }
 {}

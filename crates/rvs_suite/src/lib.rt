@@ -27,6 +27,6 @@ mod windows;
 mod words;
 
 pub use command::Command;
-pub use laws::{commands_are_read, options_stand_in_any_order};
+pub use laws::{commands_are_read, numbers_are_read, options_stand_in_any_order};
 pub use rvs_plan::Status;
 pub use suite::run_suite;
