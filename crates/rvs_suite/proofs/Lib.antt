@@ -42,3 +42,6 @@ mod OptionPairs
 mod CommandWords
 mod OptionOrder
 mod CommandNumbers
+mod FirstCuts
+mod OptionNames
+mod WindowTexts

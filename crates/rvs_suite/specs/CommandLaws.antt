@@ -1,8 +1,9 @@
 -- What a command line asks for, by what stands in it.
-use Rattle.std.specs.Prelude.{◌≡◌, ◌≤◌, ℕ, Bool, true, nat_le, if◌then◌else◌, List, [], ◌∷◌, ◌++◌, length, map, Option, Some, None, option_map, option_and_then, codes, bytes_eq}
+use Rattle.std.specs.Prelude.{◌≡◌, ◌<◌, ◌≤◌, ◌^◌, ℕ, Bool, true, false, nat_le, if◌then◌else◌, List, [], ◌∷◌, ◌++◌, length, map, Option, Some, None, option_map, option_and_then, codes, bytes_eq}
 use Rattle.std.specs.Fmt.{decimal}
 use Rattle.std.specs.List.{flat_map, list_all, list_any}
-use Rattle.rvs_suite.specs.Words.{is_positional, pairs_of}
+use Rattle.rvs_base.specs.Number.{hex_word_of}
+use Rattle.rvs_suite.specs.Words.{is_positional, is_equals_sign, pairs_of}
 use Rattle.rvs_suite.specs.Commands.{number_of, most_groups, steps_of, command_of}
 use Rattle.rvs_suite.specs.Windows.{windows_of}
 use Rattle.rvs_suite.specs.declared.words.Pair.{Pair}
@@ -113,6 +114,14 @@ option_commands =
 abbrev pub takes_options : List ℕ → Bool
 takes_options name = list_any (λ (known : List ℕ). bytes_eq name known) option_commands
 
+-- an option whose name has no `=` is a pair, in either form
+abbrev pub OptionsArePairs : Type 0
+OptionsArePairs =
+    (name : List ℕ) (value : Value) (words : List (List ℕ)) (pairs : List Pair)
+    → list_any is_equals_sign name ≡ false → may_stand value ≡ true
+    → pairs_of words ≡ Some pairs → pairs_of (option name value ++ words)
+    ≡ Some (record { name = name; value = value.text } ∷ pairs)
+
 -- neighbouring options of different names may change places
 abbrev pub OptionsChangePlaces : Type 0
 OptionsChangePlaces =
@@ -121,6 +130,19 @@ OptionsChangePlaces =
     → pairs_of words ≡ Some (front ++ first ∷ second ∷ behind)
     → pairs_of others ≡ Some (front ++ second ∷ first ∷ behind)
     → command_of (program ∷ name ∷ words) ≡ command_of (program ∷ name ∷ others)
+
+-- the texts of windows below 2^32, of eight digits an address
+abbrev pub window_text : Window → List ℕ
+window_text window = codes "0x" ++ (hex_word_of window.lo ++ (codes ":0x" ++ hex_word_of window.hi))
+
+abbrev pub AreWindows : List Window → Type 0
+AreWindows [] = Unit
+AreWindows (window ∷ windows) = (window.lo < window.hi) × (window.hi < 2 ^ 32) × AreWindows windows
+
+abbrev pub WindowsAreRead : Type 0
+WindowsAreRead =
+    (windows : List Window) → length windows ≤ 16 → AreWindows windows
+    → windows_of (map window_text windows) ≡ Some windows
 
 -- the decimal text of a number of steps, which may be the next word
 abbrev pub StepsAreRead : Type 0

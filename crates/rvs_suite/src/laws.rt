@@ -1,8 +1,9 @@
 // What command lines ask for.
-ghost use Rattle.rvs_suite.specs.CommandLaws.{ComparesAreRead, ValidatesAreRead, NormalizesAreRead, GeneratesAreRead, ReferencesAreRead, CoveragesAreRead, RunsAreRead, DemosAreRead, OptionsChangePlaces, StepsAreRead, CountsAreRead};
+ghost use Rattle.rvs_suite.specs.CommandLaws.{ComparesAreRead, ValidatesAreRead, NormalizesAreRead, GeneratesAreRead, ReferencesAreRead, CoveragesAreRead, RunsAreRead, DemosAreRead, OptionsArePairs, OptionsChangePlaces, StepsAreRead, CountsAreRead, WindowsAreRead};
 
 /// The words of each command, with its options in the usual order, ask for that command with these
-/// values, whichever form each option has, and whichever of those stand that needn't.
+/// values, for all names: whichever form each option has, with any list of one to 64 group files,
+/// and with or without the log, the steps and the windows.
 pub fn commands_are_read()
     ensures compare { ComparesAreRead }
     ensures validate { ValidatesAreRead }
@@ -14,14 +15,17 @@ pub fn commands_are_read()
     ensures demo { DemosAreRead }
 {}
 
-/// The order of options doesn't matter: neighbouring ones of different names may change places, and
-/// the words ask for the same.
+/// The order of options doesn't matter: each is one pair of a name and a value, and neighbouring
+/// pairs of different names may change places without changing the command.
 pub fn options_stand_in_any_order()
-    ensures { OptionsChangePlaces }
+    ensures pairs { OptionsArePairs }
+    ensures places { OptionsChangePlaces }
 {}
 
-/// The decimal text of a number within the limit gives that number.
+/// The decimal text of a number within the limit gives that number, and the texts of up to 16
+/// windows give these windows.
 pub fn numbers_are_read()
     ensures steps { StepsAreRead }
     ensures count { CountsAreRead }
+    ensures windows { WindowsAreRead }
 {}
