@@ -38,3 +38,10 @@ mod DemoEnds
 mod RunEnds
 mod OneTest
 mod Saying
+mod OptionPairs
+mod CommandWords
+mod OptionOrder
+mod CommandNumbers
+mod FirstCuts
+mod OptionNames
+mod WindowTexts

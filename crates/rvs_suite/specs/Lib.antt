@@ -39,3 +39,4 @@ pub mod RunLeft
 pub mod Judging
 pub mod Demonstrate
 pub mod Demonstrating
+pub mod CommandLaws

@@ -12,6 +12,7 @@ mod group_commands;
 mod group_files;
 mod isa_file;
 mod judging;
+mod laws;
 mod listing;
 mod making;
 mod normalizing;
@@ -26,5 +27,6 @@ mod windows;
 mod words;
 
 pub use command::Command;
+pub use laws::{commands_are_read, numbers_are_read, options_stand_in_any_order};
 pub use rvs_plan::Status;
 pub use suite::run_suite;
