@@ -1,15 +1,20 @@
 -- What a command line asks for, by what stands in it.
-use Rattle.std.specs.Prelude.{◌≡◌, ◌<◌, ◌≤◌, ◌^◌, ℕ, Bool, true, false, nat_le, if◌then◌else◌, List, [], ◌∷◌, ◌++◌, length, map, Option, Some, None, option_map, option_and_then, codes, bytes_eq}
+use Rattle.std.specs.Prelude.{◌≡◌, ◌<◌, ◌≤◌, ◌^◌, ℕ, Bool, true, false, not, ◌==◌, nat_le, if◌then◌else◌, List, [], ◌∷◌, ◌++◌, length, map, Option, Some, None, option_map, option_and_then, codes, bytes_eq}
 use Rattle.std.specs.Fmt.{decimal}
 use Rattle.std.specs.List.{flat_map, list_all, list_any}
 use Rattle.rvs_base.specs.Number.{hex_word_of}
-use Rattle.rvs_suite.specs.Words.{is_positional, is_equals_sign, pairs_of}
-use Rattle.rvs_suite.specs.Commands.{number_of, most_groups, steps_of, command_of}
+use Rattle.rvs_suite.specs.Words.{pairs_of}
+use Rattle.rvs_suite.specs.Commands.{number_of, steps_of, command_of}
 use Rattle.rvs_suite.specs.Windows.{windows_of}
 use Rattle.rvs_suite.specs.declared.words.Pair.{Pair}
 use Rattle.rvs_count.specs.declared.window.Window.{Window}
 use Rattle.rvs_suite.specs.declared.command.Command.TheVariants.{Compare, Validate, Normalize, Generate, Reference, Coverage, Run, Demo}
 use Rattle.rvs_demo.specs.Sizes.{size_of}
+
+-- a word that isn't empty and doesn't begin with a dash
+abbrev pub stands_alone : List ℕ → Bool
+stands_alone [] = false
+stands_alone (byte ∷ text) = not (byte == 45)
 
 -- the value of an option: joined to its name by `=`, or the next word
 pub record Value : Type 0 where
@@ -24,9 +29,9 @@ option name value =
 abbrev pub options : List ℕ → List Value → List (List ℕ)
 options name values = flat_map (option name) values
 
--- a value that is joined isn't empty, and any other stands for itself
+-- a value that is joined to its name isn't empty, and any other stands alone
 abbrev pub may_stand : Value → Bool
-may_stand value = if value.joined then nat_le 1 (length value.text) else is_positional value.text
+may_stand value = if value.joined then nat_le 1 (length value.text) else stands_alone value.text
 
 abbrev pub AllMayStand : List Value → Type 0
 AllMayStand values = list_all may_stand values ≡ true
@@ -41,11 +46,11 @@ listed (Some value) = value ∷ []
 
 -- a command that is given group files has one to 64 of them
 abbrev pub AreGroups : List Value → Type 0
-AreGroups groups = (1 ≤ length groups) × (length groups ≤ most_groups)
+AreGroups groups = (1 ≤ length groups) × (length groups ≤ 64)
 
 abbrev pub ComparesAreRead : Type 0
 ComparesAreRead =
-    (program left right : List ℕ) → is_positional left ≡ true → is_positional right ≡ true
+    (program left right : List ℕ) → stands_alone left ≡ true → stands_alone right ≡ true
     → command_of (program ∷ codes "compare" ∷ left ∷ right ∷ []) ≡ Compare left right
 
 abbrev pub ValidatesAreRead : Type 0
@@ -118,7 +123,7 @@ takes_options name = list_any (λ (known : List ℕ). bytes_eq name known) optio
 abbrev pub OptionsArePairs : Type 0
 OptionsArePairs =
     (name : List ℕ) (value : Value) (words : List (List ℕ)) (pairs : List Pair)
-    → list_any is_equals_sign name ≡ false → may_stand value ≡ true
+    → list_any (λ (byte : ℕ). byte == 61) name ≡ false → may_stand value ≡ true
     → pairs_of words ≡ Some pairs → pairs_of (option name value ++ words)
     ≡ Some (record { name = name; value = value.text } ∷ pairs)
 
@@ -147,7 +152,7 @@ WindowsAreRead =
 -- the decimal text of a number of steps, which may be the next word
 abbrev pub StepsAreRead : Type 0
 StepsAreRead =
-    (steps : ℕ) → 1 ≤ steps → steps ≤ 2000000 → (is_positional (decimal steps) ≡ true)
+    (steps : ℕ) → 1 ≤ steps → steps ≤ 2000000 → (stands_alone (decimal steps) ≡ true)
     × (steps_of (decimal steps ∷ []) ≡ Some (Some steps))
 
 -- the decimal text of a number of instructions
