@@ -36,7 +36,7 @@ pub(crate) struct Block<'a> {
     pub anchors: AnchorList<'a>,
 }
 
-/// A block that isn't complete, its last word, and what that word is by itself, where it has something
+/// A block that isn't complete, its last word, and what that word is by itself, where something is
 /// behind it. It is kept small, since a line may open millions.
 #[derive(Drop)]
 pub(crate) struct Open<'a> {
