@@ -52,6 +52,16 @@ def open_dropped(size):
     return nested + dropped + ''.join(' ' * 31 + '%x: x\n' % i for i in range(size // 40))
 
 
+# Each map of a chain of open merges has an anchor, and the aliases inside name others.
+def aliases_in_a_chain(size):
+    count = size // 60
+    levels = int(math.sqrt(size) * 0.6)
+    text = ''.join('r%x: &r%x x\n' % (i, i) for i in range(count))
+    text += ''.join(' ' * i + 'k%x: &b%x x\n' % (i, i) + ' ' * i + '<<:\n' for i in range(levels))
+    aliases = ('*r%x' % (i % count) for i in range((size - len(text)) // 7))
+    return text + ' ' * levels + 'z: [' + ','.join(aliases) + ']\n'
+
+
 def merges_in_a_map(size):
     return 'a: &m {' + keys(size // 14) + '}\n' + repeated('b: {', '<<: *m,', size // 16, '}\n')
 
@@ -132,6 +142,7 @@ FAMILIES = {
     'merges_nested_own': merges_nested_own,
     'merges_nested_lists': merges_nested_lists,
     'open_dropped': open_dropped,
+    'aliases_in_a_chain': aliases_in_a_chain,
     'merges_in_a_map': merges_in_a_map,
     'merges_in_a_list': merges_in_a_list,
     'merged_lists': merged_lists,
