@@ -36,6 +36,32 @@ def merges_nested(size):
     return 'a: ' + '{<<: ' * (size // 12) + '{' + keys(size // 14) + '}' + '}' * (size // 12) + '\n'
 
 
+def merges_nested_own(size):
+    count = size // 24
+    return 'a: ' + ''.join('{k%x: x,<<: ' % i for i in range(count)) + '{' + keys(size // 20) + '}' + '}' * count + '\n'
+
+
+def merges_nested_lists(size):
+    return 'a: ' + '{<<: [' * (size // 16) + '{' + keys(size // 20) + '}' + ']}' * (size // 16) + '\n'
+
+
+# A merge that is open holds a pair that its map drops, and then many lines more.
+def open_dropped(size):
+    nested = 'r:\n' + ''.join(' ' * (i + 1) + '-\n' for i in range(28))
+    dropped = ' ' * 30 + 'k: 1\n' + ' ' * 30 + '<<:\n' + ' ' * 31 + 'k: [[[[[]]]]]\n'
+    return nested + dropped + ''.join(' ' * 31 + '%x: x\n' % i for i in range(size // 40))
+
+
+# Each map of a chain of open merges has an anchor, and the aliases inside name others.
+def aliases_in_a_chain(size):
+    count = size // 60
+    levels = int(math.sqrt(size) * 0.6)
+    text = ''.join('r%x: &r%x x\n' % (i, i) for i in range(count))
+    text += ''.join(' ' * i + 'k%x: &b%x x\n' % (i, i) + ' ' * i + '<<:\n' for i in range(levels))
+    aliases = ('*r%x' % (i % count) for i in range((size - len(text)) // 7))
+    return text + ' ' * levels + 'z: [' + ','.join(aliases) + ']\n'
+
+
 def merges_in_a_map(size):
     return 'a: &m {' + keys(size // 14) + '}\n' + repeated('b: {', '<<: *m,', size // 16, '}\n')
 
@@ -113,6 +139,10 @@ FAMILIES = {
     'dropped_map': dropped_map,
     'dropped_then_aliases': dropped_then_aliases,
     'merges_nested': merges_nested,
+    'merges_nested_own': merges_nested_own,
+    'merges_nested_lists': merges_nested_lists,
+    'open_dropped': open_dropped,
+    'aliases_in_a_chain': aliases_in_a_chain,
     'merges_in_a_map': merges_in_a_map,
     'merges_in_a_list': merges_in_a_list,
     'merged_lists': merged_lists,

@@ -15,6 +15,8 @@ use Rattle.rvs_yaml.specs.declared.open.Block.{Block}
 use Rattle.rvs_yaml.specs.declared.open.Open.{Open}
 use Rattle.rvs_yaml.specs.declared.open.Found.{Found}
 use Rattle.rvs_yaml.specs.declared.known.Known.{Known}
+use Rattle.std.specs.Global.{Box}
+use Rattle.rvs_tree.specs.declared.counted.Value.{Value}
 
 abbrev pub anchor_view : Anchor → List ℕ × value_spec.Value
 anchor_view a = (a.name.now, value_view a.value)
@@ -28,14 +30,19 @@ found_view g = block_spec.found (value_view g.value) (anchors_view g.anchors.anc
 
 abbrev pub done_view : Done → spec.Done
 done_view (Items l) = spec.done_items (values_view l.values.items)
-done_view (Entries l key) = spec.done_entries (entries_view l.entries.items) (key_view key)
+done_view (Entries p) = spec.done_entries (entries_view p.value.list.entries.items) (key_view p.value.key)
 done_view Alone = spec.alone
 
 abbrev pub block_view : Block → parts.Block
 block_view b = record { line = b.line; column = b.column; done = done_view b.done; anchors = anchors_view b.anchors.anchors.items }
 
+-- What a word on this line is by itself. With nothing behind it, it is an empty scalar.
+abbrev pub own_view : ℕ → Option (Box Value) → value_spec.Value
+own_view line None = value_spec.scalar_value [] line
+own_view line (Some v) = value_view v.value
+
 abbrev pub open_view : Open → spec.Open
-open_view b = parts.opened (block_view b.block) (head_view b.head) (value_view b.own)
+open_view b = parts.opened (block_view b.block) (head_view b.head) (own_view b.head.line b.own)
 
 -- the top is the last of the code's list, and the first of the definition's
 abbrev pub stack_view : List Open → List spec.Open

@@ -134,6 +134,7 @@ fn fill<'a>(
         own: _,
     } = top;
     let own = value_in(alloc, blocks.as_slice(), &block, head.line, bracket, text)?;
+    let own = Some(Box::new(alloc, own)?);
     blocks.push(Open { block, head, own })?;
     Ok(())
 }

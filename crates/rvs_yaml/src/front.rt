@@ -11,12 +11,13 @@ ghost use Rattle.rvs_yaml.specs.Front as spec;
 ghost use Rattle.rvs_yaml.specs.Gives.{Gives};
 ghost use Rattle.rvs_yaml.specs.Sketched.{IsSketch, Brings, SketchedAs};
 ghost use Rattle.rvs_tree.specs.TreeView.{view};
-ghost use Rattle.rvs_yaml.specs.StackView.{done_view, open_view, stack_view};
+ghost use Rattle.rvs_yaml.specs.StackView.{own_view, done_view, open_view, stack_view};
 ghost use Rattle.rvs_tree.specs.ValueView.{value_view, values_view, entries_view, written_view};
 ghost use Rattle.rvs_yaml_text.specs.KeyView.{key_view};
 
 use crate::entry::entry_of;
 use crate::open::{Block, Done, Open};
+use crate::reading::Pending;
 use crate::sketch::Sketch;
 use crate::stack::check_merge;
 use rvs_tree::{
@@ -156,15 +157,21 @@ fn entry_sketch(
     Ok(map_sketch(entries, key, last, deepest))
 }
 
+/// What is known of a map with its open entry.
+fn pending_sketch(pending: &Pending, last: &Sketch) -> Result<Sketch, YamlKind>
+    ensures { (line : ℕ) → (v : value_spec.Value) → IsSketch v last.now → SketchedAs result (parts.closed_value (done_entries (entries_view pending.now.list.entries.items) (key_view pending.now.key)) line v) }
+{
+    let Pending { list, key } = pending;
+    entry_sketch(list, key, last, brought_depth(key, last))
+}
+
 /// What is known of a block with its open member.
 fn closed_sketch(block: &Block<'_>, last: Sketch) -> Result<Sketch, YamlKind>
     ensures { (v : value_spec.Value) → IsSketch v last → SketchedAs result (parts.closed_value (done_view block.now.done) block.now.line v) }
 {
     match &block.done {
         Done::Items(list) => Ok(list_sketch(list, &last)),
-        Done::Entries(entries, key) => {
-            entry_sketch(entries, key, &last, brought_depth(key, &last))
-        }
+        Done::Entries(pending) => pending_sketch(pending, &last),
         Done::Alone => Ok(last),
     }
 }
@@ -177,6 +184,16 @@ fn own_entry_sketch(entries: &EntryList, key: &Key, own: &Value) -> Result<Sketc
     entry_sketch(entries, key, &sketch_of(own), deepest)
 }
 
+/// What is known of a block whose open member is this value.
+fn leaf_sketch(block: &Block<'_>, own: &Value) -> Result<Sketch, YamlKind>
+    ensures { SketchedAs result (parts.closed_value (done_view block.now.done) block.now.line (value_view own.now)) }
+{
+    match &block.done {
+        Done::Entries(pending) => own_entry_sketch(&pending.list, &pending.key, own),
+        _ => closed_sketch(block, sketch_of(own)),
+    }
+}
+
 /// What is known of the block on top with its last word. What that merges is whole, so only what the
 /// keys leave visible counts.
 fn top_sketch(top: &Open<'_>) -> Result<Sketch, YamlKind>
@@ -185,9 +202,9 @@ fn top_sketch(top: &Open<'_>) -> Result<Sketch, YamlKind>
     if top.head.sort.opens_block() {
         return closed_sketch(&top.block, empty_sketch());
     }
-    match &top.block.done {
-        Done::Entries(entries, key) => own_entry_sketch(entries, key, &top.own),
-        _ => closed_sketch(&top.block, sketch_of(&top.own)),
+    match &top.own {
+        Some(own) => leaf_sketch(&top.block, own),
+        None => closed_sketch(&top.block, empty_sketch()),
     }
 }
 
@@ -228,7 +245,17 @@ fn own_value(alloc: Global, top: &Open<'_>) -> Result<Value, AllocError>
     if top.head.sort.opens_block() {
         scalar_value(alloc, String::new(alloc), top.head.line)
     } else {
-        shared_value(&top.own)
+        copied_own(alloc, top.head.line, &top.own)
+    }
+}
+
+/// What a word on this line is by itself.
+fn copied_own(alloc: Global, line: u64, own: &Option<Box<Value>>) -> Result<Value, AllocError>
+    ensures { IfOk result (λ v. value_view v ≡ own_view line own.now) }
+{
+    match own {
+        Some(value) => shared_value(value),
+        None => scalar_value(alloc, String::new(alloc), line),
     }
 }
 
@@ -304,9 +331,10 @@ fn closed_copy(alloc: Global, block: &Block<'_>, value: Value) -> Result<Value, 
 {
     match &block.done {
         Done::Items(list) => Ok(longer_list(alloc, block.line, list.values.as_slice(), value)?),
-        Done::Entries(entries, key) => {
-            check_merge(key, &value)?;
-            Ok(longer_map(alloc, block.line, entries.entries.as_slice(), key, value)?)
+        Done::Entries(pending) => {
+            check_merge(&pending.key, &value)?;
+            let entries = pending.list.entries.as_slice();
+            Ok(longer_map(alloc, block.line, entries, &pending.key, value)?)
         }
         Done::Alone => Ok(value),
     }

@@ -17,8 +17,8 @@ use rvs_tree::{Value, shared_value, thin_value};
 use rvs_yaml_text::{Content, YamlKind};
 use std::alloc::{AllocError, Global};
 
-/// The anchors in the complete members of a block, and those in blocks around it, at these places, the
-/// innermost first. Where `poor` is true, what stands for their values serves.
+/// The anchors in the complete members of a block, and those in blocks around it, at these places,
+/// the innermost first. Where `poor` is true, what stands for their values serves.
 #[derive(Clone, Copy)]
 pub(crate) struct Known<'a, 'b> {
     pub poor: bool,
@@ -27,7 +27,7 @@ pub(crate) struct Known<'a, 'b> {
     pub places: &'b [usize],
 }
 
-/// The places of the blocks that have anchors, the innermost first, so that an alias passes no others.
+/// The places of the blocks that have anchors, the innermost first. An alias passes no others.
 pub(crate) fn anchored_places(alloc: Global, blocks: &[Open<'_>]) -> Result<Vec<usize>, AllocError>
     ensures { IfOk result (λ l. anchors_in blocks.now l.items ≡ stack_spec.known_of (stack_view blocks.now)) }
 {

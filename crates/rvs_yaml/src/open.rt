@@ -1,7 +1,8 @@
 // Blocks that aren't complete.
 use crate::anchor_list::AnchorList;
-use rvs_tree::{EntryList, Value, ValueList};
-use rvs_yaml_text::{Head, Key};
+use crate::reading::Pending;
+use rvs_tree::{Value, ValueList};
+use rvs_yaml_text::Head;
 
 /// An anchor's name, and the value of its node.
 #[derive(Drop)]
@@ -15,7 +16,7 @@ pub(crate) struct Anchor<'a> {
 #[derive(Drop)]
 pub(crate) enum Done {
     Items(ValueList),
-    Entries(EntryList, Key),
+    Entries(Box<Pending>),
     Alone,
 }
 
@@ -35,10 +36,11 @@ pub(crate) struct Block<'a> {
     pub anchors: AnchorList<'a>,
 }
 
-/// A block that isn't complete, its last word, and what that word is by itself.
+/// A block that isn't complete, its last word, and what that word is by itself, where something is
+/// behind it. It is kept small, since a line may open millions.
 #[derive(Drop)]
 pub(crate) struct Open<'a> {
     pub block: Block<'a>,
     pub head: Head<'a>,
-    pub own: Value,
+    pub own: Option<Box<Value>>,
 }

@@ -1,8 +1,8 @@
 // What is known of a value without looking through it.
 ghost use Rattle.std.specs.Prelude.{◌≤◌};
 
-/// A bound on the depth, from 33 on counted as 33, a depth that it has at least, the number of nodes,
-/// whether it is a map or an empty scalar, and whether it can be merged.
+/// A bound on the depth, from 33 on counted as 33, a depth that it has at least, the number of
+/// nodes, whether it is a map or an empty scalar, and whether it can be merged.
 #[derive(Drop)]
 pub(crate) struct Sketch {
     pub depth: u64,

@@ -1,11 +1,11 @@
 // Reading words with a stack of open blocks.
-ghost use Rattle.std.specs.Prelude.{◌≡◌, ◌++◌, IfOk};
+ghost use Rattle.std.specs.Prelude.{◌≡◌, ◌++◌, [], IfOk};
 ghost use Rattle.rvs_yaml.specs.Block as block_spec;
 ghost use Rattle.rvs_yaml.specs.Stack as spec;
 ghost use Rattle.rvs_tree.specs.Value as value_spec;
 ghost use Rattle.rvs_yaml.specs.StepParts as parts;
 ghost use Rattle.rvs_yaml.specs.Gives.{Agrees, Gives};
-ghost use Rattle.rvs_yaml.specs.StackView.{anchors_view, done_view, found_view, block_view, stack_view};
+ghost use Rattle.rvs_yaml.specs.StackView.{anchors_view, own_view, done_view, found_view, block_view, stack_view};
 ghost use Rattle.rvs_yaml.specs.StepView.{done_content, key_content};
 ghost use Rattle.rvs_tree.specs.ValueView.{value_view, values_view, entries_view};
 ghost use Rattle.rvs_yaml_text.specs.KeyView.{key_view};
@@ -16,6 +16,7 @@ use crate::entry::entry_of;
 use crate::known::{Known, needed_places};
 use crate::open::{Anchor, Block, Done, Found, Open};
 use crate::own::content_value;
+use crate::reading::Pending;
 use rvs_tree::{EntryList, Value, ValueList, list_value, map_value, scalar_value, shared_value};
 use rvs_yaml_text::{Content, Head, Key, Shape, Word, YamlKind, is_below};
 use std::alloc::{AllocError, Global};
@@ -106,7 +107,10 @@ fn next_entry<'a>(
     check_merge(&key, &value)?;
     let entries = entries.with(alloc, entry_of(key, value))?;
     let (key, content) = key_at(column, &entries, word)?;
-    Ok((Done::Entries(entries, key), content))
+    Ok((
+        Done::Entries(Box::new(alloc, Pending { list: entries, key })?),
+        content,
+    ))
 }
 
 /// The members of a list with the value of the open one, and the word that is the next.
@@ -135,21 +139,32 @@ fn advanced<'a>(
 {
     match done {
         Done::Items(items) => next_item(items, column, value, &word),
-        Done::Entries(entries, key) => next_entry(alloc, entries, key, column, value, word),
+        Done::Entries(pending) => {
+            let Pending { list, key } = Box::into_inner(pending);
+            next_entry(alloc, list, key, column, value, word)
+        }
         Done::Alone => Err(no_place(&word.shape)),
     }
 }
 
 /// What a block is that begins with such a word, and what is behind that.
-fn begun<'a>(alloc: Global, shape: Shape<'a>) -> (Done, Content<'a>)
-    ensures { done_content result ≡ (spec.begun_done (shape_view shape.entry), parts.own_content (shape_view shape.entry)) }
+fn begun<'a>(alloc: Global, shape: Shape<'a>) -> Result<(Done, Content<'a>), AllocError>
+    ensures { IfOk result (λ p. done_content p ≡ (spec.begun_done (shape_view shape.entry), parts.own_content (shape_view shape.entry))) }
 {
     match shape {
-        Shape::Dash(_) => (Done::Items(ValueList::new(alloc)), Content::Nothing),
-        Shape::Key(key, _, content) => (Done::Entries(EntryList::new(alloc), key), content),
-        Shape::Leaf(content) => (Done::Alone, content),
-        Shape::Refused(kind) => (Done::Alone, Content::Faulty(kind)),
+        Shape::Dash(_) => Ok((Done::Items(ValueList::new(alloc)), Content::Nothing)),
+        Shape::Key(key, _, content) => Ok((begun_map(alloc, key)?, content)),
+        Shape::Leaf(content) => Ok((Done::Alone, content)),
+        Shape::Refused(kind) => Ok((Done::Alone, Content::Faulty(kind))),
     }
+}
+
+/// What a map is that begins with this key.
+fn begun_map(alloc: Global, key: Key) -> Result<Done, AllocError>
+    ensures { IfOk result (λ d. done_view d ≡ spec.done_entries [] (key_view key)) }
+{
+    let list = EntryList::new(alloc);
+    Ok(Done::Entries(Box::new(alloc, Pending { list, key })?))
 }
 
 /// Opens a block whose last word has this behind it.
@@ -167,16 +182,19 @@ fn put<'a>(
     Ok(())
 }
 
-/// What the last word of a block is by itself.
+/// What the last word of a block is by itself, where something is behind it.
 fn own_of<'a>(
     alloc: Global,
     blocks: &[Open<'a>],
     block: &Block<'a>,
     line: u64,
     content: Content<'a>,
-) -> Result<Value, YamlKind>
-    ensures { Gives value_view result (block_spec.content_value (anchors_view block.now.anchors.anchors.items ++ spec.known_of (stack_view blocks.now)) line (content_view content.entry)) }
+) -> Result<Option<Box<Value>>, YamlKind>
+    ensures { Gives (own_view line) result (block_spec.content_value (anchors_view block.now.anchors.anchors.items ++ spec.known_of (stack_view blocks.now)) line (content_view content.entry)) }
 {
+    if matches!(content, Content::Nothing) {
+        return Ok(None);
+    }
     let places = needed_places(alloc, blocks, &content)?;
     let known = Known {
         poor: false,
@@ -184,7 +202,8 @@ fn own_of<'a>(
         blocks,
         places: places.as_slice(),
     };
-    content_value(alloc, &known, line, content)
+    let own = content_value(alloc, &known, line, content)?;
+    Ok(Some(Box::new(alloc, own)?))
 }
 
 /// Opens the block that begins with a word.
@@ -192,7 +211,7 @@ fn begin<'a>(alloc: Global, blocks: &mut Vec<Open<'a>>, word: Word<'a>) -> Resul
     ensures { Gives (λ u. stack_view blocks.new.items) result (spec.begins (stack_view blocks.old.items) (word_view word.entry)) }
 {
     let head = word.head();
-    let (done, content) = begun(alloc, word.shape);
+    let (done, content) = begun(alloc, word.shape)?;
     let block = Block {
         line: head.line,
         column: head.column,
@@ -260,14 +279,28 @@ fn named<'a>(
     Ok(Found { value, anchors })
 }
 
+/// What a word on this line is by itself.
+fn taken_own(alloc: Global, line: u64, own: Option<Box<Value>>) -> Result<Value, AllocError>
+    ensures { IfOk result (λ v. value_view v ≡ own_view line own) }
+{
+    match own {
+        Some(value) => Ok(Box::into_inner(value)),
+        None => scalar_value(alloc, String::new(alloc), line),
+    }
+}
+
 /// What the last word of a block is with nothing below it.
-fn own_found<'a>(alloc: Global, head: Head<'a>, own: Value) -> Result<Found<'a>, AllocError>
-    ensures { IfOk result (λ g. found_view g ≡ parts.own_of (head_view head.entry) (value_view own)) }
+fn own_found<'a>(
+    alloc: Global,
+    head: Head<'a>,
+    own: Option<Box<Value>>,
+) -> Result<Found<'a>, AllocError>
+    ensures { IfOk result (λ g. found_view g ≡ parts.own_of (head_view head.entry) (own_view head.entry.line own)) }
 {
     let value = if head.sort.opens_block() {
         scalar_value(alloc, String::new(alloc), head.line)?
     } else {
-        own
+        taken_own(alloc, head.line, own)?
     };
     let found = Found {
         value,
@@ -285,9 +318,10 @@ fn closed_value(alloc: Global, line: u64, done: Done, value: Value) -> Result<Va
             let items = items.with(value)?;
             Ok(list_value(alloc, line, &items)?)
         }
-        Done::Entries(entries, key) => {
+        Done::Entries(pending) => {
+            let Pending { list, key } = Box::into_inner(pending);
             check_merge(&key, &value)?;
-            let entries = entries.with(alloc, entry_of(key, value))?;
+            let entries = list.with(alloc, entry_of(key, value))?;
             Ok(map_value(alloc, line, &entries)?)
         }
         Done::Alone => Ok(value),

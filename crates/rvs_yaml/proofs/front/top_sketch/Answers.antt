@@ -7,29 +7,29 @@ use Rattle.rvs_yaml_text.specs.WordView.{sort_view}
 use Rattle.rvs_yaml.specs.Front.{own_value}
 use Rattle.rvs_yaml.specs.Sketched.{SketchedAs}
 use Rattle.rvs_yaml.specs.StepParts.{closed_value}
-use Rattle.rvs_yaml.specs.StackView.{done_view, open_view}
+use Rattle.rvs_yaml.specs.StackView.{own_view, done_view, open_view}
 use Rattle.rvs_yaml.proofs.front.top_sketch.Goals as goal
 
 pub returns-then-opens_block : goal.returns-then-opens_block
 returns-then-opens_block c =
     let top = c.args.top.now in
     let opens : opens_block (sort_view top.head.sort) ≡ true = sym c.opens_block.ensures ∙ c.if-opens_block.true in
-    let same : own_value (open_view top) ≡ scalar_value [] top.head.line = ap (λ t. if t then scalar_value [] top.head.line else value_view top.own) opens in
+    let same : own_value (open_view top) ≡ scalar_value [] top.head.line = ap (λ t. if t then scalar_value [] top.head.line else own_view top.head.line top.own) opens in
     subst (λ (v : Value). SketchedAs c.closed_sketch.result (closed_value (done_view top.block.done) top.block.line v)) (sym same)
     (c.closed_sketch.ensures (scalar_value [] top.head.line) (c.empty_sketch.ensures top.head.line))
 
-pub returns-in-Entries : goal.returns-in-Entries
-returns-in-Entries c =
+pub returns-in-Some : goal.returns-in-Some
+returns-in-Some c =
     let top = c.args.top.now in
     let leaf : opens_block (sort_view top.head.sort) ≡ false = sym c.opens_block.ensures ∙ c.if-opens_block.false in
-    let same : own_value (open_view top) ≡ value_view top.own = ap (λ t. if t then scalar_value [] top.head.line else value_view top.own) leaf in
-    subst (λ (v : Value). SketchedAs c.own_entry_sketch.result (closed_value (done_view top.block.done) top.block.line v)) (sym same)
-    (subst (λ d. SketchedAs c.own_entry_sketch.result (closed_value (done_view d) top.block.line (value_view top.own))) (sym c.in-Entries.is) (c.own_entry_sketch.ensures top.block.line))
+    let same : own_value (open_view top) ≡ value_view c.in-Some.own.value = ap (λ t. if t then scalar_value [] top.head.line else own_view top.head.line top.own) leaf ∙ ap (own_view top.head.line) c.in-Some.is in
+    let here : value_view c.deref.result.now ≡ value_view c.in-Some.own.value = ap value_view c.deref.ensures in
+    subst (λ (v : Value). SketchedAs c.leaf_sketch.result (closed_value (done_view top.block.done) top.block.line v)) (here ∙ sym same) c.leaf_sketch.ensures
 
-pub returns-in_default : goal.returns-in_default
-returns-in_default c =
+pub returns-in-None : goal.returns-in-None
+returns-in-None c =
     let top = c.args.top.now in
     let leaf : opens_block (sort_view top.head.sort) ≡ false = sym c.opens_block.ensures ∙ c.if-opens_block.false in
-    let same : own_value (open_view top) ≡ value_view top.own = ap (λ t. if t then scalar_value [] top.head.line else value_view top.own) leaf in
-    subst (λ (v : Value). SketchedAs c.closed_sketch-in_default.result (closed_value (done_view top.block.done) top.block.line v)) (sym same)
-    (c.closed_sketch-in_default.ensures (value_view top.own) c.sketch_of.ensures)
+    let same : own_value (open_view top) ≡ scalar_value [] top.head.line = ap (λ t. if t then scalar_value [] top.head.line else own_view top.head.line top.own) leaf ∙ ap (own_view top.head.line) c.in-None.is in
+    subst (λ (v : Value). SketchedAs c.closed_sketch-in-None.result (closed_value (done_view top.block.done) top.block.line v)) (sym same)
+    (c.closed_sketch-in-None.ensures (scalar_value [] top.head.line) (c.empty_sketch-in-None.ensures top.head.line))
