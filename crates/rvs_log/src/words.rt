@@ -1,6 +1,5 @@
 // Words in hexadecimal digits.
-ghost use Rattle.std.specs.Prelude.{◌≡◌, ◌<◌, ◌≤◌, ◌==◌, ◌+◌, ◌*◌, ◌∷◌, ℕ, List, length};
-ghost use Rattle.std.specs.Prelude.{IfSome, Some, None, if◌then◌else◌};
+ghost use Rattle.std.specs.Prelude.{◌≡◌, ◌<◌, ◌≤◌, ◌==◌, ◌+◌, ◌*◌, ◌∷◌, ℕ, List, IfSome, Some, None, if◌then◌else◌, length};
 ghost use Rattle.std.specs.Option.{option_map};
 ghost use Rattle.rvs_log.specs.Grammar.{hex_at, hex_digits, hex_run, hex_value};
 
