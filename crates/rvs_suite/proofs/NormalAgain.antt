@@ -10,7 +10,7 @@ use Rattle.rvs_insn.specs.Isa.{Isa}
 use Rattle.rvs_cgf.specs.Groups.{Label, Refusal, groups_of}
 use Rattle.rvs_cgf.specs.Print.{normal_text}
 use Rattle.rvs_cgf.specs.Spelled.{bare, selected}
-use Rattle.rvs_normal.proofs.ReadAgain.{IsReadAgain, read-again, own-admitted}
+use Rattle.rvs_normal.proofs.ReadAgain.{read-again, own-admitted}
 use Rattle.rvs_plan.specs.Inputs.{part_end, too_long_text}
 use Rattle.rvs_plan.specs.declared.stop.Stop.TheVariants.{Refused}
 use Rattle.rvs_suite.specs.GroupTexts.{groups_name}
