@@ -1,5 +1,8 @@
 mod Appends
+pub mod Cuts
 mod Held
 mod HexDigits
 mod Reading
+pub mod Readings
+mod Spelling
 mod Telling

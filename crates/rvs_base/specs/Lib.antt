@@ -1,7 +1,9 @@
 pub mod Cursor
+pub mod Digits
 pub mod Faults
 pub mod File
 pub mod Host
+pub mod Lines
 pub mod Memory
 pub mod Number
 pub mod Sink

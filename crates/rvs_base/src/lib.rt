@@ -1,10 +1,12 @@
-//! What every crate of the suite stands on: texts and lists, the outside, files and numbers.
+//! What every crate of the suite stands on: texts and lists, the outside, files, lines and numbers.
 #![tactic(auto)]
 
 mod answers;
+mod digits;
 mod file;
 mod host;
 mod items;
+mod lines;
 mod memory_host;
 mod memory_refusal;
 mod memory_run;
@@ -16,9 +18,11 @@ mod tests;
 mod text;
 
 pub use answers::{Answer, Leaves};
+pub use digits::{number_below, short_number};
 pub use file::{FileRefusal, read_file};
 pub use host::{DeviceRun, Failed, Host, OpenFault};
 pub use items::{Bytes, Items};
+pub use lines::{cut, first_line, without_return};
 pub use memory_host::{Files, MemoryHost};
 pub use memory_refusal::NoMemory;
 pub use memory_sink::MemorySink;

@@ -1,7 +1,7 @@
 // What no clause says: calls that have memory succeed, and text is spelt as people write it.
 use crate::{
     Answer, Failed, FileRefusal, Files, Host, Items, Leaves, MemoryHost, MemorySink, Text, decimal,
-    hex_word, put_all, read_file,
+    first_line, hex_word, number_below, put_all, read_file, short_number, without_return,
 };
 use std::alloc::Global;
 use std::test::Fail;
@@ -20,6 +20,27 @@ fn numbers_are_spelt_as_usual(rt: HostRuntime) -> Result<(), Fail> {
     assert_eq!(rt; hex_word(0x0012_abef), *b"0012abef");
     assert_eq!(rt; decimal(rt.alloc(), -40)?.as_str(), "-40");
     Ok(())
+}
+
+#[test]
+fn digits_are_read(rt: HostRuntime) {
+    assert_eq!(rt; number_below(1 << 32, 16, b"00fFfFfFfF"), Some(0xffff_ffff));
+    assert_eq!(rt; number_below(1 << 32, 10, b"4294967296"), None);
+    assert_eq!(rt; number_below(100, 10, b""), None);
+    assert_eq!(rt; number_below(100, 10, b"+1"), None);
+    assert_eq!(rt; short_number(7, 10, b"0000012"), Some(12));
+    assert_eq!(rt; short_number(7, 10, b"00000012"), None);
+}
+
+#[test]
+fn lines_are_cut(rt: HostRuntime) {
+    assert_eq!(rt;
+        first_line(b"a\r\n\nb"),
+        Some((b"a\r".as_slice(), b"\nb".as_slice()))
+    );
+    assert_eq!(rt; first_line(b"b"), Some((b"b".as_slice(), b"".as_slice())));
+    assert_eq!(rt; first_line(b""), None);
+    assert_eq!(rt; without_return(b"a\r\r"), b"a\r".as_slice());
 }
 
 #[test]

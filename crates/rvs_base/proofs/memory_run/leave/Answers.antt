@@ -1,7 +1,7 @@
-use Rattle.std.proofs.Common.{◌≡◌, ap, sym, ◌∙◌}
+use Rattle.std.proofs.Common.{ap, sym, ◌∙◌}
 use Rattle.rvs_base.specs.Host.{with_left}
 use Rattle.rvs_base.specs.Memory.{held, left_of}
-use Rattle.rvs_base.proofs.Held.{held-kept, held-without}
+use Rattle.rvs_base.proofs.Held.{held-without}
 use Rattle.rvs_base.proofs.memory_run.leave.Goals as goal
 
 pub returns-in-Absent-clause-changed : goal.returns-in-Absent-clause-changed
