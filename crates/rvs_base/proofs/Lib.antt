@@ -1,7 +1,7 @@
 mod Appends
 pub mod Cuts
 mod Held
-mod HexDigits
+pub mod HexDigits
 mod Reading
 pub mod Readings
 mod Spelling

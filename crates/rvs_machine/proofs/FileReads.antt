@@ -1,20 +1,23 @@
 -- The image file is read as what it says.
-use Rattle.std.proofs.Common.{◌≡◌, ℕ, suc, ◌+◌, ◌/◌, ◌%◌, ◌^◌, ◌<◌, ◌≤◌, Bool, true, false, cond, List, [], ◌∷◌, ◌++◌, length, Some, Result, Ok, Err, refl, ap, ◌∙◌, arith}
+use Rattle.std.proofs.Common.{◌≡◌, ℕ, suc, ◌+◌, ◌/◌, ◌%◌, ◌^◌, ◌<◌, ◌≤◌, Bool, true, false, cond, List, [], ◌∷◌, ◌++◌, length, Some, None, Result, Ok, Err, refl, ap, ◌∙◌, arith}
 use Rattle.std.specs.Prelude.{◌==◌, nat_le, codes, option_and_then}
-use Rattle.std.specs.List.{list_all}
-use Rattle.std.specs.Char.{is_digit, digit_value}
+use Rattle.std.specs.Char.{digit_value}
 use Rattle.std.specs.Fmt.{decimal}
 use Rattle.std.specs.Int.{w32, to_le_bytes}
 use Rattle.std.specs.Str.Parse.{AllDigits}
-use Rattle.std.proofs.lemmas.Bool.{lt-ltb, le-leb, leb-true}
+use Rattle.std.proofs.lemmas.Bool.{le-leb, leb-true}
 use Rattle.std.proofs.lemmas.Bool.Decides.{nat_tests}
 use Rattle.std.proofs.lemmas.Fmt.{decimal_is_IsNumeral, length-decimal-le}
 use Rattle.rvs_base.specs.Number.{hex_digit_of, hex_word_of}
+use Rattle.rvs_base.specs.Digits.{digits_of}
+use Rattle.rvs_base.proofs.HexDigits.{length-hex_word_of}
 use Rattle.rvs_machine.specs.declared.reading.ImageRefusal.{ImageRefusal}
 use Rattle.rvs_machine.specs.declared.reading.ImageKind.TheVariants.{TooLarge}
 use Rattle.rvs_machine.specs.declared.reading.Addresses.{Addresses}
 use Rattle.rvs_machine.specs.Image.{ImageValue}
-use Rattle.rvs_machine.specs.FileLines.{Rest, has_feed, before_feed, after_feed, without_return, taken_from}
+use Rattle.rvs_machine.specs.FileLines.{Rest, has_feed, after_feed, taken_from}
+use Rattle.rvs_base.specs.Lines.{before, without_return}
+use Rattle.rvs_base.proofs.Readings.{hex_digit, digits_of-hex_word, digits_of-decimal}
 use Rattle.rvs_machine.specs.ImageText.{refusal, word_in, count_in, after_name, word_with, word_from, word_line, count_with, count_from, count_line, and_then, put_before, word_lines, section, header_with, address_lines, whole, image_of_bytes}
 use Rattle.rvs_machine.specs.ImageFile.{line_of, words_of, section_of, bytes_of, AreWords, FilesReadBack}
 
@@ -35,15 +38,15 @@ no_return c h = grind (arith, nat_tests)
 
 record Cut (l rest : List ℕ) : Type 0 where
   has : has_feed (l ++ 10 ∷ rest) ≡ true
-  before : before_feed (l ++ 10 ∷ rest) ≡ l
-  after : after_feed (l ++ 10 ∷ rest) ≡ rest
+  front : before 10 (l ++ 10 ∷ rest) ≡ l
+  back : after_feed (l ++ 10 ∷ rest) ≡ rest
 
 cut : (l rest : List ℕ) → Plain l → Cut l rest
-cut [] rest p = record { has = refl; before = refl; after = refl }
+cut [] rest p = record { has = refl; front = refl; back = refl }
 cut (c ∷ cs) rest p =
     let r = cut cs rest p.1 in
     let f = no_feed c p.0 in
-    record { has = rw f r.has; before = rw f (ap (λ l. c ∷ l) r.before); after = rw f r.after }
+    record { has = rw f r.has; front = rw f (ap (λ l. c ∷ l) r.front); back = rw f r.back }
 
 kept : (l : List ℕ) → Plain l → without_return l ≡ l
 kept [] p = refl
@@ -58,35 +61,29 @@ taken_line [] rest n p = refl
 taken_line (c ∷ cs) rest n p =
     let r = cut (c ∷ cs) rest p in
     let whole = (c ∷ cs) ++ 10 ∷ rest in
-    ap (λ b. Some (cond b (without_return (before_feed whole)) whole, record { bytes = after_feed whole; line = n + 1 })) r.has
-    ∙ ap (λ l. Some (without_return l, record { bytes = after_feed whole; line = n + 1 })) r.before
+    ap (λ b. Some (cond b (without_return (before 10 whole)) whole, record { bytes = after_feed whole; line = n + 1 })) r.has
+    ∙ ap (λ l. Some (without_return l, record { bytes = after_feed whole; line = n + 1 })) r.front
     ∙ ap (λ l. Some (l, record { bytes = after_feed whole; line = n + 1 })) (kept (c ∷ cs) p)
-    ∙ ap (λ x. Some (c ∷ cs, record { bytes = x; line = n + 1 })) r.after
+    ∙ ap (λ x. Some (c ∷ cs, record { bytes = x; line = n + 1 })) r.back
 
--- a hexadecimal digit
-record IsHex (c d : ℕ) : Type 0 where
-  digit : is_digit c 16 ≡ true
-  value : digit_value c ≡ d
-  plain : 32 ≤ c
-
-hex : (d : ℕ) → d < 16 → IsHex (hex_digit_of d) d
-hex d h = record { digit = grind (arith, nat_tests); value = grind (arith, nat_tests); plain = grind (arith, nat_tests) }
+digit_above : (d : ℕ) → d < 16 → 32 ≤ hex_digit_of d
+digit_above d h = let p = (hex_digit d h).plain in omega (arith, p)
 
 hex_plain : (w : ℕ) → Plain (hex_word_of w)
 unfolding hex_word_of
 hex_plain w = (
-  (hex (w / 16 ^ 7 % 16) (omega arith)).plain,
+  digit_above (w / 16 ^ 7 % 16) (omega arith),
   (
-    (hex (w / 16 ^ 6 % 16) (omega arith)).plain,
+    digit_above (w / 16 ^ 6 % 16) (omega arith),
     (
-      (hex (w / 16 ^ 5 % 16) (omega arith)).plain,
+      digit_above (w / 16 ^ 5 % 16) (omega arith),
       (
-        (hex (w / 16 ^ 4 % 16) (omega arith)).plain,
+        digit_above (w / 16 ^ 4 % 16) (omega arith),
         (
-          (hex (w / 16 ^ 3 % 16) (omega arith)).plain,
+          digit_above (w / 16 ^ 3 % 16) (omega arith),
           (
-            (hex (w / 16 ^ 2 % 16) (omega arith)).plain,
-            ((hex (w / 16 ^ 1 % 16) (omega arith)).plain, ((hex (w / 16 ^ 0 % 16) (omega arith)).plain, tt)),
+            digit_above (w / 16 ^ 2 % 16) (omega arith),
+            (digit_above (w / 16 ^ 1 % 16) (omega arith), (digit_above (w / 16 ^ 0 % 16) (omega arith), tt)),
           ),
         ),
       ),
@@ -95,23 +92,11 @@ hex_plain w = (
 )
 
 word_read : (w : ℕ) → w < 2 ^ 32 → word_in (hex_word_of w) ≡ Some w
-unfolding hex_word_of
 word_read w h =
-    let a = hex (w / 16 ^ 7 % 16) (omega arith) in
-    let b = hex (w / 16 ^ 6 % 16) (omega arith) in
-    let c = hex (w / 16 ^ 5 % 16) (omega arith) in
-    let d = hex (w / 16 ^ 4 % 16) (omega arith) in
-    let e = hex (w / 16 ^ 3 % 16) (omega arith) in
-    let f = hex (w / 16 ^ 2 % 16) (omega arith) in
-    let g = hex (w / 16 ^ 1 % 16) (omega arith) in
-    let i = hex (w / 16 ^ 0 % 16) (omega arith) in
-    rw (a.digit, b.digit, c.digit, d.digit, e.digit, f.digit, g.digit, i.digit, a.value, b.value, c.value, d.value, e.value, f.value, g.value, i.value) (ap Some (omega arith))
+    let eight : (length (hex_word_of w) == 8) ≡ true = ap (λ n. n == 8) (length-hex_word_of w) in
+    ap (λ b. cond b (digits_of 16 (hex_word_of w)) None) eight ∙ digits_of-hex_word w h
 
 -- counts
-digits_pass : (ds : List ℕ) → AllDigits 10 ds → list_all (λ c. is_digit c 10) ds ≡ true
-digits_pass [] h = refl
-digits_pass (d ∷ ds) h = rw (lt-ltb (digit_value d) 10 h.0) (digits_pass ds h.1)
-
 digit_plain : (c : ℕ) → digit_value c < 10 → 32 ≤ c
 digit_plain c h = grind (arith, nat_tests)
 
@@ -121,10 +106,8 @@ digits_plain (d ∷ ds) h = (digit_plain d h.0, digits_plain ds h.1)
 
 count_read : (n : ℕ) → n ≤ 4_194_304 → count_in (decimal n) ≡ Some n
 count_read n h =
-    let is = decimal_is_IsNumeral n (omega arith) in
-    let some : nat_le 1 (length (decimal n)) ≡ true = le-leb 1 (length (decimal n)) (omega (arith, is.0.0)) in
     let few : nat_le (length (decimal n)) 7 ≡ true = le-leb (length (decimal n)) 7 (length-decimal-le 7 n (omega arith) (omega arith) (omega arith)) in
-    rw (some, few, digits_pass (decimal n) is.0.1) (ap Some is.1)
+    ap (λ b. cond b (digits_of 10 (decimal n)) None) few ∙ digits_of-decimal n (omega arith)
 
 -- lines
 word_line_read : (name rest : List ℕ) (w n : ℕ) → Plain name → after_name name (name ++ hex_word_of w) ≡ Some (hex_word_of w) → w < 2 ^ 32 → word_line name (record { bytes = line_of name (hex_word_of w) rest; line = n }) ≡ Ok (w, record { bytes = rest; line = n + 1 })

@@ -1,19 +1,24 @@
 -- The line that a refusal of an image file tells is the first faulty one.
 use Rattle.std.proofs.Common.{◌≡◌, ◌≢◌, ℕ, zero, suc, ◌+◌, ◌≤◌, Bool, true, false, cond, List, [], ◌∷◌, ◌++◌, Option, Some, None, Ok, Err, refl, ap, sym, subst, ◌∙◌, arith, codes}
-use Rattle.std.specs.Prelude.{◌==◌}
+use Rattle.std.specs.Prelude.{◌==◌, is_some}
 use Rattle.rvs_machine.specs.declared.reading.ImageKind.TheVariants.{BadLine, BadRegion}
 use Rattle.rvs_machine.specs.declared.reading.ImageRefusal.{ImageRefusal}
 use Rattle.rvs_machine.specs.Image.{ImageValue}
-use Rattle.rvs_machine.specs.FileLines.{Rest, first_line, before_feed, after_feed, has_feed, without_return}
+use Rattle.rvs_machine.specs.FileLines.{Rest, first_line, after_feed, has_feed}
+use Rattle.rvs_base.specs.Digits.{digits_of}
+use Rattle.rvs_base.specs.Lines.{before, after, without_return}
 use Rattle.rvs_machine.specs.ImageText.{refusal, and_then, image_of_bytes}
 use Rattle.rvs_machine.specs.ImageFaults.{first_lines, IsFaultless, Begins, IsFirstFault, FaultsAreFirst}
 use Rattle.rvs_machine.proofs.FileTree.{Tree, Found, run, bind, Parts, file_tree, judged, file_run, header_said, header_tree, word_said, word_tree, limited, count_said, count_tree, words_tree, section_tree, end_tree, begin_tree, address_tree, addresses_tree, data_tree, text_tree}
 use Rattle.rvs_machine.proofs.FileTree.Tree.{done, fail, more}
 
 -- ---- a line put before a file
-split_test : (b t : Bool) → cond b true t ≡ false → (b ≡ false) × (t ≡ false)
-split_test true t e = cc
-split_test false t e = (refl, e)
+split_feed : (c : ℕ) (cs : List ℕ) → has_feed (c ∷ cs) ≡ false → ((c == 10) ≡ false) × (has_feed cs ≡ false)
+split_feed c cs e = by_test (c == 10) e
+  where
+    by_test : (b : Bool) → is_some (cond b (Some cs) (after 10 cs)) ≡ false → (b ≡ false) × (has_feed cs ≡ false)
+    by_test true e = cc
+    by_test false e = (refl, e)
 
 -- the line ends with a carriage return and a line feed, so that a carriage return of its own stays
 abbrev put_line : List ℕ → List ℕ → List ℕ
@@ -21,15 +26,15 @@ put_line l rest = l ++ 13 ∷ 10 ∷ rest
 
 record Cut (l rest : List ℕ) : Type 0 where
   has : has_feed (put_line l rest) ≡ true
-  before : before_feed (put_line l rest) ≡ l ++ 13 ∷ []
-  after : after_feed (put_line l rest) ≡ rest
+  front : before 10 (put_line l rest) ≡ l ++ 13 ∷ []
+  back : after_feed (put_line l rest) ≡ rest
 
 cut : (l rest : List ℕ) → has_feed l ≡ false → Cut l rest
-cut [] rest e = record { has = refl; before = refl; after = refl }
+cut [] rest e = record { has = refl; front = refl; back = refl }
 cut (c ∷ cs) rest e =
-    let parts = split_test (c == 10) (has_feed cs) e in
+    let parts = split_feed c cs e in
     let r = cut cs rest parts.1 in
-    record { has = rw parts.0 r.has; before = rw parts.0 (ap (λ l. c ∷ l) r.before); after = rw parts.0 r.after }
+    record { has = rw parts.0 r.has; front = rw parts.0 (ap (λ l. c ∷ l) r.front); back = rw parts.0 r.back }
 
 return_dropped : (l : List ℕ) → without_return (l ++ 13 ∷ []) ≡ l
 return_dropped [] = refl
@@ -39,19 +44,19 @@ return_dropped (c ∷ d ∷ ds) = ap (λ l. c ∷ l) (return_dropped (d ∷ ds))
 first_put : (l rest : List ℕ) → has_feed l ≡ false → first_line (put_line l rest) ≡ l
 first_put l rest e =
     let r = cut l rest e in
-    ap (λ b. cond b (without_return (before_feed (put_line l rest))) (put_line l rest)) r.has ∙ ap without_return r.before ∙ return_dropped l
+    ap (λ b. cond b (without_return (before 10 (put_line l rest))) (put_line l rest)) r.has ∙ ap without_return r.front ∙ return_dropped l
 
 run_put : {A : Type 0} (f : List ℕ → Tree A) (l rest : List ℕ) (n : ℕ) → has_feed l ≡ false → run (more f) (put_line l rest) n ≡ run (f l) rest (n + 1)
 run_put f [] rest n e = refl
 run_put f (c ∷ cs) rest n e =
     ap (λ l. run (f l) (after_feed (put_line (c ∷ cs) rest)) (n + 1)) (first_put (c ∷ cs) rest e)
-    ∙ ap (λ r. run (f (c ∷ cs)) r (n + 1)) (cut (c ∷ cs) rest e).after
+    ∙ ap (λ r. run (f (c ∷ cs)) r (n + 1)) (cut (c ∷ cs) rest e).back
 
 lines_put : (l rest : List ℕ) (n : ℕ) → has_feed l ≡ false → first_lines (suc n) (put_line l rest) ≡ Some l ∷ first_lines n rest
 lines_put [] rest n e = refl
 lines_put (c ∷ cs) rest n e =
     ap (λ l. Some l ∷ first_lines n (after_feed (put_line (c ∷ cs) rest))) (first_put (c ∷ cs) rest e)
-    ∙ ap (λ r. Some (c ∷ cs) ∷ first_lines n r) (cut (c ∷ cs) rest e).after
+    ∙ ap (λ r. Some (c ∷ cs) ∷ first_lines n r) (cut (c ∷ cs) rest e).back
 
 -- lines have no line feed
 feedless_cons : (c : ℕ) (l : List ℕ) → (c == 10) ≡ false → has_feed l ≡ false → has_feed (c ∷ l) ≡ false
@@ -61,9 +66,9 @@ feedless_before_by : (c : ℕ) (l : List ℕ) (b : Bool) → (c == 10) ≡ b →
 feedless_before_by c l true e f = refl
 feedless_before_by c l false e f = feedless_cons c l e f
 
-feedless_before : (bytes : List ℕ) → has_feed (before_feed bytes) ≡ false
+feedless_before : (bytes : List ℕ) → has_feed (before 10 bytes) ≡ false
 feedless_before [] = refl
-feedless_before (c ∷ cs) = feedless_before_by c (before_feed cs) (c == 10) refl (feedless_before cs)
+feedless_before (c ∷ cs) = feedless_before_by c (before 10 cs) (c == 10) refl (feedless_before cs)
 
 feedless_last : (c : ℕ) (b : Bool) → has_feed (c ∷ []) ≡ false → has_feed (cond b [] (c ∷ [])) ≡ false
 feedless_last c true e = refl
@@ -73,11 +78,11 @@ feedless_return : (l : List ℕ) → has_feed l ≡ false → has_feed (without_
 feedless_return [] e = refl
 feedless_return (c ∷ []) e = feedless_last c (c == 13) e
 feedless_return (c ∷ d ∷ ds) e =
-    let parts = split_test (c == 10) (has_feed (d ∷ ds)) e in
+    let parts = split_feed c (d ∷ ds) e in
     feedless_cons c (without_return (d ∷ ds)) parts.0 (feedless_return (d ∷ ds) parts.1)
 
-feedless_by : (bytes : List ℕ) (b : Bool) → has_feed bytes ≡ b → has_feed (cond b (without_return (before_feed bytes)) bytes) ≡ false
-feedless_by bytes true e = feedless_return (before_feed bytes) (feedless_before bytes)
+feedless_by : (bytes : List ℕ) (b : Bool) → has_feed bytes ≡ b → has_feed (cond b (without_return (before 10 bytes)) bytes) ≡ false
+feedless_by bytes true e = feedless_return (before 10 bytes) (feedless_before bytes)
 feedless_by bytes false e = e
 
 feedless : (bytes : List ℕ) → has_feed (first_line bytes) ≡ false
@@ -210,6 +215,7 @@ good_count limit None = tt
 good_count limit (Some count) = good_limited _ count
 
 word_can : Can (word_tree [])
+unfolding digits_of
 word_can = (codes "00000000", refl, tt)
 
 words_can : (count : ℕ) → Can (words_tree count)
@@ -229,21 +235,27 @@ section_good : (name : List ℕ) (limit : ℕ) → Can (count_tree name limit) �
 section_good name limit h = good-bind (count_tree name limit) words_tree (h, λ l. good_count limit _) words_can words_good
 
 end_can : (tohost sig_begin : ℕ) → Can (end_tree tohost sig_begin)
+unfolding digits_of
 end_can tohost sig_begin = (codes "end 00000000", refl, tt)
 
 end_good : (tohost sig_begin : ℕ) → Good (end_tree tohost sig_begin)
+unfolding digits_of
 end_good tohost sig_begin = good-bind (word_tree (codes "end ")) _ ((codes "end 00000000", refl, tt), λ l. good_word _) (λ e. tt) (λ e. tt)
 
 begin_can : (tohost : ℕ) → Can (begin_tree tohost)
+unfolding digits_of
 begin_can tohost = can-bind (word_tree (codes "begin ")) (end_tree tohost) (codes "begin 00000000", refl, tt) (end_can tohost)
 
 begin_good : (tohost : ℕ) → Good (begin_tree tohost)
+unfolding digits_of
 begin_good tohost = good-bind (word_tree (codes "begin ")) (end_tree tohost) ((codes "begin 00000000", refl, tt), λ l. good_word _) (end_can tohost) (end_good tohost)
 
 address_can : Can address_tree
+unfolding digits_of
 address_can = can-bind (word_tree (codes "tohost ")) begin_tree (codes "tohost 00000000", refl, tt) begin_can
 
 address_good : Good address_tree
+unfolding digits_of
 address_good = good-bind (word_tree (codes "tohost ")) begin_tree ((codes "tohost 00000000", refl, tt), λ l. good_word _) begin_can begin_good
 
 addresses_can : (text ram : List ℕ) → Can (addresses_tree text ram)
@@ -253,6 +265,7 @@ addresses_good : (text ram : List ℕ) → Good (addresses_tree text ram)
 addresses_good text ram = good-bind address_tree _ address_good (λ at. tt) (λ at. tt)
 
 data_count : Can (count_tree (codes "data ") 262_144)
+unfolding digits_of
 data_count = (codes "data 0", refl, tt)
 
 data_can : (text : List ℕ) → Can (data_tree text)
@@ -262,6 +275,7 @@ data_good : (text : List ℕ) → Good (data_tree text)
 data_good text = good-bind (section_tree (codes "data ") 262_144) (addresses_tree text) (section_good (codes "data ") 262_144 data_count) (addresses_can text) (addresses_good text)
 
 text_count : Can (count_tree (codes "text ") 4_194_304)
+unfolding digits_of
 text_count = (codes "text 0", refl, tt)
 
 text_can : (u : Unit {0}) → Can (text_tree u)

@@ -1,10 +1,9 @@
 -- The image file: what its bytes say, line by line, or the first line that is faulty.
-use Rattle.std.specs.Prelude.{◌≡◌, ◌⊎◌, ℕ, zero, suc, ◌==◌, ◌&&◌, nat_le, nat_eq, if◌then◌else◌, Option, Some, None, Result, Ok, Err, List, [], ◌++◌, length, drop, codes, option_and_then}
-use Rattle.std.specs.List.{list_all, starts_with}
-use Rattle.std.specs.Char.{is_digit}
+use Rattle.std.specs.Prelude.{◌≡◌, ◌⊎◌, ℕ, zero, suc, ◌==◌, nat_le, nat_eq, if◌then◌else◌, Option, Some, None, Result, Ok, Err, List, [], ◌++◌, length, drop, codes, option_and_then}
+use Rattle.std.specs.List.{starts_with}
 use Rattle.std.specs.Int.{w32, to_le_bytes}
 use Rattle.std.specs.Str.{bytes_eq}
-use Rattle.std.specs.Str.Parse.{digits_value}
+use Rattle.rvs_base.specs.Digits.{digits_of, short_number}
 use Rattle.rvs_machine.specs.declared.reading.ImageKind.{ImageKind}
 use Rattle.rvs_machine.specs.declared.reading.ImageKind.TheVariants.{BadLine, BadRegion, TooLarge, NoMemory}
 use Rattle.rvs_machine.specs.declared.reading.ImageRefusal.{ImageRefusal}
@@ -14,17 +13,13 @@ use Rattle.rvs_machine.specs.FileLines.{Rest, taken}
 
 -- ---- the parts of a line
 
--- the number that digits of a radix write, where all characters are such digits
-abbrev pub digits_of : ℕ → List ℕ → Option ℕ
-digits_of radix text = if list_all (λ c. is_digit c radix) text then Some (digits_value radix text) else None
-
 -- a word: eight hexadecimal digits
 abbrev pub word_in : List ℕ → Option ℕ
 word_in text = if length text == 8 then digits_of 16 text else None
 
 -- a count: one to seven decimal digits
 abbrev pub count_in : List ℕ → Option ℕ
-count_in text = if nat_le 1 (length text) && nat_le (length text) 7 then digits_of 10 text else None
+count_in text = short_number 7 10 text
 
 -- what follows a name at the start of a line
 abbrev pub after_name : List ℕ → List ℕ → Option (List ℕ)

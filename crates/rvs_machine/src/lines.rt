@@ -1,7 +1,8 @@
 // The lines of a file.
 ghost use Rattle.std.specs.Prelude.{◌≡◌, ◌<◌, length, MatchOption};
-ghost use Rattle.rvs_machine.specs.FileLines.{after_feed, without_return, first_line, taken};
+ghost use Rattle.rvs_machine.specs.FileLines.{after_feed, first_line, taken};
 
+use rvs_base::{cut, without_return};
 use std::marker::Model;
 
 /// What is left of a file, and the number of the line that begins there, from 1. Each line ends
@@ -47,7 +48,7 @@ impl<'a> Lines<'a> {
         if self.rest.is_empty() {
             return None;
         }
-        let (line, rest) = cut(self.rest);
+        let (line, rest) = first_and_rest(self.rest);
         self.rest = rest;
         self.number += 1;
         Some(line)
@@ -55,32 +56,13 @@ impl<'a> Lines<'a> {
 }
 
 /// The first line and what follows it.
-#[tactic(auto, using(crate::proofs::FileLines::one_more, crate::proofs::FileLines::first_feed, crate::proofs::FileLines::no_feed))]
-fn cut(bytes: &[u8]) -> (&[u8], &[u8])
+fn first_and_rest(bytes: &[u8]) -> (&[u8], &[u8])
     ensures line { result.0.now ≡ first_line bytes.now }
     ensures rest { result.1.now ≡ after_feed bytes.now }
     ensures shorter { 0 < length bytes.now → length result.1.now < length bytes.now }
 {
-    for at in 0..bytes.len() {
-        if bytes[at] == b'\n' {
-            return (without_return(&bytes[..at]), &bytes[at + 1..]);
-        }
-    }
-    (bytes, &[])
-}
-
-#[tactic(auto, using(crate::proofs::FileLines::with_return, crate::proofs::FileLines::last_kept))]
-fn without_return(line: &[u8]) -> &[u8]
-    ensures { result.now ≡ without_return line.now }
-{
-    match line.len() {
-        0 => line,
-        n => {
-            if line[n - 1] == b'\r' {
-                &line[..n - 1]
-            } else {
-                line
-            }
-        },
+    match cut(bytes, b'\n') {
+        (line, Some(rest)) => (without_return(line), rest),
+        (line, None) => (line, &[]),
     }
 }

@@ -1,11 +1,11 @@
 // The image file.
-ghost use Rattle.std.specs.Prelude.{◌≡◌, ◌⊎◌, ◌<◌, ◌≤◌, ◌^◌, length, IfSome, MatchOption, MatchResult, option_and_then};
-ghost use Rattle.rvs_machine.specs.ImageText.{digits_of, word_in, count_in, after_name, no_memory, refusal, header, word_line, count_line, word_lines, section, address_lines, image_of_bytes, IsSaid};
+ghost use Rattle.std.specs.Prelude.{◌≡◌, ◌⊎◌, MatchOption, MatchResult, option_and_then};
+ghost use Rattle.rvs_machine.specs.ImageText.{word_in, count_in, after_name, no_memory, refusal, header, word_line, count_line, word_lines, section, address_lines, image_of_bytes, IsSaid};
 ghost use Rattle.rvs_machine.specs.ImageNumbers.{image_number};
 
 use crate::image::{DATA_LIMIT, Image, TEXT_LIMIT};
 use crate::lines::Lines;
-use rvs_base::{Bytes, Items};
+use rvs_base::{Bytes, Items, short_number};
 use std::alloc::{AllocError, Global};
 
 /// Why a file is no image.
@@ -207,13 +207,7 @@ fn count_after(name: &[u8], line: &[u8]) -> Option<u64>
     ensures { result ≡ option_and_then count_in (after_name name.now line.now) }
 {
     match after_name(name, line) {
-        Some(text) => {
-            if 1 <= text.len() && text.len() <= 7 {
-                digits(10, text)
-            } else {
-                None
-            }
-        },
+        Some(text) => short_number(7, 10, text),
         None => None,
     }
 }
@@ -225,7 +219,7 @@ fn word_after(name: &[u8], line: &[u8]) -> Option<u32>
     match after_name(name, line) {
         Some(text) => {
             if text.len() == 8 {
-                match digits(16, text) {
+                match short_number(8, 16, text) {
                     Some(word) => Some(word as u32),
                     None => None,
                 }
@@ -245,22 +239,4 @@ fn after_name<'a>(name: &[u8], line: &'a [u8]) -> Option<&'a [u8]>
     } else {
         None
     }
-}
-
-/// The number that digits write, where all characters are digits of the radix.
-#[tactic(auto, using(crate::proofs::Digits::digit_goes, crate::proofs::Digits::digit_stops, crate::proofs::Digits::stays_below, crate::proofs::Digits::fits_eight))]
-fn digits(radix: u32, text: &[u8]) -> Option<u64>
-    requires radix { (radix ≡ 10) ⊎ (radix ≡ 16) }
-    requires short { length text.now ≤ 8 }
-    ensures value { result ≡ digits_of radix text.now }
-    ensures small { IfSome result (λ number. number < 2 ^ 32) }
-{
-    let mut number = 0;
-    for byte in text {
-        match char::from(*byte).to_digit(radix) {
-            Some(digit) => number = number * u64::from(radix) + u64::from(digit),
-            None => return None,
-        }
-    }
-    Some(number)
 }

@@ -5,7 +5,7 @@ use Rattle.std.proofs.lemmas.List.Elements.{filter_map-append}
 use Rattle.std.proofs.lemmas.List.{append-nil, append_assoc, length-append, take_all, take_at, get_or_append_left, get_or_at, length_push}
 use Rattle.std.proofs.lemmas.List.Sums.{position_or_len_is}
 use Rattle.std.proofs.lemmas.Bool.Decides.{nat_tests}
-use Rattle.rvs_sig.specs.Lines.{lines_of, onto_first}
+use Rattle.rvs_base.specs.Lines.{cut_lines, onto_first}
 use Rattle.rvs_sig.specs.declared.words.SigRefusal.TheVariants.{BadLine, TooLong}
 use Rattle.rvs_sig.specs.Words.{most_lines, word_of_line, first_bad, words_unless_bad, words_of_lines, words_of}
 
@@ -19,7 +19,7 @@ pub record AreGood (lines : List (List ℕ)) : Type 0 where
 -- this many lines were read, and these are their words
 pub record HasWords (bytes left : List ℕ) (line : ℕ) (words : List ℕ) : Type 0 where
   pub lines : List (List ℕ)
-  pub split : lines_of bytes ≡ lines ++ lines_of left
+  pub split : cut_lines bytes ≡ lines ++ cut_lines left
   pub count : length lines ≡ line
   pub good : AreGood lines
   pub spelt : filter_map word_of_line lines ≡ words
@@ -43,10 +43,10 @@ AreGood-push lines line good last = record {
       (ap is_bad (get_or_at lines line [] [] (length lines) refl) ∙ last) k within;
 }
 
-pub HasWords-more : (bytes left next : List ℕ) (line : ℕ) (words first : List ℕ) (word : ℕ) → HasWords bytes left line words → lines_of left ≡ first ∷ lines_of next → word_of_line first ≡ Some word → line < 262144 → HasWords bytes next (line + 1) (words ++ word ∷ [])
+pub HasWords-more : (bytes left next : List ℕ) (line : ℕ) (words first : List ℕ) (word : ℕ) → HasWords bytes left line words → cut_lines left ≡ first ∷ cut_lines next → word_of_line first ≡ Some word → line < 262144 → HasWords bytes next (line + 1) (words ++ word ∷ [])
 HasWords-more bytes left next line words first word has cut is few = record {
   lines = has.lines ++ first ∷ [];
-  split = has.split ∙ ap (λ ls. has.lines ++ ls) cut ∙ sym (append_assoc has.lines (first ∷ []) (lines_of next));
+  split = has.split ∙ ap (λ ls. has.lines ++ ls) cut ∙ sym (append_assoc has.lines (first ∷ []) (cut_lines next));
   count = length_push has.lines first ∙ ap (λ n. n + 1) has.count;
   good = AreGood-push has.lines first has.good (good_word (word_of_line first) word is);
   spelt = filter_map-push has.lines first word is ∙ ap (λ ws. ws ++ word ∷ []) has.spelt;
@@ -82,7 +82,7 @@ good_lines lines good few =
 pub words_of-read : (bytes : List ℕ) (line : ℕ) (words : List ℕ) → HasWords bytes [] line words → words_of bytes ≡ Ok words
 unfolding words_of
 words_of-read bytes line words has =
-    let all : lines_of bytes ≡ has.lines = has.split ∙ append-nil has.lines in
+    let all : cut_lines bytes ≡ has.lines = has.split ∙ append-nil has.lines in
     ap words_of_lines all ∙ good_lines has.lines has.good (omega (arith, has.few, has.count)) ∙ ap Ok has.spelt
 
 some_of : (b : Bool) (byte : ℕ) (lines : List (List ℕ)) → 0 < length (if b then [] ∷ lines else onto_first byte lines)
@@ -90,17 +90,17 @@ some_of true byte lines = omega arith
 some_of false byte [] = omega arith
 some_of false byte (line ∷ lines) = omega arith
 
-some_line : (left : List ℕ) → 0 < length left → 0 < length (lines_of left)
+some_line : (left : List ℕ) → 0 < length left → 0 < length (cut_lines left)
 some_line [] some = absurd (omega (arith, some))
-some_line (byte ∷ bytes) some = some_of (eqb byte 10) byte (lines_of bytes)
+some_line (byte ∷ bytes) some = some_of (eqb byte 10) byte (cut_lines bytes)
 
 pub words_of-long : (bytes left : List ℕ) (words : List ℕ) → HasWords bytes left 262144 words → 0 < length left → words_of bytes ≡ Err TooLong
 unfolding words_of
 words_of-long bytes left words has some =
-    let front : take most_lines (lines_of bytes) ≡ has.lines = ap (take most_lines) has.split ∙ take_at has.lines (lines_of left) 262144 has.count in
-    let none : first_bad (take most_lines (lines_of bytes)) ≡ None = ap first_bad front ∙ none_bad has.lines has.good in
-    let long : 262144 < length (lines_of bytes) = omega (arith, ap length has.split, length-append has.lines (lines_of left), has.count, some_line left some) in
-    rw (none, too_many (length (lines_of bytes)) long) refl
+    let front : take most_lines (cut_lines bytes) ≡ has.lines = ap (take most_lines) has.split ∙ take_at has.lines (cut_lines left) 262144 has.count in
+    let none : first_bad (take most_lines (cut_lines bytes)) ≡ None = ap first_bad front ∙ none_bad has.lines has.good in
+    let long : 262144 < length (cut_lines bytes) = omega (arith, ap length has.split, length-append has.lines (cut_lines left), has.count, some_line left some) in
+    rw (none, too_many (length (cut_lines bytes)) long) refl
 
 bad_at : (good : List (List ℕ)) (line : List ℕ) (others : List (List ℕ)) → AreGood good → is_bad line ≡ true → first_bad (good ++ line ∷ others) ≡ Some (length good)
 bad_at good line others goods bad =
@@ -125,9 +125,9 @@ bad_word o none = rw none refl
 bad_lines : (lines good : List (List ℕ)) (line : List ℕ) (tail : List (List ℕ)) (n : ℕ) → take most_lines lines ≡ good ++ line ∷ tail → AreGood good → is_bad line ≡ true → length good ≡ n → words_of_lines lines ≡ Err (BadLine (n + 1))
 bad_lines lines good line tail n is goods bad count = ap (words_unless_bad lines) (ap first_bad is ∙ bad_at good line tail goods bad ∙ ap Some count)
 
-pub words_of-bad : (bytes left next : List ℕ) (line : ℕ) (words first : List ℕ) → HasWords bytes left line words → lines_of left ≡ first ∷ lines_of next → word_of_line first ≡ None → line < 262144 → words_of bytes ≡ Err (BadLine (line + 1))
+pub words_of-bad : (bytes left next : List ℕ) (line : ℕ) (words first : List ℕ) → HasWords bytes left line words → cut_lines left ≡ first ∷ cut_lines next → word_of_line first ≡ None → line < 262144 → words_of bytes ≡ Err (BadLine (line + 1))
 unfolding words_of
 words_of-bad bytes left next line words first has cut none few =
-    let (tail, front) = front_with most_lines has.lines first (lines_of next) (omega (arith, few, has.count)) in
-    let split : lines_of bytes ≡ has.lines ++ first ∷ lines_of next = has.split ∙ ap (λ ls. has.lines ++ ls) cut in
-    bad_lines (lines_of bytes) has.lines first tail line (ap (take most_lines) split ∙ front) has.good (bad_word (word_of_line first) none) has.count
+    let (tail, front) = front_with most_lines has.lines first (cut_lines next) (omega (arith, few, has.count)) in
+    let split : cut_lines bytes ≡ has.lines ++ first ∷ cut_lines next = has.split ∙ ap (λ ls. has.lines ++ ls) cut in
+    bad_lines (cut_lines bytes) has.lines first tail line (ap (take most_lines) split ∙ front) has.good (bad_word (word_of_line first) none) has.count

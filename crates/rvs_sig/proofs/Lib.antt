@@ -1,5 +1,4 @@
 mod Decoding
 mod Differences
-mod Cutting
 mod Counting
 mod Printing

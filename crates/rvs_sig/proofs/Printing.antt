@@ -9,7 +9,7 @@ use Rattle.std.proofs.lemmas.Bool.Decides.{nat_tests}
 use Rattle.std.proofs.lemmas.Str.Ascii.{IsAscii-nil, IsAscii-cons}
 use Rattle.hex.specs.Hex.{hex_digit_value}
 use Rattle.rvs_base.specs.Number.{hex_digit_of, hex_digit_at, hex_word_of}
-use Rattle.rvs_sig.specs.Lines.{lines_of, onto_first}
+use Rattle.rvs_base.specs.Lines.{cut_lines, onto_first}
 use Rattle.rvs_sig.specs.Words.{value_onto, word_of_line, text_of_words, words_of_lines, words_of}
 use Rattle.rvs_sig.proofs.Counting.{good_lines, good_word, is_bad}
 
@@ -56,17 +56,17 @@ word_of_line-printed word small =
     let none : word / 16 ^ 8 ≡ 0 = omega arith in
     ap (λ n. value_onto n (map (hex_digit_at word) (7 ∷ 6 ∷ 5 ∷ 4 ∷ 3 ∷ 2 ∷ 1 ∷ 0 ∷ []))) (sym none) ∙ value_onto-digits word 7
 
-lines_of-digits : (word : ℕ) (places rest : List ℕ) → lines_of (map (hex_digit_at word) places ++ 10 ∷ rest) ≡ map (hex_digit_at word) places ∷ lines_of rest
-lines_of-digits word [] rest = refl
-lines_of-digits word (place ∷ places) rest = rw (no_feed (word / 16 ^ place % 16) (is_digit (word / 16 ^ place))) (ap (onto_first (hex_digit_at word place)) (lines_of-digits word places rest))
+cut_lines-digits : (word : ℕ) (places rest : List ℕ) → cut_lines (map (hex_digit_at word) places ++ 10 ∷ rest) ≡ map (hex_digit_at word) places ∷ cut_lines rest
+cut_lines-digits word [] rest = refl
+cut_lines-digits word (place ∷ places) rest = rw (no_feed (word / 16 ^ place % 16) (is_digit (word / 16 ^ place))) (ap (onto_first (hex_digit_at word place)) (cut_lines-digits word places rest))
 
-lines_of-word : (word : ℕ) (rest : List ℕ) → lines_of (hex_word_of word ++ 10 ∷ rest) ≡ hex_word_of word ∷ lines_of rest
+cut_lines-word : (word : ℕ) (rest : List ℕ) → cut_lines (hex_word_of word ++ 10 ∷ rest) ≡ hex_word_of word ∷ cut_lines rest
 unfolding hex_word_of
-lines_of-word word rest = lines_of-digits word (7 ∷ 6 ∷ 5 ∷ 4 ∷ 3 ∷ 2 ∷ 1 ∷ 0 ∷ []) rest
+cut_lines-word word rest = cut_lines-digits word (7 ∷ 6 ∷ 5 ∷ 4 ∷ 3 ∷ 2 ∷ 1 ∷ 0 ∷ []) rest
 
-lines_of-text : (words : List ℕ) → lines_of (text_of_words words) ≡ map hex_word_of words
-lines_of-text [] = refl
-lines_of-text (word ∷ words) = ap lines_of (append_assoc (hex_word_of word) (10 ∷ []) (text_of_words words)) ∙ lines_of-word word (text_of_words words) ∙ ap (λ ls. hex_word_of word ∷ ls) (lines_of-text words)
+cut_lines-text : (words : List ℕ) → cut_lines (text_of_words words) ≡ map hex_word_of words
+cut_lines-text [] = refl
+cut_lines-text (word ∷ words) = ap cut_lines (append_assoc (hex_word_of word) (10 ∷ []) (text_of_words words)) ∙ cut_lines-word word (text_of_words words) ∙ ap (λ ls. hex_word_of word ∷ ls) (cut_lines-text words)
 
 pub record AreWords (words : List ℕ) : Type 0 where
   pub each : (k : ℕ) → get_or words k 0 < 2 ^ 32
@@ -90,7 +90,7 @@ length-words (word ∷ words) = ap (λ n. suc n) (length-words words)
 pub words_of-text : (words : List ℕ) → AreWords words → length words ≤ 262144 → words_of (text_of_words words) ≡ Ok words
 unfolding words_of
 words_of-text words are few =
-    ap words_of_lines (lines_of-text words) ∙ good_lines (map hex_word_of words) (record { each = good_at words are }) (omega (arith, few, length-words words)) ∙ ap Ok (read_each words are)
+    ap words_of_lines (cut_lines-text words) ∙ good_lines (map hex_word_of words) (record { each = good_at words are }) (omega (arith, few, length-words words)) ∙ ap Ok (read_each words are)
 
 ascii_digits : (word : ℕ) (places rest : List ℕ) → IsAscii rest → IsAscii (map (hex_digit_at word) places ++ rest)
 ascii_digits word [] rest ascii = ascii

@@ -3,7 +3,7 @@ use Rattle.std.specs.Prelude.{ℕ, ◌+◌, ◌*◌, ◌==◌, ◌&&◌, nat_lt,
 use Rattle.std.specs.List.{filter_map, flat_map}
 use Rattle.hex.specs.Hex.{hex_digit_value}
 use Rattle.rvs_base.specs.Number.{hex_word_of}
-use Rattle.rvs_sig.specs.Lines.{lines_of}
+use Rattle.rvs_base.specs.Lines.{cut_lines}
 use Rattle.rvs_sig.specs.declared.words.SigRefusal.{SigRefusal}
 use Rattle.rvs_sig.specs.declared.words.SigRefusal.TheVariants.{BadLine, TooLong}
 
@@ -45,7 +45,7 @@ words_of_lines lines = words_unless_bad lines (first_bad (take most_lines lines)
 
 -- the words of a file, or why it has none
 unfoldable pub words_of : List ℕ → Result (List ℕ) SigRefusal
-words_of bytes = words_of_lines (lines_of bytes)
+words_of bytes = words_of_lines (cut_lines bytes)
 
 -- words as text, one a line
 abbrev pub text_of_words : List ℕ → List ℕ

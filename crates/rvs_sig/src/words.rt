@@ -1,9 +1,8 @@
 // The words of a signature file.
-ghost use Rattle.std.specs.Prelude.{◌≡◌, ◌==◌, ◌<◌, ◌≤◌, ◌⊎◌, ◌∷◌, IfErr, IfOk, IfSome, length, position};
-ghost use Rattle.rvs_sig.specs.Lines.{lines_of};
+ghost use Rattle.std.specs.Prelude.{◌≡◌, ◌≤◌, ◌⊎◌, IfErr, IfOk, length};
 ghost use Rattle.rvs_sig.specs.Words.{digits_of_line, text_of_words, word_of_line, words_of};
 
-use rvs_base::{Items, NoMemory, Text, hex_word};
+use rvs_base::{Items, NoMemory, Text, first_line, hex_word};
 use std::alloc::Global;
 
 const MOST_LINES: u32 = 262_144;
@@ -44,12 +43,11 @@ pub fn read_words(alloc: Global, bytes: &[u8]) -> Result<Items<u32>, SigRefusal>
     let mut words = Items::new(alloc);
     let mut left = bytes;
     let mut line = 0;
-    while !left.is_empty() {
+    while let Some((first, rest)) = first_line(left) {
         if line == MOST_LINES {
             return Err(SigRefusal::TooLong);
         }
         line += 1;
-        let (first, rest) = split_line(left);
         match read_line(first) {
             None => return Err(SigRefusal::BadLine { line }),
             Some(word) => words.push(word)?,
@@ -74,25 +72,6 @@ pub fn print_words(alloc: Global, words: &[u32]) -> Result<Text, NoMemory>
         bytes.push(b'\n')?;
     }
     Ok(Text::from(String::from_utf8(bytes).unwrap()))
-}
-
-/// The first line without its line feed, and what follows.
-fn split_line(bytes: &[u8]) -> (&[u8], &[u8])
-    requires { 0 < length bytes.now }
-    ensures lines { lines_of bytes.now ≡ result.0.now ∷ lines_of result.1.now }
-    ensures shorter { length result.1.now < length bytes.now }
-{
-    match line_feed(bytes) {
-        Some(end) => (&bytes[..end], &bytes[end + 1..]),
-        None => (bytes, &[]),
-    }
-}
-
-fn line_feed(bytes: &[u8]) -> Option<usize>
-    ensures first { result ≡ position (λ byte. byte == 10) bytes.now }
-    ensures within { IfSome result (λ end. end < length bytes.now) }
-{
-    bytes.iter().position(|byte| *byte == b'\n')
 }
 
 fn read_line(line: &[u8]) -> Option<u32>
