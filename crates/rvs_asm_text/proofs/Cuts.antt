@@ -4,7 +4,8 @@ use Rattle.std.proofs.Math.Seq.{take-suc, take-length}
 use Rattle.std.proofs.lemmas.List.Sums.{sum_by-cons}
 use Rattle.std.proofs.lemmas.Bool.Decides.{nat_tests}
 use Rattle.std.specs.Prelude.{map, ◌==◌, count_by}
-use Rattle.rvs_asm_text.specs.Text.{before, after, onto_first, cut_lines, without_return, lines_of, is_blank, keep_end, trim_end, trim, trim_all, parts, operands_left}
+use Rattle.rvs_base.specs.Lines.{before, after, onto_first}
+use Rattle.rvs_asm_text.specs.Text.{is_blank, keep_end, trim_end, trim, trim_all, parts, operands_left}
 
 -- a text that ends in a byte
 pub trim_end-append : (cs : List ℕ) (c : ℕ) → trim_end (cs ++ c ∷ []) ≡ cond (is_blank c) (trim_end cs) (cs ++ c ∷ [])
@@ -15,36 +16,6 @@ trim_end-append (x ∷ xs) c = ap (keep_end x) (trim_end-append xs c) ∙ kept (
     kept true x xs c = refl
     kept false x [] c = refl
     kept false x (y ∷ ys) c = refl
-
-pub without_return-append : (cs : List ℕ) (c : ℕ) → without_return (cs ++ c ∷ []) ≡ cond (c == 13) cs (cs ++ c ∷ [])
-without_return-append [] c = refl
-without_return-append (x ∷ []) c = turn (c == 13)
-  where
-    turn : (b : Bool) → x ∷ cond b [] (c ∷ []) ≡ cond b (x ∷ []) (x ∷ c ∷ [])
-    turn true = refl
-    turn false = refl
-without_return-append (x ∷ y ∷ ys) c = ap (λ l. x ∷ l) (without_return-append (y ∷ ys) c) ∙ turn (c == 13)
-  where
-    turn : (b : Bool) → x ∷ cond b (y ∷ ys) (y ∷ ys ++ c ∷ []) ≡ cond b (x ∷ y ∷ ys) (x ∷ y ∷ ys ++ c ∷ [])
-    turn true = refl
-    turn false = refl
-
--- the first line and the lines after it
-abbrev pub lines_after : Option (List ℕ) → List (List ℕ)
-lines_after None = []
-lines_after (Some rest) = cut_lines rest
-
-pub cut_lines-cons : (c : ℕ) (cs : List ℕ) → cut_lines (c ∷ cs) ≡ before 10 (c ∷ cs) ∷ lines_after (after 10 (c ∷ cs))
-cut_lines-cons c [] = turn (c == 10)
-  where
-    turn : (b : Bool) → cond b ([] ∷ []) ((c ∷ []) ∷ []) ≡ cond b [] (c ∷ []) ∷ lines_after (cond b (Some []) None)
-    turn true = refl
-    turn false = refl
-cut_lines-cons c (d ∷ ds) = turn (c == 10) (cut_lines (d ∷ ds)) (cut_lines-cons d ds)
-  where
-    turn : (b : Bool) (ls : List (List ℕ)) → ls ≡ before 10 (d ∷ ds) ∷ lines_after (after 10 (d ∷ ds)) → cond b ([] ∷ cut_lines (d ∷ ds)) (onto_first c ls) ≡ cond b [] (c ∷ before 10 (d ∷ ds)) ∷ lines_after (cond b (Some (d ∷ ds)) (after 10 (d ∷ ds)))
-    turn true ls e = refl
-    turn false ls e = ap (onto_first c) e
 
 -- the first part and the parts after it
 abbrev pub parts_after : Option (List ℕ) → List (List ℕ)
@@ -81,48 +52,6 @@ trim_stop cs n p h b =
     ∙ trim_end-take cs (n - 1) (omega arith)
     ∙ ap (λ t. cond t (trim_end (take (n - 1) cs)) (take (suc (n - 1)) cs)) b
     ∙ ap (λ m. take m cs) (sym (one_less n p))
-
-returned : (cs : List ℕ) → 0 < length cs → without_return cs ≡ cond (get_or cs (length cs - 1) 0 == 13) (take (length cs - 1) cs) cs
-returned cs p =
-    let k = length cs - 1 in
-    let h : k < length cs = omega arith in
-    let whole : take (suc k) cs ≡ cs = ap (λ m. take m cs) (sym (one_less (length cs) p)) ∙ take-length cs in
-    let split : cs ≡ take k cs ++ get_or cs k 0 ∷ [] = sym whole ∙ take-suc cs k 0 h in
-    ap without_return split
-    ∙ without_return-append (take k cs) (get_or cs k 0)
-    ∙ ap (λ l. cond (get_or cs k 0 == 13) (take k cs) l) (sym split)
-
-pub return_dropped : (cs : List ℕ) → 0 < length cs → get_or cs (length cs - 1) 0 ≡ 13 → without_return cs ≡ take (length cs - 1) cs
-return_dropped cs p e = returned cs p ∙ ap (λ t. cond t (take (length cs - 1) cs) cs) (ap (λ c. c == 13) e)
-
-pub no_return : (cs : List ℕ) → 0 < length cs → (get_or cs (length cs - 1) 0 ≢ 13) → without_return cs ≡ cs
-no_return cs p e = returned cs p ∙ ap (λ t. cond t (take (length cs - 1) cs) cs) (not_equal (get_or cs (length cs - 1) 0) e)
-  where
-    not_equal : (c : ℕ) → c ≢ 13 → (c == 13) ≡ false
-    not_equal c e = grind (arith, nat_tests)
-
-pub no_return_empty : (cs : List ℕ) → length cs ≤ 0 → without_return cs ≡ cs
-no_return_empty [] h = refl
-no_return_empty (c ∷ cs) h = absurd (omega arith)
-
--- ---- a text that isn't empty
-pub lines_of-cut : (cs : List ℕ) → 0 < length cs → lines_of cs ≡ without_return (before 10 cs) ∷ map without_return (lines_after (after 10 cs))
-lines_of-cut [] h = absurd (omega arith)
-lines_of-cut (c ∷ cs) h = ap (map without_return) (cut_lines-cons c cs)
-
-pub after-shorter : (b : ℕ) (cs rest : List ℕ) → after b cs ≡ Some rest → length rest < length cs
-after-shorter b [] rest e = cc
-after-shorter b (c ∷ cs) rest e = turn (c == b) e (λ h. after-shorter b cs rest h)
-  where
-    turn : (t : Bool) → cond t (Some cs) (after b cs) ≡ Some rest → (after b cs ≡ Some rest → length rest < length cs) → length rest < suc (length cs)
-    turn true e shorter = let same : cs ≡ rest = cc in omega (arith, ap length same)
-    turn false e shorter = let h = shorter e in omega (arith, h)
-
-pub lines_split : (cs l rest : List ℕ) → 0 < length cs → l ≡ without_return (before 10 cs) → after 10 cs ≡ Some rest → lines_of cs ≡ l ∷ lines_of rest
-lines_split cs l rest h e a = lines_of-cut cs h ∙ ap (λ x. x ∷ map without_return (lines_after (after 10 cs))) (sym e) ∙ ap (λ o. l ∷ map without_return (lines_after o)) a
-
-pub lines_end : (cs l : List ℕ) → 0 < length cs → l ≡ without_return (before 10 cs) → after 10 cs ≡ None → lines_of cs ≡ l ∷ []
-lines_end cs l h e a = lines_of-cut cs h ∙ ap (λ x. x ∷ map without_return (lines_after (after 10 cs))) (sym e) ∙ ap (λ o. l ∷ map without_return (lines_after o)) a
 
 pub operands_left-cut : (t : List ℕ) → operands_left (Some t) ≡ trim (before 44 t) ∷ operands_left (after 44 t)
 operands_left-cut t = ap trim_all (parts-cut t) ∙ turn (after 44 t)

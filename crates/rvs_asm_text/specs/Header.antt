@@ -1,8 +1,8 @@
 -- The number of steps that a text's header allows.
-use Rattle.std.specs.Prelude.{ℕ, ◌==◌, ◌&&◌, nat_le, Option, Some, None, List, [], ◌∷◌, length, if◌then◌else◌, option_and_then, codes}
+use Rattle.std.specs.Prelude.{ℕ, ◌==◌, ◌&&◌, nat_le, Option, Some, None, List, [], ◌∷◌, if◌then◌else◌, option_and_then, codes}
 use Rattle.std.specs.Option.{option_or}
 use Rattle.rvs_asm_text.specs.Text.{lines_of}
-use Rattle.rvs_asm_text.specs.Numbers.{digits_of}
+use Rattle.rvs_base.specs.Digits.{short_number}
 
 -- what follows a front, where the text has it
 abbrev pub after_front : List ℕ → List ℕ → Option (List ℕ)
@@ -16,7 +16,7 @@ allowed n = if nat_le 1 n && nat_le n 2000000 then Some n else None
 
 -- one to seven digits
 abbrev pub steps_number : List ℕ → Option ℕ
-steps_number text = if nat_le (length text) 7 then option_and_then allowed (digits_of 10 text) else None
+steps_number text = option_and_then allowed (short_number 7 10 text)
 
 abbrev pub steps_line : List ℕ → Option ℕ
 steps_line line = option_and_then steps_number (after_front (codes "#! steps ") line)

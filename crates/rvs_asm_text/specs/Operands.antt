@@ -2,7 +2,8 @@
 use Rattle.std.specs.Prelude.{ℕ, ◌==◌, ◌&&◌, ◌||◌, nat_le, Bool, true, false, Option, Some, None, List, [], ◌∷◌, if◌then◌else◌, option_and_then, codes}
 use Rattle.std.specs.List.{list_all}
 use Rattle.std.specs.Str.{bytes_eq}
-use Rattle.rvs_asm_text.specs.Text.{before, after, trim}
+use Rattle.rvs_base.specs.Lines.{before, after}
+use Rattle.rvs_asm_text.specs.Text.{trim}
 
 abbrev pub is_letter : ℕ → Bool
 is_letter c = (nat_le 65 c && nat_le c 90) || (nat_le 97 c && nat_le c 122)

@@ -1,11 +1,11 @@
 -- How a register is written: x0 to x31, or its name in the calling convention.
-use Rattle.std.specs.Prelude.{ℕ, ◌==◌, Option, None, List, [], ◌∷◌, if◌then◌else◌, option_and_then, codes}
+use Rattle.std.specs.Prelude.{ℕ, ◌==◌, Bool, false, Option, None, List, [], ◌∷◌, if◌then◌else◌, codes}
 use Rattle.std.specs.Option.{option_map, option_or}
 use Rattle.std.specs.List.{find}
 use Rattle.std.specs.Str.{bytes_eq}
 use Rattle.rvs_asm_text.specs.declared.registers.AbiName.{AbiName}
 use Rattle.rvs_asm_text.specs.declared.registers.AbiName.TheVariants.{Zero, Ra, Sp, Gp, Tp, T0, T1, T2, S0, Fp, S1, A0, A1, A2, A3, A4, A5, A6, A7, S2, S3, S4, S5, S6, S7, S8, S9, S10, S11, T3, T4, T5, T6}
-use Rattle.rvs_asm_text.specs.Numbers.{below, spelled}
+use Rattle.rvs_base.specs.Digits.{number_below}
 
 -- the names of the calling convention, and the registers that they are
 abbrev pub abi_name : AbiName → List ℕ
@@ -85,12 +85,13 @@ abi_names = Zero ∷ Ra ∷ Sp ∷ Gp ∷ Tp ∷ T0 ∷ T1 ∷ T2 ∷ S0 ∷ Fp 
 unfoldable pub abi_of : List ℕ → Option AbiName
 abi_of text = find (λ a. bytes_eq (abi_name a) text) abi_names
 
+abbrev pub has_leading_zero : List ℕ → Bool
+has_leading_zero (c ∷ d ∷ cs) = c == 48
+has_leading_zero _ = false
+
 -- 0 to 31, without leading zeros
 abbrev pub register_digits : List ℕ → Option ℕ
-register_digits [] = None
-register_digits (c ∷ []) = spelled 10 0 (c ∷ [])
-register_digits (c ∷ d ∷ []) = if c == 48 then None else option_and_then (below 32) (spelled 10 0 (c ∷ d ∷ []))
-register_digits (c ∷ d ∷ e ∷ cs) = None
+register_digits text = if has_leading_zero text then None else number_below 32 10 text
 
 -- the digits after an x
 abbrev pub numbered : List ℕ → Option ℕ

@@ -4,7 +4,8 @@ ghost use Rattle.std.specs.Option.{option_copied};
 ghost use Rattle.rvs_asm_text.specs.Text.{operands};
 ghost use Rattle.rvs_asm_text.specs.Operands.{brackets_of, only, pair, triple};
 
-use crate::cutting::{cut, trimmed};
+use crate::cutting::trimmed;
+use rvs_base::cut;
 use std::marker::Model;
 
 /// The operands of a statement that are left. Contracts see them as the list of their texts.

@@ -1,20 +1,8 @@
 // Where texts are cut.
-ghost use Rattle.std.specs.Prelude.{◌≡◌, ◌<◌, ◌∷◌, ◌++◌, List, [], Option, Some, None, length, MatchOption, take, drop};
-ghost use Rattle.std.specs.Option.{option_copied};
-ghost use Rattle.rvs_asm_text.specs.Text.{before, after, is_blank, drop_blanks, trim_end, trim, first_word, after_word, without_return, lines_of};
+ghost use Rattle.std.specs.Prelude.{◌≡◌, ◌<◌, ◌∷◌, [], length, MatchOption};
+ghost use Rattle.rvs_asm_text.specs.Text.{is_blank, drop_blanks, trim_end, trim, first_word, after_word, lines_of};
 
-/// The text before the first such byte, or all of it; and the text after that byte, where there is one.
-pub fn cut(text: &[u8], byte: u8) -> (&[u8], Option<&[u8]>)
-    ensures front { result.0.now ≡ before byte text.now }
-    ensures back { option_copied result.1 ≡ after byte text.now }
-{
-    for (i, c) in text.iter().enumerate() {
-        if *c == byte {
-            return (&text[..i], Some(&text[i + 1..]));
-        }
-    }
-    (text, None)
-}
+use rvs_base::without_return;
 
 /// Whether a byte is a space or a tab.
 pub fn is_blank_byte(c: u8) -> bool
@@ -68,29 +56,14 @@ pub fn first_word_and_rest(text: &[u8]) -> (&[u8], &[u8])
     (text, &[])
 }
 
-/// The line without one carriage return at its end.
-fn without_carriage_return(line: &[u8]) -> &[u8]
-    ensures { result.now ≡ without_return line.now }
-{
-    let end = line.len();
-    if end > 0 && line[end - 1] == b'\r' {
-        &line[..end - 1]
-    } else {
-        line
-    }
-}
-
-/// The first line of a text and the text after it; None where the text is empty.
+/// The first line of a text and the text after it; None where the text is empty. One carriage
+/// return at a line's end is dropped, also at that of the last.
 pub fn first_line(text: &[u8]) -> Option<(&[u8], &[u8])>
     ensures lines { MatchOption result (text.now ≡ []) (λ r. lines_of text.now ≡ r.0.now ∷ lines_of r.1.now) }
     ensures shorter { MatchOption result (text.now ≡ []) (λ r. length r.1.now < length text.now) }
 {
-    if text.is_empty() {
-        return None;
-    }
-    let (line, rest) = cut(text, b'\n');
-    match rest {
-        Some(rest) => Some((without_carriage_return(line), rest)),
-        None => Some((without_carriage_return(line), &[])),
+    match rvs_base::first_line(text) {
+        Some((line, rest)) => Some((without_return(line), rest)),
+        None => None,
     }
 }

@@ -4,16 +4,13 @@ ghost use Rattle.std.specs.Option.{option_copied};
 ghost use Rattle.rvs_asm_text.specs.Header.{after_front, steps_number, steps_line, header_steps};
 
 use crate::cutting::first_line;
-use crate::numbers::digits;
+use rvs_base::short_number;
 
 /// The number of steps that digits allow: one to seven of them, from 1 to 2,000,000.
 fn allowed_steps(text: &[u8]) -> Option<u64>
     ensures { result ≡ steps_number text.now }
 {
-    if text.len() > 7 {
-        return None;
-    }
-    let steps = digits(10, text)?;
+    let steps = short_number(7, 10, text)?;
     if steps >= 1 && steps <= 2_000_000 {
         Some(steps)
     } else {

@@ -14,12 +14,12 @@ mod registers;
 
 pub use arguments::{Bracketed, Operands};
 pub use bodies::{Body, Line, LineFault, Link, Value};
-pub use cutting::{cut, first_line, first_word_and_rest, trimmed};
+pub use cutting::{first_line, first_word_and_rest, trimmed};
 pub use directives::read_value;
 pub use header::steps_of_header;
 pub use instructions::fits_field;
 pub use names::Name;
-pub use numbers::{digits, number};
+pub use numbers::number;
 pub use reading::read_line;
 pub use registers::register;
 

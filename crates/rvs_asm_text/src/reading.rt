@@ -9,10 +9,11 @@ ghost use Rattle.rvs_asm_text.specs.Lines.{by_word, statement_of, statement_in, 
 
 use crate::arguments::Operands;
 use crate::bodies::{Body, Line, LineFault};
-use crate::cutting::{cut, first_word_and_rest, trimmed};
+use crate::cutting::{first_word_and_rest, trimmed};
 use crate::directives::{Directive, read_directed, read_directive, read_section};
 use crate::instructions::{Mnemonic, read_instruction, read_mnemonic};
 use crate::names::Name;
+use rvs_base::cut;
 
 /// Whether all bytes may stand outside a comment: tabs and printable ASCII.
 fn all_printable(text: &[u8]) -> bool

@@ -1,7 +1,8 @@
 // Registers.
 ghost use Rattle.std.specs.Prelude.{◌≡◌, ◌<◌, IfSome};
-ghost use Rattle.rvs_asm_text.specs.Numbers.{digit_of};
-ghost use Rattle.rvs_asm_text.specs.Registers.{abi_name, abi_number, abi_of, register_digits, register_of};
+ghost use Rattle.rvs_asm_text.specs.Registers.{abi_name, abi_number, abi_of, has_leading_zero, register_digits, register_of};
+
+use rvs_base::number_below;
 
 /// The names of the calling convention for integer registers.
 #[derive(Debug, Clone, Copy, PartialEq, Eq)]
@@ -144,14 +145,13 @@ fn abi(text: &[u8]) -> Option<AbiName>
         .find(|name| written(*name).as_bytes() == text)
 }
 
-/// The value of a decimal digit.
-fn decimal_digit(c: u8) -> Option<u8>
-    ensures value { result ≡ digit_of 10 c }
-    ensures low { IfSome result (λ d. d < 10) }
+/// Whether the first of several digits is 0.
+fn has_leading_zero(text: &[u8]) -> bool
+    ensures { result ≡ has_leading_zero text.now }
 {
-    match c {
-        b'0'..=b'9' => Some(c - b'0'),
-        _ => None,
+    match text {
+        [first, _, ..] => *first == b'0',
+        _ => false,
     }
 }
 
@@ -160,19 +160,12 @@ fn digits_register(text: &[u8]) -> Option<u8>
     ensures value { result ≡ register_digits text.now }
     ensures low { IfSome result (λ r. r < 32) }
 {
-    match text {
-        [c] => decimal_digit(*c),
-        [c, d] => {
-            let tens = decimal_digit(*c)?;
-            let ones = decimal_digit(*d)?;
-            let register = tens * 10 + ones;
-            if tens == 0 || register >= 32 {
-                None
-            } else {
-                Some(register)
-            }
-        }
-        _ => None,
+    if has_leading_zero(text) {
+        return None;
+    }
+    match number_below(32, 10, text) {
+        Some(register) => Some(register as u8),
+        None => None,
     }
 }
 

@@ -37,6 +37,18 @@ pub fn short_number(most: usize, radix: u32, digits: &[u8]) -> Option<u64>
     number_below(u64::MAX, radix, digits)
 }
 
+/// The number below a limit that decimal digits, or `0x` and hexadecimal digits, spell.
+pub fn natural_below(limit: u64, text: &[u8]) -> Option<u64>
+    requires { 0 < limit }
+    ensures value { result ≡ spec.natural_below limit text.now }
+    ensures small { IfSome result (λ n. n < limit) }
+{
+    match text.strip_prefix(b"0x") {
+        Some(digits) => number_below(limit, 16, digits),
+        None => number_below(limit, 10, text),
+    }
+}
+
 /// The number of the digits so far and this one.
 fn with_digit(limit: u64, radix: u32, value: u64, byte: u8) -> Option<u64>
     requires lower { 2 ≤ radix }

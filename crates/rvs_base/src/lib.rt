@@ -18,7 +18,7 @@ mod tests;
 mod text;
 
 pub use answers::{Answer, Leaves};
-pub use digits::{number_below, short_number};
+pub use digits::{natural_below, number_below, short_number};
 pub use file::{FileRefusal, read_file};
 pub use host::{DeviceRun, Failed, Host, OpenFault};
 pub use items::{Bytes, Items};

@@ -1,6 +1,7 @@
 use Rattle.std.proofs.Common.{sym, ap, ◌∙◌, ◌∷◌}
 use Rattle.std.specs.Option.{option_copied}
-use Rattle.rvs_asm_text.specs.Text.{after, trim, operands_left}
+use Rattle.rvs_base.specs.Lines.{after}
+use Rattle.rvs_asm_text.specs.Text.{trim, operands_left}
 use Rattle.rvs_asm_text.proofs.Cuts.{operands_left-cut}
 use Rattle.rvs_asm_text.proofs.arguments.Operands.next.Goals as goal
 
