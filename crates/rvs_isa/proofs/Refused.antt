@@ -2,6 +2,7 @@
 use Rattle.std.proofs.Common.{◌≡◌, ℕ, List, [], ◌∷◌, Err, codes, refl}
 use Rattle.std.specs.Fmt.{digits}
 use Rattle.std.proofs.lemmas.List.Elements.{All-contains, All-from_recursion}
+use Rattle.rvs_base.specs.Digits.{digits_of}
 use Rattle.rvs_tree.specs.Data.{Data, scalar, sequence, mapping, Entries, no_entries, entry, item, no_items}
 use Rattle.rvs_isa.specs.declared.refusal.IsaKind.{IsaKind}
 use Rattle.rvs_isa.specs.declared.refusal.IsaKind.TheVariants.{NotAMapping, MissingEntry, BadXlen, BadAddressSize, BadTruth, BadNumber}
@@ -32,7 +33,7 @@ abbrev hart : List ℕ
 hart = codes "hart0"
 
 pub read_are_refused : ReadAreRefused
-unfolding digits
+unfolding digits digits_of
 read_are_refused path c =
     All-contains IsRefusedAt (read_paths (hart_key 0)) path (All-from_recursion IsRefusedAt (read_paths (hart_key 0)) (
       refused [] NotAMapping bad refl,

@@ -1,6 +1,7 @@
 -- The definitions on single texts and trees.
 use Rattle.std.proofs.Common.{◌≡◌, true, false, [], ◌∷◌, Some, None, Ok, Err, codes, refl}
 use Rattle.std.specs.Fmt.{digits}
+use Rattle.rvs_base.specs.Digits.{digits_of}
 use Rattle.rvs_tree.specs.Data.{Data, Entries, scalar, sequence, mapping, no_items, item, no_entries, entry}
 use Rattle.rvs_isa.specs.declared.refusal.IsaKind.TheVariants.{BadIsaText, UnsupportedExtension, MisaDisagrees, HartCount}
 use Rattle.rvs_isa.specs.Number.{number}
@@ -8,6 +9,7 @@ use Rattle.rvs_isa.specs.IsaText.{extensions_in}
 use Rattle.rvs_isa.specs.Check.{checked}
 
 numbers : (number (codes "0032") ≡ Some 32) × (number (codes "0xfFfFffff") ≡ Some 4294967295) × (number (codes "4294967296") ≡ None) × (number (codes "0X20") ≡ None) × (number (codes "0x") ≡ None) × (number [] ≡ None)
+unfolding digits_of
 numbers = (refl, refl, refl, refl, refl, refl)
 
 extension_c : extensions_in (codes "RV32IMC") ≡ Err UnsupportedExtension
@@ -46,12 +48,12 @@ one_unread : checked (file (entry (codes "User_Spec_Version") (scalar (codes "2.
       spec = record { e = false; m = true; a = false; zicsr = false; zifencei = false; misaligned = false; address_bits = 32 };
       unread = codes "hart0.User_Spec_Version" ∷ [];
     })
-unfolding digits file
+unfolding digits digits_of file
 one_unread = refl
 
 misa_disagrees : checked (file (entry (codes "misa") (mapping (entry (codes "reset-val") (scalar (codes "0x40000100") 5) no_entries) 5) no_entries))
     ≡ Err (record { path = codes "hart0.misa.reset-val"; kind = MisaDisagrees 0x40000100 0x40001100 })
-unfolding digits file
+unfolding digits digits_of file
 misa_disagrees = refl
 
 length_first : checked (mapping (entry (codes "hart_ids") (sequence (item (scalar (codes "0") 1) (item (scalar (codes "x") 1) no_items)) 1) no_entries) 1)
