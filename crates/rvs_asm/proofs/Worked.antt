@@ -3,6 +3,7 @@ use Rattle.std.proofs.Common.{◌≡◌, ℕ, true, false, List, [], ◌∷◌, 
 use Rattle.std.specs.Prelude.{codes, Ok, Err, pos}
 use Rattle.rvs_insn.specs.Isa.{Isa}
 use Rattle.rvs_insn.specs.Names.{op_of_name}
+use Rattle.rvs_base.specs.Digits.{digits_of}
 use Rattle.rvs_asm_text.specs.Text.{tokens}
 use Rattle.rvs_asm_text.specs.Registers.{abi_of}
 use Rattle.rvs_asm_text.specs.Directives.{directive_of}
@@ -29,10 +30,10 @@ row : answer rv32im request_text ≡ Ok (record {
   sig_end = 0x8100_0004;
   symbols = record { name = codes "begin_signature"; at = 0x8100_0000 } ∷ record { name = codes "end_signature"; at = 0x8100_0004 } ∷ record { name = codes "tohost"; at = 0x8100_0004 } ∷ [];
 })
-unfolding answer tokens read_line op_of_name directive_of abi_of rv32im
+unfolding digits_of answer tokens read_line op_of_name directive_of abi_of rv32im
 row = refl
 
 -- a number outside its field is refused with its line
 out_of_range : answer rv32im (codes "nop" ++ newline ++ codes "addi x1, x0, 2048") ≡ Err (record { line = 2; kind = OutOfRange (pos 2048) })
-unfolding answer tokens read_line op_of_name directive_of abi_of rv32im
+unfolding digits_of answer tokens read_line op_of_name directive_of abi_of rv32im
 out_of_range = refl
