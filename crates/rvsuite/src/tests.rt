@@ -1,11 +1,12 @@
 // Runs over real files and processes.
 use crate::host::RealHost;
 use crate::sink::RealSink;
-use rvs_base::{Items, MemorySink, Sink};
+use rvs_base::{Items, MemorySink, Sink, put_all};
 use rvs_plan::Status;
 use rvs_suite::run_suite;
 use std::alloc::Global;
 use std::fs::{self, File};
+use std::io::{self, Write};
 use std::test::Fail;
 
 /// Runs words that have one space between them.
@@ -44,6 +45,21 @@ const FAULTS: [(&str, &str); 3] = [
         "rvsuite: cannot write absent/add.S\n",
     ),
 ];
+
+/// A file that takes three bytes at most at a call.
+#[derive(Drop)]
+struct Narrow(File);
+
+impl Write for Narrow {
+    fn write(&mut self, buf: &[u8]) -> io::Result<usize> {
+        let count = buf.len().min(3);
+        self.0.write(&buf[..count])
+    }
+
+    fn flush(&mut self) -> io::Result<()> {
+        self.0.flush()
+    }
+}
 
 fn write_inputs(rt: &HostRuntime) -> Result<(), Fail> {
     fs::write(rt, "i.yaml", "hart_ids: [0]\nhart0:\n  ISA: RV32IM\n")?;
@@ -88,5 +104,15 @@ fn a_full_stream_is_told(rt: HostRuntime) -> Result<(), Fail> {
     let words = "rvsuite validate --isa i.yaml";
     let ended = run(rt.alloc(), words, &mut host, &mut out, &mut err)?;
     assert_eq!(rt; ended, Status::SinkFault);
+    Ok(())
+}
+
+#[test]
+fn short_writes_go_on(rt: HostRuntime) -> Result<(), Fail> {
+    let mut out = RealSink::new(Narrow(File::create(&rt, "narrow.txt")?));
+    assert_eq!(rt; out.put(b"PASS"), Ok(3));
+    assert_eq!(rt; put_all(&mut out, b"S add 10 words\n"), Ok(()));
+    let text = fs::read_to_string(&rt, "narrow.txt")?;
+    assert_eq!(rt; text.as_str(), "PASS add 10 words\n");
     Ok(())
 }
