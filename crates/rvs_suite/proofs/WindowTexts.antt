@@ -5,34 +5,24 @@ use Rattle.std.proofs.lemmas.Bool.Decides.{nat_tests}
 use Rattle.std.specs.Prelude.{◌==◌, nat_le, nat_lt, map, position, option_and_then}
 use Rattle.std.specs.List.{list_any}
 use Rattle.rvs_base.specs.Number.{hex_digit_of, hex_word_of}
-use Rattle.rvs_log.specs.Grammar.{hex_value}
+use Rattle.rvs_base.specs.Digits.{digits_of}
+use Rattle.rvs_base.proofs.HexDigits.{length-hex_word_of}
+use Rattle.rvs_base.proofs.Readings.{digits_of-hex_word}
 use Rattle.rvs_suite.specs.Windows.{address_of, window_between, window_at, window_of, with_window, all_windows}
 use Rattle.rvs_count.specs.declared.window.Window.{Window}
 use Rattle.rvs_suite.specs.CommandLaws.{window_text, AreWindows, WindowsAreRead}
 use Rattle.rvs_suite.proofs.FirstCuts.{first-at, take-front, drop-front}
 
-record IsHex (code digit : ℕ) : Type 0 where
-  value : hex_value code ≡ Some digit
-  apart : (code == 58) ≡ false
-
-hex : (d : ℕ) → d < 16 → IsHex (hex_digit_of d) d
-hex d h = record { value = grind (arith, nat_tests); apart = grind (arith, nat_tests) }
+apart : (d : ℕ) → d < 16 → (hex_digit_of d == 58) ≡ false
+apart d h = grind (arith, nat_tests)
 
 abbrev address-text : ℕ → List ℕ
 address-text w = codes "0x" ++ hex_word_of w
 
 address-read : (w : ℕ) → w < 2 ^ 32 → address_of (address-text w) ≡ Some w
-unfolding hex_word_of
 address-read w h =
-    let a = hex (w / 16 ^ 7 % 16) (omega arith) in
-    let b = hex (w / 16 ^ 6 % 16) (omega arith) in
-    let c = hex (w / 16 ^ 5 % 16) (omega arith) in
-    let d = hex (w / 16 ^ 4 % 16) (omega arith) in
-    let e = hex (w / 16 ^ 3 % 16) (omega arith) in
-    let f = hex (w / 16 ^ 2 % 16) (omega arith) in
-    let g = hex (w / 16 ^ 1 % 16) (omega arith) in
-    let i = hex (w / 16 ^ 0 % 16) (omega arith) in
-    rw (a.value, b.value, c.value, d.value, e.value, f.value, g.value, i.value) (ap Some (omega arith))
+    let eight : nat_le (length (hex_word_of w)) 8 ≡ true = ap (λ n. nat_le n 8) (length-hex_word_of w) in
+    ap (λ (t : Bool). cond t (digits_of 16 (hex_word_of w)) None) eight ∙ digits_of-hex_word w h
 
 abbrev is-colon : ℕ → Bool
 is-colon byte = byte == 58
@@ -40,15 +30,15 @@ is-colon byte = byte == 58
 no-colon : (w : ℕ) → w < 2 ^ 32 → list_any is-colon (address-text w) ≡ false
 unfolding hex_word_of
 no-colon w h =
-    let a = hex (w / 16 ^ 7 % 16) (omega arith) in
-    let b = hex (w / 16 ^ 6 % 16) (omega arith) in
-    let c = hex (w / 16 ^ 5 % 16) (omega arith) in
-    let d = hex (w / 16 ^ 4 % 16) (omega arith) in
-    let e = hex (w / 16 ^ 3 % 16) (omega arith) in
-    let f = hex (w / 16 ^ 2 % 16) (omega arith) in
-    let g = hex (w / 16 ^ 1 % 16) (omega arith) in
-    let i = hex (w / 16 ^ 0 % 16) (omega arith) in
-    rw (a.apart, b.apart, c.apart, d.apart, e.apart, f.apart, g.apart, i.apart) refl
+    let a = apart (w / 16 ^ 7 % 16) (omega arith) in
+    let b = apart (w / 16 ^ 6 % 16) (omega arith) in
+    let c = apart (w / 16 ^ 5 % 16) (omega arith) in
+    let d = apart (w / 16 ^ 4 % 16) (omega arith) in
+    let e = apart (w / 16 ^ 3 % 16) (omega arith) in
+    let f = apart (w / 16 ^ 2 % 16) (omega arith) in
+    let g = apart (w / 16 ^ 1 % 16) (omega arith) in
+    let i = apart (w / 16 ^ 0 % 16) (omega arith) in
+    rw (a, b, c, d, e, f, g, i) refl
 
 within-text : (front : List ℕ) (byte : ℕ) (back : List ℕ) → nat_lt (length front) (length (front ++ byte ∷ back)) ≡ true
 within-text front byte back = simp length-append (grind (arith, nat_tests))

@@ -1,5 +1,6 @@
 -- What some command lines ask for.
 use Rattle.std.proofs.Common.{◌≡◌, [], ◌∷◌, Some, None, codes, refl}
+use Rattle.rvs_base.specs.Digits.{digits_of}
 use Rattle.rvs_suite.specs.Commands.{command_of, number_of}
 use Rattle.rvs_suite.specs.declared.command.Command.TheVariants.{Unknown, Validate, Reference}
 
@@ -17,6 +18,7 @@ row_dash = refl
 
 -- options stand in any order
 row_any_order : command_of (codes "rvsuite" ∷ codes "reference" ∷ codes "--steps" ∷ codes "0001000" ∷ codes "--signature" ∷ codes "s" ∷ codes "--isa" ∷ codes "i" ∷ codes "--log" ∷ codes "l" ∷ codes "--test" ∷ codes "t" ∷ []) ≡ Reference (codes "i") (codes "t") (codes "s") (Some (codes "l")) (Some 1000)
+unfolding digits_of
 row_any_order = refl
 
 row_plain : command_of (codes "rvsuite" ∷ codes "reference" ∷ codes "--isa" ∷ codes "i" ∷ codes "--test" ∷ codes "t" ∷ codes "--signature" ∷ codes "s" ∷ []) ≡ Reference (codes "i") (codes "t") (codes "s") None None
@@ -29,16 +31,21 @@ row_log_twice : command_of (codes "rvsuite" ∷ codes "reference" ∷ codes "--i
 row_log_twice = refl
 
 row_no_steps : command_of (codes "rvsuite" ∷ codes "reference" ∷ codes "--isa" ∷ codes "i" ∷ codes "--test" ∷ codes "t" ∷ codes "--signature" ∷ codes "s" ∷ codes "--steps" ∷ codes "0" ∷ []) ≡ Unknown
+unfolding digits_of
 row_no_steps = refl
 
 row_too_many_steps : command_of (codes "rvsuite" ∷ codes "reference" ∷ codes "--isa" ∷ codes "i" ∷ codes "--test" ∷ codes "t" ∷ codes "--signature" ∷ codes "s" ∷ codes "--steps" ∷ codes "2000001" ∷ []) ≡ Unknown
+unfolding digits_of
 row_too_many_steps = refl
 
 row_most : number_of (codes "9999999") ≡ Some 9999999
+unfolding digits_of
 row_most = refl
 
 row_eight_digits : number_of (codes "00000001") ≡ None
+unfolding digits_of
 row_eight_digits = refl
 
 row_signed : number_of (codes "+1") ≡ None
+unfolding digits_of
 row_signed = refl

@@ -1,5 +1,6 @@
 -- What the words of a command line ask for.
-use Rattle.std.specs.Prelude.{ℕ, ◌+◌, ◌*◌, ◌-◌, ◌&&◌, nat_le, if◌then◌else◌, List, [], ◌∷◌, length, bytes_eq, Option, Some, None, option_map, option_and_then, codes}
+use Rattle.std.specs.Prelude.{ℕ, ◌-◌, ◌&&◌, nat_le, if◌then◌else◌, List, [], ◌∷◌, length, bytes_eq, Option, Some, None, option_map, option_and_then, codes}
+use Rattle.rvs_base.specs.Digits.{short_number}
 use Rattle.rvs_demo.specs.Sizes.{size_of}
 use Rattle.rvs_suite.specs.Words.{is_positional, pairs_of, values_of, are_known, only, at_most_one}
 use Rattle.rvs_suite.specs.Windows.{windows_of}
@@ -12,14 +13,9 @@ abbrev pub compare_command : List (List ℕ) → Command
 compare_command (left ∷ right ∷ []) = if is_positional left && is_positional right then Compare left right else Unknown
 compare_command words = Unknown
 
--- the number that decimal digits go on from
-abbrev pub number_onto : ℕ → List ℕ → Option ℕ
-number_onto front [] = Some front
-number_onto front (digit ∷ digits) = if nat_le 48 digit && nat_le digit 57 then number_onto (10 * front + (digit - 48)) digits else None
-
 -- a number of one to seven decimal digits
 abbrev pub number_of : List ℕ → Option ℕ
-number_of text = if nat_le 1 (length text) && nat_le (length text) 7 then number_onto 0 text else None
+number_of text = short_number 7 10 text
 
 -- a run has at least one step, and 2,000,000 at most
 abbrev pub within_steps : Option ℕ → Option ℕ

@@ -1,18 +1,12 @@
 -- Windows of addresses on the command line.
 use Rattle.std.specs.Prelude.{ℕ, ◌+◌, ◌*◌, ◌==◌, ◌&&◌, nat_le, nat_lt, if◌then◌else◌, List, [], ◌∷◌, length, take, drop, position, Option, Some, None}
 use Rattle.std.specs.Option.{option_map, option_and_then}
-use Rattle.rvs_log.specs.Grammar.{hex_value}
+use Rattle.rvs_base.specs.Digits.{short_number}
 use Rattle.rvs_count.specs.declared.window.Window.{Window}
-
--- the number that hexadecimal digits go on from
-abbrev pub hex_onto : ℕ → List ℕ → Option ℕ
-hex_onto front [] = Some front
-hex_onto front (digit ∷ digits) = option_and_then (λ value. hex_onto (16 * front + value) digits) (hex_value digit)
 
 -- an address: `0x` and one to eight hexadecimal digits
 abbrev pub address_of : List ℕ → Option ℕ
-address_of (first ∷ second ∷ digits) =
-    if first == 48 && (second == 120 && (nat_le 1 (length digits) && nat_le (length digits) 8)) then hex_onto 0 digits else None
+address_of (first ∷ second ∷ digits) = if first == 48 && second == 120 then short_number 8 16 digits else None
 address_of text = None
 
 abbrev pub window_between : ℕ → ℕ → Option Window

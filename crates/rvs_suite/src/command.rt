@@ -8,7 +8,7 @@ use crate::group_commands::{read_coverage, read_generate, read_normalize, read_r
 use crate::words::{
     Pair, are_known, is_positional, only_value, optional_value, owned, read_pairs, values,
 };
-use rvs_base::{Items, NoMemory, Text};
+use rvs_base::{Items, NoMemory, Text, short_number};
 use rvs_count::Window;
 use rvs_demo::DemoSize;
 use std::alloc::Global;
@@ -262,15 +262,5 @@ fn steps_in(text: &str) -> Option<u64>
 fn read_number(text: &str) -> Option<u64>
     ensures { result ≡ number_of text.now }
 {
-    if text.is_empty() || text.len() > 7 {
-        return None;
-    }
-    let mut number = 0;
-    for digit in text.as_bytes() {
-        match digit {
-            b'0'..=b'9' => number = 10 * number + u64::from(*digit - b'0'),
-            _ => return None,
-        }
-    }
-    Some(number)
+    short_number(7, 10, text.as_bytes())
 }

@@ -1,9 +1,9 @@
 // Windows of addresses on the command line.
 ghost use Rattle.std.specs.Prelude.{◌≡◌, ◌==◌, ◌≤◌, ◌<◌, IfOk, IfSome, length, position};
-ghost use Rattle.rvs_log.specs.Grammar.{hex_value};
-ghost use Rattle.rvs_suite.specs.Windows.{hex_onto, address_of, window_of, all_windows, windows_of};
+ghost use Rattle.rvs_base.specs.Digits.{short_number};
+ghost use Rattle.rvs_suite.specs.Windows.{address_of, window_of, all_windows, windows_of};
 
-use rvs_base::{Items, NoMemory, Text};
+use rvs_base::{Items, NoMemory, Text, short_number};
 use rvs_count::Window;
 use std::alloc::Global;
 
@@ -69,35 +69,19 @@ fn address_in(text: &[u8]) -> Option<u32>
     let [zero, x, digits @ ..] = text else {
         return None;
     };
-    if *zero == b'0' && *x == b'x' && !digits.is_empty() && digits.len() <= 8 {
-        hex_number(digits)
+    if *zero == b'0' && *x == b'x' {
+        word_in(digits)
     } else {
         None
     }
 }
 
-fn hex_number(digits: &[u8]) -> Option<u32>
-    requires { length digits.now ≤ 8 }
-    ensures { result ≡ hex_onto 0 digits.now }
+/// A word: one to eight hexadecimal digits.
+fn word_in(digits: &[u8]) -> Option<u32>
+    ensures { result ≡ short_number 8 16 digits.now }
 {
-    let mut number = 0u64;
-    for digit in digits {
-        match hex_digit(*digit) {
-            None => return None,
-            Some(value) => number = 16 * number + u64::from(value),
-        }
-    }
-    Some(number as u32)
-}
-
-fn hex_digit(byte: u8) -> Option<u8>
-    ensures value { result ≡ hex_value byte }
-    ensures small { IfSome result (λ value. value < 16) }
-{
-    match byte {
-        b'0'..=b'9' => Some(byte - b'0'),
-        b'a'..=b'f' => Some(byte - b'a' + 10),
-        b'A'..=b'F' => Some(byte - b'A' + 10),
-        _ => None,
+    match short_number(8, 16, digits) {
+        Some(word) => Some(word as u32),
+        None => None,
     }
 }

@@ -10,7 +10,8 @@ use Rattle.rvs_insn.specs.declared.op.Format.TheVariants.{Branch, Jump}
 use Rattle.rvs_insn.specs.Isa.{Isa}
 use Rattle.rvs_insn.specs.Table.{row}
 use Rattle.rvs_asm_text.specs.Text.{lines_of, is_text_byte}
-use Rattle.rvs_asm_text.specs.Numbers.{digits_of}
+use Rattle.rvs_base.specs.Digits.{digits_of}
+use Rattle.rvs_base.proofs.Readings.{digits_of-decimal}
 use Rattle.rvs_asm_text.specs.Header.{allowed, steps_number, first_steps, header_steps}
 use Rattle.rvs_asm.specs.Symbols.{Table, find_mark}
 use Rattle.rvs_asm.specs.Places.{Reading, readings, start, labels}
@@ -27,7 +28,6 @@ use Rattle.rvs_test.specs.Statements.{printed}
 use Rattle.rvs_test.specs.TestText.{begin, clear, cases, halt, loop, data_part, Point, header, claim_lines, ended, statements, test_text, step_limit, all_steps, jump_steps}
 use Rattle.rvs_test.specs.Claim.{AreReady, ArePrintable, IsTest, TestsRun}
 use Rattle.rvs_test.proofs.Chars.{tested}
-use Rattle.rvs_test.proofs.Digits.{decimal_read}
 use Rattle.rvs_test.proofs.Tables.{named, find_name, found}
 use Rattle.rvs_test.proofs.Assembled.{also, read_as, labelled, first_free, second_free}
 use Rattle.rvs_test.proofs.CaseList.{AllMade}
@@ -133,8 +133,8 @@ number_read n low high =
     let l : length (decimal n) ≤ 7 = d.d7 (omega arith) in
     let a : nat_le (length (decimal n)) 7 ≡ true = grind (arith, nat_tests) in
     let b : (nat_le 1 n && nat_le n 2000000) ≡ true = grind (arith, nat_tests) in
-    ap (λ t. cond t (option_and_then allowed (digits_of 10 (decimal n))) None) a
-    ∙ ap (option_and_then allowed) (decimal_read n (omega arith))
+    ap (λ t. option_and_then allowed (cond t (digits_of 10 (decimal n)) None)) a
+    ∙ ap (option_and_then allowed) (digits_of-decimal n (omega arith))
     ∙ ap (λ t. cond t (Some n) None) b
 
 header_first : (label : List ℕ) (isa : Isa) (n : ℕ) (ps : List Point) (ls : List (List ℕ)) → 1 ≤ n

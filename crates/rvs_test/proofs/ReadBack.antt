@@ -7,8 +7,9 @@ use Rattle.std.proofs.lemmas.Bool.Decides.{nat_tests}
 use Rattle.std.proofs.lemmas.List.Elements.{filter_map-append}
 use Rattle.rvs_insn.specs.Isa.{Isa}
 use Rattle.rvs_insn.specs.Table.{row}
-use Rattle.rvs_asm_text.specs.Text.{before, after}
-use Rattle.rvs_asm_text.specs.Numbers.{digits_of}
+use Rattle.rvs_base.specs.Digits.{digits_of}
+use Rattle.rvs_base.specs.Lines.{before, after}
+use Rattle.rvs_base.proofs.Readings.{digits_of-decimal}
 use Rattle.rvs_cgf.specs.Print.{kind_name}
 use Rattle.rvs_cgf.specs.Groups as groups
 use Rattle.rvs_cgf.specs.Groups.{Label}
@@ -28,7 +29,7 @@ use Rattle.rvs_test.specs.TestText.{Point, claim_lines, header, step_limit, test
 use Rattle.rvs_test.specs.Made.{places, solved_among, numbered, claims_of, cases_of, named_or_none, named_at}
 use Rattle.rvs_test.specs.Named.{Named, point_read, claim_read, behind_front, all_read, claims_read, named_claim}
 use Rattle.rvs_test.proofs.Chars.{All, tested, is_clean}
-use Rattle.rvs_test.proofs.Digits.{decimal_spells, decimal_read, digit_words}
+use Rattle.rvs_test.proofs.Digits.{decimal_spells, digit_words}
 use Rattle.rvs_test.proofs.Loops.{numbered_length}
 use Rattle.rvs_test.proofs.Solvings.{cases_few, claims_same}
 use Rattle.rvs_test.proofs.Parts.{whole}
@@ -65,7 +66,7 @@ claim_back k p small h =
     (after_space (decimal k) rest digits)
     ∙ ap (λ t. option_and_then (point_read (Some rest)) (digits_of 10 t))
     (before_space (decimal k) rest digits)
-    ∙ ap (option_and_then (point_read (Some rest))) (decimal_read k small)
+    ∙ ap (option_and_then (point_read (Some rest))) (digits_of-decimal k small)
     ∙ ap (option_map (made (before 32 rest))) (after_space p.kind p.key h)
     ∙ ap (λ kind. Some (made kind p.key)) (before_space p.kind p.key h)
 

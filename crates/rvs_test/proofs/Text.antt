@@ -12,7 +12,8 @@ use Rattle.rvs_insn.specs.IsaName.{isa_name, long_names}
 use Rattle.rvs_insn.specs.Table.{row}
 use Rattle.rvs_insn.specs.Word.{AreOf}
 use Rattle.rvs_asm_text.specs.declared.bodies.Body.TheVariants.{Nothing}
-use Rattle.rvs_asm_text.specs.Text.{onto_first, cut_lines, without_return, lines_of, is_text_byte}
+use Rattle.rvs_base.specs.Lines.{onto_first, cut_lines, without_return}
+use Rattle.rvs_asm_text.specs.Text.{lines_of, is_text_byte}
 use Rattle.rvs_asm.specs.Places.{Reading}
 use Rattle.rvs_solver.specs.declared.solved.Solved.{Solved}
 use Rattle.rvs_test.specs.declared.statement.Name.{Name}

@@ -1,8 +1,9 @@
 -- What a test claims, as a reader has it who knows nothing but the bytes of its text.
 use Rattle.std.specs.Prelude.{ℕ, Option, Some, None, option_map, option_and_then, List, [], ◌∷◌, codes}
 use Rattle.std.specs.List.{filter_map}
-use Rattle.rvs_asm_text.specs.Text.{before, after, lines_of}
-use Rattle.rvs_asm_text.specs.Numbers.{digits_of}
+use Rattle.rvs_base.specs.Digits.{digits_of}
+use Rattle.rvs_base.specs.Lines.{before, after}
+use Rattle.rvs_asm_text.specs.Text.{lines_of}
 use Rattle.rvs_asm_text.specs.Header.{after_front}
 use Rattle.rvs_cgf.specs.Groups.{Label}
 use Rattle.rvs_test.specs.declared.made.Claim.{Claim}
