@@ -7,3 +7,4 @@ pub mod OwnKeys
 pub mod Sums
 pub mod TreeSizes
 pub mod Views
+pub mod Within

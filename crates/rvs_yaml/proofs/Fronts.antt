@@ -10,15 +10,15 @@ use Rattle.rvs_yaml.specs.StepParts.{closed_value}
 use Rattle.rvs_yaml.specs.Front.{own_value, ends, front_value}
 use Rattle.rvs_yaml.proofs.Outlined.{bind_assoc, bind_same, then_assoc}
 
-abbrev value_of : Found Value → Checked Value
+abbrev pub value_of : Found Value → Checked Value
 value_of g = Ok g.value
 
-closed-value : (dn : Done) (line : ℕ) (anchors : _) (g : Found Value) → (closed_as dn line anchors g >>= value_of) ≡ closed_value dn line g.value
+pub closed-value : (dn : Done) (line : ℕ) (anchors : _) (g : Found Value) → (closed_as dn line anchors g >>= value_of) ≡ closed_value dn line g.value
 closed-value (done_items vs) line anchors g = refl
 closed-value (done_entries ws k) line anchors g = then_assoc (check_merge k g.value) _ _
 closed-value alone line anchors g = refl
 
-named-value : (name : Name) (g : Found Value) → (named name g).value ≡ g.value
+pub named-value : (name : Name) (g : Found Value) → (named name g).value ≡ g.value
 named-value None g = refl
 named-value (Some n) g = refl
 
@@ -39,7 +39,7 @@ unwound-ends g b (outer ∷ bs) =
     ∙ sym (bind_values (closed b g) (λ v. ends v (outer ∷ bs)))
     ∙ ap (λ m. m >>= λ w. ends w (outer ∷ bs)) (closed-value b.done b.line b.anchors g)
 
-own-value : (b : Open) → (own_found b).value ≡ own_value b
+pub own-value : (b : Open) → (own_found b).value ≡ own_value b
 own-value b = named-value b.head.anchor (found (if opens_block b.head.sort then scalar_value [] b.head.line else b.own) [])
 
 pub finished-front : (bs : List Open) → (finished bs >>= value_of) ≡ front_value bs

@@ -1,6 +1,7 @@
 pub mod Answering
 pub mod Ending
 pub mod Filling
+pub mod Following
 pub mod FlowRuns
 pub mod Fronts
 pub mod Giving
@@ -12,6 +13,7 @@ pub mod Tokens
 pub mod Outlined
 pub mod Paying
 pub mod Placing
+pub mod Reaching
 pub mod Rows
 pub mod Sketching
 pub mod Stepping

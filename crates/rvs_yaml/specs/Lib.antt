@@ -17,6 +17,7 @@ pub mod TokenParts
 pub mod Heights
 pub mod LineParts
 pub mod Front
+pub mod Reach
 pub mod Reader
 -- What the values of the code stand for.
 pub mod Gives

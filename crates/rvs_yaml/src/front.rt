@@ -8,6 +8,7 @@ ghost use Rattle.rvs_yaml.specs.Entry.{written};
 ghost use Rattle.rvs_tree.specs.Standin.{standin};
 ghost use Rattle.rvs_yaml.specs.Stack.{done_entries};
 ghost use Rattle.rvs_yaml.specs.Front as spec;
+ghost use Rattle.rvs_yaml.specs.Reach.{KeepsDepth};
 ghost use Rattle.rvs_yaml.specs.Gives.{Gives};
 ghost use Rattle.rvs_yaml.specs.Sketched.{IsSketch, Brings, SketchedAs};
 ghost use Rattle.rvs_tree.specs.TreeView.{view};
@@ -17,6 +18,7 @@ ghost use Rattle.rvs_yaml_text.specs.KeyView.{key_view};
 
 use crate::entry::entry_of;
 use crate::open::{Block, Done, Open};
+use crate::reach::reach;
 use crate::reading::Pending;
 use crate::sketch::Sketch;
 use crate::stack::check_merge;
@@ -374,15 +376,17 @@ fn is_deeper(tree: &Tree, levels: u64) -> bool
     false
 }
 
-/// Whether the tree of the lines so far keeps the limits.
+/// Whether the tree of the lines so far keeps the limits. Before the last line it was no deeper than
+/// it may be, so it is looked through only where what that line has brought could be too deep.
 pub(crate) fn check_front(alloc: Global, blocks: &[Open<'_>]) -> Result<(), YamlKind>
+    requires { KeepsDepth (stack_view blocks.now) }
     ensures { Gives (λ u. u) result (spec.checked_front (stack_view blocks.now)) }
 {
     let sketch = sketch_front(blocks)?;
     if sketch.least > MOST_DEPTH {
         return Err(YamlKind::TooDeep);
     }
-    if sketch.depth > MOST_DEPTH {
+    if sketch.depth > MOST_DEPTH && reach(blocks) > MOST_DEPTH {
         let value = front_value(alloc, blocks)?;
         if is_deeper(&value.tree, MOST_DEPTH) {
             return Err(YamlKind::TooDeep);

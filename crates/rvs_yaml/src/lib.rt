@@ -14,6 +14,7 @@ mod known;
 mod line;
 mod open;
 mod own;
+mod reach;
 mod reader;
 mod reading;
 mod refusal;
