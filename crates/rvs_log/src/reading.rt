@@ -38,6 +38,7 @@ pub enum Line<'l> {
 }
 
 /// What follows a byte at the front.
+#[inline(always)]
 fn byte_at(text: &[u8], byte: u8) -> Option<&[u8]>
     ensures { option_copied result ≡ after_byte byte text.now }
 {
@@ -48,6 +49,7 @@ fn byte_at(text: &[u8], byte: u8) -> Option<&[u8]>
 }
 
 /// The text without the spaces at its front.
+#[inline(always)]
 fn without_spaces(text: &[u8]) -> &[u8]
     ensures { result.now ≡ after_spaces text.now }
 {
@@ -62,6 +64,7 @@ fn without_spaces(text: &[u8]) -> &[u8]
 }
 
 /// What follows one or more spaces.
+#[inline(always)]
 fn spaces(text: &[u8]) -> Option<&[u8]>
     ensures { option_copied result ≡ spaced text.now }
 {
@@ -116,6 +119,7 @@ fn without_capitals(text: &[u8]) -> &[u8]
 }
 
 /// The text, where it is empty or begins with a space.
+#[inline(always)]
 fn token_end(text: &[u8]) -> Option<&[u8]>
     ensures { option_copied result ≡ at_end text.now }
 {
@@ -128,6 +132,7 @@ fn token_end(text: &[u8]) -> Option<&[u8]>
 
 /// An instruction's address and word, and what follows.
 #[tactic(auto, unfolding(crate::specs::Grammar::pc_and_word))]
+#[inline(always)]
 fn address_and_word(text: &[u8]) -> Option<(u32, u32, &[u8])>
     ensures { option_map (λ found. (found.0, found.1, found.2.now)) result ≡ pc_and_word text.now }
 {
@@ -199,7 +204,34 @@ fn written(text: &[u8]) -> Option<Commit>
 
 /// What follows the privilege of a commit log's line.
 #[tactic(auto, unfolding(crate::specs::Grammar::after_core))]
+#[inline(always)]
 fn core_front(line: &[u8]) -> Option<&[u8]>
+    ensures { option_copied result ≡ after_core line.now }
+{
+    match line {
+        [
+            b'c',
+            b'o',
+            b'r',
+            b'e',
+            b' ',
+            b' ',
+            b' ',
+            b'0',
+            b':',
+            b' ',
+            b'3',
+            b' ',
+            rest @ ..,
+        ] => { Some(without_spaces(rest)) },
+        _ => any_core_front(line),
+    }
+}
+
+/// The same of any hart and privilege, and with any spaces.
+#[tactic(auto, unfolding(crate::specs::Grammar::after_core))]
+#[inline(never)]
+fn any_core_front(line: &[u8]) -> Option<&[u8]>
     ensures { option_copied result ≡ after_core line.now }
 {
     let rest = core_word(line)?;
@@ -230,6 +262,7 @@ fn privilege(text: &[u8]) -> Option<&[u8]>
 }
 
 /// A line of a commit log.
+#[inline(always)]
 fn commit_log_line(line: &[u8]) -> Option<Record<'_>>
     ensures said { option_map (λ r. Says r.pc r.word r.commit) result ≡ commit_log line.now }
     ensures whole { IfSome result (λ r. r.line.now ≡ line.now) }

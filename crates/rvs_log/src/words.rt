@@ -27,6 +27,7 @@ static VALUES: [u8; 256] = [
 
 /// The value of a hexadecimal digit.
 #[tactic(auto, using(crate::proofs::Values::value_some, crate::proofs::Values::value_none))]
+#[inline(always)]
 fn digit_value(byte: u8) -> Option<u32>
     ensures value { result ≡ hex_value byte }
     ensures small { IfSome result (λ d. d < 16) }
@@ -40,6 +41,7 @@ fn digit_value(byte: u8) -> Option<u32>
 }
 
 /// What digits spell, where there is at least one.
+#[inline(always)]
 fn spelled(count: u32, value: u32, rest: &[u8]) -> Option<(u32, &[u8])>
     ensures { option_map {U = ℕ × List ℕ} (λ found. (found.0, found.1.now)) result
         ≡ (if count == 0 then None else Some (value, rest.now)) }
@@ -53,6 +55,7 @@ fn spelled(count: u32, value: u32, rest: &[u8]) -> Option<(u32, &[u8])>
 
 /// The same, and 255 for a byte that is no digit.
 #[tactic(auto, using(crate::proofs::Values::entry_some))]
+#[inline(always)]
 fn value_at(byte: u8) -> u32
     ensures digit { result < 255 → hex_value byte ≡ Some result }
     ensures low { result ≤ 255 }
@@ -62,6 +65,7 @@ fn value_at(byte: u8) -> u32
 
 /// The number that four bytes spell, where each is a hexadecimal digit.
 #[tactic(auto, using(crate::proofs::Digits::four_more))]
+#[inline(always)]
 fn four_digits(a: u8, b: u8, c: u8, d: u8) -> Option<u32>
     ensures run { IfSome result (λ n. (v : ℕ) (bs : List ℕ) →
         hex_run v (a ∷ b ∷ c ∷ d ∷ bs) ≡ hex_run (65536 * v + n) bs) }
@@ -80,6 +84,7 @@ fn four_digits(a: u8, b: u8, c: u8, d: u8) -> Option<u32>
 
 /// The number that the first eight bytes spell, where they are hexadecimal digits, and what follows
 /// them. Most words of a log have as many.
+#[inline(always)]
 fn eight_digits(text: &[u8]) -> Option<(u32, &[u8])>
     ensures run { IfSome result (λ found. hex_run 0 text.now ≡ hex_run found.0 found.1.now) }
     ensures count { IfSome result (λ found. 8 + length found.1.now ≡ length text.now) }
@@ -95,6 +100,7 @@ fn eight_digits(text: &[u8]) -> Option<(u32, &[u8])>
 }
 
 /// The word that some digits spell with those that follow them, and what follows those.
+#[inline(always)]
 fn more_digits(value: u32, count: u32, rest: &[u8]) -> Option<(u32, &[u8])>
     requires { count ≤ 16 }
     ensures { (text : List ℕ) → hex_run 0 text ≡ hex_run value rest.now
@@ -120,6 +126,7 @@ fn more_digits(value: u32, count: u32, rest: &[u8]) -> Option<(u32, &[u8])>
 }
 
 /// The word that one to sixteen hexadecimal digits at the front spell, and what follows them.
+#[inline(always)]
 fn word_digits(text: &[u8]) -> Option<(u32, &[u8])>
     ensures { option_map (λ found. (found.0, found.1.now)) result ≡ hex_digits text.now }
 {
@@ -131,6 +138,7 @@ fn word_digits(text: &[u8]) -> Option<(u32, &[u8])>
 
 /// The word that stands at the front in hexadecimal digits after `0x`, and what follows it.
 #[tactic(auto, unfolding(crate::specs::Grammar::hex_at))]
+#[inline(always)]
 pub(crate) fn word_at(text: &[u8]) -> Option<(u32, &[u8])>
     ensures { option_map (λ found. (found.0, found.1.now)) result ≡ hex_at text.now }
 {
