@@ -19,7 +19,7 @@ use rvs_tree::Tree;
 use std::alloc::Global;
 
 /// A label's points times its mnemonics.
-fn size(label: &Label) -> u128
+pub(crate) fn size(label: &Label) -> u128
     ensures value { result ≡ spec.size_of (label_view label.now) }
     ensures small { result ≤ (2 ^ 64 - 1) * (2 ^ 64 - 1) }
 {

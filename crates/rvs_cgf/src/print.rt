@@ -154,7 +154,8 @@ fn push_selected(text: &mut Text, label: &Label) -> Result<(), NoMemory>
     push_skipped(text, label.skipped.as_slice())
 }
 
-fn push_label(text: &mut Text, label: &Label) -> Result<(), NoMemory>
+/// Adds the lines of a label.
+pub(crate) fn push_label(text: &mut Text, label: &Label) -> Result<(), NoMemory>
     ensures { OnOk result (text.new ≡ text.old ++ spec.label_text (label_view label.now)) }
 {
     if label.selected {

@@ -1,6 +1,6 @@
 -- Keys and names that differ.
 use Rattle.std.proofs.Common.{◌≡◌, ℕ, Bool, true, false, List, [], ◌∷◌, ◌++◌, refl, sym, subst, ◌∙◌, true≢false}
-use Rattle.std.specs.Prelude.{◌&&◌, ◌||◌, not, map, bytes_eq}
+use Rattle.std.specs.Prelude.{not, map, bytes_eq}
 use Rattle.std.specs.List.{list_any}
 use Rattle.std.proofs.lemmas.List.Folds.{list_any-append}
 use Rattle.std.proofs.lemmas.Slice.Eq.{bytes_eq-Decides}
@@ -12,7 +12,7 @@ use Rattle.rvs_cgf.specs.Print.{kind_name}
 use Rattle.rvs_cgf.specs.Spelled.{Block, joined, blocks, kinds_are_apart}
 use Rattle.rvs_cgf.specs.Valid.{are_distinct}
 use Rattle.rvs_normal.specs.Again.{names_are_apart}
-use Rattle.rvs_normal.proofs.Lines.{both}
+use Rattle.rvs_normal.proofs.Truths.{both, and-false, or-both, or-last, not-true}
 use Rattle.rvs_normal.proofs.Placed.{keys}
 use Rattle.rvs_normal.proofs.Blocks.{AreFree}
 
@@ -30,15 +30,10 @@ abbrev pub FreeOf : List (List ℕ) → List (List ℕ) → Type 0
 FreeOf seen [] = Unit {0}
 FreeOf seen (k ∷ ks) = (has_key k seen ≡ false) × FreeOf seen ks
 
-or-false : (p q : Bool) → p ≡ false → q ≡ false → (p || (q || false)) ≡ false
-or-false false false h k = refl
-or-false false true h k = cc
-or-false true q h k = cc
-
 one-more : (seen : List (List ℕ)) (k : List ℕ) (ms : List (List ℕ)) → FreeOf seen ms → Differs k ms
     → FreeOf (seen ++ (k ∷ [])) ms
 one-more seen k [] f d = tt
-one-more seen k (m ∷ ms) f d = (list_any-append (λ l. bytes_eq l m) seen (k ∷ []) ∙ or-false (has_key m seen) (bytes_eq k m) f.0 d.0, one-more seen k ms f.1 d.1)
+one-more seen k (m ∷ ms) f d = (list_any-append (λ l. bytes_eq l m) seen (k ∷ []) ∙ or-last (has_key m seen) (bytes_eq k m) f.0 d.0, one-more seen k ms f.1 d.1)
 
 free-from : (seen ks : List (List ℕ)) → FreeOf seen ks → Distinct ks → AreFree seen ks
 free-from seen [] f d = tt
@@ -46,7 +41,7 @@ free-from seen (k ∷ ks) f d = (f.0, free-from (seen ++ (k ∷ [])) ks (one-mor
 
 free-of-one : (k : List ℕ) (ks : List (List ℕ)) → Differs k ks → FreeOf (k ∷ []) ks
 free-of-one k [] d = tt
-free-of-one k (m ∷ ms) d = (or-false false (bytes_eq k m) refl d.0, free-of-one k ms d.1)
+free-of-one k (m ∷ ms) d = (or-last false (bytes_eq k m) refl d.0, free-of-one k ms d.1)
 
 pub free : (k : List ℕ) (ks : List (List ℕ)) → Distinct (k ∷ ks) → AreFree (k ∷ []) ks
 free k ks d = free-from (k ∷ []) ks (free-of-one k ks d.0) d.1
@@ -157,19 +152,7 @@ name-apart CrossComb CrossComb h = cc
 kind-through : (a b c : Kind) → same_kind a b ≡ true → same_kind b c ≡ true → same_kind a c ≡ true
 kind-through a b c h k = subst (λ d. same_kind d c ≡ true) (sym (kind-is a b h)) k
 
--- ---- tests
-pub or-both : (p q : Bool) → (p || q) ≡ false → (p ≡ false) × (q ≡ false)
-or-both false q h = (refl, h)
-or-both true q h = cc
-
-pub not-true : (p : Bool) → not p ≡ true → p ≡ false
-not-true false h = refl
-not-true true h = cc
-
-and-false : (p q : Bool) → (p && q) ≡ false → p ≡ true → q ≡ false
-and-false true q h e = h
-and-false false q h e = cc
-
+-- ---- keys that differ
 pub eq-back : (a b : List ℕ) → bytes_eq a b ≡ false → bytes_eq b a ≡ false
 eq-back a b h = by-case (bytes_eq b a) refl
   where

@@ -10,9 +10,9 @@ use Rattle.rvs_yaml_text.specs.Word.{Key}
 use Rattle.rvs_yaml.specs.Entry.{written}
 use Rattle.rvs_cgf.specs.Spelled.{keys_are_own}
 use Rattle.rvs_normal.specs.Once.{KeysOnce, ItemsOnce, EntriesOnce}
+use Rattle.rvs_normal.proofs.Truths.{both, and-true, or-both, or-last, or-true, not-true, not-false}
 use Rattle.rvs_normal.proofs.Sizes.{pairs-back}
-use Rattle.rvs_normal.proofs.Lines.{both, and-true}
-use Rattle.rvs_normal.proofs.Apart.{or-both, not-true, eq-back}
+use Rattle.rvs_normal.proofs.Apart.{eq-back}
 
 -- ---- lists of pairs
 abbrev pub PairsOwned : Pairs → Type 0
@@ -58,14 +58,9 @@ keys-append : (ps qs : Pairs) → keys_of (ps ++ qs) ≡ keys_of ps ++ keys_of q
 keys-append [] qs = refl
 keys-append (p ∷ ps) qs = ap (λ ks. p.0 ∷ ks) (keys-append ps qs)
 
-or-made : (p q : Bool) → p ≡ false → q ≡ false → (p || (q || false)) ≡ false
-or-made false false h k = refl
-or-made false true h k = cc
-or-made true q h k = cc
-
 has-pushed : (k : List ℕ) (ps : Pairs) (p : List ℕ × Data) → has_key k (keys_of ps) ≡ false
     → bytes_eq p.0 k ≡ false → has_key k (keys_of (ps ++ (p ∷ []))) ≡ false
-has-pushed k ps p h e = ap (has_key k) (keys-append ps (p ∷ [])) ∙ list_any-append (λ l. bytes_eq l k) (keys_of ps) (p.0 ∷ []) ∙ or-made (has_key k (keys_of ps)) (bytes_eq p.0 k) h e
+has-pushed k ps p h e = ap (has_key k) (keys-append ps (p ∷ [])) ∙ list_any-append (λ l. bytes_eq l k) (keys_of ps) (p.0 ∷ []) ∙ or-last (has_key k (keys_of ps)) (bytes_eq p.0 k) h e
 
 same-has : (k : List ℕ) (ps : Pairs) → list_any (λ f. bytes_eq f.0 k) ps ≡ has_key k (keys_of ps)
 same-has k [] = refl
@@ -74,11 +69,7 @@ same-has k (p ∷ ps) = ap (λ b. bytes_eq p.0 k || b) (same-has k ps)
 any-pushed : (k : List ℕ) (ps : Pairs) (p : List ℕ × Data)
     → list_any (λ f. bytes_eq f.0 k) ps ≡ false → bytes_eq p.0 k ≡ false
     → list_any (λ f. bytes_eq f.0 k) (ps ++ (p ∷ [])) ≡ false
-any-pushed k ps p h e = list_any-append (λ f. bytes_eq f.0 k) ps (p ∷ []) ∙ or-made (list_any (λ f. bytes_eq f.0 k) ps) (bytes_eq p.0 k) h e
-
-not-false : (p : Bool) → p ≡ false → not p ≡ true
-not-false false h = refl
-not-false true h = cc
+any-pushed k ps p h e = list_any-append (λ f. bytes_eq f.0 k) ps (p ∷ []) ∙ or-last (list_any (λ f. bytes_eq f.0 k) ps) (bytes_eq p.0 k) h e
 
 -- a pair whose key none has may stand behind them
 own-pushed : (ps : Pairs) (p : List ℕ × Data) → keys_are_own ps ≡ true
@@ -190,7 +181,7 @@ written-append (v ∷ vs) us h k = (h.0, written-append vs us h.1 k)
 -- ---- one key more
 has-behind : (k : List ℕ) (ks : List (List ℕ)) (j : List ℕ) → has_key k ks ≡ false
     → bytes_eq j k ≡ false → has_key k (ks ++ (j ∷ [])) ≡ false
-has-behind k ks j h e = list_any-append (λ l. bytes_eq l k) ks (j ∷ []) ∙ or-made (has_key k ks) (bytes_eq j k) h e
+has-behind k ks j h e = list_any-append (λ l. bytes_eq l k) ks (j ∷ []) ∙ or-last (has_key k ks) (bytes_eq j k) h e
 
 pub apart-pushed : (ks : List (List ℕ)) (k : List ℕ) → Apart ks → has_key k ks ≡ false
     → Apart (ks ++ (k ∷ []))
@@ -207,11 +198,6 @@ explicit-append (u ∷ ws) w = ap (λ ks. own_key u ++ ks) (explicit-append ws w
 -- the key merges, or is new
 abbrev pub IsNew : List Written → Key → Type 0
 IsNew ws k = (k.merges || not (has_key k.name (explicit_keys ws))) ≡ true
-
-pub or-true : (p q : Bool) → (p || not q) ≡ true → p ≡ false → q ≡ false
-or-true false false h e = refl
-or-true false true h e = cc
-or-true true q h e = cc
 
 pub apart-written : (ws : List Written) (k : Key) (v : Value) → Apart (explicit_keys ws)
     → IsNew ws k → Apart (explicit_keys (ws ++ (written k v ∷ [])))

@@ -1,3 +1,4 @@
+pub mod Truths
 pub mod Lines
 pub mod Rows
 pub mod Outlines
@@ -15,3 +16,4 @@ pub mod KeysOnce
 pub mod OnceRead
 pub mod Notes
 pub mod ReadAgain
+pub mod OneLabel

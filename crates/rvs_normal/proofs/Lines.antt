@@ -7,19 +7,10 @@ use Rattle.std.proofs.lemmas.Str.{IsUtf8-from_ascii, is_utf8-from_IsUtf8}
 use Rattle.rvs_yaml_text.specs.Bytes.{feed_byte}
 use Rattle.rvs_yaml_text.specs.Text.{cut, onto_first, without_return, lines_of}
 use Rattle.rvs_cgf.specs.Keys.{is_printable}
+use Rattle.rvs_normal.proofs.Truths.{both, and-true}
 
 abbrev pub is_ink : ℕ → Bool
 is_ink c = nat_le 32 c && nat_le c 126
-
-pub both : (p q : Bool) → (p && q) ≡ true → (p ≡ true) × (q ≡ true)
-both true true h = (refl, refl)
-both true false h = cc
-both false q h = cc
-
-pub and-true : (p q : Bool) → p ≡ true → q ≡ true → (p && q) ≡ true
-and-true true true h k = refl
-and-true true false h k = k
-and-true false q h k = h
 
 pub inked-append : (a b : List ℕ) → is_printable a ≡ true → is_printable b ≡ true
     → is_printable (a ++ b) ≡ true

@@ -25,8 +25,8 @@ use Rattle.rvs_cgf.specs.declared.walk.Sort.TheVariants as sort
 use Rattle.rvs_cgf.specs.declared.groups.Role.{Role}
 use Rattle.rvs_cgf.specs.declared.groups.Role.TheVariants as role
 use Rattle.rvs_normal.specs.Again.{names_are_apart, notes_are_printable}
-use Rattle.rvs_normal.proofs.Lines.{both, and-true}
-use Rattle.rvs_normal.proofs.Apart.{or-both, not-true, eq-back}
+use Rattle.rvs_normal.proofs.Truths.{both, and-true, or-both, or-false, or-last, or-either, not-true, not-false}
+use Rattle.rvs_normal.proofs.Apart.{eq-back}
 use Rattle.rvs_normal.proofs.Spelling.{name-plain}
 use Rattle.rvs_normal.proofs.Rows.{plain-inked}
 
@@ -189,10 +189,6 @@ named : (node name : List ℕ) → is_printable name ≡ true → bytes_eq node 
     → is_printable node ≡ true
 named node name p e = subst (λ k. is_printable k ≡ true) (sym ((bytes_eq-Decides node name).0 e)) p
 
-or-either : {G : Type 0} (a b : Bool) → (a || b) ≡ true → (a ≡ true → G) → (b ≡ true → G) → G
-or-either true b e f g = f refl
-or-either false b e f g = g e
-
 passed-over-named : (node : List ℕ) → is_passed_over node ≡ true → is_printable node ≡ true
 passed-over-named node e =
     or-either (bytes_eq node (codes "csr_comb")) _ e (named node (codes "csr_comb") refl) (λ e1.
@@ -289,15 +285,6 @@ notes-push : (ls : List Label) (l : Label) → AllNotes ls → notes_are_printab
 notes-push [] l h k = (k, tt)
 notes-push (m ∷ ls) l h k = (h.0, notes-push ls l h.1 k)
 
-not-made : (p : Bool) → p ≡ false → not p ≡ true
-not-made false h = refl
-not-made true h = cc
-
-or-made : (p q : Bool) → p ≡ false → q ≡ false → (p || (q || false)) ≡ false
-or-made false false h k = refl
-or-made false true h k = cc
-or-made true q h k = cc
-
 apart-push : (ls : List Label) (l : Label) (e : List ℕ × Data) (es : Pairs) → l.name ≡ e.0
     → names_are_apart ls ≡ true → Later ls (e ∷ es) → names_are_apart (ls ++ (l ∷ [])) ≡ true
 apart-push [] l e es is h k = refl
@@ -305,8 +292,8 @@ apart-push (m ∷ ls) l e es is h k =
     let p = both (not (list_any (λ n. bytes_eq m.name n.name) ls)) (names_are_apart ls) h in
     let q = or-both (bytes_eq m.name e.0) (list_any (λ f. bytes_eq m.name f.0) es) k.0 in
     and-true (not (list_any (λ n. bytes_eq m.name n.name) (ls ++ (l ∷ [])))) (names_are_apart (ls ++ (l ∷ [])))
-    (not-made (list_any (λ n. bytes_eq m.name n.name) (ls ++ (l ∷ [])))
-    (list_any-append (λ (n : Label). bytes_eq m.name n.name) ls (l ∷ []) ∙ or-made (list_any (λ n. bytes_eq m.name n.name) ls) (bytes_eq m.name l.name) (not-true (list_any (λ n. bytes_eq m.name n.name) ls) p.0) (ap (bytes_eq m.name) is ∙ q.0)))
+    (not-false (list_any (λ n. bytes_eq m.name n.name) (ls ++ (l ∷ [])))
+    (list_any-append (λ (n : Label). bytes_eq m.name n.name) ls (l ∷ []) ∙ or-last (list_any (λ n. bytes_eq m.name n.name) ls) (bytes_eq m.name l.name) (not-true (list_any (λ n. bytes_eq m.name n.name) ls) p.0) (ap (bytes_eq m.name) is ∙ q.0)))
     (apart-push ls l e es is p.1 k.1)
 
 any-turned : (k : List ℕ) (es : Pairs) → list_any (λ f. bytes_eq f.0 k) es ≡ false
@@ -314,11 +301,7 @@ any-turned : (k : List ℕ) (es : Pairs) → list_any (λ f. bytes_eq f.0 k) es 
 any-turned k [] h = refl
 any-turned k (e ∷ es) h =
     let p = or-both (bytes_eq e.0 k) (list_any (λ f. bytes_eq f.0 k) es) h in
-    or-ends (bytes_eq k e.0) (list_any (λ f. bytes_eq k f.0) es) (eq-back e.0 k p.0) (any-turned k es p.1)
-  where
-    or-ends : (p q : Bool) → p ≡ false → q ≡ false → (p || q) ≡ false
-    or-ends false q e f = f
-    or-ends true q e f = cc
+    or-false (bytes_eq k e.0) (list_any (λ f. bytes_eq k f.0) es) (eq-back e.0 k p.0) (any-turned k es p.1)
 
 step-well : (isa : Isa) (e : List ℕ × Data) (es : Pairs) (l : Listed)
     → list_any (λ f. bytes_eq f.0 e.0) es ≡ false → Well (e ∷ es) l

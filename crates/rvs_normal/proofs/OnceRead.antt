@@ -13,8 +13,9 @@ use Rattle.rvs_yaml.specs.Flow.{Nest, none, one, group, inside, ending, behind, 
 use Rattle.rvs_yaml.specs.Block.{Outline, end, below, Found, found, named, content_value, own_value, value_over, value_of, is_end, item_at, only_leaf, key_at, spelled, check_merge, block, items, entries, tree_of, outline}
 use Rattle.rvs_normal.specs.Once.{KeysOnce}
 use Rattle.std.proofs.lemmas.List.Folds.{list_any-append}
-use Rattle.rvs_normal.proofs.Apart.{or-both, eq-back}
-use Rattle.rvs_normal.proofs.KeysOnce.{WrittenOwned, Apart, ValuesOwned, values-append, written-append, map-owned, list-owned, IsNew, apart-written, or-true}
+use Rattle.rvs_normal.proofs.Truths.{or-both, or-false, or-true}
+use Rattle.rvs_normal.proofs.Apart.{eq-back}
+use Rattle.rvs_normal.proofs.KeysOnce.{WrittenOwned, Apart, ValuesOwned, values-append, written-append, map-owned, list-owned, IsNew, apart-written}
 
 -- ---- checks in order
 pub record Then {A B : Type 0} (a : Checked A) (f : A → Checked B) (b : B) : Type 0 where
@@ -272,11 +273,7 @@ none-seen-less seen k (j ∷ ks) n =
     let h = or-both (has_key j seen) (bytes_eq k j || false) (sym (list_any-append (λ l. bytes_eq l j) seen (k ∷ [])) ∙ n.0) in
     let e = or-both (bytes_eq k j) false h.1 in
     let r = none-seen-less seen k ks n.1 in
-    ((h.0, r.0), or-ends (bytes_eq j k) (has_key k ks) (eq-back k j e.0) r.1)
-  where
-    or-ends : (p q : Bool) → p ≡ false → q ≡ false → (p || q) ≡ false
-    or-ends false q e f = f
-    or-ends true q e f = cc
+    ((h.0, r.0), or-false (bytes_eq j k) (has_key k ks) (eq-back k j e.0) r.1)
 
 more-written : (seen : List (List ℕ)) (k : Key) (v : Value) (ws : List Written)
     → (k.merges || not (has_key k.name seen)) ≡ true

@@ -1,6 +1,6 @@
 -- The normal text of groups that were read is read again as the selected ones.
 use Rattle.std.proofs.Common.{◌≡◌, ℕ, ◌+◌, ◌*◌, ◌≤◌, ◌<◌, Bool, true, false, List, [], ◌∷◌, ◌++◌, length, refl, sym, ap, subst, ◌∙◌, arith, append_assoc, append-nil, Option, Some, None, Ok, Err, All, true≢false, bytes_eq}
-use Rattle.std.specs.Prelude.{◌||◌, ◌==◌, not, codes, sum_by}
+use Rattle.std.specs.Prelude.{◌==◌, not, codes, sum_by}
 use Rattle.std.specs.List.{list_all, list_any, flat_map}
 use Rattle.std.proofs.lemmas.List.{length-append}
 use Rattle.std.proofs.lemmas.List.Sums.{sum_by-cons}
@@ -23,8 +23,7 @@ use Rattle.rvs_cgf.proofs.Spelling.{groups-spelled}
 use Rattle.rvs_cgf.proofs.ReadBack.{spelled_is_read}
 use Rattle.rvs_normal.specs.Once.{KeysOnce, EntriesOnce}
 use Rattle.rvs_normal.specs.Again.{names_are_apart, IsReadAgain}
-use Rattle.rvs_normal.proofs.Lines.{both, and-true}
-use Rattle.rvs_normal.proofs.Apart.{or-both, not-true}
+use Rattle.rvs_normal.proofs.Truths.{both, and-true, or-both, or-false, not-true, not-false}
 use Rattle.rvs_normal.proofs.OnceRead.{Has, TreeOwned, tree-owned}
 use Rattle.rvs_normal.proofs.Notes.{AllNotes, read-well}
 use Rattle.rvs_normal.proofs.Spelling.{IsPrinted, ArePrinted, IsSome, AllSome, points_cost, labels_cost, printed-is-read, selected-first, selected-others}
@@ -122,19 +121,11 @@ any-selected l (m ∷ ls) h =
     let p = or-both (bytes_eq l.name m.name) (list_any (λ n. bytes_eq l.name n.name) ls) h in
     by-case m.selected refl p.0 (any-selected l ls p.1)
   where
-    or-ends : (p q : Bool) → p ≡ false → q ≡ false → (p || q) ≡ false
-    or-ends false q e f = f
-    or-ends true q e f = cc
-
     by-case : (b : Bool) → m.selected ≡ b → bytes_eq l.name m.name ≡ false
         → list_any (λ n. bytes_eq l.name n.name) (selected ls) ≡ false
         → list_any (λ n. bytes_eq l.name n.name) (selected (m ∷ ls)) ≡ false
-    by-case true e p q = ap (list_any (λ (n : Label). bytes_eq l.name n.name)) (selected-first m ls e) ∙ or-ends (bytes_eq l.name m.name) (list_any (λ n. bytes_eq l.name n.name) (selected ls)) p q
+    by-case true e p q = ap (list_any (λ (n : Label). bytes_eq l.name n.name)) (selected-first m ls e) ∙ or-false (bytes_eq l.name m.name) (list_any (λ n. bytes_eq l.name n.name) (selected ls)) p q
     by-case false e p q = ap (list_any (λ (n : Label). bytes_eq l.name n.name)) (selected-others m ls e) ∙ q
-
-not-made : (p : Bool) → p ≡ false → not p ≡ true
-not-made false h = refl
-not-made true h = cc
 
 selected-apart : (ls : List Label) → names_are_apart ls ≡ true
     → names_are_apart (selected ls) ≡ true
@@ -146,7 +137,7 @@ selected-apart (l ∷ ls) h =
     by-case : (b : Bool) → l.selected ≡ b
         → list_any (λ m. bytes_eq l.name m.name) (selected ls) ≡ false
         → names_are_apart (selected ls) ≡ true → names_are_apart (selected (l ∷ ls)) ≡ true
-    by-case true e p q = ap names_are_apart (selected-first l ls e) ∙ and-true (not (list_any (λ m. bytes_eq l.name m.name) (selected ls))) (names_are_apart (selected ls)) (not-made (list_any (λ m. bytes_eq l.name m.name) (selected ls)) p) q
+    by-case true e p q = ap names_are_apart (selected-first l ls e) ∙ and-true (not (list_any (λ m. bytes_eq l.name m.name) (selected ls))) (names_are_apart (selected ls)) (not-false (list_any (λ m. bytes_eq l.name m.name) (selected ls)) p) q
     by-case false e p q = ap names_are_apart (selected-others l ls e) ∙ q
 
 -- ---- how long the text is

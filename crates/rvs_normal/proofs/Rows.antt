@@ -10,7 +10,8 @@ use Rattle.rvs_yaml_text.specs.Printed.{in_quotes, doubled}
 use Rattle.rvs_yaml_text.specs.Text.{word_at, words_at, last_words, line_words, is_mark, key_of, shape_from, plain_key}
 use Rattle.rvs_yaml_text.proofs.Printing.{printed-reads-back}
 use Rattle.rvs_cgf.specs.Keys.{is_printable}
-use Rattle.rvs_normal.proofs.Lines.{is_ink, both, and-true, inked-append, inked-utf8}
+use Rattle.rvs_normal.proofs.Truths.{both, and-true}
+use Rattle.rvs_normal.proofs.Lines.{is_ink, inked-append, inked-utf8}
 
 -- ---- names
 abbrev pub is_first : ℕ → Bool

@@ -17,7 +17,8 @@ use Rattle.rvs_cgf.specs.Print.{kind_name, goes_on, normal_text}
 use Rattle.rvs_cgf.specs.Spelled.{Block, joined, blocks, selected, kinds_are_apart, SpellsKeys, SpellsNodes, SpellsLabels, SpellsAll, Spells}
 use Rattle.rvs_cgf.specs.Valid.{are_distinct}
 use Rattle.rvs_normal.specs.Again.{names_are_apart, notes_are_printable}
-use Rattle.rvs_normal.proofs.Lines.{both, and-true, inked-append}
+use Rattle.rvs_normal.proofs.Truths.{both, and-true}
+use Rattle.rvs_normal.proofs.Lines.{inked-append}
 use Rattle.rvs_normal.proofs.Rows.{is_first, is_next, is_plain, merges-nothing, Row, point_row}
 use Rattle.rvs_normal.proofs.Columns.{parts_cols}
 use Rattle.rvs_normal.proofs.Blocks.{SaysTexts, SaysParts}

@@ -1,5 +1,5 @@
 // Laws of texts and groups.
-ghost use Rattle.std.specs.Prelude.{◌≡◌, ◌≤◌, ℕ, List, length, true, Ok};
+ghost use Rattle.std.specs.Prelude.{◌≡◌, ◌≤◌, ℕ, List, [], ◌∷◌, length, true, Ok};
 ghost use Rattle.rvs_insn.specs.Isa.{Isa};
 ghost use Rattle.rvs_tree.specs.Data.{Data};
 ghost use Rattle.rvs_yaml.specs.Answer.{answer};
@@ -8,6 +8,7 @@ ghost use Rattle.rvs_cgf.specs.Print.{normal_text};
 ghost use Rattle.rvs_cgf.specs.Spelled.{are_admitted};
 ghost use Rattle.rvs_normal.specs.Once.{KeysOnce};
 ghost use Rattle.rvs_normal.specs.Again.{IsReadAgain};
+ghost use Rattle.rvs_normal.specs.Example.{example, example_text, IsReadAs};
 
 /// Each map of an accepted text has each of its keys once, whatever it merges.
 pub fn keys_stand_once()
@@ -25,4 +26,11 @@ pub fn normal_text_is_read_again()
     ensures own_core { (isa : Isa) (bytes : List ℕ) (tree : Data) (groups : List Label)
         → answer bytes ≡ Ok tree → groups_of isa tree ≡ Ok groups
         → are_admitted isa groups ≡ true }
+{}
+
+/// The normal text of one label, and that this text is accepted, with a tree that is read as that
+/// label for every core.
+pub fn an_example_is_read_again()
+    ensures text { normal_text (example ∷ []) ≡ example_text }
+    ensures again { (isa : Isa) → IsReadAs isa example_text example }
 {}

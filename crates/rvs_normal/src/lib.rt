@@ -4,4 +4,4 @@
 
 mod laws;
 
-pub use laws::{keys_stand_once, normal_text_is_read_again};
+pub use laws::{an_example_is_read_again, keys_stand_once, normal_text_is_read_again};
