@@ -2,3 +2,4 @@ pub mod Cuts
 pub mod Symbols
 pub mod Ready
 pub mod Mnemonics
+pub mod ValueFaults

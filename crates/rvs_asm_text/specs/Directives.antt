@@ -66,6 +66,11 @@ values size (a ∷ args) =
     if list_any (is_no_value size) (a ∷ args) then Err BadOperand
     else unless_wide (first_wide size (a ∷ args)) (Values size (a ∷ args))
 
+-- what keeps operands from being values: one that is none, wherever it stands, else the first number outside the size
+abbrev pub values_fault : ℕ → List (List ℕ) → Option LineFault
+values_fault size args =
+    if list_any (is_no_value size) args then Some BadOperand else option_map OutOfRange (first_wide size args)
+
 -- ---- the other operands
 abbrev pub without_operands : Body → List (List ℕ) → Result Body LineFault
 without_operands body [] = Ok body

@@ -6,7 +6,7 @@ ghost use Rattle.rvs_asm_text.specs.Numbers.{number_of};
 ghost use Rattle.rvs_asm_text.specs.Instructions.{number_value, IsReady};
 ghost use Rattle.rvs_asm_text.specs.Operands.{only, triple};
 ghost use Rattle.rvs_asm_text.specs.Header.{after_front};
-ghost use Rattle.rvs_asm_text.specs.Directives.{directive_name, directive_of, fits, data_value, is_no_value, wide, first_wide, unless_wide, values, without_operands, one_word, aligned, zeroed, filled, filled_by, number_of_one, is_size, directed, begins, section_named, section_of};
+ghost use Rattle.rvs_asm_text.specs.Directives.{directive_name, directive_of, fits, data_value, wide, values_fault, values, without_operands, one_word, aligned, zeroed, filled, filled_by, number_of_one, is_size, directed, begins, section_named, section_of};
 
 use crate::arguments::Operands;
 use crate::bodies::{Body, LineFault, Link, Value};
@@ -105,24 +105,12 @@ pub fn read_value(size: u8, text: &[u8]) -> Option<Value<'_>>
     }
 }
 
-/// Whether an operand is neither a number nor, for words, a symbol.
-fn lacks_value(size: u8, mut operands: Operands<'_>) -> bool
-    ensures { result ≡ list_any (is_no_value size) operands.entry }
-{
-    while let Some(text) = operands.next() {
-        if read_value(size, text).is_none() {
-            return true;
-        }
-    }
-    false
-}
-
 /// The number of a value where it is outside its size.
-fn wide_number(size: u8, text: &[u8]) -> Option<i64>
+fn wide_number(size: u8, value: &Value<'_>) -> Option<i64>
     requires { (size ≡ 1) ⊎ (size ≡ 2) ⊎ (size ≡ 4) }
-    ensures { result ≡ wide size (data_value size text.now) }
+    ensures { result ≡ wide size (Some value.now) }
 {
-    let number = read_value(size, text)?.number;
+    let number = value.number;
     if fits_size(size, number) {
         None
     } else {
@@ -130,30 +118,39 @@ fn wide_number(size: u8, text: &[u8]) -> Option<i64>
     }
 }
 
-/// The first number outside its size.
-fn first_wide_number(size: u8, mut operands: Operands<'_>) -> Option<i64>
+/// What keeps operands from being data of a size: one that is no value, else the first number
+/// outside the size. Each is read once.
+#[tactic(auto, using(crate::proofs::ValueFaults::fault_more, crate::proofs::ValueFaults::fault_here, crate::proofs::ValueFaults::fault_end))]
+fn values_fault(size: u8, mut operands: Operands<'_>) -> Option<LineFault>
     requires { (size ≡ 1) ⊎ (size ≡ 2) ⊎ (size ≡ 4) }
-    ensures { result ≡ first_wide size operands.entry }
+    ensures { result ≡ values_fault size operands.entry }
 {
+    let mut wide = None;
     while let Some(text) = operands.next() {
-        if let Some(number) = wide_number(size, text) {
-            return Some(number);
-        }
+        let value = match read_value(size, text) {
+            None => return Some(LineFault::BadOperand),
+            Some(value) => value,
+        };
+        wide = wide.or(wide_number(size, &value));
     }
-    None
+    match wide {
+        Some(number) => Some(LineFault::OutOfRange(number)),
+        None => None,
+    }
 }
 
 /// `.byte`, `.half` and `.word` with their numbers.
+#[tactic(auto, using(crate::proofs::ValueFaults::values_good, crate::proofs::ValueFaults::values_bad))]
 fn read_values<'t>(size: u8, operands: Operands<'t>) -> Result<Body<'t>, LineFault>
     requires { (size ≡ 1) ⊎ (size ≡ 2) ⊎ (size ≡ 4) }
     ensures body { result ≡ values size operands.entry }
     ensures ready { IfOk result IsReady }
 {
-    if operands.again().next().is_none() || lacks_value(size, operands.again()) {
+    if operands.again().next().is_none() {
         return Err(LineFault::BadOperand);
     }
-    match first_wide_number(size, operands.again()) {
-        Some(number) => Err(LineFault::OutOfRange(number)),
+    match values_fault(size, operands.again()) {
+        Some(fault) => Err(fault),
         None => Ok(Body::Values(size, operands)),
     }
 }

@@ -49,6 +49,6 @@ abbrev pub words_text : IsaKind → List ℕ
 words_text (MisaDisagrees stated expected) = codes " stated " ++ (word_text stated ++ (codes " expected " ++ word_text expected))
 words_text _ = []
 
--- the number of the check, and the path, empty or not, behind a space
+-- the number of the kind, and the path, empty or not, behind a space
 abbrev pub refusal_text : IsaRefusal → List ℕ
 refusal_text r = codes "isa " ++ (decimal (number_of r.kind) ++ (codes " " ++ (r.path ++ words_text r.kind)))

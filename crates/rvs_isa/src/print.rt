@@ -45,8 +45,8 @@ fn core_lines(alloc: Global, spec: &IsaSpec) -> Result<Text, NoMemory>
     Ok(Text::from(lines))
 }
 
-/// A refusal as a fault line has it behind the file's name: `isa`, the number of the check that
-/// fails, the path, and both words where the reset value of `misa` disagrees.
+/// A refusal as a fault line has it behind the file's name: `isa`, the number of its kind, the
+/// path, and both words where the reset value of `misa` disagrees.
 ///
 /// # Errors
 ///

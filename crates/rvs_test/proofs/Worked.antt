@@ -1,6 +1,7 @@
 -- Worked rows.
 use Rattle.std.proofs.Common.{◌≡◌, List, [], ◌∷◌, ◌++◌, refl}
 use Rattle.std.specs.Prelude.{ℕ, Some, None, codes}
+use Rattle.rvs_base.specs.Digits.{digits_of}
 use Rattle.rvs_test.specs.Named.{claims_read}
 
 abbrev header_text : List ℕ
@@ -14,13 +15,13 @@ header_claims : claims_read
     ≡ Some
     (record { case = 0; kind = codes "mnemonics"; key = codes "add" }
     ∷ record { case = 1; kind = codes "op_comb"; key = codes "rs1 == rd != rs2" } ∷ [])
-unfolding claims_read
+unfolding digits_of claims_read
 header_claims = refl
 
 no_number : claims_read (header_text ++ codes "#! case x rs1 x1\n") ≡ None
-unfolding claims_read
+unfolding digits_of claims_read
 no_number = refl
 
 no_key : claims_read (header_text ++ codes "#! case 2 rs1\n") ≡ None
-unfolding claims_read
+unfolding digits_of claims_read
 no_key = refl
