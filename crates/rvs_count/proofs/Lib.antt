@@ -12,3 +12,4 @@ pub mod Sequels
 pub mod Shifts
 pub mod Streams
 pub mod Sums
+pub mod Turned

@@ -133,3 +133,10 @@ all_more hit os aims cs cs' k d h e =
 pub all_done : (hit : Aim → Bool) (os : List (Option ℕ)) (aims : List Aim) (cs : List ℕ) (k : ℕ)
     → length os ≤ k → added_all hit (drop k os) aims cs ≡ cs
 all_done hit os aims cs k h = ap (λ l. added_all hit l aims cs) (drop-all os k h)
+
+-- where there are no counts
+pub none_to_add : (passes : Aim → Bool) (aims : List Aim) (cs : List ℕ) → length cs ≡ 0
+    → cs ≡ added passes aims cs
+none_to_add passes [] cs h = refl
+none_to_add passes (a ∷ aims) [] h = refl
+none_to_add passes (a ∷ aims) (c ∷ cs) h = absurd (omega arith)

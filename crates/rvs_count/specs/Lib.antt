@@ -6,5 +6,6 @@ pub mod Index
 pub mod Report
 pub mod Runs
 pub mod Shortcuts
+pub mod Signs
 pub mod Sound
 pub mod State

@@ -3,9 +3,11 @@ ghost use Rattle.std.specs.Prelude.{◌≡◌, ◌<◌, ◌≤◌, ◌+◌, ◌^
 ghost use Rattle.rvs_cgf.specs.Hits.{holds};
 ghost use Rattle.rvs_facts.specs.Facts.{facts_of};
 ghost use Rattle.rvs_count.specs.Index.{places, raised, raised_all};
+ghost use Rattle.rvs_count.specs.Signs.{signs_of};
 
 use crate::known_facts::Known;
 use crate::slot::Slot;
+use crate::taken::SIGNS;
 use rvs_expr::{Facts, Steps};
 use rvs_insn::Op;
 use std::marker::Brand;
@@ -26,9 +28,11 @@ fn add_hits<F: Facts, L: Ledger>(
     slots: &[Slot<'_>],
     op: Op,
     facts: &F,
+    signs: &[bool; SIGNS],
     counts: &mut Vec<u64>,
     steps: &mut Steps<L>,
 )
+    requires signs { signs.now ≡ signs_of (F.table facts.now) }
     requires within { All (λ s. s.at < vec_len counts.old) slots.now }
     requires few { length slots.now ≤ vec_len counts.old }
     requires low { All (λ n. n ≤ 2 ^ 41) counts.old.items }
@@ -36,7 +40,7 @@ fn add_hits<F: Facts, L: Ledger>(
         ≡ raised_all (λ p. holds p op (F.table facts.now)) (places slots.now) counts.old.items }
 {
     for slot in slots {
-        let hit = slot.holds(op, facts, steps);
+        let hit = slot.holds(op, facts, signs, steps);
         raise(counts, slot.at, hit);
     }
 }
@@ -60,7 +64,7 @@ fn add_counted<L: Ledger>(
 {
     let mut steps: Steps<L> = Steps::new(blank);
     let insn = facts.insn;
-    add_hits(slots, insn.op, facts, counts, &mut steps);
+    add_hits(slots, insn.op, facts, &facts.signs, counts, &mut steps);
 }
 
 /// Adds one to the counts of the points that an instruction hits.

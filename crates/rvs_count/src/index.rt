@@ -123,6 +123,7 @@ impl<'g> Index<'g> {
 
     /// Adds one to the counts of the points that an instruction hits whose registers held these
     /// words before it.
+    #[tactic(auto, using(crate::proofs::Sums::none_to_add))]
     pub(crate) fn add(&self, insn: &Insn, before: &Registers, counts: &mut Vec<u64>)
         requires count { length counts.old.items ≡ length (aims_in self.now) }
         requires low { All (λ n. n ≤ 2 ^ 40) counts.old.items }
@@ -130,6 +131,9 @@ impl<'g> Index<'g> {
             (word_of before.now insn.now.rs1) (word_of before.now insn.now.rs2))
             (aims_in self.now) counts.old.items }
     {
+        if counts.is_empty() {
+            return;
+        }
         let facts = take_facts(facts_of(insn, before));
         let buckets = visited(&facts);
         self.add_buckets(&buckets, &facts, counts);

@@ -2,13 +2,16 @@
 ghost use Rattle.std.specs.Prelude.{◌≡◌, ◌≤◌, ◌^◌, IfSome, unsigned_abs};
 ghost use Rattle.std.proofs.Props.{props};
 ghost use Rattle.rvs_expr_text.specs.declared.lexeme.NumName.TheVariants.{Rs1Val, Rs2Val, ImmVal, EaAlign};
-ghost use Rattle.rvs_facts.specs.Facts.{num_of};
+ghost use Rattle.rvs_facts.specs.Facts.{facts_of, num_of};
+ghost use Rattle.rvs_count.specs.Signs.{signs_of};
 
+use crate::taken::{Operands, SIGNS, take_signs};
 use rvs_expr::{Facts, NumName, RegName};
 use rvs_facts::InsnFacts;
 use rvs_insn::Insn;
 
-/// The facts of an instruction with its numbers, so that no point works them out again.
+/// The facts of an instruction with its numbers and their signs, so that no point works them out
+/// again.
 #[derive(Clone, Copy)]
 pub(crate) struct Known<'i> {
     pub insn: &'i Insn,
@@ -18,6 +21,8 @@ pub(crate) struct Known<'i> {
     pub rs2_val: Option<i64>,
     pub imm_val: Option<i64>,
     pub ea_align: Option<i64>,
+    pub signs: [bool; SIGNS],
+    ghost signs_known: { signs ≡ signs_of (facts_of insn.now first second) } by { Prim.hlevel props },
     ghost rs1_known: { rs1_val ≡ num_of insn.now first second Rs1Val } by { Prim.hlevel props },
     ghost rs2_known: { rs2_val ≡ num_of insn.now first second Rs2Val } by { Prim.hlevel props },
     ghost imm_known: { imm_val ≡ num_of insn.now first second ImmVal } by { Prim.hlevel props },
@@ -29,19 +34,33 @@ pub(crate) struct Known<'i> {
 }
 
 /// Takes each fact.
+#[tactic(auto, unfolding(crate::specs::Signs::signs_of))]
 pub(crate) fn take_facts(facts: InsnFacts<'_>) -> Known<'_>
     ensures insn { result.insn.now ≡ facts.entry.insn.now }
     ensures first { result.first ≡ facts.entry.first }
     ensures second { result.second ≡ facts.entry.second }
 {
+    let insn = facts.insn;
+    let rs1_val = facts.num(NumName::Rs1Val);
+    let rs2_val = facts.num(NumName::Rs2Val);
+    let imm_val = facts.num(NumName::ImmVal);
+    let signs = take_signs(Operands {
+        rd: insn.rd,
+        rs1: insn.rs1,
+        rs2: insn.rs2,
+        rs1_val,
+        rs2_val,
+        imm_val,
+    });
     Known {
-        insn: facts.insn,
+        insn,
         first: facts.first,
         second: facts.second,
-        rs1_val: facts.num(NumName::Rs1Val),
-        rs2_val: facts.num(NumName::Rs2Val),
-        imm_val: facts.num(NumName::ImmVal),
+        rs1_val,
+        rs2_val,
+        imm_val,
         ea_align: facts.num(NumName::EaAlign),
+        signs,
     }
 }
 

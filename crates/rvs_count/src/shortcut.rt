@@ -1,15 +1,20 @@
-// Points that say a mnemonic, a register or a number.
+// Points that say a mnemonic, a register, a number or signs.
 ghost use Rattle.std.specs.Prelude.{◌≡◌, IfSome};
 ghost use Rattle.rvs_cgf.specs.GroupView.{point_view};
 ghost use Rattle.rvs_cgf.specs.Groups.{reg_is};
 ghost use Rattle.rvs_cgf.specs.Hits as hit;
 ghost use Rattle.rvs_count.specs.Shortcuts as spec;
+ghost use Rattle.rvs_count.specs.Signs.{signs_of};
 ghost use Rattle.rvs_expr.specs.Equated as equated;
-ghost use Rattle.rvs_expr.specs.Meaning.{Table};
+ghost use Rattle.rvs_expr.specs.Meaning.{Table, holds};
+ghost use Rattle.rvs_expr.specs.TypedView.{view};
 ghost use Rattle.rvs_insn.specs.declared.op.Op as mnemonic;
 
+use crate::said::signs_said;
+use crate::signs::Signs;
+use crate::taken::{SIGNS, are_so};
 use rvs_cgf::{Kind, Meaning, Point};
-use rvs_expr::{Facts, NumName, RegName};
+use rvs_expr::{Expr, Facts, NumName, RegName};
 use rvs_facts::is_same;
 use rvs_insn::Op;
 
@@ -22,6 +27,8 @@ pub enum Shortcut {
     Register(RegName, u8),
     /// The number of this name is this one.
     Number(NumName, i64),
+    /// These three signs are so.
+    Three(Signs),
 }
 
 /// Whether a number is there and is this one.
@@ -45,14 +52,18 @@ fn is_register(number: u8, found: Option<u8>) -> bool
 }
 
 impl Shortcut {
-    /// Whether it is so of an instruction of this mnemonic and with these facts.
-    pub(crate) fn holds<F: Facts>(self, op: Op, facts: &F) -> bool
+    /// Whether it is so of an instruction of this mnemonic, with these facts and their signs.
+    #[tactic(auto, using(crate::proofs::Turned::signs_length))]
+    #[inline(always)]
+    pub(crate) fn holds<F: Facts>(self, op: Op, facts: &F, signs: &[bool; SIGNS]) -> bool
+        requires { signs.now ≡ signs_of (F.table facts.now) }
         ensures { result ≡ spec.says self op (F.table facts.now) }
     {
         match self {
             Shortcut::Mnemonic(mnemonic) => is_same(mnemonic, op),
             Shortcut::Register(name, number) => is_register(number, facts.reg(name)),
             Shortcut::Number(name, value) => is_value(value, facts.num(name)),
+            Shortcut::Three(three) => are_so(signs, three),
         }
     }
 }
@@ -69,7 +80,18 @@ fn register(kind: Kind, number: u8) -> Option<Shortcut>
     }
 }
 
-/// What a point says, where it is a mnemonic, a register or the number of a name.
+/// The signs that an expression says.
+fn three_signs(expr: &Expr) -> Option<Shortcut>
+    ensures { IfSome result (λ s. (op : mnemonic.Op) (t : Table) →
+        holds t (view expr.now) ≡ spec.says s op t) }
+{
+    match signs_said(expr.formula()) {
+        None => None,
+        Some(signs) => Some(Shortcut::Three(signs)),
+    }
+}
+
+/// What a point says, where it is a mnemonic, a register, the number of a name or signs.
 pub(crate) fn shortcut_of(point: &Point) -> Option<Shortcut>
     ensures { IfSome result (λ s. (op : mnemonic.Op) (t : Table) →
         hit.holds (point_view point.now) op t ≡ spec.says s op t) }
@@ -78,9 +100,10 @@ pub(crate) fn shortcut_of(point: &Point) -> Option<Shortcut>
         Meaning::OpIs(mnemonic) => Some(Shortcut::Mnemonic(*mnemonic)),
         Meaning::RegIs(number) => register(point.kind, *number),
         Meaning::Nums(expr) => match expr.equation() {
-            None => None,
+            None => three_signs(expr),
             Some((name, value)) => Some(Shortcut::Number(name, value)),
         },
+        Meaning::Regs(expr) => three_signs(expr),
         _ => None,
     }
 }

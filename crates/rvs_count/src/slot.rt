@@ -4,17 +4,19 @@ ghost use Rattle.std.proofs.Props.{props};
 ghost use Rattle.rvs_cgf.specs.GroupView.{point_view};
 ghost use Rattle.rvs_cgf.specs.Hits as hit;
 ghost use Rattle.rvs_count.specs.Shortcuts.{says};
+ghost use Rattle.rvs_count.specs.Signs.{signs_of};
 ghost use Rattle.rvs_expr.specs.Meaning.{Table};
 ghost use Rattle.rvs_insn.specs.declared.op.Op as mnemonic;
 
 use crate::shortcut::{Shortcut, shortcut_of};
+use crate::taken::SIGNS;
 use rvs_cgf::Point;
 use rvs_expr::{Facts, Steps};
 use rvs_insn::Op;
 use std::sync::ledger::Ledger;
 
-/// A point and its place among the counts; and what it says, where that is a mnemonic, a register
-/// or a number, which are then compared without the point.
+/// A point and its place among the counts; and what it says, where that is a mnemonic, a
+/// register, a number or signs, which are then compared without the point.
 #[derive(Clone, Copy)]
 pub struct Slot<'g> {
     pub point: &'g Point,
@@ -38,13 +40,22 @@ impl<'g> Slot<'g> {
         }
     }
 
-    /// Whether the point is hit by an instruction of this mnemonic and with these facts.
-    pub(crate) fn holds<F: Facts, L: Ledger>(&self, op: Op, facts: &F, steps: &mut Steps<L>) -> bool
+    /// Whether the point is hit by an instruction of this mnemonic, with these facts and their
+    /// signs.
+    #[inline(always)]
+    pub(crate) fn holds<F: Facts, L: Ledger>(
+        &self,
+        op: Op,
+        facts: &F,
+        signs: &[bool; SIGNS],
+        steps: &mut Steps<L>,
+    ) -> bool
+        requires { signs.now ≡ signs_of (F.table facts.now) }
         ensures { result ≡ hit.holds (point_view self.now.point.now) op (F.table facts.now) }
     {
         match self.shortcut {
             None => self.point.holds(op, facts, steps),
-            Some(shortcut) => shortcut.holds(op, facts),
+            Some(shortcut) => shortcut.holds(op, facts, signs),
         }
     }
 }

@@ -1,0 +1,52 @@
+-- What instructions are told apart by, where neither a number nor a register says it alone: signs, and what is equal.
+use Rattle.std.specs.Prelude.{ℕ, ℤ, pos, Bool, true, false, ◌&&◌, List, [], ◌∷◌, Option, Some, slice_index_or}
+use Rattle.rvs_expr_text.specs.declared.lexeme.NumName.TheVariants.{Rs1Val, Rs2Val, ImmVal}
+use Rattle.rvs_expr_text.specs.declared.lexeme.RegName.TheVariants.{Rd, Rs1, Rs2}
+use Rattle.rvs_expr.specs.declared.formula.Comparison.{Comparison}
+use Rattle.rvs_expr.specs.declared.formula.Comparison.TheVariants.{Equal, Unequal, Below, Above}
+use Rattle.rvs_count.specs.declared.signs.Signs.{Signs}
+use Rattle.rvs_expr.specs.Meaning.{Table, both, compare, equation, is_true}
+
+-- both numbers are there and compare so
+abbrev pub compares : Comparison → Option ℤ → Option ℤ → Bool
+compares op a b = is_true (both (λ x y. compare op x y) a b)
+
+-- both registers are there and are one, or aren't
+abbrev pub relates : Bool → Option ℕ → Option ℕ → Bool
+relates equal a b = is_true (both (λ x y. equation equal x y) a b)
+
+-- the signs of three numbers, whether the first two are one, and which registers are one
+abbrev pub signs : Option ℕ → Option ℕ → Option ℕ → Option ℤ → Option ℤ → Option ℤ → List Bool
+signs rd rs1 rs2 rs1_val rs2_val imm_val =
+    true
+    ∷ compares Below rs1_val (Some (pos 0))
+    ∷ compares Equal rs1_val (Some (pos 0))
+    ∷ compares Above rs1_val (Some (pos 0))
+    ∷ compares Below rs2_val (Some (pos 0))
+    ∷ compares Equal rs2_val (Some (pos 0))
+    ∷ compares Above rs2_val (Some (pos 0))
+    ∷ compares Below imm_val (Some (pos 0))
+    ∷ compares Equal imm_val (Some (pos 0))
+    ∷ compares Above imm_val (Some (pos 0))
+    ∷ compares Equal rs1_val rs2_val
+    ∷ compares Unequal rs1_val rs2_val
+    ∷ relates true rd rs1
+    ∷ relates false rd rs1
+    ∷ relates true rd rs2
+    ∷ relates false rd rs2
+    ∷ relates true rs1 rs2
+    ∷ relates false rs1 rs2
+    ∷ relates true rd (Some 0)
+    ∷ []
+
+-- those of a table
+unfoldable pub signs_of : Table → List Bool
+signs_of t = signs (t.reg Rd) (t.reg Rs1) (t.reg Rs2) (t.num Rs1Val) (t.num Rs2Val) (t.num ImmVal)
+
+-- one of them
+abbrev pub sign_at : ℕ → Table → Bool
+sign_at k t = slice_index_or (signs_of t) k false
+
+-- three of them
+abbrev pub all_signs : Signs → Table → Bool
+all_signs s t = (sign_at s.first t && sign_at s.second t) && sign_at s.third t
