@@ -22,6 +22,7 @@ mod Answered
 mod Readers
 mod GroupInputs
 mod NormalAgain
+mod NormalPlan
 mod NormalizeEnds
 mod LogReads
 mod ImageBytes

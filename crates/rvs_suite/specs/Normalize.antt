@@ -1,19 +1,36 @@
 -- What `normalize` does.
-use Rattle.std.specs.Prelude.{ℕ, List}
-use Rattle.rvs_plan.specs.Plan.{Plan, gives, prints, ◌>>=◌}
+use Rattle.std.specs.Prelude.{ℕ, List, None}
+use Rattle.rvs_plan.specs.Plan.{Plan, Ends, gives, prints, ◌>>=◌}
 use Rattle.rvs_plan.specs.declared.status.Finish.{Finish}
 use Rattle.rvs_plan.specs.declared.status.Finish.TheVariants.{Done}
+use Rattle.rvs_insn.specs.Isa.{Isa}
 use Rattle.rvs_cgf.specs.Print.{normal_text}
-use Rattle.rvs_suite.specs.GroupFiles.{Inputs, group_inputs}
+use Rattle.rvs_suite.specs.Seen.{seen}
+use Rattle.rvs_suite.specs.Specification.{specification}
+use Rattle.rvs_suite.specs.GroupFiles.{Inputs, joins_all, groups_found, group_inputs}
+
+abbrev pub print_text : List ℕ → Plan Finish
+print_text text = do
+  _ ← prints text
+  gives Done
 
 -- the groups are put, with all points written out
 abbrev pub print_normal : Inputs → Plan Finish
-print_normal inputs = do
-  _ ← prints (normal_text inputs.groups)
-  gives Done
+print_normal inputs = print_text (normal_text inputs.groups)
 
 -- the files are read and checked, and then the groups are put
 abbrev pub normalize : List ℕ → List (List ℕ) → Plan Finish
 normalize isa names = do
   inputs ← group_inputs isa names
   print_normal inputs
+
+-- ---- the normal text alone
+abbrev pub normal_files : Isa → List (List ℕ) → Plan (List ℕ)
+normal_files isa names = do
+  text ← joins_all None names
+  Ends (seen normal_text (groups_found isa text))
+
+abbrev pub normal_inputs : List ℕ → List (List ℕ) → Plan (List ℕ)
+normal_inputs isa names = do
+  said ← specification isa
+  normal_files said.spec names

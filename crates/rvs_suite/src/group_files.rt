@@ -26,7 +26,7 @@ use std::alloc::Global;
 pub const GROUPS_LIMIT: u64 = 4_194_304;
 
 /// What the joined group files are called in a line for errors.
-const GROUPS_NAME: &str = "coverage files";
+pub const GROUPS_NAME: &str = "coverage files";
 
 /// A core, and coverage groups that were read for it.
 #[derive(Drop)]
@@ -74,11 +74,15 @@ fn read_group_files<H: Host>(
     ensures valid { IfOk result (All (λ l. IsValidIfSelected isa.now (label_view l))) }
 {
     let text = read_joined(alloc, host, names)?;
-    check_text(alloc, isa, text.as_slice())
+    check_text(alloc, isa, text)
 }
 
-/// The text of the named files.
-fn read_joined<H: Host>(alloc: Global, host: &mut H, names: &[Text]) -> Result<Bytes, Stop>
+/// The text of the named files, joined in order with a line feed between.
+///
+/// # Errors
+///
+/// [`Stop`]: a file isn't there or can't be read, or all of them are longer than [`GROUPS_LIMIT`].
+pub fn read_joined<H: Host>(alloc: Global, host: &mut H, names: &[Text]) -> Result<Bytes, Stop>
     ensures { (out : SinkState) → Meets (joins_all Option.None names.now) (world (H.state host.old) out)
         (world (H.state host.new) out) result }
 {
@@ -146,13 +150,17 @@ fn within_limit(alloc: Global, text: Bytes) -> Result<Bytes, Stop>
     }
 }
 
-fn check_text(alloc: Global, isa: &IsaSpec, text: &[u8]) -> Result<Groups, Stop>
-    ensures met { (w : World) → Meets (Ends (groups_found isa.now text.now)) w w
+/// The groups of a text, which is let go before they are made.
+fn check_text(alloc: Global, isa: &IsaSpec, text: Bytes) -> Result<Groups, Stop>
+    ensures met { (w : World) → Meets (Ends (groups_found isa.now text)) w w
         (seen groups_view result) }
     ensures valid { IfOk result (All (λ l. IsValidIfSelected isa.now (label_view l))) }
 {
-    match parse(alloc, text) {
-        Ok(tree) => check_tree(alloc, isa, &tree),
+    match parse(alloc, text.as_slice()) {
+        Ok(tree) => {
+            drop(text);
+            check_tree(alloc, isa, &tree)
+        }
         Err(refusal) => Err(Stop::Refused(yaml_text(alloc, GROUPS_NAME, &refusal)?)),
     }
 }
@@ -169,7 +177,11 @@ fn check_tree(alloc: Global, isa: &IsaSpec, tree: &Tree) -> Result<Groups, Stop>
 }
 
 /// Why the groups are refused. There is no text where memory was wanting.
-fn group_text(alloc: Global, refusal: &CgfRefusal) -> Result<Text, NoMemory>
+///
+/// # Errors
+///
+/// [`NoMemory`].
+pub fn group_text(alloc: Global, refusal: &CgfRefusal) -> Result<Text, NoMemory>
     ensures fault { IfOk result (λ _. refusal.now.kind ≢ CgfKind.NoMemory) }
     ensures text { IfOk result (λ text. text ≡ group_text (refusal_view refusal.now)) }
 {

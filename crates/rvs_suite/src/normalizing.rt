@@ -1,14 +1,24 @@
 // The command `normalize`.
+ghost use Rattle.std.specs.Prelude.{Ok, Err};
 ghost use Rattle.rvs_base.specs.Host.{HostState};
-ghost use Rattle.rvs_plan.specs.World.{world};
+ghost use Rattle.rvs_base.specs.Sink.{SinkState};
+ghost use Rattle.rvs_plan.specs.World.{World, world};
+ghost use Rattle.rvs_plan.specs.Plan.{Ends};
 ghost use Rattle.rvs_plan.specs.Meets.{Meets};
-ghost use Rattle.rvs_suite.specs.GroupsView.{inputs_view};
-ghost use Rattle.rvs_suite.specs.Normalize.{print_normal, normalize};
+ghost use Rattle.rvs_tree.specs.TreeView.{view};
+ghost use Rattle.rvs_cgf.specs.Groups.{groups_of};
+ghost use Rattle.rvs_cgf.specs.Print.{normal_text};
+ghost use Rattle.rvs_suite.specs.Seen.{seen};
+ghost use Rattle.rvs_suite.specs.GroupFiles.{checked_groups, groups_found};
+ghost use Rattle.rvs_suite.specs.Normalize.{print_text, normal_files, normal_inputs, normalize};
 
-use crate::group_files::{Inputs, read_inputs};
-use rvs_base::{Host, Sink, Text};
-use rvs_cgf::normal_text;
+use crate::group_files::{GROUPS_NAME, group_text, read_joined};
+use crate::isa_file::{read_isa, yaml_text};
+use rvs_base::{Bytes, Host, Sink, Text};
+use rvs_cgf::write_groups;
+use rvs_insn::IsaSpec;
 use rvs_plan::{Finish, Stop, print};
+use rvs_yaml::{Tree, parse};
 use std::alloc::Global;
 
 /// Reads coverage group files for the core of an ISA file, and puts the groups with all points
@@ -27,15 +37,66 @@ pub fn normalize_files<H: Host, O: Sink>(
     ensures { Meets (normalize isa.now names.now) (world (H.state host.old) (O.state out.old))
         (world (H.state host.new) (O.state out.new)) result }
 {
-    let inputs = read_inputs(alloc, host, isa, names)?;
-    print_normal(alloc, &inputs, out)
+    let text = read_normal(alloc, host, isa, names)?;
+    print_text(&text, out)
 }
 
-fn print_normal<O: Sink>(alloc: Global, inputs: &Inputs, out: &mut O) -> Result<Finish, Stop>
-    ensures { (host : HostState) → Meets (print_normal (inputs_view inputs.now))
+fn print_text<O: Sink>(text: &Text, out: &mut O) -> Result<Finish, Stop>
+    ensures { (host : HostState) → Meets (print_text text.now)
         (world host (O.state out.old)) (world host (O.state out.new)) result }
 {
-    let text = normal_text(alloc, &inputs.groups)?;
     print(out, text.as_str().as_bytes())?;
     Ok(Finish::Done)
+}
+
+/// The normal text of the groups of the named files, for the core of an ISA file.
+fn read_normal<H: Host>(
+    alloc: Global,
+    host: &mut H,
+    isa: &str,
+    names: &[Text],
+) -> Result<Text, Stop>
+    ensures { (out : SinkState) → Meets (normal_inputs isa.now names.now)
+        (world (H.state host.old) out) (world (H.state host.new) out) result }
+{
+    let said = read_isa(alloc, host, isa)?;
+    read_normal_files(alloc, host, &said.spec, names)
+}
+
+/// The normal text of the groups of the named files, for a core.
+fn read_normal_files<H: Host>(
+    alloc: Global,
+    host: &mut H,
+    isa: &IsaSpec,
+    names: &[Text],
+) -> Result<Text, Stop>
+    ensures { (out : SinkState) → Meets (normal_files isa.now names.now)
+        (world (H.state host.old) out) (world (H.state host.new) out) result }
+{
+    let text = read_joined(alloc, host, names)?;
+    write_text(alloc, isa, text)
+}
+
+/// The normal text of a text's groups. The text is let go before it is made.
+fn write_text(alloc: Global, isa: &IsaSpec, text: Bytes) -> Result<Text, Stop>
+    ensures { (w : World) → Meets (Ends (seen normal_text (groups_found isa.now text))) w w
+        result }
+{
+    match parse(alloc, text.as_slice()) {
+        Ok(tree) => {
+            drop(text);
+            write_tree(alloc, isa, &tree)
+        }
+        Err(refusal) => Err(Stop::Refused(yaml_text(alloc, GROUPS_NAME, &refusal)?)),
+    }
+}
+
+fn write_tree(alloc: Global, isa: &IsaSpec, tree: &Tree) -> Result<Text, Stop>
+    ensures { (w : World) → Meets
+        (Ends (seen normal_text (checked_groups (groups_of isa.now (view tree.now))))) w w result }
+{
+    match write_groups(alloc, tree, isa) {
+        Ok(text) => Ok(text),
+        Err(refusal) => Err(Stop::Refused(group_text(alloc, &refusal)?)),
+    }
 }

@@ -1,11 +1,7 @@
-use Rattle.std.proofs.Common.{List, ℕ, subst}
 use Rattle.std.proofs.lemmas.Result.{err_from_is_err_and}
 use Rattle.rvs_plan.specs.World.{world}
 use Rattle.rvs_plan.specs.Plan.{Ends}
-use Rattle.rvs_plan.specs.Meets.{Meets}
 use Rattle.rvs_plan.proofs.Sequence.{Meets-then, Meets-stop}
-use Rattle.rvs_suite.specs.Seen.{seen}
-use Rattle.rvs_suite.specs.GroupsView.{groups_view}
 use Rattle.rvs_suite.specs.GroupFiles.{groups_found}
 use Rattle.rvs_suite.proofs.group_files.read_group_files.Goals as goal
 
@@ -17,5 +13,4 @@ returns-in_err-text-clause-met g c = λ out.
 pub returns-clause-met : goal.returns-clause-met
 returns-clause-met g c = λ out.
     let w = world (g.H.Host.state c.read_joined.new.host) out in
-    let last = subst (λ (text : List ℕ). Meets (Ends (groups_found c.args.isa.now text)) w w (seen groups_view c.check_text.result)) c.as_slice.ensures (c.check_text.ensures.met w) in
-    Meets-then (λ text. Ends (groups_found c.args.isa.now text)) (c.in_ok-text.ensures out) last
+    Meets-then (λ text. Ends (groups_found c.args.isa.now text)) (c.in_ok-text.ensures out) (c.check_text.ensures.met w)
