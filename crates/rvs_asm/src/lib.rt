@@ -20,6 +20,3 @@ pub use mark::Mark;
 pub use place::Place;
 pub use refusal::{AsmKind, AsmRefusal};
 pub use symbols::Symbols;
-
-#[cfg(test)]
-mod tests;

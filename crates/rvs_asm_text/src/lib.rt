@@ -22,6 +22,3 @@ pub use names::Name;
 pub use numbers::number;
 pub use reading::read_line;
 pub use registers::register;
-
-#[cfg(test)]
-mod tests;

@@ -13,8 +13,6 @@ mod memory_run;
 mod memory_sink;
 mod number;
 mod sink;
-#[cfg(test)]
-mod tests;
 mod text;
 
 pub use answers::{Answer, Leaves};

@@ -30,6 +30,3 @@ pub use file::{LogFault, count_file};
 pub use report::report_text;
 pub use whole::{Counted, count_log};
 pub use window::Window;
-
-#[cfg(test)]
-mod tests;

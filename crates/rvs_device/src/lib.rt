@@ -6,8 +6,6 @@ mod judging;
 mod printing;
 mod reading;
 mod refusals;
-#[cfg(test)]
-mod tests;
 mod verdicts;
 mod words;
 

@@ -9,8 +9,6 @@ mod names;
 mod op;
 mod rows;
 mod spec;
-#[cfg(test)]
-mod tests;
 
 pub use decoding::decode;
 pub use encoding::encode;

@@ -10,8 +10,6 @@ mod misa;
 mod number;
 mod print;
 mod refusal;
-#[cfg(test)]
-mod tests;
 mod unread;
 mod value;
 

@@ -15,6 +15,3 @@ pub use reading::{Line, Record, read_line};
 pub use registers::Registers;
 pub use view::{View, facts_of};
 pub use written::log_line;
-
-#[cfg(test)]
-mod tests;

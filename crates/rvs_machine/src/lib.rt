@@ -14,8 +14,6 @@ mod plan;
 mod reading;
 mod run;
 mod symbol;
-#[cfg(test)]
-mod tests;
 
 pub use event::{Commit, End, Event, Executed, Trace, Trap, TrapKind};
 pub use image::{DATA_BASE, DATA_LIMIT, Image, TEXT_BASE, TEXT_LIMIT};

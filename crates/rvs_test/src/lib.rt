@@ -10,8 +10,6 @@ mod making;
 mod printing;
 mod shorthands;
 mod statement;
-#[cfg(test)]
-mod tests;
 mod writing;
 
 pub use laws::tests_run;

@@ -25,6 +25,3 @@ pub use reader::{fronts_have_trees, parse, refusals_are_least};
 pub use refusal::YamlRefusal;
 pub use rvs_tree::Tree;
 pub use rvs_yaml_text::YamlKind;
-
-#[cfg(test)]
-mod tests;

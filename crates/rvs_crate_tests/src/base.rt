@@ -1,5 +1,5 @@
 // What no clause says: calls that have memory succeed, and text is spelt as people write it.
-use crate::{
+use rvs_base::{
     Answer, Failed, FileRefusal, Files, Host, Items, Leaves, MemoryHost, MemorySink, Text, decimal,
     first_line, hex_word, number_below, put_all, read_file, short_number, without_return,
 };

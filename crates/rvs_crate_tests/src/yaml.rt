@@ -1,5 +1,5 @@
 // The profile on texts whose answers the format's rules give.
-use crate::{Tree, parse};
+use rvs_yaml::{Tree, parse};
 use std::alloc::Global;
 use std::test::Fail;
 

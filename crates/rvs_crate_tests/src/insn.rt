@@ -1,5 +1,5 @@
 // Words that GNU as makes, and texts.
-use crate::{
+use rvs_insn::{
     Format, Insn, IsaSpec, Op, admits, decode, encode, format, isa_text, op_name, op_of,
     reads_unsigned,
 };

@@ -1,6 +1,6 @@
 // Device files as people write them, and verdicts on what devices leave, over a host in memory.
-use crate::{Device, JudgeFault, TestVerdict, judge, read_device, refusal_text, verdict_line};
 use rvs_base::{Answer, Bytes, Files, Items, Leaves, MemoryHost, NoMemory, Text};
+use rvs_device::{Device, JudgeFault, TestVerdict, judge, read_device, refusal_text, verdict_line};
 use std::alloc::Global;
 use std::test::Fail;
 

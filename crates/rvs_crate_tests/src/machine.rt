@@ -1,10 +1,10 @@
 // What QEMU computes, traps, image files and runs.
-use crate::{
+use rvs_base::{Bytes, Items};
+use rvs_insn::IsaSpec;
+use rvs_machine::{
     Commit, End, Event, Executed, Image, ImageKind, ImageRefusal, Machine, Trace, Trap, TrapKind,
     read_image,
 };
-use rvs_base::{Bytes, Items};
-use rvs_insn::IsaSpec;
 use std::alloc::{AllocError, Global};
 use std::test::Fail;
 

@@ -1,5 +1,5 @@
 // Texts of expressions, read without regard to what their words mean.
-use crate::{Language, read_node};
+use rvs_expr_text::{Language, read_node};
 use std::test::Fail;
 
 /// Kind and column of a refusal, or `ok`, and the text, one a line.

@@ -1,9 +1,9 @@
 // Logs of every style, cut at every place into two pieces, and counted from a file.
 ghost use Rattle.std.specs.Prelude.{◌<◌};
 
-use crate::{Counter, Window, count_file, count_log};
 use rvs_base::{Files, Items, MemoryHost, NoMemory, Text};
 use rvs_cgf::{Groups, Kind, Label, Meaning, Point};
+use rvs_count::{Counter, Window, count_file, count_log};
 use rvs_cross::{Cross, CrossRead, parse_cross};
 use rvs_expr::{Expr, NumName};
 use rvs_insn::Op;

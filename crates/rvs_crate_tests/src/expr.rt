@@ -1,5 +1,5 @@
 // Expressions, as what they are read as or why they are refused.
-use crate::{Expr, ExprRefusal, NumName, parse_num, parse_reg};
+use rvs_expr::{Expr, ExprRefusal, NumName, parse_num, parse_reg};
 use std::alloc::{AllocError, Global};
 use std::test::Fail;
 

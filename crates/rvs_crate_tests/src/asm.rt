@@ -1,5 +1,5 @@
 // Rows from outside: worked rows, inputs at the edges of the grammar, and a page that GNU as made.
-use crate::{AsmKind, assemble};
+use rvs_asm::{AsmKind, assemble};
 use rvs_insn::IsaSpec;
 use std::alloc::Global;
 use std::process::Abort;

@@ -1,6 +1,6 @@
 // Whole ISA files and what is printed of them.
-use crate::{check, print_checked, refusal_text};
 use rvs_base::{NoMemory, Text};
+use rvs_isa::{check, print_checked, refusal_text};
 use std::alloc::Global;
 
 // What is printed of a file: the checked specification, or why it is refused.

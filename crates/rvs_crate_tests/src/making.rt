@@ -3,11 +3,11 @@ ghost use Rattle.std.specs.Prelude.{◌≡◌, ◌<◌, All};
 ghost use Rattle.rvs_cgf.specs.GroupView.{label_view};
 ghost use Rattle.rvs_cgf.specs.Valid.{IsValidIfSelected};
 
-use crate::{Made, make_test};
 use rvs_base::NoMemory;
 use rvs_cgf::{Label, read_groups};
 use rvs_expr::Steps;
 use rvs_insn::IsaSpec;
+use rvs_test::{Made, make_test};
 use std::alloc::Global;
 use std::marker::Brand;
 use std::sync::ledger::{Blank, Ledger};

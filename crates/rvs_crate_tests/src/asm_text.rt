@@ -1,5 +1,5 @@
 // The header's number of steps.
-use crate::steps_of_header;
+use rvs_asm_text::steps_of_header;
 
 #[test]
 fn steps(rt: HostRuntime) {
