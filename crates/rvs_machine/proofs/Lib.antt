@@ -15,3 +15,4 @@ pub mod Jumps
 pub mod Commits
 pub mod FileTree
 pub mod FirstFaults
+pub mod Fetching

@@ -1,5 +1,5 @@
 mod Decoding
-mod Differences
+pub mod Differences
 mod Cutting
 mod Counting
 mod Printing
