@@ -2,9 +2,9 @@
 use Rattle.std.proofs.Common.{◌≡◌, ◌↔◌, ◌≤◌, ℕ, ◌+◌, ℤ, Bool, true, false, not, cond, nat_lt, ◌==◌, ◌&&◌, eq-eqb, if◌then◌else◌, List, [], ◌∷◌, length, Option, Some, None, Result, Ok, Err, refl, sym, ap, subst, ◌∙◌, arith}
 use Rattle.std.proofs.lemmas.Bool.{le-ltb, ltb-false}
 use Rattle.std.proofs.lemmas.Bool.Decides.{nat_tests}
-use Rattle.std.proofs.lemmas.Iterator.Adapters.{position_from-zero}
-use Rattle.std.specs.List.{zip, position, position_from}
+use Rattle.std.specs.List.{zip, position}
 use Rattle.rvs_sig.specs.Words.{words_of}
+use Rattle.rvs_sig.proofs.Differences.{agrees, differs_nowhere}
 use Rattle.rvs_sig.specs.Verdicts.{differ, verdict_at, verdict_of}
 use Rattle.rvs_sig.specs.declared.words.SigRefusal.{SigRefusal}
 use Rattle.rvs_sig.specs.declared.words.SigRefusal.TheVariants.{BadLine}
@@ -15,35 +15,15 @@ use Rattle.rvs_device.specs.Judged.{signature_limit, compared, spelt, verdict_on
 use Rattle.rvs_device.specs.Judging.{Task, Spells}
 use Rattle.rvs_device.specs.declared.verdicts.TestVerdict.TheVariants.{Pass, NoSignature, TooLong}
 
-same_head : (l r i : ℕ) (more : Option ℕ) (same : Bool) → (l == r) ≡ same → cond (not same) (Some i) more ≡ None → (l ≡ r) × (more ≡ None)
-same_head l r i more true is e = (grind (arith, nat_tests), e)
-same_head l r i more false is e = absurd cc
-
--- lists of one length of which no place differs are the same
-same_words : (i : ℕ) (left right : List ℕ) → length left ≡ length right → position_from differ i (zip left right) ≡ None → left ≡ right
-same_words i [] [] n e = refl
-same_words i [] (r ∷ right) n e = absurd (omega arith)
-same_words i (l ∷ left) [] n e = absurd (omega arith)
-same_words i (l ∷ left) (r ∷ right) n e =
-    let head = same_head l r i (position_from differ (i + 1) (zip left right)) (l == r) refl e in
-    let lengths : length left ≡ length right = omega arith in
-    let rest : left ≡ right = same_words (i + 1) left right lengths head.1 in
-    let first : l ≡ r = head.0 in cc
-
--- no place of a list differs from itself
-position_from-same : (i : ℕ) (words : List ℕ) → position_from differ i (zip words words) ≡ None
-position_from-same i [] = refl
-position_from-same i (w ∷ words) = ap (λ (same : Bool). cond (not same) (Some i) (position_from differ (i + 1) (zip words words))) (eq-eqb w w refl) ∙ position_from-same (i + 1) words
-
 compared-same : (status : ℤ) (words : List ℕ) → compared status (verdict_of words words) ≡ Pass (length words) status
 compared-same status words =
     ap (λ (lengths : Bool). compared status (if lengths then verdict_at words words (position differ (zip words words)) else sig.Lengths (length words) (length words))) (eq-eqb (length words) (length words) refl)
-    ∙ ap (λ (first : Option ℕ). compared status (verdict_at words words first)) (position_from-zero differ (zip words words) ∙ position_from-same 0 words)
+    ∙ ap (λ (first : Option ℕ). compared status (verdict_at words words first)) (differs_nowhere words)
 
 -- by the lengths, and the first place that differs
 same_by : (status : ℤ) (n : ℕ) (left right : List ℕ) (lengths : Bool) (first : Option ℕ) → (length left == length right) ≡ lengths → position differ (zip left right) ≡ first
     → compared status (if lengths then verdict_at left right first else sig.Lengths (length left) (length right)) ≡ Pass n status → left ≡ right
-same_by status n left right true None lengths first e = let same : length left ≡ length right = grind (arith, nat_tests) in same_words 0 left right same (sym (position_from-zero differ (zip left right)) ∙ first)
+same_by status n left right true None lengths first e = let same : length left ≡ length right = grind (arith, nat_tests) in agrees left right same first
 same_by status n left right true (Some at) lengths first e = absurd cc
 same_by status n left right false first lengths is e = absurd cc
 

@@ -13,3 +13,4 @@ pub mod Jumps
 pub mod Commits
 pub mod FileTree
 pub mod FirstFaults
+pub mod Fetching

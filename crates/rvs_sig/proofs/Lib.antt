@@ -1,4 +1,4 @@
 mod Decoding
-mod Differences
+pub mod Differences
 mod Counting
 mod Printing
