@@ -164,6 +164,13 @@ fn add_label<'g>(
     Ok(first + points.len())
 }
 
+/// The same list in no more memory than it needs, so that lists lie close together.
+fn fitted<'g>(alloc: Global, slots: &[Slot<'g>]) -> Result<Items<Slot<'g>>, NoMemory>
+    ensures { IfOk result (λ list. list ≡ slots.now) }
+{
+    Ok(Items::from(Vec::from_slice(alloc, slots)?))
+}
+
 /// The list of this key.
 pub(crate) fn slots_of<'g>(
     alloc: Global,
@@ -178,5 +185,5 @@ pub(crate) fn slots_of<'g>(
     for label in labels {
         first = add_label(&mut slots, label, key, first)?;
     }
-    Ok(slots)
+    fitted(alloc, slots.as_slice())
 }
