@@ -343,7 +343,7 @@ fn closed_copy(alloc: Global, block: &Block<'_>, value: Value) -> Result<Value, 
 }
 
 /// The value of the lines so far.
-pub(crate) fn front_value(alloc: Global, blocks: &[Open<'_>]) -> Result<Value, YamlKind>
+fn front_value(alloc: Global, blocks: &[Open<'_>]) -> Result<Value, YamlKind>
     ensures { Gives value_view result (spec.front_value (stack_view blocks.now)) }
 {
     let Some(top) = blocks.last() else {

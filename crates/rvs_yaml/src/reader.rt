@@ -12,7 +12,8 @@ ghost use Rattle.rvs_tree.specs.TreeView.{view};
 ghost use Rattle.rvs_tree.specs.Data.{depth};
 ghost use Rattle.rvs_yaml_text.specs.Text.{lines_of};
 
-use crate::front::{check_front, front_value};
+use crate::closing::into_value;
+use crate::front::check_front;
 use crate::line::read_line;
 use crate::open::Open;
 use crate::refusal::YamlRefusal;
@@ -122,8 +123,7 @@ fn started_by(started: bool, line: &[u8]) -> bool
 fn whole_tree(alloc: Global, blocks: Vec<Open<'_>>) -> Result<Tree, YamlKind>
     ensures { Gives view result (spec.whole (stack_view blocks.entry.items)) }
 {
-    let value = front_value(alloc, blocks.as_slice())?;
-    drop(blocks);
+    let value = into_value(alloc, blocks)?;
     // Nothing else holds the root now.
     Rc::into_inner(value.tree).ok_or(YamlKind::NoMemory)
 }
