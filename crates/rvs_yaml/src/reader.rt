@@ -17,7 +17,7 @@ use crate::front::check_front;
 use crate::line::read_line;
 use crate::open::Open;
 use crate::refusal::YamlRefusal;
-use rvs_tree::Tree;
+use rvs_tree::{Tree, into_tree};
 use rvs_yaml_text::{YamlKind, first_line, is_blank, without_return};
 use std::alloc::Global;
 use std::rc::Rc;
@@ -125,7 +125,7 @@ fn whole_tree(alloc: Global, blocks: Vec<Open<'_>>) -> Result<Tree, YamlKind>
 {
     let value = into_value(alloc, blocks)?;
     // Nothing else holds the root now.
-    Rc::into_inner(value.tree).ok_or(YamlKind::NoMemory)
+    Rc::into_inner(into_tree(alloc, value)?).ok_or(YamlKind::NoMemory)
 }
 
 /// Where lines have a tree, each front of them has one.
