@@ -52,6 +52,20 @@ def open_dropped(size):
     return nested + dropped + ''.join(' ' * 31 + '%x: x\n' % i for i in range(size // 40))
 
 
+# The same, where each of the lines has a value of its own that is too deep and dropped.
+def open_dropped_each(size):
+    count = size // 84
+    nested = 'r:\n' + ''.join(' ' * (i + 1) + '-\n' for i in range(28))
+    keys = ''.join(' ' * 30 + '%x: 1\n' % i for i in range(count))
+    return nested + keys + ' ' * 30 + '<<:\n' + ''.join(' ' * 31 + '%x: [[[[[]]]]]\n' % i for i in range(count))
+
+
+# Merges nested in one line bring a deep value that the outer one drops, line by line.
+def hidden_in_lines(size):
+    head = 'd: &d\n  k: ' + '[' * 29 + 'x' + ']' * 29 + '\n'
+    return head + ''.join('k%x: [[{k: 1, <<: {x: y, <<: *d}}]]\n' % i for i in range(min(size // 40, 12_000)))
+
+
 # Each map of a chain of open merges has an anchor, and the aliases inside name others.
 def aliases_in_a_chain(size):
     count = size // 60
@@ -142,6 +156,8 @@ FAMILIES = {
     'merges_nested_own': merges_nested_own,
     'merges_nested_lists': merges_nested_lists,
     'open_dropped': open_dropped,
+    'open_dropped_each': open_dropped_each,
+    'hidden_in_lines': hidden_in_lines,
     'aliases_in_a_chain': aliases_in_a_chain,
     'merges_in_a_map': merges_in_a_map,
     'merges_in_a_list': merges_in_a_list,

@@ -1,11 +1,12 @@
 -- How deep trees are, and what an entry more brings.
-use Rattle.std.proofs.Common.{◌≡◌, ℕ, zero, suc, ◌<◌, ◌≤◌, max, min, Bool, true, false, cond, List, [], ◌∷◌, ◌++◌, map, take, slice_get, Some, refl, ap, ◌∙◌, arith}
-use Rattle.std.specs.Prelude.{◌||◌, if◌then◌else◌}
-use Rattle.rvs_tree.specs.Data.{Data, scalar, sequence, mapping, Items, no_items, item, Entries, no_entries, entry, list_of, Pairs, pairs_of, members_of, is_scalar, depth, items_depth, entries_depth}
+use Rattle.std.proofs.Common.{◌≡◌, ℕ, zero, suc, ◌-◌, ◌<◌, ◌≤◌, max, min, Bool, true, false, cond, List, [], ◌∷◌, ◌++◌, map, take, slice_get, Some, refl, ap, ◌∙◌, arith}
+use Rattle.std.specs.Prelude.{◌||◌, nat_lt, if◌then◌else◌}
+use Rattle.std.proofs.lemmas.Bool.Decides.{nat_tests}
+use Rattle.rvs_tree.specs.Data.{Data, scalar, sequence, mapping, Items, no_items, item, Entries, no_entries, entry, list_of, Pairs, pairs_of, members_of, is_scalar, is_list, depth, items_depth, entries_depth}
 use Rattle.rvs_tree.specs.Value.{Written, has_key, keys_of, resolved, explicit_keys, merged_pairs}
 use Rattle.rvs_tree.specs.Bound.{members_depth, pairs_depth, visible_depth, brought, written_depth}
 use Rattle.rvs_tree.specs.Sifted.{sift}
-use Rattle.rvs_tree.proofs.Sums.{pairs_depth-append, has_key-append, visible-append, brought_small}
+use Rattle.rvs_tree.proofs.Sums.{pairs_depth-append, has_key-append, visible-append, brought_small, visible_less, list_shallower, merged_shallower}
 use Rattle.rvs_tree.proofs.Growing.{merge-more, own-more}
 
 items-depth : (ds : Items) → items_depth ds ≡ members_depth (list_of ds)
@@ -106,3 +107,22 @@ merged-by E false d h = cc
 
 pub brought-merged : (E : List (List ℕ)) (m : Bool) (d : Data) (n : ℕ) → m ≡ true → n ≡ min (visible_depth E (merged_pairs d)) 33 → min (brought E m d) 33 ≤ n
 brought-merged E m d n h e = omega (arith, e, merged-by E m d h)
+
+inside-by : (b : Bool) (E : List (List ℕ)) (d : Data) (n : ℕ) → is_list d ≡ b → min (depth d) 33 ≤ n → n < 33 → min (visible_depth E (merged_pairs d)) 33 ≤ n - (if b then 2 else 1)
+inside-by true E d n e h l = omega (arith, h, l, visible_less E (merged_pairs d), list_shallower d e)
+inside-by false E d n e h l = omega (arith, h, l, visible_less E (merged_pairs d), merged_shallower d)
+
+inside-test : (t : Bool) (E : List (List ℕ)) (d : Data) (n : ℕ) → (t ≡ true → n < 33) → (t ≡ false → 33 ≤ n) → min (depth d) 33 ≤ n →
+    min (visible_depth E (merged_pairs d)) 33 ≤ (if t then n - (if is_list d then 2 else 1) else n)
+inside-test true E d n f g h = inside-by (is_list d) E d n refl h (f refl)
+inside-test false E d n f g h = omega (arith, g refl)
+
+lt_true : (a b : ℕ) → nat_lt a b ≡ true → a < b
+lt_true a b h = grind (arith, nat_tests)
+
+lt_false : (a b : ℕ) → nat_lt a b ≡ false → b ≤ a
+lt_false a b h = grind (arith, nat_tests)
+
+-- what is inside a value that is merged
+pub inside-bound : (E : List (List ℕ)) (d : Data) (n : ℕ) → min (depth d) 33 ≤ n → min (visible_depth E (merged_pairs d)) 33 ≤ (if nat_lt n 33 then n - (if is_list d then 2 else 1) else n)
+inside-bound E d n h = inside-test (nat_lt n 33) E d n (lt_true n 33) (lt_false n 33) h

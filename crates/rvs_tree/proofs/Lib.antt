@@ -1,7 +1,9 @@
+pub mod Bared
 pub mod Depths
+pub mod Drafts
+pub mod Entering
 pub mod Growing
 pub mod Merging
-pub mod Sharing
 pub mod Sifting
 pub mod OwnKeys
 pub mod Sums

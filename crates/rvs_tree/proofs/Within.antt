@@ -179,7 +179,7 @@ less-with k T ps = omega (arith, sift-less (k ∷ []) (sift T ps), ap pairs_dept
 pub within-own-more : (n line : ℕ) (ws : List Written) (w : Written) → w.merges ≡ false → has_key w.key (explicit_keys ws) ≡ false → depth w.value.tree ≤ n → Within n (map_value line ws).tree (map_value line (ws ++ w ∷ [])).tree
 within-own-more n line ws w e new h =
     let s = resolved (explicit_keys ws ++ w.key ∷ []) [] ws in
-    let p = (w.key, w.value.tree) ∷ [] in
+    let p : Pairs = (w.key, w.value.tree) ∷ [] in
     let small : (T : List (List ℕ)) → pairs_depth (sift T p) ≤ n = λ T. omega (arith, h, sift-less T p) in
     let less : (T : List (List ℕ)) → pairs_depth (sift T s) ≤ pairs_depth (sift T (pairs ws)) = λ T. omega (arith, ap pairs_depth (dropped ws w.key T new), less-with w.key T (pairs ws)) in
     map-within n line ws (ws ++ w ∷ [])

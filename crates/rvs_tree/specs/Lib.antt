@@ -5,9 +5,14 @@ pub mod OwnKeys
 -- How the code bounds the depth, what stands for a value, and what the values of the code stand for.
 pub mod Bound
 pub mod Sifted
-pub mod Alone
 pub mod Standin
 pub mod TreeSize
 pub mod TreeView
+pub mod DraftView
+pub mod HeldView
 pub mod ValueView
+pub mod Bare
 pub mod PairsView
+pub mod GatheredView
+pub mod Parts
+pub mod PartsView

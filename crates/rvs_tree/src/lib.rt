@@ -2,25 +2,35 @@
 //! depth bounded, in lists and maps, with what a map merges resolved.
 #![tactic(auto)]
 
-mod alone;
 mod counted;
+mod draft;
 mod entry_list;
+mod gather;
+mod gathering;
+mod held;
 mod keys;
 mod members;
 mod merged;
 mod pairs;
+mod parts;
+mod spread;
+mod taken;
 mod thin;
 mod tree;
 mod value;
 mod value_list;
+mod whole;
 mod written;
 
 pub use counted::Value;
+pub use draft::{Draft, Part};
 pub use entry_list::EntryList;
-pub use members::{DEEP, is_map_or_empty};
+pub use held::Held;
+pub use members::{DEEP, depth_up_to};
 pub use merged::{list_value, map_value, own_keys_stay};
 pub use thin::{thin_list_value, thin_map_value, thin_value};
 pub use tree::Tree;
 pub use value::{plus, scalar_value, shared_value, text_nodes};
 pub use value_list::ValueList;
+pub use whole::{into_tree, tree_of};
 pub use written::Written;

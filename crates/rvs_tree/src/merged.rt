@@ -1,28 +1,30 @@
 // The entries of a map, with what is merged into it.
-ghost use Rattle.std.specs.Prelude.{◌≡◌, ◌+◌, ◌∷◌, ◌++◌, ◌||◌, [], map, min, IfOk};
+ghost use Rattle.std.specs.Prelude.{◌≡◌, ◌+◌, ◌∷◌, ◌++◌, ◌||◌, [], true, map, min, IfOk};
 ghost use Rattle.rvs_tree.specs.Value as spec;
 ghost use Rattle.rvs_tree.specs.OwnKeys.{OwnKeysStay};
 ghost use Rattle.rvs_tree.specs.Data.{own_pairs};
 ghost use Rattle.rvs_tree.specs.TreeView.{view, rc_view};
 ghost use Rattle.rvs_tree.specs.ValueView.{value_view, values_view, written_view, entries_view};
 ghost use Rattle.rvs_tree.specs.PairsView.{pairs_view};
+ghost use Rattle.rvs_tree.specs.HeldView.{held_view, is_whole};
 
-use crate::alone::{alone_value, merged_alone};
 use crate::counted::Value;
 use crate::entry_list::EntryList;
+use crate::held::Held;
 use crate::keys::with_key;
 use crate::members::DEEP;
 use crate::pairs::Pairs;
+use crate::parts::{list_draft, map_draft};
 use crate::tree::Tree;
-use crate::value::UNKNOWN;
 use crate::value_list::ValueList;
+use crate::whole::tree_of;
 use crate::written::Written;
 use std::alloc::{AllocError, Global};
 use std::collections::BTreeSet;
 use std::rc::Rc;
 
 impl Pairs {
-    fn new(alloc: Global) -> Pairs
+    pub(crate) fn new(alloc: Global) -> Pairs
         ensures { pairs_view result ≡ [] }
     {
         Pairs {
@@ -33,7 +35,7 @@ impl Pairs {
     }
 
     /// These pairs and one more.
-    fn with(self, alloc: Global, key: &str, tree: &Rc<Tree>) -> Result<Pairs, AllocError>
+    pub(crate) fn with(self, alloc: Global, key: &str, tree: &Rc<Tree>) -> Result<Pairs, AllocError>
         ensures { IfOk result (λ p. pairs_view p ≡ pairs_view self ++ (key.now, view tree.now.value) ∷ []) }
     {
         let Pairs {
@@ -131,10 +133,11 @@ impl Pairs {
     ) -> Result<Pairs, AllocError>
         ensures { IfOk result (λ p. pairs_view p ≡ spec.resolved (spec.explicit_keys (entries_view own.now.entries.items)) (pairs_view self) (written_view written.now ∷ [])) }
     {
+        let tree = tree_of(alloc, &written.value)?;
         if written.merges {
-            self.with_merged(alloc, own, &written.value.tree)
+            self.with_merged(alloc, own, &tree)
         } else {
-            self.with(alloc, written.key.as_str(), &written.value.tree)
+            self.with(alloc, written.key.as_str(), &tree)
         }
     }
 }
@@ -166,21 +169,29 @@ pub(crate) fn resolved_tree(
     Tree::new_map(alloc, keys, values, line)
 }
 
+/// What a map of these entries is held as, which begins on this line. Where it merges, its merges are
+/// worked out with those of the map that takes it.
+fn held_map(alloc: Global, line: u64, own: &EntryList) -> Result<Held, AllocError>
+    ensures { IfOk result (λ h. held_view h ≡ (spec.map_value line (entries_view own.now.entries.items)).tree) }
+{
+    if own.merges {
+        Ok(Held::Merging(map_draft(alloc, line, own.entries.as_slice())?))
+    } else {
+        Ok(Held::Whole(resolved_tree(alloc, line, own)?))
+    }
+}
+
 /// The map of these entries, which begins on this line.
 pub fn map_value(alloc: Global, line: u64, own: &EntryList) -> Result<Value, AllocError>
     ensures value { IfOk result (λ v. value_view v ≡ spec.map_value line (entries_view own.now.entries.items)) }
     ensures depth { IfOk result (λ v. v.depth ≡ min (own.now.depth + 1) 33) }
 {
-    if let Some(value) = merged_alone(own) {
-        return alone_value(alloc, line, own, value);
-    }
-    let tree = resolved_tree(alloc, line, own)?;
+    let held = held_map(alloc, line, own)?;
     Ok(Value {
-        tree,
+        held,
         nodes: own.nodes,
         depth: (own.depth + 1).min(DEEP),
         mergeable: true,
-        brings: UNKNOWN,
     })
 }
 
@@ -190,9 +201,22 @@ fn shared_trees(alloc: Global, values: &[Value]) -> Result<Vec<Rc<Tree>>, AllocE
 {
     let mut trees = Vec::with_capacity(alloc, values.len())?;
     for value in values {
-        trees.push(value.tree.clone()?)?;
+        trees.push(tree_of(alloc, value)?)?;
     }
     Ok(trees)
+}
+
+/// What a list of these values is held as, which begins on this line. Where it can be merged, the
+/// merges of its maps may wait for the map that takes it.
+fn held_list(alloc: Global, line: u64, list: &ValueList) -> Result<Held, AllocError>
+    ensures view { IfOk result (λ h. held_view h ≡ (spec.list_value line (values_view list.now.values.items)).tree) }
+    ensures ready { IfOk result (λ h. (is_whole h || list.now.all_maps) ≡ true) }
+{
+    if list.merging && list.all_maps {
+        return Ok(Held::Merging(list_draft(alloc, line, list.values.as_slice())?));
+    }
+    let trees = shared_trees(alloc, &list.values)?;
+    Ok(Held::Whole(Tree::new_list(alloc, trees, line)?))
 }
 
 /// The list of these values, which begins on this line.
@@ -200,13 +224,12 @@ pub fn list_value(alloc: Global, line: u64, list: &ValueList) -> Result<Value, A
     ensures value { IfOk result (λ v. value_view v ≡ spec.list_value line (values_view list.now.values.items)) }
     ensures depth { IfOk result (λ v. v.depth ≡ min (list.now.depth + 1) 33) }
 {
-    let tree = Tree::new_list(alloc, shared_trees(alloc, &list.values)?, line)?;
+    let held = held_list(alloc, line, list)?;
     Ok(Value {
-        tree,
+        held,
         nodes: list.nodes,
         depth: (list.depth + 1).min(DEEP),
         mergeable: list.all_maps,
-        brings: UNKNOWN,
     })
 }
 

@@ -18,12 +18,12 @@ ghost use Rattle.rvs_yaml_text.specs.KeyView.{key_view};
 
 use crate::entry::entry_of;
 use crate::open::{Block, Done, Open};
-use crate::reach::reach;
+use crate::reach::may_be_deep;
 use crate::reading::Pending;
 use crate::sketch::Sketch;
 use crate::stack::check_merge;
 use rvs_tree::{
-    DEEP, EntryList, Tree, Value, ValueList, Written, is_map_or_empty, list_value, map_value, plus,
+    DEEP, EntryList, Tree, Value, ValueList, Written, into_tree, list_value, map_value, plus,
     scalar_value, shared_value, text_nodes,
 };
 use rvs_yaml_text::{Key, YamlKind};
@@ -43,7 +43,7 @@ fn sketch_of(value: &Value) -> Sketch
         depth: value.depth,
         least: 1,
         nodes: value.nodes,
-        is_map: is_map_or_empty(&value.tree),
+        is_map: value.is_map_or_empty(),
         mergeable: value.mergeable,
     }
 }
@@ -57,7 +57,7 @@ pub(crate) fn thin_sketch(thin: &Value, deepest: u64) -> Sketch
         depth: deepest,
         least: 1,
         nodes: thin.nodes,
-        is_map: is_map_or_empty(&thin.tree),
+        is_map: thin.is_map_or_empty(),
         mergeable: thin.mergeable,
     }
 }
@@ -343,7 +343,7 @@ fn closed_copy(alloc: Global, block: &Block<'_>, value: Value) -> Result<Value, 
 }
 
 /// The value of the lines so far.
-pub(crate) fn front_value(alloc: Global, blocks: &[Open<'_>]) -> Result<Value, YamlKind>
+fn front_value(alloc: Global, blocks: &[Open<'_>]) -> Result<Value, YamlKind>
     ensures { Gives value_view result (spec.front_value (stack_view blocks.now)) }
 {
     let Some(top) = blocks.last() else {
@@ -386,9 +386,9 @@ pub(crate) fn check_front(alloc: Global, blocks: &[Open<'_>]) -> Result<(), Yaml
     if sketch.least > MOST_DEPTH {
         return Err(YamlKind::TooDeep);
     }
-    if sketch.depth > MOST_DEPTH && reach(blocks) > MOST_DEPTH {
-        let value = front_value(alloc, blocks)?;
-        if is_deeper(&value.tree, MOST_DEPTH) {
+    if sketch.depth > MOST_DEPTH && may_be_deep(alloc, blocks)? {
+        let tree = into_tree(alloc, front_value(alloc, blocks)?)?;
+        if is_deeper(&tree, MOST_DEPTH) {
             return Err(YamlKind::TooDeep);
         }
     }

@@ -4,6 +4,7 @@
 
 mod anchor_list;
 mod anchoring;
+mod closing;
 mod entry;
 mod fill;
 mod flow;

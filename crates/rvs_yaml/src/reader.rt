@@ -12,11 +12,12 @@ ghost use Rattle.rvs_tree.specs.TreeView.{view};
 ghost use Rattle.rvs_tree.specs.Data.{depth};
 ghost use Rattle.rvs_yaml_text.specs.Text.{lines_of};
 
-use crate::front::{check_front, front_value};
+use crate::closing::into_value;
+use crate::front::check_front;
 use crate::line::read_line;
 use crate::open::Open;
 use crate::refusal::YamlRefusal;
-use rvs_tree::Tree;
+use rvs_tree::{Tree, into_tree};
 use rvs_yaml_text::{YamlKind, first_line, is_blank, without_return};
 use std::alloc::Global;
 use std::rc::Rc;
@@ -122,10 +123,9 @@ fn started_by(started: bool, line: &[u8]) -> bool
 fn whole_tree(alloc: Global, blocks: Vec<Open<'_>>) -> Result<Tree, YamlKind>
     ensures { Gives view result (spec.whole (stack_view blocks.entry.items)) }
 {
-    let value = front_value(alloc, blocks.as_slice())?;
-    drop(blocks);
+    let value = into_value(alloc, blocks)?;
     // Nothing else holds the root now.
-    Rc::into_inner(value.tree).ok_or(YamlKind::NoMemory)
+    Rc::into_inner(into_tree(alloc, value)?).ok_or(YamlKind::NoMemory)
 }
 
 /// Where lines have a tree, each front of them has one.

@@ -280,7 +280,11 @@ fn named<'a>(
 }
 
 /// What a word on this line is by itself.
-fn taken_own(alloc: Global, line: u64, own: Option<Box<Value>>) -> Result<Value, AllocError>
+pub(crate) fn taken_own(
+    alloc: Global,
+    line: u64,
+    own: Option<Box<Value>>,
+) -> Result<Value, AllocError>
     ensures { IfOk result (λ v. value_view v ≡ own_view line own) }
 {
     match own {
@@ -310,7 +314,12 @@ fn own_found<'a>(
 }
 
 /// The value of a block with the value of its open member.
-fn closed_value(alloc: Global, line: u64, done: Done, value: Value) -> Result<Value, YamlKind>
+pub(crate) fn closed_value(
+    alloc: Global,
+    line: u64,
+    done: Done,
+    value: Value,
+) -> Result<Value, YamlKind>
     ensures { Gives value_view result (parts.closed_value (done_view done) line (value_view value)) }
 {
     match done {
