@@ -1,6 +1,6 @@
 // Whole group files, as they are printed or refused.
 use rvs_base::{NoMemory, Text};
-use rvs_cgf::{Groups, normal_text, read_groups, refusal_text, write_groups};
+use rvs_cgf::{Groups, normal_text, read_groups, refusal_text};
 use rvs_insn::IsaSpec;
 use std::alloc::Global;
 use std::test::Fail;
@@ -104,8 +104,8 @@ fn printed(alloc: Global, file: &str) -> Result<Text, NoMemory> {
     let Ok(tree) = rvs_yaml::parse(alloc, file.as_bytes()) else {
         return Ok(Text::new(alloc));
     };
-    match write_groups(alloc, &tree, &CORE) {
-        Ok(text) => Ok(text),
+    match read_groups(alloc, &tree, &CORE) {
+        Ok(groups) => normal_text(alloc, &groups),
         Err(refusal) => refusal_text(alloc, &refusal),
     }
 }
