@@ -1,7 +1,8 @@
 -- The numbers of the kinds of refusal.
 use Rattle.std.specs.Prelude.{ℕ}
 use Rattle.rvs_abstract.specs.declared.call.AbstractRefusal.{AbstractRefusal}
-use Rattle.rvs_abstract.specs.declared.call.AbstractRefusal.TheVariants.{BadCall, UnknownFunction, BadSize}
+use Rattle.rvs_abstract.specs.declared.call.AbstractRefusal.TheVariants.{BadCall, UnknownFunction}
+use Rattle.rvs_abstract.specs.declared.call.AbstractRefusal.TheVariants.{BadSize}
 
 abbrev pub number_of : AbstractRefusal → ℕ
 number_of BadCall = 1

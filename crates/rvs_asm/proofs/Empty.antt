@@ -12,7 +12,8 @@ read_empty : (in_text : Bool) → body_of (read_line in_text []) ≡ Nothing
 unfolding read_line tokens
 read_empty in_text = refl
 
-pub empty_body : (in_text : Bool) (line : List ℕ) → line ≡ [] → body_of (read_line in_text line) ≡ Nothing
+pub empty_body : (in_text : Bool) (line : List ℕ) → line ≡ []
+    → body_of (read_line in_text line) ≡ Nothing
 empty_body in_text line e = ap (λ l. body_of (read_line in_text l)) e ∙ read_empty in_text
 
 zero_length : (n : ℕ) → (n == 0) ≡ true → n ≡ 0

@@ -1,11 +1,13 @@
 -- The image that stands to a text.
-use Rattle.std.proofs.Common.{◌≡◌, ℕ, ◌≤◌, Bool, true, false, cond, ◌&&◌, Some, None, sym, ap, ◌∙◌, arith}
+use Rattle.std.proofs.Common.{◌≡◌, ℕ, ◌≤◌, Bool, true, false, cond, ◌&&◌, Some, None, sym, ap, ◌∙◌}
+use Rattle.std.proofs.Common.{arith}
 use Rattle.std.specs.Prelude.{nat_le, ◌==◌}
 use Rattle.std.proofs.lemmas.Int.{ints}
 use Rattle.std.proofs.lemmas.Bool.Decides.{nat_tests}
 use Rattle.rvs_machine.specs.Image.{ImageValue, IsImage, is_image, if_image}
 use Rattle.rvs_asm.specs.Places.{start, labels}
-use Rattle.rvs_asm.specs.Answer.{answer, text_readings, image_of, region_checked, if_all_there, if_linked, if_placed}
+use Rattle.rvs_asm.specs.Answer.{answer, text_readings, image_of, region_checked, if_all_there}
+use Rattle.rvs_asm.specs.Answer.{if_linked, if_placed}
 use Rattle.rvs_asm.specs.Laws.{PartsMakeAddress, OneImageEach, ImagesAreAnswered}
 
 pub parts_make_address : PartsMakeAddress
@@ -28,9 +30,12 @@ in_order : (i : ImageValue) → IsImage i → is_image i ≡ true
 in_order i h =
     both _ _
     (both _ _
-    (both _ _ (both _ _ (zero_test _ h.text_words) (le_test _ _ h.text_short)) (le_test _ _ h.data_short))
-    (both _ _ (both _ _ (zero_test _ h.tohost_word) (le_test _ _ h.tohost_low)) (le_test _ _ h.tohost_high)))
-    (both _ _ (both _ _ (both _ _ (both _ _ (zero_test _ h.begin_word) (zero_test _ h.end_word)) (le_test _ _ h.begin_low)) (le_test _ _ h.ordered)) (le_test _ _ h.end_high))
+    (both _ _ (both _ _ (zero_test _ h.text_words) (le_test _ _ h.text_short))
+    (le_test _ _ h.data_short))
+    (both _ _ (both _ _ (zero_test _ h.tohost_word) (le_test _ _ h.tohost_low))
+    (le_test _ _ h.tohost_high)))
+    (both _ _ (both _ _ (both _ _ (both _ _ (zero_test _ h.begin_word) (zero_test _ h.end_word))
+    (le_test _ _ h.begin_low)) (le_test _ _ h.ordered)) (le_test _ _ h.end_high))
 
 pub image_answered : ImagesAreAnswered
 unfolding answer

@@ -12,15 +12,26 @@ use Rattle.rvs_asm.specs.declared.refusal.AsmKind.TheVariants.{OutOfRange}
 use Rattle.rvs_asm.specs.Answer.{answer}
 
 rv32im : Isa
-rv32im = record { e = false; m = true; a = false; zicsr = false; zifencei = false; misaligned = false; address_bits = 32 }
+rv32im = record {
+  e = false;
+  m = true;
+  a = false;
+  zicsr = false;
+  zifencei = false;
+  misaligned = false;
+  address_bits = 32;
+}
 
 abbrev newline : List ℕ
 newline = 10 ∷ []
 
 abbrev request_text : List ℕ
 request_text =
-    codes "    lui x5, %hi(tohost)" ++ newline ++ codes "    addi x6, x0, 1" ++ newline ++ codes "    sw x6, %lo(tohost)(x5)" ++ newline
-    ++ codes ".data" ++ newline ++ codes "begin_signature:" ++ newline ++ codes ".word 7" ++ newline ++ codes "end_signature:" ++ newline ++ codes "tohost:" ++ newline ++ codes ".word 0" ++ newline
+    codes "    lui x5, %hi(tohost)" ++ newline ++ codes "    addi x6, x0, 1" ++ newline
+    ++ codes "    sw x6, %lo(tohost)(x5)" ++ newline
+    ++ codes ".data" ++ newline ++ codes "begin_signature:" ++ newline ++ codes ".word 7" ++ newline
+    ++ codes "end_signature:" ++ newline ++ codes "tohost:" ++ newline ++ codes ".word 0"
+    ++ newline
 
 row : answer rv32im request_text ≡ Ok (record {
   text = 0xb7 ∷ 0x02 ∷ 0x00 ∷ 0x81 ∷ 0x13 ∷ 0x03 ∷ 0x10 ∷ 0x00 ∷ 0x23 ∷ 0xa2 ∷ 0x62 ∷ 0x00 ∷ [];
@@ -28,12 +39,15 @@ row : answer rv32im request_text ≡ Ok (record {
   tohost = 0x8100_0004;
   sig_begin = 0x8100_0000;
   sig_end = 0x8100_0004;
-  symbols = record { name = codes "begin_signature"; at = 0x8100_0000 } ∷ record { name = codes "end_signature"; at = 0x8100_0004 } ∷ record { name = codes "tohost"; at = 0x8100_0004 } ∷ [];
+  symbols = record { name = codes "begin_signature"; at = 0x8100_0000 }
+      ∷ record { name = codes "end_signature"; at = 0x8100_0004 }
+      ∷ record { name = codes "tohost"; at = 0x8100_0004 } ∷ [];
 })
 unfolding digits_of answer tokens read_line op_of_name directive_of abi_of rv32im
 row = refl
 
 -- a number outside its field is refused with its line
-out_of_range : answer rv32im (codes "nop" ++ newline ++ codes "addi x1, x0, 2048") ≡ Err (record { line = 2; kind = OutOfRange (pos 2048) })
+out_of_range : answer rv32im (codes "nop" ++ newline ++ codes "addi x1, x0, 2048")
+    ≡ Err (record { line = 2; kind = OutOfRange (pos 2048) })
 unfolding digits_of answer tokens read_line op_of_name directive_of abi_of rv32im
 out_of_range = refl

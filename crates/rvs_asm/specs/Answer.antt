@@ -1,5 +1,6 @@
 -- The image that stands to a text, or the first reason why none does.
-use Rattle.std.specs.Prelude.{◌≡◌, ◌⊎◌, ℕ, true, false, Option, Some, None, Result, Ok, Err, List, [], codes}
+use Rattle.std.specs.Prelude.{◌≡◌, ◌⊎◌, ℕ, true, false, Option, Some, None, Result, Ok, Err, List}
+use Rattle.std.specs.Prelude.{[], codes}
 use Rattle.rvs_insn.specs.Isa.{Isa}
 use Rattle.rvs_asm_text.specs.Text.{lines_of}
 use Rattle.rvs_machine.specs.Image.{ImageValue, if_image, IsImage}
@@ -28,7 +29,8 @@ parts_of ss text_bytes ram_bytes = record {
 
 -- what read lines make under their symbols
 abbrev pub image_of : Table → List Reading → ImageValue
-image_of ss rs = parts_of ss (section true (address_of ss) rs start) (section false (address_of ss) rs start)
+image_of ss rs =
+    parts_of ss (section true (address_of ss) rs start) (section false (address_of ss) rs start)
 
 abbrev pub region_checked : Option ImageValue → Result ImageValue AsmRefusal
 region_checked None = Err (record { line = 0; kind = BadRegion })
@@ -46,7 +48,8 @@ abbrev pub if_placed : Option AsmRefusal → List Reading → Result ImageValue 
 if_placed (Some refusal) rs = Err refusal
 if_placed None rs = if_linked (second_fault (labels rs start) start 1 rs) (labels rs start) rs
 
--- the image, or the first refusal: first the lines by themselves, then under all symbols, then the text as a whole
+-- the image, or the first refusal: first the lines by themselves, then under all symbols, then the
+-- text as a whole
 unfoldable pub answer : Isa → List ℕ → Result ImageValue AsmRefusal
 answer isa text = if_placed (first_fault isa [] start 1 (text_readings text)) (text_readings text)
 

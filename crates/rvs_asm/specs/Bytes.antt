@@ -1,5 +1,6 @@
 -- Which bytes a line makes, under the symbols of the whole text.
-use Rattle.std.specs.Prelude.{ℕ, zero, suc, ◌+◌, ◌/◌, ◌%◌, ◌^◌, ◌-ℤ◌, ℤ, pos, Bool, not, Option, Some, None, List, [], ◌∷◌, ◌++◌, take, if◌then◌else◌}
+use Rattle.std.specs.Prelude.{ℕ, zero, suc, ◌+◌, ◌/◌, ◌%◌, ◌^◌, ◌-ℤ◌, ℤ, pos, Bool, not, Option}
+use Rattle.std.specs.Prelude.{Some, None, List, [], ◌∷◌, ◌++◌, take, if◌then◌else◌}
 use Rattle.std.specs.List.{flat_map}
 use Rattle.std.specs.Int.{w32, to_le_bytes}
 use Rattle.rvs_insn.specs.Fields.{Fields, signed}
@@ -59,11 +60,13 @@ nop_word = 0x13
 
 -- nops in text, zeros in data
 abbrev pub filler : Bool → ℕ → List ℕ
-filler in_text n = if in_text then repeated (n / 4) (to_le_bytes w32 nop_word) else repeated n (0 ∷ [])
+filler in_text n = if in_text then repeated (n / 4) (to_le_bytes w32 nop_word)
+    else repeated n (0 ∷ [])
 
 abbrev pub bytes_of : (List ℕ → ℕ) → Place → Body → List ℕ
 bytes_of env p (Insn i link) = to_le_bytes w32 (word_of (linked env (address p) i link))
-bytes_of env p (Values size args) = flat_map (λ text. value_bytes env size (data_value size text)) args
+bytes_of env p (Values size args) =
+    flat_map (λ text. value_bytes env size (data_value size text)) args
 bytes_of env p (Align power) = filler p.in_text (padding (offset p) (2 ^ power))
 bytes_of env p (Fill n size z) = repeated n (number_bytes size z)
 bytes_of env p _ = []
@@ -71,4 +74,6 @@ bytes_of env p _ = []
 -- the bytes of one section, text or data, from lines that begin in a place
 abbrev pub section : Bool → (List ℕ → ℕ) → List Reading → Place → List ℕ
 section text env [] p = []
-section text env (r ∷ rs) p = (if (if text then p.in_text else not p.in_text) then bytes_of env p (body_of r) else []) ++ section text env rs (next p (body_of r))
+section text env (r ∷ rs) p =
+    (if (if text then p.in_text else not p.in_text) then bytes_of env p (body_of r) else [])
+    ++ section text env rs (next p (body_of r))

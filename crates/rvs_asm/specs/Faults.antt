@@ -1,5 +1,7 @@
 -- What is wrong with a text, in the order in which it is reported.
-use Rattle.std.specs.Prelude.{ℕ, ◌+◌, ℤ, pos, ◌%◌, ◌==◌, ◌&&◌, not, nat_le, Bool, true, false, Option, Some, None, Ok, Err, List, [], ◌∷◌, ◌++◌, if◌then◌else◌, codes}
+use Rattle.std.specs.Prelude.{ℕ, ◌+◌, ℤ, pos, ◌%◌, ◌==◌, ◌&&◌, not, nat_le, Bool, true, false}
+use Rattle.std.specs.Prelude.{Option, Some, None, Ok, Err, List, [], ◌∷◌, ◌++◌, if◌then◌else◌}
+use Rattle.std.specs.Prelude.{codes}
 use Rattle.std.specs.Option.{option_map, option_or}
 use Rattle.std.specs.List.{list_any}
 use Rattle.rvs_insn.specs.Isa.{Isa}
@@ -12,17 +14,25 @@ use Rattle.rvs_asm_text.specs.declared.bodies.Value.{Value}
 use Rattle.rvs_asm_text.specs.declared.bodies.Body.{Body}
 use Rattle.rvs_asm_text.specs.declared.bodies.Body.TheVariants.{Insn, Values}
 use Rattle.rvs_asm_text.specs.declared.bodies.LineFault.{LineFault}
-use Rattle.rvs_asm_text.specs.declared.bodies.LineFault.TheVariants.{BadLine as LineBadLine, UnknownInstruction as LineUnknown, BadOperand as LineBadOperand, OutOfRange as LineOutOfRange}
+use Rattle.rvs_asm_text.specs.declared.bodies.LineFault.TheVariants.{BadLine as LineBadLine}
+use Rattle.rvs_asm_text.specs.declared.bodies.LineFault.TheVariants.{UnknownInstruction as LineUnknown}
+use Rattle.rvs_asm_text.specs.declared.bodies.LineFault.TheVariants.{BadOperand as LineBadOperand}
+use Rattle.rvs_asm_text.specs.declared.bodies.LineFault.TheVariants.{OutOfRange as LineOutOfRange}
 use Rattle.rvs_asm_text.specs.Instructions.{in_field}
 use Rattle.rvs_asm_text.specs.Directives.{data_value}
 use Rattle.rvs_machine.specs.Image.{text_limit, data_limit}
 use Rattle.rvs_asm.specs.declared.mark.Mark.{Mark}
 use Rattle.rvs_asm.specs.declared.place.Place.{Place}
 use Rattle.rvs_asm.specs.declared.refusal.AsmKind.{AsmKind}
-use Rattle.rvs_asm.specs.declared.refusal.AsmKind.TheVariants.{BadLine, UnknownInstruction, BadOperand, OutOfRange, UnknownSymbol, DoubleSymbol, MisalignedCode, TextFull, DataFull, NotInIsa}
+use Rattle.rvs_asm.specs.declared.refusal.AsmKind.TheVariants.{BadLine, UnknownInstruction}
+use Rattle.rvs_asm.specs.declared.refusal.AsmKind.TheVariants.{BadOperand, OutOfRange}
+use Rattle.rvs_asm.specs.declared.refusal.AsmKind.TheVariants.{UnknownSymbol, DoubleSymbol}
+use Rattle.rvs_asm.specs.declared.refusal.AsmKind.TheVariants.{MisalignedCode, TextFull, DataFull}
+use Rattle.rvs_asm.specs.declared.refusal.AsmKind.TheVariants.{NotInIsa}
 use Rattle.rvs_asm.specs.declared.refusal.AsmRefusal.{AsmRefusal}
 use Rattle.rvs_asm.specs.Symbols.{Table, find_mark, has_mark}
-use Rattle.rvs_asm.specs.Places.{Reading, body_of, label_of, size_of, offset, address, next, own_label}
+use Rattle.rvs_asm.specs.Places.{Reading, body_of, label_of, size_of, offset, address, next}
+use Rattle.rvs_asm.specs.Places.{own_label}
 use Rattle.rvs_asm.specs.Bytes.{high, low, distance}
 
 -- ---- a line under the lines before it
@@ -53,21 +63,25 @@ body_fault isa p body =
 
 abbrev pub fault : Isa → Table → Place → Reading → Option AsmKind
 fault isa ss p (Err f) = Some (kind_of f)
-fault isa ss p (Ok line) = if is_double ss line.label then Some DoubleSymbol else body_fault isa p line.body
+fault isa ss p (Ok line) = if is_double ss line.label then Some DoubleSymbol
+    else body_fault isa p line.body
 
 abbrev pub at_line : ℕ → Option AsmKind → Option AsmRefusal
 at_line n kind = option_map (λ k. record { line = n; kind = k }) kind
 
--- the first fault of lines, with its number: the first line is number n, and these are the symbols before it
+-- the first fault of lines, with its number: the first line is number n, and these are the symbols
+-- before it
 abbrev pub first_fault : Isa → Table → Place → ℕ → List Reading → Option AsmRefusal
 first_fault isa ss p n [] = None
-first_fault isa ss p n (r ∷ rs) = option_or (at_line n (fault isa ss p r)) (first_fault isa (ss ++ own_label (label_of r) p) (next p (body_of r)) (n + 1) rs)
+first_fault isa ss p n (r ∷ rs) = option_or (at_line n (fault isa ss p r))
+    (first_fault isa (ss ++ own_label (label_of r) p) (next p (body_of r)) (n + 1) rs)
 
 -- ---- a line under all symbols
 -- a symbol is there, and the number that its address gives stands in the field
 abbrev pub field_fault : Format → (ℕ → ℤ) → Option Mark → Option AsmKind
 field_fault form number None = Some UnknownSymbol
-field_fault form number (Some m) = if in_field form (number m.at) then None else Some (OutOfRange (number m.at))
+field_fault form number (Some m) = if in_field form (number m.at) then None
+    else Some (OutOfRange (number m.at))
 
 abbrev pub link_fault : Table → Format → ℕ → Link → Option AsmKind
 link_fault ss form pc Own = None
@@ -85,7 +99,9 @@ lacks_symbol ss None = false
 lacks_symbol ss (Some v) = lacks_link ss v.link
 
 abbrev pub values_fault : Table → ℕ → List (List ℕ) → Option AsmKind
-values_fault ss size args = if list_any (λ text. lacks_symbol ss (data_value size text)) args then Some UnknownSymbol else None
+values_fault ss size args =
+    if list_any (λ text. lacks_symbol ss (data_value size text)) args then Some UnknownSymbol
+    else None
 
 abbrev pub symbol_fault : Table → ℕ → Body → Option AsmKind
 symbol_fault ss pc (Insn i link) = link_fault ss (row i.op).form pc link
@@ -94,7 +110,8 @@ symbol_fault ss pc _ = None
 
 abbrev pub second_fault : Table → Place → ℕ → List Reading → Option AsmRefusal
 second_fault ss p n [] = None
-second_fault ss p n (r ∷ rs) = option_or (at_line n (symbol_fault ss (address p) (body_of r))) (second_fault ss (next p (body_of r)) (n + 1) rs)
+second_fault ss p n (r ∷ rs) = option_or (at_line n (symbol_fault ss (address p) (body_of r)))
+    (second_fault ss (next p (body_of r)) (n + 1) rs)
 
 -- ---- the text as a whole
 -- a name that is no symbol of data
@@ -108,4 +125,5 @@ needed = codes "tohost" ∷ codes "begin_signature" ∷ codes "end_signature" �
 
 abbrev pub first_missing : Table → List (List ℕ) → Option (List ℕ)
 first_missing ss [] = None
-first_missing ss (name ∷ names) = if is_missing (find_mark ss name) then Some name else first_missing ss names
+first_missing ss (name ∷ names) = if is_missing (find_mark ss name) then Some name
+    else first_missing ss names

@@ -1,7 +1,12 @@
 -- The kinds of refusals, numbered.
 use Rattle.std.specs.Prelude.{ℕ}
 use Rattle.rvs_asm.specs.declared.refusal.AsmKind.{AsmKind}
-use Rattle.rvs_asm.specs.declared.refusal.AsmKind.TheVariants.{BadLine, UnknownInstruction, BadOperand, OutOfRange, UnknownSymbol, DoubleSymbol, MisalignedCode, TextFull, DataFull, MissingSymbol, NotInIsa, BadRegion, NoMemory}
+use Rattle.rvs_asm.specs.declared.refusal.AsmKind.TheVariants.{BadLine, UnknownInstruction}
+use Rattle.rvs_asm.specs.declared.refusal.AsmKind.TheVariants.{BadOperand, OutOfRange}
+use Rattle.rvs_asm.specs.declared.refusal.AsmKind.TheVariants.{UnknownSymbol, DoubleSymbol}
+use Rattle.rvs_asm.specs.declared.refusal.AsmKind.TheVariants.{MisalignedCode, TextFull, DataFull}
+use Rattle.rvs_asm.specs.declared.refusal.AsmKind.TheVariants.{MissingSymbol, NotInIsa, BadRegion}
+use Rattle.rvs_asm.specs.declared.refusal.AsmKind.TheVariants.{NoMemory}
 
 abbrev pub kind_number : AsmKind → ℕ
 kind_number BadLine = 1

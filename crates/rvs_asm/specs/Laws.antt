@@ -1,5 +1,6 @@
 -- What follows from the definitions.
-use Rattle.std.specs.Prelude.{◌≡◌, ◌<◌, ◌+◌, ◌*◌, ◌^◌, ◌+ℤ◌, ℕ, pos, Ok, Err, None, Some, List, [], ◌∷◌, ◌++◌, length}
+use Rattle.std.specs.Prelude.{◌≡◌, ◌<◌, ◌+◌, ◌*◌, ◌^◌, ◌+ℤ◌, ℕ, pos, Ok, Err, None, Some, List, []}
+use Rattle.std.specs.Prelude.{◌∷◌, ◌++◌, length}
 use Rattle.std.specs.Int.{w32, cast_unsigned}
 use Rattle.rvs_insn.specs.Isa.{Isa}
 use Rattle.rvs_machine.specs.Image.{ImageValue}
@@ -7,33 +8,41 @@ use Rattle.rvs_asm.specs.Bytes.{high, low}
 use Rattle.rvs_asm.specs.declared.place.Place.{Place}
 use Rattle.rvs_asm.specs.declared.refusal.AsmRefusal.{AsmRefusal}
 use Rattle.rvs_asm.specs.Symbols.{Table}
-use Rattle.rvs_asm.specs.Places.{Reading, body_of, label_of, next, start, place_after, own_label, labels, address}
+use Rattle.rvs_asm.specs.Places.{Reading, body_of, label_of, next, start, place_after, own_label}
+use Rattle.rvs_asm.specs.Places.{labels, address}
 use Rattle.rvs_asm.specs.Faults.{fault, first_fault, symbol_fault, second_fault}
 use Rattle.rvs_asm.specs.Answer.{answer, Assembles}
 
 -- lui of %hi and then the signed %lo make the address
 abbrev pub PartsMakeAddress : Type 0
-PartsMakeAddress = (address : ℕ) → address < 2 ^ 32 → cast_unsigned w32 (pos (high address * 2 ^ 12) +ℤ low address) ≡ address
+PartsMakeAddress = (address : ℕ) → address < 2 ^ 32
+    → cast_unsigned w32 (pos (high address * 2 ^ 12) +ℤ low address) ≡ address
 
 -- at most one image stands to a text
 abbrev pub OneImageEach : Type 0
-OneImageEach = (text : List ℕ) (isa : Isa) (a b : ImageValue) → Assembles text isa a → Assembles text isa b → a ≡ b
+OneImageEach = (text : List ℕ) (isa : Isa) (a b : ImageValue) → Assembles text isa a
+    → Assembles text isa b → a ≡ b
 
 -- an image that stands to a text is what is answered
 abbrev pub ImagesAreAnswered : Type 0
-ImagesAreAnswered = (text : List ℕ) (isa : Isa) (image : ImageValue) → Assembles text isa image → answer isa text ≡ Ok image
+ImagesAreAnswered = (text : List ℕ) (isa : Isa) (image : ImageValue) → Assembles text isa image
+    → answer isa text ≡ Ok image
 
 -- no image stands to a text that is refused
 abbrev pub RefusedHaveNone : Type 0
-RefusedHaveNone = (text : List ℕ) (isa : Isa) (refusal : AsmRefusal) (image : ImageValue) → answer isa text ≡ Err refusal → Assembles text isa image → ⊥
+RefusedHaveNone = (text : List ℕ) (isa : Isa) (refusal : AsmRefusal) (image : ImageValue)
+    → answer isa text ≡ Err refusal → Assembles text isa image → ⊥
 
 -- no line of these is faulty, each under the symbols and the place that the lines before it leave
 abbrev pub AreFaultless : Isa → Table → Place → List Reading → Type 0
 AreFaultless isa ss p [] = Unit {0}
-AreFaultless isa ss p (r ∷ rs) = (fault isa ss p r ≡ None) × AreFaultless isa (ss ++ own_label (label_of r) p) (next p (body_of r)) rs
+AreFaultless isa ss p (r ∷ rs) = (fault isa ss p r ≡ None)
+    × AreFaultless isa (ss ++ own_label (label_of r) p) (next p (body_of r)) rs
 
--- the refusal is of a faulty line, with its number and the least kind of fault on it, and no line before it is faulty
-pub record IsFirstFault (isa : Isa) (ss : Table) (p : Place) (n : ℕ) (rs : List Reading) (refusal : AsmRefusal) : Type 0 where
+-- the refusal is of a faulty line, with its number and the least kind of fault on it, and no line
+-- before it is faulty
+pub record IsFirstFault (isa : Isa) (ss : Table) (p : Place) (n : ℕ) (rs : List Reading)
+    (refusal : AsmRefusal) : Type 0 where
   pub before : List Reading
   pub line : Reading
   pub behind : List Reading
@@ -43,14 +52,17 @@ pub record IsFirstFault (isa : Isa) (ss : Table) (p : Place) (n : ℕ) (rs : Lis
   pub kind : fault isa (ss ++ labels before p) (place_after before p) line ≡ Some refusal.kind
 
 abbrev pub FirstFaultsAreFirst : Type 0
-FirstFaultsAreFirst = (isa : Isa) (rs : List Reading) (refusal : AsmRefusal) → first_fault isa [] start 1 rs ≡ Some refusal → IsFirstFault isa [] start 1 rs refusal
+FirstFaultsAreFirst = (isa : Isa) (rs : List Reading) (refusal : AsmRefusal)
+    → first_fault isa [] start 1 rs ≡ Some refusal → IsFirstFault isa [] start 1 rs refusal
 
 -- the same under all symbols
 abbrev pub AreLinked : Table → Place → List Reading → Type 0
 AreLinked ss p [] = Unit {0}
-AreLinked ss p (r ∷ rs) = (symbol_fault ss (address p) (body_of r) ≡ None) × AreLinked ss (next p (body_of r)) rs
+AreLinked ss p (r ∷ rs) =
+    (symbol_fault ss (address p) (body_of r) ≡ None) × AreLinked ss (next p (body_of r)) rs
 
-pub record IsFirstUnlinked (ss : Table) (p : Place) (n : ℕ) (rs : List Reading) (refusal : AsmRefusal) : Type 0 where
+pub record IsFirstUnlinked (ss : Table) (p : Place) (n : ℕ) (rs : List Reading)
+    (refusal : AsmRefusal) : Type 0 where
   pub before : List Reading
   pub line : Reading
   pub behind : List Reading
@@ -60,4 +72,5 @@ pub record IsFirstUnlinked (ss : Table) (p : Place) (n : ℕ) (rs : List Reading
   pub kind : symbol_fault ss (address (place_after before p)) (body_of line) ≡ Some refusal.kind
 
 abbrev pub SecondFaultsAreFirst : Type 0
-SecondFaultsAreFirst = (ss : Table) (rs : List Reading) (refusal : AsmRefusal) → second_fault ss start 1 rs ≡ Some refusal → IsFirstUnlinked ss start 1 rs refusal
+SecondFaultsAreFirst = (ss : Table) (rs : List Reading) (refusal : AsmRefusal)
+    → second_fault ss start 1 rs ≡ Some refusal → IsFirstUnlinked ss start 1 rs refusal

@@ -1,7 +1,10 @@
 -- Where each line stands, and what each symbol marks.
-use Rattle.std.specs.Prelude.{◌≡◌, ◌≤◌, nat_le, ◌&&◌, ℕ, ◌+◌, ◌-◌, ◌*◌, ◌%◌, ◌^◌, Bool, true, false, Option, Some, None, Result, Ok, Err, List, [], ◌∷◌, ◌++◌, length, if◌then◌else◌}
+use Rattle.std.specs.Prelude.{◌≡◌, ◌≤◌, nat_le, ◌&&◌, ℕ, ◌+◌, ◌-◌, ◌*◌, ◌%◌, ◌^◌, Bool, true, false}
+use Rattle.std.specs.Prelude.{Option, Some, None, Result, Ok, Err, List, [], ◌∷◌, ◌++◌, length}
+use Rattle.std.specs.Prelude.{if◌then◌else◌}
 use Rattle.rvs_asm_text.specs.declared.bodies.Body.{Body}
-use Rattle.rvs_asm_text.specs.declared.bodies.Body.TheVariants.{Nothing, ToText, ToData, Insn, Values, Align, Fill}
+use Rattle.rvs_asm_text.specs.declared.bodies.Body.TheVariants.{Nothing, ToText, ToData, Insn}
+use Rattle.rvs_asm_text.specs.declared.bodies.Body.TheVariants.{Values, Align, Fill}
 use Rattle.rvs_asm_text.specs.declared.bodies.Line.{Line}
 use Rattle.rvs_asm_text.specs.declared.bodies.LineFault.{LineFault}
 use Rattle.rvs_asm_text.specs.Lines.{read_line}
@@ -31,7 +34,8 @@ goes_on in_text _ = in_text
 -- the lines of a text, each read in the section that it stands in
 abbrev pub readings : Bool → List (List ℕ) → List Reading
 readings in_text [] = []
-readings in_text (l ∷ ls) = read_line in_text l ∷ readings (goes_on in_text (body_of (read_line in_text l))) ls
+readings in_text (l ∷ ls) =
+    read_line in_text l ∷ readings (goes_on in_text (body_of (read_line in_text l))) ls
 
 -- how far it is to the next multiple of n
 abbrev pub padding : ℕ → ℕ → ℕ
@@ -57,7 +61,8 @@ abbrev pub address : Place → ℕ
 address p = if p.in_text then text_base + p.text else data_base + p.ram
 
 abbrev pub moved : Place → ℕ → Place
-moved p n = if p.in_text then record { in_text = true; text = p.text + n; ram = p.ram } else record { in_text = false; text = p.text; ram = p.ram + n }
+moved p n = if p.in_text then record { in_text = true; text = p.text + n; ram = p.ram }
+    else record { in_text = false; text = p.text; ram = p.ram + n }
 
 -- the place after a statement
 abbrev pub next : Place → Body → Place

@@ -5,8 +5,10 @@ ghost use Rattle.rvs_machine.specs.Image.{if_image};
 ghost use Rattle.rvs_asm.specs.Refusals.{no_memory};
 ghost use Rattle.rvs_asm.specs.Symbols.{address_of, find_mark, symbols_of};
 ghost use Rattle.rvs_asm.specs.Places.{labels, start};
-ghost use Rattle.rvs_asm.specs.Faults.{is_missing, needed, first_missing, first_fault, second_fault};
-ghost use Rattle.rvs_asm.specs.Answer.{answer, Assembles, IsAnswer, parts_of, if_all_there, region_checked, text_readings};
+ghost use Rattle.rvs_asm.specs.Faults.{is_missing, needed, first_missing, first_fault};
+ghost use Rattle.rvs_asm.specs.Faults.{second_fault};
+ghost use Rattle.rvs_asm.specs.Answer.{answer, Assembles, IsAnswer, parts_of, if_all_there};
+ghost use Rattle.rvs_asm.specs.Answer.{region_checked, text_readings};
 
 use crate::first_pass::first_pass;
 use crate::refusal::{AsmKind, AsmRefusal};
@@ -91,7 +93,8 @@ fn make_image(
 ///
 /// `MissingSymbol`, `BadRegion` and `NoMemory`.
 fn finish(alloc: Global, symbols: &Symbols, sections: Sections) -> Result<Image, AsmRefusal>
-    ensures { IsAnswer (if_all_there (first_missing symbols.now needed) (parts_of symbols.now sections.text.items sections.ram.items)) result }
+    ensures { IsAnswer (if_all_there (first_missing symbols.now needed)
+        (parts_of symbols.now sections.text.items sections.ram.items)) result }
 {
     match missing_name(symbols) {
         Some(name) => {

@@ -1,5 +1,6 @@
 // The bytes of statements.
-ghost use Rattle.std.specs.Prelude.{◌≡◌, ◌≤◌, ◌++◌, Some, None, true, false, if◌then◌else◌, OnOk, IfOk, OnSome, IfSome, IfNone};
+ghost use Rattle.std.specs.Prelude.{◌≡◌, ◌≤◌, ◌++◌, Some, None, true, false, if◌then◌else◌, OnOk};
+ghost use Rattle.std.specs.Prelude.{IfOk, OnSome, IfSome, IfNone};
 ghost use Rattle.std.specs.Int.{w32, to_le_bytes};
 ghost use Rattle.std.specs.List.{flat_map};
 ghost use Rattle.rvs_insn.specs.Table.{row};
@@ -8,9 +9,11 @@ ghost use Rattle.rvs_asm_text.specs.Instructions.{IsReady};
 ghost use Rattle.rvs_asm_text.specs.Directives.{data_value};
 ghost use Rattle.rvs_asm.specs.Symbols.{address_of};
 ghost use Rattle.rvs_asm.specs.Places.{IsPlace, address};
-ghost use Rattle.rvs_asm.specs.Bytes.{number_bytes, repeated, filler, value_in, value_bytes, linked, bytes_of};
+ghost use Rattle.rvs_asm.specs.Bytes.{number_bytes, repeated, filler, value_in, value_bytes};
+ghost use Rattle.rvs_asm.specs.Bytes.{linked, bytes_of};
 ghost use Rattle.rvs_asm.specs.declared.refusal.AsmKind.TheVariants.{UnknownSymbol};
-ghost use Rattle.rvs_asm.specs.Faults.{symbol_fault, link_fault, values_fault, lacks_symbol, lacks_link};
+ghost use Rattle.rvs_asm.specs.Faults.{symbol_fault, link_fault, values_fault, lacks_symbol};
+ghost use Rattle.rvs_asm.specs.Faults.{lacks_link};
 
 use crate::linking::link_insn;
 use crate::place::{Place, gap, mark_at, offset_in};
@@ -62,7 +65,8 @@ fn push_repeated(out: &mut Vec<u8>, count: u64, bytes: &[u8]) -> Result<(), NoMe
 /// Adds a count of equal numbers.
 fn push_numbers(out: &mut Vec<u8>, count: u64, size: u8, number: i64) -> Result<(), NoMemory>
     requires { size ≤ 4 }
-    ensures { OnOk result (out.new.items ≡ out.old.items ++ repeated count (number_bytes size number)) }
+    ensures { OnOk result
+        (out.new.items ≡ out.old.items ++ repeated count (number_bytes size number)) }
 {
     let bytes = low_bytes(number);
     push_repeated(out, count, &bytes[..size as usize])
@@ -152,8 +156,10 @@ fn push_insn(
     link: &Link<'_>,
 ) -> Result<Option<AsmKind>, NoMemory>
     requires { IsEncodable insn.now }
-    ensures fault { IfOk result (λ fault. fault ≡ link_fault symbols.now (row insn.now.op).form pc link.now) }
-    ensures bytes { IfOk result (λ fault. fault ≡ None → out.new.items ≡ out.old.items ++ to_le_bytes w32 (word_of (linked (address_of symbols.now) pc insn.now link.now))) }
+    ensures fault { IfOk result
+        (λ fault. fault ≡ link_fault symbols.now (row insn.now.op).form pc link.now) }
+    ensures bytes { IfOk result (λ fault. fault ≡ None → out.new.items ≡ out.old.items
+        ++ to_le_bytes w32 (word_of (linked (address_of symbols.now) pc insn.now link.now))) }
 {
     match link_insn(symbols, pc, insn, link) {
         Ok(insn) => {
@@ -173,8 +179,10 @@ pub fn push_body(
 ) -> Result<Option<AsmKind>, NoMemory>
     requires ready { IsReady body.now }
     requires here { IsPlace place }
-    ensures fault { IfOk result (λ fault. fault ≡ symbol_fault symbols.now (address place) body.now) }
-    ensures bytes { IfOk result (λ fault. fault ≡ None → out.new.items ≡ out.old.items ++ bytes_of (address_of symbols.now) place body.now) }
+    ensures fault { IfOk result
+        (λ fault. fault ≡ symbol_fault symbols.now (address place) body.now) }
+    ensures bytes { IfOk result (λ fault. fault ≡ None
+        → out.new.items ≡ out.old.items ++ bytes_of (address_of symbols.now) place body.now) }
 {
     match body {
         Body::Nothing | Body::ToText | Body::ToData => Ok(None),

@@ -1,5 +1,6 @@
 // The first pass: each line's place, and what each symbol marks.
-ghost use Rattle.std.specs.Prelude.{◌≡◌, ◌⊎◌, false, [], ◌++◌, Some, None, true, OnOk, OnErr, IfOk, IfErr};
+ghost use Rattle.std.specs.Prelude.{◌≡◌, ◌⊎◌, false, [], ◌++◌, Some, None, true, OnOk, OnErr, IfOk};
+ghost use Rattle.std.specs.Prelude.{IfErr};
 ghost use Rattle.rvs_asm_text.specs.Lines.{read_line};
 ghost use Rattle.rvs_asm.specs.Refusals.{no_memory};
 ghost use Rattle.rvs_asm.specs.Places.{IsPlace, start, next, own_label, labels, body_of, label_of};
@@ -43,12 +44,15 @@ fn enter_line<'t>(
     line: &'t [u8],
 ) -> Result<Entered<'t>, AsmKind>
     requires { IsPlace place }
-    ensures good { OnOk result (fault spec.now symbols.now place (read_line place.in_text line.now) ≡ None) }
+    ensures good { OnOk result
+        (fault spec.now symbols.now place (read_line place.in_text line.now) ≡ None) }
     ensures label { IfOk result (λ e. e.label ≡ label_of (read_line place.in_text line.now)) }
     ensures new { IfOk result (λ e. is_double symbols.now e.label ≡ false) }
-    ensures next { IfOk result (λ e. e.next ≡ next place (body_of (read_line place.in_text line.now))) }
+    ensures next { IfOk result
+        (λ e. e.next ≡ next place (body_of (read_line place.in_text line.now))) }
     ensures short { IfOk result (λ e. IsPlace e.next) }
-    ensures fault { IfErr result (λ kind. fault spec.now symbols.now place (read_line place.in_text line.now) ≡ Some kind) }
+    ensures fault { IfErr result
+        (λ kind. fault spec.now symbols.now place (read_line place.in_text line.now) ≡ Some kind) }
 {
     let line = match read_line(place.in_text, line) {
         Ok(line) => line,
@@ -89,7 +93,8 @@ fn add_label(
 pub fn first_pass(alloc: Global, text: &[u8], spec: &IsaSpec) -> Result<Symbols, AsmRefusal>
     ensures good { OnOk result (first_fault spec.now [] start 1 (text_readings text.now) ≡ None) }
     ensures symbols { IfOk result (λ s. s ≡ labels (text_readings text.now) start) }
-    ensures refused { IfErr result (λ r. (r ≡ no_memory) ⊎ (first_fault spec.now [] start 1 (text_readings text.now) ≡ Some r)) }
+    ensures refused { IfErr result (λ r. (r ≡ no_memory) ⊎
+        (first_fault spec.now [] start 1 (text_readings text.now) ≡ Some r)) }
 {
     let mut symbols = Symbols::new(alloc);
     let mut place = first_place();

@@ -1,5 +1,6 @@
 // Laws of the assembler's definitions.
-ghost use Rattle.rvs_asm.specs.Laws.{PartsMakeAddress, OneImageEach, ImagesAreAnswered, RefusedHaveNone, FirstFaultsAreFirst, SecondFaultsAreFirst};
+ghost use Rattle.rvs_asm.specs.Laws.{PartsMakeAddress, OneImageEach, ImagesAreAnswered};
+ghost use Rattle.rvs_asm.specs.Laws.{RefusedHaveNone, FirstFaultsAreFirst, SecondFaultsAreFirst};
 ghost use Rattle.rvs_asm.specs.Standing.{LinesHaveTheirSizes, LinesStand};
 
 /// `%hi` and the signed `%lo` of every address make the address modulo 2^32.
@@ -14,8 +15,9 @@ pub fn one_image_each()
 {}
 
 /// No image stands to a text that `assemble` refuses, save for want of memory; and of the faults of
-/// its lines the one that is told is the first, by its line and then by its kind: of what a line says
-/// under the lines before it, and, where none has such a fault, of what it says under all symbols.
+/// its lines the one that is told is the first, by its line and then by its kind: of what a line
+/// says under the lines before it, and, where none has such a fault, of what it says under all
+/// symbols.
 #[tactic(auto, using(crate::proofs::Firsts::refused_have_none, crate::proofs::Firsts::first_faults_are_first, crate::proofs::Firsts::second_faults_are_first))]
 pub fn refusals_are_first()
     ensures none { RefusedHaveNone }

@@ -1,5 +1,6 @@
 // Immediates that symbols give.
-ghost use Rattle.std.specs.Prelude.{◌≡◌, ◌<◌, ◌≤◌, ◌^◌, ◌+◌, Some, None, pos, true, false, if◌then◌else◌, OnOk, OnErr, IfOk, IfErr, IsSome};
+ghost use Rattle.std.specs.Prelude.{◌≡◌, ◌<◌, ◌≤◌, ◌^◌, ◌+◌, Some, None, pos, true, false};
+ghost use Rattle.std.specs.Prelude.{if◌then◌else◌, OnOk, OnErr, IfOk, IfErr, IsSome};
 ghost use Rattle.rvs_insn.specs.Table.{row};
 ghost use Rattle.rvs_insn.specs.Word.{IsEncodable};
 ghost use Rattle.rvs_asm_text.specs.Instructions.{in_field};
@@ -85,7 +86,8 @@ pub fn link_insn(symbols: &Symbols, pc: u32, insn: &Insn, link: &Link<'_>) -> Re
     ensures good { OnOk result (link_fault symbols.now (row insn.now.op).form pc link.now ≡ None) }
     ensures insn { IfOk result (λ i. i ≡ linked (address_of symbols.now) pc insn.now link.now) }
     ensures ready { IfOk result IsEncodable }
-    ensures fault { IfErr result (λ kind. link_fault symbols.now (row insn.now.op).form pc link.now ≡ Some kind) }
+    ensures fault { IfErr result
+        (λ kind. link_fault symbols.now (row insn.now.op).form pc link.now ≡ Some kind) }
 {
     match link {
         Link::Own => Ok(*insn),

@@ -1,8 +1,10 @@
 // Places.
-ghost use Rattle.std.specs.Prelude.{◌≡◌, ◌≤◌, ◌<◌, ◌+◌, ◌*◌, ◌%◌, ◌^◌, ◌==◌, nat_le, Some, None, not, OnOk, IfOk, IfErr};
+ghost use Rattle.std.specs.Prelude.{◌≡◌, ◌≤◌, ◌<◌, ◌+◌, ◌*◌, ◌%◌, ◌^◌, ◌==◌, nat_le, Some, None};
+ghost use Rattle.std.specs.Prelude.{not, OnOk, IfOk, IfErr};
 ghost use Rattle.rvs_asm_text.specs.Instructions.{IsReady};
 ghost use Rattle.rvs_asm.specs.Faults.{body_fault, is_misaligned, is_refused};
-ghost use Rattle.rvs_asm.specs.Places.{start, offset, address, padding, size_of, moved, next, IsPlace};
+ghost use Rattle.rvs_asm.specs.Places.{start, offset, address, padding, size_of, moved, next};
+ghost use Rattle.rvs_asm.specs.Places.{IsPlace};
 
 use crate::mark::Mark;
 use crate::refusal::AsmKind;

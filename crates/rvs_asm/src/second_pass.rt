@@ -1,5 +1,6 @@
 // The second pass: each line's bytes.
-ghost use Rattle.std.specs.Prelude.{◌≡◌, ◌⊎◌, ◌++◌, Some, None, true, false, not, if◌then◌else◌, [], OnOk, IfOk, IfErr};
+ghost use Rattle.std.specs.Prelude.{◌≡◌, ◌⊎◌, ◌++◌, Some, None, true, false, not, if◌then◌else◌};
+ghost use Rattle.std.specs.Prelude.{[], OnOk, IfOk, IfErr};
 ghost use Rattle.rvs_asm_text.specs.Lines.{read_line};
 ghost use Rattle.rvs_asm_text.specs.Instructions.{IsReady};
 ghost use Rattle.rvs_asm.specs.Refusals.{no_memory};
@@ -48,9 +49,14 @@ fn push_to_section(
 ) -> Result<Option<AsmKind>, NoMemory>
     requires ready { IsReady body.now }
     requires here { IsPlace place }
-    ensures fault { IfOk result (λ fault. fault ≡ symbol_fault symbols.now (address place) body.now) }
-    ensures text { IfOk result (λ fault. fault ≡ None → sections.new.text.items ≡ sections.old.text.items ++ (if place.in_text then bytes_of (address_of symbols.now) place body.now else [])) }
-    ensures ram { IfOk result (λ fault. fault ≡ None → sections.new.ram.items ≡ sections.old.ram.items ++ (if not place.in_text then bytes_of (address_of symbols.now) place body.now else [])) }
+    ensures fault { IfOk result
+        (λ fault. fault ≡ symbol_fault symbols.now (address place) body.now) }
+    ensures text { IfOk result (λ fault. fault ≡ None → sections.new.text.items
+        ≡ sections.old.text.items
+        ++ (if place.in_text then bytes_of (address_of symbols.now) place body.now else [])) }
+    ensures ram { IfOk result (λ fault. fault ≡ None → sections.new.ram.items
+        ≡ sections.old.ram.items
+        ++ (if not place.in_text then bytes_of (address_of symbols.now) place body.now else [])) }
 {
     if place.in_text {
         push_body(&mut sections.text, symbols, place, body)
@@ -67,9 +73,12 @@ fn push_to_section(
 pub fn second_pass(alloc: Global, text: &[u8], symbols: &Symbols) -> Result<Sections, AsmRefusal>
     requires { AreShort start (text_readings text.now) }
     ensures good { OnOk result (second_fault symbols.now start 1 (text_readings text.now) ≡ None) }
-    ensures text { IfOk result (λ s. s.text.items ≡ section true (address_of symbols.now) (text_readings text.now) start) }
-    ensures ram { IfOk result (λ s. s.ram.items ≡ section false (address_of symbols.now) (text_readings text.now) start) }
-    ensures refused { IfErr result (λ r. (r ≡ no_memory) ⊎ (second_fault symbols.now start 1 (text_readings text.now) ≡ Some r)) }
+    ensures text { IfOk result
+        (λ s. s.text.items ≡ section true (address_of symbols.now) (text_readings text.now) start) }
+    ensures ram { IfOk result
+        (λ s. s.ram.items ≡ section false (address_of symbols.now) (text_readings text.now) start) }
+    ensures refused { IfErr result (λ r. (r ≡ no_memory) ⊎
+        (second_fault symbols.now start 1 (text_readings text.now) ≡ Some r)) }
 {
     let mut sections = Sections {
         text: Vec::new(alloc),

@@ -1,5 +1,6 @@
 // Symbols and what they mark.
-ghost use Rattle.std.specs.Prelude.{◌≡◌, [], ◌∷◌, ◌++◌, ◌+◌, Some, None, length, drop, slice_get, OnOk, OnErr, IfOk, MatchOption};
+ghost use Rattle.std.specs.Prelude.{◌≡◌, [], ◌∷◌, ◌++◌, ◌+◌, Some, None, length, drop, slice_get};
+ghost use Rattle.std.specs.Prelude.{OnOk, OnErr, IfOk, MatchOption};
 ghost use Rattle.rvs_asm.specs.Symbols.{find_mark, symbols_of};
 
 use crate::mark::Mark;
@@ -66,7 +67,8 @@ impl Symbols {
 
     /// The symbol with this number, from 0, and what it marks.
     fn at(&self, index: usize) -> Option<(&str, Mark)>
-        ensures { MatchOption result (slice_get self.now index ≡ None) (λ s. slice_get self.now index ≡ Some (s.0.now, s.1)) }
+        ensures { MatchOption result (slice_get self.now index ≡ None)
+            (λ s. slice_get self.now index ≡ Some (s.0.now, s.1)) }
     {
         match self.table.get_index(index) {
             Some((name, mark)) => Some((name.as_str(), *mark)),
@@ -96,7 +98,8 @@ impl Symbols {
         index: usize,
         items: &mut Items<Symbol>,
     ) -> Result<(), NoMemory>
-        ensures { OnOk result (items.old ++ symbols_of (drop index self.now) ≡ items.new ++ symbols_of (drop (index + 1) self.now)) }
+        ensures { OnOk result (items.old ++ symbols_of (drop index self.now) ≡ items.new
+            ++ symbols_of (drop (index + 1) self.now)) }
     {
         match self.at(index) {
             Some((name, mark)) => {

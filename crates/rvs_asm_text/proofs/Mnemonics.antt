@@ -1,5 +1,6 @@
 -- Mnemonics are ASCII.
-use Rattle.std.proofs.Common.{◌≡◌, ℕ, ◌<◌, Bool, true, false, ◌&&◌, List, [], ◌∷◌, Some, None, refl, ap, ◌∙◌, arith, lit<, zero, suc, cond, subst}
+use Rattle.std.proofs.Common.{◌≡◌, ℕ, ◌<◌, Bool, true, false, ◌&&◌, List, [], ◌∷◌, Some, None, refl}
+use Rattle.std.proofs.Common.{ap, ◌∙◌, arith, lit<, zero, suc, cond, subst}
 use Rattle.std.specs.Prelude.{nat_lt}
 use Rattle.std.specs.List.{list_all, find}
 use Rattle.std.specs.Str.{bytes_eq, IsAscii, IsUtf8}
@@ -33,14 +34,19 @@ same xs ys h = (bytes_eq-Decides xs ys).0 h
 named : (op : Op) → IsUtf8 (row op).name
 named op = IsUtf8-from_ascii (row op).name (ascii (row op).name (names_low op))
 
-differs : (op : Op) (name : List ℕ) → (IsUtf8 name → ⊥) → (b : Bool) → bytes_eq (row op).name name ≡ b → b ≡ false
-differs op name no_text true e = absurd (no_text (subst IsUtf8 (same (row op).name name e) (named op)))
+differs : (op : Op) (name : List ℕ) → (IsUtf8 name → ⊥) → (b : Bool)
+    → bytes_eq (row op).name name ≡ b → b ≡ false
+differs op name no_text true e =
+    absurd (no_text (subst IsUtf8 (same (row op).name name e) (named op)))
 differs op name no_text false e = refl
 
-none_found : (ops : List Op) (test : Op → Bool) → ((op : Op) → test op ≡ false) → find test ops ≡ None
+none_found : (ops : List Op) (test : Op → Bool) → ((op : Op) → test op ≡ false)
+    → find test ops ≡ None
 none_found [] test h = refl
-none_found (o ∷ ops) test h = ap (λ b. cond b (Some o) (find test ops)) (h o) ∙ none_found ops test h
+none_found (o ∷ ops) test h =
+    ap (λ b. cond b (Some o) (find test ops)) (h o) ∙ none_found ops test h
 
 pub unnamed : (name : List ℕ) → (IsUtf8 name → ⊥) → op_of_name name ≡ None
 unfolding op_of_name
-unnamed name no_text = none_found all_ops (λ op. bytes_eq (row op).name name) (λ op. differs op name no_text (bytes_eq (row op).name name) refl)
+unnamed name no_text = none_found all_ops (λ op. bytes_eq (row op).name name)
+    (λ op. differs op name no_text (bytes_eq (row op).name name) refl)

@@ -3,7 +3,8 @@ use Rattle.std.proofs.Common.{◌≡◌, ℕ, ◌%◌, Bool, true, false, ◌&&�
 use Rattle.std.specs.Prelude.{ℤ, pos, negsuc, ◌==◌}
 use Rattle.std.proofs.lemmas.Bool.Decides.{nat_tests}
 use Rattle.rvs_insn.specs.declared.op.Format.{Format}
-use Rattle.rvs_insn.specs.declared.op.Format.TheVariants.{R, I, Shift, Load, JumpReg, Store, Branch, Upper, Jump, Fence, System}
+use Rattle.rvs_insn.specs.declared.op.Format.TheVariants.{R, I, Shift, Load, JumpReg, Store, Branch}
+use Rattle.rvs_insn.specs.declared.op.Format.TheVariants.{Upper, Jump, Fence, System}
 use Rattle.rvs_insn.specs.Fields.{IsRegister}
 use Rattle.rvs_insn.specs.Word.{AreOf, ImmFits, FitsBits, FitsEven, FitsUnsigned}
 use Rattle.rvs_asm_text.specs.declared.bodies.Value.{Value}
@@ -26,12 +27,17 @@ upper20 (pos n) h = grind (arith, nat_tests)
 upper20 (negsuc n) h = cc
 
 even13 : (z : ℤ) → (within (negsuc 4095) (pos 4095) z && is_even z) ≡ true → FitsEven 13 z
-even13 (pos n) h = let b = both (within (negsuc 4095) (pos 4095) (pos n)) (n % 2 == 0) h in (grind (arith, nat_tests, b.0), grind (arith, nat_tests, b.1))
-even13 (negsuc n) h = let b = both (within (negsuc 4095) (pos 4095) (negsuc n)) (n % 2 == 1) h in (grind (arith, nat_tests, b.0), grind (arith, nat_tests, b.1))
+even13 (pos n) h = let b = both (within (negsuc 4095) (pos 4095) (pos n)) (n % 2 == 0) h in
+    (grind (arith, nat_tests, b.0), grind (arith, nat_tests, b.1))
+even13 (negsuc n) h = let b = both (within (negsuc 4095) (pos 4095) (negsuc n)) (n % 2 == 1) h in
+    (grind (arith, nat_tests, b.0), grind (arith, nat_tests, b.1))
 
 even21 : (z : ℤ) → (within (negsuc 1048575) (pos 1048575) z && is_even z) ≡ true → FitsEven 21 z
-even21 (pos n) h = let b = both (within (negsuc 1048575) (pos 1048575) (pos n)) (n % 2 == 0) h in (grind (arith, nat_tests, b.0), grind (arith, nat_tests, b.1))
-even21 (negsuc n) h = let b = both (within (negsuc 1048575) (pos 1048575) (negsuc n)) (n % 2 == 1) h in (grind (arith, nat_tests, b.0), grind (arith, nat_tests, b.1))
+even21 (pos n) h = let b = both (within (negsuc 1048575) (pos 1048575) (pos n)) (n % 2 == 0) h in
+    (grind (arith, nat_tests, b.0), grind (arith, nat_tests, b.1))
+even21 (negsuc n) h = let b =
+    both (within (negsuc 1048575) (pos 1048575) (negsuc n)) (n % 2 == 1) h in
+    (grind (arith, nat_tests, b.0), grind (arith, nat_tests, b.1))
 
 pub field_fits : (form : Format) (z : ℤ) → in_field form z ≡ true → ImmFits form z
 field_fits I z h = signed12 z h
@@ -46,7 +52,9 @@ field_fits R z h = cc
 field_fits Fence z h = cc
 field_fits System z h = cc
 
-pub drafted : (form : Format) (rd rs1 rs2 : Option ℕ) (v : Value) (z : ℤ) → IsRegister rd → IsRegister rs1 → IsRegister rs2 → HasShape form rd rs1 rs2 (Some v) → in_field form z ≡ true → AreOf form rd rs1 rs2 (Some z)
+pub drafted : (form : Format) (rd rs1 rs2 : Option ℕ) (v : Value) (z : ℤ) → IsRegister rd
+    → IsRegister rs1 → IsRegister rs2 → HasShape form rd rs1 rs2 (Some v) → in_field form z ≡ true
+    → AreOf form rd rs1 rs2 (Some z)
 drafted I (Some d) (Some a) None v z p q r h e = (p, q, field_fits I z e)
 drafted Shift (Some d) (Some a) None v z p q r h e = (p, q, field_fits Shift z e)
 drafted Load (Some d) (Some a) None v z p q r h e = (p, q, field_fits Load z e)
@@ -60,7 +68,8 @@ drafted Fence None None None v z p q r h e = absurd h
 drafted System None None None v z p q r h e = absurd h
 drafted _ _ _ _ v z p q r h e = absurd h
 
-pub drafted_alone : (form : Format) (rd rs1 rs2 : Option ℕ) → IsRegister rd → IsRegister rs1 → IsRegister rs2 → HasShape form rd rs1 rs2 None → AreOf form rd rs1 rs2 None
+pub drafted_alone : (form : Format) (rd rs1 rs2 : Option ℕ) → IsRegister rd → IsRegister rs1
+    → IsRegister rs2 → HasShape form rd rs1 rs2 None → AreOf form rd rs1 rs2 None
 drafted_alone R (Some d) (Some a) (Some b) p q r h = (p, q, r)
 drafted_alone Fence None None None p q r h = tt
 drafted_alone System None None None p q r h = tt

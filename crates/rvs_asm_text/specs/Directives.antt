@@ -1,16 +1,24 @@
 -- What a directive's word and operands are.
-use Rattle.std.specs.Prelude.{ℕ, ◌-◌, ◌*◌, ◌^◌, ◌==◌, ◌||◌, not, Bool, false, Option, Some, None, is_none, Result, Ok, Err, List, [], ◌∷◌, if◌then◌else◌, ℤ, pos, negsuc, int_le, codes}
+use Rattle.std.specs.Prelude.{ℕ, ◌-◌, ◌*◌, ◌^◌, ◌==◌, ◌||◌, not, Bool, false, Option, Some, None}
+use Rattle.std.specs.Prelude.{is_none, Result, Ok, Err, List, [], ◌∷◌, if◌then◌else◌, ℤ, pos}
+use Rattle.std.specs.Prelude.{negsuc, int_le, codes}
 use Rattle.std.specs.Option.{option_map, option_or}
 use Rattle.std.specs.List.{find, list_any}
 use Rattle.std.specs.Str.{bytes_eq}
 use Rattle.rvs_asm_text.specs.declared.bodies.Link.TheVariants.{Whole}
 use Rattle.rvs_asm_text.specs.declared.bodies.Value.{Value}
 use Rattle.rvs_asm_text.specs.declared.bodies.Body.{Body}
-use Rattle.rvs_asm_text.specs.declared.bodies.Body.TheVariants.{Nothing, ToText, ToData, Values, Align, Fill}
+use Rattle.rvs_asm_text.specs.declared.bodies.Body.TheVariants.{Nothing, ToText, ToData, Values}
+use Rattle.rvs_asm_text.specs.declared.bodies.Body.TheVariants.{Align, Fill}
 use Rattle.rvs_asm_text.specs.declared.bodies.LineFault.{LineFault}
-use Rattle.rvs_asm_text.specs.declared.bodies.LineFault.TheVariants.{BadLine, BadOperand, OutOfRange}
+use Rattle.rvs_asm_text.specs.declared.bodies.LineFault.TheVariants.{BadLine, BadOperand}
+use Rattle.rvs_asm_text.specs.declared.bodies.LineFault.TheVariants.{OutOfRange}
 use Rattle.rvs_asm_text.specs.declared.directives.Directive.{Directive}
-use Rattle.rvs_asm_text.specs.declared.directives.Directive.TheVariants.{Text, Data, Globl, Option as OptionWord, Align as AlignWord, P2align, Word, Half, Byte, Zero, Fill as FillWord}
+use Rattle.rvs_asm_text.specs.declared.directives.Directive.TheVariants.{Text, Data, Globl}
+use Rattle.rvs_asm_text.specs.declared.directives.Directive.TheVariants.{Option as OptionWord}
+use Rattle.rvs_asm_text.specs.declared.directives.Directive.TheVariants.{Align as AlignWord}
+use Rattle.rvs_asm_text.specs.declared.directives.Directive.TheVariants.{P2align, Word, Half, Byte}
+use Rattle.rvs_asm_text.specs.declared.directives.Directive.TheVariants.{Zero, Fill as FillWord}
 use Rattle.rvs_asm_text.specs.Text.{is_blank}
 use Rattle.rvs_asm_text.specs.Numbers.{number_of}
 use Rattle.rvs_asm_text.specs.Operands.{is_empty, symbol_of, only, triple}
@@ -31,7 +39,8 @@ directive_name Zero = codes ".zero"
 directive_name FillWord = codes ".fill"
 
 abbrev pub directives : List Directive
-directives = Text ∷ Data ∷ Globl ∷ OptionWord ∷ AlignWord ∷ P2align ∷ Word ∷ Half ∷ Byte ∷ Zero ∷ FillWord ∷ []
+directives = Text ∷ Data ∷ Globl ∷ OptionWord ∷ AlignWord ∷ P2align ∷ Word ∷ Half ∷ Byte ∷ Zero
+    ∷ FillWord ∷ []
 
 unfoldable pub directive_of : List ℕ → Option Directive
 directive_of word = find (λ d. bytes_eq (directive_name d) word) directives
@@ -43,7 +52,10 @@ fits size z = within (negsuc (2 ^ (8 * size - 1) - 1)) (pos (2 ^ (8 * size) - 1)
 
 -- a number, or for words a symbol
 abbrev pub data_value : ℕ → List ℕ → Option Value
-data_value size text = option_or (number_value text) (if size == 4 then option_map (λ s. record { number = pos 0; link = Whole s }) (symbol_of text) else None)
+data_value size text = option_or (number_value text) (if size == 4 then option_map (λ s. record {
+  number = pos 0;
+  link = Whole s;
+}) (symbol_of text) else None)
 
 abbrev pub is_no_value : ℕ → List ℕ → Bool
 is_no_value size text = is_none (data_value size text)
@@ -66,10 +78,12 @@ values size (a ∷ args) =
     if list_any (is_no_value size) (a ∷ args) then Err BadOperand
     else unless_wide (first_wide size (a ∷ args)) (Values size (a ∷ args))
 
--- what keeps operands from being values: one that is none, wherever it stands, else the first number outside the size
+-- what keeps operands from being values: one that is none, wherever it stands, else the first
+-- number outside the size
 abbrev pub values_fault : ℕ → List (List ℕ) → Option LineFault
 values_fault size args =
-    if list_any (is_no_value size) args then Some BadOperand else option_map OutOfRange (first_wide size args)
+    if list_any (is_no_value size) args then Some BadOperand
+    else option_map OutOfRange (first_wide size args)
 
 -- ---- the other operands
 abbrev pub without_operands : Body → List (List ℕ) → Result Body LineFault
@@ -83,7 +97,8 @@ one_word (Some a) = if list_any is_blank a then Err BadOperand else Ok Nothing
 
 abbrev pub aligned : Option ℤ → Result Body LineFault
 aligned None = Err BadOperand
-aligned (Some (pos n)) = if within (pos 0) (pos 12) (pos n) then Ok (Align n) else Err (OutOfRange (pos n))
+aligned (Some (pos n)) = if within (pos 0) (pos 12) (pos n) then Ok (Align n)
+    else Err (OutOfRange (pos n))
 aligned (Some (negsuc n)) = Err (OutOfRange (negsuc n))
 
 abbrev pub zeroed : Option ℤ → Result Body LineFault

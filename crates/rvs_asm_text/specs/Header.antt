@@ -1,5 +1,6 @@
 -- The number of steps that a text's header allows.
-use Rattle.std.specs.Prelude.{ℕ, ◌==◌, ◌&&◌, nat_le, Option, Some, None, List, [], ◌∷◌, if◌then◌else◌, option_and_then, codes}
+use Rattle.std.specs.Prelude.{ℕ, ◌==◌, ◌&&◌, nat_le, Option, Some, None, List, [], ◌∷◌}
+use Rattle.std.specs.Prelude.{if◌then◌else◌, option_and_then, codes}
 use Rattle.std.specs.Option.{option_or}
 use Rattle.rvs_asm_text.specs.Text.{lines_of}
 use Rattle.rvs_base.specs.Digits.{short_number}

@@ -1,11 +1,14 @@
 -- Which instruction a statement's word and operands are.
-use Rattle.std.specs.Prelude.{◌≤◌, ℕ, ◌%◌, ◌==◌, ◌&&◌, Bool, false, Option, Some, None, Result, Ok, Err, List, [], ◌∷◌, if◌then◌else◌, ℤ, pos, negsuc, int_le, option_and_then, codes}
+use Rattle.std.specs.Prelude.{◌≤◌, ℕ, ◌%◌, ◌==◌, ◌&&◌, Bool, false, Option, Some, None, Result, Ok}
+use Rattle.std.specs.Prelude.{Err, List, [], ◌∷◌, if◌then◌else◌, ℤ, pos, negsuc, int_le}
+use Rattle.std.specs.Prelude.{option_and_then, codes}
 use Rattle.std.specs.Option.{option_map, option_or}
 use Rattle.std.specs.Str.{bytes_eq}
 use Rattle.rvs_insn.specs.declared.op.Op.{Op}
 use Rattle.rvs_insn.specs.declared.op.Op.TheVariants.{Addi, Jal}
 use Rattle.rvs_insn.specs.declared.op.Format.{Format}
-use Rattle.rvs_insn.specs.declared.op.Format.TheVariants.{R, I, Shift, Load, JumpReg, Store, Branch, Upper, Jump, Fence, System}
+use Rattle.rvs_insn.specs.declared.op.Format.TheVariants.{R, I, Shift, Load, JumpReg, Store, Branch}
+use Rattle.rvs_insn.specs.declared.op.Format.TheVariants.{Upper, Jump, Fence, System}
 use Rattle.rvs_insn.specs.Table.{row}
 use Rattle.rvs_insn.specs.Fields.{Fields, IsRegister}
 use Rattle.rvs_insn.specs.Names.{op_of_name}
@@ -21,17 +24,24 @@ use Rattle.rvs_asm_text.specs.declared.instructions.Mnemonic.{Mnemonic}
 use Rattle.rvs_asm_text.specs.declared.instructions.Mnemonic.TheVariants.{Row, Nop, J}
 use Rattle.rvs_asm_text.specs.Numbers.{number_of}
 use Rattle.rvs_asm_text.specs.Registers.{register_of}
-use Rattle.rvs_asm_text.specs.Operands.{Brackets, brackets_of, is_empty, symbol_of, high_in, low_in, only, pair, triple}
+use Rattle.rvs_asm_text.specs.Operands.{Brackets, brackets_of, is_empty, symbol_of, high_in, low_in}
+use Rattle.rvs_asm_text.specs.Operands.{only, pair, triple}
 
 -- ---- values
 abbrev pub number_value : List ℕ → Option Value
 number_value text = option_map (λ z. record { number = z; link = Own }) (number_of text)
 
 abbrev pub high_value : List ℕ → Option Value
-high_value text = option_or (option_map (λ s. record { number = pos 0; link = High s }) (high_in text)) (number_value text)
+high_value text = option_or (option_map (λ s. record {
+  number = pos 0;
+  link = High s;
+}) (high_in text)) (number_value text)
 
 abbrev pub low_value : List ℕ → Option Value
-low_value text = option_or (option_map (λ s. record { number = pos 0; link = Low s }) (low_in text)) (number_value text)
+low_value text = option_or (option_map (λ s. record {
+  number = pos 0;
+  link = Low s;
+}) (low_in text)) (number_value text)
 
 abbrev pub target_value : List ℕ → Option Value
 target_value text = option_map (λ s. record { number = pos 0; link = Distance s }) (symbol_of text)
@@ -46,7 +56,8 @@ abbrev pub base_in : Brackets → Option ℕ
 base_in b = if is_empty b.head && is_empty b.rest then register_of b.inside else None
 
 abbrev pub low_before : Brackets → Option Value
-low_before b = if bytes_eq b.head (codes "%lo") then option_map (λ s. record { number = pos 0; link = Low s }) (symbol_of b.inside) else None
+low_before b = if bytes_eq b.head (codes "%lo")
+    then option_map (λ s. record { number = pos 0; link = Low s }) (symbol_of b.inside) else None
 
 abbrev pub offset_and_base : Brackets → Option (Value × ℕ)
 offset_and_base b =
@@ -96,15 +107,20 @@ nothing_left [] = Some (draft None None None None)
 nothing_left (a ∷ args) = None
 
 abbrev pub draft_of : Format → List (List ℕ) → Option Draft
-draft_of R args = option_and_then (λ (d, a, b). registers (register_of d) (register_of a) (register_of b)) (triple args)
-draft_of I args = option_and_then (λ (d, a, v). immediate (register_of d) (register_of a) (low_value v)) (triple args)
-draft_of Shift args = option_and_then (λ (d, a, v). immediate (register_of d) (register_of a) (number_value v)) (triple args)
+draft_of R args = option_and_then
+    (λ (d, a, b). registers (register_of d) (register_of a) (register_of b)) (triple args)
+draft_of I args = option_and_then
+    (λ (d, a, v). immediate (register_of d) (register_of a) (low_value v)) (triple args)
+draft_of Shift args = option_and_then
+    (λ (d, a, v). immediate (register_of d) (register_of a) (number_value v)) (triple args)
 draft_of Load args = option_and_then (λ (d, m). loaded (register_of d) (memory_of m)) (pair args)
 draft_of JumpReg args = option_and_then (λ (d, m). loaded (register_of d) (memory_of m)) (pair args)
 draft_of Store args = option_and_then (λ (b, m). stored (register_of b) (memory_of m)) (pair args)
-draft_of Branch args = option_and_then (λ (a, b, s). compared (register_of a) (register_of b) (target_value s)) (triple args)
+draft_of Branch args = option_and_then
+    (λ (a, b, s). compared (register_of a) (register_of b) (target_value s)) (triple args)
 draft_of Upper args = option_and_then (λ (d, v). only_rd (register_of d) (high_value v)) (pair args)
-draft_of Jump args = option_and_then (λ (d, s). only_rd (register_of d) (target_value s)) (pair args)
+draft_of Jump args =
+    option_and_then (λ (d, s). only_rd (register_of d) (target_value s)) (pair args)
 draft_of Fence args = nothing_left args
 draft_of System args = nothing_left args
 
@@ -135,7 +151,9 @@ fields op d imm = record { op = op; rd = d.rd; rs1 = d.rs1; rs2 = d.rs2; imm = i
 
 abbrev pub finish : Op → Draft → Option Value → Result Body LineFault
 finish op d None = Ok (Insn (fields op d None) Own)
-finish op d (Some v) = if in_field (row op).form v.number then Ok (Insn (fields op d (Some v.number)) v.link) else Err (OutOfRange v.number)
+finish op d (Some v) =
+    if in_field (row op).form v.number then Ok (Insn (fields op d (Some v.number)) v.link)
+    else Err (OutOfRange v.number)
 
 abbrev pub finished : Op → Option Draft → Result Body LineFault
 finished op None = Err BadOperand
@@ -160,8 +178,8 @@ instruction_of (Row op) args = finished op (draft_of (row op).form args)
 instruction_of Nop args = finished Addi (nop_draft args)
 instruction_of J args = finished Jal (jump_draft args)
 
--- what holds of each statement that is read: the immediate of an instruction, 0 until it is linked, stands in its field;
--- sizes and powers are those of the directives
+-- what holds of each statement that is read: the immediate of an instruction, 0 until it is linked,
+-- stands in its field; sizes and powers are those of the directives
 abbrev pub IsReady : Body → Type 0
 IsReady (Insn i link) = IsEncodable i
 IsReady (Values size args) = size ≤ 4

@@ -1,5 +1,6 @@
 -- Symbols, and the parts of an operand.
-use Rattle.std.specs.Prelude.{ℕ, ◌==◌, ◌&&◌, ◌||◌, nat_le, Bool, true, false, Option, Some, None, List, [], ◌∷◌, if◌then◌else◌, option_and_then, codes}
+use Rattle.std.specs.Prelude.{ℕ, ◌==◌, ◌&&◌, ◌||◌, nat_le, Bool, true, false, Option, Some, None}
+use Rattle.std.specs.Prelude.{List, [], ◌∷◌, if◌then◌else◌, option_and_then, codes}
 use Rattle.std.specs.List.{list_all}
 use Rattle.std.specs.Str.{bytes_eq}
 use Rattle.rvs_base.specs.Lines.{before, after}
@@ -23,7 +24,8 @@ is_symbol (c ∷ cs) = begins_symbol c && list_all continues_symbol cs
 abbrev pub symbol_of : List ℕ → Option (List ℕ)
 symbol_of text = if is_symbol text then Some text else None
 
--- an operand with brackets: what stands before them, in them, and after them, each without the blanks round it
+-- an operand with brackets: what stands before them, in them, and after them, each without the
+-- blanks round it
 pub record Brackets : Type 0 where
   pub head : List ℕ
   pub inside : List ℕ
@@ -31,7 +33,8 @@ pub record Brackets : Type 0 where
 
 abbrev pub closed : List ℕ → List ℕ → Option (List ℕ) → Option Brackets
 closed head inner None = None
-closed head inner (Some rest) = Some (record { head = trim head; inside = trim (before 41 inner); rest = trim rest })
+closed head inner (Some rest) =
+    Some (record { head = trim head; inside = trim (before 41 inner); rest = trim rest })
 
 abbrev pub opened : List ℕ → Option (List ℕ) → Option Brackets
 opened head None = None

@@ -1,10 +1,15 @@
 -- How a register is written: x0 to x31, or its name in the calling convention.
-use Rattle.std.specs.Prelude.{ℕ, ◌==◌, Bool, false, Option, None, List, [], ◌∷◌, if◌then◌else◌, codes}
+use Rattle.std.specs.Prelude.{ℕ, ◌==◌, Bool, false, Option, None, List, [], ◌∷◌, if◌then◌else◌}
+use Rattle.std.specs.Prelude.{codes}
 use Rattle.std.specs.Option.{option_map, option_or}
 use Rattle.std.specs.List.{find}
 use Rattle.std.specs.Str.{bytes_eq}
 use Rattle.rvs_asm_text.specs.declared.registers.AbiName.{AbiName}
-use Rattle.rvs_asm_text.specs.declared.registers.AbiName.TheVariants.{Zero, Ra, Sp, Gp, Tp, T0, T1, T2, S0, Fp, S1, A0, A1, A2, A3, A4, A5, A6, A7, S2, S3, S4, S5, S6, S7, S8, S9, S10, S11, T3, T4, T5, T6}
+use Rattle.rvs_asm_text.specs.declared.registers.AbiName.TheVariants.{Zero, Ra, Sp, Gp, Tp, T0, T1}
+use Rattle.rvs_asm_text.specs.declared.registers.AbiName.TheVariants.{T2, S0, Fp, S1, A0, A1, A2}
+use Rattle.rvs_asm_text.specs.declared.registers.AbiName.TheVariants.{A3, A4, A5, A6, A7, S2, S3}
+use Rattle.rvs_asm_text.specs.declared.registers.AbiName.TheVariants.{S4, S5, S6, S7, S8, S9, S10}
+use Rattle.rvs_asm_text.specs.declared.registers.AbiName.TheVariants.{S11, T3, T4, T5, T6}
 use Rattle.rvs_base.specs.Digits.{number_below}
 
 -- the names of the calling convention, and the registers that they are
@@ -79,7 +84,8 @@ abi_number T5 = 30
 abi_number T6 = 31
 
 abbrev pub abi_names : List AbiName
-abi_names = Zero ∷ Ra ∷ Sp ∷ Gp ∷ Tp ∷ T0 ∷ T1 ∷ T2 ∷ S0 ∷ Fp ∷ S1 ∷ A0 ∷ A1 ∷ A2 ∷ A3 ∷ A4 ∷ A5 ∷ A6 ∷ A7 ∷ S2 ∷ S3 ∷ S4 ∷ S5 ∷ S6 ∷ S7 ∷ S8 ∷ S9 ∷ S10 ∷ S11 ∷ T3 ∷ T4 ∷ T5 ∷ T6 ∷ []
+abi_names = Zero ∷ Ra ∷ Sp ∷ Gp ∷ Tp ∷ T0 ∷ T1 ∷ T2 ∷ S0 ∷ Fp ∷ S1 ∷ A0 ∷ A1 ∷ A2 ∷ A3 ∷ A4 ∷ A5
+    ∷ A6 ∷ A7 ∷ S2 ∷ S3 ∷ S4 ∷ S5 ∷ S6 ∷ S7 ∷ S8 ∷ S9 ∷ S10 ∷ S11 ∷ T3 ∷ T4 ∷ T5 ∷ T6 ∷ []
 
 -- the convention's name that a text is
 unfoldable pub abi_of : List ℕ → Option AbiName

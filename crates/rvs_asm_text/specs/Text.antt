@@ -1,9 +1,10 @@
 -- How a text is cut into lines, and a line into its label, its first word and its operands.
-use Rattle.std.specs.Prelude.{ℕ, ◌==◌, ◌||◌, ◌&&◌, nat_le, Bool, Option, Some, None, List, [], ◌∷◌, if◌then◌else◌, map}
+use Rattle.std.specs.Prelude.{ℕ, ◌==◌, ◌||◌, ◌&&◌, nat_le, Bool, Option, Some, None, List, [], ◌∷◌}
+use Rattle.std.specs.Prelude.{if◌then◌else◌, map}
 use Rattle.rvs_base.specs.Lines.{before, after, onto_first, cut_lines, without_return}
 
--- ---- lines
--- the lines of a text, each without one carriage return at its end, also the last without a line feed
+-- ---- lines the lines of a text, each without one carriage return at its end, also the last
+-- without a line feed
 abbrev pub lines_of : List ℕ → List (List ℕ)
 lines_of text = map without_return (cut_lines text)
 
@@ -62,7 +63,11 @@ pub record Tokens : Type 0 where
   pub args : List (List ℕ)
 
 abbrev pub statement : Option (List ℕ) → List ℕ → Tokens
-statement label text = record { label = label; word = first_word text; args = operands (drop_blanks (after_word text)) }
+statement label text = record {
+  label = label;
+  word = first_word text;
+  args = operands (drop_blanks (after_word text));
+}
 
 -- what stands before the comment, by what follows its first colon
 abbrev pub labelled : List ℕ → Option (List ℕ) → Tokens

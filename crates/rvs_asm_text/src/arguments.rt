@@ -1,5 +1,6 @@
 // Operands.
-ghost use Rattle.std.specs.Prelude.{◌≡◌, ◌≤◌, ◌+◌, ◌∷◌, [], Some, None, length, count_by, ◌==◌, MatchOption};
+ghost use Rattle.std.specs.Prelude.{◌≡◌, ◌≤◌, ◌+◌, ◌∷◌, [], Some, None, length, count_by, ◌==◌};
+ghost use Rattle.std.specs.Prelude.{MatchOption};
 ghost use Rattle.std.specs.Option.{option_copied};
 ghost use Rattle.rvs_asm_text.specs.Text.{operands};
 ghost use Rattle.rvs_asm_text.specs.Operands.{brackets_of, only, pair, triple};
@@ -74,7 +75,8 @@ impl<'t> Operands<'t> {
 
     /// The two operands, where there are just two.
     pub fn pair(mut self) -> Option<(&'t [u8], &'t [u8])>
-        ensures { MatchOption result (pair self.entry ≡ None) (λ p. pair self.entry ≡ Some (p.0.now, p.1.now)) }
+        ensures { MatchOption result (pair self.entry ≡ None)
+            (λ p. pair self.entry ≡ Some (p.0.now, p.1.now)) }
     {
         let first = self.next()?;
         let second = self.next()?;
@@ -86,7 +88,8 @@ impl<'t> Operands<'t> {
 
     /// The three operands, where there are just three.
     pub fn triple(mut self) -> Option<(&'t [u8], &'t [u8], &'t [u8])>
-        ensures { MatchOption result (triple self.entry ≡ None) (λ p. triple self.entry ≡ Some (p.0.now, p.1.now, p.2.now)) }
+        ensures { MatchOption result (triple self.entry ≡ None)
+            (λ p. triple self.entry ≡ Some (p.0.now, p.1.now, p.2.now)) }
     {
         let first = self.next()?;
         let second = self.next()?;

@@ -1,6 +1,7 @@
 // Where texts are cut.
 ghost use Rattle.std.specs.Prelude.{◌≡◌, ◌<◌, ◌∷◌, [], length, MatchOption};
-ghost use Rattle.rvs_asm_text.specs.Text.{is_blank, drop_blanks, trim_end, trim, first_word, after_word, lines_of};
+ghost use Rattle.rvs_asm_text.specs.Text.{is_blank, drop_blanks, trim_end, trim, first_word};
+ghost use Rattle.rvs_asm_text.specs.Text.{after_word, lines_of};
 
 use rvs_base::without_return;
 
@@ -59,7 +60,8 @@ pub fn first_word_and_rest(text: &[u8]) -> (&[u8], &[u8])
 /// The first line of a text and the text after it; None where the text is empty. One carriage
 /// return at a line's end is dropped, also at that of the last.
 pub fn first_line(text: &[u8]) -> Option<(&[u8], &[u8])>
-    ensures lines { MatchOption result (text.now ≡ []) (λ r. lines_of text.now ≡ r.0.now ∷ lines_of r.1.now) }
+    ensures lines { MatchOption result (text.now ≡ [])
+        (λ r. lines_of text.now ≡ r.0.now ∷ lines_of r.1.now) }
     ensures shorter { MatchOption result (text.now ≡ []) (λ r. length r.1.now < length text.now) }
 {
     match rvs_base::first_line(text) {

@@ -6,7 +6,11 @@ ghost use Rattle.rvs_asm_text.specs.Numbers.{number_of};
 ghost use Rattle.rvs_asm_text.specs.Instructions.{number_value, IsReady};
 ghost use Rattle.rvs_asm_text.specs.Operands.{only, triple};
 ghost use Rattle.rvs_asm_text.specs.Header.{after_front};
-ghost use Rattle.rvs_asm_text.specs.Directives.{directive_name, directive_of, fits, data_value, wide, values_fault, values, without_operands, one_word, aligned, zeroed, filled, filled_by, number_of_one, is_size, directed, begins, section_named, section_of};
+ghost use Rattle.rvs_asm_text.specs.Directives.{directive_name, directive_of, fits, data_value};
+ghost use Rattle.rvs_asm_text.specs.Directives.{wide, values_fault, values, without_operands};
+ghost use Rattle.rvs_asm_text.specs.Directives.{one_word, aligned, zeroed, filled, filled_by};
+ghost use Rattle.rvs_asm_text.specs.Directives.{number_of_one, is_size, directed, begins};
+ghost use Rattle.rvs_asm_text.specs.Directives.{section_named, section_of};
 
 use crate::arguments::Operands;
 use crate::bodies::{Body, LineFault, Link, Value};

@@ -1,10 +1,16 @@
 // Instructions.
-ghost use Rattle.std.specs.Prelude.{◌≡◌, ◌<◌, IfOk, IfSome, MatchOption, Some, None, option_and_then};
+ghost use Rattle.std.specs.Prelude.{◌≡◌, ◌<◌, IfOk, IfSome, MatchOption, Some, None};
+ghost use Rattle.std.specs.Prelude.{option_and_then};
 ghost use Rattle.rvs_insn.specs.Fields.{IsRegister};
 ghost use Rattle.rvs_insn.specs.Table.{row};
 ghost use Rattle.rvs_insn.specs.Names.{op_of_name};
 ghost use Rattle.rvs_asm_text.specs.Operands.{part_in, brackets_of};
-ghost use Rattle.rvs_asm_text.specs.Instructions.{number_value, high_value, low_value, target_value, base_in, low_before, offset_and_base, memory_of, draft_of, in_field, finish, finished, mnemonic_of, jump_draft, nop_draft, nothing_left, instruction_of, within, IsReady, IsDraft};
+ghost use Rattle.rvs_asm_text.specs.Instructions.{number_value, high_value, low_value};
+ghost use Rattle.rvs_asm_text.specs.Instructions.{target_value, base_in, low_before};
+ghost use Rattle.rvs_asm_text.specs.Instructions.{offset_and_base, memory_of, draft_of, in_field};
+ghost use Rattle.rvs_asm_text.specs.Instructions.{finish, finished, mnemonic_of, jump_draft};
+ghost use Rattle.rvs_asm_text.specs.Instructions.{nop_draft, nothing_left, instruction_of, within};
+ghost use Rattle.rvs_asm_text.specs.Instructions.{IsReady, IsDraft};
 
 use crate::arguments::{Bracketed, Operands};
 use crate::bodies::{Body, LineFault, Link, Value};

@@ -1,7 +1,8 @@
 // Symbols' names.
 ghost use Rattle.std.specs.Prelude.{◌≡◌};
 ghost use Rattle.std.specs.List.{list_all};
-ghost use Rattle.rvs_asm_text.specs.Operands.{is_letter, begins_symbol, continues_symbol, is_symbol, symbol_of};
+ghost use Rattle.rvs_asm_text.specs.Operands.{is_letter, begins_symbol, continues_symbol};
+ghost use Rattle.rvs_asm_text.specs.Operands.{is_symbol, symbol_of};
 
 use std::marker::Model;
 

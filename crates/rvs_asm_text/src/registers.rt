@@ -1,6 +1,7 @@
 // Registers.
 ghost use Rattle.std.specs.Prelude.{◌≡◌, ◌<◌, IfSome};
-ghost use Rattle.rvs_asm_text.specs.Registers.{abi_name, abi_number, abi_of, has_leading_zero, register_digits, register_of};
+ghost use Rattle.rvs_asm_text.specs.Registers.{abi_name, abi_number, abi_of, has_leading_zero};
+ghost use Rattle.rvs_asm_text.specs.Registers.{register_digits, register_of};
 
 use rvs_base::number_below;
 

@@ -1,5 +1,6 @@
 -- Putting piece after piece.
-use Rattle.std.proofs.Common.{◌≡◌, ℕ, List, [], ◌++◌, take, drop, Option, Some, None, refl, sym, ap, ◌∙◌}
+use Rattle.std.proofs.Common.{◌≡◌, ℕ, List, [], ◌++◌, take, drop, Option, Some, None, refl, sym, ap}
+use Rattle.std.proofs.Common.{◌∙◌}
 use Rattle.std.proofs.lemmas.List.{append_assoc, append-nil, take-append-drop}
 use Rattle.rvs_base.specs.Sink.{appended}
 
@@ -7,7 +8,8 @@ pub appended-nil : (old : Option (List ℕ)) → appended old [] ≡ old
 appended-nil None = refl
 appended-nil (Some bytes) = ap Some (append-nil bytes)
 
-pub appended-appended : (old : Option (List ℕ)) (a b : List ℕ) → appended (appended old a) b ≡ appended old (a ++ b)
+pub appended-appended : (old : Option (List ℕ)) (a b : List ℕ)
+    → appended (appended old a) b ≡ appended old (a ++ b)
 appended-appended None a b = refl
 appended-appended (Some bytes) a b = ap Some (append_assoc bytes a b)
 
@@ -21,13 +23,18 @@ pub HasPut-none : (bytes : List ℕ) (old : Option (List ℕ)) → HasPut bytes 
 HasPut-none bytes old = record { front = []; split = refl; put = sym (appended-nil old) }
 
 -- and then the next n bytes are put
-pub HasPut-more : {bytes left : List ℕ} {old mid new : Option (List ℕ)} (n : ℕ) → HasPut bytes left old mid → new ≡ appended mid (take n left) → HasPut bytes (drop n left) old new
+pub HasPut-more : {bytes left : List ℕ} {old mid new : Option (List ℕ)} (n : ℕ)
+    → HasPut bytes left old mid → new ≡ appended mid (take n left)
+    → HasPut bytes (drop n left) old new
 HasPut-more {left = left} {old = old} n h more = record {
   front = h.front ++ take n left;
-  split = h.split ∙ ap (λ rest. h.front ++ rest) (sym (take-append-drop n left)) ∙ sym (append_assoc h.front (take n left) (drop n left));
-  put = more ∙ ap (λ mid. appended mid (take n left)) h.put ∙ appended-appended old h.front (take n left);
+  split = h.split ∙ ap (λ rest. h.front ++ rest) (sym (take-append-drop n left))
+      ∙ sym (append_assoc h.front (take n left) (drop n left));
+  put = more ∙ ap (λ mid. appended mid (take n left)) h.put
+      ∙ appended-appended old h.front (take n left);
 }
 
 -- nothing is left
-pub HasPut-all : {bytes : List ℕ} {old new : Option (List ℕ)} → HasPut bytes [] old new → new ≡ appended old bytes
+pub HasPut-all : {bytes : List ℕ} {old new : Option (List ℕ)} → HasPut bytes [] old new
+    → new ≡ appended old bytes
 HasPut-all {old = old} h = h.put ∙ ap (appended old) (sym (h.split ∙ append-nil h.front))

@@ -1,5 +1,7 @@
 -- Looking up a file in memory, and changing it.
-use Rattle.std.proofs.Common.{◌≡◌, ℕ, ◌<◌, ◌≤◌, suc, zero, Bool, true, false, cond, List, [], ◌∷◌, ◌++◌, length, set, get_or, Option, Some, None, refl, sym, ap, ◌∙◌, arith, nat_lt, bytes_eq, if◌then◌else◌}
+use Rattle.std.proofs.Common.{◌≡◌, ℕ, ◌<◌, ◌≤◌, suc, zero, Bool, true, false, cond, List, [], ◌∷◌}
+use Rattle.std.proofs.Common.{◌++◌, length, set, get_or, Option, Some, None, refl, sym, ap, ◌∙◌}
+use Rattle.std.proofs.Common.{arith, nat_lt, bytes_eq, if◌then◌else◌}
 use Rattle.std.specs.List.{position, position_or_len}
 use Rattle.std.proofs.lemmas.List.Sums.{fails_before_first}
 use Rattle.std.proofs.lemmas.List.Quantifiers.{position-Some}
@@ -22,80 +24,113 @@ no_both : {b : Bool} → b ≡ false → b ≡ true → ⊥
 no_both p q = cc
 
 -- where no file has the name
-missing : (files : List File) (name : List ℕ) (d : File) → ((k : ℕ) → k < length files → is_named name (get_or files k d) ≡ false) → held files name ≡ None
+missing : (files : List File) (name : List ℕ) (d : File)
+    → ((k : ℕ) → k < length files → is_named name (get_or files k d) ≡ false)
+    → held files name ≡ None
 missing [] name d none = refl
 missing (file ∷ files) name d none =
     let first : is_named name file ≡ false = none 0 (omega arith) in
     rw first (missing files name d (λ k below. none (suc k) (omega (arith, below))))
 
-pub held-None : (files : List File) (name : List ℕ) → position (is_named name) files ≡ None → held files name ≡ None
+pub held-None : (files : List File) (name : List ℕ) → position (is_named name) files ≡ None
+    → held files name ≡ None
 held-None files name none =
     let past = none_below (position_or_len (is_named name) files) (length files) none in
-    missing files name ([], []) (λ k below. fails_before_first (is_named name) files k ([], []) (omega (arith, below, past)))
+    missing files name ([], []) (λ k below. fails_before_first (is_named name) files k ([], [])
+    (omega (arith, below, past)))
 
 -- where the file at place i is the first that has the name
-held_at : (files : List File) (name : List ℕ) (i : ℕ) (d : File) → i < length files → is_named name (get_or files i d) ≡ true → ((k : ℕ) → k < i → is_named name (get_or files k d) ≡ false) → held files name ≡ Some (get_or files i d).1
+held_at : (files : List File) (name : List ℕ) (i : ℕ) (d : File) → i < length files
+    → is_named name (get_or files i d) ≡ true
+    → ((k : ℕ) → k < i → is_named name (get_or files k d) ≡ false)
+    → held files name ≡ Some (get_or files i d).1
 held_at [] name i d within here before = absurd (omega (arith, within))
 held_at (file ∷ files) name zero d within here before = rw here refl
 held_at (file ∷ files) name (suc i) d within here before =
     let first : is_named name file ≡ false = before 0 (omega arith) in
-    rw first (held_at files name i d (omega (arith, within)) here (λ k below. before (suc k) (omega (arith, below))))
+    rw first (held_at files name i d (omega (arith, within)) here
+    (λ k below. before (suc k) (omega (arith, below))))
 
-pub held-Some : (files : List File) (name : List ℕ) (i : ℕ) → position (is_named name) files ≡ Some i → held files name ≡ Some (get_or files i ([], [])).1
+pub held-Some : (files : List File) (name : List ℕ) (i : ℕ)
+    → position (is_named name) files ≡ Some i → held files name ≡ Some (get_or files i ([], [])).1
 held-Some files name i found =
     let (within, here, before) = position-Some (is_named name) files i ([], []) found in
     held_at files name i ([], []) within here before
 
 bytes_eq-turned : (xs ys : List ℕ) → bytes_eq xs ys ≡ bytes_eq ys xs
-bytes_eq-turned xs ys = same_from_decides (bytes_eq xs ys) (bytes_eq ys xs) (bytes_eq-Decides xs ys) (Decides-like (bytes_eq ys xs) (λ p. sym p) (λ p. sym p) (bytes_eq-Decides ys xs))
+bytes_eq-turned xs ys = same_from_decides (bytes_eq xs ys) (bytes_eq ys xs) (bytes_eq-Decides xs ys)
+    (Decides-like (bytes_eq ys xs) (λ p. sym p) (λ p. sym p) (bytes_eq-Decides ys xs))
 
-same_choice : (t u v : Bool) (a b c : Option (List ℕ)) → u ≡ t → v ≡ t → (if u then a else c) ≡ (if t then a else if v then b else c)
+same_choice : (t u v : Bool) (a b c : Option (List ℕ)) → u ≡ t → v ≡ t
+    → (if u then a else c) ≡ (if t then a else if v then b else c)
 same_choice true u v a b c p q = rw p refl
 same_choice false u v a b c p q = rw (p, q) refl
 
 -- a file of the name is replaced
-replaced : (files : List File) (file : File) (name bytes other : List ℕ) → is_named name file ≡ true → held ((name, bytes) ∷ files) other ≡ with_file name bytes (held (file ∷ files)) other
+replaced : (files : List File) (file : File) (name bytes other : List ℕ) → is_named name file ≡ true
+    → held ((name, bytes) ∷ files) other ≡ with_file name bytes (held (file ∷ files)) other
 replaced files file name bytes other here =
     let same : file.0 ≡ name = (bytes_eq-Decides file.0 name).0 here in
     let turned = bytes_eq-turned name other in
-    same_choice (bytes_eq other name) (bytes_eq name other) (bytes_eq file.0 other) (Some bytes) (Some file.1) (held files other) turned (ap (λ n. bytes_eq n other) same ∙ turned)
+    same_choice (bytes_eq other name) (bytes_eq name other) (bytes_eq file.0 other) (Some bytes)
+    (Some file.1) (held files other) turned (ap (λ n. bytes_eq n other) same ∙ turned)
 
-later_choice : (t v : Bool) (a b c s : Option (List ℕ)) → (v ≡ true → t ≡ true → ⊥) → s ≡ (if t then a else c) → (if v then b else s) ≡ (if t then a else if v then b else c)
+later_choice : (t v : Bool) (a b c s : Option (List ℕ)) → (v ≡ true → t ≡ true → ⊥)
+    → s ≡ (if t then a else c) → (if v then b else s) ≡ (if t then a else if v then b else c)
 later_choice true true a b c s apart p = absurd (apart refl refl)
 later_choice true false a b c s apart p = p
 later_choice false true a b c s apart p = refl
 later_choice false false a b c s apart p = p
 
 -- a file of another name stands before the change
-behind : (files changed : List File) (file : File) (name bytes other : List ℕ) → is_named name file ≡ false → held changed other ≡ with_file name bytes (held files) other → held (file ∷ changed) other ≡ with_file name bytes (held (file ∷ files)) other
+behind : (files changed : List File) (file : File) (name bytes other : List ℕ)
+    → is_named name file ≡ false → held changed other ≡ with_file name bytes (held files) other
+    → held (file ∷ changed) other ≡ with_file name bytes (held (file ∷ files)) other
 behind files changed file name bytes other differs so_far =
-    let apart : bytes_eq file.0 other ≡ true → bytes_eq other name ≡ true → ⊥ = λ p q. no_both differs ((bytes_eq-Decides file.0 name).1 ((bytes_eq-Decides file.0 other).0 p ∙ (bytes_eq-Decides other name).0 q)) in
-    later_choice (bytes_eq other name) (bytes_eq file.0 other) (Some bytes) (Some file.1) (held files other) (held changed other) apart so_far
+    let apart : bytes_eq file.0 other ≡ true → bytes_eq other name ≡ true → ⊥ = λ p q. no_both
+    differs ((bytes_eq-Decides file.0 name).1
+    ((bytes_eq-Decides file.0 other).0 p ∙ (bytes_eq-Decides other name).0 q)) in
+    later_choice (bytes_eq other name) (bytes_eq file.0 other) (Some bytes) (Some file.1)
+    (held files other) (held changed other) apart so_far
 
 -- the file at place i, the first that has the name, is replaced
-set_at : (files : List File) (name bytes : List ℕ) (i : ℕ) (d : File) → i < length files → is_named name (get_or files i d) ≡ true → ((k : ℕ) → k < i → is_named name (get_or files k d) ≡ false)
-    → (other : List ℕ) → held (set files i (name, bytes)) other ≡ with_file name bytes (held files) other
+set_at : (files : List File) (name bytes : List ℕ) (i : ℕ) (d : File) → i < length files
+    → is_named name (get_or files i d) ≡ true
+    → ((k : ℕ) → k < i → is_named name (get_or files k d) ≡ false)
+    → (other : List ℕ)
+    → held (set files i (name, bytes)) other ≡ with_file name bytes (held files) other
 set_at [] name bytes i d within here before other = absurd (omega (arith, within))
-set_at (file ∷ files) name bytes zero d within here before other = replaced files file name bytes other here
+set_at (file ∷ files) name bytes zero d within here before other =
+    replaced files file name bytes other here
 set_at (file ∷ files) name bytes (suc i) d within here before other =
-    behind files (set files i (name, bytes)) file name bytes other (before 0 (omega arith)) (set_at files name bytes i d (omega (arith, within)) here (λ k below. before (suc k) (omega (arith, below))) other)
+    behind files (set files i (name, bytes)) file name bytes other (before 0 (omega arith)) (set_at
+    files name bytes i d (omega (arith, within)) here
+    (λ k below. before (suc k) (omega (arith, below))) other)
 
-pub held-set : (files : List File) (name bytes : List ℕ) (i : ℕ) → position (is_named name) files ≡ Some i → (other : List ℕ) → held (set files i (name, bytes)) other ≡ with_file name bytes (held files) other
+pub held-set : (files : List File) (name bytes : List ℕ) (i : ℕ)
+    → position (is_named name) files ≡ Some i → (other : List ℕ)
+    → held (set files i (name, bytes)) other ≡ with_file name bytes (held files) other
 held-set files name bytes i found other =
     let (within, here, before) = position-Some (is_named name) files i ([], []) found in
     set_at files name bytes i ([], []) within here before other
 
 -- a file is added, of a name that no other has
-push_at : (files : List File) (name bytes : List ℕ) (d : File) → ((k : ℕ) → k < length files → is_named name (get_or files k d) ≡ false)
-    → (other : List ℕ) → held (files ++ (name, bytes) ∷ []) other ≡ with_file name bytes (held files) other
+push_at : (files : List File) (name bytes : List ℕ) (d : File)
+    → ((k : ℕ) → k < length files → is_named name (get_or files k d) ≡ false)
+    → (other : List ℕ)
+    → held (files ++ (name, bytes) ∷ []) other ≡ with_file name bytes (held files) other
 push_at [] name bytes d none other = rw (bytes_eq-turned name other) refl
 push_at (file ∷ files) name bytes d none other =
-    behind files (files ++ (name, bytes) ∷ []) file name bytes other (none 0 (omega arith)) (push_at files name bytes d (λ k below. none (suc k) (omega (arith, below))) other)
+    behind files (files ++ (name, bytes) ∷ []) file name bytes other (none 0 (omega arith))
+    (push_at files name bytes d (λ k below. none (suc k) (omega (arith, below))) other)
 
-pub held-push : (files : List File) (name bytes : List ℕ) → position (is_named name) files ≡ None → (other : List ℕ) → held (files ++ (name, bytes) ∷ []) other ≡ with_file name bytes (held files) other
+pub held-push : (files : List File) (name bytes : List ℕ) → position (is_named name) files ≡ None
+    → (other : List ℕ)
+    → held (files ++ (name, bytes) ∷ []) other ≡ with_file name bytes (held files) other
 held-push files name bytes none other =
     let past = none_below (position_or_len (is_named name) files) (length files) none in
-    push_at files name bytes ([], []) (λ k below. fails_before_first (is_named name) files k ([], []) (omega (arith, below, past))) other
+    push_at files name bytes ([], []) (λ k below. fails_before_first (is_named name) files k
+    ([], []) (omega (arith, below, past))) other
 
 abbrev nothing : Option (List ℕ)
 nothing = None
@@ -105,28 +140,41 @@ none_left true = refl
 none_left false = refl
 
 -- the file is taken away
-taken_choice : (t v : Bool) (b c s : Option (List ℕ)) → v ≡ t → s ≡ (if t then None else c) → s ≡ (if t then None else if v then b else c)
+taken_choice : (t v : Bool) (b c s : Option (List ℕ)) → v ≡ t → s ≡ (if t then None else c)
+    → s ≡ (if t then None else if v then b else c)
 taken_choice true v b c s same p = p
 taken_choice false v b c s same p = rw same p
 
 -- the files of the name are taken away
-without_head : (file : File) (files : List File) (name other : List ℕ) (b : Bool) → is_named name file ≡ b → held (without name files) other ≡ with_left name None (held files) other
-    → held (cond (not b) (file ∷ without name files) (without name files)) other ≡ with_left name None (held (file ∷ files)) other
+without_head : (file : File) (files : List File) (name other : List ℕ) (b : Bool)
+    → is_named name file ≡ b
+    → held (without name files) other ≡ with_left name None (held files) other
+    → held (cond (not b) (file ∷ without name files) (without name files)) other
+    ≡ with_left name None (held (file ∷ files)) other
 without_head file files name other true here so_far =
     let same : file.0 ≡ name = (bytes_eq-Decides file.0 name).0 here in
-    taken_choice (bytes_eq other name) (bytes_eq file.0 other) (Some file.1) (held files other) (held (without name files) other) (ap (λ n. bytes_eq n other) same ∙ bytes_eq-turned name other) so_far
+    taken_choice (bytes_eq other name) (bytes_eq file.0 other) (Some file.1) (held files other)
+    (held (without name files) other)
+    (ap (λ n. bytes_eq n other) same ∙ bytes_eq-turned name other) so_far
 without_head file files name other false differs so_far =
-    let apart : bytes_eq file.0 other ≡ true → bytes_eq other name ≡ true → ⊥ = λ p q. no_both differs ((bytes_eq-Decides file.0 name).1 ((bytes_eq-Decides file.0 other).0 p ∙ (bytes_eq-Decides other name).0 q)) in
-    later_choice (bytes_eq other name) (bytes_eq file.0 other) None (Some file.1) (held files other) (held (without name files) other) apart so_far
+    let apart : bytes_eq file.0 other ≡ true → bytes_eq other name ≡ true → ⊥ = λ p q. no_both
+    differs ((bytes_eq-Decides file.0 name).1
+    ((bytes_eq-Decides file.0 other).0 p ∙ (bytes_eq-Decides other name).0 q)) in
+    later_choice (bytes_eq other name) (bytes_eq file.0 other) None (Some file.1) (held files other)
+    (held (without name files) other) apart so_far
 
-pub held-without : (files : List File) (name other : List ℕ) → held (without name files) other ≡ with_left name None (held files) other
+pub held-without : (files : List File) (name other : List ℕ)
+    → held (without name files) other ≡ with_left name None (held files) other
 held-without [] name other = none_left (bytes_eq other name)
-held-without (file ∷ files) name other = without_head file files name other (is_named name file) refl (held-without files name other)
+held-without (file ∷ files) name other =
+    without_head file files name other (is_named name file) refl (held-without files name other)
 
 -- a file is left as it was
 kept_choice : (t : Bool) (a b : Option (List ℕ)) → (t ≡ true → a ≡ b) → b ≡ (if t then a else b)
 kept_choice true a b same = sym (same refl)
 kept_choice false a b same = refl
 
-pub held-kept : (files : List File) (name other : List ℕ) → held files other ≡ with_left name (held files name) (held files) other
-held-kept files name other = kept_choice (bytes_eq other name) (held files name) (held files other) (λ is. ap (held files) (sym ((bytes_eq-Decides other name).0 is)))
+pub held-kept : (files : List File) (name other : List ℕ)
+    → held files other ≡ with_left name (held files name) (held files) other
+held-kept files name other = kept_choice (bytes_eq other name) (held files name) (held files other)
+    (λ is. ap (held files) (sym ((bytes_eq-Decides other name).0 is)))

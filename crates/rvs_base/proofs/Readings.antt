@@ -1,5 +1,6 @@
 -- What is printed in digits is read as the number that it prints.
-use Rattle.std.proofs.Common.{◌≡◌, ℕ, ◌/◌, ◌%◌, ◌^◌, ◌<◌, Bool, true, false, cond, ◌&&◌, List, [], ◌∷◌, length, Some, None, nat_lt, arith, refl, ap, ◌∙◌}
+use Rattle.std.proofs.Common.{◌≡◌, ℕ, ◌/◌, ◌%◌, ◌^◌, ◌<◌, Bool, true, false, cond, ◌&&◌, List, []}
+use Rattle.std.proofs.Common.{◌∷◌, length, Some, None, nat_lt, arith, refl, ap, ◌∙◌}
 use Rattle.std.specs.List.{list_all}
 use Rattle.std.specs.Char.{digit_value, is_digit}
 use Rattle.std.specs.Fmt.{decimal}
@@ -10,20 +11,24 @@ use Rattle.std.proofs.lemmas.Fmt.{decimal_is_IsNumeral}
 use Rattle.rvs_base.specs.Number.{hex_digit_of, hex_word_of}
 use Rattle.rvs_base.specs.Digits.{digits_of}
 
-pub digits_pass : (radix : ℕ) (ds : List ℕ) → AllDigits radix ds → list_all (λ c. is_digit c radix) ds ≡ true
+pub digits_pass : (radix : ℕ) (ds : List ℕ) → AllDigits radix ds
+    → list_all (λ c. is_digit c radix) ds ≡ true
 digits_pass radix [] h = refl
 digits_pass radix (d ∷ ds) h = rw (lt-ltb (digit_value d) radix h.0) (digits_pass radix ds h.1)
 
-both : (some all : Bool) (v : ℕ) → some ≡ true → all ≡ true → cond (some && all) (Some v) None ≡ Some v
+both : (some all : Bool) (v : ℕ) → some ≡ true → all ≡ true
+    → cond (some && all) (Some v) None ≡ Some v
 both true true v p q = refl
 both true false v p q = cc
 both false all v p q = cc
 
 -- one or more digits spell their value
-pub digits_of-value : (radix : ℕ) (ds : List ℕ) → 0 < length ds → AllDigits radix ds → digits_of radix ds ≡ Some (digits_value radix ds)
+pub digits_of-value : (radix : ℕ) (ds : List ℕ) → 0 < length ds → AllDigits radix ds
+    → digits_of radix ds ≡ Some (digits_value radix ds)
 unfolding digits_of
 digits_of-value radix ds some all =
-    both (nat_lt 0 (length ds)) (list_all (λ c. is_digit c radix) ds) (digits_value radix ds) (lt-ltb 0 (length ds) some) (digits_pass radix ds all)
+    both (nat_lt 0 (length ds)) (list_all (λ c. is_digit c radix) ds) (digits_value radix ds)
+    (lt-ltb 0 (length ds) some) (digits_pass radix ds all)
 
 pub digits_of-decimal : (n : ℕ) → n < 2 ^ 64 → digits_of 10 (decimal n) ≡ Some n
 digits_of-decimal n h =
@@ -37,7 +42,11 @@ pub record IsHex (c d : ℕ) : Type 0 where
   pub plain : 47 < c
 
 pub hex_digit : (d : ℕ) → d < 16 → IsHex (hex_digit_of d) d
-hex_digit d h = record { digit = grind (arith, nat_tests); value = grind (arith, nat_tests); plain = grind (arith, nat_tests) }
+hex_digit d h = record {
+  digit = grind (arith, nat_tests);
+  value = grind (arith, nat_tests);
+  plain = grind (arith, nat_tests);
+}
 
 pub digits_of-hex_word : (w : ℕ) → w < 2 ^ 32 → digits_of 16 (hex_word_of w) ≡ Some w
 unfolding digits_of hex_word_of

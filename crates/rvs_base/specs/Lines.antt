@@ -1,4 +1,5 @@
--- How a text is cut at a byte, and into lines. A line is told without its line feed and with its carriage return: which of those are dropped, each format says at its own place.
+-- How a text is cut at a byte, and into lines. A line is told without its line feed and with its
+-- carriage return: which of those are dropped, each format says at its own place.
 use Rattle.std.specs.Prelude.{ℕ, ◌==◌, Option, Some, None, List, [], ◌∷◌, if◌then◌else◌}
 
 -- the text before the first such byte; all of it where there is none

@@ -1,5 +1,7 @@
 -- What a host and a sink in memory hold.
-use Rattle.std.specs.Prelude.{◌≡◌, ◌≤◌, ◌<◌, ◌⊎◌, ℕ, ℤ, ◌+◌, ◌-◌, ◌^◌, min, Bool, false, not, List, [], ◌∷◌, filter, length, slice_index_or, Option, Some, None, if◌then◌else◌, bytes_eq, Contains}
+use Rattle.std.specs.Prelude.{◌≡◌, ◌≤◌, ◌<◌, ◌⊎◌, ℕ, ℤ, ◌+◌, ◌-◌, ◌^◌, min, Bool, false, not, List}
+use Rattle.std.specs.Prelude.{[], ◌∷◌, filter, length, slice_index_or, Option, Some, None}
+use Rattle.std.specs.Prelude.{if◌then◌else◌, bytes_eq, Contains}
 use Rattle.rvs_base.specs.Host.{HostState, Files}
 use Rattle.rvs_base.specs.Sink.{SinkState}
 use Rattle.rvs_base.specs.declared.host.DeviceRun.{DeviceRun}
@@ -37,7 +39,15 @@ pub record MemoryHostState : Type 0 where
 
 -- what such a host tells, which is all
 abbrev pub told_by : MemoryHostState → HostState
-told_by h = record { is_open = h.is_open; files = Some (held h.files); rest = Some h.rest; runs = Some h.runs; read_faults = h.read_faults; write_faults = h.write_faults; run_faults = h.run_faults }
+told_by h = record {
+  is_open = h.is_open;
+  files = Some (held h.files);
+  rest = Some h.rest;
+  runs = Some h.runs;
+  read_faults = h.read_faults;
+  write_faults = h.write_faults;
+  run_faults = h.run_faults;
+}
 
 -- before the first call
 abbrev pub new_host : List (List ℕ × List ℕ) → List ℕ → List Answer → MemoryHostState
@@ -78,9 +88,11 @@ pub record IsNumbered (old new : MemoryHostState) : Type 0 where
 
 -- why such a call failed: its number is listed, or it wanted memory and says so
 abbrev pub HasReason : MemoryHostState → MemoryHostState → Type 0
-HasReason old new = (Contains old.fail old.calls × (new.starved ≡ old.starved)) ⊎ (new.starved ≡ raised old.starved)
+HasReason old new =
+    (Contains old.fail old.calls × (new.starved ≡ old.starved)) ⊎ (new.starved ≡ raised old.starved)
 
--- why a run of a device failed: its number is listed, no answer is left for it, or it wanted memory and says so
+-- why a run of a device failed: its number is listed, no answer is left for it, or it wanted memory
+-- and says so
 abbrev pub HasRunReason : MemoryHostState → MemoryHostState → Type 0
 HasRunReason old new = HasReason old new ⊎ (length old.answers ≤ length old.runs)
 
@@ -117,4 +129,5 @@ pub record IsNumberedPut (old new : MemorySinkState) : Type 0 where
   pub same_list : new.fail ≡ old.fail
 
 abbrev pub HasReasonPut : MemorySinkState → MemorySinkState → Type 0
-HasReasonPut old new = (Contains old.fail old.calls × (new.starved ≡ old.starved)) ⊎ (new.starved ≡ raised old.starved)
+HasReasonPut old new =
+    (Contains old.fail old.calls × (new.starved ≡ old.starved)) ⊎ (new.starved ≡ raised old.starved)

@@ -1,5 +1,6 @@
 // Files in memory, and what a device run does to them.
-ghost use Rattle.std.specs.Prelude.{◌≡◌, ◌≢◌, ◌++◌, ◌∷◌, [], ℕ, List, IfOk, OnOk, OnErr, bytes_eq, position};
+ghost use Rattle.std.specs.Prelude.{◌≡◌, ◌≢◌, ◌++◌, ◌∷◌, [], ℕ, List, IfOk, OnOk, OnErr, bytes_eq};
+ghost use Rattle.std.specs.Prelude.{position};
 ghost use Rattle.rvs_base.specs.Host.{with_file, with_left, device_words, run_over};
 ghost use Rattle.rvs_base.specs.Memory.{held, left_of, without};
 
@@ -21,7 +22,8 @@ pub(crate) fn store(
     name: &str,
     bytes: &[u8],
 ) -> Result<(), NoMemory>
-    ensures stored { OnOk result ((other : List ℕ) → held files.new other ≡ with_file name.now bytes.now (held files.old) other) }
+    ensures stored { OnOk result ((other : List ℕ)
+        → held files.new other ≡ with_file name.now bytes.now (held files.old) other) }
     ensures unchanged { OnErr result (files.new ≡ files.old) }
 {
     let bytes = Items::from(bytes.to_vec(alloc)?);
@@ -64,7 +66,8 @@ pub(crate) fn perform_run(
     ensures ran { OnOk result (runs.new ≡ runs.old ++ run_over (device_words words.now) test.now signature.now
         (held files.old) (left_of answer.now.leaves (held files.old signature.now))
         answer.now.status ∷ []) }
-    ensures others { OnErr result ((other : List ℕ) → other ≢ signature.now → held files.new other ≡ held files.old other) }
+    ensures others { OnErr result
+        ((other : List ℕ) → other ≢ signature.now → held files.new other ≡ held files.old other) }
     ensures unchanged { OnErr result (runs.new ≡ runs.old) }
 {
     let run = new_run(alloc, files.as_slice(), answer, words, test, signature)?;

@@ -1,5 +1,8 @@
 -- The points of a node are read again from their keys.
-use Rattle.std.proofs.Common.{◌≡◌, ℕ, suc, ◌+◌, ◌≤◌, Bool, true, false, not, ◌&&◌, List, [], ◌∷◌, ◌++◌, length, All, Option, Some, None, Ok, Err, option_map, refl, sym, ap, subst, ◌∙◌, arith, append_assoc, append-nil, length-append, bytes_eq, codes}
+use Rattle.std.proofs.Common.{◌≡◌, ℕ, suc, ◌+◌, ◌≤◌, Bool, true, false, not, ◌&&◌, List, [], ◌∷◌}
+use Rattle.std.proofs.Common.{◌++◌, length, All, Option, Some, None, Ok, Err, option_map, refl, sym}
+use Rattle.std.proofs.Common.{ap, subst, ◌∙◌, arith, append_assoc, append-nil, length-append}
+use Rattle.std.proofs.Common.{bytes_eq, codes}
 use Rattle.std.specs.Prelude.{nat_le, if◌then◌else◌}
 use Rattle.std.specs.List.{list_any, list_all}
 use Rattle.std.proofs.lemmas.Bool.Decides.{nat_tests}
@@ -7,7 +10,8 @@ use Rattle.std.proofs.lemmas.List.Elements.{All-head, All-tail}
 use Rattle.rvs_insn.specs.Isa.{Isa}
 use Rattle.rvs_insn.specs.Names.{op_of_name, is_admitted_op}
 use Rattle.rvs_insn.specs.declared.op.Op.{Op}
-use Rattle.rvs_tree.specs.Data.{Data, scalar, sequence, mapping, Pairs, own_pairs, is_map, is_scalar}
+use Rattle.rvs_tree.specs.Data.{Data, scalar, sequence, mapping, Pairs, own_pairs, is_map}
+use Rattle.rvs_tree.specs.Data.{is_scalar}
 use Rattle.rvs_expr_text.specs.Refusal as expr
 use Rattle.rvs_expr_text.specs.Words.{register_number}
 use Rattle.rvs_expr_text.specs.declared.words.Language.{Language}
@@ -17,16 +21,23 @@ use Rattle.rvs_expr.specs.Parse.{parse}
 use Rattle.rvs_cross.specs.Parse as crosses
 use Rattle.rvs_cross.specs.Parse.{parse as parse_cross}
 use Rattle.rvs_cgf.specs.Keys.{is_printable, is_skipped}
-use Rattle.rvs_cgf.specs.Groups.{Meaning, op_is, reg_is, regs, nums, window, Point, Skipped, Found, refused, ◌>>=◌, ◌>>◌, holds, Taken, same_kind, point, has, with_point, add, is_empty_scalar, for_each, abstract_key, is_shaped, admitted, register_point, expressed, expression, numeric_entry, abstract_node, crossed, entry_of, all_entries, op_in, ops_of}
+use Rattle.rvs_cgf.specs.Groups.{Meaning, op_is, reg_is, regs, nums, window, Point, Skipped, Found}
+use Rattle.rvs_cgf.specs.Groups.{refused, ◌>>=◌, ◌>>◌, holds, Taken, same_kind, point, has}
+use Rattle.rvs_cgf.specs.Groups.{with_point, add, is_empty_scalar, for_each, abstract_key}
+use Rattle.rvs_cgf.specs.Groups.{is_shaped, admitted, register_point, expressed, expression}
+use Rattle.rvs_cgf.specs.Groups.{numeric_entry, abstract_node, crossed, entry_of, all_entries}
+use Rattle.rvs_cgf.specs.Groups.{op_in, ops_of}
 use Rattle.rvs_cgf.specs.Valid.{found, places, meaning_of, are_distinct, IsMeant}
-use Rattle.rvs_cgf.specs.Spelled.{Block, block, joined, blocks, SpellsKeys, kinds_are_apart, is_expression, is_read}
+use Rattle.rvs_cgf.specs.Spelled.{Block, block, joined, blocks, SpellsKeys, kinds_are_apart}
+use Rattle.rvs_cgf.specs.Spelled.{is_expression, is_read}
 use Rattle.rvs_cgf.specs.declared.walk.Sort.{Sort}
 use Rattle.rvs_cgf.specs.declared.walk.Sort.TheVariants as sort
 use Rattle.rvs_cgf.specs.declared.group.Kind.{Kind}
 use Rattle.rvs_cgf.specs.declared.group.Kind.TheVariants as kind
 use Rattle.rvs_cgf.specs.declared.refusal.CgfKind.{CgfKind}
 use Rattle.rvs_cgf.specs.declared.refusal.CgfKind.TheVariants as fault
-use Rattle.rvs_cgf.proofs.Distinct.{and-left, and-right, and-is, or-left, or-right, or-fails, has-append, point-sym}
+use Rattle.rvs_cgf.proofs.Distinct.{and-left, and-right, and-is, or-left, or-right, or-fails}
+use Rattle.rvs_cgf.proofs.Distinct.{has-append, point-sym}
 use Rattle.rvs_cgf.proofs.Validity.{front-distinct, same-bytes, ops-append}
 
 -- ---- choices
@@ -38,7 +49,8 @@ pub if-no : {A : Type 0} (b : Bool) (x y : A) → b ≡ false → (if b then x e
 if-no true x y e = cc
 if-no false x y e = refl
 
-pub holds-yes : {B : Type 0} (good : Bool) (label node key : List ℕ) (k : CgfKind) (next : Found B) → good ≡ true → (holds good label node key k >> next) ≡ next
+pub holds-yes : {B : Type 0} (good : Bool) (label node key : List ℕ) (k : CgfKind) (next : Found B)
+    → good ≡ true → (holds good label node key k >> next) ≡ next
 holds-yes true label node key k next e = refl
 holds-yes false label node key k next e = cc
 
@@ -69,8 +81,10 @@ abstract-says kind.OpComb = refl
 abstract-says kind.ValComb = refl
 abstract-says kind.CrossComb = ap (option_map window) cross-says
 
-pub not-abstract : (k : Kind) (key : List ℕ) (m : Meaning) → meaning_of k key ≡ Some m → (b : Bool) → bytes_eq key abstract_key ≡ b → b ≡ false
-not-abstract k key m e true s = some-not m (sym (abstract-says k) ∙ ap (meaning_of k) (sym (same-bytes key abstract_key s)) ∙ e)
+pub not-abstract : (k : Kind) (key : List ℕ) (m : Meaning) → meaning_of k key ≡ Some m → (b : Bool)
+    → bytes_eq key abstract_key ≡ b → b ≡ false
+not-abstract k key m e true s =
+    some-not m (sym (abstract-says k) ∙ ap (meaning_of k) (sym (same-bytes key abstract_key s)) ∙ e)
 not-abstract k key m e false s = refl
 
 pub shaped-yes : (p : Point) (d : Data) → IsMeant p → is_scalar d ≡ true → is_shaped p.key d ≡ true
@@ -79,14 +93,19 @@ shaped-yes p d m s =
     (and-is (is_printable p.key) (is_scalar d) m.printable s)
     (ap not (not-abstract p.kind p.key p.meaning m.meaning_is (bytes_eq p.key abstract_key) refl))
 
-pub add-yes : (label node key : List ℕ) (p : Point) (t : Taken) → has p.kind p.key t.points ≡ false → nat_le 2048 t.count ≡ false → add label node key p t ≡ Ok (with_point p t)
+pub add-yes : (label node key : List ℕ) (p : Point) (t : Taken) → has p.kind p.key t.points ≡ false
+    → nat_le 2048 t.count ≡ false → add label node key p t ≡ Ok (with_point p t)
 add-yes label node key p t h c =
-    if-no (has p.kind p.key t.points) (Ok t) (if nat_le 2048 t.count then refused label node key fault.TooManyPoints else Ok (with_point p t)) h
-    ∙ if-no (nat_le 2048 t.count) (refused label node key fault.TooManyPoints) (Ok (with_point p t)) c
+    if-no (has p.kind p.key t.points) (Ok t) (if nat_le 2048 t.count then refused label node key
+    fault.TooManyPoints else Ok (with_point p t)) h
+    ∙ if-no (nat_le 2048 t.count) (refused label node key fault.TooManyPoints) (Ok (with_point p t))
+    c
 
 -- reading the point's key adds the point
 abbrev pub Reads : Isa → Sort → Point → Type 0
-Reads isa s p = (label node : List ℕ) (d : Data) (t : Taken) → is_scalar d ≡ true → has p.kind p.key t.points ≡ false → nat_le 2048 t.count ≡ false → entry_of isa s label node p.key d t ≡ Ok (with_point p t)
+Reads isa s p = (label node : List ℕ) (d : Data) (t : Taken) → is_scalar d ≡ true
+    → has p.kind p.key t.points ≡ false → nat_le 2048 t.count ≡ false
+    → entry_of isa s label node p.key d t ≡ Ok (with_point p t)
 
 abbrev pub sort_of : Kind → Sort
 sort_of kind.Mnemonic = sort.Mnemonic
@@ -102,83 +121,117 @@ abbrev pub is_fit : Isa → Meaning → Bool
 is_fit isa (op_is op) = is_admitted_op isa op
 is_fit isa _ = true
 
-pub op-by : (isa : Isa) (label node key : List ℕ) (o : Option Op) (m : Meaning) (t : Taken) → option_map op_is o ≡ Some m → is_fit isa m ≡ true
-    → (admitted label node key isa o >>= (λ op. add label node key (point kind.Mnemonic key (op_is op)) t)) ≡ add label node key (point kind.Mnemonic key m) t
+pub op-by : (isa : Isa) (label node key : List ℕ) (o : Option Op) (m : Meaning) (t : Taken)
+    → option_map op_is o ≡ Some m → is_fit isa m ≡ true
+    → (admitted label node key isa o
+    >>= (λ op. add label node key (point kind.Mnemonic key (op_is op)) t)) ≡ add label node key
+    (point kind.Mnemonic key m) t
 op-by isa label node key None m t e f = some-not m e
 op-by isa label node key (Some op) m t e f =
     let is : op_is op ≡ m = inner (op_is op) m e in
-    ap (λ r. r >>= (λ op. add label node key (point kind.Mnemonic key (op_is op)) t)) (if-yes (is_admitted_op isa op) (Ok op) (refused label node key fault.UnknownMnemonic) (ap (is_fit isa) is ∙ f))
+    ap (λ r. r >>= (λ op. add label node key (point kind.Mnemonic key (op_is op)) t)) (if-yes
+    (is_admitted_op isa op) (Ok op) (refused label node key fault.UnknownMnemonic)
+    (ap (is_fit isa) is ∙ f))
     ∙ ap (λ x. add label node key (point kind.Mnemonic key x) t) is
   where
     inner : (x y : Meaning) → Some x ≡ Some y → x ≡ y
     inner x y e = cc
 
-pub reg-by : (label node key : List ℕ) (k : Kind) (o : Option ℕ) (m : Meaning) (t : Taken) → option_map reg_is o ≡ Some m → register_point label node k key o t ≡ add label node key (point k key m) t
+pub reg-by : (label node key : List ℕ) (k : Kind) (o : Option ℕ) (m : Meaning) (t : Taken)
+    → option_map reg_is o ≡ Some m
+    → register_point label node k key o t ≡ add label node key (point k key m) t
 reg-by label node key k None m t e = some-not m e
-reg-by label node key k (Some r) m t e = ap (λ x. add label node key (point k key x) t) (inner (reg_is r) m e)
+reg-by label node key k (Some r) m t e =
+    ap (λ x. add label node key (point k key x) t) (inner (reg_is r) m e)
   where
     inner : (x y : Meaning) → Some x ≡ Some y → x ≡ y
     inner x y e = cc
 
-pub formula-by : (label node key : List ℕ) (k : Kind) (mean : Formula → Meaning) (r : expr.Found Formula) (m : Meaning) (t : Taken) → option_map mean (found r) ≡ Some m → expressed label node k mean key r t ≡ add label node key (point k key m) t
-formula-by label node key k mean (Ok f) m t e = ap (λ x. add label node key (point k key x) t) (inner (mean f) m e)
+pub formula-by : (label node key : List ℕ) (k : Kind) (mean : Formula → Meaning)
+    (r : expr.Found Formula) (m : Meaning) (t : Taken) → option_map mean (found r) ≡ Some m
+    → expressed label node k mean key r t ≡ add label node key (point k key m) t
+formula-by label node key k mean (Ok f) m t e =
+    ap (λ x. add label node key (point k key x) t) (inner (mean f) m e)
   where
     inner : (x y : Meaning) → Some x ≡ Some y → x ≡ y
     inner x y e = cc
 formula-by label node key k mean (Err r) m t e = some-not m e
 
 -- a point of a kind and key that are told
-pub reads-mnemonic : (isa : Isa) (key : List ℕ) (m : Meaning) → IsMeant (point kind.Mnemonic key m) → is_fit isa m ≡ true → Reads isa sort.Mnemonic (point kind.Mnemonic key m)
+pub reads-mnemonic : (isa : Isa) (key : List ℕ) (m : Meaning) → IsMeant (point kind.Mnemonic key m)
+    → is_fit isa m ≡ true → Reads isa sort.Mnemonic (point kind.Mnemonic key m)
 reads-mnemonic isa key m meant f label node d t s h c =
-    holds-yes (is_shaped key d) label node key fault.BadShape _ (shaped-yes (point kind.Mnemonic key m) d meant s)
+    holds-yes (is_shaped key d) label node key fault.BadShape _
+    (shaped-yes (point kind.Mnemonic key m) d meant s)
     ∙ op-by isa label node key (op_of_name key) m t meant.meaning_is f
     ∙ add-yes label node key (point kind.Mnemonic key m) t h c
 
-pub reads-register : (isa : Isa) (k : Kind) (key : List ℕ) (m : Meaning) → IsMeant (point k key m) → option_map reg_is (register_number key) ≡ Some m → Reads isa (sort.Register k) (point k key m)
+pub reads-register : (isa : Isa) (k : Kind) (key : List ℕ) (m : Meaning) → IsMeant (point k key m)
+    → option_map reg_is (register_number key) ≡ Some m → Reads isa (sort.Register k) (point k key m)
 reads-register isa k key m meant e label node d t s h c =
-    holds-yes (is_shaped key d) label node key fault.BadShape _ (shaped-yes (point k key m) d meant s)
+    holds-yes (is_shaped key d) label node key fault.BadShape _
+    (shaped-yes (point k key m) d meant s)
     ∙ reg-by label node key k (register_number key) m t e
     ∙ add-yes label node key (point k key m) t h c
 
-pub expression-yes : (label node : List ℕ) (k : Kind) (mean : Formula → Meaning) (language : Language) (key : List ℕ) (m : Meaning) (t : Taken) → is_skipped key ≡ false → option_map mean (found (parse language [] key)) ≡ Some m
-    → has k key t.points ≡ false → nat_le 2048 t.count ≡ false → expression label node k mean language key t ≡ Ok (with_point (point k key m) t)
+pub expression-yes : (label node : List ℕ) (k : Kind) (mean : Formula → Meaning)
+    (language : Language) (key : List ℕ) (m : Meaning) (t : Taken) → is_skipped key ≡ false
+    → option_map mean (found (parse language [] key)) ≡ Some m
+    → has k key t.points ≡ false → nat_le 2048 t.count ≡ false
+    → expression label node k mean language key t ≡ Ok (with_point (point k key m) t)
 expression-yes label node k mean language key m t r e h c =
     if-no (is_skipped key) _ (expressed label node k mean key (parse language [] key) t) r
     ∙ formula-by label node key k mean (parse language [] key) m t e
     ∙ add-yes label node key (point k key m) t h c
 
-pub reads-operation : (isa : Isa) (key : List ℕ) (m : Meaning) → IsMeant (point kind.OpComb key m) → is_skipped key ≡ false → Reads isa sort.Operation (point kind.OpComb key m)
+pub reads-operation : (isa : Isa) (key : List ℕ) (m : Meaning) → IsMeant (point kind.OpComb key m)
+    → is_skipped key ≡ false → Reads isa sort.Operation (point kind.OpComb key m)
 reads-operation isa key m meant r label node d t s h c =
-    holds-yes (is_shaped key d) label (codes "op_comb") key fault.BadShape _ (shaped-yes (point kind.OpComb key m) d meant s)
-    ∙ expression-yes label (codes "op_comb") kind.OpComb regs Registers key m t r meant.meaning_is h c
+    holds-yes (is_shaped key d) label (codes "op_comb") key fault.BadShape _
+    (shaped-yes (point kind.OpComb key m) d meant s)
+    ∙ expression-yes label (codes "op_comb") kind.OpComb regs Registers key m t r meant.meaning_is h
+    c
 
-pub reads-numeric : (isa : Isa) (key : List ℕ) (m : Meaning) → IsMeant (point kind.ValComb key m) → is_skipped key ≡ false → Reads isa sort.Numeric (point kind.ValComb key m)
+pub reads-numeric : (isa : Isa) (key : List ℕ) (m : Meaning) → IsMeant (point kind.ValComb key m)
+    → is_skipped key ≡ false → Reads isa sort.Numeric (point kind.ValComb key m)
 reads-numeric isa key m meant r label node d t s h c =
-    if-no (bytes_eq key abstract_key) (abstract_node label key d t) (numeric_entry label key d t) (not-abstract kind.ValComb key m meant.meaning_is (bytes_eq key abstract_key) refl)
-    ∙ holds-yes (is_shaped key d) label (codes "val_comb") key fault.BadShape _ (shaped-yes (point kind.ValComb key m) d meant s)
-    ∙ expression-yes label (codes "val_comb") kind.ValComb nums Numbers key m t r meant.meaning_is h c
+    if-no (bytes_eq key abstract_key) (abstract_node label key d t) (numeric_entry label key d t)
+    (not-abstract kind.ValComb key m meant.meaning_is (bytes_eq key abstract_key) refl)
+    ∙ holds-yes (is_shaped key d) label (codes "val_comb") key fault.BadShape _
+    (shaped-yes (point kind.ValComb key m) d meant s)
+    ∙ expression-yes label (codes "val_comb") kind.ValComb nums Numbers key m t r meant.meaning_is h
+    c
 
-pub cross-by : (label key : List ℕ) (r : crosses.Found) (m : Meaning) (t : Taken) → option_map window (places r) ≡ Some m → crossed label key r t ≡ add label (codes "cross_comb") key (point kind.CrossComb key m) t
-cross-by label key (Ok (crosses.read ps)) m t e = ap (λ x. add label (codes "cross_comb") key (point kind.CrossComb key x) t) (inner (window ps) m e)
+pub cross-by : (label key : List ℕ) (r : crosses.Found) (m : Meaning) (t : Taken)
+    → option_map window (places r) ≡ Some m
+    → crossed label key r t ≡ add label (codes "cross_comb") key (point kind.CrossComb key m) t
+cross-by label key (Ok (crosses.read ps)) m t e = ap
+    (λ x. add label (codes "cross_comb") key (point kind.CrossComb key x) t) (inner (window ps) m e)
   where
     inner : (x y : Meaning) → Some x ≡ Some y → x ≡ y
     inner x y e = cc
 cross-by label key (Ok crosses.skipped) m t e = some-not m e
 cross-by label key (Err r) m t e = some-not m e
 
-pub reads-crossed : (isa : Isa) (key : List ℕ) (m : Meaning) → IsMeant (point kind.CrossComb key m) → Reads isa sort.Crossed (point kind.CrossComb key m)
+pub reads-crossed : (isa : Isa) (key : List ℕ) (m : Meaning) → IsMeant (point kind.CrossComb key m)
+    → Reads isa sort.Crossed (point kind.CrossComb key m)
 reads-crossed isa key m meant label node d t s h c =
-    holds-yes (is_shaped key d) label (codes "cross_comb") key fault.BadShape _ (shaped-yes (point kind.CrossComb key m) d meant s)
+    holds-yes (is_shaped key d) label (codes "cross_comb") key fault.BadShape _
+    (shaped-yes (point kind.CrossComb key m) d meant s)
     ∙ cross-by label key (parse_cross key) m t meant.meaning_is
     ∙ add-yes label (codes "cross_comb") key (point kind.CrossComb key m) t h c
 
-pub reads_by : (isa : Isa) (k : Kind) (key : List ℕ) (m : Meaning) → IsMeant (point k key m) → not (is_expression k && is_skipped key) ≡ true → is_fit isa m ≡ true → Reads isa (sort_of k) (point k key m)
+pub reads_by : (isa : Isa) (k : Kind) (key : List ℕ) (m : Meaning) → IsMeant (point k key m)
+    → not (is_expression k && is_skipped key) ≡ true → is_fit isa m ≡ true
+    → Reads isa (sort_of k) (point k key m)
 reads_by isa kind.Mnemonic key m meant r f = reads-mnemonic isa key m meant f
 reads_by isa kind.Rs1 key m meant r f = reads-register isa kind.Rs1 key m meant meant.meaning_is
 reads_by isa kind.Rs2 key m meant r f = reads-register isa kind.Rs2 key m meant meant.meaning_is
 reads_by isa kind.Rd key m meant r f = reads-register isa kind.Rd key m meant meant.meaning_is
-reads_by isa kind.OpComb key m meant r f = reads-operation isa key m meant (not-is (is_skipped key) r)
-reads_by isa kind.ValComb key m meant r f = reads-numeric isa key m meant (not-is (is_skipped key) r)
+reads_by isa kind.OpComb key m meant r f =
+    reads-operation isa key m meant (not-is (is_skipped key) r)
+reads_by isa kind.ValComb key m meant r f =
+    reads-numeric isa key m meant (not-is (is_skipped key) r)
 reads_by isa kind.CrossComb key m meant r f = reads-crossed isa key m meant
 
 -- ---- the points under one line
@@ -192,41 +245,58 @@ taken-at n ps ss = record { count = n; points = ps; skipped = ss }
 abbrev pub ok-taken : Taken → Found Taken
 ok-taken t = Ok t
 
-pub taken-is : (n m : ℕ) (ps qs : List Point) (ss : List Skipped) → n ≡ m → ps ≡ qs → taken-at n ps ss ≡ taken-at m qs ss
+pub taken-is : (n m : ℕ) (ps qs : List Point) (ss : List Skipped) → n ≡ m → ps ≡ qs
+    → taken-at n ps ss ≡ taken-at m qs ss
 taken-is n m ps qs ss e f = ap (λ k. taken-at k ps ss) e ∙ ap (λ xs. taken-at m xs ss) f
 
 -- what stands before a point isn't that point
-pub none-before : (ts ps : List Point) (p : Point) → are_distinct (ts ++ p ∷ ps) ≡ true → has p.kind p.key ts ≡ false
+pub none-before : (ts ps : List Point) (p : Point) → are_distinct (ts ++ p ∷ ps) ≡ true
+    → has p.kind p.key ts ≡ false
 none-before [] ps p d = refl
 none-before (q ∷ ts) ps p d =
-    let later = sym (has-append q.kind q.key ts (p ∷ ps)) ∙ not-is (has q.kind q.key (ts ++ p ∷ ps)) (and-left (not (has q.kind q.key (ts ++ p ∷ ps))) (are_distinct (ts ++ p ∷ ps)) d) in
+    let later = sym (has-append q.kind q.key ts (p ∷ ps)) ∙ not-is (has q.kind q.key (ts ++ p ∷ ps))
+    (and-left (not (has q.kind q.key (ts ++ p ∷ ps))) (are_distinct (ts ++ p ∷ ps)) d) in
     or-fails _ (has p.kind p.key ts)
     (point-sym p q ∙ or-left _ (has q.kind q.key ps) (or-right (has q.kind q.key ts) _ later))
-    (none-before ts ps p (and-right (not (has q.kind q.key (ts ++ p ∷ ps))) (are_distinct (ts ++ p ∷ ps)) d))
+    (none-before ts ps p
+    (and-right (not (has q.kind q.key (ts ++ p ∷ ps))) (are_distinct (ts ++ p ∷ ps)) d))
 
 pub room : (n m : ℕ) → n + suc m ≤ 2048 → nat_le 2048 n ≡ false
 room n m h = grind (arith, nat_tests)
 
-pub block-read : (isa : Isa) (s : Sort) (label node : List ℕ) (ps : List Point) (es : Pairs) → SpellsKeys ps es → ReadsAll isa s ps → (t : Taken) → are_distinct (t.points ++ ps) ≡ true → t.count + length ps ≤ 2048
-    → for_each (entry_of isa s label node) es t ≡ Ok (taken-at (t.count + length ps) (t.points ++ ps) t.skipped)
-block-read isa s label node [] [] sp rd t d n = ap ok-taken (taken-is t.count (t.count + 0) t.points (t.points ++ []) t.skipped (omega arith) (sym (append-nil t.points)))
+pub block-read : (isa : Isa) (s : Sort) (label node : List ℕ) (ps : List Point) (es : Pairs)
+    → SpellsKeys ps es → ReadsAll isa s ps → (t : Taken) → are_distinct (t.points ++ ps) ≡ true
+    → t.count + length ps ≤ 2048
+    → for_each (entry_of isa s label node) es t
+    ≡ Ok (taken-at (t.count + length ps) (t.points ++ ps) t.skipped)
+block-read isa s label node [] [] sp rd t d n = ap ok-taken (taken-is t.count (t.count + 0) t.points
+    (t.points ++ []) t.skipped (omega arith) (sym (append-nil t.points)))
 block-read isa s label node [] (e ∷ es) sp rd t d n = absurd sp
 block-read isa s label node (p ∷ ps) [] sp rd t d n = absurd sp
 block-read isa s label node (p ∷ ps) (e ∷ es) sp rd t d n =
-    let here = ap (λ k. entry_of isa s label node k e.1 t) sp.0 ∙ rd.0 label node e.1 t sp.1 (none-before t.points ps p d) (room t.count (length ps) n) in
-    bind-yes (entry_of isa s label node e.0 e.1 t) (λ u. for_each (entry_of isa s label node) es u) (with_point p t) here
-    ∙ block-read isa s label node ps es sp.2 rd.1 (with_point p t) (ap are_distinct (append_assoc t.points (p ∷ []) ps) ∙ d) (omega arith)
-    ∙ ap ok-taken (taken-is (suc t.count + length ps) (t.count + suc (length ps)) ((t.points ++ p ∷ []) ++ ps) (t.points ++ p ∷ ps) t.skipped (omega arith) (append_assoc t.points (p ∷ []) ps))
+    let here = ap (λ k. entry_of isa s label node k e.1 t) sp.0
+    ∙ rd.0 label node e.1 t sp.1 (none-before t.points ps p d) (room t.count (length ps) n) in
+    bind-yes (entry_of isa s label node e.0 e.1 t) (λ u. for_each (entry_of isa s label node) es u)
+    (with_point p t) here
+    ∙ block-read isa s label node ps es sp.2 rd.1 (with_point p t)
+    (ap are_distinct (append_assoc t.points (p ∷ []) ps) ∙ d) (omega arith)
+    ∙ ap ok-taken (taken-is (suc t.count + length ps) (t.count + suc (length ps))
+    ((t.points ++ p ∷ []) ++ ps) (t.points ++ p ∷ ps) t.skipped (omega arith)
+    (append_assoc t.points (p ∷ []) ps))
 
 pub map-not-empty : (d : Data) → is_map d ≡ true → is_empty_scalar d ≡ false
 map-not-empty (scalar text line) e = cc
 map-not-empty (sequence ds line) e = cc
 map-not-empty (mapping es line) e = refl
 
-pub entries-read : (isa : Isa) (s : Sort) (label node : List ℕ) (m : Data) (t u : Taken) → is_map m ≡ true → for_each (entry_of isa s label node) (own_pairs m) t ≡ Ok u → all_entries isa s label node m t ≡ Ok u
+pub entries-read : (isa : Isa) (s : Sort) (label node : List ℕ) (m : Data) (t u : Taken)
+    → is_map m ≡ true → for_each (entry_of isa s label node) (own_pairs m) t ≡ Ok u
+    → all_entries isa s label node m t ≡ Ok u
 entries-read isa s label node m t u e h =
-    if-no (is_empty_scalar m) (Ok t) (if is_map m then for_each (entry_of isa s label node) (own_pairs m) t else refused label node [] fault.BadShape) (map-not-empty m e)
-    ∙ if-yes (is_map m) (for_each (entry_of isa s label node) (own_pairs m) t) (refused label node [] fault.BadShape) e
+    if-no (is_empty_scalar m) (Ok t) (if is_map m then for_each (entry_of isa s label node)
+    (own_pairs m) t else refused label node [] fault.BadShape) (map-not-empty m e)
+    ∙ if-yes (is_map m) (for_each (entry_of isa s label node) (own_pairs m) t)
+    (refused label node [] fault.BadShape) e
     ∙ h
 
 -- ---- the points by their kinds
@@ -305,7 +375,9 @@ pub joined-points : (p : Point) (bs : List Block) → points_in (joined p bs) �
 joined-points p [] = refl
 joined-points p (b ∷ bs) = by (same_kind b.kind p.kind)
   where
-    by : (x : Bool) → points_in (if x then block p.kind (p ∷ b.points) ∷ bs else block p.kind (p ∷ []) ∷ b ∷ bs) ≡ p ∷ (b.points ++ points_in bs)
+    by : (x : Bool)
+        → points_in (if x then block p.kind (p ∷ b.points) ∷ bs else block p.kind (p ∷ []) ∷ b ∷ bs)
+        ≡ p ∷ (b.points ++ points_in bs)
     by true = refl
     by false = refl
 
@@ -313,11 +385,13 @@ pub blocks-points : (ps : List Point) → points_in (blocks ps) ≡ ps
 blocks-points [] = refl
 blocks-points (p ∷ ps) = joined-points p (blocks ps) ∙ ap (λ xs. p ∷ xs) (blocks-points ps)
 
-pub joined-read : (isa : Isa) (p : Point) (bs : List Block) → Reads isa (sort_of p.kind) p → AllRead isa bs → AllRead isa (joined p bs)
+pub joined-read : (isa : Isa) (p : Point) (bs : List Block) → Reads isa (sort_of p.kind) p
+    → AllRead isa bs → AllRead isa (joined p bs)
 joined-read isa p [] r h = ((r, tt), tt)
 joined-read isa p (b ∷ bs) r h = by (same_kind b.kind p.kind) refl
   where
-    by : (x : Bool) → same_kind b.kind p.kind ≡ x → AllRead isa (if x then block p.kind (p ∷ b.points) ∷ bs else block p.kind (p ∷ []) ∷ b ∷ bs)
+    by : (x : Bool) → same_kind b.kind p.kind ≡ x → AllRead isa
+        (if x then block p.kind (p ∷ b.points) ∷ bs else block p.kind (p ∷ []) ∷ b ∷ bs)
     by true e = ((r, subst (λ (k : Kind). ReadsAll isa (sort_of k) b.points) (kind-is b.kind p.kind e) h.0), h.1)
     by false e = ((r, tt), h)
 
@@ -325,49 +399,64 @@ pub joined-meant : (p : Point) (bs : List Block) → IsMeant p → AllMeant bs �
 joined-meant p [] m h = ((refl, m, tt), tt)
 joined-meant p (b ∷ bs) m h = by (same_kind b.kind p.kind) refl
   where
-    by : (x : Bool) → same_kind b.kind p.kind ≡ x → AllMeant (if x then block p.kind (p ∷ b.points) ∷ bs else block p.kind (p ∷ []) ∷ b ∷ bs)
-    by true e = ((refl, m, subst (λ (k : Kind). MeantUnder k b.points) (kind-is b.kind p.kind e) h.0), h.1)
+    by : (x : Bool) → same_kind b.kind p.kind ≡ x
+        → AllMeant (if x then block p.kind (p ∷ b.points) ∷ bs else block p.kind (p ∷ []) ∷ b ∷ bs)
+    by true e =
+        ((refl, m, subst (λ (k : Kind). MeantUnder k b.points) (kind-is b.kind p.kind e) h.0), h.1)
     by false e = ((refl, m, tt), h)
 
 pub blocks-meant : (ps : List Point) → All IsMeant ps → AllMeant (blocks ps)
 blocks-meant [] h = tt
-blocks-meant (p ∷ ps) h = joined-meant p (blocks ps) (All-head IsMeant p ps h) (blocks-meant ps (All-tail IsMeant p ps h))
+blocks-meant (p ∷ ps) h =
+    joined-meant p (blocks ps) (All-head IsMeant p ps h) (blocks-meant ps (All-tail IsMeant p ps h))
 
 -- all mnemonics among the meanings are admitted
-pub fit-first : (isa : Isa) (m : Meaning) (ops : List Op) → list_all (is_admitted_op isa) (op_in m ++ ops) ≡ true → is_fit isa m ≡ true
-fit-first isa (op_is op) ops e = and-left (is_admitted_op isa op) (list_all (is_admitted_op isa) ops) e
+pub fit-first : (isa : Isa) (m : Meaning) (ops : List Op)
+    → list_all (is_admitted_op isa) (op_in m ++ ops) ≡ true → is_fit isa m ≡ true
+fit-first isa (op_is op) ops e =
+    and-left (is_admitted_op isa op) (list_all (is_admitted_op isa) ops) e
 fit-first isa (reg_is r) ops e = refl
 fit-first isa (regs f) ops e = refl
 fit-first isa (nums f) ops e = refl
 fit-first isa (window ps) ops e = refl
 
-pub fit-rest : (isa : Isa) (m : Meaning) (ops : List Op) → list_all (is_admitted_op isa) (op_in m ++ ops) ≡ true → list_all (is_admitted_op isa) ops ≡ true
-fit-rest isa (op_is op) ops e = and-right (is_admitted_op isa op) (list_all (is_admitted_op isa) ops) e
+pub fit-rest : (isa : Isa) (m : Meaning) (ops : List Op)
+    → list_all (is_admitted_op isa) (op_in m ++ ops) ≡ true
+    → list_all (is_admitted_op isa) ops ≡ true
+fit-rest isa (op_is op) ops e =
+    and-right (is_admitted_op isa op) (list_all (is_admitted_op isa) ops) e
 fit-rest isa (reg_is r) ops e = e
 fit-rest isa (regs f) ops e = e
 fit-rest isa (nums f) ops e = e
 fit-rest isa (window ps) ops e = e
 
-pub blocks-read : (isa : Isa) (ps : List Point) → All IsMeant ps → list_all is_read ps ≡ true → list_all (is_admitted_op isa) (ops_of ps) ≡ true → AllRead isa (blocks ps)
+pub blocks-read : (isa : Isa) (ps : List Point) → All IsMeant ps → list_all is_read ps ≡ true
+    → list_all (is_admitted_op isa) (ops_of ps) ≡ true → AllRead isa (blocks ps)
 blocks-read isa [] h r f = tt
 blocks-read isa (p ∷ ps) h r f =
     joined-read isa p (blocks ps)
-    (reads_by isa p.kind p.key p.meaning (All-head IsMeant p ps h) (and-left (is_read p) (list_all is_read ps) r) (fit-first isa p.meaning (ops_of ps) f))
-    (blocks-read isa ps (All-tail IsMeant p ps h) (and-right (is_read p) (list_all is_read ps) r) (fit-rest isa p.meaning (ops_of ps) f))
+    (reads_by isa p.kind p.key p.meaning (All-head IsMeant p ps h)
+    (and-left (is_read p) (list_all is_read ps) r) (fit-first isa p.meaning (ops_of ps) f))
+    (blocks-read isa ps (All-tail IsMeant p ps h) (and-right (is_read p) (list_all is_read ps) r)
+    (fit-rest isa p.meaning (ops_of ps) f))
 
 -- ---- the block of the mnemonics
 abbrev pub main_in : List Block → List Point
 main_in bs = under kind.Mnemonic bs
 
-pub under-yes : (b : Block) (bs : List Block) → same_kind b.kind kind.Mnemonic ≡ true → main_in (b ∷ bs) ≡ b.points
+pub under-yes : (b : Block) (bs : List Block) → same_kind b.kind kind.Mnemonic ≡ true
+    → main_in (b ∷ bs) ≡ b.points
 under-yes b bs e = if-yes (same_kind b.kind kind.Mnemonic) b.points (main_in bs) e
 
-pub under-no : (b : Block) (bs : List Block) → same_kind b.kind kind.Mnemonic ≡ false → main_in (b ∷ bs) ≡ main_in bs
+pub under-no : (b : Block) (bs : List Block) → same_kind b.kind kind.Mnemonic ≡ false
+    → main_in (b ∷ bs) ≡ main_in bs
 under-no b bs e = if-no (same_kind b.kind kind.Mnemonic) b.points (main_in bs) e
 
-pub under-none : (bs : List Block) → list_any (λ c. same_kind c.kind kind.Mnemonic) bs ≡ false → main_in bs ≡ []
+pub under-none : (bs : List Block) → list_any (λ c. same_kind c.kind kind.Mnemonic) bs ≡ false
+    → main_in bs ≡ []
 under-none [] e = refl
-under-none (b ∷ bs) e = under-no b bs (or-left (same_kind b.kind kind.Mnemonic) _ e) ∙ under-none bs (or-right (same_kind b.kind kind.Mnemonic) _ e)
+under-none (b ∷ bs) e = under-no b bs (or-left (same_kind b.kind kind.Mnemonic) _ e)
+    ∙ under-none bs (or-right (same_kind b.kind kind.Mnemonic) _ e)
 
 pub cases : {G : Type 0} (b : Bool) → (b ≡ true → G) → (b ≡ false → G) → G
 cases true f g = f refl
@@ -378,25 +467,31 @@ under-short [] = omega arith
 under-short (b ∷ bs) =
     cases (same_kind b.kind kind.Mnemonic)
     (λ e. omega (arith, ap length (under-yes b bs e), length-append b.points (points_in bs)))
-    (λ e. omega (arith, ap length (under-no b bs e), under-short bs, length-append b.points (points_in bs)))
+    (λ e. omega
+    (arith, ap length (under-no b bs e), under-short bs, length-append b.points (points_in bs)))
 
-pub reads-under : (isa : Isa) (bs : List Block) → AllRead isa bs → ReadsAll isa sort.Mnemonic (main_in bs)
+pub reads-under : (isa : Isa) (bs : List Block) → AllRead isa bs
+    → ReadsAll isa sort.Mnemonic (main_in bs)
 reads-under isa [] h = tt
 reads-under isa (b ∷ bs) h =
     cases (same_kind b.kind kind.Mnemonic)
-    (λ e. subst (ReadsAll isa sort.Mnemonic) (sym (under-yes b bs e)) (subst (λ (k : Kind). ReadsAll isa (sort_of k) b.points) (kind-is b.kind kind.Mnemonic e) h.0))
+    (λ e. subst (ReadsAll isa sort.Mnemonic) (sym (under-yes b bs e)) (subst
+    (λ (k : Kind). ReadsAll isa (sort_of k) b.points) (kind-is b.kind kind.Mnemonic e) h.0))
     (λ e. subst (ReadsAll isa sort.Mnemonic) (sym (under-no b bs e)) (reads-under isa bs h.1))
 
 pub back-distinct : (ps qs : List Point) → are_distinct (ps ++ qs) ≡ true → are_distinct qs ≡ true
 back-distinct [] qs e = e
-back-distinct (p ∷ ps) qs e = back-distinct ps qs (and-right (not (has p.kind p.key (ps ++ qs))) (are_distinct (ps ++ qs)) e)
+back-distinct (p ∷ ps) qs e =
+    back-distinct ps qs (and-right (not (has p.kind p.key (ps ++ qs))) (are_distinct (ps ++ qs)) e)
 
-pub under-distinct : (bs : List Block) → are_distinct (points_in bs) ≡ true → are_distinct (main_in bs) ≡ true
+pub under-distinct : (bs : List Block) → are_distinct (points_in bs) ≡ true
+    → are_distinct (main_in bs) ≡ true
 under-distinct [] d = refl
 under-distinct (b ∷ bs) d =
     cases (same_kind b.kind kind.Mnemonic)
     (λ e. ap are_distinct (under-yes b bs e) ∙ front-distinct b.points (points_in bs) d)
-    (λ e. ap are_distinct (under-no b bs e) ∙ under-distinct bs (back-distinct b.points (points_in bs) d))
+    (λ e. ap are_distinct (under-no b bs e)
+    ∙ under-distinct bs (back-distinct b.points (points_in bs) d))
 
 pub meaning-is : (x y : Meaning) → Some x ≡ Some y → x ≡ y
 meaning-is x y e = cc
@@ -405,11 +500,13 @@ pub no-reg : (o : Option ℕ) (m : Meaning) → option_map reg_is o ≡ Some m �
 no-reg None m e = some-not m e
 no-reg (Some r) m e = ap op_in (sym (meaning-is (reg_is r) m e))
 
-pub no-formula : (mean : Formula → Meaning) → ((f : Formula) → op_in (mean f) ≡ []) → (r : expr.Found Formula) (m : Meaning) → option_map mean (found r) ≡ Some m → op_in m ≡ []
+pub no-formula : (mean : Formula → Meaning) → ((f : Formula) → op_in (mean f) ≡ [])
+    → (r : expr.Found Formula) (m : Meaning) → option_map mean (found r) ≡ Some m → op_in m ≡ []
 no-formula mean none (Ok f) m e = ap op_in (sym (meaning-is (mean f) m e)) ∙ none f
 no-formula mean none (Err x) m e = some-not m e
 
-pub no-places : (r : crosses.Found) (m : Meaning) → option_map window (places r) ≡ Some m → op_in m ≡ []
+pub no-places : (r : crosses.Found) (m : Meaning) → option_map window (places r) ≡ Some m
+    → op_in m ≡ []
 no-places (Ok (crosses.read ps)) m e = ap op_in (sym (inner (window ps) m e))
   where
     inner : (x y : Meaning) → Some x ≡ Some y → x ≡ y
@@ -418,7 +515,8 @@ no-places (Ok crosses.skipped) m e = some-not m e
 no-places (Err r) m e = some-not m e
 
 -- other kinds have no mnemonics
-pub op-none : (k : Kind) (key : List ℕ) (m : Meaning) → same_kind k kind.Mnemonic ≡ false → meaning_of k key ≡ Some m → op_in m ≡ []
+pub op-none : (k : Kind) (key : List ℕ) (m : Meaning) → same_kind k kind.Mnemonic ≡ false
+    → meaning_of k key ≡ Some m → op_in m ≡ []
 op-none kind.Mnemonic key m o e = cc
 op-none kind.Rs1 key m o e = no-reg (register_number key) m e
 op-none kind.Rs2 key m o e = no-reg (register_number key) m e
@@ -427,30 +525,43 @@ op-none kind.OpComb key m o e = no-formula regs (λ f. refl) (parse Registers []
 op-none kind.ValComb key m o e = no-formula nums (λ f. refl) (parse Numbers [] key) m e
 op-none kind.CrossComb key m o e = no-places (parse_cross key) m e
 
-pub no-ops : (k : Kind) (ps : List Point) → same_kind k kind.Mnemonic ≡ false → MeantUnder k ps → ops_of ps ≡ []
+pub no-ops : (k : Kind) (ps : List Point) → same_kind k kind.Mnemonic ≡ false → MeantUnder k ps
+    → ops_of ps ≡ []
 no-ops k [] o h = refl
 no-ops k (p ∷ ps) o h =
-    ap (λ xs. xs ++ ops_of ps) (op-none p.kind p.key p.meaning (ap (λ j. same_kind j kind.Mnemonic) h.0 ∙ o) h.1.meaning_is)
+    ap (λ xs. xs ++ ops_of ps) (op-none p.kind p.key p.meaning
+    (ap (λ j. same_kind j kind.Mnemonic) h.0 ∙ o) h.1.meaning_is)
     ∙ no-ops k ps o h.2
 
-pub no-ops-in : (bs : List Block) → AllMeant bs → list_any (λ c. same_kind c.kind kind.Mnemonic) bs ≡ false → ops_of (points_in bs) ≡ []
+pub no-ops-in : (bs : List Block) → AllMeant bs
+    → list_any (λ c. same_kind c.kind kind.Mnemonic) bs ≡ false → ops_of (points_in bs) ≡ []
 no-ops-in [] h e = refl
 no-ops-in (b ∷ bs) h e =
     ops-append b.points (points_in bs)
-    ∙ ap (λ xs. xs ++ ops_of (points_in bs)) (no-ops b.kind b.points (or-left (same_kind b.kind kind.Mnemonic) _ e) h.0)
+    ∙ ap (λ xs. xs ++ ops_of (points_in bs))
+    (no-ops b.kind b.points (or-left (same_kind b.kind kind.Mnemonic) _ e) h.0)
     ∙ no-ops-in bs h.1 (or-right (same_kind b.kind kind.Mnemonic) _ e)
 
-pub others-apart : (b : Block) (bs : List Block) → same_kind b.kind kind.Mnemonic ≡ true → kinds_are_apart (b ∷ bs) ≡ true → list_any (λ c. same_kind c.kind kind.Mnemonic) bs ≡ false
+pub others-apart : (b : Block) (bs : List Block) → same_kind b.kind kind.Mnemonic ≡ true
+    → kinds_are_apart (b ∷ bs) ≡ true → list_any (λ c. same_kind c.kind kind.Mnemonic) bs ≡ false
 others-apart b bs e a =
     ap (λ k. list_any (λ c. same_kind c.kind k) bs) (sym (kind-is b.kind kind.Mnemonic e))
-    ∙ not-is (list_any (λ c. same_kind c.kind b.kind) bs) (and-left (not (list_any (λ c. same_kind c.kind b.kind) bs)) (kinds_are_apart bs) a)
+    ∙ not-is (list_any (λ c. same_kind c.kind b.kind) bs)
+    (and-left (not (list_any (λ c. same_kind c.kind b.kind) bs)) (kinds_are_apart bs) a)
 
-pub rest-apart : (b : Block) (bs : List Block) → kinds_are_apart (b ∷ bs) ≡ true → kinds_are_apart bs ≡ true
-rest-apart b bs a = and-right (not (list_any (λ c. same_kind c.kind b.kind) bs)) (kinds_are_apart bs) a
+pub rest-apart : (b : Block) (bs : List Block) → kinds_are_apart (b ∷ bs) ≡ true
+    → kinds_are_apart bs ≡ true
+rest-apart b bs a =
+    and-right (not (list_any (λ c. same_kind c.kind b.kind) bs)) (kinds_are_apart bs) a
 
-pub ops_under : (bs : List Block) → AllMeant bs → kinds_are_apart bs ≡ true → ops_of (main_in bs) ≡ ops_of (points_in bs)
+pub ops_under : (bs : List Block) → AllMeant bs → kinds_are_apart bs ≡ true
+    → ops_of (main_in bs) ≡ ops_of (points_in bs)
 ops_under [] h a = refl
 ops_under (b ∷ bs) h a =
     cases (same_kind b.kind kind.Mnemonic)
-    (λ e. ap ops_of (under-yes b bs e) ∙ sym (append-nil (ops_of b.points)) ∙ ap (λ xs. ops_of b.points ++ xs) (sym (no-ops-in bs h.1 (others-apart b bs e a))) ∙ sym (ops-append b.points (points_in bs)))
-    (λ e. ap ops_of (under-no b bs e) ∙ ops_under bs h.1 (rest-apart b bs a) ∙ ap (λ xs. xs ++ ops_of (points_in bs)) (sym (no-ops b.kind b.points e h.0)) ∙ sym (ops-append b.points (points_in bs)))
+    (λ e. ap ops_of (under-yes b bs e) ∙ sym (append-nil (ops_of b.points))
+    ∙ ap (λ xs. ops_of b.points ++ xs) (sym (no-ops-in bs h.1 (others-apart b bs e a)))
+    ∙ sym (ops-append b.points (points_in bs)))
+    (λ e. ap ops_of (under-no b bs e) ∙ ops_under bs h.1 (rest-apart b bs a)
+    ∙ ap (λ xs. xs ++ ops_of (points_in bs)) (sym (no-ops b.kind b.points e h.0))
+    ∙ sym (ops-append b.points (points_in bs)))

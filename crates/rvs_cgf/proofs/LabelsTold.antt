@@ -11,21 +11,29 @@ use Rattle.rvs_cgf.proofs.Loops.{labels-more, labels-fail}
 pub record Stands (isa : Isa) (d : Data) (i : ℕ) (t : Told) : Type 0 where
   pub listed : Listed
   pub is : t ≡ told listed
-  pub same : each_label isa (drop i (own_pairs d)) listed ≡ each_label isa (own_pairs d) nothing_listed
+  pub same : each_label isa (drop i (own_pairs d)) listed
+      ≡ each_label isa (own_pairs d) nothing_listed
 
 pub stands-first : (isa : Isa) (d : Data) → Stands isa d 0 nothing_told
 stands-first isa d = record { listed = nothing_listed; is = refl; same = refl }
 
-pub stands-more : (isa : Isa) (d : Data) (i : ℕ) (k : List ℕ) (v : Data) (t u : Told) (s : Stands isa d i t)
+pub stands-more : (isa : Isa) (d : Data) (i : ℕ) (k : List ℕ) (v : Data) (t u : Told)
+    (s : Stands isa d i t)
     → IsTrue (is_map d) → slice_get (keys_of d) i ≡ Some k → slice_get (members_of d) i ≡ Some v
     → told_of (label_step isa k v s.listed) ≡ Ok u → Stands isa d (i + 1) u
 stands-more isa d i k v t u s m e g h = by-step (label_step isa k v s.listed) refl h
   where
-    by-step : (r : Found Listed) → label_step isa k v s.listed ≡ r → told_of r ≡ Ok u → Stands isa d (i + 1) u
-    by-step (Ok next) same h = record { listed = next; is = cc; same = labels-more isa d i k v s.listed next m e g same ∙ s.same }
+    by-step : (r : Found Listed) → label_step isa k v s.listed ≡ r → told_of r ≡ Ok u
+        → Stands isa d (i + 1) u
+    by-step (Ok next) same h = record {
+      listed = next;
+      is = cc;
+      same = labels-more isa d i k v s.listed next m e g same ∙ s.same;
+    }
     by-step (Err why) same h = cc
 
-pub stands-fails : (isa : Isa) (d : Data) (i : ℕ) (k : List ℕ) (v : Data) (t : Told) (why : Refusal) (s : Stands isa d i t)
+pub stands-fails : (isa : Isa) (d : Data) (i : ℕ) (k : List ℕ) (v : Data) (t : Told) (why : Refusal)
+    (s : Stands isa d i t)
     → IsTrue (is_map d) → slice_get (keys_of d) i ≡ Some k → slice_get (members_of d) i ≡ Some v
     → told_of (label_step isa k v s.listed) ≡ Err why
     → told_of (each_label isa (own_pairs d) nothing_listed) ≡ Err why
@@ -37,7 +45,8 @@ stands-fails isa d i k v t why s m e g h = by-step (label_step isa k v s.listed)
     by-step (Err other) same h =
         ap told_of (sym s.same ∙ labels-fail isa d i k v s.listed other m e g same) ∙ h
 
-pub stands-done : (isa : Isa) (d : Data) (i : ℕ) (t : Told) (s : Stands isa d i t) → drop i (own_pairs d) ≡ []
+pub stands-done : (isa : Isa) (d : Data) (i : ℕ) (t : Told) (s : Stands isa d i t)
+    → drop i (own_pairs d) ≡ []
     → told_of (each_label isa (own_pairs d) nothing_listed) ≡ Ok t
 stands-done isa d i t s none =
     ap told_of (sym s.same ∙ ap (λ es. each_label isa es s.listed) none) ∙ ap (λ x. Ok x) (sym s.is)

@@ -1,5 +1,8 @@
 -- Groups that are read can be spelled.
-use Rattle.std.proofs.Common.{◌≡◌, ℕ, ◌+◌, ◌≤◌, Bool, true, false, not, ◌&&◌, List, [], ◌∷◌, ◌++◌, length, map, All, Option, Some, None, Ok, Err, Result, IfOk, refl, sym, ap, subst, ◌∙◌, arith, append_assoc, append-nil, length-append, bytes_eq, codes, inl, inr, cond}
+use Rattle.std.proofs.Common.{◌≡◌, ℕ, ◌+◌, ◌≤◌, Bool, true, false, not, ◌&&◌, List, [], ◌∷◌, ◌++◌}
+use Rattle.std.proofs.Common.{length, map, All, Option, Some, None, Ok, Err, Result, IfOk, refl}
+use Rattle.std.proofs.Common.{sym, ap, subst, ◌∙◌, arith, append_assoc, append-nil, length-append}
+use Rattle.std.proofs.Common.{bytes_eq, codes, inl, inr, cond}
 use Rattle.std.specs.Prelude.{nat_le, nat_lt, ◌==◌, ◌||◌, ◌⊎◌, if◌then◌else◌, sum_by}
 use Rattle.std.specs.List.{list_any, list_all}
 use Rattle.std.proofs.lemmas.Bool.Decides.{nat_tests}
@@ -11,9 +14,16 @@ use Rattle.rvs_insn.specs.Isa.{Isa}
 use Rattle.rvs_insn.specs.declared.op.Op.{Op}
 use Rattle.rvs_tree.specs.Data.{Data, Pairs, own_pairs, is_map, value_at, value_among}
 use Rattle.rvs_cgf.specs.Keys.{is_label_name, is_skipped}
-use Rattle.rvs_cgf.specs.Groups.{Point, Label, refused, ◌>>=◌, Taken, same_kind, is_empty_scalar, all_entries, passed_over, is_passed_over, role_of, Nodes, with_first, by_role, node_step, each_node, config_holds, selects, main_node, main_of, some_points, nothing_taken, ops_of, finished, starting, nodes, first_points, selected_label, unselected, chosen, map_label, label_of, size_of, Listed, with_label, label_step, each_label, nothing_listed, groups_of}
+use Rattle.rvs_cgf.specs.Groups.{Point, Label, refused, ◌>>=◌, Taken, same_kind, is_empty_scalar}
+use Rattle.rvs_cgf.specs.Groups.{all_entries, passed_over, is_passed_over, role_of, Nodes}
+use Rattle.rvs_cgf.specs.Groups.{with_first, by_role, node_step, each_node, config_holds, selects}
+use Rattle.rvs_cgf.specs.Groups.{main_node, main_of, some_points, nothing_taken, ops_of, finished}
+use Rattle.rvs_cgf.specs.Groups.{starting, nodes, first_points, selected_label, unselected, chosen}
+use Rattle.rvs_cgf.specs.Groups.{map_label, label_of, size_of, Listed, with_label, label_step}
+use Rattle.rvs_cgf.specs.Groups.{each_label, nothing_listed, groups_of}
 use Rattle.rvs_cgf.specs.Print.{kind_name}
-use Rattle.rvs_cgf.specs.Spelled.{blocks, kinds_are_apart, is_expression, is_read, IsPlain, ArePlain, CanBeSpelled, selected, keys_are_own, nodes_are_own}
+use Rattle.rvs_cgf.specs.Spelled.{blocks, kinds_are_apart, is_expression, is_read, IsPlain}
+use Rattle.rvs_cgf.specs.Spelled.{ArePlain, CanBeSpelled, selected, keys_are_own, nodes_are_own}
 use Rattle.rvs_cgf.specs.GroupView.{AnswersWith, label_view}
 use Rattle.rvs_cgf.specs.declared.group.Label.{Label as Read}
 use Rattle.rvs_cgf.specs.declared.refusal.CgfRefusal.{CgfRefusal}
@@ -25,10 +35,13 @@ use Rattle.rvs_cgf.specs.declared.group.Kind.{Kind}
 use Rattle.rvs_cgf.specs.declared.group.Kind.TheVariants as kind
 use Rattle.rvs_cgf.specs.declared.refusal.CgfKind.TheVariants as fault
 use Rattle.rvs_cgf.proofs.Distinct.{and-left, and-right, and-is, or-left, or-right, is_mnemonic}
-use Rattle.rvs_cgf.proofs.Validity.{good_role, role-good, mnemonic-kept, Mains, nothing-main, same-bytes, ops-append, label-valid}
-use Rattle.rvs_cgf.proofs.Adding.{ok-is, err-not, if-ok, bind-ok, holds-then, Kept, IsOf, kind_of, entry-kept, entries-kept, passed-kept}
+use Rattle.rvs_cgf.proofs.Validity.{good_role, role-good, mnemonic-kept, Mains, nothing-main}
+use Rattle.rvs_cgf.proofs.Validity.{same-bytes, ops-append, label-valid}
+use Rattle.rvs_cgf.proofs.Adding.{ok-is, err-not, if-ok, bind-ok, holds-then, Kept, IsOf, kind_of}
+use Rattle.rvs_cgf.proofs.Adding.{entry-kept, entries-kept, passed-kept}
 use Rattle.rvs_cgf.proofs.BlocksRead.{op-none, kind-is, cases, not-is}
-use Rattle.rvs_cgf.proofs.Together.{has_kind, all_of, together, same-self, turned, or-cases, both-ways, others-none, together-append, together-apart}
+use Rattle.rvs_cgf.proofs.Together.{has_kind, all_of, together, same-self, turned, or-cases}
+use Rattle.rvs_cgf.proofs.Together.{both-ways, others-none, together-append, together-apart}
 
 -- ---- what a node adds
 record Grows (k : Kind) (base : List Point) (t : Taken) : Type 0 where
@@ -43,22 +56,39 @@ grows-kept k base = record {
   one = λ p t h q b c. record {
     more = h.more ++ p ∷ [];
     is = ap (λ xs. xs ++ p ∷ []) h.is ∙ append_assoc base h.more (p ∷ []);
-    of_kind = list_all-append (λ x. same_kind x.kind k) h.more (p ∷ []) ∙ and-is (all_of k h.more) (same_kind p.kind k && true) h.of_kind (and-is (same_kind p.kind k) true (ap (λ j. same_kind j k) q.kind_is ∙ same-self k) refl);
-    are_read = list_all-append is_read h.more (p ∷ []) ∙ and-is (list_all is_read h.more) (is_read p && true) h.are_read (and-is (is_read p) true q.read refl);
-    no_ops = ops-append h.more (p ∷ []) ∙ ap (λ xs. xs ++ ops_of (p ∷ [])) h.no_ops ∙ ap (λ xs. xs ++ []) (op-none p.kind p.key p.meaning q.other q.meant.meaning_is);
+    of_kind = list_all-append (λ x. same_kind x.kind k) h.more (p ∷ []) ∙ and-is (all_of k h.more)
+        (same_kind p.kind k && true) h.of_kind
+        (and-is (same_kind p.kind k) true (ap (λ j. same_kind j k) q.kind_is ∙ same-self k) refl);
+    are_read = list_all-append is_read h.more (p ∷ []) ∙ and-is (list_all is_read h.more)
+        (is_read p && true) h.are_read (and-is (is_read p) true q.read refl);
+    no_ops = ops-append h.more (p ∷ []) ∙ ap (λ xs. xs ++ ops_of (p ∷ [])) h.no_ops
+        ∙ ap (λ xs. xs ++ []) (op-none p.kind p.key p.meaning q.other q.meant.meaning_is);
   };
-  passed = λ s t h. record { more = h.more; is = h.is; of_kind = h.of_kind; are_read = h.are_read; no_ops = h.no_ops };
+  passed = λ s t h. record {
+    more = h.more;
+    is = h.is;
+    of_kind = h.of_kind;
+    are_read = h.are_read;
+    no_ops = h.no_ops;
+  };
 }
 
 grows-start : (k : Kind) (t : Taken) → Grows k t.points t
-grows-start k t = record { more = []; is = sym (append-nil t.points); of_kind = refl; are_read = refl; no_ops = refl }
+grows-start k t = record {
+  more = [];
+  is = sym (append-nil t.points);
+  of_kind = refl;
+  are_read = refl;
+  no_ops = refl;
+}
 
 -- a node that is passed over adds no point
 same-kept : (base : List Point) → Kept (λ t. t.points ≡ base) (λ p. ⊥)
 same-kept base = record { one = λ p t h q b c. absurd q; passed = λ s t h. h }
 
 -- the node of a sort
-role-then : {G : Type 0} (b : Bool) (x y r : Role) → (if b then x else y) ≡ r → (b ≡ true → x ≡ r → G) → (y ≡ r → G) → G
+role-then : {G : Type 0} (b : Bool) (x y r : Role) → (if b then x else y) ≡ r
+    → (b ≡ true → x ≡ r → G) → (y ≡ r → G) → G
 role-then true x y r e f g = f refl e
 role-then false x y r e f g = g e
 
@@ -66,19 +96,27 @@ record IsNode (node : List ℕ) (s : Sort) : Type 0 where
   pub named : bytes_eq node (kind_name (kind_of s)) ≡ true
   pub other : same_kind (kind_of s) kind.Mnemonic ≡ false
 
-this-node : (node : List ℕ) (a s : Sort) → role.Entries a ≡ role.Entries s → IsNode node a → IsNode node s
+this-node : (node : List ℕ) (a s : Sort) → role.Entries a ≡ role.Entries s → IsNode node a
+    → IsNode node s
 this-node node a s e h = let is : a ≡ s = cc in subst (IsNode node) is h
 
 node-is : (node : List ℕ) (s : Sort) → role_of node ≡ role.Entries s → IsNode node s
 node-is node s e =
-    role-then (bytes_eq node (codes "mnemonics") || bytes_eq node (codes "opcode")) role.Main _ _ e (λ b x. cc) (λ e1.
+    role-then (bytes_eq node (codes "mnemonics") || bytes_eq node (codes "opcode")) role.Main _ _ e
+    (λ b x. cc) (λ e1.
     role-then (bytes_eq node (codes "config")) role.Config _ _ e1 (λ b x. cc) (λ e2.
-    role-then (bytes_eq node (codes "rs1")) (role.Entries (sort.Register kind.Rs1)) _ _ e2 (λ b x. this-node node _ s x (record { named = b; other = refl })) (λ e3.
-    role-then (bytes_eq node (codes "rs2")) (role.Entries (sort.Register kind.Rs2)) _ _ e3 (λ b x. this-node node _ s x (record { named = b; other = refl })) (λ e4.
-    role-then (bytes_eq node (codes "rd")) (role.Entries (sort.Register kind.Rd)) _ _ e4 (λ b x. this-node node _ s x (record { named = b; other = refl })) (λ e5.
-    role-then (bytes_eq node (codes "op_comb")) (role.Entries sort.Operation) _ _ e5 (λ b x. this-node node _ s x (record { named = b; other = refl })) (λ e6.
-    role-then (bytes_eq node (codes "val_comb")) (role.Entries sort.Numeric) _ _ e6 (λ b x. this-node node _ s x (record { named = b; other = refl })) (λ e7.
-    role-then (bytes_eq node (codes "cross_comb")) (role.Entries sort.Crossed) _ _ e7 (λ b x. this-node node _ s x (record { named = b; other = refl })) (λ e8.
+    role-then (bytes_eq node (codes "rs1")) (role.Entries (sort.Register kind.Rs1)) _ _ e2
+    (λ b x. this-node node _ s x (record { named = b; other = refl })) (λ e3.
+    role-then (bytes_eq node (codes "rs2")) (role.Entries (sort.Register kind.Rs2)) _ _ e3
+    (λ b x. this-node node _ s x (record { named = b; other = refl })) (λ e4.
+    role-then (bytes_eq node (codes "rd")) (role.Entries (sort.Register kind.Rd)) _ _ e4
+    (λ b x. this-node node _ s x (record { named = b; other = refl })) (λ e5.
+    role-then (bytes_eq node (codes "op_comb")) (role.Entries sort.Operation) _ _ e5
+    (λ b x. this-node node _ s x (record { named = b; other = refl })) (λ e6.
+    role-then (bytes_eq node (codes "val_comb")) (role.Entries sort.Numeric) _ _ e6
+    (λ b x. this-node node _ s x (record { named = b; other = refl })) (λ e7.
+    role-then (bytes_eq node (codes "cross_comb")) (role.Entries sort.Crossed) _ _ e7
+    (λ b x. this-node node _ s x (record { named = b; other = refl })) (λ e8.
     role-then (is_passed_over node) role.PassedOver role.Unknown _ e8 (λ b x. cc) (λ x. cc)))))))))
 
 -- ---- the nodes of a label
@@ -88,7 +126,8 @@ named_among name es = list_any (λ e. bytes_eq e.0 name) es
 -- what is left of the nodes es; main is the node of the mnemonics
 record Goes (main : List ℕ) (ops : List Op) (n : Nodes) (es : Pairs) : Type 0 where
   pub stand : together n.taken.points ≡ true
-  pub later : (k : Kind) → same_kind k kind.Mnemonic ≡ false → has_kind k n.taken.points ≡ true → named_among (kind_name k) es ≡ false
+  pub later : (k : Kind) → same_kind k kind.Mnemonic ≡ false → has_kind k n.taken.points ≡ true
+      → named_among (kind_name k) es ≡ false
   pub main_once : has_kind kind.Mnemonic n.taken.points ≡ true → n.first ≡ []
   pub mains : list_all is_mnemonic n.first ≡ true
   pub ops_are : ops_of n.taken.points ++ ops_of n.first ≡ ops
@@ -97,28 +136,37 @@ record Goes (main : List ℕ) (ops : List Op) (n : Nodes) (es : Pairs) : Type 0 
   pub pending : (n.first ≡ []) ⊎ (named_among main es ≡ true)
 
 -- a node that isn't the main one leaves that to the rest
-pass-on : (main : List ℕ) (first : List Point) (e : List ℕ × Data) (es : Pairs) → role_of main ≡ role.Main → (r : Role) → role_of e.0 ≡ r → (r ≡ role.Main → ⊥) → (first ≡ []) ⊎ (named_among main (e ∷ es) ≡ true) → (first ≡ []) ⊎ (named_among main es ≡ true)
+pass-on : (main : List ℕ) (first : List Point) (e : List ℕ × Data) (es : Pairs)
+    → role_of main ≡ role.Main → (r : Role) → role_of e.0 ≡ r → (r ≡ role.Main → ⊥)
+    → (first ≡ []) ⊎ (named_among main (e ∷ es) ≡ true)
+    → (first ≡ []) ⊎ (named_among main es ≡ true)
 pass-on main first e es is r here other (inl x) = inl x
 pass-on main first e es is r here other (inr x) =
     or-cases (bytes_eq e.0 main) (named_among main es) x
     (λ s. absurd (other (sym here ∙ ap role_of (same-bytes e.0 main s) ∙ is)))
     (λ s. inr s)
 
-rest-later : (k : Kind) (e : List ℕ × Data) (es : Pairs) → named_among (kind_name k) (e ∷ es) ≡ false → named_among (kind_name k) es ≡ false
+rest-later : (k : Kind) (e : List ℕ × Data) (es : Pairs)
+    → named_among (kind_name k) (e ∷ es) ≡ false → named_among (kind_name k) es ≡ false
 rest-later k e es h = or-right (bytes_eq e.0 (kind_name k)) (named_among (kind_name k) es) h
 
-main-goes : (main : List ℕ) (ops : List Op) (n : Nodes) (e : List ℕ × Data) (es : Pairs) → Goes main ops n (e ∷ es) → Goes main ops (with_first n) es
+main-goes : (main : List ℕ) (ops : List Op) (n : Nodes) (e : List ℕ × Data) (es : Pairs)
+    → Goes main ops n (e ∷ es) → Goes main ops (with_first n) es
 main-goes main ops n e es h = record {
   stand = cases (has_kind kind.Mnemonic n.taken.points)
-      (λ b. ap (λ xs. together (n.taken.points ++ xs)) (h.main_once b) ∙ ap together (append-nil n.taken.points) ∙ h.stand)
+      (λ b. ap (λ xs. together (n.taken.points ++ xs)) (h.main_once b)
+      ∙ ap together (append-nil n.taken.points) ∙ h.stand)
       (λ b. together-append kind.Mnemonic n.taken.points n.first h.stand h.mains b);
   later = λ k o b. rest-later k e es (h.later k o
       (or-cases (has_kind k n.taken.points) (has_kind k n.first) (sym (list_any-append (λ p. same_kind p.kind k) n.taken.points n.first) ∙ b) (λ x. x)
-      (λ x. both-ways (has_kind k n.first) x (others-none kind.Mnemonic k n.first h.mains (turned k kind.Mnemonic o)))));
+      (λ x. both-ways (has_kind k n.first) x
+      (others-none kind.Mnemonic k n.first h.mains (turned k kind.Mnemonic o)))));
   main_once = λ b. refl;
   mains = refl;
-  ops_are = append-nil (ops_of (n.taken.points ++ n.first)) ∙ ops-append n.taken.points n.first ∙ h.ops_are;
-  are_read = list_all-append is_read n.taken.points n.first ∙ and-is (list_all is_read n.taken.points) (list_all is_read n.first) h.are_read h.first_read;
+  ops_are = append-nil (ops_of (n.taken.points ++ n.first)) ∙ ops-append n.taken.points n.first
+      ∙ h.ops_are;
+  are_read = list_all-append is_read n.taken.points n.first
+      ∙ and-is (list_all is_read n.taken.points) (list_all is_read n.first) h.are_read h.first_read;
   first_read = refl;
   pending = inl refl;
 }
@@ -127,34 +175,49 @@ abbrev nodes-at : Taken → List Point → Nodes
 nodes-at t first = record { taken = t; first = first }
 
 -- points of a kind whose node comes once
-added-goes : (main : List ℕ) (ops : List Op) (n : Nodes) (e : List ℕ × Data) (es : Pairs) (s : Sort) → role_of main ≡ role.Main → role_of e.0 ≡ role.Entries s → not (named_among e.0 es) ≡ true → Goes main ops n (e ∷ es) → (w : Taken) → Grows (kind_of s) n.taken.points w → Goes main ops (nodes-at w n.first) es
+added-goes : (main : List ℕ) (ops : List Op) (n : Nodes) (e : List ℕ × Data) (es : Pairs) (s : Sort)
+    → role_of main ≡ role.Main → role_of e.0 ≡ role.Entries s → not (named_among e.0 es) ≡ true
+    → Goes main ops n (e ∷ es) → (w : Taken) → Grows (kind_of s) n.taken.points w
+    → Goes main ops (nodes-at w n.first) es
 added-goes main ops n e es s is here own h w g =
     let node = node-is e.0 s here in
     let k = kind_of s in
     let name : e.0 ≡ kind_name k = same-bytes e.0 (kind_name k) node.named in
     let fresh : has_kind k n.taken.points ≡ false = cases (has_kind k n.taken.points)
-    (λ b. both-ways (bytes_eq e.0 (kind_name k)) node.named (or-left (bytes_eq e.0 (kind_name k)) (named_among (kind_name k) es) (h.later k node.other b)))
+    (λ b. both-ways (bytes_eq e.0 (kind_name k)) node.named (or-left (bytes_eq e.0 (kind_name k))
+    (named_among (kind_name k) es) (h.later k node.other b)))
     (λ b. b) in
-    let split : (j : Kind) → has_kind j w.points ≡ (has_kind j n.taken.points || has_kind j g.more) = λ j. ap (has_kind j) g.is ∙ list_any-append (λ p. same_kind p.kind j) n.taken.points g.more in
+    let split : (j : Kind)
+    → has_kind j w.points ≡ (has_kind j n.taken.points || has_kind j g.more) =
+    λ j. ap (has_kind j) g.is
+    ∙ list_any-append (λ p. same_kind p.kind j) n.taken.points g.more in
     record {
       stand = ap together g.is ∙ together-append k n.taken.points g.more h.stand g.of_kind fresh;
       later = λ j o b. or-cases (has_kind j n.taken.points) (has_kind j g.more) (sym (split j) ∙ b)
           (λ x. rest-later j e es (h.later j o x))
           (λ x. cases (same_kind k j)
-          (λ y. ap (λ z. named_among z es) (ap kind_name (sym (kind-is k j y)) ∙ sym name) ∙ not-is (named_among e.0 es) own)
+          (λ y. ap (λ z. named_among z es) (ap kind_name (sym (kind-is k j y)) ∙ sym name)
+          ∙ not-is (named_among e.0 es) own)
           (λ y. both-ways (has_kind j g.more) x (others-none k j g.more g.of_kind y)));
-      main_once = λ b. or-cases (has_kind kind.Mnemonic n.taken.points) (has_kind kind.Mnemonic g.more) (sym (split kind.Mnemonic) ∙ b)
+      main_once = λ b. or-cases (has_kind kind.Mnemonic n.taken.points)
+          (has_kind kind.Mnemonic g.more) (sym (split kind.Mnemonic) ∙ b)
           h.main_once
-          (λ x. both-ways (has_kind kind.Mnemonic g.more) x (others-none k kind.Mnemonic g.more g.of_kind node.other));
+          (λ x. both-ways (has_kind kind.Mnemonic g.more) x
+          (others-none k kind.Mnemonic g.more g.of_kind node.other));
       mains = h.mains;
-      ops_are = ap (λ xs. ops_of xs ++ ops_of n.first) g.is ∙ ap (λ xs. xs ++ ops_of n.first) (ops-append n.taken.points g.more ∙ ap (λ xs. ops_of n.taken.points ++ xs) g.no_ops ∙ append-nil (ops_of n.taken.points)) ∙ h.ops_are;
-      are_read = ap (list_all is_read) g.is ∙ list_all-append is_read n.taken.points g.more ∙ and-is (list_all is_read n.taken.points) (list_all is_read g.more) h.are_read g.are_read;
+      ops_are = ap (λ xs. ops_of xs ++ ops_of n.first) g.is ∙ ap (λ xs. xs ++ ops_of n.first)
+          (ops-append n.taken.points g.more ∙ ap (λ xs. ops_of n.taken.points ++ xs) g.no_ops
+          ∙ append-nil (ops_of n.taken.points)) ∙ h.ops_are;
+      are_read = ap (list_all is_read) g.is ∙ list_all-append is_read n.taken.points g.more ∙ and-is
+          (list_all is_read n.taken.points) (list_all is_read g.more) h.are_read g.are_read;
       first_read = h.first_read;
       pending = pass-on main n.first e es is (role.Entries s) here (λ x. cc) h.pending;
     }
 
 -- a node that leaves the points as they are
-same-goes : (main : List ℕ) (ops : List Op) (n : Nodes) (e : List ℕ × Data) (es : Pairs) → Goes main ops n (e ∷ es) → (n.first ≡ []) ⊎ (named_among main es ≡ true) → (w : Taken) → w.points ≡ n.taken.points → Goes main ops (nodes-at w n.first) es
+same-goes : (main : List ℕ) (ops : List Op) (n : Nodes) (e : List ℕ × Data) (es : Pairs)
+    → Goes main ops n (e ∷ es) → (n.first ≡ []) ⊎ (named_among main es ≡ true) → (w : Taken)
+    → w.points ≡ n.taken.points → Goes main ops (nodes-at w n.first) es
 same-goes main ops n e es h left w is = record {
   stand = ap together is ∙ h.stand;
   later = λ k o b. rest-later k e es (h.later k o (ap (has_kind k) (sym is) ∙ b));
@@ -166,53 +229,77 @@ same-goes main ops n e es h left w is = record {
   pending = left;
 }
 
-role-goes : (isa : Isa) (label main : List ℕ) (ops : List Op) (n m : Nodes) (e : List ℕ × Data) (es : Pairs) → role_of main ≡ role.Main → not (named_among e.0 es) ≡ true → Goes main ops n (e ∷ es)
-    → (r : Role) → good_role r ≡ true → role_of e.0 ≡ r → by_role isa label e.0 e.1 r n ≡ Ok m → Goes main ops m es
-role-goes isa label main ops n m e es is own h role.Main good here done = subst (λ (x : Nodes). Goes main ops x es) (ok-is (with_first n) m done) (main-goes main ops n e es h)
+role-goes : (isa : Isa) (label main : List ℕ) (ops : List Op) (n m : Nodes) (e : List ℕ × Data)
+    (es : Pairs) → role_of main ≡ role.Main → not (named_among e.0 es) ≡ true → Goes main ops n
+    (e ∷ es)
+    → (r : Role) → good_role r ≡ true → role_of e.0 ≡ r → by_role isa label e.0 e.1 r n ≡ Ok m
+    → Goes main ops m es
+role-goes isa label main ops n m e es is own h role.Main good here done = subst
+    (λ (x : Nodes). Goes main ops x es) (ok-is (with_first n) m done) (main-goes main ops n e es h)
 role-goes isa label main ops n m e es is own h role.Config good here done =
-    subst (λ (x : Nodes). Goes main ops x es) (ok-is n m done) (same-goes main ops n e es h (pass-on main n.first e es is role.Config here (λ x. cc) h.pending) n.taken refl)
+    subst (λ (x : Nodes). Goes main ops x es) (ok-is n m done) (same-goes main ops n e es h
+    (pass-on main n.first e es is role.Config here (λ x. cc) h.pending) n.taken refl)
 role-goes isa label main ops n m e es is own h (role.Entries s) good here done =
     bind-ok (all_entries isa s label e.0 e.1 n.taken) (λ t. Ok (nodes-at t n.first)) m done
     (λ w a r. subst (λ (x : Nodes). Goes main ops x es) (ok-is (nodes-at w n.first) m r)
     (added-goes main ops n e es s is here own h w
-    (entries-kept (Grows (kind_of s) n.taken.points) isa s label e.0 (entry-kept (Grows (kind_of s) n.taken.points) isa s (grows-kept (kind_of s) n.taken.points) good label e.0) e.1 n.taken w (grows-start (kind_of s) n.taken) a)))
+    (entries-kept (Grows (kind_of s) n.taken.points) isa s label e.0 (entry-kept
+    (Grows (kind_of s) n.taken.points) isa s (grows-kept (kind_of s) n.taken.points) good label
+    e.0) e.1 n.taken w (grows-start (kind_of s) n.taken) a)))
 role-goes isa label main ops n m e es is own h role.PassedOver good here done =
     bind-ok (passed_over isa label e.0 e.1 n.taken) (λ t. Ok (nodes-at t n.first)) m done
     (λ w a r. subst (λ (x : Nodes). Goes main ops x es) (ok-is (nodes-at w n.first) m r)
     (same-goes main ops n e es h (pass-on main n.first e es is role.PassedOver here (λ x. cc) h.pending) w
-    (passed-kept (λ t. t.points ≡ n.taken.points) (λ p. ⊥) (same-kept n.taken.points) isa label e.0 e.1 n.taken w refl a)))
+    (passed-kept (λ t. t.points ≡ n.taken.points) (λ p. ⊥) (same-kept n.taken.points) isa label e.0
+    e.1 n.taken w refl a)))
 role-goes isa label main ops n m e es is own h role.Unknown good here done = err-not _ m done
 
-nodes-go : (isa : Isa) (label main : List ℕ) (ops : List Op) → role_of main ≡ role.Main → (es : Pairs) (n m : Nodes) → keys_are_own es ≡ true → Goes main ops n es → each_node isa label es n ≡ Ok m → Goes main ops m []
-nodes-go isa label main ops is [] n m own h e = subst (λ (x : Nodes). Goes main ops x []) (ok-is n m e) h
+nodes-go : (isa : Isa) (label main : List ℕ) (ops : List Op) → role_of main ≡ role.Main
+    → (es : Pairs) (n m : Nodes) → keys_are_own es ≡ true → Goes main ops n es
+    → each_node isa label es n ≡ Ok m → Goes main ops m []
+nodes-go isa label main ops is [] n m own h e =
+    subst (λ (x : Nodes). Goes main ops x []) (ok-is n m e) h
 nodes-go isa label main ops is (x ∷ es) n m own h e =
     bind-ok (node_step isa label x.0 x.1 n) (λ k. each_node isa label es k) m e
     (λ k g r. nodes-go isa label main ops is es k m (and-right (not (named_among x.0 es)) (keys_are_own es) own)
-    (role-goes isa label main ops n k x es is (and-left (not (named_among x.0 es)) (keys_are_own es) own) h (role_of x.0) (role-good x.0) refl g) r)
+    (role-goes isa label main ops n k x es is
+    (and-left (not (named_among x.0 es)) (keys_are_own es) own) h (role_of x.0) (role-good x.0)
+    refl g) r)
 
 -- ---- a label
 mains-read : (ps : List Point) → list_all is_mnemonic ps ≡ true → list_all is_read ps ≡ true
 mains-read [] m = refl
 mains-read (p ∷ ps) m =
     and-is (is_read p) (list_all is_read ps)
-    (ap (λ k. not (is_expression k && is_skipped p.key)) (kind-is p.kind kind.Mnemonic (and-left (is_mnemonic p) (list_all is_mnemonic ps) m)))
+    (ap (λ k. not (is_expression k && is_skipped p.key))
+    (kind-is p.kind kind.Mnemonic (and-left (is_mnemonic p) (list_all is_mnemonic ps) m)))
     (mains-read ps (and-right (is_mnemonic p) (list_all is_mnemonic ps) m))
 
-there-named : (name : List ℕ) (es : Pairs) (d : Data) → value_among name es ≡ Some d → named_among name es ≡ true
+there-named : (name : List ℕ) (es : Pairs) (d : Data) → value_among name es ≡ Some d
+    → named_among name es ≡ true
 there-named name [] d e = cc
 there-named name (x ∷ es) d e = by (bytes_eq x.0 name) e (there-named name es d)
   where
-    by : (b : Bool) → (if b then Some x.1 else value_among name es) ≡ Some d → (value_among name es ≡ Some d → named_among name es ≡ true) → (b || named_among name es) ≡ true
+    by : (b : Bool) → (if b then Some x.1 else value_among name es) ≡ Some d
+        → (value_among name es ≡ Some d → named_among name es ≡ true)
+        → (b || named_among name es) ≡ true
     by true e next = refl
     by false e next = next e
 
-main-is : {G : Type 0} (name : List ℕ) (a b : Option Data) (m : List ℕ × Data) → main_node name a b ≡ Ok m → (m.0 ≡ codes "mnemonics" → a ≡ Some m.1 → G) → (m.0 ≡ codes "opcode" → b ≡ Some m.1 → G) → G
-main-is name (Some d) None m e f g = let is : (codes "mnemonics", d) ≡ m = ok-is (codes "mnemonics", d) m e in f (ap (λ x. x.0) (sym is)) (ap (λ (x : List ℕ × Data). Some x.1) is)
-main-is name None (Some d) m e f g = let is : (codes "opcode", d) ≡ m = ok-is (codes "opcode", d) m e in g (ap (λ x. x.0) (sym is)) (ap (λ (x : List ℕ × Data). Some x.1) is)
+main-is : {G : Type 0} (name : List ℕ) (a b : Option Data) (m : List ℕ × Data)
+    → main_node name a b ≡ Ok m → (m.0 ≡ codes "mnemonics" → a ≡ Some m.1 → G)
+    → (m.0 ≡ codes "opcode" → b ≡ Some m.1 → G) → G
+main-is name (Some d) None m e f g = let is : (codes "mnemonics", d) ≡ m =
+    ok-is (codes "mnemonics", d) m e in
+    f (ap (λ x. x.0) (sym is)) (ap (λ (x : List ℕ × Data). Some x.1) is)
+main-is name None (Some d) m e f g = let is : (codes "opcode", d) ≡ m =
+    ok-is (codes "opcode", d) m e in
+    g (ap (λ x. x.0) (sym is)) (ap (λ (x : List ℕ × Data). Some x.1) is)
 main-is name (Some d) (Some c) m e f g = err-not _ m e
 main-is name None None m e f g = err-not _ m e
 
-ended : (first : List Point) (main : List ℕ) → (first ≡ []) ⊎ (named_among main [] ≡ true) → first ≡ []
+ended : (first : List Point) (main : List ℕ) → (first ≡ []) ⊎ (named_among main [] ≡ true)
+    → first ≡ []
 ended first main (inl x) = x
 ended first main (inr x) = cc
 
@@ -221,33 +308,64 @@ record IsMainNode (main : List ℕ) (es : Pairs) : Type 0 where
   pub role_main : role_of main ≡ role.Main
   pub there : named_among main es ≡ true
 
-main-there : (name : List ℕ) (d : Data) (m : List ℕ × Data) → main_of name d ≡ Ok m → IsMainNode m.0 (own_pairs d)
+main-there : (name : List ℕ) (d : Data) (m : List ℕ × Data) → main_of name d ≡ Ok m
+    → IsMainNode m.0 (own_pairs d)
 main-there name d m e =
     main-is name (value_at (codes "mnemonics") d) (value_at (codes "opcode") d) m e
-    (λ is v. record { role_main = ap role_of is; there = ap (λ x. named_among x (own_pairs d)) is ∙ there-named (codes "mnemonics") (own_pairs d) m.1 v })
-    (λ is v. record { role_main = ap role_of is; there = ap (λ x. named_among x (own_pairs d)) is ∙ there-named (codes "opcode") (own_pairs d) m.1 v })
+    (λ is v. record {
+      role_main = ap role_of is;
+      there = ap (λ x. named_among x (own_pairs d)) is
+          ∙ there-named (codes "mnemonics") (own_pairs d) m.1 v;
+    })
+    (λ is v. record {
+      role_main = ap role_of is;
+      there = ap (λ x. named_among x (own_pairs d)) is
+          ∙ there-named (codes "opcode") (own_pairs d) m.1 v;
+    })
 
-label-plain : (isa : Isa) (name : List ℕ) (d : Data) (l : Label) → is_label_name name ≡ true → bytes_eq name (codes "datasets") ≡ false → keys_are_own (own_pairs d) ≡ true → selected_label isa name d ≡ Ok l → IsPlain isa l
+label-plain : (isa : Isa) (name : List ℕ) (d : Data) (l : Label) → is_label_name name ≡ true
+    → bytes_eq name (codes "datasets") ≡ false → keys_are_own (own_pairs d) ≡ true
+    → selected_label isa name d ≡ Ok l → IsPlain isa l
 label-plain isa name d l named other own e =
     let valid = label-valid isa name d l named e in
-    bind-ok (main_of name d) (λ m. first_points isa name m.0 m.1 >>= (λ first. nodes isa name d first)) l e
+    bind-ok (main_of name d)
+    (λ m. first_points isa name m.0 m.1 >>= (λ first. nodes isa name d first)) l e
     (λ m a r. bind-ok (first_points isa name m.0 m.1) (λ first. nodes isa name d first) l r
     (λ first b s. bind-ok (all_entries isa sort.Mnemonic name m.0 m.1 nothing_taken) (λ t. some_points name m.0 t) first b
     (λ t c g. holds-then (not (t.count == 0)) name m.0 [] fault.BadShape (Ok t) first g
     (λ some same.
-    let mains : Mains isa first = subst (Mains isa) (ok-is t first same) (entries-kept (Mains isa) isa sort.Mnemonic name m.0 (mnemonic-kept isa name m.0) m.1 nothing_taken t (nothing-main isa) c) in
+    let mains : Mains isa first = subst (Mains isa) (ok-is t first same) (entries-kept (Mains isa)
+    isa sort.Mnemonic name m.0 (mnemonic-kept isa name m.0) m.1 nothing_taken t
+    (nothing-main isa) c) in
     let main = main-there name d m a in
-    let begin : Goes m.0 (ops_of first.points) (starting first) (own_pairs d) = record { stand = refl; later = λ k o b. cc; main_once = λ b. cc; mains = mains.mains; ops_are = refl; are_read = refl; first_read = mains-read first.points mains.mains; pending = inr main.there } in
-    bind-ok (each_node isa name (own_pairs d) (starting first)) (λ n. Ok (finished name (ops_of first.points) n)) l s
+    let begin : Goes m.0 (ops_of first.points) (starting first) (own_pairs d) = record {
+      stand = refl;
+      later = λ k o b. cc;
+      main_once = λ b. cc;
+      mains = mains.mains;
+      ops_are = refl;
+      are_read = refl;
+      first_read = mains-read first.points mains.mains;
+      pending = inr main.there;
+    } in
+    bind-ok (each_node isa name (own_pairs d) (starting first))
+    (λ n. Ok (finished name (ops_of first.points) n)) l s
     (λ n f k.
-    let goes = nodes-go isa name m.0 (ops_of first.points) main.role_main (own_pairs d) (starting first) n own begin f in
-    let label : finished name (ops_of first.points) n ≡ l = ok-is (finished name (ops_of first.points) n) l k in
-    let done : ops_of n.taken.points ≡ ops_of first.points = sym (append-nil (ops_of n.taken.points)) ∙ ap (λ xs. ops_of n.taken.points ++ ops_of xs) (sym (ended n.first m.0 goes.pending)) ∙ goes.ops_are in
+    let goes = nodes-go isa name m.0 (ops_of first.points) main.role_main (own_pairs d)
+    (starting first) n own begin f in
+    let label : finished name (ops_of first.points) n ≡ l =
+    ok-is (finished name (ops_of first.points) n) l k in
+    let done : ops_of n.taken.points ≡ ops_of first.points =
+    sym (append-nil (ops_of n.taken.points))
+    ∙ ap (λ xs. ops_of n.taken.points ++ ops_of xs) (sym (ended n.first m.0 goes.pending))
+    ∙ goes.ops_are in
     record {
       valid = valid;
-      apart = ap (λ (x : Label). kinds_are_apart (blocks x.points)) (sym label) ∙ together-apart n.taken.points goes.stand;
+      apart = ap (λ (x : Label). kinds_are_apart (blocks x.points)) (sym label)
+          ∙ together-apart n.taken.points goes.stand;
       keys_read = ap (λ (x : Label). list_all is_read x.points) (sym label) ∙ goes.are_read;
-      ops_are = ap (λ (x : Label). x.ops) (sym label) ∙ sym done ∙ ap (λ (x : Label). ops_of x.points) label;
+      ops_are = ap (λ (x : Label). x.ops) (sym label) ∙ sym done
+          ∙ ap (λ (x : Label). ops_of x.points) label;
       own_name = ap (λ (x : Label). bytes_eq x.name (codes "datasets")) (sym label) ∙ other;
     })))))
 
@@ -255,15 +373,23 @@ label-plain isa name d l named other own e =
 abbrev pub IsPlainIfSelected : Isa → Label → Type 0
 IsPlainIfSelected isa l = l.selected ≡ true → IsPlain isa l
 
-chosen-plain : (isa : Isa) (name : List ℕ) (d : Data) (b : Bool) (l : Label) → is_label_name name ≡ true → bytes_eq name (codes "datasets") ≡ false → keys_are_own (own_pairs d) ≡ true → chosen isa name d b ≡ Ok l → IsPlainIfSelected isa l
+chosen-plain : (isa : Isa) (name : List ℕ) (d : Data) (b : Bool) (l : Label)
+    → is_label_name name ≡ true → bytes_eq name (codes "datasets") ≡ false
+    → keys_are_own (own_pairs d) ≡ true → chosen isa name d b ≡ Ok l → IsPlainIfSelected isa l
 chosen-plain isa name d true l named other own e = λ s. label-plain isa name d l named other own e
-chosen-plain isa name d false l named other own e = subst (IsPlainIfSelected isa) (ok-is (unselected name) l e) (λ s. cc)
+chosen-plain isa name d false l named other own e =
+    subst (IsPlainIfSelected isa) (ok-is (unselected name) l e) (λ s. cc)
 
-of-plain : (isa : Isa) (name : List ℕ) (d : Data) (l : Label) → bytes_eq name (codes "datasets") ≡ false → keys_are_own (own_pairs d) ≡ true → label_of isa name d ≡ Ok l → IsPlainIfSelected isa l
+of-plain : (isa : Isa) (name : List ℕ) (d : Data) (l : Label)
+    → bytes_eq name (codes "datasets") ≡ false → keys_are_own (own_pairs d) ≡ true
+    → label_of isa name d ≡ Ok l → IsPlainIfSelected isa l
 of-plain isa name d l other own e =
-    if-ok (is_label_name name) (if is_map d then map_label isa name d else refused name [] [] fault.BadShape) (refused name [] [] fault.BadLabelName) l e
+    if-ok (is_label_name name)
+    (if is_map d then map_label isa name d else refused name [] [] fault.BadShape)
+    (refused name [] [] fault.BadLabelName) l e
     (λ named g. if-ok (is_map d) (map_label isa name d) (refused name [] [] fault.BadShape) l g
-    (λ m r. bind-ok (selects name (config_holds isa (value_at (codes "config") d))) (λ b. chosen isa name d b) l r (λ b a s. chosen-plain isa name d b l named other own s))
+    (λ m r. bind-ok (selects name (config_holds isa (value_at (codes "config") d)))
+    (λ b. chosen isa name d b) l r (λ b a s. chosen-plain isa name d b l named other own s))
     (λ m r. err-not _ l r))
     (λ n g. err-not _ l g)
 
@@ -282,7 +408,9 @@ one-more n e = grind (arith, nat_tests)
 still-small : (n : ℕ) → nat_le n 65536 ≡ true → n ≤ 65536
 still-small n e = grind (arith, nat_tests)
 
-step-plain : (isa : Isa) (name : List ℕ) (d : Data) (l m : Listed) → keys_are_own (own_pairs d) ≡ true → Plainly isa l → label_step isa name d l ≡ Ok m → Plainly isa m
+step-plain : (isa : Isa) (name : List ℕ) (d : Data) (l m : Listed)
+    → keys_are_own (own_pairs d) ≡ true → Plainly isa l → label_step isa name d l ≡ Ok m
+    → Plainly isa m
 step-plain isa name d l m own h e =
     if-ok (bytes_eq name (codes "datasets")) (Ok l) _ m e
     (λ b g. subst (Plainly isa) (ok-is l m g) h)
@@ -292,34 +420,51 @@ step-plain isa name d l m own h e =
     (λ c k. subst (Plainly isa) (ok-is (listed-at (l.labels ++ x ∷ []) (l.total + size_of x)) m k) (record {
       plain = All-push (IsPlainIfSelected isa) l.labels x h.plain (of-plain isa name d x b own a);
       few = omega (arith, one-more (length l.labels) few, length-append l.labels (x ∷ []));
-      total_is = omega (arith, h.total_is, sum_by-append size_of l.labels (x ∷ []), sum_by-cons size_of x []);
+      total_is = omega
+          (arith, h.total_is, sum_by-append size_of l.labels (x ∷ []), sum_by-cons size_of x []);
       small = still-small (l.total + size_of x) c;
     })))))
 
-pub each_plain : (isa : Isa) (es : Pairs) (l m : Listed) → list_all (λ e. keys_are_own (own_pairs e.1)) es ≡ true → Plainly isa l → each_label isa es l ≡ Ok m → Plainly isa m
+pub each_plain : (isa : Isa) (es : Pairs) (l m : Listed)
+    → list_all (λ e. keys_are_own (own_pairs e.1)) es ≡ true → Plainly isa l
+    → each_label isa es l ≡ Ok m → Plainly isa m
 each_plain isa [] l m own h e = subst (Plainly isa) (ok-is l m e) h
 each_plain isa (x ∷ es) l m own h e =
     bind-ok (label_step isa x.0 x.1 l) (λ k. each_label isa es k) m e
-    (λ k g r. each_plain isa es k m (and-right (keys_are_own (own_pairs x.1)) _ own) (step-plain isa x.0 x.1 l k (and-left (keys_are_own (own_pairs x.1)) _ own) h g) r)
+    (λ k g r. each_plain isa es k m (and-right (keys_are_own (own_pairs x.1)) _ own)
+    (step-plain isa x.0 x.1 l k (and-left (keys_are_own (own_pairs x.1)) _ own) h g) r)
 
 -- ---- the selected ones
-selected-plain : (isa : Isa) (ls : List Label) → All (IsPlainIfSelected isa) ls → ArePlain isa (selected ls)
+selected-plain : (isa : Isa) (ls : List Label) → All (IsPlainIfSelected isa) ls
+    → ArePlain isa (selected ls)
 selected-plain isa [] h = tt
-selected-plain isa (l ∷ ls) h = by l.selected refl (selected-plain isa ls (All-tail (IsPlainIfSelected isa) l ls h))
+selected-plain isa (l ∷ ls) h =
+    by l.selected refl (selected-plain isa ls (All-tail (IsPlainIfSelected isa) l ls h))
   where
-    by : (b : Bool) → l.selected ≡ b → ArePlain isa (selected ls) → ArePlain isa (cond b (l ∷ selected ls) (selected ls))
+    by : (b : Bool) → l.selected ≡ b → ArePlain isa (selected ls)
+        → ArePlain isa (cond b (l ∷ selected ls) (selected ls))
     by true e rest = (All-head (IsPlainIfSelected isa) l ls h e, rest)
     by false e rest = rest
 
-pub groups-spelled : (isa : Isa) (d : Data) (ls : List Label) → nodes_are_own d ≡ true → groups_of isa d ≡ Ok ls → CanBeSpelled isa ls
+pub groups-spelled : (isa : Isa) (d : Data) (ls : List Label) → nodes_are_own d ≡ true
+    → groups_of isa d ≡ Ok ls → CanBeSpelled isa ls
 unfolding groups_of
 groups-spelled isa d ls own e =
     if-ok (is_empty_scalar d) (Ok []) _ ls e
-    (λ b g. subst (CanBeSpelled isa) (ok-is [] ls g) (record { plain = tt; few_labels = omega arith; few_points = omega arith }))
+    (λ b g. subst (CanBeSpelled isa) (ok-is [] ls g) (record {
+      plain = tt;
+      few_labels = omega arith;
+      few_points = omega arith;
+    }))
     (λ b g. if-ok (is_map d) (each_label isa (own_pairs d) nothing_listed >>= (λ listed. Ok listed.labels)) _ ls g
     (λ m r. bind-ok (each_label isa (own_pairs d) nothing_listed) (λ listed. Ok listed.labels) ls r
     (λ listed a s.
-    let p = each_plain isa (own_pairs d) nothing_listed listed own (record { plain = All-nil (IsPlainIfSelected isa); few = omega arith; total_is = refl; small = omega arith }) a in
+    let p = each_plain isa (own_pairs d) nothing_listed listed own (record {
+      plain = All-nil (IsPlainIfSelected isa);
+      few = omega arith;
+      total_is = refl;
+      small = omega arith;
+    }) a in
     subst (CanBeSpelled isa) (ok-is listed.labels ls s) (record {
       plain = selected-plain isa listed.labels p.plain;
       few_labels = omega (arith, p.few, length-filter_both (λ (l : Label). l.selected) (λ l. not l.selected) (λ l. refl) listed.labels);
@@ -327,6 +472,8 @@ groups-spelled isa d ls own e =
     })))
     (λ m r. err-not _ ls r))
 
-pub read_spelled : (isa : Isa) (d : Data) (r : Result (List Read) CgfRefusal) → AnswersWith (map label_view) r (groups_of isa d) → IfOk r (λ ls. nodes_are_own d ≡ true → CanBeSpelled isa (map label_view ls))
+pub read_spelled : (isa : Isa) (d : Data) (r : Result (List Read) CgfRefusal)
+    → AnswersWith (map label_view) r (groups_of isa d)
+    → IfOk r (λ ls. nodes_are_own d ≡ true → CanBeSpelled isa (map label_view ls))
 read_spelled isa d (Ok ls) e = λ own. groups-spelled isa d (map label_view ls) own e
 read_spelled isa d (Err x) e = tt

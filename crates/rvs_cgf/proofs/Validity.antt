@@ -1,10 +1,14 @@
 -- Each label that is read is valid for the core.
-use Rattle.std.proofs.Common.{◌≡◌, ℕ, suc, ◌+◌, ◌<◌, ◌≤◌, Bool, true, false, not, ◌&&◌, List, [], ◌∷◌, ◌++◌, length, map, All, Option, Some, None, Ok, Err, Result, IfOk, option_map, refl, sym, ap, subst, ◌∙◌, arith, append_assoc, append-nil, length-append, bytes_eq, codes}
+use Rattle.std.proofs.Common.{◌≡◌, ℕ, suc, ◌+◌, ◌<◌, ◌≤◌, Bool, true, false, not, ◌&&◌, List, []}
+use Rattle.std.proofs.Common.{◌∷◌, ◌++◌, length, map, All, Option, Some, None, Ok, Err, Result}
+use Rattle.std.proofs.Common.{IfOk, option_map, refl, sym, ap, subst, ◌∙◌, arith, append_assoc}
+use Rattle.std.proofs.Common.{append-nil, length-append, bytes_eq, codes}
 use Rattle.std.specs.Prelude.{nat_le, nat_lt, ◌==◌, ◌||◌, if◌then◌else◌, cond}
 use Rattle.std.specs.List.{list_any, list_all, find}
 use Rattle.std.proofs.lemmas.Bool.Decides.{nat_tests}
 use Rattle.std.proofs.lemmas.Bool.{eqb-true}
-use Rattle.std.proofs.lemmas.List.Elements.{All-nil, All-cons, All-push, All-append, All-head, All-tail}
+use Rattle.std.proofs.lemmas.List.Elements.{All-nil, All-cons, All-push, All-append, All-head}
+use Rattle.std.proofs.lemmas.List.Elements.{All-tail}
 use Rattle.std.proofs.lemmas.List.Folds.{list_all-append, list_any-append}
 use Rattle.std.proofs.lemmas.Slice.Eq.{bytes_eq-Decides}
 use Rattle.rvs_insn.specs.Isa.{Isa}
@@ -15,8 +19,17 @@ use Rattle.rvs_tree.specs.Data.{Data, Pairs, own_pairs, is_map, value_at}
 use Rattle.rvs_facts.specs.Mnemonics.{number, is_same}
 use Rattle.rvs_facts.proofs.Places.{same_number}
 use Rattle.rvs_cgf.specs.Keys.{is_label_name}
-use Rattle.rvs_cgf.specs.Groups.{Meaning, op_is, Point, Label, Found, refused, ◌>>=◌, ◌>>◌, holds, Taken, same_kind, point, is_point, has, add, is_empty_scalar, is_shaped, admitted, entry_of, all_entries, passed_over, is_passed_over, role_of, Nodes, with_first, kept_first, by_role, node_step, each_node, config_holds, selects, main_of, some_points, nothing_taken, op_in, ops_of, finished, starting, nodes, first_points, selected_label, unselected, chosen, map_label, label_of, size_of, Listed, with_label, label_step, each_label, nothing_listed, groups_of}
-use Rattle.rvs_cgf.specs.Valid.{meaning_of, are_distinct, ops_are_distinct, IsMeant, IsValid, IsValidIfSelected}
+use Rattle.rvs_cgf.specs.Groups.{Meaning, op_is, Point, Label, Found, refused, ◌>>=◌, ◌>>◌, holds}
+use Rattle.rvs_cgf.specs.Groups.{Taken, same_kind, point, is_point, has, add, is_empty_scalar}
+use Rattle.rvs_cgf.specs.Groups.{is_shaped, admitted, entry_of, all_entries, passed_over}
+use Rattle.rvs_cgf.specs.Groups.{is_passed_over, role_of, Nodes, with_first, kept_first, by_role}
+use Rattle.rvs_cgf.specs.Groups.{node_step, each_node, config_holds, selects, main_of, some_points}
+use Rattle.rvs_cgf.specs.Groups.{nothing_taken, op_in, ops_of, finished, starting, nodes}
+use Rattle.rvs_cgf.specs.Groups.{first_points, selected_label, unselected, chosen, map_label}
+use Rattle.rvs_cgf.specs.Groups.{label_of, size_of, Listed, with_label, label_step, each_label}
+use Rattle.rvs_cgf.specs.Groups.{nothing_listed, groups_of}
+use Rattle.rvs_cgf.specs.Valid.{meaning_of, are_distinct, ops_are_distinct, IsMeant, IsValid}
+use Rattle.rvs_cgf.specs.Valid.{IsValidIfSelected}
 use Rattle.rvs_cgf.specs.GroupView.{AnswersWith, label_view}
 use Rattle.rvs_cgf.specs.declared.group.Label.{Label as Read}
 use Rattle.rvs_cgf.specs.declared.refusal.CgfRefusal.{CgfRefusal}
@@ -26,8 +39,11 @@ use Rattle.rvs_cgf.specs.declared.walk.Sort.TheVariants as sort
 use Rattle.rvs_cgf.specs.declared.group.Kind.{Kind}
 use Rattle.rvs_cgf.specs.declared.group.Kind.TheVariants as kind
 use Rattle.rvs_cgf.specs.declared.refusal.CgfKind.TheVariants as fault
-use Rattle.rvs_cgf.proofs.Distinct.{and-left, and-right, and-is, or-left, or-right, or-fails, has-append, distinct_insert, is_mnemonic, no-mnemonic}
-use Rattle.rvs_cgf.proofs.Adding.{ok-is, err-not, some-is, if-ok, bind-ok, holds-then, printable-is, Kept, add-kept, IsOf, is_other, kind_of, entry-kept, entries-kept, passed-kept}
+use Rattle.rvs_cgf.proofs.Distinct.{and-left, and-right, and-is, or-left, or-right, or-fails}
+use Rattle.rvs_cgf.proofs.Distinct.{has-append, distinct_insert, is_mnemonic, no-mnemonic}
+use Rattle.rvs_cgf.proofs.Adding.{ok-is, err-not, some-is, if-ok, bind-ok, holds-then, printable-is}
+use Rattle.rvs_cgf.proofs.Adding.{Kept, add-kept, IsOf, is_other, kind_of, entry-kept, entries-kept}
+use Rattle.rvs_cgf.proofs.Adding.{passed-kept}
 
 -- ---- nodes
 -- the points so far and those of the mnemonics, as long as their node isn't met
@@ -45,27 +61,38 @@ at first t = record { taken = t; first = first }
 below-limit : (n : ℕ) → nat_le 2048 n ≡ false → suc n ≤ 2048
 below-limit n e = grind (arith, nat_tests)
 
-longer : (ps qs : List Point) (p : Point) (n : ℕ) → length (ps ++ qs) ≡ n → length ((ps ++ p ∷ []) ++ qs) ≡ suc n
-longer ps qs p n e = omega (arith, e, length-append (ps ++ p ∷ []) qs, length-append ps (p ∷ []), length-append ps qs)
+longer : (ps qs : List Point) (p : Point) (n : ℕ) → length (ps ++ qs) ≡ n
+    → length ((ps ++ p ∷ []) ++ qs) ≡ suc n
+longer ps qs p n e = omega
+    (arith, e, length-append (ps ++ p ∷ []) qs, length-append ps (p ∷ []), length-append ps qs)
 
 fits-kept : (k : Kind) (first : List Point) → Kept (λ t. Fits (at first t)) (IsOf k)
 fits-kept k first = record {
   one = λ p t h q b c. record {
     count_is = longer t.points first p t.count h.count_is;
     limit = below-limit t.count c;
-    distinct = ap are_distinct (append_assoc t.points (p ∷ []) first) ∙ distinct_insert t.points first p h.distinct b (no-mnemonic first p q.other h.mains);
+    distinct = ap are_distinct (append_assoc t.points (p ∷ []) first)
+        ∙ distinct_insert t.points first p h.distinct b (no-mnemonic first p q.other h.mains);
     meant = All-push IsMeant t.points p h.meant q.meant;
     first_meant = h.first_meant;
     mains = h.mains;
   };
-  passed = λ s t h. record { count_is = h.count_is; limit = h.limit; distinct = h.distinct; meant = h.meant; first_meant = h.first_meant; mains = h.mains };
+  passed = λ s t h. record {
+    count_is = h.count_is;
+    limit = h.limit;
+    distinct = h.distinct;
+    meant = h.meant;
+    first_meant = h.first_meant;
+    mains = h.mains;
+  };
 }
 
 abbrev pub good_role : Role → Bool
 good_role (role.Entries s) = is_other s
 good_role _ = true
 
-if-good : (b : Bool) (x y : Role) → good_role x ≡ true → good_role y ≡ true → good_role (if b then x else y) ≡ true
+if-good : (b : Bool) (x y : Role) → good_role x ≡ true → good_role y ≡ true
+    → good_role (if b then x else y) ≡ true
 if-good true x y h k = h
 if-good false x y h k = k
 
@@ -91,30 +118,41 @@ first-fits n h = record {
   mains = refl;
 }
 
-pub kept-fits : (n m : Nodes) (found-of : Found Taken) → ((u : Taken) → found-of ≡ Ok u → Fits (at n.first u)) → kept_first n found-of ≡ Ok m → Fits m
-kept-fits n m found-of h e = bind-ok found-of (λ t. Ok (at n.first t)) m e (λ u g r. subst Fits (ok-is (at n.first u) m r) (h u g))
+pub kept-fits : (n m : Nodes) (found-of : Found Taken)
+    → ((u : Taken) → found-of ≡ Ok u → Fits (at n.first u)) → kept_first n found-of ≡ Ok m → Fits m
+kept-fits n m found-of h e = bind-ok found-of (λ t. Ok (at n.first t)) m e
+    (λ u g r. subst Fits (ok-is (at n.first u) m r) (h u g))
 
-role-fits : (isa : Isa) (label node : List ℕ) (d : Data) (r : Role) → good_role r ≡ true → (n m : Nodes) → Fits n → by_role isa label node d r n ≡ Ok m → Fits m
-role-fits isa label node d role.Main good n m h e = subst Fits (ok-is (with_first n) m e) (first-fits n h)
+role-fits : (isa : Isa) (label node : List ℕ) (d : Data) (r : Role) → good_role r ≡ true
+    → (n m : Nodes) → Fits n → by_role isa label node d r n ≡ Ok m → Fits m
+role-fits isa label node d role.Main good n m h e =
+    subst Fits (ok-is (with_first n) m e) (first-fits n h)
 role-fits isa label node d role.Config good n m h e = subst Fits (ok-is n m e) h
 role-fits isa label node d (role.Entries s) good n m h e =
     kept-fits n m (all_entries isa s label node d n.taken)
-    (λ u g. entries-kept (λ t. Fits (at n.first t)) isa s label node (entry-kept (λ t. Fits (at n.first t)) isa s (fits-kept (kind_of s) n.first) good label node) d n.taken u h g) e
+    (λ u g. entries-kept (λ t. Fits (at n.first t)) isa s label node (entry-kept
+    (λ t. Fits (at n.first t)) isa s (fits-kept (kind_of s) n.first) good label node) d n.taken
+    u h g) e
 role-fits isa label node d role.PassedOver good n m h e =
-    kept-fits n m (passed_over isa label node d n.taken) (λ u g. passed-kept (λ t. Fits (at n.first t)) (IsOf kind.Mnemonic) (fits-kept kind.Mnemonic n.first) isa label node d n.taken u h g) e
+    kept-fits n m (passed_over isa label node d n.taken) (λ u g. passed-kept
+    (λ t. Fits (at n.first t)) (IsOf kind.Mnemonic) (fits-kept kind.Mnemonic n.first) isa label
+    node d n.taken u h g) e
 role-fits isa label node d role.Unknown good n m h e = err-not _ m e
 
-nodes-fit : (isa : Isa) (label : List ℕ) (es : Pairs) (n m : Nodes) → Fits n → each_node isa label es n ≡ Ok m → Fits m
+nodes-fit : (isa : Isa) (label : List ℕ) (es : Pairs) (n m : Nodes) → Fits n
+    → each_node isa label es n ≡ Ok m → Fits m
 nodes-fit isa label [] n m h e = subst Fits (ok-is n m e) h
 nodes-fit isa label (x ∷ es) n m h e =
     bind-ok (node_step isa label x.0 x.1 n) (λ k. each_node isa label es k) m e
-    (λ k g r. nodes-fit isa label es k m (role-fits isa label x.0 x.1 (role_of x.0) (role-good x.0) n k h g) r)
+    (λ k g r. nodes-fit isa label es k m
+    (role-fits isa label x.0 x.1 (role_of x.0) (role-good x.0) n k h g) r)
 
 -- ---- mnemonics
 pub same-bytes : (xs ys : List ℕ) → bytes_eq xs ys ≡ true → xs ≡ ys
 same-bytes xs ys h = (bytes_eq-Decides xs ys).0 h
 
-find-by : {A : Type 0} (p : A → Bool) (x y : A) (o : Option A) (b : Bool) → p x ≡ b → cond b (Some x) o ≡ Some y → (o ≡ Some y → p y ≡ true) → p y ≡ true
+find-by : {A : Type 0} (p : A → Bool) (x y : A) (o : Option A) (b : Bool) → p x ≡ b
+    → cond b (Some x) o ≡ Some y → (o ≡ Some y → p y ≡ true) → p y ≡ true
 find-by p x y o true e f g = ap p (sym (some-is x y f)) ∙ e
 find-by p x y o false e f g = g f
 
@@ -124,7 +162,8 @@ find-passes p (x ∷ xs) y e = find-by p x y (find p xs) (p x) refl e (find-pass
 
 name-is : (key : List ℕ) (op : Op) → op_of_name key ≡ Some op → (row op).name ≡ key
 unfolding op_of_name
-name-is key op e = same-bytes (row op).name key (find-passes (λ o. bytes_eq (row o).name key) all_ops op e)
+name-is key op e =
+    same-bytes (row op).name key (find-passes (λ o. bytes_eq (row o).name key) all_ops op e)
 
 -- the mnemonics so far
 pub record Mains (isa : Isa) (t : Taken) : Type 0 where
@@ -148,9 +187,11 @@ pub record IsMain (isa : Isa) (p : Point) : Type 0 where
 
 pub ops-append : (ps qs : List Point) → ops_of (ps ++ qs) ≡ ops_of ps ++ ops_of qs
 ops-append [] qs = refl
-ops-append (p ∷ ps) qs = ap (λ xs. op_in p.meaning ++ xs) (ops-append ps qs) ∙ sym (append_assoc (op_in p.meaning) (ops_of ps) (ops_of qs))
+ops-append (p ∷ ps) qs = ap (λ xs. op_in p.meaning ++ xs) (ops-append ps qs)
+    ∙ sym (append_assoc (op_in p.meaning) (ops_of ps) (ops_of qs))
 
-main-kind : (k : Kind) (key : List ℕ) (m : Meaning) → same_kind k kind.Mnemonic ≡ true → meaning_of k key ≡ Some m → option_map op_is (op_of_name key) ≡ Some m
+main-kind : (k : Kind) (key : List ℕ) (m : Meaning) → same_kind k kind.Mnemonic ≡ true
+    → meaning_of k key ≡ Some m → option_map op_is (op_of_name key) ≡ Some m
 main-kind kind.Mnemonic key m h e = e
 main-kind kind.Rs1 key m h e = cc
 main-kind kind.Rs2 key m h e = cc
@@ -159,15 +200,19 @@ main-kind kind.OpComb key m h e = cc
 main-kind kind.ValComb key m h e = cc
 main-kind kind.CrossComb key m h e = cc
 
-named-op : {G : Type 0} (o : Option Op) (m : Meaning) → option_map op_is o ≡ Some m → ((op : Op) → o ≡ Some op → m ≡ op_is op → G) → G
+named-op : {G : Type 0} (o : Option Op) (m : Meaning) → option_map op_is o ≡ Some m
+    → ((op : Op) → o ≡ Some op → m ≡ op_is op → G) → G
 named-op None m e g = cc
 named-op (Some op) m e g = g op refl (sym (some-is (op_is op) m e))
 
 -- two points with one mnemonic have one key
-other-op : (op other : Op) (key key' : List ℕ) → op_of_name key ≡ Some op → op_of_name key' ≡ Some other → (b : Bool) → is_same op other ≡ b → bytes_eq key' key ≡ false → b ≡ false
+other-op : (op other : Op) (key key' : List ℕ) → op_of_name key ≡ Some op
+    → op_of_name key' ≡ Some other → (b : Bool) → is_same op other ≡ b → bytes_eq key' key ≡ false
+    → b ≡ false
 other-op op other key key' e f true s differs =
     let one : op ≡ other = same_number op other (eqb-true (number op) (number other) s) in
-    let same : key' ≡ key = sym (name-is key' other f) ∙ ap (λ o. (row o).name) (sym one) ∙ name-is key op e in
+    let same : key' ≡ key =
+    sym (name-is key' other f) ∙ ap (λ o. (row o).name) (sym one) ∙ name-is key op e in
     let yes : bytes_eq key' key ≡ true = (bytes_eq-Decides key' key).1 same in
     cc
 other-op op other key key' e f false s differs = refl
@@ -185,24 +230,35 @@ main-of-all kind.OpComb e = cc
 main-of-all kind.ValComb e = cc
 main-of-all kind.CrossComb e = cc
 
-op-not-there : (ps : List Point) (op : Op) (key : List ℕ) → op_of_name key ≡ Some op → All IsMeant ps → list_all is_mnemonic ps ≡ true → has kind.Mnemonic key ps ≡ false → list_any (is_same op) (ops_of ps) ≡ false
+op-not-there : (ps : List Point) (op : Op) (key : List ℕ) → op_of_name key ≡ Some op
+    → All IsMeant ps → list_all is_mnemonic ps ≡ true → has kind.Mnemonic key ps ≡ false
+    → list_any (is_same op) (ops_of ps) ≡ false
 op-not-there [] op key e meant mains h = refl
 op-not-there (q ∷ qs) op key e meant mains h =
     let main = and-left (is_mnemonic q) (list_all is_mnemonic qs) mains in
-    let rest = op-not-there qs op key e (All-tail IsMeant q qs meant) (and-right (is_mnemonic q) (list_all is_mnemonic qs) mains) (or-right (is_point kind.Mnemonic key q) (has kind.Mnemonic key qs) h) in
-    let differs = not-both (same_kind q.kind kind.Mnemonic) (bytes_eq q.key key) main (or-left (is_point kind.Mnemonic key q) (has kind.Mnemonic key qs) h) in
-    named-op (op_of_name q.key) q.meaning (main-kind q.kind q.key q.meaning main (All-head IsMeant q qs meant).meaning_is)
+    let rest = op-not-there qs op key e (All-tail IsMeant q qs meant)
+    (and-right (is_mnemonic q) (list_all is_mnemonic qs) mains)
+    (or-right (is_point kind.Mnemonic key q) (has kind.Mnemonic key qs) h) in
+    let differs = not-both (same_kind q.kind kind.Mnemonic) (bytes_eq q.key key) main
+    (or-left (is_point kind.Mnemonic key q) (has kind.Mnemonic key qs) h) in
+    named-op (op_of_name q.key) q.meaning
+    (main-kind q.kind q.key q.meaning main (All-head IsMeant q qs meant).meaning_is)
     (λ other f m. ap (λ x. list_any (is_same op) (op_in x ++ ops_of qs)) m
-    ∙ or-fails (is_same op other) (list_any (is_same op) (ops_of qs)) (other-op op other key q.key e f (is_same op other) refl differs) rest)
+    ∙ or-fails (is_same op other) (list_any (is_same op) (ops_of qs))
+    (other-op op other key q.key e f (is_same op other) refl differs) rest)
 
-ops-insert : (ops : List Op) (op : Op) → ops_are_distinct ops ≡ true → list_any (is_same op) ops ≡ false → ops_are_distinct (ops ++ op ∷ []) ≡ true
+ops-insert : (ops : List Op) (op : Op) → ops_are_distinct ops ≡ true
+    → list_any (is_same op) ops ≡ false → ops_are_distinct (ops ++ op ∷ []) ≡ true
 ops-insert [] op d h = refl
 ops-insert (o ∷ ops) op d h =
     let own = and-left (not (list_any (is_same o) ops)) (ops_are_distinct ops) d in
     and-is (not (list_any (is_same o) (ops ++ op ∷ []))) (ops_are_distinct (ops ++ op ∷ []))
     (ap not (list_any-append (is_same o) ops (op ∷ [])
-    ∙ or-fails (list_any (is_same o) ops) (is_same o op || false) (not-is (list_any (is_same o) ops) own) (or-fails (is_same o op) false (turned o op (or-left (is_same op o) (list_any (is_same op) ops) h)) refl)))
-    (ops-insert ops op (and-right (not (list_any (is_same o) ops)) (ops_are_distinct ops) d) (or-right (is_same op o) (list_any (is_same op) ops) h))
+    ∙ or-fails (list_any (is_same o) ops) (is_same o op || false) (not-is (list_any (is_same o) ops)
+    own) (or-fails (is_same o op) false
+    (turned o op (or-left (is_same op o) (list_any (is_same op) ops) h)) refl)))
+    (ops-insert ops op (and-right (not (list_any (is_same o) ops)) (ops_are_distinct ops) d)
+    (or-right (is_same op o) (list_any (is_same op) ops) h))
   where
     not-is : (b : Bool) → not b ≡ true → b ≡ false
     not-is true e = cc
@@ -214,47 +270,95 @@ ops-insert (o ∷ ops) op d h =
         turn : (n m : ℕ) → (m == n) ≡ false → (n == m) ≡ false
         turn n m e = grind (arith, nat_tests)
 
-one-op : (isa : Isa) (t : Taken) (p : Point) (m : IsMain isa p) → ops_of (t.points ++ p ∷ []) ≡ ops_of t.points ++ m.op ∷ []
-one-op isa t p m = ops-append t.points (p ∷ []) ∙ ap (λ x. ops_of t.points ++ (op_in x ++ [])) m.op_there
+one-op : (isa : Isa) (t : Taken) (p : Point) (m : IsMain isa p)
+    → ops_of (t.points ++ p ∷ []) ≡ ops_of t.points ++ m.op ∷ []
+one-op isa t p m =
+    ops-append t.points (p ∷ []) ∙ ap (λ x. ops_of t.points ++ (op_in x ++ [])) m.op_there
 
 mains-kept : (isa : Isa) → Kept (Mains isa) (IsMain isa)
 mains-kept isa = record {
   one = λ p t h q b c.
       let is = one-op isa t p q in
-      let k : has kind.Mnemonic p.key t.points ≡ false = ap (λ k. has k p.key t.points) (sym (main-of-all p.kind q.main)) ∙ b in
+      let k : has kind.Mnemonic p.key t.points ≡ false =
+      ap (λ k. has k p.key t.points) (sym (main-of-all p.kind q.main)) ∙ b in
       record {
         count_is = omega (arith, h.count_is, length-append t.points (p ∷ []));
         limit = below-limit t.count c;
-        distinct = distinct_insert t.points [] p (ap are_distinct (append-nil t.points) ∙ h.distinct) b refl;
+        distinct = distinct_insert t.points [] p
+            (ap are_distinct (append-nil t.points) ∙ h.distinct) b refl;
         meant = All-push IsMeant t.points p h.meant q.meant;
-        mains = list_all-append is_mnemonic t.points (p ∷ []) ∙ and-is (list_all is_mnemonic t.points) (is_mnemonic p && true) h.mains (and-is (is_mnemonic p) true q.main refl);
-        own = ap ops_are_distinct is ∙ ops-insert (ops_of t.points) q.op h.own (op-not-there t.points q.op p.key q.named h.meant h.mains k);
-        all_admitted = ap (list_all (is_admitted_op isa)) is ∙ list_all-append (is_admitted_op isa) (ops_of t.points) (q.op ∷ []) ∙ and-is (list_all (is_admitted_op isa) (ops_of t.points)) (is_admitted_op isa q.op && true) h.all_admitted (and-is (is_admitted_op isa q.op) true q.admitted_op refl);
+        mains = list_all-append is_mnemonic t.points (p ∷ []) ∙ and-is
+            (list_all is_mnemonic t.points) (is_mnemonic p && true) h.mains
+            (and-is (is_mnemonic p) true q.main refl);
+        own = ap ops_are_distinct is ∙ ops-insert (ops_of t.points) q.op h.own
+            (op-not-there t.points q.op p.key q.named h.meant h.mains k);
+        all_admitted = ap (list_all (is_admitted_op isa)) is ∙ list_all-append (is_admitted_op isa)
+            (ops_of t.points) (q.op ∷ []) ∙ and-is (list_all (is_admitted_op isa) (ops_of t.points))
+            (is_admitted_op isa q.op && true) h.all_admitted
+            (and-is (is_admitted_op isa q.op) true q.admitted_op refl);
         each = ap length is ∙ omega (arith, h.each, length-append (ops_of t.points) (q.op ∷ []), length-append t.points (p ∷ []));
       };
-  passed = λ s t h. record { count_is = h.count_is; limit = h.limit; distinct = h.distinct; meant = h.meant; mains = h.mains; own = h.own; all_admitted = h.all_admitted; each = h.each };
+  passed = λ s t h. record {
+    count_is = h.count_is;
+    limit = h.limit;
+    distinct = h.distinct;
+    meant = h.meant;
+    mains = h.mains;
+    own = h.own;
+    all_admitted = h.all_admitted;
+    each = h.each;
+  };
 }
 
-admitted-by : {G : Type 0} (label node key : List ℕ) (isa : Isa) (o : Option Op) (f : Op → Found Taken) (u : Taken) → (admitted label node key isa o >>= f) ≡ Ok u → ((op : Op) → o ≡ Some op → is_admitted_op isa op ≡ true → f op ≡ Ok u → G) → G
+admitted-by : {G : Type 0} (label node key : List ℕ) (isa : Isa) (o : Option Op)
+    (f : Op → Found Taken) (u : Taken) → (admitted label node key isa o >>= f) ≡ Ok u
+    → ((op : Op) → o ≡ Some op → is_admitted_op isa op ≡ true → f op ≡ Ok u → G) → G
 admitted-by label node key isa None f u e g = cc
 admitted-by label node key isa (Some op) f u e g =
-    bind-ok (if is_admitted_op isa op then Ok op else refused label node key fault.UnknownMnemonic) f u e
+    bind-ok (if is_admitted_op isa op then Ok op else refused label node key fault.UnknownMnemonic)
+    f u e
     (λ x a r. if-ok (is_admitted_op isa op) (Ok op) (refused label node key fault.UnknownMnemonic) x a
     (λ b s. g op refl b (ap f (ok-is op x s) ∙ r))
     (λ b s. err-not _ x s))
 
-pub mnemonic-kept : (isa : Isa) (label node key : List ℕ) (d : Data) (t u : Taken) → Mains isa t → entry_of isa sort.Mnemonic label node key d t ≡ Ok u → Mains isa u
+pub mnemonic-kept : (isa : Isa) (label node key : List ℕ) (d : Data) (t u : Taken) → Mains isa t
+    → entry_of isa sort.Mnemonic label node key d t ≡ Ok u → Mains isa u
 mnemonic-kept isa label node key d t u h e =
-    holds-then (is_shaped key d) label node key fault.BadShape (admitted label node key isa (op_of_name key) >>= (λ op. add label node key (point kind.Mnemonic key (op_is op)) t)) u e
+    holds-then (is_shaped key d) label node key fault.BadShape
+    (admitted label node key isa (op_of_name key)
+    >>= (λ op. add label node key (point kind.Mnemonic key (op_is op)) t)) u e
     (λ s g. admitted-by label node key isa (op_of_name key) (λ op. add label node key (point kind.Mnemonic key (op_is op)) t) u g
     (λ op is a r. add-kept (Mains isa) (IsMain isa) (mains-kept isa) label node key (point kind.Mnemonic key (op_is op)) t u h
-    (record { meant = record { printable = printable-is key d s; meaning_is = ap (option_map op_is) is }; main = refl; op = op; op_there = refl; named = is; admitted_op = a }) r))
+    (record {
+      meant = record { printable = printable-is key d s; meaning_is = ap (option_map op_is) is };
+      main = refl;
+      op = op;
+      op_there = refl;
+      named = is;
+      admitted_op = a;
+    }) r))
 
 pub nothing-main : (isa : Isa) → Mains isa nothing_taken
-nothing-main isa = record { count_is = refl; limit = omega arith; distinct = refl; meant = All-nil IsMeant; mains = refl; own = refl; all_admitted = refl; each = refl }
+nothing-main isa = record {
+  count_is = refl;
+  limit = omega arith;
+  distinct = refl;
+  meant = All-nil IsMeant;
+  mains = refl;
+  own = refl;
+  all_admitted = refl;
+  each = refl;
+}
 
 starting-fits : (isa : Isa) (t : Taken) → Mains isa t → Fits (starting t)
-starting-fits isa t h = record { count_is = h.count_is; limit = h.limit; distinct = h.distinct; meant = All-nil IsMeant; first_meant = h.meant; mains = h.mains }
+starting-fits isa t h = record {
+  count_is = h.count_is;
+  limit = h.limit;
+  distinct = h.distinct;
+  meant = All-nil IsMeant;
+  first_meant = h.meant;
+  mains = h.mains;
+}
 
 few-points : (ps qs : List Point) (n : ℕ) → length (ps ++ qs) ≡ n → n ≤ 2048 → length ps ≤ 2048
 few-points ps qs n e h = omega (arith, e, length-append ps qs)
@@ -264,8 +368,10 @@ front-distinct [] qs e = refl
 front-distinct (p ∷ ps) qs e =
     let front = and-left (not (has p.kind p.key (ps ++ qs))) (are_distinct (ps ++ qs)) e in
     and-is (not (has p.kind p.key ps)) (are_distinct ps)
-    (ap not (or-left (has p.kind p.key ps) (has p.kind p.key qs) (sym (has-append p.kind p.key ps qs) ∙ not-is (has p.kind p.key (ps ++ qs)) front)))
-    (front-distinct ps qs (and-right (not (has p.kind p.key (ps ++ qs))) (are_distinct (ps ++ qs)) e))
+    (ap not (or-left (has p.kind p.key ps) (has p.kind p.key qs)
+    (sym (has-append p.kind p.key ps qs) ∙ not-is (has p.kind p.key (ps ++ qs)) front)))
+    (front-distinct ps qs
+    (and-right (not (has p.kind p.key (ps ++ qs))) (are_distinct (ps ++ qs)) e))
   where
     not-is : (b : Bool) → not b ≡ true → b ≡ false
     not-is true e = cc
@@ -277,21 +383,29 @@ some-there n m k e f g = above n k (f ∙ g) e
     above : (n k : ℕ) → k ≡ n → not (n == 0) ≡ true → 0 < k
     above n k h e = grind (arith, nat_tests)
 
-pub label-valid : (isa : Isa) (name : List ℕ) (d : Data) (l : Label) → is_label_name name ≡ true → selected_label isa name d ≡ Ok l → IsValid isa l
+pub label-valid : (isa : Isa) (name : List ℕ) (d : Data) (l : Label) → is_label_name name ≡ true
+    → selected_label isa name d ≡ Ok l → IsValid isa l
 label-valid isa name d l named e =
-    bind-ok (main_of name d) (λ m. first_points isa name m.0 m.1 >>= (λ first. nodes isa name d first)) l e
+    bind-ok (main_of name d)
+    (λ m. first_points isa name m.0 m.1 >>= (λ first. nodes isa name d first)) l e
     (λ m a r. bind-ok (first_points isa name m.0 m.1) (λ first. nodes isa name d first) l r
     (λ first b s. bind-ok (all_entries isa sort.Mnemonic name m.0 m.1 nothing_taken) (λ t. some_points name m.0 t) first b
     (λ t c g. holds-then (not (t.count == 0)) name m.0 [] fault.BadShape (Ok t) first g
     (λ some same.
-    let mains : Mains isa first = subst (Mains isa) (ok-is t first same) (entries-kept (Mains isa) isa sort.Mnemonic name m.0 (mnemonic-kept isa name m.0) m.1 nothing_taken t (nothing-main isa) c) in
-    let there : not (first.count == 0) ≡ true = ap (λ (x : Taken). not (x.count == 0)) (sym (ok-is t first same)) ∙ some in
-    bind-ok (each_node isa name (own_pairs d) (starting first)) (λ n. Ok (finished name (ops_of first.points) n)) l s
+    let mains : Mains isa first = subst (Mains isa) (ok-is t first same) (entries-kept (Mains isa)
+    isa sort.Mnemonic name m.0 (mnemonic-kept isa name m.0) m.1 nothing_taken t
+    (nothing-main isa) c) in
+    let there : not (first.count == 0) ≡ true =
+    ap (λ (x : Taken). not (x.count == 0)) (sym (ok-is t first same)) ∙ some in
+    bind-ok (each_node isa name (own_pairs d) (starting first))
+    (λ n. Ok (finished name (ops_of first.points) n)) l s
     (λ n f k.
-    let fits = nodes-fit isa name (own_pairs d) (starting first) n (starting-fits isa first mains) f in
+    let fits =
+    nodes-fit isa name (own_pairs d) (starting first) n (starting-fits isa first mains) f in
     subst (IsValid isa) (ok-is (finished name (ops_of first.points) n) l k) (record {
       named = named;
-      some_op = some-there first.count (length first.points) (length (ops_of first.points)) there mains.each mains.count_is;
+      some_op = some-there first.count (length first.points) (length (ops_of first.points)) there
+          mains.each mains.count_is;
       own_ops = mains.own;
       admitted = mains.all_admitted;
       few = few-points n.taken.points n.first n.taken.count fits.count_is fits.limit;
@@ -300,50 +414,75 @@ label-valid isa name d l named e =
     }))))))
 
 -- ---- labels
-chosen-good : (isa : Isa) (name : List ℕ) (d : Data) (b : Bool) (l : Label) → is_label_name name ≡ true → chosen isa name d b ≡ Ok l → IsValidIfSelected isa l
+chosen-good : (isa : Isa) (name : List ℕ) (d : Data) (b : Bool) (l : Label)
+    → is_label_name name ≡ true → chosen isa name d b ≡ Ok l → IsValidIfSelected isa l
 chosen-good isa name d true l named e = λ s. label-valid isa name d l named e
-chosen-good isa name d false l named e = subst (IsValidIfSelected isa) (ok-is (unselected name) l e) (λ s. cc)
+chosen-good isa name d false l named e =
+    subst (IsValidIfSelected isa) (ok-is (unselected name) l e) (λ s. cc)
 
-label-good : (isa : Isa) (name : List ℕ) (d : Data) (l : Label) → label_of isa name d ≡ Ok l → IsValidIfSelected isa l
+label-good : (isa : Isa) (name : List ℕ) (d : Data) (l : Label) → label_of isa name d ≡ Ok l
+    → IsValidIfSelected isa l
 label-good isa name d l e =
-    if-ok (is_label_name name) (if is_map d then map_label isa name d else refused name [] [] fault.BadShape) (refused name [] [] fault.BadLabelName) l e
+    if-ok (is_label_name name)
+    (if is_map d then map_label isa name d else refused name [] [] fault.BadShape)
+    (refused name [] [] fault.BadLabelName) l e
     (λ named g. if-ok (is_map d) (map_label isa name d) (refused name [] [] fault.BadShape) l g
-    (λ m r. bind-ok (selects name (config_holds isa (value_at (codes "config") d))) (λ b. chosen isa name d b) l r (λ b a s. chosen-good isa name d b l named s))
+    (λ m r. bind-ok (selects name (config_holds isa (value_at (codes "config") d)))
+    (λ b. chosen isa name d b) l r (λ b a s. chosen-good isa name d b l named s))
     (λ m r. err-not _ l r))
     (λ n g. err-not _ l g)
 
 abbrev pub Goods : Isa → Listed → Type 0
 Goods isa listed = All (IsValidIfSelected isa) listed.labels
 
-step-good : (isa : Isa) (name : List ℕ) (d : Data) (l m : Listed) → Goods isa l → label_step isa name d l ≡ Ok m → Goods isa m
+step-good : (isa : Isa) (name : List ℕ) (d : Data) (l m : Listed) → Goods isa l
+    → label_step isa name d l ≡ Ok m → Goods isa m
 step-good isa name d l m h e =
-    if-ok (bytes_eq name (codes "datasets")) (Ok l) (holds (nat_lt (length l.labels) 256) name [] [] fault.TooManyLabels >> (label_of isa name d >>= (λ x. with_label name x l))) m e
+    if-ok (bytes_eq name (codes "datasets")) (Ok l) (holds (nat_lt (length l.labels) 256) name [] []
+    fault.TooManyLabels >> (label_of isa name d >>= (λ x. with_label name x l))) m e
     (λ b g. subst (Goods isa) (ok-is l m g) h)
     (λ b g. holds-then (nat_lt (length l.labels) 256) name [] [] fault.TooManyLabels (label_of isa name d >>= (λ x. with_label name x l)) m g
     (λ few r. bind-ok (label_of isa name d) (λ x. with_label name x l) m r
-    (λ x a s. holds-then (nat_le (l.total + size_of x) 65536) name [] [] fault.TooManyPoints (Ok (record { labels = l.labels ++ x ∷ []; total = l.total + size_of x })) m s
-    (λ c k. subst (Goods isa) (ok-is (record { labels = l.labels ++ x ∷ []; total = l.total + size_of x }) m k) (All-push (IsValidIfSelected isa) l.labels x h (label-good isa name d x a))))))
+    (λ x a s. holds-then (nat_le (l.total + size_of x) 65536) name [] [] fault.TooManyPoints (Ok (record {
+      labels = l.labels ++ x ∷ [];
+      total = l.total + size_of x;
+    })) m s
+    (λ c k. subst (Goods isa) (ok-is (record {
+      labels = l.labels ++ x ∷ [];
+      total = l.total + size_of x;
+    }) m k) (All-push (IsValidIfSelected isa) l.labels x h (label-good isa name d x a))))))
 
-each-good : (isa : Isa) (es : Pairs) (l m : Listed) → Goods isa l → each_label isa es l ≡ Ok m → Goods isa m
+each-good : (isa : Isa) (es : Pairs) (l m : Listed) → Goods isa l → each_label isa es l ≡ Ok m
+    → Goods isa m
 each-good isa [] l m h e = subst (Goods isa) (ok-is l m e) h
 each-good isa (x ∷ es) l m h e =
     bind-ok (label_step isa x.0 x.1 l) (λ k. each_label isa es k) m e
     (λ k g r. each-good isa es k m (step-good isa x.0 x.1 l k h g) r)
 
-pub groups_good : (isa : Isa) (d : Data) (ls : List Label) → groups_of isa d ≡ Ok ls → All (IsValidIfSelected isa) ls
+pub groups_good : (isa : Isa) (d : Data) (ls : List Label) → groups_of isa d ≡ Ok ls
+    → All (IsValidIfSelected isa) ls
 unfolding groups_of
 groups_good isa d ls e =
-    if-ok (is_empty_scalar d) (Ok []) (if is_map d then each_label isa (own_pairs d) nothing_listed >>= (λ listed. Ok listed.labels) else refused [] [] [] fault.BadShape) ls e
-    (λ b g. subst (λ (xs : List Label). All (IsValidIfSelected isa) xs) (ok-is [] ls g) (All-nil (IsValidIfSelected isa)))
+    if-ok (is_empty_scalar d) (Ok []) (if is_map d then each_label isa (own_pairs d) nothing_listed
+    >>= (λ listed. Ok listed.labels) else refused [] [] [] fault.BadShape) ls e
+    (λ b g. subst (λ (xs : List Label). All (IsValidIfSelected isa) xs) (ok-is [] ls g)
+    (All-nil (IsValidIfSelected isa)))
     (λ b g. if-ok (is_map d) (each_label isa (own_pairs d) nothing_listed >>= (λ listed. Ok listed.labels)) (refused [] [] [] fault.BadShape) ls g
     (λ m r. bind-ok (each_label isa (own_pairs d) nothing_listed) (λ listed. Ok listed.labels) ls r
-    (λ listed a s. subst (λ (xs : List Label). All (IsValidIfSelected isa) xs) (ok-is listed.labels ls s) (each-good isa (own_pairs d) nothing_listed listed (All-nil (IsValidIfSelected isa)) a)))
+    (λ listed a s. subst (λ (xs : List Label). All (IsValidIfSelected isa) xs)
+    (ok-is listed.labels ls s)
+    (each-good isa (own_pairs d) nothing_listed listed (All-nil (IsValidIfSelected isa)) a)))
     (λ m r. err-not _ ls r))
 
-All-map : {A B : Type 0} (P : B → Type 0) (f : A → B) (xs : List A) → All P (map f xs) → All (λ x. P (f x)) xs
+All-map : {A B : Type 0} (P : B → Type 0) (f : A → B) (xs : List A) → All P (map f xs)
+    → All (λ x. P (f x)) xs
 All-map P f [] h = All-nil (λ x. P (f x))
-All-map P f (x ∷ xs) h = All-cons (λ x. P (f x)) x xs (All-head P (f x) (map f xs) h) (All-map P f xs (All-tail P (f x) (map f xs) h))
+All-map P f (x ∷ xs) h = All-cons (λ x. P (f x)) x xs (All-head P (f x) (map f xs) h)
+    (All-map P f xs (All-tail P (f x) (map f xs) h))
 
-pub read_valid : (isa : Isa) (d : Data) (r : Result (List Read) CgfRefusal) → AnswersWith (map label_view) r (groups_of isa d) → IfOk r (All (λ l. IsValidIfSelected isa (label_view l)))
-read_valid isa d (Ok ls) e = All-map (IsValidIfSelected isa) label_view ls (groups_good isa d (map label_view ls) e)
+pub read_valid : (isa : Isa) (d : Data) (r : Result (List Read) CgfRefusal)
+    → AnswersWith (map label_view) r (groups_of isa d)
+    → IfOk r (All (λ l. IsValidIfSelected isa (label_view l)))
+read_valid isa d (Ok ls) e =
+    All-map (IsValidIfSelected isa) label_view ls (groups_good isa d (map label_view ls) e)
 read_valid isa d (Err r) e = tt

@@ -22,7 +22,9 @@ abbrev pub is_register : ℕ → Option ℕ → Bool
 is_register number None = false
 is_register number (Some field) = field == number
 
--- an instruction of this mnemonic and with these facts is what the point means: its mnemonic is the key, or its field, or the expression is defined and true; no instruction alone is what a cross point means
+-- an instruction of this mnemonic and with these facts is what the point means: its mnemonic is the
+-- key, or its field, or the expression is defined and true; no instruction alone is what a cross
+-- point means
 abbrev pub is_meant : Kind → Meaning → Op → Table → Bool
 is_meant k (op_is mnemonic) op facts = is_same mnemonic op
 is_meant k (reg_is number) op facts = is_register number (field_of k facts)

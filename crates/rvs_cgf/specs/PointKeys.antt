@@ -20,4 +20,5 @@ mark kind.CrossComb = 99
 
 -- the texts are those of the points
 abbrev pub AreKeysOf : {Y : Type 0} → BTreeSet (String Y) → List Point → Type 0
-AreKeysOf known points = (k : Kind) (key : List ℕ) → contains_text known (mark k ∷ key) ≡ has k key (map point_view points)
+AreKeysOf known points = (k : Kind) (key : List ℕ)
+    → contains_text known (mark k ∷ key) ≡ has k key (map point_view points)

@@ -1,5 +1,6 @@
 -- The texts of groups and of their refusals.
-use Rattle.std.specs.Prelude.{ℕ, ◌==◌, Bool, false, List, [], ◌∷◌, ◌++◌, Option, Some, None, if◌then◌else◌, codes}
+use Rattle.std.specs.Prelude.{ℕ, ◌==◌, Bool, false, List, [], ◌∷◌, ◌++◌, Option, Some, None}
+use Rattle.std.specs.Prelude.{if◌then◌else◌, codes}
 use Rattle.std.specs.List.{flat_map}
 use Rattle.std.specs.Fmt.{decimal}
 use Rattle.rvs_abstract.specs.Refusals as calls
@@ -12,7 +13,11 @@ use Rattle.rvs_cgf.specs.Groups.{Label, Point, Skipped, Refusal, same_kind}
 use Rattle.rvs_cgf.specs.declared.group.Kind.{Kind}
 use Rattle.rvs_cgf.specs.declared.group.Kind.TheVariants as kind
 use Rattle.rvs_cgf.specs.declared.refusal.CgfKind.{CgfKind}
-use Rattle.rvs_cgf.specs.declared.refusal.CgfKind.TheVariants.{BadLabelName, BadShape, UnknownNode, UnknownMnemonic, BadRegister, BadExpr, BadAbstract, BadCross, BadConfig, TooManyLabels, TooManyPoints, NoMemory}
+use Rattle.rvs_cgf.specs.declared.refusal.CgfKind.TheVariants.{BadLabelName, BadShape, UnknownNode}
+use Rattle.rvs_cgf.specs.declared.refusal.CgfKind.TheVariants.{UnknownMnemonic, BadRegister}
+use Rattle.rvs_cgf.specs.declared.refusal.CgfKind.TheVariants.{BadExpr, BadAbstract, BadCross}
+use Rattle.rvs_cgf.specs.declared.refusal.CgfKind.TheVariants.{BadConfig, TooManyLabels}
+use Rattle.rvs_cgf.specs.declared.refusal.CgfKind.TheVariants.{TooManyPoints, NoMemory}
 
 -- ---- groups with all their points written out
 abbrev pub kind_name : Kind → List ℕ
@@ -47,14 +52,16 @@ head_line before k = if goes_on before k then [] else kind_line k
 
 abbrev pub points_text : Option Kind → List Point → List ℕ
 points_text before [] = []
-points_text before (p ∷ ps) = (head_line before p.kind ++ point_line p.key) ++ points_text (Some p.kind) ps
+points_text before (p ∷ ps) =
+    (head_line before p.kind ++ point_line p.key) ++ points_text (Some p.kind) ps
 
 abbrev pub skipped_line : Skipped → List ℕ
 skipped_line s = codes "  # skipped " ++ (s.node ++ (codes " " ++ (s.key ++ codes "\n")))
 
 abbrev pub label_text : Label → List ℕ
 label_text l =
-    if l.selected then (l.name ++ codes ":\n") ++ (points_text None l.points ++ flat_map skipped_line l.skipped)
+    if l.selected then (l.name ++ codes ":\n")
+    ++ (points_text None l.points ++ flat_map skipped_line l.skipped)
     else codes "# unselected " ++ (l.name ++ codes "\n")
 
 abbrev pub normal_text : List Label → List ℕ
@@ -81,7 +88,8 @@ or_dash [] = codes "-"
 or_dash (c ∷ cs) = c ∷ cs
 
 abbrev pub expr_text : ExprRefusal → List ℕ
-expr_text why = codes " expr " ++ (decimal (expr.number_of why.kind) ++ (codes " column " ++ decimal why.column))
+expr_text why = codes " expr "
+    ++ (decimal (expr.number_of why.kind) ++ (codes " column " ++ decimal why.column))
 
 -- the name that a cross point may not have, or why its expression is refused
 abbrev pub cross_detail : CrossRefusal → List ℕ
@@ -96,7 +104,8 @@ inner_text (BadAbstract why) = codes " abstract " ++ decimal (calls.number_of wh
 inner_text (BadCross why) = codes " cross " ++ (decimal (crosses.number_of why) ++ cross_detail why)
 inner_text _ = []
 
--- the number of the rule, the label, the node and the key, and why an expression, a call or a cross point is refused
+-- the number of the rule, the label, the node and the key, and why an expression, a call or a cross
+-- point is refused
 abbrev pub refusal_text : Refusal → List ℕ
 refusal_text r =
     codes "cgf " ++ (decimal (number_of r.kind) ++ (codes " " ++ (or_dash r.place.label ++ (codes " " ++ (or_dash r.place.node

@@ -1,5 +1,6 @@
 -- Trees that spell groups as their normal text does, and groups that such a tree gives again.
-use Rattle.std.specs.Prelude.{◌≡◌, ◌≤◌, Bool, true, false, not, ◌&&◌, List, [], ◌∷◌, length, filter, sum_by, if◌then◌else◌, bytes_eq, codes}
+use Rattle.std.specs.Prelude.{◌≡◌, ◌≤◌, Bool, true, false, not, ◌&&◌, List, [], ◌∷◌, length, filter}
+use Rattle.std.specs.Prelude.{sum_by, if◌then◌else◌, bytes_eq, codes}
 use Rattle.std.specs.List.{list_any, list_all}
 use Rattle.rvs_insn.specs.Isa.{Isa}
 use Rattle.rvs_insn.specs.Names.{is_admitted_op}
@@ -21,7 +22,8 @@ block k ps = record { kind = k; points = ps }
 
 abbrev pub joined : Point → List Block → List Block
 joined p [] = block p.kind (p ∷ []) ∷ []
-joined p (b ∷ bs) = if same_kind b.kind p.kind then block p.kind (p ∷ b.points) ∷ bs else block p.kind (p ∷ []) ∷ b ∷ bs
+joined p (b ∷ bs) = if same_kind b.kind p.kind then block p.kind (p ∷ b.points) ∷ bs
+    else block p.kind (p ∷ []) ∷ b ∷ bs
 
 -- the points by the lines of their kinds
 abbrev pub blocks : List Point → List Block
@@ -40,18 +42,21 @@ abbrev pub SpellsNodes : List Block → Pairs → Type 0
 SpellsNodes [] [] = Unit {0}
 SpellsNodes [] (e ∷ es) = ⊥
 SpellsNodes (b ∷ bs) [] = ⊥
-SpellsNodes (b ∷ bs) (e ∷ es) = (e.0 ≡ kind_name b.kind) × (is_map e.1 ≡ true) × SpellsKeys b.points (own_pairs e.1) × SpellsNodes bs es
+SpellsNodes (b ∷ bs) (e ∷ es) = (e.0 ≡ kind_name b.kind) × (is_map e.1 ≡ true)
+    × SpellsKeys b.points (own_pairs e.1) × SpellsNodes bs es
 
 -- a map of nodes for each label
 abbrev pub SpellsLabels : List Label → Pairs → Type 0
 SpellsLabels [] [] = Unit {0}
 SpellsLabels [] (e ∷ es) = ⊥
 SpellsLabels (l ∷ ls) [] = ⊥
-SpellsLabels (l ∷ ls) (e ∷ es) = (e.0 ≡ l.name) × (is_map e.1 ≡ true) × SpellsNodes (blocks l.points) (own_pairs e.1) × SpellsLabels ls es
+SpellsLabels (l ∷ ls) (e ∷ es) = (e.0 ≡ l.name) × (is_map e.1 ≡ true)
+    × SpellsNodes (blocks l.points) (own_pairs e.1) × SpellsLabels ls es
 
 abbrev pub SpellsAll : List Label → Data → Type 0
 SpellsAll [] d = is_empty_scalar d ≡ true
-SpellsAll (l ∷ ls) d = (is_empty_scalar d ≡ false) × (is_map d ≡ true) × SpellsLabels (l ∷ ls) (own_pairs d)
+SpellsAll (l ∷ ls) d =
+    (is_empty_scalar d ≡ false) × (is_map d ≡ true) × SpellsLabels (l ∷ ls) (own_pairs d)
 
 abbrev pub selected : List Label → List Label
 selected ls = filter (λ l. l.selected) ls
@@ -74,7 +79,8 @@ is_expression _ = false
 abbrev pub is_read : Point → Bool
 is_read p = not (is_expression p.kind && is_skipped p.key)
 
--- A valid label whose points of each kind stand together, whose keys are read, and whose mnemonics are those of its points.
+-- A valid label whose points of each kind stand together, whose keys are read, and whose mnemonics
+-- are those of its points.
 pub record IsPlain (isa : Isa) (l : Label) : Type 0 where
   pub valid : IsValid isa l
   pub apart : kinds_are_apart (blocks l.points) ≡ true

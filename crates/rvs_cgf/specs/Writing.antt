@@ -16,7 +16,8 @@ pub record Told : Type 0 where
   pub total : ℕ
 
 abbrev pub told : Listed → Told
-told listed = record { text = normal_text listed.labels; count = length listed.labels; total = listed.total }
+told listed =
+    record { text = normal_text listed.labels; count = length listed.labels; total = listed.total }
 
 abbrev pub told_of : Found Listed → Found Told
 told_of found = found >>= (λ listed. Ok (told listed))

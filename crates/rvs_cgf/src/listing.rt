@@ -1,5 +1,6 @@
 // The labels of a tree.
-ghost use Rattle.std.specs.Prelude.{◌≡◌, ◌≤◌, ◌-◌, ◌*◌, ◌^◌, ◌∷◌, ◌++◌, [], map, All, true, IsTrue, IfOk};
+ghost use Rattle.std.specs.Prelude.{◌≡◌, ◌≤◌, ◌-◌, ◌*◌, ◌^◌, ◌∷◌, ◌++◌, [], map, All, true, IsTrue};
+ghost use Rattle.std.specs.Prelude.{IfOk};
 ghost use Rattle.rvs_tree.specs.Data.{own_pairs, is_map};
 ghost use Rattle.rvs_tree.specs.TreeView as trees;
 ghost use Rattle.rvs_cgf.specs.Groups as spec;

@@ -1,5 +1,6 @@
 // Points in order, with the set of their pairs of kind and key.
-ghost use Rattle.std.specs.Prelude.{◌≡◌, ◌∷◌, ◌++◌, [], ℕ, List, ◌||◌, bytes_eq, map, string_bytes, IfOk};
+ghost use Rattle.std.specs.Prelude.{◌≡◌, ◌∷◌, ◌++◌, [], ℕ, List, ◌||◌, bytes_eq, map, string_bytes};
+ghost use Rattle.std.specs.Prelude.{IfOk};
 ghost use Rattle.std.specs.BTreeSet.{contains_text};
 ghost use Rattle.rvs_cgf.specs.Groups as spec;
 ghost use Rattle.rvs_cgf.specs.PointView.{point_view};

@@ -1,5 +1,6 @@
 // The texts of groups and of their refusals.
-ghost use Rattle.std.specs.Prelude.{◌≡◌, ◌<◌, ◌==◌, ◌∷◌, ◌++◌, [], map, length, Some, None, IfOk, IsTrue, OnOk, MatchOption, codes};
+ghost use Rattle.std.specs.Prelude.{◌≡◌, ◌<◌, ◌==◌, ◌∷◌, ◌++◌, [], map, length, Some, None, IfOk};
+ghost use Rattle.std.specs.Prelude.{IsTrue, OnOk, MatchOption, codes};
 ghost use Rattle.std.specs.List.{flat_map, before_first, after_first, position_or_len};
 ghost use Rattle.rvs_cgf.specs.GroupView.{label_view, point_view, skipped_view, refusal_view};
 ghost use Rattle.rvs_cgf.specs.Print as spec;

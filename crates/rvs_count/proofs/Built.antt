@@ -1,5 +1,7 @@
 -- The lists are built label by label.
-use Rattle.std.proofs.Common.{◌≡◌, ℕ, zero, suc, ◌+◌, ◌<◌, Bool, true, false, cond, ◌&&◌, List, [], ◌∷◌, ◌++◌, refl, sym, ap, ◌∙◌, length, drop, get_or, replicate, arith, append_assoc, length-append}
+use Rattle.std.proofs.Common.{◌≡◌, ℕ, zero, suc, ◌+◌, ◌<◌, Bool, true, false, cond, ◌&&◌, List, []}
+use Rattle.std.proofs.Common.{◌∷◌, ◌++◌, refl, sym, ap, ◌∙◌, length, drop, get_or, replicate, arith}
+use Rattle.std.proofs.Common.{append_assoc, length-append}
 use Rattle.std.proofs.lemmas.List.{length-map}
 use Rattle.std.specs.Prelude.{map}
 use Rattle.rvs_cgf.specs.Groups as group
@@ -26,7 +28,8 @@ aims_more (l ∷ labels) zero d h = refl
 aims_more (l ∷ labels) (suc k) d h =
     let e : suc k + 1 ≡ suc (k + 1) = omega arith in
     aims_more labels k d (omega arith)
-    ∙ ap (λ n. aims_of_label (label_view (get_or labels k d)) ++ aims_in (drop n (l ∷ labels))) (sym e)
+    ∙ ap (λ n. aims_of_label (label_view (get_or labels k d)) ++ aims_in (drop n (l ∷ labels)))
+    (sym e)
 
 zeros-append : (m n z : ℕ) → replicate m z ++ replicate n z ≡ replicate (m + n) z
 zeros-append zero n z = let e : 0 + n ≡ n = omega arith in ap (λ k. replicate k z) (sym e)
@@ -47,7 +50,8 @@ zeros_more labels counts counts' k d h e =
     ap (λ l. l ++ replicate (length rest) 0) e
     ∙ append_assoc counts (replicate (length here) 0) (replicate (length rest) 0)
     ∙ ap (λ l. counts ++ l) (zeros-append (length here) (length rest) 0)
-    ∙ ap (λ n. counts ++ replicate n 0) (sym (ap (λ l. length l) (aims_more labels k d h) ∙ length-append here rest))
+    ∙ ap (λ n. counts ++ replicate n 0)
+    (sym (ap (λ l. length l) (aims_more labels k d h) ∙ length-append here rest))
 
 -- the points of a label, where it has the mnemonic and where it doesn't
 places_has : (key : ListKey) (ops : List Op) (at : ℕ) (points : List group.Point)
@@ -95,7 +99,8 @@ places-append passes at m (x ∷ xs) ys e =
     turn false p = p
 
 -- slots of one more label
-pub slots_more : (passes : Aim → Bool) (labels : List Label) (slots slots' : List Slot) (k first next : ℕ) (d : Label)
+pub slots_more : (passes : Aim → Bool) (labels : List Label) (slots slots' : List Slot)
+    (k first next : ℕ) (d : Label)
     → k < length labels
     → places slots'
     ≡ places slots ++ places_for passes first (aims_of_label (label_view (get_or labels k d)))
@@ -113,7 +118,8 @@ slots_more passes labels slots slots' k first next d h e n =
 -- the next point
 in_more : (key : ListKey) (points : List Point) (k at : ℕ) (d : Point) → k < length points
     → places_in key at (map point_view (drop k points))
-    ≡ places_in key at (point_view (get_or points k d) ∷ []) ++ places_in key (at + 1) (map point_view (drop (k + 1) points))
+    ≡ places_in key at (point_view (get_or points k d) ∷ [])
+    ++ places_in key (at + 1) (map point_view (drop (k + 1) points))
 in_more key [] k at d h = absurd (omega arith)
 in_more key (p ∷ ps) zero at d h = turn (stands key (point_view p))
   where
@@ -121,17 +127,23 @@ in_more key (p ∷ ps) zero at d h = turn (stands key (point_view p))
     rest = places_in key (at + 1) (map point_view ps)
 
     turn : (b : Bool)
-        → (elim b as (λ _. List Place) [ true ↦ (point_view p, at) ∷ places_in key (at + 1) (map point_view ps) | false ↦ places_in key (at + 1) (map point_view ps) ])
-        ≡ (elim b as (λ _. List Place) [ true ↦ (point_view p, at) ∷ [] | false ↦ [] ]) ++ places_in key (at + 1) (map point_view ps)
+        → (elim b as (λ _. List Place) [
+          | true ↦ (point_view p, at) ∷ places_in key (at + 1) (map point_view ps)
+          | false ↦ places_in key (at + 1) (map point_view ps)
+        ])
+        ≡ (elim b as (λ _. List Place) [ true ↦ (point_view p, at) ∷ [] | false ↦ [] ])
+        ++ places_in key (at + 1) (map point_view ps)
     turn true = refl
     turn false = refl
 in_more key (p ∷ ps) (suc k) at d h =
     let e : suc k + 1 ≡ suc (k + 1) = omega arith in
     in_more key ps k at d (omega arith)
-    ∙ ap (λ n. places_in key at (point_view (get_or ps k d) ∷ []) ++ places_in key (at + 1) (map point_view (drop n (p ∷ ps)))) (sym e)
+    ∙ ap (λ n. places_in key at (point_view (get_or ps k d) ∷ [])
+    ++ places_in key (at + 1) (map point_view (drop n (p ∷ ps)))) (sym e)
 
 -- one more point
-pub points_more : (key : ListKey) (points : List Point) (slots slots' : List Slot) (k at : ℕ) (d : Point)
+pub points_more : (key : ListKey) (points : List Point) (slots slots' : List Slot) (k at : ℕ)
+    (d : Point)
     → k < length points
     → places slots' ≡ places slots ++ places_in key at (point_view (get_or points k d) ∷ [])
     → places slots' ++ places_in key (at + 1) (map point_view (drop (k + 1) points))
@@ -177,7 +189,8 @@ zero_counts (a ∷ aims) =
     ∙ ap (λ l. count [] a ∷ l) (zero_counts aims)
 
 -- a new tally
-pub new_tally : (labels index : List Label) (windows : List Window) (counts words : List ℕ) (run : List Fields)
+pub new_tally : (labels index : List Label) (windows : List Window) (counts words : List ℕ)
+    (run : List Fields)
     → index ≡ labels
     → counts ≡ replicate {A = ℕ} (length (aims_in labels)) 0 → words ≡ zeros → run ≡ []
     → record {

@@ -1,5 +1,6 @@
 -- One instruction more adds to the counts what the log's definition of them says.
-use Rattle.std.proofs.Common.{◌≡◌, ℕ, ◌+◌, Bool, true, false, cond, ◌&&◌, ◌||◌, List, [], ◌∷◌, ◌++◌, Option, Some, None, refl, sym, ap, ◌∙◌, length, arith}
+use Rattle.std.proofs.Common.{◌≡◌, ℕ, ◌+◌, Bool, true, false, cond, ◌&&◌, ◌||◌, List, [], ◌∷◌, ◌++◌}
+use Rattle.std.proofs.Common.{Option, Some, None, refl, sym, ap, ◌∙◌, length, arith}
 use Rattle.std.proofs.lemmas.List.{map-append}
 use Rattle.std.proofs.lemmas.List.Sums.{sum_by_push}
 use Rattle.std.specs.Prelude.{count_by, map}
@@ -30,7 +31,8 @@ or_false : (b : Bool) → (b || false) ≡ b
 or_false true = refl
 or_false false = refl
 
-window_missed : (ops : List Op) (k : Kind) (key : List ℕ) (ps : List Place) (o : Option Fields) (v1 v2 : ℕ)
+window_missed : (ops : List Op) (k : Kind) (key : List ℕ) (ps : List Place) (o : Option Fields)
+    (v1 v2 : ℕ)
     → hits_insn (aim ops k key (window ps)) o v1 v2 ≡ false
 window_missed ops k key ps None v1 v2 = refl
 window_missed ops k key ps (Some i) v1 v2 = and_false (has_op ops i.op)
@@ -39,7 +41,8 @@ or_none : (x : Bool) → bit x + bit false ≡ bit (x || false)
 or_none true = omega arith
 or_none false = omega arith
 
-apart_for : (ops : List Op) (k : Kind) (key : List ℕ) (m : Meaning) (o : Option Fields) (v1 v2 : ℕ) (run : List Fields)
+apart_for : (ops : List Op) (k : Kind) (key : List ℕ) (m : Meaning) (o : Option Fields) (v1 v2 : ℕ)
+    (run : List Fields)
     → bit (hits_insn (aim ops k key m) o v1 v2) + bit (ends_run m run)
     ≡ bit (hits_insn (aim ops k key m) o v1 v2 || ends_run m run)
 apart_for ops k key (op_is op) o v1 v2 run = or_none (hits_insn (aim ops k key (op_is op)) o v1 v2)
@@ -85,13 +88,15 @@ window_push ps es e sized =
     let ds = map decoded es in
     let seen : matches ps (last (length ps) (ds ++ decoded e ∷ []))
     ≡ ends_run (window ps) (run_of (ds ++ decoded e ∷ [])) =
-    run_sees (length ps) (λ is. matches ps is) sized.1 (length_matches ps) (decoded_matches ps) (ds ++ decoded e ∷ []) in
+    run_sees (length ps) (λ is. matches ps is) sized.1 (length_matches ps) (decoded_matches ps)
+    (ds ++ decoded e ∷ []) in
     ap (λ run. window_hits ps ds + bit (ends_run (window ps) run)) (run_push ds (decoded e))
     ∙ ap (λ b. window_hits ps ds + bit b) (sym seen)
     ∙ sym (windows_push (length ps) (λ is. matches ps is) (length_matches ps) ds (decoded e))
     ∙ ap (λ ds. window_hits ps ds) (sym (decoded_push es e))
 
-count_for_push : (ops : List Op) (k : Kind) (key : List ℕ) (m : Meaning) (es : List Entry) (e : Entry)
+count_for_push : (ops : List Op) (k : Kind) (key : List ℕ) (m : Meaning) (es : List Entry)
+    (e : Entry)
     → IsSized m
     → count es (aim ops k key m)
     + bit (hits (aim ops k key m) e || ends_run m (run_with (run_of (map decoded es)) (decoded e)))

@@ -1,5 +1,7 @@
 -- Cross points among the points, and what the ends of a run add to their counts.
-use Rattle.std.proofs.Common.{◌≡◌, ◌≢◌, ℕ, zero, suc, ◌+◌, ◌<◌, ◌≤◌, ◌⊎◌, inl, inr, Bool, true, false, cond, ◌||◌, List, [], ◌∷◌, ◌++◌, Option, Some, refl, sym, ap, ◌∙◌, length, drop, arith}
+use Rattle.std.proofs.Common.{◌≡◌, ◌≢◌, ℕ, zero, suc, ◌+◌, ◌<◌, ◌≤◌, ◌⊎◌, inl, inr, Bool, true}
+use Rattle.std.proofs.Common.{false, cond, ◌||◌, List, [], ◌∷◌, ◌++◌, Option, Some, refl, sym, ap}
+use Rattle.std.proofs.Common.{◌∙◌, length, drop, arith}
 use Rattle.std.proofs.Math.ListN.{drop_of_length-le}
 use Rattle.std.proofs.lemmas.Bool.{cases_lt}
 use Rattle.std.proofs.lemmas.List.{length-map}
@@ -90,7 +92,8 @@ selected_label l points has s e h =
     ∙ ap (λ b. list_any is_cross (cond b aims [])) (sym s)
 
 pub cross_labels : (labels : List Label)
-    → list_any (λ (l : Label). list_any (λ (a : Aim). is_window a.point.meaning) (aims_of_label (label_view l))) labels
+    → list_any (λ (l : Label). list_any (λ (a : Aim). is_window a.point.meaning)
+    (aims_of_label (label_view l))) labels
     ≡ list_any (λ (a : Aim). is_window a.point.meaning) (aims_in labels)
 cross_labels [] = refl
 cross_labels (l ∷ labels) =
@@ -128,7 +131,8 @@ none_added [] cs h = refl
 none_added (a ∷ aims) [] h = refl
 none_added (a ∷ aims) (c ∷ cs) h =
     let z : c + 0 ≡ c = omega arith in
-    ap (λ b. (c + bit b) ∷ added (λ a. ends_run a.point.meaning []) aims cs) (none_end a.point.meaning h.0)
+    ap (λ b. (c + bit b) ∷ added (λ a. ends_run a.point.meaning []) aims cs)
+    (none_end a.point.meaning h.0)
     ∙ ap (λ n. n ∷ added (λ a. ends_run a.point.meaning []) aims cs) z
     ∙ ap (λ l. c ∷ l) (none_added aims cs h.1)
 
@@ -150,14 +154,16 @@ window_ends ps i is = cases (cases_lt (length is) (length ps)) (length-map is so
         omega (
           arith,
           ap bit none,
-          ap (λ l. bit (matches ps l)) (last_all (length ps) (map some (i ∷ is)) (omega (arith, size))),
+          ap (λ l. bit (matches ps l))
+              (last_all (length ps) (map some (i ∷ is)) (omega (arith, size))),
         )
     cases (inr within) size =
         let other : length (map some (i ∷ is)) ≢ length ps = omega (arith, size) in
         omega (
           arith,
           ap bit (length_matches ps (map some (i ∷ is)) other),
-          ap (λ l. bit (matches ps l)) (last_back (length ps) (Some i ∷ []) (map some is) (omega (arith, size))),
+          ap (λ l. bit (matches ps l))
+              (last_back (length ps) (Some i ∷ []) (map some is) (omega (arith, size))),
         )
 
 bit_ends : (m : Meaning) (i : Fields) (is : List Fields)
@@ -179,7 +185,8 @@ pub ends_added : (run : List Fields) (aims : List Aim) (cs : List ℕ) → AllSi
 ends_added [] aims cs h = sym (none_added aims cs h)
 ends_added (i ∷ is) aims cs h =
     ends_added is aims (added (λ a. is_matched a.point.meaning (i ∷ is)) aims cs) h
-    ∙ added_sum (λ a. is_matched a.point.meaning (i ∷ is)) (λ a. ends_run a.point.meaning is) (λ a. ends_run a.point.meaning (i ∷ is))
+    ∙ added_sum (λ a. is_matched a.point.meaning (i ∷ is)) (λ a. ends_run a.point.meaning is)
+    (λ a. ends_run a.point.meaning (i ∷ is))
     (λ a. bit_ends a.point.meaning i is) aims cs
 
 -- one end more
@@ -216,6 +223,7 @@ no_added (a ∷ aims) run [] h = refl
 no_added (a ∷ aims) run (c ∷ cs) h =
     let z : c + 0 ≡ c = omega arith in
     let both = both_false (is_window a.point.meaning) (list_any is_cross aims) h in
-    ap (λ b. (c + bit b) ∷ added (λ a. ends_run a.point.meaning run) aims cs) (no_end a.point.meaning run both.0)
+    ap (λ b. (c + bit b) ∷ added (λ a. ends_run a.point.meaning run) aims cs)
+    (no_end a.point.meaning run both.0)
     ∙ ap (λ n. n ∷ added (λ a. ends_run a.point.meaning run) aims cs) z
     ∙ ap (λ l. c ∷ l) (no_added aims run cs both.1)

@@ -1,13 +1,16 @@
 -- The end of a log.
-use Rattle.std.proofs.Common.{◌≡◌, ℕ, List, [], ◌∷◌, ◌++◌, Some, refl, sym, ap, ◌∙◌, length, append-nil}
+use Rattle.std.proofs.Common.{◌≡◌, ℕ, List, [], ◌∷◌, ◌++◌, Some, refl, sym, ap, ◌∙◌, length}
+use Rattle.std.proofs.Common.{append-nil}
 use Rattle.std.specs.Prelude.{map}
 use Rattle.rvs_log.specs.Grammar.{Nothing, reading_of, after_core, after_brackets, write_line}
-use Rattle.rvs_log.specs.Lines.{whole_lines, tail_of, lines_of, last_line, line_says, held, held_says}
+use Rattle.rvs_log.specs.Lines.{whole_lines, tail_of, lines_of, last_line, line_says, held}
+use Rattle.rvs_log.specs.Lines.{held_says}
 use Rattle.rvs_log.specs.Entries.{entries_of, entries_in, unheard}
 use Rattle.rvs_cgf.specs.declared.group.Label.{Label}
 use Rattle.rvs_count.specs.Counting.{aims_in, count, kept}
 use Rattle.rvs_count.specs.declared.window.Window.{Window}
-use Rattle.rvs_count.specs.State.{CountState, state_of, state_with, tally_of, with_end, with_reading, ended, ended_by}
+use Rattle.rvs_count.specs.State.{CountState, state_of, state_with, tally_of, with_end}
+use Rattle.rvs_count.specs.State.{with_reading, ended, ended_by}
 use Rattle.rvs_count.proofs.Streams.{state_all, whole_snoc}
 
 no_line : reading_of [] ≡ Nothing
@@ -25,7 +28,8 @@ nothing_more labels windows bytes n e =
     ∙ ap (λ l. state_with t (held l) n) (sym e)
 
 -- the state after the end
-pub finished : (labels : List Label) (windows : List Window) (bytes : List ℕ) (n : ℕ) (s : CountState)
+pub finished : (labels : List Label) (windows : List Window) (bytes : List ℕ) (n : ℕ)
+    (s : CountState)
     → s ≡ state_of labels windows bytes n → with_end s ≡ state_of labels windows (ended bytes) n
 finished labels windows bytes n s e = ap with_end e ∙ turn (tail_of bytes) refl
   where
@@ -54,7 +58,8 @@ pub counted_all : (labels : List Label) (windows : List Window) (log : List ℕ)
     ≡ map (count (kept windows (entries_of log))) (aims_in labels)
 unfolding state_of
 counted_all labels windows log n =
-    ap (λ ls. map (count (kept windows (entries_in unheard (map line_says ls)))) (aims_in labels)) (whole_ended log)
+    ap (λ ls. map (count (kept windows (entries_in unheard (map line_says ls)))) (aims_in labels))
+    (whole_ended log)
 
 pub counted_instructions : (labels : List Label) (windows : List Window) (log : List ℕ) (n : ℕ)
     → (state_of labels windows (ended log) n).tally.instructions

@@ -1,5 +1,7 @@
 -- A file that is fed piece by piece.
-use Rattle.std.proofs.Common.{◌≡◌, ℕ, ◌+◌, ◌^◌, ◌<◌, true, List, [], ◌++◌, Option, Some, None, refl, sym, ap, ◌∙◌, length, take, drop, arith, append_assoc, append-nil, length-append}
+use Rattle.std.proofs.Common.{◌≡◌, ℕ, ◌+◌, ◌^◌, ◌<◌, true, List, [], ◌++◌, Option, Some, None, refl}
+use Rattle.std.proofs.Common.{sym, ap, ◌∙◌, length, take, drop, arith, append_assoc, append-nil}
+use Rattle.std.proofs.Common.{length-append}
 use Rattle.std.specs.Prelude.{is_some}
 use Rattle.rvs_base.specs.Host.{HostState, Files, Tells, ReadsOnly, Opens, Takes}
 use Rattle.rvs_count.specs.State.{CountState, state_of}
@@ -15,7 +17,8 @@ Fed-none c = record {
   fed = omega arith;
 }
 
-pub Fed-more : (c c' c'' : CountState) (a b : List ℕ) → Fed c c' a → Fed c' c'' b → Fed c c'' (a ++ b)
+pub Fed-more : (c c' c'' : CountState) (a b : List ℕ) → Fed c c' a → Fed c' c'' b
+    → Fed c c'' (a ++ b)
 Fed-more c c' c'' a b f g = record {
   state = λ labels windows before n e.
       let z : n + length a + length b ≡ n + length (a ++ b) = omega (arith, length-append a b) in
@@ -65,7 +68,8 @@ inner : {X : Type 0} (x y : X) → Some x ≡ Some y → x ≡ y
 inner x y e = cc
 
 -- the file is what was fed, what was just taken, and the rest
-file_is : {name buffer : List ℕ} {old now next : HostState} {c c' : CountState} {n : ℕ} (h : HasFed name old now c c')
+file_is : {name buffer : List ℕ} {old now next : HostState} {c c' : CountState} {n : ℕ}
+    (h : HasFed name old now c c')
     → ReadsOnly now next → Takes buffer now next n
     → (files : Files) (r : List ℕ) → Tells old files → next.rest ≡ Some r
     → files name ≡ Some (h.bytes ++ (take n buffer ++ r))
@@ -73,9 +77,11 @@ file_is {name} {buffer} {old} {now} {next} {c} {c'} {n} h q t files r told e =
     let o = some_of now.rest (sym q.told ∙ ap (λ (o : Option (List ℕ)). is_some o) e) in
     h.rest files o.0 told o.1
     ∙ ap (λ l. Some (h.bytes ++ l)) (t.next o.0 o.1)
-    ∙ ap (λ l. Some (h.bytes ++ (take n buffer ++ l))) (inner (drop n o.0) r (sym (t.left o.0 o.1) ∙ e))
+    ∙ ap (λ l. Some (h.bytes ++ (take n buffer ++ l)))
+    (inner (drop n o.0) r (sym (t.left o.0 o.1) ∙ e))
 
-pub HasFed-more : {name buffer : List ℕ} {old now next : HostState} {c c' : CountState} {n : ℕ} (c'' : CountState)
+pub HasFed-more : {name buffer : List ℕ} {old now next : HostState} {c c' : CountState} {n : ℕ}
+    (c'' : CountState)
     → HasFed name old now c c' → ReadsOnly now next → next.read_faults ≡ now.read_faults
     → Takes buffer now next n → Fed c' c'' (take n buffer) → HasFed name old next c c''
 HasFed-more {name} {buffer} {old} {now} {next} {c} {c'} {n} c'' h q u t f = record {

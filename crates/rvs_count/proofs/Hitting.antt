@@ -1,5 +1,6 @@
 -- What one instruction of a log adds to the counts.
-use Rattle.std.proofs.Common.{◌≡◌, ℕ, zero, suc, ◌+◌, ◌≤◌, Bool, true, false, cond, ◌||◌, List, [], ◌∷◌, Option, Some, None, refl, sym, ap, ◌∙◌, length, arith, All}
+use Rattle.std.proofs.Common.{◌≡◌, ℕ, zero, suc, ◌+◌, ◌≤◌, Bool, true, false, cond, ◌||◌, List, []}
+use Rattle.std.proofs.Common.{◌∷◌, Option, Some, None, refl, sym, ap, ◌∙◌, length, arith, All}
 use Rattle.std.specs.Option.{option_and_then}
 use Rattle.rvs_cgf.specs.declared.group.Label.{Label}
 use Rattle.rvs_insn.specs.Fields.{Fields, insn_of_word}
@@ -19,16 +20,19 @@ missed_all aims cs v1 v2 = refl
 
 pub none_hit : (aims : List Aim) (run : List Fields) (cs : List ℕ) (words : List ℕ) (pc word : ℕ)
     → AllSized aims → insn_of_word word ≡ None
-    → cs ≡ counts_with aims (run_with run (decoded (entry_at words pc word))) (entry_at words pc word) cs
+    → cs ≡ counts_with aims (run_with run (decoded (entry_at words pc word)))
+    (entry_at words pc word) cs
 none_hit aims run cs words pc word sized s =
     let e = entry_at words pc word in
     let with : Option Fields → List ℕ =
-    λ o. added (λ a. hits_insn a o e.v1 e.v2 || ends_run a.point.meaning (run_with run o)) aims cs in
+    λ o. added (λ a. hits_insn a o e.v1 e.v2 || ends_run a.point.meaning (run_with run o)) aims
+    cs in
     sym (none_added aims cs sized)
     ∙ sym (missed_all aims cs e.v1 e.v2)
     ∙ ap with (sym s)
 
-pub some_hit : (aims : List Aim) (run : List Fields) (cs : List ℕ) (words : List ℕ) (pc word : ℕ) (i : Fields)
+pub some_hit : (aims : List Aim) (run : List Fields) (cs : List ℕ) (words : List ℕ) (pc word : ℕ)
+    (i : Fields)
     → insn_of_word word ≡ Some i
     → added (λ a. ends_run a.point.meaning (run_with run (Some i))) aims
     (added (λ a. hits_insn a (Some i) (word_of words i.rs1) (word_of words i.rs2)) aims cs)
@@ -39,26 +43,34 @@ some_hit aims run cs words pc word i s =
     let v2 : word_of words (rs2_of_word word) ≡ word_of words i.rs2 =
     ap (λ (o : Option Fields). word_of words (option_and_then (λ (i : Fields). i.rs2) o)) s in
     let with : Option Fields → ℕ → ℕ → List ℕ =
-    λ o w1 w2. added (λ a. hits_insn a o w1 w2 || ends_run a.point.meaning (run_with run o)) aims cs in
-    added_sum (λ a. hits_insn a (Some i) (word_of words i.rs1) (word_of words i.rs2)) (λ a. ends_run a.point.meaning (run_with run (Some i)))
-    (λ a. hits_insn a (Some i) (word_of words i.rs1) (word_of words i.rs2) || ends_run a.point.meaning (run_with run (Some i)))
+    λ o w1 w2. added (λ a. hits_insn a o w1 w2 || ends_run a.point.meaning (run_with run o)) aims
+    cs in
+    added_sum (λ a. hits_insn a (Some i) (word_of words i.rs1) (word_of words i.rs2))
+    (λ a. ends_run a.point.meaning (run_with run (Some i)))
+    (λ a. hits_insn a (Some i) (word_of words i.rs1) (word_of words i.rs2)
+    || ends_run a.point.meaning (run_with run (Some i)))
     (apart (Some i) (word_of words i.rs1) (word_of words i.rs2) (run_with run (Some i))) aims cs
     ∙ ap (λ v. with (Some i) v (word_of words i.rs2)) (sym v1)
     ∙ ap (λ v. with (Some i) (word_of words (rs1_of_word word)) v) (sym v2)
-    ∙ ap (λ (o : Option Fields). with o (word_of words (rs1_of_word word)) (word_of words (rs2_of_word word))) (sym s)
+    ∙ ap (λ (o : Option Fields). with o (word_of words (rs1_of_word word))
+    (word_of words (rs2_of_word word))) (sym s)
 
 -- the two passes over the points
-pub both_counted : (index crosses : List Label) (run run' : List Fields) (cs cs1 cs2 : List ℕ) (words : List ℕ) (pc word : ℕ) (i : Fields)
+pub both_counted : (index crosses : List Label) (run run' : List Fields) (cs cs1 cs2 : List ℕ)
+    (words : List ℕ) (pc word : ℕ) (i : Fields)
     → crosses ≡ index → insn_of_word word ≡ Some i → run' ≡ run_with run (Some i)
-    → cs1 ≡ added (λ a. hits_insn a (Some i) (word_of words i.rs1) (word_of words i.rs2)) (aims_in index) cs
+    → cs1 ≡ added (λ a. hits_insn a (Some i) (word_of words i.rs1) (word_of words i.rs2))
+    (aims_in index) cs
     → cs2 ≡ added (λ a. ends_run a.point.meaning run') (aims_in crosses) cs1
-    → cs2 ≡ counts_with (aims_in index) (run_with run (decoded (entry_at words pc word))) (entry_at words pc word) cs
+    → cs2 ≡ counts_with (aims_in index) (run_with run (decoded (entry_at words pc word)))
+    (entry_at words pc word) cs
 both_counted index crosses run run' cs cs1 cs2 words pc word i same s r first second =
     second
     ∙ ap (λ (ls : List Label). added (λ a. ends_run a.point.meaning run') (aims_in ls) cs1) same
     ∙ ap (λ l. added (λ a. ends_run a.point.meaning run') (aims_in index) l) first
     ∙ ap (λ (l : List Fields). added (λ a. ends_run a.point.meaning l) (aims_in index)
-    (added (λ a. hits_insn a (Some i) (word_of words i.rs1) (word_of words i.rs2)) (aims_in index) cs)) r
+    (added (λ a. hits_insn a (Some i) (word_of words i.rs1) (word_of words i.rs2)) (aims_in index)
+    cs)) r
     ∙ some_hit (aims_in index) run cs words pc word i s
 
 pub entry_counted : (t : Tallied) (b : Bool) (e : Entry) (cs : List ℕ) (run : List Fields)
@@ -88,7 +100,8 @@ entry_counted t b e cs run h r c =
       heard = t.heard;
     } in
     ap (λ cs. with cs run) c
-    ∙ ap (λ run. with (counts_with (aims_in t.labels) (run_with t.run (decoded e)) e t.counts) run) r
+    ∙ ap (λ run. with (counts_with (aims_in t.labels) (run_with t.run (decoded e)) e t.counts) run)
+    r
     ∙ ap (λ b. with_entry t b e) (sym h)
 
 -- ---- bounds

@@ -1,6 +1,7 @@
--- Instructions that match a cross point are as many as its places, they all decode, and the first is
--- listed.
-use Rattle.std.proofs.Common.{◌≡◌, ◌≢◌, ℕ, Bool, true, false, ◌&&◌, ◌||◌, List, [], ◌∷◌, ◌++◌, Option, Some, None, refl, sym, ap, ◌∙◌, length, arith}
+-- Instructions that match a cross point are as many as its places, they all decode, and the first
+-- is listed.
+use Rattle.std.proofs.Common.{◌≡◌, ◌≢◌, ℕ, Bool, true, false, ◌&&◌, ◌||◌, List, [], ◌∷◌, ◌++◌}
+use Rattle.std.proofs.Common.{Option, Some, None, refl, sym, ap, ◌∙◌, length, arith}
 use Rattle.std.proofs.lemmas.Bool.Decides.{nat_tests}
 use Rattle.std.proofs.lemmas.List.{length-map}
 use Rattle.std.proofs.lemmas.List.Folds.{list_any_none}
@@ -35,7 +36,8 @@ pub length_matches : (ps : List Place) (is : List (Option Fields))
     → length is ≢ length ps → matches ps is ≡ false
 unfolding matches
 length_matches ps is h =
-    list_any_none (λ v. all_fit v ps is) (values_among (range_with_len 0 32) ps) (λ k d l. length_fits _ ps is h)
+    list_any_none (λ v. all_fit v ps is) (values_among (range_with_len 0 32) ps)
+    (λ k d l. length_fits _ ps is h)
 
 decoded_fits : (v : Values) (ps : List Place) (xs ys : List (Option Fields))
     → all_fit v ps (xs ++ None ∷ ys) ≡ false
@@ -50,7 +52,8 @@ pub decoded_matches : (ps : List Place) (xs ys : List (Option Fields))
     → matches ps (xs ++ None ∷ ys) ≡ false
 unfolding matches
 decoded_matches ps xs ys =
-    list_any_none (λ v. all_fit v ps (xs ++ None ∷ ys)) (values_among (range_with_len 0 32) ps) (λ k d l. decoded_fits _ ps xs ys)
+    list_any_none (λ v. all_fit v ps (xs ++ None ∷ ys)) (values_among (range_with_len 0 32) ps)
+    (λ k d l. decoded_fits _ ps xs ys)
 
 front_true : (a b c : Bool) → ((a && b) && c) ≡ true → a ≡ true
 front_true true b c h = refl

@@ -1,5 +1,8 @@
 -- The lists give the points that an instruction may hit, and no others count.
-use Rattle.std.proofs.Common.{◌≡◌, ◌≢◌, ℕ, zero, suc, ◌+◌, ◌-◌, ◌*◌, ◌/◌, ◌%◌, ◌<◌, ◌≤◌, Bool, true, false, cond, ◌&&◌, ◌||◌, List, [], ◌∷◌, ◌++◌, Option, Some, None, refl, sym, ap, ◌∙◌, length, drop, get_or, set, arith, append_assoc, All}
+use Rattle.std.proofs.Common.{◌≡◌, ◌≢◌, ℕ, zero, suc, ◌+◌, ◌-◌, ◌*◌, ◌/◌, ◌%◌, ◌<◌, ◌≤◌, Bool, true}
+use Rattle.std.proofs.Common.{false, cond, ◌&&◌, ◌||◌, List, [], ◌∷◌, ◌++◌, Option, Some, None}
+use Rattle.std.proofs.Common.{refl, sym, ap, ◌∙◌, length, drop, get_or, set, arith, append_assoc}
+use Rattle.std.proofs.Common.{All}
 use Rattle.std.proofs.lemmas.List.{get_or_at, set_at, length_push, length-map}
 use Rattle.std.proofs.lemmas.Bool.Decides.{nat_tests}
 use Rattle.std.specs.List.{list_any}
@@ -18,7 +21,9 @@ use Rattle.rvs_insn.specs.Fields.{Fields}
 use Rattle.rvs_insn.specs.declared.op.Op.{Op}
 use Rattle.rvs_count.specs.Buckets.{bucket_of, is_seen}
 use Rattle.rvs_count.specs.Counting.{Aim, aims_in, hits_insn}
-use Rattle.rvs_count.specs.Index.{Place, place_of, places, has_number, insns_key, is_for, is_matched, lists_number, meaning_fits, places_for, window_fits, windows_key, IsIndex, raised, raised_all}
+use Rattle.rvs_count.specs.Index.{Place, place_of, places, has_number, insns_key, is_for}
+use Rattle.rvs_count.specs.Index.{is_matched, lists_number, meaning_fits, places_for, window_fits}
+use Rattle.rvs_count.specs.Index.{windows_key, IsIndex, raised, raised_all}
 use Rattle.rvs_count.specs.State.{added}
 use Rattle.rvs_count.specs.declared.key.ListKey.{ListKey}
 use Rattle.rvs_count.specs.declared.slot.Slot.{Slot}
@@ -36,7 +41,8 @@ abbrev hit_by : (Aim → Bool) → (Point → Bool) → Aim → Bool
 hit_by passes hit a = passes a && hit a.point
 
 -- the counts after the places of a list
-raised_from : (passes : Aim → Bool) (hit : Point → Bool) (aims : List Aim) (front cs : List ℕ) (k : ℕ)
+raised_from : (passes : Aim → Bool) (hit : Point → Bool) (aims : List Aim) (front cs : List ℕ)
+    (k : ℕ)
     → length front ≡ k → length cs ≡ length aims
     → raised_all hit (places_for passes k aims) (front ++ cs)
     ≡ front ++ added (hit_by passes hit) aims cs
@@ -81,14 +87,17 @@ raised_from passes hit (a ∷ aims) front (c ∷ cs) k f l =
         ∙ rest false (p false)
 
 -- the list at a number
-pub slots_at : (key_of : ℕ → ListKey) (labels : List Label) (lists got : List (List Slot)) (key : ℕ) (d slots : List Slot)
-    → IsIndex key_of labels lists → key < length lists → got ≡ lists → slots ≡ d → d ≡ get_or got key d
+pub slots_at : (key_of : ℕ → ListKey) (labels : List Label) (lists got : List (List Slot)) (key : ℕ)
+    (d slots : List Slot)
+    → IsIndex key_of labels lists → key < length lists → got ≡ lists → slots ≡ d
+    → d ≡ get_or got key d
     → places slots ≡ places_for (is_for (key_of key)) 0 (aims_in labels)
 slots_at key_of labels lists got key d slots index h all s at =
     ap places (s ∙ at ∙ ap (λ ls. get_or ls key d) all) ∙ index.each key d h
 
 -- the same of a list that is told for any default
-pub slots_in : (key_of : ℕ → ListKey) (labels : List Label) (lists got : List (List Slot)) (key : ℕ) (slots : List Slot)
+pub slots_in : (key_of : ℕ → ListKey) (labels : List Label) (lists got : List (List Slot)) (key : ℕ)
+    (slots : List Slot)
     → IsIndex key_of labels lists → key < length lists → got ≡ lists
     → ((d : List Slot) → slots ≡ get_or got key d)
     → places slots ≡ places_for (is_for (key_of key)) 0 (aims_in labels)
@@ -114,9 +123,13 @@ same_hit n b i v1 v2 a same low =
     let h = holds a.point i.op (facts_of i v1 v2) in
     let mnemonic : (n * 365 + b) / 365 ≡ number i.op = omega (arith, same, low) in
     let bucket : (n * 365 + b) % 365 ≡ b = omega (arith, low) in
-    ap (λ m. (has_number m a.ops && (bucket_of a.point == (n * 365 + b) % 365 && meaning_fits m a.point.meaning)) && h) mnemonic
-    ∙ ap (λ m. (has_number (number i.op) a.ops && (bucket_of a.point == m && meaning_fits (number i.op) a.point.meaning)) && h) bucket
-    ∙ turned (has_op a.ops i.op) (bucket_of a.point == b) (meaning_fits (number i.op) a.point.meaning) h
+    ap (λ m. (has_number m a.ops
+    && (bucket_of a.point == (n * 365 + b) % 365 && meaning_fits m a.point.meaning)) && h)
+    mnemonic
+    ∙ ap (λ m. (has_number (number i.op) a.ops
+    && (bucket_of a.point == m && meaning_fits (number i.op) a.point.meaning)) && h) bucket
+    ∙ turned (has_op a.ops i.op) (bucket_of a.point == b)
+    (meaning_fits (number i.op) a.point.meaning) h
     (fits_hit a.point.meaning a.point.kind i.op (facts_of i v1 v2))
   where
     turned : (p q f r : Bool) → (r ≡ true → f ≡ true) → ((p && (q && f)) && r) ≡ (q && (p && r))
@@ -135,7 +148,8 @@ added_same p q (a ∷ aims) (c ∷ cs) h =
     ap (λ b. (c + cond b 1 0) ∷ added p aims cs) (h a)
     ∙ ap (λ l. (c + cond (q a) 1 0) ∷ l) (added_same p q aims cs h)
 
-pub added_bucket : (labels : List Label) (i : Fields) (v1 v2 n b : ℕ) (slots : List Slot) (cs cs' : List ℕ)
+pub added_bucket : (labels : List Label) (i : Fields) (v1 v2 n b : ℕ) (slots : List Slot)
+    (cs cs' : List ℕ)
     → n ≡ number i.op → b < 365
     → places slots ≡ places_for (is_for (insns_key (n * 365 + b))) 0 (aims_in labels)
     → length cs ≡ length (aims_in labels)
@@ -144,7 +158,8 @@ pub added_bucket : (labels : List Label) (i : Fields) (v1 v2 n b : ℕ) (slots :
 added_bucket labels i v1 v2 n b slots cs cs' same low p l e =
     e
     ∙ ap (λ ps. raised_all (λ p. holds p i.op (facts_of i v1 v2)) ps cs) p
-    ∙ raised_from (is_for (insns_key (n * 365 + b))) (λ p. holds p i.op (facts_of i v1 v2)) (aims_in labels) [] cs 0 refl l
+    ∙ raised_from (is_for (insns_key (n * 365 + b))) (λ p. holds p i.op (facts_of i v1 v2))
+    (aims_in labels) [] cs 0 refl l
     ∙ added_same _ _ (aims_in labels) cs (λ a. same_hit n b i v1 v2 a same low)
 
 -- what the cross points of a list add
@@ -191,22 +206,26 @@ window_fit (window ps) i is count n c e h =
     let some : Fields → Option Fields = λ i. Some i in
     both_true (length ps == count) (lists_number n (first_ops ps))
     (count_fits ps (map some (i ∷ is)) count (c ∙ sym (length-map (i ∷ is) some)) h)
-    (ap (λ n. lists_number n (first_ops ps)) e ∙ listed_number i.op (first_ops ps) (first_matches ps i (map some is) h))
+    (ap (λ n. lists_number n (first_ops ps)) e
+    ∙ listed_number i.op (first_ops ps) (first_matches ps i (map some is) h))
 
 same_match : (i : Fields) (is : List Fields) (key : ℕ) (a : Aim) → length (i ∷ is) ≤ 6
     → key ≡ length is * 48 + number i.op → number i.op < 48
     → hit_by (is_for (windows_key key)) (λ p. is_matched p.meaning (i ∷ is)) a
     ≡ is_matched a.point.meaning (i ∷ is)
 same_match i is key a few e low =
-    turned (window_fits (key / 48 + 1) (key % 48) a.point.meaning) (is_matched a.point.meaning (i ∷ is))
-    (window_fit a.point.meaning i is (key / 48 + 1) (key % 48) (omega (arith, e, low)) (omega (arith, e, low)))
+    turned (window_fits (key / 48 + 1) (key % 48) a.point.meaning)
+    (is_matched a.point.meaning (i ∷ is))
+    (window_fit a.point.meaning i is (key / 48 + 1) (key % 48) (omega (arith, e, low))
+    (omega (arith, e, low)))
   where
     turned : (f r : Bool) → (r ≡ true → f ≡ true) → (f && r) ≡ r
     turned true r h = refl
     turned false true h = h refl
     turned false false h = refl
 
-pub added_window : (labels : List Label) (run : List Fields) (i d : Fields) (key : ℕ) (slots : List Slot) (cs cs' : List ℕ)
+pub added_window : (labels : List Label) (run : List Fields) (i d : Fields) (key : ℕ)
+    (slots : List Slot) (cs cs' : List ℕ)
     → 0 < length run → length run ≤ 6 → i ≡ get_or run 0 d
     → key ≡ (length run - 1) * 48 + number i.op → number i.op < 48
     → places slots ≡ places_for (is_for (windows_key key)) 0 (aims_in labels)
@@ -215,11 +234,13 @@ pub added_window : (labels : List Label) (run : List Fields) (i d : Fields) (key
     → cs' ≡ added (λ a. is_matched a.point.meaning run) (aims_in labels) cs
 added_window labels [] i d key slots cs cs' some few first at low p l e = absurd (omega arith)
 added_window labels (j ∷ is) i d key slots cs cs' some few first at low p l e =
-    let from : key ≡ length is * 48 + number j.op = omega (arith, at, ap (λ (i : Fields). number i.op) first) in
+    let from : key ≡ length is * 48 + number j.op =
+    omega (arith, at, ap (λ (i : Fields). number i.op) first) in
     let small : number j.op < 48 = omega (arith, low, ap (λ (i : Fields). number i.op) first) in
     e
     ∙ ap (λ ps. raised_all (λ p. is_matched p.meaning (j ∷ is)) ps cs) p
-    ∙ raised_from (is_for (windows_key key)) (λ p. is_matched p.meaning (j ∷ is)) (aims_in labels) [] cs 0 refl l
+    ∙ raised_from (is_for (windows_key key)) (λ p. is_matched p.meaning (j ∷ is)) (aims_in labels)
+    [] cs 0 refl l
     ∙ added_same _ _ (aims_in labels) cs (λ a. same_match j is key a few from small)
 
 pub none_added : (aims : List Aim) (hit : Aim → Bool) (cs : List ℕ) → length cs ≡ length aims
@@ -250,7 +271,8 @@ low_places passes at n (a ∷ aims) slots p e k d l =
           | false ↦ places_for passes (at + 1) aims
         ])
         → (k : ℕ) → k < length slots
-        → ((slots : List Slot) → places slots ≡ places_for passes (at + 1) aims → All (λ (s : Slot). s.at < n) slots)
+        → ((slots : List Slot) → places slots ≡ places_for passes (at + 1) aims
+        → All (λ (s : Slot). s.at < n) slots)
         → (get_or slots k d).at < n
     turn false slots p k l next = next slots p k d l
     turn true [] p k l next = absurd (omega arith)

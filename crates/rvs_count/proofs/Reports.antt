@@ -1,12 +1,15 @@
 -- Lines of points, of entries that aren't counted and of labels, one after another.
-use Rattle.std.proofs.Common.{◌≡◌, ℕ, zero, suc, ◌+◌, ◌<◌, Bool, true, false, cond, List, [], ◌∷◌, ◌++◌, length, map, take, drop, get_or, flat_map, refl, sym, ap, ◌∙◌, arith, append_assoc, append-nil, length-append}
+use Rattle.std.proofs.Common.{◌≡◌, ℕ, zero, suc, ◌+◌, ◌<◌, Bool, true, false, cond, List, [], ◌∷◌}
+use Rattle.std.proofs.Common.{◌++◌, length, map, take, drop, get_or, flat_map, refl, sym, ap, ◌∙◌}
+use Rattle.std.proofs.Common.{arith, append_assoc, append-nil, length-append}
 use Rattle.std.proofs.lemmas.List.{length-map}
 use Rattle.rvs_cgf.specs.GroupView.{label_view, point_view, skipped_view}
 use Rattle.rvs_cgf.specs.declared.group.Label.{Label}
 use Rattle.rvs_cgf.specs.declared.group.Point.{Point}
 use Rattle.rvs_cgf.specs.declared.group.Skipped.{Skipped}
 use Rattle.rvs_count.specs.Counting.{aims_in, aims_of_label, aims_of_points}
-use Rattle.rvs_count.specs.Report.{point_line, points_text, skipped_line, label_text, width, labels_text}
+use Rattle.rvs_count.specs.Report.{point_line, points_text, skipped_line, label_text, width}
+use Rattle.rvs_count.specs.Report.{labels_text}
 use Rattle.rvs_count.proofs.Built.{aims_more}
 
 drop-at : {A : Type 0} (xs : List A) (i : ℕ) (d : A) → i < length xs
@@ -23,12 +26,16 @@ drop-all (x ∷ xs) = drop-all xs
 
 pub points_more : (text counts : List ℕ) (ps : List Point) (i : ℕ) (d : Point) → i < length ps
     → length counts ≡ length ps
-    → (text ++ point_line (get_or counts i 0) (point_view (get_or ps i d))) ++ points_text (drop (i + 1) counts) (map point_view (drop (i + 1) ps))
+    → (text ++ point_line (get_or counts i 0) (point_view (get_or ps i d)))
+    ++ points_text (drop (i + 1) counts) (map point_view (drop (i + 1) ps))
     ≡ text ++ points_text (drop i counts) (map point_view (drop i ps))
 points_more text counts ps i d h l =
-    append_assoc text (point_line (get_or counts i 0) (point_view (get_or ps i d))) (points_text (drop (i + 1) counts) (map point_view (drop (i + 1) ps)))
+    append_assoc text (point_line (get_or counts i 0) (point_view (get_or ps i d)))
+    (points_text (drop (i + 1) counts) (map point_view (drop (i + 1) ps)))
     ∙ sym (ap (λ xs. text ++ points_text (drop i counts) (map point_view xs)) (drop-at ps i d h)
-    ∙ ap (λ cs. text ++ points_text cs (point_view (get_or ps i d) ∷ map point_view (drop (i + 1) ps))) (drop-at counts i 0 (omega arith)))
+    ∙ ap (λ cs. text
+    ++ points_text cs (point_view (get_or ps i d) ∷ map point_view (drop (i + 1) ps)))
+    (drop-at counts i 0 (omega arith)))
 
 pub points_all : (text counts : List ℕ) (ps : List Point) → length counts ≡ length ps
     → text ++ points_text (drop (length ps) counts) (map point_view (drop (length ps) ps)) ≡ text
@@ -38,10 +45,12 @@ points_all text counts ps l =
     ∙ append-nil text
 
 pub skipped_more : (text : List ℕ) (ss : List Skipped) (i : ℕ) (d : Skipped) → i < length ss
-    → (text ++ skipped_line (skipped_view (get_or ss i d))) ++ flat_map skipped_line (map skipped_view (drop (i + 1) ss))
+    → (text ++ skipped_line (skipped_view (get_or ss i d)))
+    ++ flat_map skipped_line (map skipped_view (drop (i + 1) ss))
     ≡ text ++ flat_map skipped_line (map skipped_view (drop i ss))
 skipped_more text ss i d h =
-    append_assoc text (skipped_line (skipped_view (get_or ss i d))) (flat_map skipped_line (map skipped_view (drop (i + 1) ss)))
+    append_assoc text (skipped_line (skipped_view (get_or ss i d)))
+    (flat_map skipped_line (map skipped_view (drop (i + 1) ss)))
     ∙ sym (ap (λ xs. text ++ flat_map skipped_line (map skipped_view xs)) (drop-at ss i d h))
 
 pub skipped_all : (text : List ℕ) (ss : List Skipped)
@@ -61,12 +70,15 @@ width_is label = turn label.selected refl
     turn false e = refl
 
 pub labels_more : (text rest : List ℕ) (ls : List Label) (i : ℕ) (d : Label) → i < length ls
-    → (text ++ label_text (take (width (label_view (get_or ls i d))) rest) (label_view (get_or ls i d)))
-    ++ labels_text (drop (width (label_view (get_or ls i d))) rest) (map label_view (drop (i + 1) ls))
+    → (text
+    ++ label_text (take (width (label_view (get_or ls i d))) rest) (label_view (get_or ls i d)))
+    ++ labels_text (drop (width (label_view (get_or ls i d))) rest)
+    (map label_view (drop (i + 1) ls))
     ≡ text ++ labels_text rest (map label_view (drop i ls))
 labels_more text rest ls i d h =
     let l = label_view (get_or ls i d) in
-    append_assoc text (label_text (take (width l) rest) l) (labels_text (drop (width l) rest) (map label_view (drop (i + 1) ls)))
+    append_assoc text (label_text (take (width l) rest) l)
+    (labels_text (drop (width l) rest) (map label_view (drop (i + 1) ls)))
     ∙ sym (ap (λ xs. text ++ labels_text rest (map label_view xs)) (drop-at ls i d h))
 
 pub widths_more : (ls : List Label) (i : ℕ) (d : Label) → i < length ls

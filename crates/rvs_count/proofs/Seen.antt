@@ -1,5 +1,7 @@
 -- An instruction that hits a point looks at the point's list, and at no list twice.
-use Rattle.std.proofs.Common.{◌≡◌, ℕ, ℤ, pos, negsuc, ◌+◌, ◌<◌, ◌≤◌, ◌⊎◌, inl, inr, Bool, true, false, cond, List, [], ◌∷◌, Option, Some, None, refl, sym, ap, ◌∙◌, arith}
+use Rattle.std.proofs.Common.{◌≡◌, ℕ, ℤ, pos, negsuc, ◌+◌, ◌<◌, ◌≤◌, ◌⊎◌, inl, inr, Bool, true}
+use Rattle.std.proofs.Common.{false, cond, List, [], ◌∷◌, Option, Some, None, refl, sym, ap, ◌∙◌}
+use Rattle.std.proofs.Common.{arith}
 use Rattle.std.proofs.lemmas.Bool.Decides.{nat_tests, Decides-int_eq}
 use Rattle.std.specs.Prelude.{◌==◌, option_map}
 use Rattle.rvs_cgf.specs.Groups.{Point, Meaning, op_is, reg_is, regs, nums, window}
@@ -15,7 +17,8 @@ use Rattle.rvs_expr_text.specs.declared.lexeme.NumName.{NumName}
 use Rattle.rvs_expr_text.specs.declared.lexeme.NumName.TheVariants.{Rs1Val, Rs2Val, ImmVal, EaAlign}
 use Rattle.rvs_expr_text.specs.declared.lexeme.RegName.TheVariants as register
 use Rattle.rvs_insn.specs.declared.op.Op.{Op}
-use Rattle.rvs_count.specs.Buckets.{residue, register_bucket, name_bucket, number_bucket, equation_bucket, meaning_bucket, bucket_of, visited}
+use Rattle.rvs_count.specs.Buckets.{residue, register_bucket, name_bucket, number_bucket}
+use Rattle.rvs_count.specs.Buckets.{equation_bucket, meaning_bucket, bucket_of, visited}
 
 pub residue_low : (z : ℤ) → residue z < 67
 residue_low (pos n) = omega arith
@@ -139,7 +142,8 @@ rs2_once t n e =
 
 -- the four before the names
 no_register : (t : Table) (b : ℕ) → 97 ≤ b
-    → bit (sees b (Some 0)) + (bit (sees b (option_map (register_bucket kind.Rd) (t.reg register.Rd)))
+    → bit (sees b (Some 0))
+    + (bit (sees b (option_map (register_bucket kind.Rd) (t.reg register.Rd)))
     + (bit (sees b (option_map (register_bucket kind.Rs1) (t.reg register.Rs1)))
     + bit (sees b (option_map (register_bucket kind.Rs2) (t.reg register.Rs2))))) ≡ 0
 no_register t b h =

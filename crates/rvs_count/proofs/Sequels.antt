@@ -1,8 +1,12 @@
 -- A window of instructions that ends with the newest is seen in what a counter keeps of them.
-use Rattle.std.proofs.Common.{◌≡◌, ◌≢◌, ℕ, zero, suc, ◌+◌, ◌-◌, ◌<◌, ◌≤◌, ◌⊎◌, inl, inr, Bool, false, cond, List, [], ◌∷◌, ◌++◌, Option, Some, None, refl, sym, ap, ◌∙◌, length, take, drop, arith, append_assoc, append-nil, length-append}
+use Rattle.std.proofs.Common.{◌≡◌, ◌≢◌, ℕ, zero, suc, ◌+◌, ◌-◌, ◌<◌, ◌≤◌, ◌⊎◌, inl, inr, Bool}
+use Rattle.std.proofs.Common.{false, cond, List, [], ◌∷◌, ◌++◌, Option, Some, None, refl, sym, ap}
+use Rattle.std.proofs.Common.{◌∙◌, length, take, drop, arith, append_assoc, append-nil}
+use Rattle.std.proofs.Common.{length-append}
 use Rattle.std.proofs.Math.Seq.{drop-append-add}
 use Rattle.std.proofs.lemmas.Bool.{cases_lt}
-use Rattle.std.proofs.lemmas.List.{drop-append-le, drop-map, length-drop, length-map, map-append, take-append-drop, take-append-le, length_push}
+use Rattle.std.proofs.lemmas.List.{drop-append-le, drop-map, length-drop, length-map, map-append}
+use Rattle.std.proofs.lemmas.List.{take-append-drop, take-append-le, length_push}
 use Rattle.std.proofs.lemmas.List.Sums.{fold-append, sum_by-cons}
 use Rattle.std.specs.Prelude.{count_by, fold, map}
 use Rattle.rvs_count.specs.Runs.{last, suffixes, run_of, run_with}
@@ -16,9 +20,11 @@ pub last_all : {X : Type 0} (n : ℕ) (xs : List X) → length xs ≤ n → last
 last_all n xs h =
     let e : length xs - n ≡ 0 = omega arith in ap (λ k. drop k xs) e ∙ drop_zero xs
 
-pub last_back : {X : Type 0} (n : ℕ) (xs ys : List X) → n ≤ length ys → last n (xs ++ ys) ≡ last n ys
+pub last_back : {X : Type 0} (n : ℕ) (xs ys : List X) → n ≤ length ys
+    → last n (xs ++ ys) ≡ last n ys
 last_back n xs ys h =
-    let e : length (xs ++ ys) - n ≡ length xs + (length ys - n) = omega (arith, length-append xs ys) in
+    let e : length (xs ++ ys) - n ≡ length xs + (length ys - n) =
+    omega (arith, length-append xs ys) in
     ap (λ k. drop k (xs ++ ys)) e ∙ drop-append-add xs ys (length ys - n)
 
 last_front : {X : Type 0} (n k : ℕ) (xs ys : List X) → n ≡ k + length ys
@@ -79,7 +85,8 @@ Pushes n passes xs x =
     ≡ windows n passes xs + cond (passes (last n (xs ++ x ∷ []))) 1 0
 
 -- the window that begins here ended before, or it ends with the newest
-push_more : {X : Type 0} (n : ℕ) (passes : List X → Bool) → Fits n passes → (y : X) (ys : List X) (x : X)
+push_more : {X : Type 0} (n : ℕ) (passes : List X → Bool) → Fits n passes
+    → (y : X) (ys : List X) (x : X)
     → Pushes n passes ys x → Pushes n passes (y ∷ ys) x
 push_more {X = X} n passes fits y ys x ih = cases (cases_lt (length ys + 1) n)
   where
@@ -188,7 +195,8 @@ sees_all n passes few fits decoded front run [] sees ys =
     ap (λ l. passes (last n (l ++ ys))) (append-nil front) ∙ sees ys
 sees_all n passes few fits decoded front run (x ∷ xs) sees ys =
     ap (λ l. passes (last n (l ++ ys))) (sym (append_assoc front (x ∷ []) xs))
-    ∙ sees_all n passes few fits decoded (front ++ x ∷ []) (run_with run x) xs (sees_more n passes few fits decoded front run x sees) ys
+    ∙ sees_all n passes few fits decoded (front ++ x ∷ []) (run_with run x) xs
+    (sees_more n passes few fits decoded front run x sees) ys
 
 -- a window that ends with the newest is seen in the run
 pub run_sees : {X : Type 0} (n : ℕ) (passes : List (Option X) → Bool) → n ≤ 6

@@ -1,14 +1,19 @@
 -- The state of a log that comes in pieces.
-use Rattle.std.proofs.Common.{◌≡◌, ℕ, zero, suc, ◌+◌, ◌≤◌, Bool, true, false, cond, List, [], ◌∷◌, ◌++◌, Option, Some, None, refl, sym, ap, ◌∙◌, length, take, drop, arith, append_assoc, append-nil, length-append}
+use Rattle.std.proofs.Common.{◌≡◌, ℕ, zero, suc, ◌+◌, ◌≤◌, Bool, true, false, cond, List, [], ◌∷◌}
+use Rattle.std.proofs.Common.{◌++◌, Option, Some, None, refl, sym, ap, ◌∙◌, length, take, drop}
+use Rattle.std.proofs.Common.{arith, append_assoc, append-nil, length-append}
 use Rattle.std.proofs.Math.Seq.{take-length}
 use Rattle.std.proofs.lemmas.Bool.Decides.{nat_tests}
 use Rattle.std.proofs.lemmas.List.{map-append, length_push}
 use Rattle.std.proofs.lemmas.List.Elements.{filter-append}
 use Rattle.std.specs.Prelude.{◌==◌, nat_le, map}
-use Rattle.rvs_log.specs.Grammar.{Reading, Says, Writes, Nothing, reading_of, after_core, after_brackets, write_line}
+use Rattle.rvs_log.specs.Grammar.{Reading, Says, Writes, Nothing, reading_of, after_core}
+use Rattle.rvs_log.specs.Grammar.{after_brackets, write_line}
 use Rattle.rvs_log.specs.Cutting.{held_after, last_of, lines_after, lines_held}
-use Rattle.rvs_log.specs.Lines.{whole_from, tail_from, whole_lines, tail_of, line_says, without_return, held, held_more, held_says}
-use Rattle.rvs_log.specs.Entries.{Entry, Heard, unheard, hear, heard, entry_at, entry_in, entries_in}
+use Rattle.rvs_log.specs.Lines.{whole_from, tail_from, whole_lines, tail_of, line_says}
+use Rattle.rvs_log.specs.Lines.{without_return, held, held_more, held_says}
+use Rattle.rvs_log.specs.Entries.{Entry, Heard, unheard, hear, heard, entry_at, entry_in}
+use Rattle.rvs_log.specs.Entries.{entries_in}
 use Rattle.rvs_cgf.specs.declared.group.Label.{Label}
 use Rattle.rvs_insn.specs.Fields.{Fields}
 use Rattle.rvs_count.specs.Counting.{aims_in, count, decoded, is_in, kept}
@@ -17,7 +22,9 @@ use Rattle.rvs_count.specs.declared.window.Window.{Window}
 use Rattle.rvs_count.specs.Bounds.{waiting_len}
 use Rattle.rvs_count.proofs.Counts.{counts_snoc, run_more}
 use Rattle.rvs_count.proofs.Crossing.{aims_sized}
-use Rattle.rvs_count.specs.State.{CountState, Tallied, tally_from, tally_of, state_with, state_at, state_of, with_entry, with_reading, with_end, with_bytes, with_all}
+use Rattle.rvs_count.specs.State.{CountState, Tallied, tally_from, tally_of, state_with, state_at}
+use Rattle.rvs_count.specs.State.{state_of, with_entry, with_reading, with_end, with_bytes}
+use Rattle.rvs_count.specs.State.{with_all}
 
 -- ---- lines
 abbrev pub ended_if : Bool → List ℕ → List (List ℕ)
@@ -44,9 +51,18 @@ whole_snoc front (b ∷ bs) c =
         → whole_from [] (bs ++ c ∷ []) ≡ whole_from [] bs ++ ended_if (c == 10) (tail_from [] bs)
         → whole_from (front ++ b ∷ []) (bs ++ c ∷ [])
         ≡ whole_from (front ++ b ∷ []) bs ++ ended_if (c == 10) (tail_from (front ++ b ∷ []) bs)
-        → (elim t as (λ _. List (List ℕ)) [ true ↦ front ∷ whole_from [] (bs ++ c ∷ []) | false ↦ whole_from (front ++ b ∷ []) (bs ++ c ∷ []) ])
-        ≡ (elim t as (λ _. List (List ℕ)) [ true ↦ front ∷ whole_from [] bs | false ↦ whole_from (front ++ b ∷ []) bs ])
-        ++ ended_if (c == 10) (elim t as (λ _. List ℕ) [ true ↦ tail_from [] bs | false ↦ tail_from (front ++ b ∷ []) bs ])
+        → (elim t as (λ _. List (List ℕ)) [
+          | true ↦ front ∷ whole_from [] (bs ++ c ∷ [])
+          | false ↦ whole_from (front ++ b ∷ []) (bs ++ c ∷ [])
+        ])
+        ≡ (elim t as (λ _. List (List ℕ)) [
+          | true ↦ front ∷ whole_from [] bs
+          | false ↦ whole_from (front ++ b ∷ []) bs
+        ])
+        ++ ended_if (c == 10) (elim t as (λ _. List ℕ) [
+          | true ↦ tail_from [] bs
+          | false ↦ tail_from (front ++ b ∷ []) bs
+        ])
     turn true p q = ap (λ l. front ∷ l) p
     turn false p q = q
 
@@ -63,15 +79,22 @@ tail_snoc front (b ∷ bs) c = turn (b == 10) (tail_snoc [] bs c) (tail_snoc (fr
     turn : (t : Bool) → tail_from [] (bs ++ c ∷ []) ≡ tail_if (c == 10) (tail_from [] bs) c
         → tail_from (front ++ b ∷ []) (bs ++ c ∷ [])
         ≡ tail_if (c == 10) (tail_from (front ++ b ∷ []) bs) c
-        → (elim t as (λ _. List ℕ) [ true ↦ tail_from [] (bs ++ c ∷ []) | false ↦ tail_from (front ++ b ∷ []) (bs ++ c ∷ []) ])
-        ≡ tail_if (c == 10) (elim t as (λ _. List ℕ) [ true ↦ tail_from [] bs | false ↦ tail_from (front ++ b ∷ []) bs ]) c
+        → (elim t as (λ _. List ℕ) [
+          | true ↦ tail_from [] (bs ++ c ∷ [])
+          | false ↦ tail_from (front ++ b ∷ []) (bs ++ c ∷ [])
+        ])
+        ≡ tail_if (c == 10) (elim t as (λ _. List ℕ) [
+          | true ↦ tail_from [] bs
+          | false ↦ tail_from (front ++ b ∷ []) bs
+        ]) c
     turn true p q = p
     turn false p q = q
 
 -- ---- bytes that wait
 held_long : (t more : List ℕ) → nat_le (length t) 4096 ≡ false → None ≡ held (t ++ more)
 held_long t more h =
-    sym (ap (λ b. cond b (Some (t ++ more)) None) (longer (length t) (length more) (length (t ++ more)) h (lengths t more)))
+    sym (ap (λ b. cond b (Some (t ++ more)) None)
+    (longer (length t) (length more) (length (t ++ more)) h (lengths t more)))
   where
     lengths : (t more : List ℕ) → length (t ++ more) ≡ length t + length more
     lengths [] more = omega arith
@@ -129,7 +152,8 @@ entries_snoc : (h : Heard) (rs : List Reading) (r : Reading)
     → entries_in h (rs ++ r ∷ []) ≡ entries_in h rs ++ entry_in (heard h rs) r
 entries_snoc h [] r = append-nil (entry_in h r)
 entries_snoc h (q ∷ rs) r = ap (λ l. entry_in h q ++ l) (entries_snoc (hear h q) rs r)
-    ∙ sym (append_assoc (entry_in h q) (entries_in (hear h q) rs) (entry_in (heard (hear h q) rs) r))
+    ∙ sym
+    (append_assoc (entry_in h q) (entries_in (hear h q) rs) (entry_in (heard (hear h q) rs) r))
 
 heard_snoc : (h : Heard) (rs : List Reading) (r : Reading)
     → heard h (rs ++ r ∷ []) ≡ hear (heard h rs) r
@@ -147,19 +171,24 @@ tally_with labels windows h counts instructions run = record {
   heard = h;
 }
 
-entry_step : (labels : List Label) (windows : List Window) (es : List Entry) (h h' : Heard) (e : Entry) (b : Bool)
+entry_step : (labels : List Label) (windows : List Window) (es : List Entry) (h h' : Heard)
+    (e : Entry) (b : Bool)
     → record (with_entry (tally_from labels windows es h) b e) { heard = h' }
     ≡ tally_from labels windows (es ++ cond b (e ∷ []) []) h'
 entry_step labels windows es h h' e true =
     let all = es ++ e ∷ [] in
     let run = run_with (run_of (map decoded es)) (decoded e) in
-    ap (λ cs. tally_with labels windows h' cs (length es + 1) run) (counts_snoc (aims_in labels) (aims_sized labels) es e)
-    ∙ ap (λ n. tally_with labels windows h' (map (count all) (aims_in labels)) n run) (sym (length_push es e))
-    ∙ ap (λ r. tally_with labels windows h' (map (count all) (aims_in labels)) (length all) r) (run_more es e)
+    ap (λ cs. tally_with labels windows h' cs (length es + 1) run)
+    (counts_snoc (aims_in labels) (aims_sized labels) es e)
+    ∙ ap (λ n. tally_with labels windows h' (map (count all) (aims_in labels)) n run)
+    (sym (length_push es e))
+    ∙ ap (λ r. tally_with labels windows h' (map (count all) (aims_in labels)) (length all) r)
+    (run_more es e)
 entry_step labels windows es h h' e false =
     ap (λ l. tally_from labels windows l h') (sym (append-nil es))
 
-reading_step : (labels : List Label) (windows : List Window) (es : List Entry) (h : Heard) (r : Reading)
+reading_step : (labels : List Label) (windows : List Window) (es : List Entry) (h : Heard)
+    (r : Reading)
     → with_reading (tally_from labels windows (kept windows es) h) r
     ≡ tally_from labels windows (kept windows (es ++ entry_in h r)) (hear h r)
 reading_step labels windows es h Nothing =
@@ -167,15 +196,19 @@ reading_step labels windows es h Nothing =
 reading_step labels windows es h (Writes w) =
     ap (λ l. tally_from labels windows (kept windows l) (hear h (Writes w))) (sym (append-nil es))
 reading_step labels windows es h (Says pc word w) =
-    entry_step labels windows (kept windows es) h (hear h (Says pc word w)) (entry_at h.words pc word) (is_in windows pc)
-    ∙ ap (λ l. tally_from labels windows l (hear h (Says pc word w))) (sym (filter-append (λ (e : Entry). is_in windows e.pc) es (entry_at h.words pc word ∷ [])))
+    entry_step labels windows (kept windows es) h (hear h (Says pc word w))
+    (entry_at h.words pc word) (is_in windows pc)
+    ∙ ap (λ l. tally_from labels windows l (hear h (Says pc word w)))
+    (sym (filter-append (λ (e : Entry). is_in windows e.pc) es (entry_at h.words pc word ∷ [])))
 
 tally_snoc : (labels : List Label) (windows : List Window) (rs : List Reading) (r : Reading)
     → with_reading (tally_of labels windows rs) r ≡ tally_of labels windows (rs ++ r ∷ [])
 tally_snoc labels windows rs r =
     reading_step labels windows (entries_in unheard rs) (heard unheard rs) r
-    ∙ ap (λ l. tally_from labels windows (kept windows l) (hear (heard unheard rs) r)) (sym (entries_snoc unheard rs r))
-    ∙ ap (λ h. tally_from labels windows (kept windows (entries_in unheard (rs ++ r ∷ []))) h) (sym (heard_snoc unheard rs r))
+    ∙ ap (λ l. tally_from labels windows (kept windows l) (hear (heard unheard rs) r))
+    (sym (entries_snoc unheard rs r))
+    ∙ ap (λ h. tally_from labels windows (kept windows (entries_in unheard (rs ++ r ∷ []))) h)
+    (sym (heard_snoc unheard rs r))
 
 -- a line adds at most one instruction
 pub reading_adds : (t : Tallied) (r : Reading)
@@ -190,19 +223,25 @@ reading_adds t (Says pc word w) = turn (is_in t.windows pc)
     turn false = omega arith
 
 -- ---- states
-end_at : (labels : List Label) (windows : List Window) (lines : List (List ℕ)) (tail : List ℕ) (n : ℕ)
+end_at : (labels : List Label) (windows : List Window) (lines : List (List ℕ)) (tail : List ℕ)
+    (n : ℕ)
     → with_end (state_at labels windows lines tail n)
     ≡ state_at labels windows (lines ++ tail ∷ []) [] n
 end_at labels windows lines tail n =
-    ap (λ r. state_with (with_reading (tally_of labels windows (map line_says lines)) r) (Some []) n) (held_reads tail)
-    ∙ ap (λ t. state_with t (Some []) n) (tally_snoc labels windows (map line_says lines) (line_says tail))
-    ∙ ap (λ rs. state_with (tally_of labels windows rs) (Some []) n) (sym (map-append line_says lines (tail ∷ [])))
+    ap (λ r. state_with (with_reading (tally_of labels windows (map line_says lines)) r) (Some [])
+    n) (held_reads tail)
+    ∙ ap (λ t. state_with t (Some []) n)
+    (tally_snoc labels windows (map line_says lines) (line_says tail))
+    ∙ ap (λ rs. state_with (tally_of labels windows rs) (Some []) n)
+    (sym (map-append line_says lines (tail ∷ [])))
 
-bytes_at : (labels : List Label) (windows : List Window) (lines : List (List ℕ)) (tail : List ℕ) (n c : ℕ)
+bytes_at : (labels : List Label) (windows : List Window) (lines : List (List ℕ)) (tail : List ℕ)
+    (n c : ℕ)
     → with_bytes (state_at labels windows lines tail n) (c ∷ [])
     ≡ state_at labels windows lines (tail ++ c ∷ []) n
 bytes_at labels windows lines tail n c =
-    ap (λ w. state_with (tally_of labels windows (map line_says lines)) w n) (held_more_held tail (c ∷ []))
+    ap (λ w. state_with (tally_of labels windows (map line_says lines)) w n)
+    (held_more_held tail (c ∷ []))
 
 abbrev step_if : Bool → CountState → ℕ → CountState
 step_if true s c = with_end s
@@ -213,15 +252,18 @@ state_snoc : (labels : List Label) (windows : List Window) (b : List ℕ) (n c :
 unfolding state_of
 state_snoc labels windows b n c =
     turn (c == 10)
-    ∙ ap (λ l. state_at labels windows l (tail_if (c == 10) (tail_of b) c) n) (sym (whole_snoc [] b c))
+    ∙ ap (λ l. state_at labels windows l (tail_if (c == 10) (tail_of b) c) n)
+    (sym (whole_snoc [] b c))
     ∙ ap (λ t. state_at labels windows (whole_lines (b ++ c ∷ [])) t n) (sym (tail_snoc [] b c))
   where
     turn : (t : Bool)
         → step_if t (state_at labels windows (whole_lines b) (tail_of b) n) c
-        ≡ state_at labels windows (whole_lines b ++ ended_if t (tail_of b)) (tail_if t (tail_of b) c) n
+        ≡ state_at labels windows (whole_lines b ++ ended_if t (tail_of b))
+        (tail_if t (tail_of b) c) n
     turn true = end_at labels windows (whole_lines b) (tail_of b) n
     turn false = bytes_at labels windows (whole_lines b) (tail_of b) n c
-        ∙ ap (λ l. state_at labels windows l (tail_of b ++ c ∷ []) n) (sym (append-nil (whole_lines b)))
+        ∙ ap (λ l. state_at labels windows l (tail_of b ++ c ∷ []) n)
+        (sym (append-nil (whole_lines b)))
 
 -- the state of more bytes, whatever came before
 pub state_all : (labels : List Label) (windows : List Window) (b p : List ℕ) (n : ℕ)
@@ -234,12 +276,16 @@ state_all labels windows b (c ∷ cs) n =
     ∙ ap (λ l. state_of labels windows l n) (append_assoc b (c ∷ []) cs)
   where
     turn : (t : Bool) (s : CountState)
-        → (elim t as (λ _. CountState) [ true ↦ with_all (with_end s) cs | false ↦ with_all (with_bytes s (c ∷ [])) cs ])
+        → (elim t as (λ _. CountState) [
+          | true ↦ with_all (with_end s) cs
+          | false ↦ with_all (with_bytes s (c ∷ [])) cs
+        ])
         ≡ with_all (step_if t s c) cs
     turn true s = refl
     turn false s = refl
 
-pub state_fed : (labels : List Label) (windows : List Window) (b p : List ℕ) (n : ℕ) (s : CountState) (t : Tallied) (w : Option (List ℕ))
+pub state_fed : (labels : List Label) (windows : List Window) (b p : List ℕ) (n : ℕ)
+    (s : CountState) (t : Tallied) (w : Option (List ℕ))
     → s ≡ state_of labels windows b n → with_all s p ≡ state_with t w s.fed
     → state_with t w (s.fed + length p) ≡ state_of labels windows (b ++ p) (n + length p)
 unfolding state_of
@@ -248,7 +294,8 @@ state_fed labels windows b p n s t w e h =
     ∙ ap (λ s. with_all s p) e ∙ state_all labels windows b p n in
     let fed : s.fed ≡ n = ap (λ (s : CountState). s.fed) e in
     ap (λ (s' : CountState). state_with s'.tally s'.waiting (s.fed + length p)) all
-    ∙ ap (λ m. state_with (tally_of labels windows (map line_says (whole_lines (b ++ p)))) (held (tail_of (b ++ p))) (m + length p)) fed
+    ∙ ap (λ m. state_with (tally_of labels windows (map line_says (whole_lines (b ++ p))))
+    (held (tail_of (b ++ p))) (m + length p)) fed
 
 -- ---- how the code goes over bytes
 abbrev with_lines : Tallied → List (List ℕ) → Tallied
@@ -267,17 +314,30 @@ all_lines : (t : Tallied) (w : Option (List ℕ)) (fed : ℕ) (p : List ℕ)
 all_lines t w fed [] = refl
 all_lines t w fed (b ∷ bs) =
     turn (b == 10)
-    (all_lines (with_reading t (held_says w)) (Some []) fed bs ∙ ap (λ t. state_with t (held_after (Some []) bs) fed) (sym (lines_held_more t w (lines_after (Some []) bs))))
+    (all_lines (with_reading t (held_says w)) (Some []) fed bs ∙ ap
+    (λ t. state_with t (held_after (Some []) bs) fed)
+    (sym (lines_held_more t w (lines_after (Some []) bs))))
     (all_lines t (held_more w (b ∷ [])) fed bs)
   where
     turn : (c : Bool)
         → with_all (with_end (state_with t w fed)) bs
-        ≡ state_with (with_lines t (lines_held w ++ lines_after (Some []) bs)) (held_after (Some []) bs) fed
+        ≡ state_with (with_lines t (lines_held w ++ lines_after (Some []) bs))
+        (held_after (Some []) bs) fed
         → with_all (with_bytes (state_with t w fed) (b ∷ [])) bs
-        ≡ state_with (with_lines t (lines_after (held_more w (b ∷ [])) bs)) (held_after (held_more w (b ∷ [])) bs) fed
-        → (elim c as (λ _. CountState) [ true ↦ with_all (with_end (state_with t w fed)) bs | false ↦ with_all (with_bytes (state_with t w fed) (b ∷ [])) bs ])
-        ≡ state_with (with_lines t (elim c as (λ _. List (List ℕ)) [ true ↦ lines_held w ++ lines_after (Some []) bs | false ↦ lines_after (held_more w (b ∷ [])) bs ]))
-        (elim c as (λ _. Option (List ℕ)) [ true ↦ held_after (Some []) bs | false ↦ held_after (held_more w (b ∷ [])) bs ]) fed
+        ≡ state_with (with_lines t (lines_after (held_more w (b ∷ [])) bs))
+        (held_after (held_more w (b ∷ [])) bs) fed
+        → (elim c as (λ _. CountState) [
+          | true ↦ with_all (with_end (state_with t w fed)) bs
+          | false ↦ with_all (with_bytes (state_with t w fed) (b ∷ [])) bs
+        ])
+        ≡ state_with (with_lines t (elim c as (λ _. List (List ℕ)) [
+          | true ↦ lines_held w ++ lines_after (Some []) bs
+          | false ↦ lines_after (held_more w (b ∷ [])) bs
+        ]))
+        (elim c as (λ _. Option (List ℕ)) [
+          | true ↦ held_after (Some []) bs
+          | false ↦ held_after (held_more w (b ∷ [])) bs
+        ]) fed
     turn true p q = p
     turn false p q = q
 
@@ -289,8 +349,14 @@ all_join s (x ∷ a) b =
     turn : (c : Bool) → with_all (with_end s) (a ++ b) ≡ with_all (with_all (with_end s) a) b
         → with_all (with_bytes s (x ∷ [])) (a ++ b)
         ≡ with_all (with_all (with_bytes s (x ∷ [])) a) b
-        → (elim c as (λ _. CountState) [ true ↦ with_all (with_end s) (a ++ b) | false ↦ with_all (with_bytes s (x ∷ [])) (a ++ b) ])
-        ≡ with_all (elim c as (λ _. CountState) [ true ↦ with_all (with_end s) a | false ↦ with_all (with_bytes s (x ∷ [])) a ]) b
+        → (elim c as (λ _. CountState) [
+          | true ↦ with_all (with_end s) (a ++ b)
+          | false ↦ with_all (with_bytes s (x ∷ [])) (a ++ b)
+        ])
+        ≡ with_all (elim c as (λ _. CountState) [
+          | true ↦ with_all (with_end s) a
+          | false ↦ with_all (with_bytes s (x ∷ [])) a
+        ]) b
     turn true p q = p
     turn false p q = q
 
@@ -310,8 +376,10 @@ all_line t w w' rest line used l h fed =
     ap (λ p. with_all (state_with t w fed) p) (sym (cut_at used rest))
     ∙ all_join (state_with t w fed) (take used rest) (drop used rest)
     ∙ ap (λ s. with_all s (drop used rest)) (all_lines t w fed (take used rest))
-    ∙ ap (λ ls. with_all (state_with (with_lines t ls) (held_after w (take used rest)) fed) (drop used rest)) l
-    ∙ ap (λ v. with_all (state_with (with_reading t (reading_of line)) v fed) (drop used rest)) (sym h)
+    ∙ ap (λ ls. with_all (state_with (with_lines t ls) (held_after w (take used rest)) fed)
+    (drop used rest)) l
+    ∙ ap (λ v. with_all (state_with (with_reading t (reading_of line)) v fed) (drop used rest))
+    (sym h)
 
 -- no line more
 pub all_rest : (t : Tallied) (w w' : Option (List ℕ)) (rest : List ℕ) (used : ℕ)
@@ -335,10 +403,19 @@ lines_shrink w (b ∷ bs) =
     turn (b == 10) (lines_shrink (Some []) bs) (lines_shrink (held_more w (b ∷ [])) bs)
   where
     turn : (c : Bool)
-        → waiting_len (held_after (Some []) bs) + length (lines_after (Some []) bs) ≤ waiting_len (Some []) + length bs
-        → waiting_len (held_after (held_more w (b ∷ [])) bs) + length (lines_after (held_more w (b ∷ [])) bs) ≤ waiting_len (held_more w (b ∷ [])) + length bs
-        → waiting_len (elim c as (λ _. Option (List ℕ)) [ true ↦ held_after (Some []) bs | false ↦ held_after (held_more w (b ∷ [])) bs ])
-        + length (elim c as (λ _. List (List ℕ)) [ true ↦ lines_held w ++ lines_after (Some []) bs | false ↦ lines_after (held_more w (b ∷ [])) bs ]) ≤ waiting_len w + length (b ∷ bs)
+        → waiting_len (held_after (Some []) bs) + length (lines_after (Some []) bs)
+        ≤ waiting_len (Some []) + length bs
+        → waiting_len (held_after (held_more w (b ∷ [])) bs)
+        + length (lines_after (held_more w (b ∷ [])) bs) ≤ waiting_len (held_more w (b ∷ []))
+        + length bs
+        → waiting_len (elim c as (λ _. Option (List ℕ)) [
+          | true ↦ held_after (Some []) bs
+          | false ↦ held_after (held_more w (b ∷ [])) bs
+        ])
+        + length (elim c as (λ _. List (List ℕ)) [
+          | true ↦ lines_held w ++ lines_after (Some []) bs
+          | false ↦ lines_after (held_more w (b ∷ [])) bs
+        ]) ≤ waiting_len w + length (b ∷ bs)
     turn true p q =
         omega (arith, p, lines_few w, length-append (lines_held w) (lines_after (Some []) bs))
     turn false p q = omega (arith, q, waiting_grows w (b ∷ []))

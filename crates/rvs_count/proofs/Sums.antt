@@ -1,5 +1,7 @@
 -- What all the lists that are looked at add together.
-use Rattle.std.proofs.Common.{◌≡◌, ℕ, zero, suc, ◌+◌, ◌<◌, ◌≤◌, Bool, true, false, ◌&&◌, List, [], ◌∷◌, Option, Some, None, refl, sym, ap, ◌∙◌, length, drop, get_or, arith}
+use Rattle.std.proofs.Common.{◌≡◌, ℕ, zero, suc, ◌+◌, ◌<◌, ◌≤◌, Bool, true, false, ◌&&◌, List, []}
+use Rattle.std.proofs.Common.{◌∷◌, Option, Some, None, refl, sym, ap, ◌∙◌, length, drop, get_or}
+use Rattle.std.proofs.Common.{arith}
 use Rattle.std.specs.Prelude.{◌==◌}
 use Rattle.rvs_cgf.specs.Groups.{Point}
 use Rattle.rvs_cgf.specs.Hits.{has_op, holds}
@@ -96,7 +98,8 @@ total_one i v1 v2 a = turn (hits_insn a (Some i) v1 v2) refl
         → total (λ a. hits_insn a (Some i) v1 v2) (visited (facts_of i v1 v2)) a ≡ bit b
     turn true h =
         total_hit (λ a. hits_insn a (Some i) v1 v2) (visited (facts_of i v1 v2)) a h
-        ∙ seen_once a.point i.op (facts_of i v1 v2) (both (has_op a.ops i.op) (holds a.point i.op (facts_of i v1 v2)) h)
+        ∙ seen_once a.point i.op (facts_of i v1 v2)
+        (both (has_op a.ops i.op) (holds a.point i.op (facts_of i v1 v2)) h)
     turn false h = total_missed (λ a. hits_insn a (Some i) v1 v2) (visited (facts_of i v1 v2)) a h
 
 -- all lists together add what the instruction hits
@@ -105,7 +108,8 @@ pub all_added : (i : Fields) (v1 v2 : ℕ) (aims : List Aim) (cs : List ℕ)
     ≡ added (λ a. hits_insn a (Some i) v1 v2) aims cs
 all_added i v1 v2 aims cs =
     all_total (λ a. hits_insn a (Some i) v1 v2) (visited (facts_of i v1 v2)) aims cs
-    ∙ plus_is (total (λ a. hits_insn a (Some i) v1 v2) (visited (facts_of i v1 v2))) (λ a. hits_insn a (Some i) v1 v2) aims cs (total_one i v1 v2)
+    ∙ plus_is (total (λ a. hits_insn a (Some i) v1 v2) (visited (facts_of i v1 v2)))
+    (λ a. hits_insn a (Some i) v1 v2) aims cs (total_one i v1 v2)
 
 drop-at : (os : List (Option ℕ)) (k : ℕ) (d : Option ℕ) → k < length os
     → drop k os ≡ get_or os k d ∷ drop (k + 1) os
@@ -122,7 +126,8 @@ drop-all (o ∷ os) zero h = absurd (omega arith)
 drop-all (o ∷ os) (suc k) h = drop-all os k (omega arith)
 
 -- one list more
-pub all_more : (hit : Aim → Bool) (os : List (Option ℕ)) (aims : List Aim) (cs cs' : List ℕ) (k : ℕ) (d : Option ℕ)
+pub all_more : (hit : Aim → Bool) (os : List (Option ℕ)) (aims : List Aim) (cs cs' : List ℕ) (k : ℕ)
+    (d : Option ℕ)
     → k < length os
     → cs' ≡ added (λ a. is_seen (get_or os k d) a.point && hit a) aims cs
     → added_all hit (drop (k + 1) os) aims cs' ≡ added_all hit (drop k os) aims cs

@@ -1,5 +1,6 @@
 -- What expressions say by signs.
-use Rattle.std.proofs.Common.{◌≡◌, ℕ, ℤ, Bool, true, false, ◌&&◌, Option, Some, None, option_map, IfSome, refl, sym, ap, ◌∙◌, length, arith}
+use Rattle.std.proofs.Common.{◌≡◌, ℕ, ℤ, Bool, true, false, ◌&&◌, Option, Some, None, option_map}
+use Rattle.std.proofs.Common.{IfSome, refl, sym, ap, ◌∙◌, length, arith}
 use Rattle.std.specs.Prelude.{◌==◌, not}
 use Rattle.std.proofs.lemmas.Bool.Decides.{nat_tests}
 use Rattle.rvs_expr_text.specs.declared.lexeme.RegName.{RegName}
@@ -37,18 +38,24 @@ both_true (Some x) (Some y) = refl
 pub both_hold : (t : Table) (f g : Formula) → holds t (conjunction f g) ≡ (holds t f && holds t g)
 both_hold t f g = both_true (truth t f) (truth t g)
 
-pub pair_says : (op : Comparison) (a b : Option ℤ) → is_true (option_map (λ (p : Bool × ℤ). p.0) (both (λ x y. (compare op x y, y)) a b)) ≡ compares op a b
+pub pair_says : (op : Comparison) (a b : Option ℤ)
+    → is_true (option_map (λ (p : Bool × ℤ). p.0) (both (λ x y. (compare op x y, y)) a b))
+    ≡ compares op a b
 pair_says op None b = refl
 pair_says op (Some x) None = refl
 pair_says op (Some x) (Some y) = refl
 
-pub reg_pair_says : (equal : Bool) (a b : Option ℕ) → is_true (option_map (λ (p : Bool × ℕ). p.0) (both (λ x y. (equation equal x y, y)) a b)) ≡ relates equal a b
+pub reg_pair_says : (equal : Bool) (a b : Option ℕ)
+    → is_true (option_map (λ (p : Bool × ℕ). p.0) (both (λ x y. (equation equal x y, y)) a b))
+    ≡ relates equal a b
 reg_pair_says equal None b = refl
 reg_pair_says equal (Some x) None = refl
 reg_pair_says equal (Some x) (Some y) = refl
 
 pub reg_more_says : (e g : Bool) (a b c : Option ℕ)
-    → is_true (option_map (λ (p : Bool × ℕ). p.0) (both (λ (p : Bool × ℕ) y. (p.0 && equation g p.1 y, y)) (both (λ x y. (equation e x y, y)) a b) c))
+    → is_true (option_map (λ (p : Bool × ℕ). p.0) (both
+    (λ (p : Bool × ℕ) y. (p.0 && equation g p.1 y, y)) (both (λ x y. (equation e x y, y)) a b)
+    c))
     ≡ (relates e a b && relates g b c)
 reg_more_says e g None b c = refl
 reg_more_says e g (Some x) None c = refl
@@ -64,8 +71,10 @@ pub three_registers : (t : Table) (a b c : Reg) (e g : Bool)
     ≡ (holds t (registers (reg_pair a e b)) && holds t (registers (reg_pair b g c)))
 three_registers t a b c e g =
     reg_more_says e g (reg_value t a) (reg_value t b) (reg_value t c)
-    ∙ ap (λ x. x && relates g (reg_value t b) (reg_value t c)) (sym (reg_pair_says e (reg_value t a) (reg_value t b)))
-    ∙ ap (λ x. holds t (registers (reg_pair a e b)) && x) (sym (reg_pair_says g (reg_value t b) (reg_value t c)))
+    ∙ ap (λ x. x && relates g (reg_value t b) (reg_value t c))
+    (sym (reg_pair_says e (reg_value t a) (reg_value t b)))
+    ∙ ap (λ x. holds t (registers (reg_pair a e b)) && x)
+    (sym (reg_pair_says g (reg_value t b) (reg_value t c)))
 
 and_true : (b : Bool) → b ≡ (b && true)
 and_true true = refl

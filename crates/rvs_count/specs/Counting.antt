@@ -1,5 +1,6 @@
 -- How often the points of groups are hit by the instructions of a log.
-use Rattle.std.specs.Prelude.{ℕ, ◌==◌, ◌||◌, nat_le, nat_lt, Bool, false, ◌&&◌, if◌then◌else◌, List, [], map, length, take, count_by, filter, Option, Some, None}
+use Rattle.std.specs.Prelude.{ℕ, ◌==◌, ◌||◌, nat_le, nat_lt, Bool, false, ◌&&◌, if◌then◌else◌, List}
+use Rattle.std.specs.Prelude.{[], map, length, take, count_by, filter, Option, Some, None}
 use Rattle.std.specs.List.{list_any, flat_map}
 use Rattle.rvs_cgf.specs.Groups as group
 use Rattle.rvs_cgf.specs.GroupView.{label_view}

@@ -1,5 +1,7 @@
 -- The points by mnemonic.
-use Rattle.std.specs.Prelude.{◌≡◌, ℕ, ◌+◌, ◌/◌, ◌%◌, ◌<◌, ◌==◌, ◌&&◌, Bool, true, false, List, [], ◌∷◌, length, map, Option, Some, None, slice_index, slice_index_or, slice_set}
+use Rattle.std.specs.Prelude.{◌≡◌, ℕ, ◌+◌, ◌/◌, ◌%◌, ◌<◌, ◌==◌, ◌&&◌, Bool, true, false, List, []}
+use Rattle.std.specs.Prelude.{◌∷◌, length, map, Option, Some, None, slice_index, slice_index_or}
+use Rattle.std.specs.Prelude.{slice_set}
 use Rattle.std.specs.List.{list_any}
 use Rattle.rvs_cgf.specs.Groups.{Meaning, op_is, window, Point}
 use Rattle.rvs_cgf.specs.GroupView.{point_view}
@@ -85,7 +87,8 @@ places_in key at (p ∷ ps) =
     ]
 
 -- lists for the first numbers
-pub record IsIndex (key_of : ℕ → ListKey) (labels : List Label) (lists : List (List Slot)) : Type 0 where
+pub record IsIndex (key_of : ℕ → ListKey) (labels : List Label) (lists : List (List Slot)) : Type
+    0 where
   pub each : (n : ℕ) (d : List Slot) → n < length lists
       → places (slice_index_or lists n d) ≡ places_for (is_for (key_of n)) 0 (aims_in labels)
 

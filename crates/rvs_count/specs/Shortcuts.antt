@@ -3,7 +3,8 @@ use Rattle.std.specs.Prelude.{Bool}
 use Rattle.rvs_cgf.specs.Hits.{is_register}
 use Rattle.rvs_count.specs.declared.shortcut.Shortcut.{Shortcut}
 use Rattle.rvs_count.specs.Signs.{all_signs}
-use Rattle.rvs_count.specs.declared.shortcut.Shortcut.TheVariants.{Mnemonic, Register, Number, Three}
+use Rattle.rvs_count.specs.declared.shortcut.Shortcut.TheVariants.{Mnemonic, Register, Number}
+use Rattle.rvs_count.specs.declared.shortcut.Shortcut.TheVariants.{Three}
 use Rattle.rvs_expr.specs.Equated.{is_value}
 use Rattle.rvs_expr.specs.Meaning.{Table}
 use Rattle.rvs_facts.specs.Mnemonics.{is_same}

@@ -1,8 +1,10 @@
 -- What a counter has after some bytes of a log.
-use Rattle.std.specs.Prelude.{ℕ, ◌+◌, ◌==◌, ◌||◌, Bool, true, false, if◌then◌else◌, List, [], ◌∷◌, ◌++◌, map, length, Option, Some}
+use Rattle.std.specs.Prelude.{ℕ, ◌+◌, ◌==◌, ◌||◌, Bool, true, false, if◌then◌else◌, List, [], ◌∷◌}
+use Rattle.std.specs.Prelude.{◌++◌, map, length, Option, Some}
 use Rattle.rvs_log.specs.Grammar.{Reading, Says, Writes, Nothing}
 use Rattle.rvs_log.specs.Lines.{whole_lines, tail_of, line_says, held, held_more, held_says}
-use Rattle.rvs_log.specs.Entries.{Entry, Heard, unheard, hear, heard, heard_write, entry_at, entries_in}
+use Rattle.rvs_log.specs.Entries.{Entry, Heard, unheard, hear, heard, heard_write, entry_at}
+use Rattle.rvs_log.specs.Entries.{entries_in}
 use Rattle.rvs_cgf.specs.Groups.{Meaning, window}
 use Rattle.rvs_cgf.specs.declared.group.Label.{Label}
 use Rattle.rvs_cross.specs.Windows.{matches}

@@ -125,7 +125,8 @@ impl<'g> Crosses<'g> {
         requires count { length counts.old.items ≡ length (aims_in self.now) }
         requires low { All (λ n. n ≤ 2 ^ 42) counts.old.items }
         ensures { counts.new.items
-            ≡ added (λ a. is_matched a.point.meaning window.now) (aims_in self.now) counts.old.items }
+            ≡ added (λ a. is_matched a.point.meaning window.now) (aims_in self.now)
+            counts.old.items }
     {
         let first = &window[0];
         let key = (window.len() - 1) * MNEMONICS + number(first.op);

@@ -1,7 +1,8 @@
 // The facts of an instruction, each taken once.
 ghost use Rattle.std.specs.Prelude.{◌≡◌, ◌≤◌, ◌^◌, IfSome, unsigned_abs};
 ghost use Rattle.std.proofs.Props.{props};
-ghost use Rattle.rvs_expr_text.specs.declared.lexeme.NumName.TheVariants.{Rs1Val, Rs2Val, ImmVal, EaAlign};
+ghost use Rattle.rvs_expr_text.specs.declared.lexeme.NumName.TheVariants.{Rs1Val, Rs2Val, ImmVal};
+ghost use Rattle.rvs_expr_text.specs.declared.lexeme.NumName.TheVariants.{EaAlign};
 ghost use Rattle.rvs_facts.specs.Facts.{facts_of, num_of};
 ghost use Rattle.rvs_count.specs.Signs.{signs_of};
 

@@ -34,7 +34,8 @@ fn add_hits<L: Ledger>(
     requires few { length slots.now ≤ vec_len counts.old }
     requires low { All (λ n. n ≤ 2 ^ 42) counts.old.items }
     ensures { counts.new.items
-        ≡ raised_all (λ p. is_matched p.meaning window.now) (spec.places slots.now) counts.old.items }
+        ≡ raised_all (λ p. is_matched p.meaning window.now) (spec.places slots.now)
+        counts.old.items }
 {
     for slot in slots {
         let hit = is_hit(slot.point, window, steps);
@@ -51,7 +52,8 @@ fn add_counted<L: Ledger>(blank: Blank, slots: &[Slot<'_>], window: &[Insn], cou
     requires few { length slots.now ≤ vec_len counts.old }
     requires low { All (λ n. n ≤ 2 ^ 42) counts.old.items }
     ensures { counts.new.items
-        ≡ raised_all (λ p. is_matched p.meaning window.now) (spec.places slots.now) counts.old.items }
+        ≡ raised_all (λ p. is_matched p.meaning window.now) (spec.places slots.now)
+        counts.old.items }
 {
     let mut steps: Steps<L> = Steps::new(blank);
     add_hits(slots, window, counts, &mut steps);
@@ -63,7 +65,8 @@ pub(crate) fn add_matched(slots: &[Slot<'_>], window: &[Insn], counts: &mut Vec<
     requires few { length slots.now ≤ vec_len counts.old }
     requires low { All (λ n. n ≤ 2 ^ 42) counts.old.items }
     ensures { counts.new.items
-        ≡ raised_all (λ p. is_matched p.meaning window.now) (spec.places slots.now) counts.old.items }
+        ≡ raised_all (λ p. is_matched p.meaning window.now) (spec.places slots.now)
+        counts.old.items }
 {
     add_counted::<Brand>(Blank::new(1), slots, window, counts);
 }

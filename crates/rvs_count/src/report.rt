@@ -1,5 +1,6 @@
 // The report of a log's coverage.
-ghost use Rattle.std.specs.Prelude.{◌≡◌, ◌≤◌, ◌==◌, ◌++◌, IfOk, IsTrue, OnOk, codes, count_by, drop, length, map, not, take};
+ghost use Rattle.std.specs.Prelude.{◌≡◌, ◌≤◌, ◌==◌, ◌++◌, IfOk, IsTrue, OnOk, codes, count_by};
+ghost use Rattle.std.specs.Prelude.{drop, length, map, not, take};
 ghost use Rattle.std.specs.List.{flat_map};
 ghost use Rattle.rvs_cgf.specs.GroupView.{label_view, point_view, skipped_view};
 ghost use Rattle.rvs_count.specs.Counting.{aims_in};

@@ -77,7 +77,8 @@ fn relation(left: RegName, equal: bool, right: RegName) -> Option<usize>
 
 fn number_test(name: NumName, op: Comparison, right: &Num) -> Option<usize>
     ensures says { IfSome result (λ k. (t : Table) → holds t
-        (typed.numbers (typed.pair (typed.named name) op (num_view right.now))) ≡ spec.sign_at k t) }
+        (typed.numbers (typed.pair (typed.named name) op (num_view right.now)))
+        ≡ spec.sign_at k t) }
     ensures low { IfSome result (λ k. k < 19) }
 {
     match right {
@@ -135,7 +136,8 @@ fn register_pair(left: Reg, equal: bool, right: Reg) -> Option<usize>
 
 /// The sign that a formula says.
 fn sign_said(formula: &Formula) -> Option<usize>
-    ensures says { IfSome result (λ k. (t : Table) → holds t (view formula.now) ≡ spec.sign_at k t) }
+    ensures says { IfSome result
+        (λ k. (t : Table) → holds t (view formula.now) ≡ spec.sign_at k t) }
     ensures low { IfSome result (λ k. k < 19) }
 {
     match formula {

@@ -1,12 +1,14 @@
 // The points that an instruction of a mnemonic may hit, alone or as the first of several.
-ghost use Rattle.std.specs.Prelude.{◌≡◌, ◌==◌, ◌<◌, ◌+◌, ◌^◌, ◌++◌, ◌∷◌, [], IfOk, OnOk, if◌then◌else◌, length, map};
+ghost use Rattle.std.specs.Prelude.{◌≡◌, ◌==◌, ◌<◌, ◌+◌, ◌^◌, ◌++◌, ◌∷◌, [], IfOk, OnOk};
+ghost use Rattle.std.specs.Prelude.{if◌then◌else◌, length, map};
 ghost use Rattle.rvs_cgf.specs.GroupView.{label_view, meaning_view, point_view};
 ghost use Rattle.rvs_cross.specs.CrossView.{cross_view};
 ghost use Rattle.rvs_cross.specs.First.{first_ops as first_of};
 ghost use Rattle.rvs_facts.specs.Mnemonics as spec;
 ghost use Rattle.rvs_count.specs.Counting.{aims_in, aims_of_label};
 ghost use Rattle.rvs_count.specs.Index as index;
-ghost use Rattle.rvs_count.specs.Index.{has_number, is_for, lists_number, meaning_fits, places, places_for, places_in, stands, window_fits};
+ghost use Rattle.rvs_count.specs.Index.{has_number, is_for, lists_number, meaning_fits, places};
+ghost use Rattle.rvs_count.specs.Index.{places_for, places_in, stands, window_fits};
 
 use crate::buckets::bucket_of;
 use crate::key::ListKey;

@@ -1,5 +1,5 @@
-//! Tests of the crates below `rvs_suite`, each through its public calls, a module a crate. They stand
-//! in a crate of their own, since the proof of a crate's tests proves the crate again.
+//! Tests of the crates below `rvs_suite`, each through its public calls, a module a crate. They
+//! stand in a crate of their own, since the proof of a crate's tests proves the crate again.
 #![tactic(auto)]
 
 #[cfg(test)]

@@ -1,5 +1,6 @@
 -- The values that the search goes over, and how many there are.
-use Rattle.std.proofs.Common.{◌≡◌, ℕ, ◌+◌, ◌*◌, ◌≤◌, Bool, ◌||◌, List, [], ◌∷◌, map, length, Option, refl, sym, ap, ◌∙◌, subst, arith}
+use Rattle.std.proofs.Common.{◌≡◌, ℕ, ◌+◌, ◌*◌, ◌≤◌, Bool, ◌||◌, List, [], ◌∷◌, map, length, Option}
+use Rattle.std.proofs.Common.{refl, sym, ap, ◌∙◌, subst, arith}
 use Rattle.std.specs.Prelude.{flat_map, IfOk}
 use Rattle.std.specs.List.{list_any}
 use Rattle.std.proofs.lemmas.List.{length-map}
@@ -10,8 +11,10 @@ use Rattle.rvs_cross.specs.declared.cross.Variable.TheVariants.{First, Second, T
 use Rattle.rvs_cross.specs.declared.cross.Place as code
 use Rattle.rvs_cross.specs.Cross.{Place}
 use Rattle.rvs_cross.specs.CrossView.{place_view}
-use Rattle.rvs_cross.specs.Windows.{says_of, is_used, choices_for, with_third, with_second, values_among}
-use Rattle.rvs_cross.specs.Sequences.{middle_registers, assignments, bound, count_of, first_solutions, first_sequence}
+use Rattle.rvs_cross.specs.Windows.{says_of, is_used, choices_for, with_third, with_second}
+use Rattle.rvs_cross.specs.Windows.{values_among}
+use Rattle.rvs_cross.specs.Sequences.{middle_registers, assignments, bound, count_of}
+use Rattle.rvs_cross.specs.Sequences.{first_solutions, first_sequence}
 use Rattle.rvs_cross.proofs.Choices.{sum_same}
 use Rattle.rvs_cross.proofs.Solved.{Answer}
 

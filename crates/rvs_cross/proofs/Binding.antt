@@ -1,5 +1,6 @@
 -- The registers that make instructions match are those that the first assignments find.
-use Rattle.std.proofs.Common.{◌≡◌, ℕ, Bool, true, false, ◌&&◌, ◌||◌, cond, List, [], ◌∷◌, inl, inr, Option, Some, None, refl, sym, ap, ◌∙◌, subst, arith}
+use Rattle.std.proofs.Common.{◌≡◌, ℕ, Bool, true, false, ◌&&◌, ◌||◌, cond, List, [], ◌∷◌, inl, inr}
+use Rattle.std.proofs.Common.{Option, Some, None, refl, sym, ap, ◌∙◌, subst, arith}
 use Rattle.std.specs.Prelude.{find, option_map}
 use Rattle.std.specs.List.{list_any, list_all, range_with_len}
 use Rattle.std.proofs.lemmas.Bool.{eqb-true}
@@ -8,9 +9,12 @@ use Rattle.rvs_cross.specs.declared.cross.Variable.{Variable}
 use Rattle.rvs_cross.specs.declared.cross.Variable.TheVariants.{First, Second, Third}
 use Rattle.rvs_cross.specs.declared.cross.Assignment.{Assignment}
 use Rattle.rvs_cross.specs.Cross.{Place}
-use Rattle.rvs_cross.specs.Windows.{Values, value_of, register_in, same_register, is_set, is_listed, meets, fits, all_fit, same_variable, says_of, is_used, choices_for, with_third, with_second, values_among, matches}
+use Rattle.rvs_cross.specs.Windows.{Values, value_of, register_in, same_register, is_set, is_listed}
+use Rattle.rvs_cross.specs.Windows.{meets, fits, all_fit, same_variable, says_of, is_used}
+use Rattle.rvs_cross.specs.Windows.{choices_for, with_third, with_second, values_among, matches}
 use Rattle.rvs_cross.specs.Assigned.{register_by, assigned_in, assigned}
-use Rattle.rvs_cross.proofs.Members.{In, by_test, or_rest, in_any, any_in, in_map, map_in, in_flat, flat_in, in_range}
+use Rattle.rvs_cross.proofs.Members.{In, by_test, or_rest, in_any, any_in, in_map, map_in, in_flat}
+use Rattle.rvs_cross.proofs.Members.{flat_in, in_range}
 use Rattle.rvs_cross.proofs.Turns.{some_of}
 
 pub both : (a b : Bool) → (a && b) ≡ true → (a ≡ true) × (b ≡ true)
@@ -209,7 +213,8 @@ all_that_match ps is m =
     let fit = λ (v : Values). all_fit v ps (some_of is) in
     let registers = range_with_len 0 32 in
     let p = any_in fit (values_among registers ps) m in
-    sym (ap fit (values_are registers p.item ps is p.passes (values_in registers ps p.item p.among)))
+    sym (ap fit
+    (values_are registers p.item ps is p.passes (values_in registers ps p.item p.among)))
     ∙ p.passes
 
 they_match : (ps : List Place) (is : List Fields) → Low ps is

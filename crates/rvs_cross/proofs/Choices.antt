@@ -1,5 +1,6 @@
 -- The instructions of a place, by mnemonic.
-use Rattle.std.proofs.Common.{◌≡◌, ℕ, ◌+◌, ◌*◌, ◌≤◌, List, [], ◌∷◌, length, Option, refl, sym, ap, ◌∙◌, arith, suc}
+use Rattle.std.proofs.Common.{◌≡◌, ℕ, ◌+◌, ◌*◌, ◌≤◌, List, [], ◌∷◌, length, Option, refl, sym, ap}
+use Rattle.std.proofs.Common.{◌∙◌, arith, suc}
 use Rattle.std.specs.Prelude.{ℤ, find, flat_map}
 use Rattle.std.specs.List.{sum_by}
 use Rattle.std.proofs.lemmas.List.Concat.{length-flat_map}
@@ -14,7 +15,8 @@ use Rattle.rvs_insn.specs.Names.{is_admitted_op}
 use Rattle.rvs_insn.specs.Fields.{Fields}
 use Rattle.rvs_cross.specs.Cross.{Place}
 use Rattle.rvs_cross.specs.Windows.{Values, fits}
-use Rattle.rvs_cross.specs.Sequences.{at_rs1, at_rd, over_registers, in_format, insns_of, listed, candidates, solution}
+use Rattle.rvs_cross.specs.Sequences.{at_rs1, at_rd, over_registers, in_format, insns_of, listed}
+use Rattle.rvs_cross.specs.Sequences.{candidates, solution}
 use Rattle.rvs_cross.specs.Choosing.{insns_if, admitted_insns}
 use Rattle.rvs_cross.proofs.Searching.{flat_filter}
 
@@ -78,5 +80,6 @@ pub solution_costs : (spec : Isa) (p : Place) (ops : List Op) (new old : ℕ) �
     → new ≤ old + length (candidates spec p)
 solution_costs spec p ops new old e h =
     let same : length (flat_map (admitted_insns spec) ops) ≡ length (candidates spec p) =
-    ap (λ l. length (flat_map (admitted_insns spec) l)) e ∙ ap length (sym (candidates_are spec p)) in
+    ap (λ l. length (flat_map (admitted_insns spec) l)) e
+    ∙ ap length (sym (candidates_are spec p)) in
     omega arith

@@ -1,5 +1,6 @@
 -- What an assignment excludes from a field, no instruction of the place has there.
-use Rattle.std.proofs.Common.{◌≡◌, ℕ, Bool, true, false, not, ◌&&◌, List, [], ◌∷◌, Option, None, refl, sym, ap, ◌∙◌}
+use Rattle.std.proofs.Common.{◌≡◌, ℕ, Bool, true, false, not, ◌&&◌, List, [], ◌∷◌, Option, None}
+use Rattle.std.proofs.Common.{refl, sym, ap, ◌∙◌}
 use Rattle.std.specs.Prelude.{ℤ, find}
 use Rattle.std.specs.List.{list_all}
 use Rattle.rvs_insn.specs.declared.op.Op.{Op}
@@ -8,7 +9,8 @@ use Rattle.rvs_cross.specs.declared.cross.Field.{Field}
 use Rattle.rvs_cross.specs.declared.cross.Field.TheVariants.{Rd, Rs1, Rs2}
 use Rattle.rvs_cross.specs.declared.cross.Assignment.{Assignment}
 use Rattle.rvs_cross.specs.Cross.{Place}
-use Rattle.rvs_cross.specs.Windows.{Values, value_of, register_in, same_register, is_set, is_listed, meets, fits}
+use Rattle.rvs_cross.specs.Windows.{Values, value_of, register_in, same_register, is_set, is_listed}
+use Rattle.rvs_cross.specs.Windows.{meets, fits}
 use Rattle.rvs_cross.specs.Sequences.{at_rs1, at_rd}
 use Rattle.rvs_cross.specs.Choosing.{same_field, allows_one, allows}
 use Rattle.rvs_cross.proofs.Members.{by_test, or_left, or_right, map_in, flat_in}
@@ -64,7 +66,13 @@ pub none_at_rs1 : (v : Values) (p : Place) (op : Op) (imm : Option ℤ) (rs2s : 
     → good ≡ allows v sets Rs1 s → good ≡ false → None ≡ find (fits v p) (at_rs1 op imm rs2s d s)
 none_at_rs1 v p op imm rs2s d s sets good e g h =
     sym (find_none (fits v p) (at_rs1 op imm rs2s d s)
-    (λ i m. let t = map_in (λ t. record { op = op; rd = d; rs1 = s; rs2 = t; imm = imm }) rs2s i m in
+    (λ i m. let t = map_in (λ t. record {
+      op = op;
+      rd = d;
+      rs1 = s;
+      rs2 = t;
+      imm = imm;
+    }) rs2s i m in
     excluded v p i Rs1 s (sym (ap (λ (j : Fields). j.rs1) t.is))
     (ap (λ l. allows v l Rs1 s) (sym e) ∙ sym g ∙ h)))
 

@@ -1,15 +1,20 @@
 -- A cross point that is read has one to six places.
-use Rattle.std.proofs.Common.{◌≡◌, ℕ, suc, ◌+◌, ◌<◌, ◌≤◌, Bool, true, false, not, ◌==◌, ◌&&◌, nat_lt, if◌then◌else◌, List, [], ◌∷◌, length, Option, Some, None, Result, Ok, Err, refl, sym, ap, subst, ◌∙◌, arith}
+use Rattle.std.proofs.Common.{◌≡◌, ℕ, suc, ◌+◌, ◌<◌, ◌≤◌, Bool, true, false, not, ◌==◌, ◌&&◌}
+use Rattle.std.proofs.Common.{nat_lt, if◌then◌else◌, List, [], ◌∷◌, length, Option, Some, None}
+use Rattle.std.proofs.Common.{Result, Ok, Err, refl, sym, ap, subst, ◌∙◌, arith}
 use Rattle.std.specs.List.{list_any}
 use Rattle.std.proofs.lemmas.Bool.Decides.{nat_tests}
 use Rattle.std.proofs.lemmas.List.Splits.{length-slice_split}
 use Rattle.rvs_cross.specs.Cross.{Place}
-use Rattle.rvs_cross.specs.declared.refusal.CrossRefusal.TheVariants.{BadList, LengthsDiffer, TooManyPlaces}
+use Rattle.rvs_cross.specs.declared.refusal.CrossRefusal.TheVariants.{BadList, LengthsDiffer}
+use Rattle.rvs_cross.specs.declared.refusal.CrossRefusal.TheVariants.{TooManyPlaces}
 use Rattle.rvs_cross.specs.Outcomes.{Outcome, ◌>>=◌}
 use Rattle.rvs_cross.specs.Lists.{Lists, lists, entries}
 use Rattle.rvs_cross.specs.Entries.{has_class, first_unknown}
 use Rattle.rvs_cross.specs.Variables.{variables}
-use Rattle.rvs_cross.specs.Parse.{Answer, read, skipped, Found, place, places, is_shaped, same_lengths, with_variables, with_known, with_unknown, with_names, checked, with_lists, parse}
+use Rattle.rvs_cross.specs.Parse.{Answer, read, skipped, Found, place, places, is_shaped}
+use Rattle.rvs_cross.specs.Parse.{same_lengths, with_variables, with_known, with_unknown}
+use Rattle.rvs_cross.specs.Parse.{with_names, checked, with_lists, parse}
 
 -- a step that was read, and what followed from it
 bound : {A B : Type 0} (r : Outcome A) (f : A → Outcome B) (b : B) → (r >>= f) ≡ Ok b
@@ -46,9 +51,12 @@ with_places : (l : Lists) (vars : List (List ℕ)) (ps : List Place)
     → with_variables (entries l.mnemonics) (entries l.assignments) (entries l.conditions) vars
     ≡ Ok (read ps) → AreFew ps
 with_places l vars ps e f few h =
-    let found = bound (places vars (entries l.mnemonics) (entries l.assignments) (entries l.conditions)) _ (read ps) h in
+    let found = bound
+    (places vars (entries l.mnemonics) (entries l.assignments) (entries l.conditions)) _
+    (read ps) h in
     let same : found.0 ≡ ps = cc in
-    let n = places_length vars (entries l.mnemonics) (entries l.assignments) (entries l.conditions) found.0 e f found.1 in
+    let n = places_length vars (entries l.mnemonics) (entries l.assignments) (entries l.conditions)
+    found.0 e f found.1 in
     subst AreFew same (omega (arith, n, some_entries l.mnemonics), omega (arith, n, few))
 
 named : (l : Lists) (unknown : Option (List ℕ)) (ps : List Place)
@@ -75,7 +83,8 @@ by_tests l ps true true false false e f h =
     let a = length (entries l.assignments) == length (entries l.mnemonics) in
     let b = length (entries l.conditions) == length (entries l.mnemonics) in
     let even : (a && b) ≡ true = e in
-    named l (first_unknown (entries l.mnemonics)) ps (grind (arith, nat_tests)) (grind (arith, nat_tests)) (grind (arith, nat_tests)) h
+    named l (first_unknown (entries l.mnemonics)) ps (grind (arith, nat_tests))
+    (grind (arith, nat_tests)) (grind (arith, nat_tests)) h
 
 by_lists : (o : Option Lists) (ps : List Place) → with_lists o ≡ Ok (read ps) → AreFew ps
 by_lists None ps h = absurd cc

@@ -1,12 +1,14 @@
 -- The variables are at most three.
-use Rattle.std.proofs.Common.{◌≡◌, ℕ, ◌<◌, ◌≤◌, Bool, true, false, List, [], ◌∷◌, ◌++◌, length, length-append, Some, None, Ok, Err, refl, subst, arith}
+use Rattle.std.proofs.Common.{◌≡◌, ℕ, ◌<◌, ◌≤◌, Bool, true, false, List, [], ◌∷◌, ◌++◌, length}
+use Rattle.std.proofs.Common.{length-append, Some, None, Ok, Err, refl, subst, arith}
 use Rattle.std.specs.Prelude.{nat_lt, if◌then◌else◌}
 use Rattle.std.proofs.lemmas.Bool.Decides.{nat_tests}
 use Rattle.rvs_cross.specs.declared.refusal.CrossRefusal.TheVariants.{TooManyVariables}
 use Rattle.rvs_cross.specs.Outcomes.{Outcome, for_each, ◌>>=◌}
 use Rattle.rvs_cross.specs.Lists.{parts}
 use Rattle.rvs_cross.specs.Entries.{assignment}
-use Rattle.rvs_cross.specs.Variables.{is_noted, note, note_assigned, note_part, note_entry, variables}
+use Rattle.rvs_cross.specs.Variables.{is_noted, note, note_assigned, note_part, note_entry}
+use Rattle.rvs_cross.specs.Variables.{variables}
 
 abbrev pub Names : Type 0
 Names = List (List ℕ)
@@ -16,7 +18,9 @@ abbrev pub AreFew : Outcome Names → Type 0
 AreFew (Ok names) = length names ≤ 3
 AreFew (Err e) = Unit {0}
 
-noted-few : (b c : Bool) (name : List ℕ) (names : Names) → nat_lt (length names) 3 ≡ c → length names ≤ 3 → AreFew (if b then Ok names else (if c then Ok (names ++ name ∷ []) else Err TooManyVariables))
+noted-few : (b c : Bool) (name : List ℕ) (names : Names) → nat_lt (length names) 3 ≡ c
+    → length names ≤ 3
+    → AreFew (if b then Ok names else (if c then Ok (names ++ name ∷ []) else Err TooManyVariables))
 noted-few true c name names e h = h
 noted-few false true name names e h =
     let small : length names < 3 = grind (arith, nat_tests) in
@@ -28,18 +32,27 @@ note-few name names h = noted-few (is_noted names name) (nat_lt (length names) 3
 
 part-few : (part : List ℕ) (names : Names) → length names ≤ 3 → AreFew (note_part part names)
 part-few part names h =
-    elim (assignment part) as (λ o. AreFew (note_assigned o names)) [ Some s ↦ note-few s.0 names h | None ↦ h ]
+    elim (assignment part) as (λ o. AreFew (note_assigned o names)) [
+      | Some s ↦ note-few s.0 names h
+      | None ↦ h
+    ]
 
-then-few : (f : Names → Outcome Names) (o : Outcome Names) → ((names : Names) → length names ≤ 3 → AreFew (f names)) → AreFew o → AreFew (o >>= f)
+then-few : (f : Names → Outcome Names) (o : Outcome Names)
+    → ((names : Names) → length names ≤ 3 → AreFew (f names)) → AreFew o → AreFew (o >>= f)
 then-few f (Ok names) each h = each names h
 then-few f (Err e) each h = tt
 
-each-few : (f : List ℕ → Names → Outcome Names) → ((x : List ℕ) (names : Names) → length names ≤ 3 → AreFew (f x names)) → (xs : List (List ℕ)) (names : Names) → length names ≤ 3 → AreFew (for_each f xs names)
+each-few : (f : List ℕ → Names → Outcome Names)
+    → ((x : List ℕ) (names : Names) → length names ≤ 3 → AreFew (f x names))
+    → (xs : List (List ℕ)) (names : Names) → length names ≤ 3 → AreFew (for_each f xs names)
 each-few f each [] names h = h
-each-few f each (x ∷ xs) names h = then-few (for_each f xs) (f x names) (each-few f each xs) (each x names h)
+each-few f each (x ∷ xs) names h =
+    then-few (for_each f xs) (f x names) (each-few f each xs) (each x names h)
 
 entry-few : (entry : List ℕ) (names : Names) → length names ≤ 3 → AreFew (note_entry entry names)
 entry-few entry names h = each-few note_part part-few (parts 59 entry) names h
 
-pub at_most_three : (entries : List (List ℕ)) (names : Names) → variables entries ≡ Ok names → length names ≤ 3
-at_most_three entries names e = subst AreFew e (each-few note_entry entry-few entries [] (omega arith))
+pub at_most_three : (entries : List (List ℕ)) (names : Names) → variables entries ≡ Ok names
+    → length names ≤ 3
+at_most_three entries names e =
+    subst AreFew e (each-few note_entry entry-few entries [] (omega arith))

@@ -1,5 +1,6 @@
 -- The places of three lists, one after another.
-use Rattle.std.proofs.Common.{◌≡◌, ℕ, ◌+◌, ◌<◌, ◌≤◌, List, [], ◌∷◌, ◌++◌, map, drop, length, get_or, Bor, Ok, Err, refl, sym, ap, ◌∙◌, append_assoc, add-one, arith}
+use Rattle.std.proofs.Common.{◌≡◌, ℕ, ◌+◌, ◌<◌, ◌≤◌, List, [], ◌∷◌, ◌++◌, map, drop, length, get_or}
+use Rattle.std.proofs.Common.{Bor, Ok, Err, refl, sym, ap, ◌∙◌, append_assoc, add-one, arith}
 use Rattle.std.specs.Prelude.{◌==◌}
 use Rattle.std.proofs.Math.Seq.{drop-cons}
 use Rattle.std.proofs.lemmas.List.{length-map}
@@ -21,12 +22,14 @@ Refs = List (Bor (List ℕ))
 abbrev pub texts : Refs → List (List ℕ)
 texts xs = map (λ t. t.now) xs
 
-texts-at : (xs : Refs) (i : ℕ) (d : Bor (List ℕ)) → i < length xs → texts (drop i xs) ≡ (get_or xs i d).now ∷ texts (drop (i + 1) xs)
+texts-at : (xs : Refs) (i : ℕ) (d : Bor (List ℕ)) → i < length xs
+    → texts (drop i xs) ≡ (get_or xs i d).now ∷ texts (drop (i + 1) xs)
 texts-at xs i d h =
     let front : drop i xs ≡ get_or xs i d ∷ drop (i + 1) xs = rw add-one (drop-cons xs i d h) in
     ap texts front
 
-front-one : (ps : List Place) (p : Place) (o : Outcome (List Place)) → with_front (ps ++ p ∷ []) o ≡ with_front ps (o >>= (λ qs. Ok (p ∷ qs)))
+front-one : (ps : List Place) (p : Place) (o : Outcome (List Place))
+    → with_front (ps ++ p ∷ []) o ≡ with_front ps (o >>= (λ qs. Ok (p ∷ qs)))
 front-one ps p (Ok qs) = ap Ok (append_assoc ps (p ∷ []) qs)
 front-one ps p (Err e) = refl
 
@@ -34,30 +37,39 @@ abbrev joined : Outcome Place → Outcome (List Place) → Outcome (List Place)
 joined o rest = o >>= (λ p. rest >>= (λ qs. Ok (p ∷ qs)))
 
 -- the places that begin with those at an index
-at : (vars : List (List ℕ)) (a b c : Refs) (i : ℕ) (d : Bor (List ℕ)) → i < length a → length b ≡ length a → length c ≡ length a →
+at : (vars : List (List ℕ)) (a b c : Refs) (i : ℕ) (d : Bor (List ℕ)) → i < length a
+    → length b ≡ length a → length c ≡ length a →
     places vars (texts (drop i a)) (texts (drop i b)) (texts (drop i c))
-    ≡ joined (place vars (get_or a i d).now (get_or b i d).now (get_or c i d).now) (places vars (texts (drop (i + 1) a)) (texts (drop (i + 1) b)) (texts (drop (i + 1) c)))
+    ≡ joined (place vars (get_or a i d).now (get_or b i d).now (get_or c i d).now)
+    (places vars (texts (drop (i + 1) a)) (texts (drop (i + 1) b)) (texts (drop (i + 1) c)))
 at vars a b c i d h e f =
     let hb : i < length b = omega arith in
     let hc : i < length c = omega arith in
     ap (λ xs. places vars xs (texts (drop i b)) (texts (drop i c))) (texts-at a i d h)
-    ∙ ap (λ ys. places vars ((get_or a i d).now ∷ texts (drop (i + 1) a)) ys (texts (drop i c))) (texts-at b i d hb)
-    ∙ ap (λ zs. places vars ((get_or a i d).now ∷ texts (drop (i + 1) a)) ((get_or b i d).now ∷ texts (drop (i + 1) b)) zs) (texts-at c i d hc)
+    ∙ ap (λ ys. places vars ((get_or a i d).now ∷ texts (drop (i + 1) a)) ys (texts (drop i c)))
+    (texts-at b i d hb)
+    ∙ ap (λ zs. places vars ((get_or a i d).now ∷ texts (drop (i + 1) a))
+    ((get_or b i d).now ∷ texts (drop (i + 1) b)) zs) (texts-at c i d hc)
 
-pub places_more : (vars : List (List ℕ)) (a b c : Refs) (i : ℕ) (d : Bor (List ℕ)) (ps : List Place) (p : Place) → i < length a → length b ≡ length a → length c ≡ length a →
+pub places_more : (vars : List (List ℕ)) (a b c : Refs) (i : ℕ) (d : Bor (List ℕ)) (ps : List Place)
+    (p : Place) → i < length a → length b ≡ length a → length c ≡ length a →
     place vars (get_or a i d).now (get_or b i d).now (get_or c i d).now ≡ Ok p →
-    with_front (ps ++ p ∷ []) (places vars (texts (drop (i + 1) a)) (texts (drop (i + 1) b)) (texts (drop (i + 1) c)))
+    with_front (ps ++ p ∷ [])
+    (places vars (texts (drop (i + 1) a)) (texts (drop (i + 1) b)) (texts (drop (i + 1) c)))
     ≡ with_front ps (places vars (texts (drop i a)) (texts (drop i b)) (texts (drop i c)))
 places_more vars a b c i d ps p h e f is =
-    let rest = places vars (texts (drop (i + 1) a)) (texts (drop (i + 1) b)) (texts (drop (i + 1) c)) in
+    let rest =
+    places vars (texts (drop (i + 1) a)) (texts (drop (i + 1) b)) (texts (drop (i + 1) c)) in
     front-one ps p rest
     ∙ sym (ap (with_front ps) (at vars a b c i d h e f ∙ ap (λ o. joined o rest) is))
 
-pub places_fail : (vars : List (List ℕ)) (a b c : Refs) (i : ℕ) (d : Bor (List ℕ)) (ps : List Place) (why : CrossRefusal) → i < length a → length b ≡ length a → length c ≡ length a →
+pub places_fail : (vars : List (List ℕ)) (a b c : Refs) (i : ℕ) (d : Bor (List ℕ)) (ps : List Place)
+    (why : CrossRefusal) → i < length a → length b ≡ length a → length c ≡ length a →
     place vars (get_or a i d).now (get_or b i d).now (get_or c i d).now ≡ Err why →
     with_front ps (places vars (texts (drop i a)) (texts (drop i b)) (texts (drop i c))) ≡ Err why
 places_fail vars a b c i d ps why h e f is =
-    let rest = places vars (texts (drop (i + 1) a)) (texts (drop (i + 1) b)) (texts (drop (i + 1) c)) in
+    let rest =
+    places vars (texts (drop (i + 1) a)) (texts (drop (i + 1) b)) (texts (drop (i + 1) c)) in
     ap (with_front ps) (at vars a b c i d h e f ∙ ap (λ o. joined o rest) is)
 
 -- a list has an entry

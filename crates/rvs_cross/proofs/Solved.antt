@@ -1,6 +1,10 @@
--- What the first instructions are, and that there are some wherever instructions that compute match.
-use Rattle.std.proofs.Common.{◌≡◌, ℕ, zero, suc, ◌<◌, Bool, true, false, ◌&&◌, cond, List, [], ◌∷◌, length, get_or, ◌⊎◌, inl, inr, Option, Some, None, refl, sym, ap, ◌∙◌, subst, arith}
-use Rattle.std.specs.Prelude.{ℤ, pos, find, filter, All, Contains, Result, Ok, Err, IfOk, IfSome, IfNone}
+-- What the first instructions are, and that there are some wherever instructions that compute
+-- match.
+use Rattle.std.proofs.Common.{◌≡◌, ℕ, zero, suc, ◌<◌, Bool, true, false, ◌&&◌, cond, List, [], ◌∷◌}
+use Rattle.std.proofs.Common.{length, get_or, ◌⊎◌, inl, inr, Option, Some, None, refl, sym, ap, ◌∙◌}
+use Rattle.std.proofs.Common.{subst, arith}
+use Rattle.std.specs.Prelude.{ℤ, pos, find, filter, All, Contains, Result, Ok, Err, IfOk, IfSome}
+use Rattle.std.specs.Prelude.{IfNone}
 use Rattle.rvs_base.specs.declared.memory_refusal.NoMemory.{NoMemory}
 use Rattle.std.specs.List.{list_any, range_with_len}
 use Rattle.std.proofs.lemmas.Bool.{eqb-true}
@@ -19,10 +23,15 @@ use Rattle.rvs_cross.specs.declared.cross.Variable.TheVariants.{First, Second, T
 use Rattle.rvs_cross.specs.declared.cross.Field.{Field}
 use Rattle.rvs_cross.specs.declared.cross.Field.TheVariants.{Rd, Rs1, Rs2}
 use Rattle.rvs_cross.specs.Cross.{Place}
-use Rattle.rvs_cross.specs.Windows.{Values, value_of, register_in, is_listed, fits, all_fit, is_used, says_of, choices_for, values_among, matches}
+use Rattle.rvs_cross.specs.Windows.{Values, value_of, register_in, is_listed, fits, all_fit}
+use Rattle.rvs_cross.specs.Windows.{is_used, says_of, choices_for, values_among, matches}
 use Rattle.rvs_cross.specs.Assigned.{assigned_field, register_by, assigned_in, assigned}
-use Rattle.rvs_cross.specs.Sequences.{middle_registers, middle, at_rs1, at_rd, over_registers, in_format, insns_of, listed, candidates, solution, onto, solutions, assignments, first_of, first_solutions, first_sequence, IsComputing, Solvable}
-use Rattle.rvs_cross.proofs.Members.{In, in_any, any_in, in_map, map_in, in_flat, flat_in, in_range, range_in}
+use Rattle.rvs_cross.specs.Sequences.{middle_registers, middle, at_rs1, at_rd, over_registers}
+use Rattle.rvs_cross.specs.Sequences.{in_format, insns_of, listed, candidates, solution, onto}
+use Rattle.rvs_cross.specs.Sequences.{solutions, assignments, first_of, first_solutions}
+use Rattle.rvs_cross.specs.Sequences.{first_sequence, IsComputing, Solvable}
+use Rattle.rvs_cross.proofs.Members.{In, in_any, any_in, in_map, map_in, in_flat, flat_in, in_range}
+use Rattle.rvs_cross.proofs.Members.{range_in}
 use Rattle.rvs_cross.proofs.Turns.{some_of}
 use Rattle.rvs_cross.proofs.Binding.{both, next, bound_where_used, in_values, values_in}
 

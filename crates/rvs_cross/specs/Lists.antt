@@ -1,5 +1,6 @@
 -- The three lists of a cross point, and the parts of a list.
-use Rattle.std.specs.Prelude.{ℕ, ◌==◌, nat_lt, if◌then◌else◌, List, take, drop, length, Option, Some, None, bytes_eq, codes}
+use Rattle.std.specs.Prelude.{ℕ, ◌==◌, nat_lt, if◌then◌else◌, List, take, drop, length, Option}
+use Rattle.std.specs.Prelude.{Some, None, bytes_eq, codes}
 use Rattle.std.specs.Option.{option_and_then}
 use Rattle.std.specs.List.{position_or_len, before_first, after_first, slice_split}
 use Rattle.rvs_abstract.specs.Calls.{without_spaces}

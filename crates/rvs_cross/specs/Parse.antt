@@ -1,5 +1,7 @@
 -- The cross point that a text is, its first fault, or that it names a class of instructions.
-use Rattle.std.specs.Prelude.{◌≡◌, ◌≢◌, ℕ, ◌-◌, ◌==◌, ◌&&◌, nat_lt, not, Bool, if◌then◌else◌, List, [], ◌∷◌, take, drop, length, Option, Some, None, Result, Ok, Err, bytes_eq, codes}
+use Rattle.std.specs.Prelude.{◌≡◌, ◌≢◌, ℕ, ◌-◌, ◌==◌, ◌&&◌, nat_lt, not, Bool, if◌then◌else◌, List}
+use Rattle.std.specs.Prelude.{[], ◌∷◌, take, drop, length, Option, Some, None, Result, Ok, Err}
+use Rattle.std.specs.Prelude.{bytes_eq, codes}
 use Rattle.std.specs.List.{list_any, list_all}
 use Rattle.rvs_expr_text.specs.declared.refusal.ExprKind.{ExprKind}
 use Rattle.rvs_expr_text.specs.declared.refusal.ExprKind.TheVariants.{UnknownName}
@@ -13,7 +15,11 @@ use Rattle.rvs_cross.specs.CrossView.{cross_view}
 use Rattle.rvs_cross.specs.declared.refusal.CrossRead.{CrossRead}
 use Rattle.rvs_cross.specs.declared.refusal.CrossRead.TheVariants as code
 use Rattle.rvs_cross.specs.declared.refusal.CrossRefusal.{CrossRefusal}
-use Rattle.rvs_cross.specs.declared.refusal.CrossRefusal.TheVariants.{BadList, LengthsDiffer, TooManyPlaces, UnassignedVariable, UnknownMnemonic, Expr, NoMemory}
+use Rattle.rvs_cross.specs.declared.refusal.CrossRefusal.TheVariants.{BadList, LengthsDiffer}
+use Rattle.rvs_cross.specs.declared.refusal.CrossRefusal.TheVariants.{TooManyPlaces}
+use Rattle.rvs_cross.specs.declared.refusal.CrossRefusal.TheVariants.{UnassignedVariable}
+use Rattle.rvs_cross.specs.declared.refusal.CrossRefusal.TheVariants.{UnknownMnemonic, Expr}
+use Rattle.rvs_cross.specs.declared.refusal.CrossRefusal.TheVariants.{NoMemory}
 use Rattle.rvs_cross.specs.Outcomes.{Outcome, ◌>>=◌}
 use Rattle.rvs_cross.specs.Lists.{Lists, lists, entries}
 use Rattle.rvs_cross.specs.Entries.{lists_ops, lists_sets, has_class, first_unknown, ops}

@@ -1,7 +1,12 @@
 -- The numbers of refusals.
 use Rattle.std.specs.Prelude.{ℕ}
 use Rattle.rvs_cross.specs.declared.refusal.CrossRefusal.{CrossRefusal}
-use Rattle.rvs_cross.specs.declared.refusal.CrossRefusal.TheVariants.{BadList, LengthsDiffer, TooManyPlaces, TooManyVariables, UnassignedVariable, UnknownMnemonic, Expr, NoMemory}
+use Rattle.rvs_cross.specs.declared.refusal.CrossRefusal.TheVariants.{BadList, LengthsDiffer}
+use Rattle.rvs_cross.specs.declared.refusal.CrossRefusal.TheVariants.{TooManyPlaces}
+use Rattle.rvs_cross.specs.declared.refusal.CrossRefusal.TheVariants.{TooManyVariables}
+use Rattle.rvs_cross.specs.declared.refusal.CrossRefusal.TheVariants.{UnassignedVariable}
+use Rattle.rvs_cross.specs.declared.refusal.CrossRefusal.TheVariants.{UnknownMnemonic, Expr}
+use Rattle.rvs_cross.specs.declared.refusal.CrossRefusal.TheVariants.{NoMemory}
 
 abbrev pub number_of : CrossRefusal → ℕ
 number_of BadList = 1

@@ -1,5 +1,6 @@
 -- The instructions that solve a cross point.
-use Rattle.std.specs.Prelude.{◌≡◌, ℕ, ◌*◌, ℤ, pos, true, List, [], ◌∷◌, map, filter, flat_map, find, length, sum_by, Option, Some, None, All, Contains}
+use Rattle.std.specs.Prelude.{◌≡◌, ℕ, ◌*◌, ℤ, pos, true, List, [], ◌∷◌, map, filter, flat_map, find}
+use Rattle.std.specs.Prelude.{length, sum_by, Option, Some, None, All, Contains}
 use Rattle.std.specs.List.{range_with_len}
 use Rattle.rvs_insn.specs.declared.op.Op.{Op}
 use Rattle.rvs_insn.specs.declared.op.Format.{Format}

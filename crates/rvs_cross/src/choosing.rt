@@ -1,10 +1,12 @@
 // The search for the first instruction that a place asks for. It passes over registers that an
 // assignment excludes.
-ghost use Rattle.std.specs.Prelude.{◌≡◌, ◌+◌, ◌*◌, ◌≤◌, [], ◌∷◌, pos, length, flat_map, find, All, Some, None};
+ghost use Rattle.std.specs.Prelude.{◌≡◌, ◌+◌, ◌*◌, ◌≤◌, [], ◌∷◌, pos, length, flat_map, find, All};
+ghost use Rattle.std.specs.Prelude.{Some, None};
 ghost use Rattle.rvs_insn.specs.Fields.{IsRegister};
 ghost use Rattle.rvs_cross.specs.CrossView.{place_view};
 ghost use Rattle.rvs_cross.specs.Windows as windows;
-ghost use Rattle.rvs_cross.specs.Sequences.{at_rs1, at_rd, over_registers, middle, insns_of, listed, candidates, solution, middle_registers};
+ghost use Rattle.rvs_cross.specs.Sequences.{at_rs1, at_rd, over_registers, middle, insns_of};
+ghost use Rattle.rvs_cross.specs.Sequences.{listed, candidates, solution, middle_registers};
 ghost use Rattle.rvs_cross.specs.Choosing.{same_field, allows_one, allows, admitted_insns};
 
 use crate::cross::{Assignment, Field, Place};

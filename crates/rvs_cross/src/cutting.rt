@@ -1,5 +1,6 @@
 // Parts of a text.
-ghost use Rattle.std.specs.Prelude.{◌≡◌, ◌<◌, ◌≤◌, IfOk, length, map, option_map, slice_index, take};
+ghost use Rattle.std.specs.Prelude.{◌≡◌, ◌<◌, ◌≤◌, IfOk, length, map, option_map, slice_index};
+ghost use Rattle.std.specs.Prelude.{take};
 ghost use Rattle.rvs_abstract.specs.Calls.{before_last, trimmed, without_end, without_spaces};
 ghost use Rattle.rvs_cross.specs.Lists as spec;
 

@@ -1,9 +1,11 @@
 // The instructions that solve a cross point.
-ghost use Rattle.std.specs.Prelude.{◌≡◌, ◌+◌, ◌*◌, ◌≤◌, All, IfOk, IfSome, IfNone, length, map, flat_map, true, Some};
+ghost use Rattle.std.specs.Prelude.{◌≡◌, ◌+◌, ◌*◌, ◌≤◌, All, IfOk, IfSome, IfNone, length, map};
+ghost use Rattle.std.specs.Prelude.{flat_map, true, Some};
 ghost use Rattle.std.specs.List.{list_any};
 ghost use Rattle.rvs_insn.specs.Fields.{IsRegister};
 ghost use Rattle.rvs_cross.specs.CrossView.{place_view, cross_view};
-ghost use Rattle.rvs_cross.specs.Sequences.{IsComputing, Solvable, bound, count_of, first_sequence, first_solutions, solutions};
+ghost use Rattle.rvs_cross.specs.Sequences.{IsComputing, Solvable, bound, count_of, first_sequence};
+ghost use Rattle.rvs_cross.specs.Sequences.{first_solutions, solutions};
 ghost use Rattle.rvs_cross.specs.Windows as windows;
 ghost use Rattle.rvs_cross.specs.Windows.{matches, with_third, with_second};
 

@@ -1,5 +1,6 @@
 -- What is drawn can be encoded, and computes.
-use Rattle.std.proofs.Common.{◌≡◌, ℕ, ◌+◌, ◌%◌, ◌/◌, ◌<◌, Bool, true, false, ◌==◌, if◌then◌else◌, Some, None, refl, sym, subst, arith}
+use Rattle.std.proofs.Common.{◌≡◌, ℕ, ◌+◌, ◌%◌, ◌/◌, ◌<◌, Bool, true, false, ◌==◌, if◌then◌else◌}
+use Rattle.std.proofs.Common.{Some, None, refl, sym, subst, arith}
 use Rattle.rvs_insn.specs.declared.op.Format.{Format}
 use Rattle.rvs_insn.specs.declared.op.Format.TheVariants.{R}
 use Rattle.rvs_insn.specs.declared.op.Op.TheVariants.{Add, Sub, Xor, Or, And, Slt, Sltu, Mul}

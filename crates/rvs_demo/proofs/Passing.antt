@@ -1,5 +1,6 @@
 -- A run passes over instructions that write a register at most.
-use Rattle.std.proofs.Common.{◌≡◌, ℕ, zero, suc, ◌+◌, ◌*◌, ◌^◌, ◌<◌, true, List, [], ◌∷◌, Option, Some, None, refl, sym, ap, ◌∙◌, length, length-set, subst, arith}
+use Rattle.std.proofs.Common.{◌≡◌, ℕ, zero, suc, ◌+◌, ◌*◌, ◌^◌, ◌<◌, true, List, [], ◌∷◌, Option}
+use Rattle.std.proofs.Common.{Some, None, refl, sym, ap, ◌∙◌, length, length-set, subst, arith}
 use Rattle.rvs_insn.specs.Table.{row}
 use Rattle.rvs_insn.specs.Fields.{Fields}
 use Rattle.rvs_machine.specs.declared.event.Executed.{Executed}
@@ -9,7 +10,8 @@ use Rattle.rvs_machine.specs.declared.event.End.TheVariants.{Halted as AtHalt}
 use Rattle.rvs_machine.specs.Effects.{add32}
 use Rattle.rvs_machine.specs.Machine.{Setup, State, step_of, read_reg, write_reg, imm_word}
 use Rattle.rvs_machine.specs.Run.{Outcome, follow, run_of}
-use Rattle.rvs_machine.proofs.Steps.{StandsAt, state, entry, only_writes, written_by, writing_acts, acting_step}
+use Rattle.rvs_machine.proofs.Steps.{StandsAt, state, entry, only_writes, written_by, writing_acts}
+use Rattle.rvs_machine.proofs.Steps.{acting_step}
 use Rattle.rvs_demo.proofs.Standing.{StandFrom}
 
 abbrev pub AllWrite : List Fields → Type 0

@@ -1,11 +1,13 @@
 -- The regions of the program's image are in order.
-use Rattle.std.proofs.Common.{◌≡◌, ℕ, zero, suc, ◌+◌, ◌*◌, ◌≤◌, true, cond, ◌&&◌, List, [], ◌∷◌, ◌++◌, Some, None, refl, ap, ◌∙◌, length, length-append, arith}
+use Rattle.std.proofs.Common.{◌≡◌, ℕ, zero, suc, ◌+◌, ◌*◌, ◌≤◌, true, cond, ◌&&◌, List, [], ◌∷◌}
+use Rattle.std.proofs.Common.{◌++◌, Some, None, refl, ap, ◌∙◌, length, length-append, arith}
 use Rattle.std.specs.Prelude.{nat_le}
 use Rattle.std.specs.Int.{w32, to_le_bytes}
 use Rattle.std.proofs.lemmas.Bool.Decides.{nat_tests}
 use Rattle.rvs_insn.specs.Fields.{Fields}
 use Rattle.rvs_insn.specs.Word.{word_of}
-use Rattle.rvs_machine.specs.Image.{data_base, data_limit, is_text_length, is_tohost, is_signature, if_image}
+use Rattle.rvs_machine.specs.Image.{data_base, data_limit, is_text_length, is_tohost, is_signature}
+use Rattle.rvs_machine.specs.Image.{if_image}
 use Rattle.rvs_demo.specs.Program.{code, generated, beginning, ending, program, image, next_seed}
 
 pub code_length : (is : List Fields) → length (code is) ≡ 4 * length is

@@ -1,5 +1,6 @@
 -- What the counter reports of the run.
-use Rattle.std.proofs.Common.{◌≡◌, ℕ, zero, suc, ◌+◌, List, [], ◌∷◌, refl, ap, subst, ◌∙◌, length, map, replicate, arith}
+use Rattle.std.proofs.Common.{◌≡◌, ℕ, zero, suc, ◌+◌, List, [], ◌∷◌, refl, ap, subst, ◌∙◌, length}
+use Rattle.std.proofs.Common.{map, replicate, arith}
 use Rattle.std.specs.Int.{w32, to_le_bytes}
 use Rattle.rvs_insn.specs.Fields.{Fields}
 use Rattle.rvs_insn.specs.Word.{word_of}

@@ -1,5 +1,8 @@
 -- The program's run comes to its end.
-use Rattle.std.proofs.Common.{◌≡◌, ◌≢◌, ℕ, zero, suc, ◌+◌, ◌*◌, ◌/◌, ◌%◌, ◌^◌, ◌<◌, ◌≤◌, Bool, true, false, ◌&&◌, not, List, [], ◌∷◌, ◌++◌, Some, None, refl, sym, ap, ◌∙◌, length, length-append, length-set, get_or-set_same, get_or-set_other, append_assoc, append-nil, subst, arith}
+use Rattle.std.proofs.Common.{◌≡◌, ◌≢◌, ℕ, zero, suc, ◌+◌, ◌*◌, ◌/◌, ◌%◌, ◌^◌, ◌<◌, ◌≤◌, Bool, true}
+use Rattle.std.proofs.Common.{false, ◌&&◌, not, List, [], ◌∷◌, ◌++◌, Some, None, refl, sym, ap, ◌∙◌}
+use Rattle.std.proofs.Common.{length, length-append, length-set, get_or-set_same, get_or-set_other}
+use Rattle.std.proofs.Common.{append_assoc, append-nil, subst, arith}
 use Rattle.std.specs.Prelude.{◌||◌, map, replicate, pos}
 use Rattle.std.specs.List.{range_with_len}
 use Rattle.std.proofs.lemmas.List.Concat.{flat_map-append}
@@ -12,12 +15,14 @@ use Rattle.rvs_machine.specs.Image.{text_base, data_base}
 use Rattle.rvs_machine.specs.Machine.{Setup, started, read_reg, write_reg}
 use Rattle.rvs_machine.specs.Run.{run_of}
 use Rattle.rvs_machine.proofs.Steps.{only_writes, state, sw, halting_step}
-use Rattle.rvs_demo.specs.Program.{code, core, drawn, drawn_op, generated, next_seed, own_number, beginning, ending, program, image}
+use Rattle.rvs_demo.specs.Program.{code, core, drawn, drawn_op, generated, next_seed, own_number}
+use Rattle.rvs_demo.specs.Program.{beginning, ending, program, image}
 use Rattle.rvs_demo.specs.Demo.{run, IsWhole}
 use Rattle.rvs_demo.proofs.Drawn.{drawn_encodable, drawn_form}
 use Rattle.rvs_demo.proofs.Regions.{code_length, generated_length}
 use Rattle.rvs_demo.proofs.Standing.{AllRun, StandFrom, stand_from}
-use Rattle.rvs_demo.proofs.Passing.{AllWrite, HaltsAfter, HaltsFrom, passed, writing_step, then_halts, halts_now, halts_at, passes}
+use Rattle.rvs_demo.proofs.Passing.{AllWrite, HaltsAfter, HaltsFrom, passed, writing_step}
+use Rattle.rvs_demo.proofs.Passing.{then_halts, halts_now, halts_at, passes}
 
 -- what comes before the end
 abbrev front : ℕ → List Fields

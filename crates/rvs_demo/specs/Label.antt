@@ -4,7 +4,8 @@ use Rattle.std.specs.List.{filter_map}
 use Rattle.rvs_insn.specs.declared.op.Op.{Op}
 use Rattle.rvs_insn.specs.declared.op.Op.TheVariants.{Add, Sub, Xor, Or, And, Slt, Sltu, Mul}
 use Rattle.rvs_cgf.specs.declared.group.Kind.{Kind}
-use Rattle.rvs_cgf.specs.declared.group.Kind.TheVariants.{Mnemonic, Rs1, Rs2, Rd, OpComb, ValComb, CrossComb}
+use Rattle.rvs_cgf.specs.declared.group.Kind.TheVariants.{Mnemonic, Rs1, Rs2, Rd, OpComb, ValComb}
+use Rattle.rvs_cgf.specs.declared.group.Kind.TheVariants.{CrossComb}
 use Rattle.rvs_cgf.specs.Groups.{Point, Label, point}
 use Rattle.rvs_cgf.specs.Valid.{meaning_of}
 

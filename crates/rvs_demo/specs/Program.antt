@@ -1,9 +1,12 @@
 -- The program of the demonstration.
-use Rattle.std.specs.Prelude.{ℕ, zero, suc, ◌+◌, ◌*◌, ◌/◌, ◌%◌, ◌^◌, ◌==◌, true, false, if◌then◌else◌, pos, List, [], ◌∷◌, ◌++◌, map, flat_map, replicate, Some, None}
+use Rattle.std.specs.Prelude.{ℕ, zero, suc, ◌+◌, ◌*◌, ◌/◌, ◌%◌, ◌^◌, ◌==◌, true, false}
+use Rattle.std.specs.Prelude.{if◌then◌else◌, pos, List, [], ◌∷◌, ◌++◌, map, flat_map, replicate}
+use Rattle.std.specs.Prelude.{Some, None}
 use Rattle.std.specs.List.{range_with_len}
 use Rattle.std.specs.Int.{w32, to_le_bytes}
 use Rattle.rvs_insn.specs.declared.op.Op.{Op}
-use Rattle.rvs_insn.specs.declared.op.Op.TheVariants.{Lui, Sw, Addi, Add, Sub, Xor, Or, And, Slt, Sltu, Mul}
+use Rattle.rvs_insn.specs.declared.op.Op.TheVariants.{Lui, Sw, Addi, Add, Sub, Xor, Or, And, Slt}
+use Rattle.rvs_insn.specs.declared.op.Op.TheVariants.{Sltu, Mul}
 use Rattle.rvs_insn.specs.Isa.{Isa}
 use Rattle.rvs_insn.specs.Fields.{Fields}
 use Rattle.rvs_insn.specs.Word.{word_of}

@@ -1,9 +1,14 @@
 -- What the steps of judging leave, put together.
-use Rattle.std.proofs.Common.{◌≡◌, ◌≢◌, ◌↔◌, ◌≤◌, ◌⊎◌, inl, inr, ℕ, ℤ, Bool, true, false, ◌&&◌, is_some, if◌then◌else◌, List, [], ◌∷◌, ◌++◌, length, Option, Some, None, Result, Ok, Err, IfOk, bytes_eq, refl, sym, ap, subst, ◌∙◌, arith}
+use Rattle.std.proofs.Common.{◌≡◌, ◌≢◌, ◌↔◌, ◌≤◌, ◌⊎◌, inl, inr, ℕ, ℤ, Bool, true, false, ◌&&◌}
+use Rattle.std.proofs.Common.{is_some, if◌then◌else◌, List, [], ◌∷◌, ◌++◌, length, Option, Some}
+use Rattle.std.proofs.Common.{None, Result, Ok, Err, IfOk, bytes_eq, refl, sym, ap, subst, ◌∙◌}
+use Rattle.std.proofs.Common.{arith}
 use Rattle.std.proofs.lemmas.Slice.Eq.{bytes_eq-Decides}
 use Rattle.std.proofs.lemmas.List.{append_cancel_left}
 use Rattle.rvs_base.specs.Faults.{Rose}
-use Rattle.rvs_base.specs.Host.{Files, HostState, Tells, is_told, ReadsOnly, WritesOnly, MaySpoil, Spoils, written, with_file, with_left, run_over, RunsOnly, RunsDevice, LeavesRun, ChangesOne, FailsRun}
+use Rattle.rvs_base.specs.Host.{Files, HostState, Tells, is_told, ReadsOnly, WritesOnly, MaySpoil}
+use Rattle.rvs_base.specs.Host.{Spoils, written, with_file, with_left, run_over, RunsOnly}
+use Rattle.rvs_base.specs.Host.{RunsDevice, LeavesRun, ChangesOne, FailsRun}
 use Rattle.rvs_base.specs.declared.host.DeviceRun.{DeviceRun}
 use Rattle.rvs_device.specs.Judged.{verdict_on}
 use Rattle.rvs_device.specs.Judging.{Task, RanOnce, Later, Judges, Spells, PassesBySpelling}
@@ -15,34 +20,45 @@ use Rattle.rvs_device.specs.declared.judging.JudgeFault.TheVariants.{Write, Run,
 use Rattle.rvs_device.proofs.Passing.{passes}
 
 -- ---- files
-choice : (b : Bool) (now now' : Option (List ℕ)) (before : Option (List ℕ)) → (b ≡ true → now ≡ now') → (b ≡ false → now ≡ before) → now ≡ (if b then now' else before)
+choice : (b : Bool) (now now' : Option (List ℕ)) (before : Option (List ℕ))
+    → (b ≡ true → now ≡ now') → (b ≡ false → now ≡ before) → now ≡ (if b then now' else before)
 choice true now now' before here there = here refl
 choice false now now' before here there = there refl
 
 distinct : (other name : List ℕ) → bytes_eq other name ≡ false → other ≢ name
-distinct other name apart is = let here : bytes_eq other name ≡ true = (bytes_eq-Decides other name).1 is in cc
+distinct other name apart is = let here : bytes_eq other name ≡ true =
+    (bytes_eq-Decides other name).1 is in cc
 
 -- files that differ at one name at most
-with_left-of : (name : List ℕ) (files files' : Files) → ((other : List ℕ) → other ≢ name → files' other ≡ files other) → files' ≡ with_left name (files' name) files
-with_left-of name files files' others = λ i other. choice (bytes_eq other name) (files' other) (files' name) (files other)
-    (λ here. ap files' ((bytes_eq-Decides other name).0 here)) (λ apart. others other (distinct other name apart)) i
+with_left-of : (name : List ℕ) (files files' : Files)
+    → ((other : List ℕ) → other ≢ name → files' other ≡ files other)
+    → files' ≡ with_left name (files' name) files
+with_left-of name files files' others =
+    λ i other. choice (bytes_eq other name) (files' other) (files' name) (files other)
+    (λ here. ap files' ((bytes_eq-Decides other name).0 here))
+    (λ apart. others other (distinct other name apart)) i
 
-chosen_again : (b : Bool) (left mid before : Option (List ℕ)) → (if b then left else if b then mid else before) ≡ (if b then left else before)
+chosen_again : (b : Bool) (left mid before : Option (List ℕ))
+    → (if b then left else if b then mid else before) ≡ (if b then left else before)
 chosen_again true left mid before = refl
 chosen_again false left mid before = refl
 
 -- what is left in a file covers what was written there
-pub left_over : (name bytes : List ℕ) (left : Option (List ℕ)) (files : Files) → with_left name left (with_file name bytes files) ≡ with_left name left files
-left_over name bytes left files = λ i other. chosen_again (bytes_eq other name) left (Some bytes) (files other) i
+pub left_over : (name bytes : List ℕ) (left : Option (List ℕ)) (files : Files)
+    → with_left name left (with_file name bytes files) ≡ with_left name left files
+left_over name bytes left files =
+    λ i other. chosen_again (bytes_eq other name) left (Some bytes) (files other) i
 
 pub same_name : (name : List ℕ) → bytes_eq name name ≡ true
 same_name name = (bytes_eq-Decides name name).1 refl
 
-pub at_name : (name : List ℕ) (left : Option (List ℕ)) (files : Files) → with_left name left files name ≡ left
+pub at_name : (name : List ℕ) (left : Option (List ℕ)) (files : Files)
+    → with_left name left files name ≡ left
 at_name name left files = rw (same_name name) refl
 
 -- ---- what is told
-parts_told : (f : Option Files) (r : Option (List ℕ)) (u : Option (List DeviceRun)) → (is_some f && is_some r && is_some u) ≡ true → (is_some r ≡ true) × (is_some u ≡ true)
+parts_told : (f : Option Files) (r : Option (List ℕ)) (u : Option (List DeviceRun))
+    → (is_some f && is_some r && is_some u) ≡ true → (is_some r ≡ true) × (is_some u ≡ true)
 parts_told (Some f) (Some r) (Some u) e = (refl, refl)
 parts_told (Some f) (Some r) None e = absurd cc
 parts_told (Some f) None u e = absurd cc
@@ -51,21 +67,39 @@ parts_told None r u e = absurd cc
 is_told-Tells : {h : HostState} {files : Files} → Tells h files → is_told h ≡ true
 is_told-Tells {h} t = let f = t.files in let r = t.rest in let u = t.runs in rw (f, r, u) refl
 
-Tells-told : (h : HostState) (files : Files) → h.files ≡ Some files → is_told h ≡ true → Tells h files
-Tells-told h files is told = let parts = parts_told h.files h.rest h.runs told in record { files = is; rest = parts.0; runs = parts.1 }
+Tells-told : (h : HostState) (files : Files) → h.files ≡ Some files → is_told h ≡ true
+    → Tells h files
+Tells-told h files is told = let parts = parts_told h.files h.rest h.runs told in
+    record { files = is; rest = parts.0; runs = parts.1 }
 
 -- ---- counts
 Later-start : (h : HostState) → Later h h
-Later-start h = record { reads = omega arith; writes = omega arith; devices = omega arith; told = refl }
+Later-start h =
+    record { reads = omega arith; writes = omega arith; devices = omega arith; told = refl }
 
 Later-trans : {a b c : HostState} → Later a b → Later b c → Later a c
-Later-trans p q = record { reads = omega (arith, p.reads, q.reads); writes = omega (arith, p.writes, q.writes); devices = omega (arith, p.devices, q.devices); told = q.told ∙ p.told }
+Later-trans p q = record {
+  reads = omega (arith, p.reads, q.reads);
+  writes = omega (arith, p.writes, q.writes);
+  devices = omega (arith, p.devices, q.devices);
+  told = q.told ∙ p.told;
+}
 
 Later-writes : {a b : HostState} → WritesOnly a b → Later a b
-Later-writes w = record { reads = let same = w.reading in omega arith; writes = w.later; devices = let same = w.running in omega arith; told = w.told }
+Later-writes w = record {
+  reads = let same = w.reading in omega arith;
+  writes = w.later;
+  devices = let same = w.running in omega arith;
+  told = w.told;
+}
 
 Later-runs : {a b : HostState} → RunsOnly a b → Later a b
-Later-runs r = record { reads = let same = r.reading in omega arith; writes = let same = r.writing in omega arith; devices = r.later; told = r.told }
+Later-runs r = record {
+  reads = let same = r.reading in omega arith;
+  writes = let same = r.writing in omega arith;
+  devices = r.later;
+  told = r.told;
+}
 
 Later-reads : {a b : HostState} → ReadsOnly a b → Later a b
 Later-reads {a} {b} r = record {
@@ -86,7 +120,10 @@ pub judges-no_memory : (t : Task) (h : HostState) → Judges t h h (Err NoMemory
 judges-no_memory t h = record {
   later = Later-start h;
   cause = record { reads = refl; writes = refl; devices = refl };
-  left = λ files runs tells is. inl (record { same = is; left = tells.files ∙ ap (λ (f : Files). Some f) (same_files t.signature files) });
+  left = λ files runs tells is. inl (record {
+    same = is;
+    left = tells.files ∙ ap (λ (f : Files). Some f) (same_files t.signature files);
+  });
 }
 
 -- ---- the write failed
@@ -94,43 +131,73 @@ front_of_none : (front rest : List ℕ) → [] ≡ front ++ rest → front ≡ [
 front_of_none [] rest e = refl
 front_of_none (b ∷ front) rest e = absurd cc
 
-spoilt : (old now : Option (List ℕ)) → (now ≡ old) ⊎ (now ≡ None) ⊎ ((front : List ℕ) × (rest : List ℕ) × ([] ≡ front ++ rest) × (now ≡ Some front)) → (now ≡ old) ⊎ (now ≡ None) ⊎ (now ≡ Some [])
+spoilt : (old now : Option (List ℕ)) → (now ≡ old) ⊎ (now ≡ None) ⊎
+    ((front : List ℕ) × (rest : List ℕ) × ([] ≡ front ++ rest) × (now ≡ Some front)) → (now ≡ old) ⊎
+    (now ≡ None) ⊎ (now ≡ Some [])
 spoilt old now (inl same) = inl same
 spoilt old now (inr (inl none)) = inr (inl none)
-spoilt old now (inr (inr front)) = inr (inr (front.3 ∙ ap (λ (f : List ℕ). Some f) (front_of_none front.0 front.1 front.2)))
+spoilt old now (inr (inr front)) =
+    inr (inr (front.3 ∙ ap (λ (f : List ℕ). Some f) (front_of_none front.0 front.1 front.2)))
 
-spoilt_files : (name : List ℕ) (before now : Option Files) (files : Files) → before ≡ Some files → MaySpoil name [] before now → (files' : Files) × (now ≡ Some files') × Spoils name [] files files'
+spoilt_files : (name : List ℕ) (before now : Option Files) (files : Files) → before ≡ Some files
+    → MaySpoil name [] before now
+    → (files' : Files) × (now ≡ Some files') × Spoils name [] files files'
 spoilt_files name None now files is s = absurd cc
-spoilt_files name (Some f) now files is s = let same : f ≡ files = cc in subst (λ (g : Files). (files' : Files) × (now ≡ Some files') × Spoils name [] g files') same s
+spoilt_files name (Some f) now files is s = let same : f ≡ files = cc in
+    subst (λ (g : Files). (files' : Files) × (now ≡ Some files') × Spoils name [] g files') same s
 
-pub judges-unwritten : (t : Task) (old new : HostState) → WritesOnly old new → MaySpoil t.signature [] old.files new.files → Rose old.write_faults new.write_faults → Judges t old new (Err Write)
+pub judges-unwritten : (t : Task) (old new : HostState) → WritesOnly old new
+    → MaySpoil t.signature [] old.files new.files → Rose old.write_faults new.write_faults
+    → Judges t old new (Err Write)
 judges-unwritten t old new w s rose = record {
   later = Later-writes w;
   cause = rose;
   left = λ files runs tells is.
       let now = spoilt_files t.signature old.files new.files files tells.files s in
-      let covered = with_left-of t.signature files now.0 now.2.others in
-      (now.0 t.signature, record { same = w.runs ∙ is; left = now.1 ∙ ap (λ (f : Files). Some f) covered }, spoilt (files t.signature) (now.0 t.signature) now.2.spoilt);
+      let covered = with_left-of t.signature files now.0 now.2.others in (
+        now.0 t.signature,
+        record {
+          same = w.runs ∙ is;
+          left = now.1 ∙ ap (λ (f : Files). Some f) covered;
+        },
+        spoilt (files t.signature) (now.0 t.signature) now.2.spoilt,
+      );
 }
 
 -- ---- the run failed
-changed_files : (name : List ℕ) (before now : Option Files) (files : Files) → before ≡ Some files → ChangesOne name before now → (files' : Files) × (now ≡ Some files') × ((other : List ℕ) → other ≢ name → files' other ≡ files other)
+changed_files : (name : List ℕ) (before now : Option Files) (files : Files) → before ≡ Some files
+    → ChangesOne name before now → (files' : Files) × (now ≡ Some files')
+    × ((other : List ℕ) → other ≢ name → files' other ≡ files other)
 changed_files name None now files is s = absurd cc
-changed_files name (Some f) now files is s = let same : f ≡ files = cc in subst (λ (g : Files). (files' : Files) × (now ≡ Some files') × ((other : List ℕ) → other ≢ name → files' other ≡ g other)) same s
+changed_files name (Some f) now files is s = let same : f ≡ files = cc in subst
+    (λ (g : Files). (files' : Files) × (now ≡ Some files')
+    × ((other : List ℕ) → other ≢ name → files' other ≡ g other)) same s
 
 -- the files after the empty one was written
-emptied : (t : Task) (old mid : HostState) (files : Files) → mid.files ≡ written t.signature [] old.files → old.files ≡ Some files → mid.files ≡ Some (with_file t.signature [] files)
+emptied : (t : Task) (old mid : HostState) (files : Files)
+    → mid.files ≡ written t.signature [] old.files → old.files ≡ Some files
+    → mid.files ≡ Some (with_file t.signature [] files)
 emptied t old mid files wrote is = wrote ∙ ap (written t.signature []) is
 
-pub judges-not_run : (t : Task) (old mid new : HostState) → WritesOnly old mid → mid.files ≡ written t.signature [] old.files → RunsOnly mid new → FailsRun t.signature mid new → Rose mid.run_faults new.run_faults → Judges t old new (Err Run)
+pub judges-not_run : (t : Task) (old mid new : HostState) → WritesOnly old mid
+    → mid.files ≡ written t.signature [] old.files → RunsOnly mid new → FailsRun t.signature mid new
+    → Rose mid.run_faults new.run_faults → Judges t old new (Err Run)
 judges-not_run t old mid new w wrote r failed rose = record {
   later = Later-trans (Later-writes w) (Later-runs r);
-  cause = let same = w.running in Rose-behind old.run_faults mid.run_faults new.run_faults (omega arith) rose;
+  cause = let same = w.running in
+      Rose-behind old.run_faults mid.run_faults new.run_faults (omega arith) rose;
   left = λ files runs tells is.
       let before = with_file t.signature [] files in
-      let now = changed_files t.signature mid.files new.files before (emptied t old mid files wrote tells.files) failed.files in
-      let covered = with_left-of t.signature before now.0 now.2 ∙ left_over t.signature [] (now.0 t.signature) files in
-      (now.0 t.signature, record { same = failed.runs ∙ w.runs ∙ is; left = now.1 ∙ ap (λ (f : Files). Some f) covered });
+      let now = changed_files t.signature mid.files new.files before
+      (emptied t old mid files wrote tells.files) failed.files in
+      let covered = with_left-of t.signature before now.0 now.2
+      ∙ left_over t.signature [] (now.0 t.signature) files in (
+        now.0 t.signature,
+        record {
+          same = failed.runs ∙ w.runs ∙ is;
+          left = now.1 ∙ ap (λ (f : Files). Some f) covered;
+        },
+      );
 }
 
 -- ---- the run was made
@@ -143,14 +210,18 @@ pub record Made (t : Task) (old mid new : HostState) (status : ℤ) : Type 0 whe
   pub ran : RunsDevice t.words t.test t.signature mid new status
   pub done : new.run_faults ≡ mid.run_faults
 
-made-later : {t : Task} {old mid new : HostState} {status : ℤ} → Made t old mid new status → Later old new
+made-later : {t : Task} {old mid new : HostState} {status : ℤ} → Made t old mid new status
+    → Later old new
 made-later m = Later-trans (Later-writes m.wrote) (Later-runs m.runs)
 
 -- the run, and the files that it left
-made-run : (t : Task) (old mid new : HostState) (status : ℤ) (files : Files) (runs : List DeviceRun) → Made t old mid new status → Tells old files → old.runs ≡ Some runs → (run : DeviceRun) × RanOnce t files runs new run × (run.status ≡ status)
+made-run : (t : Task) (old mid new : HostState) (status : ℤ) (files : Files) (runs : List DeviceRun)
+    → Made t old mid new status → Tells old files → old.runs ≡ Some runs
+    → (run : DeviceRun) × RanOnce t files runs new run × (run.status ≡ status)
 made-run t old mid new status files runs m tells is =
     let before = with_file t.signature [] files in
-    let ran : LeavesRun t.words t.test t.signature before runs new status = m.ran before runs (emptied t old mid files m.written tells.files) (m.wrote.runs ∙ is) in (
+    let ran : LeavesRun t.words t.test t.signature before runs new status =
+    m.ran before runs (emptied t old mid files m.written tells.files) (m.wrote.runs ∙ is) in (
       run_over t.words t.test t.signature before ran.left status,
       record {
         added = ran.runs_are;
@@ -163,21 +234,40 @@ made-run t old mid new status files runs m tells is =
     )
 
 -- reading changes neither files nor runs
-RanOnce-reads : {t : Task} {files : Files} {runs : List DeviceRun} {mid new : HostState} {run : DeviceRun} → ReadsOnly mid new → RanOnce t files runs mid run → RanOnce t files runs new run
-RanOnce-reads r ran = record { added = r.runs ∙ ran.added; words = ran.words; test = ran.test; before = ran.before; left = r.files ∙ ran.left }
+RanOnce-reads : {t : Task} {files : Files} {runs : List DeviceRun} {mid new : HostState}
+    {run : DeviceRun} → ReadsOnly mid new → RanOnce t files runs mid run → RanOnce t files runs new
+    run
+RanOnce-reads r ran = record {
+  added = r.runs ∙ ran.added;
+  words = ran.words;
+  test = ran.test;
+  before = ran.before;
+  left = r.files ∙ ran.left;
+}
 
 -- the verdict is that of what the run left
-found-left : (t : Task) (files : Files) (runs : List DeviceRun) (h : HostState) (run : DeviceRun) (status : ℤ) (verdict : TestVerdict) → RanOnce t files runs h run → run.status ≡ status → is_told h ≡ true → ((files' : Files) → Tells h files' → verdict ≡ verdict_on status t.reference (files' t.signature)) → verdict ≡ verdict_on run.status t.reference run.after
+found-left : (t : Task) (files : Files) (runs : List DeviceRun) (h : HostState) (run : DeviceRun)
+    (status : ℤ) (verdict : TestVerdict) → RanOnce t files runs h run → run.status ≡ status
+    → is_told h ≡ true → ((files' : Files) → Tells h files'
+    → verdict ≡ verdict_on status t.reference (files' t.signature)) → verdict ≡ verdict_on
+    run.status t.reference run.after
 found-left t files runs h run status verdict ran same told finds =
-    finds (with_left t.signature run.after files) (Tells-told h (with_left t.signature run.after files) ran.left told)
-    ∙ ap (λ (left : Option (List ℕ)). verdict_on status t.reference left) (at_name t.signature run.after files)
+    finds (with_left t.signature run.after files)
+    (Tells-told h (with_left t.signature run.after files) ran.left told)
+    ∙ ap (λ (left : Option (List ℕ)). verdict_on status t.reference left)
+    (at_name t.signature run.after files)
     ∙ ap (λ (s : ℤ). verdict_on s t.reference run.after) (sym same)
 
-pub judges-read : (t : Task) (old mid ran new : HostState) (status : ℤ) (result : Result TestVerdict JudgeFault) → Made t old mid ran status → ReadsBack t.signature status t.reference ran new result → Judges t old new result
+pub judges-read : (t : Task) (old mid ran new : HostState) (status : ℤ)
+    (result : Result TestVerdict JudgeFault) → Made t old mid ran status → ReadsBack t.signature
+    status t.reference ran new result → Judges t old new result
 judges-read t old mid ran new status (Ok verdict) m back = record {
   later = Later-trans (made-later m) (Later-reads back.reads_only);
   cause = record {
-    reads = λ known. back.comes.counts.reads (elim known [ inl told ↦ inl ((made-later m).told ∙ told) | inr not ↦ inr not ]) ∙ m.runs.reading ∙ m.wrote.reading;
+    reads = λ known. back.comes.counts.reads (elim known [
+      | inl told ↦ inl ((made-later m).told ∙ told)
+      | inr not ↦ inr not
+    ]) ∙ m.runs.reading ∙ m.wrote.reading;
     writes = back.comes.counts.writes ∙ m.runs.writing ∙ m.quiet;
     devices = back.comes.counts.devices ∙ m.done ∙ m.wrote.running;
   };
@@ -190,8 +280,10 @@ judges-read t old mid ran new status (Err Write) m back = absurd back.comes
 judges-read t old mid ran new status (Err Run) m back = absurd back.comes
 judges-read t old mid ran new status (Err Read) m back = record {
   later = Later-trans (made-later m) (Later-reads back.reads_only);
-  cause = Rose-behind old.read_faults ran.read_faults new.read_faults (made-later m).reads back.comes;
-  left = λ files runs tells is. let run = made-run t old mid ran status files runs m tells is in (run.0, RanOnce-reads back.reads_only run.1);
+  cause =
+      Rose-behind old.read_faults ran.read_faults new.read_faults (made-later m).reads back.comes;
+  left = λ files runs tells is. let run = made-run t old mid ran status files runs m tells is in
+      (run.0, RanOnce-reads back.reads_only run.1);
 }
 judges-read t old mid ran new status (Err NoMemory) m back = record {
   later = Later-trans (made-later m) (Later-reads back.reads_only);
@@ -200,29 +292,38 @@ judges-read t old mid ran new status (Err NoMemory) m back = record {
     writes = back.reads_only.writing ∙ m.runs.writing ∙ m.quiet;
     devices = back.reads_only.running ∙ m.done ∙ m.wrote.running;
   };
-  left = λ files runs tells is. let run = made-run t old mid ran status files runs m tells is in inr (run.0, RanOnce-reads back.reads_only run.1);
+  left = λ files runs tells is. let run = made-run t old mid ran status files runs m tells is in
+      inr (run.0, RanOnce-reads back.reads_only run.1);
 }
 
 -- ---- a pass
 last_run : (a b : DeviceRun) → a ∷ [] ≡ b ∷ [] → a ≡ b
 last_run a b e = cc
 
-same_run : (runs : List DeviceRun) (a b : DeviceRun) (now : Option (List DeviceRun)) → now ≡ Some (runs ++ a ∷ []) → now ≡ Some (runs ++ b ∷ []) → a ≡ b
+same_run : (runs : List DeviceRun) (a b : DeviceRun) (now : Option (List DeviceRun))
+    → now ≡ Some (runs ++ a ∷ []) → now ≡ Some (runs ++ b ∷ []) → a ≡ b
 same_run runs a b now p q =
     let both : Some (runs ++ a ∷ []) ≡ Some (runs ++ b ∷ []) = sym p ∙ q in
     let lists : runs ++ a ∷ [] ≡ runs ++ b ∷ [] = cc in
     last_run a b (append_cancel_left runs (a ∷ []) (b ∷ []) lists)
 
-passes-by : (t : Task) (verdict : TestVerdict) (a b : DeviceRun) → a ≡ b → verdict ≡ verdict_on a.status t.reference a.after → (verdict ≡ Pass (length t.reference) b.status) ↔ Spells t b.after
+passes-by : (t : Task) (verdict : TestVerdict) (a b : DeviceRun) → a ≡ b
+    → verdict ≡ verdict_on a.status t.reference a.after
+    → (verdict ≡ Pass (length t.reference) b.status) ↔ Spells t b.after
 passes-by t verdict a b same is =
-    subst (λ (r : DeviceRun). (verdict ≡ Pass (length t.reference) r.status) ↔ Spells t r.after) same
-    (subst (λ (v : TestVerdict). (v ≡ Pass (length t.reference) a.status) ↔ Spells t a.after) (sym is) (passes t a.status a.after))
+    subst (λ (r : DeviceRun). (verdict ≡ Pass (length t.reference) r.status) ↔ Spells t r.after)
+    same
+    (subst (λ (v : TestVerdict). (v ≡ Pass (length t.reference) a.status) ↔ Spells t a.after)
+    (sym is) (passes t a.status a.after))
 
-judges-passes : (t : Task) (old new : HostState) (verdict : TestVerdict) → Judges t old new (Ok verdict) → PassesBySpelling t old new verdict
+judges-passes : (t : Task) (old new : HostState) (verdict : TestVerdict)
+    → Judges t old new (Ok verdict) → PassesBySpelling t old new verdict
 judges-passes t old new verdict j = λ files runs run tells is added.
     let judged = j.left files runs tells is in
-    passes-by t verdict judged.0 run (same_run runs judged.0 run new.runs judged.1.added added) judged.2
+    passes-by t verdict judged.0 run (same_run runs judged.0 run new.runs judged.1.added added)
+    judged.2
 
-pub judges-passes-if : (t : Task) (old new : HostState) (result : Result TestVerdict JudgeFault) → Judges t old new result → IfOk result (PassesBySpelling t old new)
+pub judges-passes-if : (t : Task) (old new : HostState) (result : Result TestVerdict JudgeFault)
+    → Judges t old new result → IfOk result (PassesBySpelling t old new)
 judges-passes-if t old new (Ok verdict) j = judges-passes t old new verdict j
 judges-passes-if t old new (Err fault) j = tt

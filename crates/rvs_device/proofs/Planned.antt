@@ -1,12 +1,16 @@
 -- Judging meets its plan.
-use Rattle.std.proofs.Common.{◌≡◌, ◌≢◌, ◌⊎◌, inl, inr, ℕ, Bool, true, false, is_some, if◌then◌else◌, List, [], ◌∷◌, ◌++◌, Option, Some, None, Result, Ok, Err, IfErr, bytes_eq, refl, sym, ap, subst, ◌∙◌}
+use Rattle.std.proofs.Common.{◌≡◌, ◌≢◌, ◌⊎◌, inl, inr, ℕ, Bool, true, false, is_some, if◌then◌else◌}
+use Rattle.std.proofs.Common.{List, [], ◌∷◌, ◌++◌, Option, Some, None, Result, Ok, Err, IfErr}
+use Rattle.std.proofs.Common.{bytes_eq, refl, sym, ap, subst, ◌∙◌}
 use Rattle.std.proofs.lemmas.Slice.Eq.{bytes_eq-Decides}
-use Rattle.rvs_base.specs.Host.{Files, HostState, Tells, MaySpoil, Spoils, written, with_file, with_left, run_over, ChangesOne}
+use Rattle.rvs_base.specs.Host.{Files, HostState, Tells, MaySpoil, Spoils, written, with_file}
+use Rattle.rvs_base.specs.Host.{with_left, run_over, ChangesOne}
 use Rattle.rvs_base.specs.declared.host.DeviceRun.{DeviceRun}
 use Rattle.rvs_base.specs.Sink.{SinkState}
 use Rattle.rvs_plan.specs.World.{World, Contents, contents, world, IsAnswer}
 use Rattle.rvs_plan.specs.World as plan
-use Rattle.rvs_plan.specs.Effect.{Answer, Write, Effect, Read, Device, Did, after, left_by, run_added}
+use Rattle.rvs_plan.specs.Effect.{Answer, Write, Effect, Read, Device, Did, after, left_by}
+use Rattle.rvs_plan.specs.Effect.{run_added}
 use Rattle.rvs_plan.specs.Plan.{Ends}
 use Rattle.rvs_plan.specs.Meets.{Reaches, Follows, HasCause, NoFault, MeetsWith}
 use Rattle.rvs_plan.proofs.Reaching.{Reaches-start}
@@ -29,24 +33,40 @@ answer_of run = record { left = run.after; status = run.status }
 abbrev running : Task → DeviceRun → Effect
 running t run = Device t.words t.test t.signature (answer_of run)
 
-run_is : (t : Task) (files : Files) (runs : List DeviceRun) (new : HostState) (run : DeviceRun) → RanOnce t files runs new run → run ≡ run_over t.words t.test t.signature (with_file t.signature [] files) run.after run.status
+run_is : (t : Task) (files : Files) (runs : List DeviceRun) (new : HostState) (run : DeviceRun)
+    → RanOnce t files runs new run → run
+    ≡ run_over t.words t.test t.signature (with_file t.signature [] files) run.after run.status
 run_is t files runs new run ran =
-    let empty : with_file t.signature [] files t.signature ≡ Some [] = rw (same_name t.signature) refl in
+    let empty : with_file t.signature [] files t.signature ≡ Some [] =
+    rw (same_name t.signature) refl in
     let before : run.before ≡ with_file t.signature [] files t.signature = ran.before ∙ sym empty in
-    λ i. record { words = ran.words i; test = ran.test i; before = before i; after = run.after; status = run.status }
+    λ i. record {
+      words = ran.words i;
+      test = ran.test i;
+      before = before i;
+      after = run.after;
+      status = run.status;
+    }
 
-files_did : (t : Task) (files : Files) (runs : List DeviceRun) (old new : HostState) (run : DeviceRun) → old.files ≡ Some files → RanOnce t files runs new run → new.files ≡ left_by t.signature (answer_of run) (written t.signature [] old.files)
+files_did : (t : Task) (files : Files) (runs : List DeviceRun) (old new : HostState)
+    (run : DeviceRun) → old.files ≡ Some files → RanOnce t files runs new run → new.files ≡ left_by
+    t.signature (answer_of run) (written t.signature [] old.files)
 files_did t files runs old new run is ran =
     ran.left ∙ ap (λ (f : Files). Some f) (sym (left_over t.signature [] run.after files))
-    ∙ ap (λ (f : Option Files). left_by t.signature (answer_of run) (written t.signature [] f)) (sym is)
+    ∙ ap (λ (f : Option Files). left_by t.signature (answer_of run) (written t.signature [] f))
+    (sym is)
 
-runs_did : (t : Task) (files : Files) (runs : List DeviceRun) (old new : HostState) (run : DeviceRun) → old.files ≡ Some files → old.runs ≡ Some runs → RanOnce t files runs new run
-    → new.runs ≡ run_added t.words t.test t.signature (answer_of run) (written t.signature [] old.files) old.runs
+runs_did : (t : Task) (files : Files) (runs : List DeviceRun) (old new : HostState)
+    (run : DeviceRun) → old.files ≡ Some files → old.runs ≡ Some runs → RanOnce t files runs new run
+    → new.runs ≡ run_added t.words t.test t.signature (answer_of run)
+    (written t.signature [] old.files) old.runs
 runs_did t files runs old new run is before ran =
     ran.added ∙ ap (λ (r : DeviceRun). Some (runs ++ r ∷ [])) (run_is t files runs new run ran)
-    ∙ (λ i. run_added t.words t.test t.signature (answer_of run) (written t.signature [] (sym is i)) (sym before i))
+    ∙ (λ i. run_added t.words t.test t.signature (answer_of run) (written t.signature [] (sym is i))
+    (sym before i))
 
-ran_did : (t : Task) (out : SinkState) (files : Files) (runs : List DeviceRun) (old new : HostState) (run : DeviceRun) → old.files ≡ Some files → old.runs ≡ Some runs → RanOnce t files runs new run
+ran_did : (t : Task) (out : SinkState) (files : Files) (runs : List DeviceRun) (old new : HostState)
+    (run : DeviceRun) → old.files ≡ Some files → old.runs ≡ Some runs → RanOnce t files runs new run
     → contents (world new out) ≡ after (emptying t ∷ running t run ∷ []) (contents (world old out))
 ran_did t out files runs old new run is before ran =
     let f = files_did t files runs old new run is ran in
@@ -54,8 +74,11 @@ ran_did t out files runs old new run is before ran =
     λ i. record { files = f i; runs = r i; out = out.bytes }
 
 -- the run was made, and its file isn't read yet
-ran_reaches : (t : Task) (out : SinkState) (files : Files) (runs : List DeviceRun) (old new : HostState) (run : DeviceRun) → old.files ≡ Some files → old.runs ≡ Some runs → RanOnce t files runs new run
-    → Reaches (judged t) (read_back t run.status) (contents (world old out)) (contents (world new out))
+ran_reaches : (t : Task) (out : SinkState) (files : Files) (runs : List DeviceRun)
+    (old new : HostState) (run : DeviceRun) → old.files ≡ Some files → old.runs ≡ Some runs
+    → RanOnce t files runs new run
+    → Reaches (judged t) (read_back t run.status) (contents (world old out))
+    (contents (world new out))
 ran_reaches t out files runs old new run is before ran = record {
   effects = emptying t ∷ running t run ∷ [];
   goes = (refl, (refl, refl, refl, refl));
@@ -64,14 +87,21 @@ ran_reaches t out files runs old new run is before ran = record {
 }
 
 -- what the file then holds is what the run left
-read_left : (t : Task) (files : Files) (run : DeviceRun) (before : Option Files) (files' : Files) → before ≡ Some files → left_by t.signature (answer_of run) (written t.signature [] before) ≡ Some files' → files' t.signature ≡ run.after
+read_left : (t : Task) (files : Files) (run : DeviceRun) (before : Option Files) (files' : Files)
+    → before ≡ Some files
+    → left_by t.signature (answer_of run) (written t.signature [] before) ≡ Some files'
+    → files' t.signature ≡ run.after
 read_left t files run None files' is e = absurd cc
 read_left t files run (Some f) files' is e =
     let same : with_left t.signature run.after (with_file t.signature [] f) ≡ files' = cc in
-    ap (λ (g : Files). g t.signature) (sym same) ∙ at_name t.signature run.after (with_file t.signature [] f)
+    ap (λ (g : Files). g t.signature) (sym same)
+    ∙ at_name t.signature run.after (with_file t.signature [] f)
 
-judged_reaches : (t : Task) (out : SinkState) (files : Files) (runs : List DeviceRun) (old new : HostState) (run : DeviceRun) (verdict : TestVerdict) → old.files ≡ Some files → old.runs ≡ Some runs → RanOnce t files runs new run
-    → verdict ≡ verdict_on run.status t.reference run.after → Reaches (judged t) (Ends (Ok verdict)) (contents (world old out)) (contents (world new out))
+judged_reaches : (t : Task) (out : SinkState) (files : Files) (runs : List DeviceRun)
+    (old new : HostState) (run : DeviceRun) (verdict : TestVerdict) → old.files ≡ Some files
+    → old.runs ≡ Some runs → RanOnce t files runs new run
+    → verdict ≡ verdict_on run.status t.reference run.after → Reaches (judged t) (Ends (Ok verdict))
+    (contents (world old out)) (contents (world new out))
 judged_reaches t out files runs old new run verdict is before ran e = record {
   effects = emptying t ∷ running t run ∷ Read t.signature run.after ∷ [];
   goes = (refl, (refl, refl, refl, (refl, ap (λ (v : TestVerdict). Ends (Ok v)) (sym e))));
@@ -80,49 +110,73 @@ judged_reaches t out files runs old new run verdict is before ran e = record {
 }
 
 -- ---- files of which one alone may have changed
-elsewhere : (b : Bool) (left before : Option (List ℕ)) → b ≡ false → (if b then left else before) ≡ before
+elsewhere : (b : Bool) (left before : Option (List ℕ)) → b ≡ false
+    → (if b then left else before) ≡ before
 elsewhere b left before e = rw e refl
 
 unnamed : (b : Bool) (other name : List ℕ) → bytes_eq other name ≡ b → other ≢ name → b ≡ false
 unnamed true other name e apart = absurd (apart ((bytes_eq-Decides other name).0 e))
 unnamed false other name e apart = refl
 
-others_kept : (name : List ℕ) (left : Option (List ℕ)) (files : Files) (other : List ℕ) → other ≢ name → with_left name left files other ≡ files other
-others_kept name left files other apart = elsewhere (bytes_eq other name) left (files other) (unnamed (bytes_eq other name) other name refl apart)
+others_kept : (name : List ℕ) (left : Option (List ℕ)) (files : Files) (other : List ℕ)
+    → other ≢ name → with_left name left files other ≡ files other
+others_kept name left files other apart = elsewhere (bytes_eq other name) left (files other)
+    (unnamed (bytes_eq other name) other name refl apart)
 
-may_spoil : (t : Task) (files : Files) (before now : Option Files) (left : Option (List ℕ)) → before ≡ Some files → now ≡ Some (with_left t.signature left files) → (left ≡ files t.signature) ⊎ (left ≡ None) ⊎ (left ≡ Some [])
+may_spoil : (t : Task) (files : Files) (before now : Option Files) (left : Option (List ℕ))
+    → before ≡ Some files → now ≡ Some (with_left t.signature left files)
+    → (left ≡ files t.signature) ⊎ (left ≡ None) ⊎ (left ≡ Some [])
     → MaySpoil t.signature [] before now
 may_spoil t files before now left is now_is how =
     let at : with_left t.signature left files t.signature ≡ left = at_name t.signature left files in
     let spoils : Spoils t.signature [] files (with_left t.signature left files) = record {
       others = λ other apart. others_kept t.signature left files other apart;
-      spoilt = elim how [ inl same ↦ inl (at ∙ same) | inr more ↦ elim more [ inl none ↦ inr (inl (at ∙ none)) | inr empty ↦ inr (inr ([], [], refl, at ∙ empty)) ] ];
+      spoilt = elim how [
+        | inl same ↦ inl (at ∙ same)
+        | inr more ↦ elim more [
+          | inl none ↦ inr (inl (at ∙ none))
+          | inr empty ↦ inr (inr ([], [], refl, at ∙ empty))
+        ]
+      ];
     } in
-    subst (λ (b : Option Files). MaySpoil t.signature [] b now) (sym is) (with_left t.signature left files, now_is, spoils)
+    subst (λ (b : Option Files). MaySpoil t.signature [] b now) (sym is)
+    (with_left t.signature left files, now_is, spoils)
 
-changes_one : (t : Task) (files : Files) (before now : Option Files) (left : Option (List ℕ)) → before ≡ Some files → now ≡ Some (with_left t.signature left files) → ChangesOne t.signature (written t.signature [] before) now
+changes_one : (t : Task) (files : Files) (before now : Option Files) (left : Option (List ℕ))
+    → before ≡ Some files → now ≡ Some (with_left t.signature left files)
+    → ChangesOne t.signature (written t.signature [] before) now
 changes_one t files before now left is now_is =
     subst (λ (b : Option Files). ChangesOne t.signature (written t.signature [] b) now) (sym is)
     (with_left t.signature left files, now_is, λ other apart. others_kept t.signature left files other apart ∙ sym (others_kept t.signature (Some []) files other apart))
 
 -- nothing was done
-kept : (t : Task) (out : SinkState) (files : Files) (runs : List DeviceRun) (old new : HostState) → old.files ≡ Some files → old.runs ≡ Some runs → RanNone t files runs new (files t.signature) → contents (world new out) ≡ contents (world old out)
+kept : (t : Task) (out : SinkState) (files : Files) (runs : List DeviceRun) (old new : HostState)
+    → old.files ≡ Some files → old.runs ≡ Some runs → RanNone t files runs new (files t.signature)
+    → contents (world new out) ≡ contents (world old out)
 kept t out files runs old new is before none =
-    let f : new.files ≡ old.files = none.left ∙ ap (λ (g : Files). Some g) (sym (same_files t.signature files)) ∙ sym is in
+    let f : new.files ≡ old.files =
+    none.left ∙ ap (λ (g : Files). Some g) (sym (same_files t.signature files)) ∙ sym is in
     let r : new.runs ≡ old.runs = none.same ∙ sym before in
     λ i. record { files = f i; runs = r i; out = out.bytes }
 
 -- ---- by the result
-follows : (t : Task) (out : SinkState) (files : Files) (runs : List DeviceRun) (old new : HostState) (result : Result TestVerdict JudgeFault) → old.files ≡ Some files → old.runs ≡ Some runs → Left t files runs new result
+follows : (t : Task) (out : SinkState) (files : Files) (runs : List DeviceRun) (old new : HostState)
+    (result : Result TestVerdict JudgeFault) → old.files ≡ Some files → old.runs ≡ Some runs → Left
+    t files runs new result
     → Follows (judged t) (contents (world old out)) (contents (world new out)) (stopped t result)
-follows t out files runs old new (Ok verdict) is before left = judged_reaches t out files runs old new left.0 verdict is before left.1 left.2
+follows t out files runs old new (Ok verdict) is before left =
+    judged_reaches t out files runs old new left.0 verdict is before left.1 left.2
 follows t out files runs old new (Err fault.Write) is before left = (
   [],
   record {
     rest = run_and_read t;
     before = contents (world old out);
     reaches = Reaches-start (judged t) (contents (world old out));
-    broke = record { files = may_spoil t files old.files new.files left.0 is left.1.left left.2; runs = left.1.same ∙ sym before; out = refl };
+    broke = record {
+      files = may_spoil t files old.files new.files left.0 is left.1.left left.2;
+      runs = left.1.same ∙ sym before;
+      out = refl;
+    };
   },
 )
 follows t out files runs old new (Err fault.Run) is before left = record {
@@ -131,47 +185,88 @@ follows t out files runs old new (Err fault.Run) is before left = record {
   next = λ answer. read_back t answer.status;
   before = after (emptying t ∷ []) (contents (world old out));
   reaches = record { effects = emptying t ∷ []; goes = (refl, refl); saw = (tt, tt); did = refl };
-  broke = record { files = changes_one t files old.files new.files left.0 is left.1.left; runs = left.1.same ∙ sym before; out = refl };
+  broke = record {
+    files = changes_one t files old.files new.files left.0 is left.1.left;
+    runs = left.1.same ∙ sym before;
+    out = refl;
+  };
 }
 follows t out files runs old new (Err fault.Read) is before left = record {
   next = λ found. Ends (Ok (verdict_on left.0.status t.reference found));
   reaches = ran_reaches t out files runs old new left.0 is before left.1;
 }
-follows t out files runs old new (Err fault.NoMemory) is before (inl none) = (judged t, record { effects = []; goes = refl; saw = tt; did = kept t out files runs old new is before none })
-follows t out files runs old new (Err fault.NoMemory) is before (inr ran) = (read_back t ran.0.status, ran_reaches t out files runs old new ran.0 is before ran.1)
+follows t out files runs old new (Err fault.NoMemory) is before (inl none) = (
+  judged t,
+  record {
+    effects = [];
+    goes = refl;
+    saw = tt;
+    did = kept t out files runs old new is before none;
+  },
+)
+follows t out files runs old new (Err fault.NoMemory) is before (inr ran) =
+    (read_back t ran.0.status, ran_reaches t out files runs old new ran.0 is before ran.1)
 
-told_runs : (r : Option (List DeviceRun)) → is_some r ≡ true → (runs : List DeviceRun) × (r ≡ Some runs)
+told_runs : (r : Option (List DeviceRun)) → is_some r ≡ true
+    → (runs : List DeviceRun) × (r ≡ Some runs)
 told_runs None e = absurd cc
 told_runs (Some runs) e = (runs, refl)
 
 -- what was done over told files is by the plan
-judged-follows : (t : Task) (out : SinkState) (old new : HostState) (result : Result TestVerdict JudgeFault) → Judges t old new result
-    → (files : Files) → Tells old files → Follows (judged t) (contents (world old out)) (contents (world new out)) (stopped t result)
+judged-follows : (t : Task) (out : SinkState) (old new : HostState)
+    (result : Result TestVerdict JudgeFault) → Judges t old new result
+    → (files : Files) → Tells old files → Follows (judged t) (contents (world old out))
+    (contents (world new out)) (stopped t result)
 judged-follows t out old new result j files tells =
     let runs = told_runs old.runs tells.runs in
     follows t out files runs.0 old new result tells.files runs.1 (j.left files runs.0 tells runs.1)
 
 -- no count fell
-judged-later : (t : Task) (out : SinkState) (old new : HostState) (result : Result TestVerdict JudgeFault) → Judges t old new result → plan.Later (world old out) (world new out)
-judged-later t out old new result j = record { reads = j.later.reads; writes = j.later.writes; devices = j.later.devices; told = j.later.told; output = LaterSink-start out }
+judged-later : (t : Task) (out : SinkState) (old new : HostState)
+    (result : Result TestVerdict JudgeFault) → Judges t old new result → plan.Later (world old out)
+    (world new out)
+judged-later t out old new result j = record {
+  reads = j.later.reads;
+  writes = j.later.writes;
+  devices = j.later.devices;
+  told = j.later.told;
+  output = LaterSink-start out;
+}
 
 -- the cause of a stop
-judged-cause : (t : Task) (out : SinkState) (old new : HostState) (result : Result TestVerdict JudgeFault) → Judges t old new result → IfErr (stopped t result) (HasCause (world old out) (world new out))
+judged-cause : (t : Task) (out : SinkState) (old new : HostState)
+    (result : Result TestVerdict JudgeFault) → Judges t old new result → IfErr (stopped t result)
+    (HasCause (world old out) (world new out))
 judged-cause t out old new (Ok verdict) j = tt
 judged-cause t out old new (Err fault.Write) j = j.cause
 judged-cause t out old new (Err fault.Run) j = j.cause
 judged-cause t out old new (Err fault.Read) j = j.cause
 judged-cause t out old new (Err fault.NoMemory) j = tt
 
--- no count changed but for a stop that tells of it, and for a signature file that isn't there on a host that isn't told
-judged-unfaulted : (t : Task) (out : SinkState) (old new : HostState) (result : Result TestVerdict JudgeFault) → Judges t old new result → NoFault IsAnswer (world old out) (world new out) (stopped t result)
-judged-unfaulted t out old new (Ok verdict) j = record { reads = λ told. j.cause.reads (inl told); writes = j.cause.writes; devices = j.cause.devices; output = refl }
+-- no count changed but for a stop that tells of it, and for a signature file that isn't there on a
+-- host that isn't told
+judged-unfaulted : (t : Task) (out : SinkState) (old new : HostState)
+    (result : Result TestVerdict JudgeFault) → Judges t old new result → NoFault IsAnswer
+    (world old out) (world new out) (stopped t result)
+judged-unfaulted t out old new (Ok verdict) j = record {
+  reads = λ told. j.cause.reads (inl told);
+  writes = j.cause.writes;
+  devices = j.cause.devices;
+  output = refl;
+}
 judged-unfaulted t out old new (Err fault.Write) j = tt
 judged-unfaulted t out old new (Err fault.Run) j = tt
 judged-unfaulted t out old new (Err fault.Read) j = tt
-judged-unfaulted t out old new (Err fault.NoMemory) j = record { reads = λ told. j.cause.reads; writes = j.cause.writes; devices = j.cause.devices; output = refl }
+judged-unfaulted t out old new (Err fault.NoMemory) j = record {
+  reads = λ told. j.cause.reads;
+  writes = j.cause.writes;
+  devices = j.cause.devices;
+  output = refl;
+}
 
-pub Meets-judged : (t : Task) (out : SinkState) (old new : HostState) (result : Result TestVerdict JudgeFault) → Judges t old new result → MeetsWith IsAnswer (judged t) (world old out) (world new out) (stopped t result)
+pub Meets-judged : (t : Task) (out : SinkState) (old new : HostState)
+    (result : Result TestVerdict JudgeFault) → Judges t old new result → MeetsWith IsAnswer
+    (judged t) (world old out) (world new out) (stopped t result)
 Meets-judged t out old new result j = record {
   later = judged-later t out old new result j;
   cause = judged-cause t out old new result j;

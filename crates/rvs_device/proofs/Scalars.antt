@@ -1,5 +1,6 @@
 -- The texts of a list of scalars, one after another.
-use Rattle.std.proofs.Common.{◌≡◌, ℕ, zero, suc, ◌+◌, Bool, true, false, ◌&&◌, List, [], ◌∷◌, ◌++◌, map, take, slice_get, Some, None, refl, sym, ap, subst, ◌∙◌}
+use Rattle.std.proofs.Common.{◌≡◌, ℕ, zero, suc, ◌+◌, Bool, true, false, ◌&&◌, List, [], ◌∷◌, ◌++◌}
+use Rattle.std.proofs.Common.{map, take, slice_get, Some, None, refl, sym, ap, subst, ◌∙◌}
 use Rattle.std.specs.List.{list_all}
 use Rattle.std.proofs.lemmas.List.{take_more, map-append}
 use Rattle.std.proofs.lemmas.List.Folds.{list_all-append}
@@ -11,25 +12,39 @@ and_false : (a b : Bool) → b ≡ false → (a && b) ≡ false
 and_false true b e = e
 and_false false b e = refl
 
-not_all : (ds : List Data) (i : ℕ) (d : Data) → slice_get ds i ≡ Some d → is_scalar d ≡ false → list_all is_scalar ds ≡ false
+not_all : (ds : List Data) (i : ℕ) (d : Data) → slice_get ds i ≡ Some d → is_scalar d ≡ false
+    → list_all is_scalar ds ≡ false
 not_all [] i d e f = absurd cc
-not_all (y ∷ ds) zero d e f = let same : d ≡ y = cc in let first : is_scalar y ≡ false = subst (λ (x : Data). is_scalar x ≡ false) same f in rw first refl
-not_all (y ∷ ds) (suc i) d e f = and_false (is_scalar y) (list_all is_scalar ds) (not_all ds i d e f)
+not_all (y ∷ ds) zero d e f = let same : d ≡ y = cc in let first : is_scalar y ≡ false =
+    subst (λ (x : Data). is_scalar x ≡ false) same f in rw first refl
+not_all (y ∷ ds) (suc i) d e f =
+    and_false (is_scalar y) (list_all is_scalar ds) (not_all ds i d e f)
 
 -- a member is no scalar
-pub no-texts : (entry : Data) (i : ℕ) (d : Data) → slice_get (members_of entry) i ≡ Some d → is_scalar d ≡ false → scalar_texts entry ≡ None
+pub no-texts : (entry : Data) (i : ℕ) (d : Data) → slice_get (members_of entry) i ≡ Some d
+    → is_scalar d ≡ false → scalar_texts entry ≡ None
 no-texts entry i d e f =
-    let test : (is_list entry && list_all is_scalar (members_of entry)) ≡ false = and_false (is_list entry) (list_all is_scalar (members_of entry)) (not_all (members_of entry) i d e f) in
+    let test : (is_list entry && list_all is_scalar (members_of entry)) ≡ false = and_false
+    (is_list entry) (list_all is_scalar (members_of entry))
+    (not_all (members_of entry) i d e f) in
     rw test refl
 
-one_more : (ds : List Data) (i : ℕ) (d : Data) → slice_get ds i ≡ Some d → take (i + 1) ds ≡ take i ds ++ d ∷ []
-one_more ds i d e = take_more ds i d (slice_get_within ds i d e) ∙ ap (λ x. take i ds ++ x ∷ []) (get_or_from_slice_get ds i d d e)
+one_more : (ds : List Data) (i : ℕ) (d : Data) → slice_get ds i ≡ Some d
+    → take (i + 1) ds ≡ take i ds ++ d ∷ []
+one_more ds i d e = take_more ds i d (slice_get_within ds i d e)
+    ∙ ap (λ x. take i ds ++ x ∷ []) (get_or_from_slice_get ds i d d e)
 
 -- one text more
-pub texts-more : (texts : List (List ℕ)) (ds : List Data) (i : ℕ) (d : Data) → slice_get ds i ≡ Some d → texts ≡ map text_of (take i ds) → texts ++ text_of d ∷ [] ≡ map text_of (take (i + 1) ds)
+pub texts-more : (texts : List (List ℕ)) (ds : List Data) (i : ℕ) (d : Data)
+    → slice_get ds i ≡ Some d → texts ≡ map text_of (take i ds)
+    → texts ++ text_of d ∷ [] ≡ map text_of (take (i + 1) ds)
 texts-more texts ds i d e is =
-    ap (λ (ts : List (List ℕ)). ts ++ text_of d ∷ []) is ∙ sym (map-append text_of (take i ds) (d ∷ [])) ∙ sym (ap (map text_of) (one_more ds i d e))
+    ap (λ (ts : List (List ℕ)). ts ++ text_of d ∷ []) is
+    ∙ sym (map-append text_of (take i ds) (d ∷ [])) ∙ sym (ap (map text_of) (one_more ds i d e))
 
-pub scalars-more : (ds : List Data) (i : ℕ) (d : Data) → slice_get ds i ≡ Some d → list_all is_scalar (take i ds) ≡ true → is_scalar d ≡ true → list_all is_scalar (take (i + 1) ds) ≡ true
+pub scalars-more : (ds : List Data) (i : ℕ) (d : Data) → slice_get ds i ≡ Some d
+    → list_all is_scalar (take i ds) ≡ true → is_scalar d ≡ true
+    → list_all is_scalar (take (i + 1) ds) ≡ true
 scalars-more ds i d e before here =
-    ap (list_all is_scalar) (one_more ds i d e) ∙ list_all-append is_scalar (take i ds) (d ∷ []) ∙ rw (before, here) refl
+    ap (list_all is_scalar) (one_more ds i d e) ∙ list_all-append is_scalar (take i ds) (d ∷ [])
+    ∙ rw (before, here) refl

@@ -1,5 +1,6 @@
 -- The verdict on what a run of a device left in its signature file.
-use Rattle.std.specs.Prelude.{ℕ, ℤ, ◌&&◌, not, if◌then◌else◌, List, length, nat_lt, Option, Some, None, Result, Ok, Err}
+use Rattle.std.specs.Prelude.{ℕ, ℤ, ◌&&◌, not, if◌then◌else◌, List, length, nat_lt, Option, Some}
+use Rattle.std.specs.Prelude.{None, Result, Ok, Err}
 use Rattle.rvs_sig.specs.Words.{words_of}
 use Rattle.rvs_sig.specs.Verdicts.{verdict_of}
 use Rattle.rvs_sig.specs.declared.words.SigRefusal.{SigRefusal}
@@ -8,7 +9,9 @@ use Rattle.rvs_sig.specs.declared.comparison.Verdict.{Verdict}
 use Rattle.rvs_sig.specs.declared.comparison.Verdict.TheVariants as sig
 use Rattle.rvs_device.specs.Command.{is_empty}
 use Rattle.rvs_device.specs.declared.verdicts.TestVerdict.{TestVerdict}
-use Rattle.rvs_device.specs.declared.verdicts.TestVerdict.TheVariants.{Pass, NoSignature, TooLong, BadSignature, Differs, Lengths}
+use Rattle.rvs_device.specs.declared.verdicts.TestVerdict.TheVariants.{Pass, NoSignature, TooLong}
+use Rattle.rvs_device.specs.declared.verdicts.TestVerdict.TheVariants.{BadSignature, Differs}
+use Rattle.rvs_device.specs.declared.verdicts.TestVerdict.TheVariants.{Lengths}
 
 -- a signature file has at most this many bytes: 262,144 lines of ten
 abbrev pub signature_limit : ℕ

@@ -1,5 +1,6 @@
 -- What judging a test does to a host.
-use Rattle.std.specs.Prelude.{◌≡◌, ◌≢◌, ◌≤◌, ◌⊎◌, ◌↔◌, ℕ, ℤ, true, if◌then◌else◌, List, [], ◌∷◌, ◌++◌, length, Option, Some, None, Result, Ok, Err, bytes_eq}
+use Rattle.std.specs.Prelude.{◌≡◌, ◌≢◌, ◌≤◌, ◌⊎◌, ◌↔◌, ℕ, ℤ, true, if◌then◌else◌, List, [], ◌∷◌}
+use Rattle.std.specs.Prelude.{◌++◌, length, Option, Some, None, Result, Ok, Err, bytes_eq}
 use Rattle.rvs_base.specs.Faults.{Rose}
 use Rattle.rvs_base.specs.Host.{Files, HostState, Tells, is_told, with_left}
 use Rattle.rvs_base.specs.declared.host.DeviceRun.{DeviceRun}

@@ -3,7 +3,9 @@ use Rattle.std.specs.Prelude.{ℕ, ℤ, List, ◌++◌, codes, decimal}
 use Rattle.std.specs.Fmt.{signed_decimal}
 use Rattle.rvs_base.specs.Number.{hex_word_of}
 use Rattle.rvs_device.specs.declared.refusals.DeviceRefusal.{DeviceRefusal}
-use Rattle.rvs_device.specs.declared.refusals.DeviceRefusal.TheVariants.{MissingEntry, BadCommand, UnknownPlaceholder, NoMemory}
+use Rattle.rvs_device.specs.declared.refusals.DeviceRefusal.TheVariants.{MissingEntry, BadCommand}
+use Rattle.rvs_device.specs.declared.refusals.DeviceRefusal.TheVariants.{UnknownPlaceholder}
+use Rattle.rvs_device.specs.declared.refusals.DeviceRefusal.TheVariants.{NoMemory}
 use Rattle.rvs_device.specs.declared.verdicts.TestVerdict.{TestVerdict}
 use Rattle.rvs_device.specs.declared.verdicts.TestVerdict.TheVariants as verdict
 

@@ -1,7 +1,9 @@
 // The lines of verdicts, and the texts of refusals.
 ghost use Rattle.std.specs.Prelude.{◌≡◌, ℕ, IfOk};
 ghost use Rattle.rvs_base.specs.Number.{hex_word_of};
-ghost use Rattle.rvs_device.specs.Printed.{bad_signature_line, differs_line, lengths_line, no_signature_line, pass_line, refusal_text, too_long_line, verdict_line};
+ghost use Rattle.rvs_device.specs.Printed.{bad_signature_line, differs_line, lengths_line};
+ghost use Rattle.rvs_device.specs.Printed.{no_signature_line, pass_line, refusal_text};
+ghost use Rattle.rvs_device.specs.Printed.{too_long_line, verdict_line};
 
 use crate::{DeviceRefusal, TestVerdict};
 use rvs_base::{NoMemory, Text, hex_text};

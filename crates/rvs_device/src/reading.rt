@@ -1,9 +1,12 @@
 // Reading a device file.
-ghost use Rattle.std.specs.Prelude.{◌≡◌, ◌≢◌, true, Ok, Err, IfOk, IfErr, option_map, option_and_then};
+ghost use Rattle.std.specs.Prelude.{◌≡◌, ◌≢◌, true, Ok, Err, IfOk, IfErr, option_map};
+ghost use Rattle.std.specs.Prelude.{option_and_then};
 ghost use Rattle.rvs_tree.specs.Data.{value_at};
 ghost use Rattle.rvs_tree.specs.TreeView.{view};
 ghost use Rattle.rvs_device.specs.Command.{has_program, is_command};
-ghost use Rattle.rvs_device.specs.DeviceFile.{Answers, checked_words, command_words, name_in, scalar_text, scalar_texts, told_in, unknown_in, words_in};
+ghost use Rattle.rvs_device.specs.DeviceFile.{Answers, checked_words, command_words, name_in};
+ghost use Rattle.rvs_device.specs.DeviceFile.{scalar_text, scalar_texts, told_in, unknown_in};
+ghost use Rattle.rvs_device.specs.DeviceFile.{words_in};
 ghost use Rattle.rvs_device.specs.DeviceView.{told};
 
 use crate::words::is_known;

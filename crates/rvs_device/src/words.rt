@@ -1,7 +1,8 @@
 // The words that a device is started with, and the placeholders in them.
 ghost use Rattle.std.specs.Prelude.{◌≡◌, ◌++◌, IfOk, OnOk, map, option_map, string_bytes};
 ghost use Rattle.rvs_base.specs.Host.{device_words};
-ghost use Rattle.rvs_device.specs.Command.{behind, filled, is_known, is_placeholder, pieces, replaced, started_with};
+ghost use Rattle.rvs_device.specs.Command.{behind, filled, is_known, is_placeholder, pieces};
+ghost use Rattle.rvs_device.specs.Command.{replaced, started_with};
 
 use rvs_base::{NoMemory, Text};
 use std::alloc::{AllocError, Global};

@@ -1,6 +1,8 @@
 -- The values that are read for the names of a formula tell whether it is true.
-use Rattle.std.proofs.Common.{◌≡◌, ◌≤◌, ◌^◌, ℕ, Bool, true, false, not, ◌&&◌, ◌||◌, Option, Some, None, option_map, refl, sym, ap, ◌∙◌, List, [], ◌∷◌, All, arith}
-use Rattle.std.specs.Prelude.{if◌then◌else◌, slice_index_or, ℤ, pos, ◌+ℤ◌, ◌-ℤ◌, ◌*ℤ◌, neg_ℤ, unsigned_abs}
+use Rattle.std.proofs.Common.{◌≡◌, ◌≤◌, ◌^◌, ℕ, Bool, true, false, not, ◌&&◌, ◌||◌, Option, Some}
+use Rattle.std.proofs.Common.{None, option_map, refl, sym, ap, ◌∙◌, List, [], ◌∷◌, All, arith}
+use Rattle.std.specs.Prelude.{if◌then◌else◌, slice_index_or, ℤ, pos, ◌+ℤ◌, ◌-ℤ◌, ◌*ℤ◌, neg_ℤ}
+use Rattle.std.specs.Prelude.{unsigned_abs}
 use Rattle.std.specs.Int.{int_rem_euclid}
 use Rattle.std.proofs.lemmas.List.Elements.{All-cons}
 use Rattle.rvs_expr_text.specs.declared.lexeme.NumName.{NumName}
@@ -8,11 +10,17 @@ use Rattle.rvs_expr_text.specs.declared.lexeme.NumName.TheVariants.{Rs1Val, Rs2V
 use Rattle.rvs_expr_text.specs.declared.lexeme.RegName.{RegName}
 use Rattle.rvs_expr_text.specs.declared.lexeme.RegName.TheVariants.{Rd, Rs1, Rs2, Var0, Var1, Var2}
 use Rattle.rvs_expr.specs.declared.names.Names.{Names}
-use Rattle.rvs_expr.specs.Typed.{Num, literal, named, minus, sum, difference, product, remainder, Reg, fixed, register, NumChain, pair, more, RegChain, reg_pair, reg_more, Formula, numbers, registers, negation, conjunction, disjunction}
-use Rattle.rvs_expr.specs.Meaning.{Table, both, value, chain, reg_value, reg_chain, truth, is_true, holds, compare, equation}
+use Rattle.rvs_expr.specs.Typed.{Num, literal, named, minus, sum, difference, product, remainder}
+use Rattle.rvs_expr.specs.Typed.{Reg, fixed, register, NumChain, pair, more, RegChain, reg_pair}
+use Rattle.rvs_expr.specs.Typed.{reg_more, Formula, numbers, registers, negation, conjunction}
+use Rattle.rvs_expr.specs.Typed.{disjunction}
+use Rattle.rvs_expr.specs.Meaning.{Table, both, value, chain, reg_value, reg_chain, truth, is_true}
+use Rattle.rvs_expr.specs.Meaning.{holds, compare, equation}
 use Rattle.rvs_expr.specs.Parts.{same_name, num_uses, chain_uses, uses}
-use Rattle.rvs_expr.specs.Total.{num_place, reg_place, number, last, linked, reg_number, last_reg, reg_linked, true_over}
-use Rattle.rvs_expr.specs.Named.{same_reg, is_reg, chain_uses_reg, uses_reg, any_reg, names_of, asked, sequence, nums_of, asked_regs, regs_of, read, holds_over}
+use Rattle.rvs_expr.specs.Total.{num_place, reg_place, number, last, linked, reg_number, last_reg}
+use Rattle.rvs_expr.specs.Total.{reg_linked, true_over}
+use Rattle.rvs_expr.specs.Named.{same_reg, is_reg, chain_uses_reg, uses_reg, any_reg, names_of}
+use Rattle.rvs_expr.specs.Named.{asked, sequence, nums_of, asked_regs, regs_of, read, holds_over}
 
 -- ---- truth values and options
 or-left : (a b : Bool) → a ≡ true → (a || b) ≡ true
@@ -23,10 +31,12 @@ or-right : (a b : Bool) → b ≡ true → (a || b) ≡ true
 or-right true b e = refl
 or-right false b e = e
 
-both-is : {A B C : Type 0} (f : A → B → C) (o : Option A) (p : Option B) (x : A) (y : B) → o ≡ Some x → p ≡ Some y → both f o p ≡ Some (f x y)
+both-is : {A B C : Type 0} (f : A → B → C) (o : Option A) (p : Option B) (x : A) (y : B)
+    → o ≡ Some x → p ≡ Some y → both f o p ≡ Some (f x y)
 both-is f o p x y g h = ap (λ q. both f q p) g ∙ ap (both f (Some x)) h
 
-both-none : {A B C : Type 0} (f : A → B → C) (o : Option A) (p : Option B) (x y : Bool) → (x || y) ≡ true → (x ≡ true → o ≡ None) → (y ≡ true → p ≡ None) → both f o p ≡ None
+both-none : {A B C : Type 0} (f : A → B → C) (o : Option A) (p : Option B) (x y : Bool)
+    → (x || y) ≡ true → (x ≡ true → o ≡ None) → (y ≡ true → p ≡ None) → both f o p ≡ None
 both-none f o p true y e g h = ap (λ q. both f q p) (g refl)
 both-none f None p false y e g h = refl
 both-none f (Some v) p false y e g h = ap (both f (Some v)) (h e)
@@ -38,16 +48,20 @@ record Gives (t : Table) (zs : List ℤ) (p : NumName → Bool) : Type 0 where
 record GivesRegs (t : Table) (ns : List ℕ) (p : RegName → Bool) : Type 0 where
   pub reg : (r : RegName) → p r ≡ true → t.reg r ≡ Some (slice_index_or ns (reg_place r) 0)
 
-gives-left : (t : Table) (zs : List ℤ) (p q : NumName → Bool) → Gives t zs (λ n. p n || q n) → Gives t zs p
+gives-left : (t : Table) (zs : List ℤ) (p q : NumName → Bool) → Gives t zs (λ n. p n || q n)
+    → Gives t zs p
 gives-left t zs p q g = record { num = λ n e. g.num n (or-left (p n) (q n) e) }
 
-gives-right : (t : Table) (zs : List ℤ) (p q : NumName → Bool) → Gives t zs (λ n. p n || q n) → Gives t zs q
+gives-right : (t : Table) (zs : List ℤ) (p q : NumName → Bool) → Gives t zs (λ n. p n || q n)
+    → Gives t zs q
 gives-right t zs p q g = record { num = λ n e. g.num n (or-right (p n) (q n) e) }
 
-regs-left : (t : Table) (ns : List ℕ) (p q : RegName → Bool) → GivesRegs t ns (λ r. p r || q r) → GivesRegs t ns p
+regs-left : (t : Table) (ns : List ℕ) (p q : RegName → Bool) → GivesRegs t ns (λ r. p r || q r)
+    → GivesRegs t ns p
 regs-left t ns p q g = record { reg = λ r e. g.reg r (or-left (p r) (q r) e) }
 
-regs-right : (t : Table) (ns : List ℕ) (p q : RegName → Bool) → GivesRegs t ns (λ r. p r || q r) → GivesRegs t ns q
+regs-right : (t : Table) (ns : List ℕ) (p q : RegName → Bool) → GivesRegs t ns (λ r. p r || q r)
+    → GivesRegs t ns q
 regs-right t ns p q g = record { reg = λ r e. g.reg r (or-right (p r) (q r) e) }
 
 same-self : (n : NumName) → same_name n n ≡ true
@@ -64,39 +78,68 @@ reg-self Var0 = refl
 reg-self Var1 = refl
 reg-self Var2 = refl
 
-value-is : (t : Table) (zs : List ℤ) (a : Num) → Gives t zs (num_uses a) → value t a ≡ Some (number zs a)
+value-is : (t : Table) (zs : List ℤ) (a : Num) → Gives t zs (num_uses a)
+    → value t a ≡ Some (number zs a)
 value-is t zs (literal z) g = refl
 value-is t zs (named n) g = g.num n (same-self n)
-value-is t zs (minus a) g = ap (option_map neg_ℤ) (value-is t zs a (record { num = λ n e. g.num n e }))
-value-is t zs (sum a b) g = both-is (λ x y. x +ℤ y) _ _ _ _ (value-is t zs a (gives-left t zs (num_uses a) (num_uses b) (record { num = λ n e. g.num n e }))) (value-is t zs b (gives-right t zs (num_uses a) (num_uses b) (record { num = λ n e. g.num n e })))
-value-is t zs (difference a b) g = both-is (λ x y. x -ℤ y) _ _ _ _ (value-is t zs a (gives-left t zs (num_uses a) (num_uses b) (record { num = λ n e. g.num n e }))) (value-is t zs b (gives-right t zs (num_uses a) (num_uses b) (record { num = λ n e. g.num n e })))
-value-is t zs (product a b) g = both-is (λ x y. x *ℤ y) _ _ _ _ (value-is t zs a (gives-left t zs (num_uses a) (num_uses b) (record { num = λ n e. g.num n e }))) (value-is t zs b (gives-right t zs (num_uses a) (num_uses b) (record { num = λ n e. g.num n e })))
-value-is t zs (remainder a n) g = ap (option_map (λ x. int_rem_euclid x (pos n))) (value-is t zs a (record { num = λ n e. g.num n e }))
+value-is t zs (minus a) g =
+    ap (option_map neg_ℤ) (value-is t zs a (record { num = λ n e. g.num n e }))
+value-is t zs (sum a b) g = both-is (λ x y. x +ℤ y) _ _ _ _ (value-is t zs a
+    (gives-left t zs (num_uses a) (num_uses b) (record { num = λ n e. g.num n e }))) (value-is t zs
+    b (gives-right t zs (num_uses a) (num_uses b) (record { num = λ n e. g.num n e })))
+value-is t zs (difference a b) g = both-is (λ x y. x -ℤ y) _ _ _ _ (value-is t zs a
+    (gives-left t zs (num_uses a) (num_uses b) (record { num = λ n e. g.num n e }))) (value-is t zs
+    b (gives-right t zs (num_uses a) (num_uses b) (record { num = λ n e. g.num n e })))
+value-is t zs (product a b) g = both-is (λ x y. x *ℤ y) _ _ _ _ (value-is t zs a
+    (gives-left t zs (num_uses a) (num_uses b) (record { num = λ n e. g.num n e }))) (value-is t zs
+    b (gives-right t zs (num_uses a) (num_uses b) (record { num = λ n e. g.num n e })))
+value-is t zs (remainder a n) g = ap (option_map (λ x. int_rem_euclid x (pos n)))
+    (value-is t zs a (record { num = λ n e. g.num n e }))
 
-chain-is : (t : Table) (zs : List ℤ) (c : NumChain) → Gives t zs (chain_uses c) → chain t c ≡ Some (linked zs c, last zs c)
-chain-is t zs (pair a op b) g = both-is (λ x y. (compare op x y, y)) _ _ _ _ (value-is t zs a (gives-left t zs (num_uses a) (num_uses b) (record { num = λ n e. g.num n e }))) (value-is t zs b (gives-right t zs (num_uses a) (num_uses b) (record { num = λ n e. g.num n e })))
-chain-is t zs (more c op b) g = both-is (λ p y. (p.0 && compare op p.1 y, y)) _ _ _ _ (chain-is t zs c (gives-left t zs (chain_uses c) (num_uses b) (record { num = λ n e. g.num n e }))) (value-is t zs b (gives-right t zs (chain_uses c) (num_uses b) (record { num = λ n e. g.num n e })))
+chain-is : (t : Table) (zs : List ℤ) (c : NumChain) → Gives t zs (chain_uses c)
+    → chain t c ≡ Some (linked zs c, last zs c)
+chain-is t zs (pair a op b) g = both-is (λ x y. (compare op x y, y)) _ _ _ _ (value-is t zs a
+    (gives-left t zs (num_uses a) (num_uses b) (record { num = λ n e. g.num n e }))) (value-is t zs
+    b (gives-right t zs (num_uses a) (num_uses b) (record { num = λ n e. g.num n e })))
+chain-is t zs (more c op b) g = both-is (λ p y. (p.0 && compare op p.1 y, y)) _ _ _ _ (chain-is t zs
+    c (gives-left t zs (chain_uses c) (num_uses b) (record { num = λ n e. g.num n e }))) (value-is t
+    zs b (gives-right t zs (chain_uses c) (num_uses b) (record { num = λ n e. g.num n e })))
 
-reg-is : (t : Table) (ns : List ℕ) (a : Reg) → GivesRegs t ns (is_reg a) → reg_value t a ≡ Some (reg_number ns a)
+reg-is : (t : Table) (ns : List ℕ) (a : Reg) → GivesRegs t ns (is_reg a)
+    → reg_value t a ≡ Some (reg_number ns a)
 reg-is t ns (fixed n) g = refl
 reg-is t ns (register r) g = g.reg r (reg-self r)
 
-reg-chain-is : (t : Table) (ns : List ℕ) (c : RegChain) → GivesRegs t ns (chain_uses_reg c) → reg_chain t c ≡ Some (reg_linked ns c, last_reg ns c)
-reg-chain-is t ns (reg_pair a op b) g = both-is (λ x y. (equation op x y, y)) _ _ _ _ (reg-is t ns a (regs-left t ns (is_reg a) (is_reg b) (record { reg = λ r e. g.reg r e }))) (reg-is t ns b (regs-right t ns (is_reg a) (is_reg b) (record { reg = λ r e. g.reg r e })))
-reg-chain-is t ns (reg_more c op b) g = both-is (λ p y. (p.0 && equation op p.1 y, y)) _ _ _ _ (reg-chain-is t ns c (regs-left t ns (chain_uses_reg c) (is_reg b) (record { reg = λ r e. g.reg r e }))) (reg-is t ns b (regs-right t ns (chain_uses_reg c) (is_reg b) (record { reg = λ r e. g.reg r e })))
+reg-chain-is : (t : Table) (ns : List ℕ) (c : RegChain) → GivesRegs t ns (chain_uses_reg c)
+    → reg_chain t c ≡ Some (reg_linked ns c, last_reg ns c)
+reg-chain-is t ns (reg_pair a op b) g = both-is (λ x y. (equation op x y, y)) _ _ _ _
+    (reg-is t ns a (regs-left t ns (is_reg a) (is_reg b) (record { reg = λ r e. g.reg r e })))
+    (reg-is t ns b (regs-right t ns (is_reg a) (is_reg b) (record { reg = λ r e. g.reg r e })))
+reg-chain-is t ns (reg_more c op b) g = both-is (λ p y. (p.0 && equation op p.1 y, y)) _ _ _ _
+    (reg-chain-is t ns c
+    (regs-left t ns (chain_uses_reg c) (is_reg b) (record { reg = λ r e. g.reg r e }))) (reg-is t ns
+    b (regs-right t ns (chain_uses_reg c) (is_reg b) (record { reg = λ r e. g.reg r e })))
 
-truth-is : (t : Table) (zs : List ℤ) (ns : List ℕ) (f : Formula) → Gives t zs (uses f) → GivesRegs t ns (uses_reg f) → truth t f ≡ Some (true_over zs ns f)
-truth-is t zs ns (numbers c) g h = ap (option_map (λ p. p.0)) (chain-is t zs c (record { num = λ n e. g.num n e }))
-truth-is t zs ns (registers c) g h = ap (option_map (λ p. p.0)) (reg-chain-is t ns c (record { reg = λ r e. h.reg r e }))
-truth-is t zs ns (negation a) g h = ap (option_map not) (truth-is t zs ns a (record { num = λ n e. g.num n e }) (record { reg = λ r e. h.reg r e }))
+truth-is : (t : Table) (zs : List ℤ) (ns : List ℕ) (f : Formula) → Gives t zs (uses f)
+    → GivesRegs t ns (uses_reg f) → truth t f ≡ Some (true_over zs ns f)
+truth-is t zs ns (numbers c) g h =
+    ap (option_map (λ p. p.0)) (chain-is t zs c (record { num = λ n e. g.num n e }))
+truth-is t zs ns (registers c) g h =
+    ap (option_map (λ p. p.0)) (reg-chain-is t ns c (record { reg = λ r e. h.reg r e }))
+truth-is t zs ns (negation a) g h = ap (option_map not)
+    (truth-is t zs ns a (record { num = λ n e. g.num n e }) (record { reg = λ r e. h.reg r e }))
 truth-is t zs ns (conjunction a b) g h =
     both-is (λ x y. x && y) _ _ _ _
-    (truth-is t zs ns a (gives-left t zs (uses a) (uses b) (record { num = λ n e. g.num n e })) (regs-left t ns (uses_reg a) (uses_reg b) (record { reg = λ r e. h.reg r e })))
-    (truth-is t zs ns b (gives-right t zs (uses a) (uses b) (record { num = λ n e. g.num n e })) (regs-right t ns (uses_reg a) (uses_reg b) (record { reg = λ r e. h.reg r e })))
+    (truth-is t zs ns a (gives-left t zs (uses a) (uses b) (record { num = λ n e. g.num n e }))
+    (regs-left t ns (uses_reg a) (uses_reg b) (record { reg = λ r e. h.reg r e })))
+    (truth-is t zs ns b (gives-right t zs (uses a) (uses b) (record { num = λ n e. g.num n e }))
+    (regs-right t ns (uses_reg a) (uses_reg b) (record { reg = λ r e. h.reg r e })))
 truth-is t zs ns (disjunction a b) g h =
     both-is (λ x y. x || y) _ _ _ _
-    (truth-is t zs ns a (gives-left t zs (uses a) (uses b) (record { num = λ n e. g.num n e })) (regs-left t ns (uses_reg a) (uses_reg b) (record { reg = λ r e. h.reg r e })))
-    (truth-is t zs ns b (gives-right t zs (uses a) (uses b) (record { num = λ n e. g.num n e })) (regs-right t ns (uses_reg a) (uses_reg b) (record { reg = λ r e. h.reg r e })))
+    (truth-is t zs ns a (gives-left t zs (uses a) (uses b) (record { num = λ n e. g.num n e }))
+    (regs-left t ns (uses_reg a) (uses_reg b) (record { reg = λ r e. h.reg r e })))
+    (truth-is t zs ns b (gives-right t zs (uses a) (uses b) (record { num = λ n e. g.num n e }))
+    (regs-right t ns (uses_reg a) (uses_reg b) (record { reg = λ r e. h.reg r e })))
 
 -- ---- where a name isn't there
 same-is : (m n : NumName) → same_name m n ≡ true → m ≡ n
@@ -115,47 +158,67 @@ same-reg-is Var1 Var1 e = refl
 same-reg-is Var2 Var2 e = refl
 same-reg-is _ _ e = cc
 
-value-none : (t : Table) (n : NumName) → t.num n ≡ None → (a : Num) → num_uses a n ≡ true → value t a ≡ None
+value-none : (t : Table) (n : NumName) → t.num n ≡ None → (a : Num) → num_uses a n ≡ true
+    → value t a ≡ None
 value-none t n h (literal z) u = cc
 value-none t n h (named m) u = ap (λ k. t.num k) (same-is m n u) ∙ h
 value-none t n h (minus a) u = ap (option_map neg_ℤ) (value-none t n h a u)
-value-none t n h (sum a b) u = both-none (λ x y. x +ℤ y) _ _ (num_uses a n) (num_uses b n) u (value-none t n h a) (value-none t n h b)
-value-none t n h (difference a b) u = both-none (λ x y. x -ℤ y) _ _ (num_uses a n) (num_uses b n) u (value-none t n h a) (value-none t n h b)
-value-none t n h (product a b) u = both-none (λ x y. x *ℤ y) _ _ (num_uses a n) (num_uses b n) u (value-none t n h a) (value-none t n h b)
-value-none t n h (remainder a m) u = ap (option_map (λ x. int_rem_euclid x (pos m))) (value-none t n h a u)
+value-none t n h (sum a b) u = both-none (λ x y. x +ℤ y) _ _ (num_uses a n) (num_uses b n) u
+    (value-none t n h a) (value-none t n h b)
+value-none t n h (difference a b) u = both-none (λ x y. x -ℤ y) _ _ (num_uses a n) (num_uses b n) u
+    (value-none t n h a) (value-none t n h b)
+value-none t n h (product a b) u = both-none (λ x y. x *ℤ y) _ _ (num_uses a n) (num_uses b n) u
+    (value-none t n h a) (value-none t n h b)
+value-none t n h (remainder a m) u =
+    ap (option_map (λ x. int_rem_euclid x (pos m))) (value-none t n h a u)
 
-chain-none : (t : Table) (n : NumName) → t.num n ≡ None → (c : NumChain) → chain_uses c n ≡ true → chain t c ≡ None
-chain-none t n h (pair a op b) u = both-none (λ x y. (compare op x y, y)) _ _ (num_uses a n) (num_uses b n) u (value-none t n h a) (value-none t n h b)
-chain-none t n h (more c op b) u = both-none (λ p y. (p.0 && compare op p.1 y, y)) _ _ (chain_uses c n) (num_uses b n) u (chain-none t n h c) (value-none t n h b)
+chain-none : (t : Table) (n : NumName) → t.num n ≡ None → (c : NumChain) → chain_uses c n ≡ true
+    → chain t c ≡ None
+chain-none t n h (pair a op b) u = both-none (λ x y. (compare op x y, y)) _ _ (num_uses a n)
+    (num_uses b n) u (value-none t n h a) (value-none t n h b)
+chain-none t n h (more c op b) u = both-none (λ p y. (p.0 && compare op p.1 y, y)) _ _
+    (chain_uses c n) (num_uses b n) u (chain-none t n h c) (value-none t n h b)
 
-truth-none : (t : Table) (n : NumName) → t.num n ≡ None → (f : Formula) → uses f n ≡ true → truth t f ≡ None
+truth-none : (t : Table) (n : NumName) → t.num n ≡ None → (f : Formula) → uses f n ≡ true
+    → truth t f ≡ None
 truth-none t n h (numbers c) u = ap (option_map (λ p. p.0)) (chain-none t n h c u)
 truth-none t n h (registers c) u = cc
 truth-none t n h (negation a) u = ap (option_map not) (truth-none t n h a u)
-truth-none t n h (conjunction a b) u = both-none (λ x y. x && y) _ _ (uses a n) (uses b n) u (truth-none t n h a) (truth-none t n h b)
-truth-none t n h (disjunction a b) u = both-none (λ x y. x || y) _ _ (uses a n) (uses b n) u (truth-none t n h a) (truth-none t n h b)
+truth-none t n h (conjunction a b) u =
+    both-none (λ x y. x && y) _ _ (uses a n) (uses b n) u (truth-none t n h a) (truth-none t n h b)
+truth-none t n h (disjunction a b) u =
+    both-none (λ x y. x || y) _ _ (uses a n) (uses b n) u (truth-none t n h a) (truth-none t n h b)
 
-reg-none : (t : Table) (r : RegName) → t.reg r ≡ None → (a : Reg) → is_reg a r ≡ true → reg_value t a ≡ None
+reg-none : (t : Table) (r : RegName) → t.reg r ≡ None → (a : Reg) → is_reg a r ≡ true
+    → reg_value t a ≡ None
 reg-none t r h (fixed n) u = cc
 reg-none t r h (register m) u = ap (λ k. t.reg k) (same-reg-is m r u) ∙ h
 
-reg-chain-none : (t : Table) (r : RegName) → t.reg r ≡ None → (c : RegChain) → chain_uses_reg c r ≡ true → reg_chain t c ≡ None
-reg-chain-none t r h (reg_pair a op b) u = both-none (λ x y. (equation op x y, y)) _ _ (is_reg a r) (is_reg b r) u (reg-none t r h a) (reg-none t r h b)
-reg-chain-none t r h (reg_more c op b) u = both-none (λ p y. (p.0 && equation op p.1 y, y)) _ _ (chain_uses_reg c r) (is_reg b r) u (reg-chain-none t r h c) (reg-none t r h b)
+reg-chain-none : (t : Table) (r : RegName) → t.reg r ≡ None → (c : RegChain)
+    → chain_uses_reg c r ≡ true → reg_chain t c ≡ None
+reg-chain-none t r h (reg_pair a op b) u = both-none (λ x y. (equation op x y, y)) _ _ (is_reg a r)
+    (is_reg b r) u (reg-none t r h a) (reg-none t r h b)
+reg-chain-none t r h (reg_more c op b) u = both-none (λ p y. (p.0 && equation op p.1 y, y)) _ _
+    (chain_uses_reg c r) (is_reg b r) u (reg-chain-none t r h c) (reg-none t r h b)
 
-truth-reg-none : (t : Table) (r : RegName) → t.reg r ≡ None → (f : Formula) → uses_reg f r ≡ true → truth t f ≡ None
+truth-reg-none : (t : Table) (r : RegName) → t.reg r ≡ None → (f : Formula) → uses_reg f r ≡ true
+    → truth t f ≡ None
 truth-reg-none t r h (numbers c) u = cc
 truth-reg-none t r h (registers c) u = ap (option_map (λ p. p.0)) (reg-chain-none t r h c u)
 truth-reg-none t r h (negation a) u = ap (option_map not) (truth-reg-none t r h a u)
-truth-reg-none t r h (conjunction a b) u = both-none (λ x y. x && y) _ _ (uses_reg a r) (uses_reg b r) u (truth-reg-none t r h a) (truth-reg-none t r h b)
-truth-reg-none t r h (disjunction a b) u = both-none (λ x y. x || y) _ _ (uses_reg a r) (uses_reg b r) u (truth-reg-none t r h a) (truth-reg-none t r h b)
+truth-reg-none t r h (conjunction a b) u = both-none (λ x y. x && y) _ _ (uses_reg a r)
+    (uses_reg b r) u (truth-reg-none t r h a) (truth-reg-none t r h b)
+truth-reg-none t r h (disjunction a b) u = both-none (λ x y. x || y) _ _ (uses_reg a r)
+    (uses_reg b r) u (truth-reg-none t r h a) (truth-reg-none t r h b)
 
 -- ---- all that is asked for
-asked-some : {A : Type 0} (u : Bool) (d : A) (o : Option A) (x : A) → asked u d o ≡ Some x → u ≡ true → o ≡ Some x
+asked-some : {A : Type 0} (u : Bool) (d : A) (o : Option A) (x : A) → asked u d o ≡ Some x
+    → u ≡ true → o ≡ Some x
 asked-some true d o x e u = e
 asked-some false d o x e u = cc
 
-asked-none : {A : Type 0} (u : Bool) (d : A) (o : Option A) → asked u d o ≡ None → (u ≡ true) × (o ≡ None)
+asked-none : {A : Type 0} (u : Bool) (d : A) (o : Option A) → asked u d o ≡ None
+    → (u ≡ true) × (o ≡ None)
 asked-none true d o e = (refl, e)
 asked-none false d o e = absurd (cc)
 
@@ -174,7 +237,8 @@ record Four (o p q r : Option ℤ) (zs : List ℤ) : Type 0 where
   pub at2 : q ≡ Some (slice_index_or zs 2 (pos 0))
   pub at3 : r ≡ Some (slice_index_or zs 3 (pos 0))
 
-four-same : (a b c d : ℤ) (zs : List ℤ) → a ∷ b ∷ c ∷ d ∷ [] ≡ zs → Four (Some a) (Some b) (Some c) (Some d) zs
+four-same : (a b c d : ℤ) (zs : List ℤ) → a ∷ b ∷ c ∷ d ∷ [] ≡ zs
+    → Four (Some a) (Some b) (Some c) (Some d) zs
 four-same a b c d zs e = record {
   at0 = ap (λ l. Some (slice_index_or l 0 (pos 0))) e;
   at1 = ap (λ l. Some (slice_index_or l 1 (pos 0))) e;
@@ -182,14 +246,16 @@ four-same a b c d zs e = record {
   at3 = ap (λ l. Some (slice_index_or l 3 (pos 0))) e;
 }
 
-four : (o p q r : Option ℤ) (zs : List ℤ) → sequence (o ∷ p ∷ q ∷ r ∷ []) ≡ Some zs → Four o p q r zs
+four : (o p q r : Option ℤ) (zs : List ℤ) → sequence (o ∷ p ∷ q ∷ r ∷ []) ≡ Some zs
+    → Four o p q r zs
 four None p q r zs e = absurd (none-some zs e)
 four (Some a) None q r zs e = absurd (none-some zs e)
 four (Some a) (Some b) None r zs e = absurd (none-some zs e)
 four (Some a) (Some b) (Some c) None zs e = absurd (none-some zs e)
 four (Some a) (Some b) (Some c) (Some d) zs e = four-same a b c d zs (some-is _ _ e)
 
-one-of-four : (G : Type 0) (o p q r : Option ℤ) → (o ≡ None → G) → (p ≡ None → G) → (q ≡ None → G) → (r ≡ None → G) → sequence (o ∷ p ∷ q ∷ r ∷ []) ≡ None → G
+one-of-four : (G : Type 0) (o p q r : Option ℤ) → (o ≡ None → G) → (p ≡ None → G) → (q ≡ None → G)
+    → (r ≡ None → G) → sequence (o ∷ p ∷ q ∷ r ∷ []) ≡ None → G
 one-of-four G None p q r f g h k e = f refl
 one-of-four G (Some a) None q r f g h k e = g refl
 one-of-four G (Some a) (Some b) None r f g h k e = h refl
@@ -204,7 +270,8 @@ record Six (o p q r s u : Option ℕ) (ns : List ℕ) : Type 0 where
   pub at4 : s ≡ Some (slice_index_or ns 4 0)
   pub at5 : u ≡ Some (slice_index_or ns 5 0)
 
-six-same : (a b c d x y : ℕ) (ns : List ℕ) → a ∷ b ∷ c ∷ d ∷ x ∷ y ∷ [] ≡ ns → Six (Some a) (Some b) (Some c) (Some d) (Some x) (Some y) ns
+six-same : (a b c d x y : ℕ) (ns : List ℕ) → a ∷ b ∷ c ∷ d ∷ x ∷ y ∷ [] ≡ ns
+    → Six (Some a) (Some b) (Some c) (Some d) (Some x) (Some y) ns
 six-same a b c d x y ns e = record {
   at0 = ap (λ l. Some (slice_index_or l 0 0)) e;
   at1 = ap (λ l. Some (slice_index_or l 1 0)) e;
@@ -214,23 +281,28 @@ six-same a b c d x y ns e = record {
   at5 = ap (λ l. Some (slice_index_or l 5 0)) e;
 }
 
-six : (o p q r s u : Option ℕ) (ns : List ℕ) → sequence (o ∷ p ∷ q ∷ r ∷ s ∷ u ∷ []) ≡ Some ns → Six o p q r s u ns
+six : (o p q r s u : Option ℕ) (ns : List ℕ) → sequence (o ∷ p ∷ q ∷ r ∷ s ∷ u ∷ []) ≡ Some ns
+    → Six o p q r s u ns
 six None p q r s u ns e = absurd (none-some ns e)
 six (Some a) None q r s u ns e = absurd (none-some ns e)
 six (Some a) (Some b) None r s u ns e = absurd (none-some ns e)
 six (Some a) (Some b) (Some c) None s u ns e = absurd (none-some ns e)
 six (Some a) (Some b) (Some c) (Some d) None u ns e = absurd (none-some ns e)
 six (Some a) (Some b) (Some c) (Some d) (Some x) None ns e = absurd (none-some ns e)
-six (Some a) (Some b) (Some c) (Some d) (Some x) (Some y) ns e = six-same a b c d x y ns (some-is _ _ e)
+six (Some a) (Some b) (Some c) (Some d) (Some x) (Some y) ns e =
+    six-same a b c d x y ns (some-is _ _ e)
 
-one-of-six : (G : Type 0) (o p q r s u : Option ℕ) → (o ≡ None → G) → (p ≡ None → G) → (q ≡ None → G) → (r ≡ None → G) → (s ≡ None → G) → (u ≡ None → G) → sequence (o ∷ p ∷ q ∷ r ∷ s ∷ u ∷ []) ≡ None → G
+one-of-six : (G : Type 0) (o p q r s u : Option ℕ) → (o ≡ None → G) → (p ≡ None → G)
+    → (q ≡ None → G) → (r ≡ None → G) → (s ≡ None → G) → (u ≡ None → G)
+    → sequence (o ∷ p ∷ q ∷ r ∷ s ∷ u ∷ []) ≡ None → G
 one-of-six G None p q r s u f0 f1 f2 f3 f4 f5 e = f0 refl
 one-of-six G (Some a) None q r s u f0 f1 f2 f3 f4 f5 e = f1 refl
 one-of-six G (Some a) (Some b) None r s u f0 f1 f2 f3 f4 f5 e = f2 refl
 one-of-six G (Some a) (Some b) (Some c) None s u f0 f1 f2 f3 f4 f5 e = f3 refl
 one-of-six G (Some a) (Some b) (Some c) (Some d) None u f0 f1 f2 f3 f4 f5 e = f4 refl
 one-of-six G (Some a) (Some b) (Some c) (Some d) (Some x) None f0 f1 f2 f3 f4 f5 e = f5 refl
-one-of-six G (Some a) (Some b) (Some c) (Some d) (Some x) (Some y) f0 f1 f2 f3 f4 f5 e = absurd (some-none _ e)
+one-of-six G (Some a) (Some b) (Some c) (Some d) (Some x) (Some y) f0 f1 f2 f3 f4 f5 e =
+    absurd (some-none _ e)
 
 -- ---- the names of a formula
 each-num : (P : NumName → Type 0) → P Rs1Val → P Rs2Val → P ImmVal → P EaAlign → (n : NumName) → P n
@@ -239,7 +311,8 @@ each-num P a b c d Rs2Val = b
 each-num P a b c d ImmVal = c
 each-num P a b c d EaAlign = d
 
-each-reg : (P : RegName → Type 0) → P Rd → P Rs1 → P Rs2 → P Var0 → P Var1 → P Var2 → (r : RegName) → P r
+each-reg : (P : RegName → Type 0) → P Rd → P Rs1 → P Rs2 → P Var0 → P Var1 → P Var2 → (r : RegName)
+    → P r
 each-reg P a b c d x y Rd = a
 each-reg P a b c d x y Rs1 = b
 each-reg P a b c d x y Rs2 = c
@@ -247,12 +320,17 @@ each-reg P a b c d x y Var0 = d
 each-reg P a b c d x y Var1 = x
 each-reg P a b c d x y Var2 = y
 
-nums-give : (t : Table) (f : Formula) (zs : List ℤ) → nums_of (names_of f) t ≡ Some zs → Gives t zs (uses f)
+nums-give : (t : Table) (f : Formula) (zs : List ℤ) → nums_of (names_of f) t ≡ Some zs
+    → Gives t zs (uses f)
 unfolding nums_of names_of
 nums-give t f zs e =
-    let q = four (asked (uses f Rs1Val) (pos 0) (t.num Rs1Val)) (asked (uses f Rs2Val) (pos 0) (t.num Rs2Val)) (asked (uses f ImmVal) (pos 0) (t.num ImmVal)) (asked (uses f EaAlign) (pos 0) (t.num EaAlign)) zs e in
+    let q = four (asked (uses f Rs1Val) (pos 0) (t.num Rs1Val))
+    (asked (uses f Rs2Val) (pos 0) (t.num Rs2Val))
+    (asked (uses f ImmVal) (pos 0) (t.num ImmVal))
+    (asked (uses f EaAlign) (pos 0) (t.num EaAlign)) zs e in
     record {
-      num = each-num (λ n. uses f n ≡ true → t.num n ≡ Some (slice_index_or zs (num_place n) (pos 0)))
+      num =
+          each-num (λ n. uses f n ≡ true → t.num n ≡ Some (slice_index_or zs (num_place n) (pos 0)))
           (asked-some (uses f Rs1Val) (pos 0) (t.num Rs1Val) _ q.at0)
           (asked-some (uses f Rs2Val) (pos 0) (t.num Rs2Val) _ q.at1)
           (asked-some (uses f ImmVal) (pos 0) (t.num ImmVal) _ q.at2)
@@ -261,15 +339,20 @@ nums-give t f zs e =
 
 nums-none : (t : Table) (f : Formula) → nums_of (names_of f) t ≡ None → truth t f ≡ None
 unfolding nums_of names_of
-nums-none t f e = one-of-four (truth t f ≡ None) _ _ _ _ (missing t f Rs1Val) (missing t f Rs2Val) (missing t f ImmVal) (missing t f EaAlign) e
+nums-none t f e = one-of-four (truth t f ≡ None) _ _ _ _ (missing t f Rs1Val) (missing t f Rs2Val)
+    (missing t f ImmVal) (missing t f EaAlign) e
   where
-    missing : (t : Table) (f : Formula) (n : NumName) → asked (uses f n) (pos 0) (t.num n) ≡ None → truth t f ≡ None
+    missing : (t : Table) (f : Formula) (n : NumName) → asked (uses f n) (pos 0) (t.num n) ≡ None
+        → truth t f ≡ None
     missing t f n e = let p = asked-none (uses f n) (pos 0) (t.num n) e in truth-none t n p.1 f p.0
 
-asked-regs-give : (t : Table) (f : Formula) (ns : List ℕ) → asked_regs (names_of f) t ≡ Some ns → GivesRegs t ns (uses_reg f)
+asked-regs-give : (t : Table) (f : Formula) (ns : List ℕ) → asked_regs (names_of f) t ≡ Some ns
+    → GivesRegs t ns (uses_reg f)
 unfolding asked_regs names_of
 asked-regs-give t f ns e =
-    let q = six (asked (uses_reg f Rd) 0 (t.reg Rd)) (asked (uses_reg f Rs1) 0 (t.reg Rs1)) (asked (uses_reg f Rs2) 0 (t.reg Rs2)) (asked (uses_reg f Var0) 0 (t.reg Var0)) (asked (uses_reg f Var1) 0 (t.reg Var1)) (asked (uses_reg f Var2) 0 (t.reg Var2)) ns e in
+    let q = six (asked (uses_reg f Rd) 0 (t.reg Rd)) (asked (uses_reg f Rs1) 0 (t.reg Rs1))
+    (asked (uses_reg f Rs2) 0 (t.reg Rs2)) (asked (uses_reg f Var0) 0 (t.reg Var0))
+    (asked (uses_reg f Var1) 0 (t.reg Var1)) (asked (uses_reg f Var2) 0 (t.reg Var2)) ns e in
     record {
       reg = each-reg (λ r. uses_reg f r ≡ true → t.reg r ≡ Some (slice_index_or ns (reg_place r) 0))
           (asked-some (uses_reg f Rd) 0 (t.reg Rd) _ q.at0)
@@ -282,15 +365,19 @@ asked-regs-give t f ns e =
 
 asked-regs-none : (t : Table) (f : Formula) → asked_regs (names_of f) t ≡ None → truth t f ≡ None
 unfolding asked_regs names_of
-asked-regs-none t f e = one-of-six (truth t f ≡ None) _ _ _ _ _ _ (missing t f Rd) (missing t f Rs1) (missing t f Rs2) (missing t f Var0) (missing t f Var1) (missing t f Var2) e
+asked-regs-none t f e = one-of-six (truth t f ≡ None) _ _ _ _ _ _ (missing t f Rd) (missing t f Rs1)
+    (missing t f Rs2) (missing t f Var0) (missing t f Var1) (missing t f Var2) e
   where
-    missing : (t : Table) (f : Formula) (r : RegName) → asked (uses_reg f r) 0 (t.reg r) ≡ None → truth t f ≡ None
-    missing t f r e = let p = asked-none (uses_reg f r) 0 (t.reg r) e in truth-reg-none t r p.1 f p.0
+    missing : (t : Table) (f : Formula) (r : RegName) → asked (uses_reg f r) 0 (t.reg r) ≡ None
+        → truth t f ≡ None
+    missing t f r e = let p = asked-none (uses_reg f r) 0 (t.reg r) e in
+        truth-reg-none t r p.1 f p.0
 
 true-false : true ≡ false → ⊥
 true-false e = cc
 
-none-any : (a b c d x y : Bool) → (a || (b || (c || (d || (x || y))))) ≡ false → (a ≡ false) × (b ≡ false) × (c ≡ false) × (d ≡ false) × (x ≡ false) × (y ≡ false)
+none-any : (a b c d x y : Bool) → (a || (b || (c || (d || (x || y))))) ≡ false
+    → (a ≡ false) × (b ≡ false) × (c ≡ false) × (d ≡ false) × (x ≡ false) × (y ≡ false)
 none-any true b c d x y e = absurd (true-false e)
 none-any false true c d x y e = absurd (true-false e)
 none-any false false true d x y e = absurd (true-false e)
@@ -302,10 +389,13 @@ none-any false false false false false false e = (refl, refl, refl, refl, refl, 
 false-true : false ≡ true → ⊥
 false-true e = cc
 
-regs-give : (t : Table) (f : Formula) (ns : List ℕ) (any : Bool) → any_reg f ≡ any → (if any then asked_regs (names_of f) t else Some (0 ∷ 0 ∷ 0 ∷ 0 ∷ 0 ∷ 0 ∷ [])) ≡ Some ns → GivesRegs t ns (uses_reg f)
+regs-give : (t : Table) (f : Formula) (ns : List ℕ) (any : Bool) → any_reg f ≡ any
+    → (if any then asked_regs (names_of f) t else Some (0 ∷ 0 ∷ 0 ∷ 0 ∷ 0 ∷ 0 ∷ [])) ≡ Some ns
+    → GivesRegs t ns (uses_reg f)
 regs-give t f ns true a e = asked-regs-give t f ns e
 regs-give t f ns false a e =
-    let n = none-any (uses_reg f Rd) (uses_reg f Rs1) (uses_reg f Rs2) (uses_reg f Var0) (uses_reg f Var1) (uses_reg f Var2) a in
+    let n = none-any (uses_reg f Rd) (uses_reg f Rs1) (uses_reg f Rs2) (uses_reg f Var0)
+    (uses_reg f Var1) (uses_reg f Var2) a in
     record {
       reg = each-reg (λ r. uses_reg f r ≡ true → t.reg r ≡ Some (slice_index_or ns (reg_place r) 0))
           (λ u. absurd (false-true (sym n.0 ∙ u)))
@@ -316,7 +406,9 @@ regs-give t f ns false a e =
           (λ u. absurd (false-true (sym n.5 ∙ u)));
     }
 
-regs-none : (t : Table) (f : Formula) (any : Bool) → (if any then asked_regs (names_of f) t else Some (0 ∷ 0 ∷ 0 ∷ 0 ∷ 0 ∷ 0 ∷ [])) ≡ None → truth t f ≡ None
+regs-none : (t : Table) (f : Formula) (any : Bool)
+    → (if any then asked_regs (names_of f) t else Some (0 ∷ 0 ∷ 0 ∷ 0 ∷ 0 ∷ 0 ∷ [])) ≡ None
+    → truth t f ≡ None
 regs-none t f true e = asked-regs-none t f e
 regs-none t f false e = absurd (some-none _ e)
 
@@ -324,27 +416,35 @@ any-named : (f : Formula) → any_reg f ≡ (names_of f).registers
 unfolding names_of
 any-named f = refl
 
-read-by : (t : Table) (f : Formula) (o : Option (List ℤ)) (p : Option (List ℕ)) → nums_of (names_of f) t ≡ o → regs_of (names_of f) t ≡ p → truth t f ≡ option_map (λ (v : List ℤ × List ℕ). true_over v.0 v.1 f) (both (λ zs ns. (zs, ns)) o p)
+read-by : (t : Table) (f : Formula) (o : Option (List ℤ)) (p : Option (List ℕ))
+    → nums_of (names_of f) t ≡ o → regs_of (names_of f) t ≡ p → truth t f
+    ≡ option_map (λ (v : List ℤ × List ℕ). true_over v.0 v.1 f) (both (λ zs ns. (zs, ns)) o p)
 read-by t f None p h k = nums-none t f h
 read-by t f (Some zs) None h k = regs-none t f (names_of f).registers k
-read-by t f (Some zs) (Some ns) h k = truth-is t zs ns f (nums-give t f zs h) (regs-give t f ns (names_of f).registers (any-named f) k)
+read-by t f (Some zs) (Some ns) h k = truth-is t zs ns f (nums-give t f zs h)
+    (regs-give t f ns (names_of f).registers (any-named f) k)
 
-over-is : (o : Option (List ℤ × List ℕ)) (f : Formula) → is_true (option_map (λ (v : List ℤ × List ℕ). true_over v.0 v.1 f) o) ≡ holds_over o f
+over-is : (o : Option (List ℤ × List ℕ)) (f : Formula)
+    → is_true (option_map (λ (v : List ℤ × List ℕ). true_over v.0 v.1 f) o) ≡ holds_over o f
 over-is None f = refl
 over-is (Some v) f = refl
 
-pub holds_read : (t : Table) (f : Formula) (names : Names) → names ≡ names_of f → holds t f ≡ holds_over (read names t) f
+pub holds_read : (t : Table) (f : Formula) (names : Names) → names ≡ names_of f
+    → holds t f ≡ holds_over (read names t) f
 holds_read t f names e =
     ap is_true (read-by t f (nums_of (names_of f) t) (regs_of (names_of f) t) refl refl)
     ∙ over-is (read (names_of f) t) f
     ∙ ap (λ n. holds_over (read n t) f) (sym e)
 
 -- by what was read
-pub holds_by : (t : Table) (f : Formula) (names : Names) (o : Option (List ℤ × List ℕ)) → names ≡ names_of f → o ≡ read names t → holds_over o f ≡ holds t f
+pub holds_by : (t : Table) (f : Formula) (names : Names) (o : Option (List ℤ × List ℕ))
+    → names ≡ names_of f → o ≡ read names t → holds_over o f ≡ holds t f
 holds_by t f names o e k = ap (λ p. holds_over p f) k ∙ sym (holds_read t f names e)
 
 -- ---- sizes
-pub all_four : (a b c d : ℤ) → unsigned_abs a ≤ 2 ^ 32 → unsigned_abs b ≤ 2 ^ 32 → unsigned_abs c ≤ 2 ^ 32 → unsigned_abs d ≤ 2 ^ 32 → All (λ z. unsigned_abs z ≤ 2 ^ 32) (a ∷ b ∷ c ∷ d ∷ [])
+pub all_four : (a b c d : ℤ) → unsigned_abs a ≤ 2 ^ 32 → unsigned_abs b ≤ 2 ^ 32
+    → unsigned_abs c ≤ 2 ^ 32 → unsigned_abs d ≤ 2 ^ 32
+    → All (λ z. unsigned_abs z ≤ 2 ^ 32) (a ∷ b ∷ c ∷ d ∷ [])
 all_four a b c d h i j k =
     All-cons (λ (z : ℤ). unsigned_abs z ≤ 2 ^ 32) a (b ∷ c ∷ d ∷ []) h
     (All-cons (λ (z : ℤ). unsigned_abs z ≤ 2 ^ 32) b (c ∷ d ∷ []) i

@@ -1,6 +1,7 @@
 -- Measures of numbers and formulas: above those of each part by more than one.
 use Rattle.std.specs.Prelude.{ℕ, ◌+◌}
-use Rattle.rvs_expr.specs.Typed.{Num, literal, named, minus, sum, difference, product, remainder, Formula, numbers, registers, negation, conjunction, disjunction}
+use Rattle.rvs_expr.specs.Typed.{Num, literal, named, minus, sum, difference, product, remainder}
+use Rattle.rvs_expr.specs.Typed.{Formula, numbers, registers, negation, conjunction, disjunction}
 
 abbrev pub weight : Num → ℕ
 weight (literal z) = 0

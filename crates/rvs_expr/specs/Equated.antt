@@ -1,5 +1,6 @@
 -- Formulas that say that a name has one value.
-use Rattle.std.specs.Prelude.{◌^◌, nat_le, Bool, false, ℤ, unsigned_abs, Option, Some, None, if◌then◌else◌}
+use Rattle.std.specs.Prelude.{◌^◌, nat_le, Bool, false, ℤ, unsigned_abs, Option, Some, None}
+use Rattle.std.specs.Prelude.{if◌then◌else◌}
 use Rattle.std.specs.Ordering.{int_eq}
 use Rattle.rvs_expr_text.specs.declared.lexeme.NumName.{NumName}
 use Rattle.rvs_expr.specs.declared.formula.Comparison.TheVariants.{Equal}
@@ -20,7 +21,8 @@ with_name name (Some z) = Some (name, z)
 
 -- the name and the constant of `name == constant`, within 2 ^ 32 either way
 abbrev pub equated : Formula → Option (NumName × ℤ)
-equated (numbers (pair (named name) Equal constant)) = with_name name (small (value nothing constant))
+equated (numbers (pair (named name) Equal constant)) =
+    with_name name (small (value nothing constant))
 equated _ = None
 
 -- there, and this number

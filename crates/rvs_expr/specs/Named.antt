@@ -1,10 +1,12 @@
 -- The names that stand in a formula, and what a table has for them.
-use Rattle.std.specs.Prelude.{ℕ, Bool, true, false, ◌||◌, ℤ, pos, List, [], ◌∷◌, Option, Some, None, if◌then◌else◌}
+use Rattle.std.specs.Prelude.{ℕ, Bool, true, false, ◌||◌, ℤ, pos, List, [], ◌∷◌, Option, Some, None}
+use Rattle.std.specs.Prelude.{if◌then◌else◌}
 use Rattle.rvs_expr_text.specs.declared.lexeme.NumName.TheVariants.{Rs1Val, Rs2Val, ImmVal, EaAlign}
 use Rattle.rvs_expr_text.specs.declared.lexeme.RegName.{RegName}
 use Rattle.rvs_expr_text.specs.declared.lexeme.RegName.TheVariants.{Rd, Rs1, Rs2, Var0, Var1, Var2}
 use Rattle.rvs_expr.specs.declared.names.Names.{Names}
-use Rattle.rvs_expr.specs.Typed.{Reg, fixed, register, RegChain, reg_pair, reg_more, Formula, numbers, registers, negation, conjunction, disjunction}
+use Rattle.rvs_expr.specs.Typed.{Reg, fixed, register, RegChain, reg_pair, reg_more, Formula}
+use Rattle.rvs_expr.specs.Typed.{numbers, registers, negation, conjunction, disjunction}
 use Rattle.rvs_expr.specs.Meaning.{Table, both}
 use Rattle.rvs_expr.specs.Parts.{uses}
 use Rattle.rvs_expr.specs.Total.{true_over}
@@ -34,7 +36,8 @@ uses_reg (conjunction a b) r = uses_reg a r || uses_reg b r
 uses_reg (disjunction a b) r = uses_reg a r || uses_reg b r
 
 abbrev pub any_reg : Formula → Bool
-any_reg f = uses_reg f Rd || (uses_reg f Rs1 || (uses_reg f Rs2 || (uses_reg f Var0 || (uses_reg f Var1 || uses_reg f Var2))))
+any_reg f = uses_reg f Rd || (uses_reg f Rs1
+    || (uses_reg f Rs2 || (uses_reg f Var0 || (uses_reg f Var1 || uses_reg f Var2))))
 
 unfoldable pub names_of : Formula → Names
 names_of f = record {
@@ -62,10 +65,14 @@ sequence [] = Some []
 sequence (o ∷ os) = both (λ x xs. x ∷ xs) o (sequence os)
 
 unfoldable pub nums_of : Names → Table → Option (List ℤ)
-nums_of n t = sequence (asked n.rs1_val (pos 0) (t.num Rs1Val) ∷ asked n.rs2_val (pos 0) (t.num Rs2Val) ∷ asked n.imm_val (pos 0) (t.num ImmVal) ∷ asked n.ea_align (pos 0) (t.num EaAlign) ∷ [])
+nums_of n t = sequence (asked n.rs1_val (pos 0) (t.num Rs1Val)
+    ∷ asked n.rs2_val (pos 0) (t.num Rs2Val) ∷ asked n.imm_val (pos 0) (t.num ImmVal)
+    ∷ asked n.ea_align (pos 0) (t.num EaAlign) ∷ [])
 
 unfoldable pub asked_regs : Names → Table → Option (List ℕ)
-asked_regs n t = sequence (asked n.rd 0 (t.reg Rd) ∷ asked n.rs1 0 (t.reg Rs1) ∷ asked n.rs2 0 (t.reg Rs2) ∷ asked n.var0 0 (t.reg Var0) ∷ asked n.var1 0 (t.reg Var1) ∷ asked n.var2 0 (t.reg Var2) ∷ [])
+asked_regs n t = sequence (asked n.rd 0 (t.reg Rd) ∷ asked n.rs1 0 (t.reg Rs1)
+    ∷ asked n.rs2 0 (t.reg Rs2) ∷ asked n.var0 0 (t.reg Var0) ∷ asked n.var1 0 (t.reg Var1)
+    ∷ asked n.var2 0 (t.reg Var2) ∷ [])
 
 abbrev pub regs_of : Names → Table → Option (List ℕ)
 regs_of n t = if n.registers then asked_regs n t else Some (0 ∷ 0 ∷ 0 ∷ 0 ∷ 0 ∷ 0 ∷ [])

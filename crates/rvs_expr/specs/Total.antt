@@ -1,11 +1,15 @@
 -- The value of an expression where all its names are there, from lists of the values of all names.
-use Rattle.std.specs.Prelude.{ℕ, Bool, not, ◌&&◌, ◌||◌, ℤ, pos, ◌+ℤ◌, ◌-ℤ◌, ◌*ℤ◌, neg_ℤ, List, slice_index_or}
+use Rattle.std.specs.Prelude.{ℕ, Bool, not, ◌&&◌, ◌||◌, ℤ, pos, ◌+ℤ◌, ◌-ℤ◌, ◌*ℤ◌, neg_ℤ, List}
+use Rattle.std.specs.Prelude.{slice_index_or}
 use Rattle.std.specs.Int.{int_rem_euclid}
 use Rattle.rvs_expr_text.specs.declared.lexeme.NumName.{NumName}
 use Rattle.rvs_expr_text.specs.declared.lexeme.NumName.TheVariants.{Rs1Val, Rs2Val, ImmVal, EaAlign}
 use Rattle.rvs_expr_text.specs.declared.lexeme.RegName.{RegName}
 use Rattle.rvs_expr_text.specs.declared.lexeme.RegName.TheVariants.{Rd, Rs1, Rs2, Var0, Var1, Var2}
-use Rattle.rvs_expr.specs.Typed.{Num, literal, named, minus, sum, difference, product, remainder, Reg, fixed, register, NumChain, pair, more, RegChain, reg_pair, reg_more, Formula, numbers, registers, negation, conjunction, disjunction}
+use Rattle.rvs_expr.specs.Typed.{Num, literal, named, minus, sum, difference, product, remainder}
+use Rattle.rvs_expr.specs.Typed.{Reg, fixed, register, NumChain, pair, more, RegChain, reg_pair}
+use Rattle.rvs_expr.specs.Typed.{reg_more, Formula, numbers, registers, negation, conjunction}
+use Rattle.rvs_expr.specs.Typed.{disjunction}
 use Rattle.rvs_expr.specs.Meaning.{compare, equation}
 
 abbrev pub num_place : NumName → ℕ

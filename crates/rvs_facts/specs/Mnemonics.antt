@@ -1,7 +1,12 @@
 -- Mnemonics by their place in the table.
 use Rattle.std.specs.Prelude.{ℕ, ◌==◌, Bool}
 use Rattle.rvs_insn.specs.declared.op.Op.{Op}
-use Rattle.rvs_insn.specs.declared.op.Op.TheVariants.{Lui, Auipc, Jal, Jalr, Beq, Bne, Blt, Bge, Bltu, Bgeu, Lb, Lh, Lw, Lbu, Lhu, Sb, Sh, Sw, Addi, Slti, Sltiu, Xori, Ori, Andi, Slli, Srli, Srai, Add, Sub, Sll, Slt, Sltu, Xor, Srl, Sra, Or, And, Mul, Mulh, Mulhsu, Mulhu, Div, Divu, Rem, Remu, Fence, Ecall, Ebreak}
+use Rattle.rvs_insn.specs.declared.op.Op.TheVariants.{Lui, Auipc, Jal, Jalr, Beq, Bne, Blt, Bge}
+use Rattle.rvs_insn.specs.declared.op.Op.TheVariants.{Bltu, Bgeu, Lb, Lh, Lw, Lbu, Lhu, Sb, Sh, Sw}
+use Rattle.rvs_insn.specs.declared.op.Op.TheVariants.{Addi, Slti, Sltiu, Xori, Ori, Andi, Slli}
+use Rattle.rvs_insn.specs.declared.op.Op.TheVariants.{Srli, Srai, Add, Sub, Sll, Slt, Sltu, Xor}
+use Rattle.rvs_insn.specs.declared.op.Op.TheVariants.{Srl, Sra, Or, And, Mul, Mulh, Mulhsu, Mulhu}
+use Rattle.rvs_insn.specs.declared.op.Op.TheVariants.{Div, Divu, Rem, Remu, Fence, Ecall, Ebreak}
 
 -- the place of a mnemonic in the table, from 0
 abbrev pub number : Op → ℕ

@@ -1,5 +1,6 @@
 -- What the table's columns say, by name.
-use Rattle.std.proofs.Common.{◌≡◌, ℕ, Bool, true, false, cond, List, [], ◌∷◌, Option, Some, None, refl, sym, subst, bytes_eq}
+use Rattle.std.proofs.Common.{◌≡◌, ℕ, Bool, true, false, cond, List, [], ◌∷◌, Option, Some, None}
+use Rattle.std.proofs.Common.{refl, sym, subst, bytes_eq}
 use Rattle.std.proofs.lemmas.Slice.Eq.{bytes_eq-Decides}
 use Rattle.std.specs.List.{find}
 use Rattle.rvs_insn.specs.declared.op.Op.{Op}
@@ -7,7 +8,8 @@ use Rattle.rvs_insn.specs.declared.op.Op.TheVariants.{Lui}
 use Rattle.rvs_insn.specs.Isa.{Isa}
 use Rattle.rvs_insn.specs.Table.{row, all_ops}
 use Rattle.rvs_insn.specs.Names.{op_of_name}
-use Rattle.rvs_insn.specs.Laws.{NamesAreFound, FoundNamesAreTheirs, FirstIsUnsigned, SecondIsUnsigned, MultiplyingNeedsM}
+use Rattle.rvs_insn.specs.Laws.{NamesAreFound, FoundNamesAreTheirs, FirstIsUnsigned}
+use Rattle.rvs_insn.specs.Laws.{SecondIsUnsigned, MultiplyingNeedsM}
 
 pub names_are_found : NamesAreFound
 unfolding op_of_name
@@ -26,7 +28,8 @@ pub multiplying_needs_m : MultiplyingNeedsM
 multiplying_needs_m isa Lui = refl
 multiplying_needs_m isa _ = refl
 
-found-head : {A : Type 0} (p : A → Bool) (x y : A) (b : Bool) (rest : Option A) → p x ≡ b → cond b (Some x) rest ≡ Some y → (rest ≡ Some y → p y ≡ true) → p y ≡ true
+found-head : {A : Type 0} (p : A → Bool) (x y : A) (b : Bool) (rest : Option A) → p x ≡ b
+    → cond b (Some x) rest ≡ Some y → (rest ≡ Some y → p y ≡ true) → p y ≡ true
 found-head p x y true rest is e later = let same : x ≡ y = cc in subst (λ z. p z ≡ true) same is
 found-head p x y false rest is e later = later e
 
@@ -37,5 +40,6 @@ found-holds p (x ∷ xs) y e = found-head p x y (p x) (find p xs) refl e (found-
 pub found_names_are_theirs : FoundNamesAreTheirs
 unfolding op_of_name
 found_names_are_theirs name op e =
-    let same : (row op).name ≡ name = (bytes_eq-Decides (row op).name name).0 (found-holds (λ o. bytes_eq (row o).name name) all_ops op e) in
+    let same : (row op).name ≡ name = (bytes_eq-Decides (row op).name name).0
+    (found-holds (λ o. bytes_eq (row o).name name) all_ops op e) in
     sym same

@@ -1,8 +1,10 @@
 -- An instruction is its mnemonic and the fields that its format has.
-use Rattle.std.specs.Prelude.{ℕ, ◌+◌, ◌-◌, ◌*◌, ◌/◌, ◌%◌, ◌^◌, ◌<◌, ℤ, pos, ◌-ℤ◌, Option, Some, None, nat_lt, if◌then◌else◌}
+use Rattle.std.specs.Prelude.{ℕ, ◌+◌, ◌-◌, ◌*◌, ◌/◌, ◌%◌, ◌^◌, ◌<◌, ℤ, pos, ◌-ℤ◌, Option, Some}
+use Rattle.std.specs.Prelude.{None, nat_lt, if◌then◌else◌}
 use Rattle.std.specs.Option.{option_map}
 use Rattle.rvs_insn.specs.declared.op.Format.{Format}
-use Rattle.rvs_insn.specs.declared.op.Format.TheVariants.{R, I, Shift, Load, JumpReg, Store, Branch, Upper, Jump, Fence, System}
+use Rattle.rvs_insn.specs.declared.op.Format.TheVariants.{R, I, Shift, Load, JumpReg, Store, Branch}
+use Rattle.rvs_insn.specs.declared.op.Format.TheVariants.{Upper, Jump, Fence, System}
 use Rattle.rvs_insn.specs.declared.op.Op.{Op}
 use Rattle.rvs_insn.specs.Table.{row, op_of_word}
 
@@ -51,10 +53,12 @@ abbrev pub imm_s : ℕ → ℕ
 imm_s word = word / 2 ^ 25 * 2 ^ 5 + word / 2 ^ 7 % 2 ^ 5
 
 abbrev pub imm_b : ℕ → ℕ
-imm_b word = word / 2 ^ 31 * 2 ^ 12 + word / 2 ^ 7 % 2 * 2 ^ 11 + word / 2 ^ 25 % 2 ^ 6 * 2 ^ 5 + word / 2 ^ 8 % 2 ^ 4 * 2
+imm_b word = word / 2 ^ 31 * 2 ^ 12 + word / 2 ^ 7 % 2 * 2 ^ 11 + word / 2 ^ 25 % 2 ^ 6 * 2 ^ 5
+    + word / 2 ^ 8 % 2 ^ 4 * 2
 
 abbrev pub imm_j : ℕ → ℕ
-imm_j word = word / 2 ^ 31 * 2 ^ 20 + word / 2 ^ 12 % 2 ^ 8 * 2 ^ 12 + word / 2 ^ 20 % 2 * 2 ^ 11 + word / 2 ^ 21 % 2 ^ 10 * 2
+imm_j word = word / 2 ^ 31 * 2 ^ 20 + word / 2 ^ 12 % 2 ^ 8 * 2 ^ 12 + word / 2 ^ 20 % 2 * 2 ^ 11
+    + word / 2 ^ 21 % 2 ^ 10 * 2
 
 abbrev pub imm_of : Format → ℕ → Option ℤ
 imm_of I word = Some (signed 12 (imm_i word))

@@ -13,4 +13,5 @@ long_names true true = codes "Zicsr_Zifencei"
 abbrev pub isa_name : Isa → List ℕ
 isa_name s =
     codes "RV32" ++ ((if s.e then codes "E" else codes "I")
-    ++ ((if s.m then codes "M" else []) ++ ((if s.a then codes "A" else []) ++ long_names s.zicsr s.zifencei)))
+    ++ ((if s.m then codes "M" else [])
+    ++ ((if s.a then codes "A" else []) ++ long_names s.zicsr s.zifencei)))

@@ -25,15 +25,18 @@ is_among op names = list_any (λ name. bytes_eq (row op).name name) names
 abbrev pub FirstIsUnsigned : Type 0
 FirstIsUnsigned =
     (op : Op) → (row op).unsigned1 ≡ is_among op
-    (codes "sltu" ∷ codes "sltiu" ∷ codes "bltu" ∷ codes "bgeu" ∷ codes "mulhu" ∷ codes "divu" ∷ codes "remu" ∷ [])
+    (codes "sltu" ∷ codes "sltiu" ∷ codes "bltu" ∷ codes "bgeu" ∷ codes "mulhu" ∷ codes "divu"
+    ∷ codes "remu" ∷ [])
 
 abbrev pub SecondIsUnsigned : Type 0
 SecondIsUnsigned =
     (op : Op) → (row op).unsigned2 ≡ is_among op
-    (codes "sltu" ∷ codes "bltu" ∷ codes "bgeu" ∷ codes "mulhu" ∷ codes "mulhsu" ∷ codes "divu" ∷ codes "remu" ∷ [])
+    (codes "sltu" ∷ codes "bltu" ∷ codes "bgeu" ∷ codes "mulhu" ∷ codes "mulhsu" ∷ codes "divu"
+    ∷ codes "remu" ∷ [])
 
 -- a core lacks the mnemonics of M where it lacks M, and no others
 abbrev pub MultiplyingNeedsM : Type 0
 MultiplyingNeedsM =
     (isa : Isa) (op : Op) → is_admitted_op isa op ≡ (not (is_among op
-    (codes "mul" ∷ codes "mulh" ∷ codes "mulhsu" ∷ codes "mulhu" ∷ codes "div" ∷ codes "divu" ∷ codes "rem" ∷ codes "remu" ∷ [])) || isa.m)
+    (codes "mul" ∷ codes "mulh" ∷ codes "mulhsu" ∷ codes "mulhu" ∷ codes "div" ∷ codes "divu"
+    ∷ codes "rem" ∷ codes "remu" ∷ [])) || isa.m)

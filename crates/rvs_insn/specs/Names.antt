@@ -1,5 +1,6 @@
 -- Which mnemonic a name is, and what a specification admits.
-use Rattle.std.specs.Prelude.{ℕ, ◌%◌, ◌/◌, ◌^◌, ◌==◌, Bool, true, ◌&&◌, ◌||◌, not, List, Option, Some, None, nat_lt}
+use Rattle.std.specs.Prelude.{ℕ, ◌%◌, ◌/◌, ◌^◌, ◌==◌, Bool, true, ◌&&◌, ◌||◌, not, List, Option}
+use Rattle.std.specs.Prelude.{Some, None, nat_lt}
 use Rattle.std.specs.List.{find}
 use Rattle.std.specs.Str.{bytes_eq}
 use Rattle.rvs_insn.specs.declared.op.Op.{Op}
@@ -23,4 +24,5 @@ is_low_register (Some r) = nat_lt r 16
 
 abbrev pub is_admitted : Isa → Fields → Bool
 is_admitted spec i =
-    is_admitted_op spec i.op && (not spec.e || (is_low_register i.rd && is_low_register i.rs1 && is_low_register i.rs2))
+    is_admitted_op spec i.op
+    && (not spec.e || (is_low_register i.rd && is_low_register i.rs1 && is_low_register i.rs2))

@@ -1,12 +1,20 @@
 -- The instruction table: one row for each mnemonic.
-use Rattle.std.specs.Prelude.{ℕ, ◌+◌, ◌*◌, ◌^◌, ◌==◌, Bool, true, false, List, [], ◌∷◌, Option, bit_and, codes}
+use Rattle.std.specs.Prelude.{ℕ, ◌+◌, ◌*◌, ◌^◌, ◌==◌, Bool, true, false, List, [], ◌∷◌, Option}
+use Rattle.std.specs.Prelude.{bit_and, codes}
 use Rattle.std.specs.List.{find}
 use Rattle.rvs_insn.specs.declared.op.Format.{Format}
-use Rattle.rvs_insn.specs.declared.op.Format.TheVariants.{R, I, Shift, Load, JumpReg, Store, Branch, Upper, Jump, Fence as FenceForm, System}
+use Rattle.rvs_insn.specs.declared.op.Format.TheVariants.{R, I, Shift, Load, JumpReg, Store, Branch}
+use Rattle.rvs_insn.specs.declared.op.Format.TheVariants.{Upper, Jump, Fence as FenceForm, System}
 use Rattle.rvs_insn.specs.declared.op.Op.{Op}
-use Rattle.rvs_insn.specs.declared.op.Op.TheVariants.{Lui, Auipc, Jal, Jalr, Beq, Bne, Blt, Bge, Bltu, Bgeu, Lb, Lh, Lw, Lbu, Lhu, Sb, Sh, Sw, Addi, Slti, Sltiu, Xori, Ori, Andi, Slli, Srli, Srai, Add, Sub, Sll, Slt, Sltu, Xor, Srl, Sra, Or, And, Mul, Mulh, Mulhsu, Mulhu, Div, Divu, Rem, Remu, Fence, Ecall, Ebreak}
+use Rattle.rvs_insn.specs.declared.op.Op.TheVariants.{Lui, Auipc, Jal, Jalr, Beq, Bne, Blt, Bge}
+use Rattle.rvs_insn.specs.declared.op.Op.TheVariants.{Bltu, Bgeu, Lb, Lh, Lw, Lbu, Lhu, Sb, Sh, Sw}
+use Rattle.rvs_insn.specs.declared.op.Op.TheVariants.{Addi, Slti, Sltiu, Xori, Ori, Andi, Slli}
+use Rattle.rvs_insn.specs.declared.op.Op.TheVariants.{Srli, Srai, Add, Sub, Sll, Slt, Sltu, Xor}
+use Rattle.rvs_insn.specs.declared.op.Op.TheVariants.{Srl, Sra, Or, And, Mul, Mulh, Mulhsu, Mulhu}
+use Rattle.rvs_insn.specs.declared.op.Op.TheVariants.{Div, Divu, Rem, Remu, Fence, Ecall, Ebreak}
 
--- a row: its mnemonic, its format, the bits that its words have under the format's mask, and whether rs1 and rs2 are read unsigned
+-- a row: its mnemonic, its format, the bits that its words have under the format's mask, and
+-- whether rs1 and rs2 are read unsigned
 pub record Row : Type 0 where
   pub name : List ℕ
   pub form : Format
@@ -17,7 +25,13 @@ pub record Row : Type 0 where
 -- a row by its opcode, funct3 and funct7
 abbrev pub at : List ℕ → Format → ℕ → ℕ → ℕ → Bool → Bool → Row
 at name form opcode funct3 funct7 unsigned1 unsigned2 =
-    record { name = name; form = form; bits = opcode + funct3 * 2 ^ 12 + funct7 * 2 ^ 25; unsigned1 = unsigned1; unsigned2 = unsigned2 }
+    record {
+      name = name;
+      form = form;
+      bits = opcode + funct3 * 2 ^ 12 + funct7 * 2 ^ 25;
+      unsigned1 = unsigned1;
+      unsigned2 = unsigned2;
+    }
 
 abbrev pub row : Op → Row
 row Lui = at (codes "lui") Upper 0b0110111 0 0 false false
@@ -67,11 +81,20 @@ row Rem = at (codes "rem") R 0b0110011 6 1 false false
 row Remu = at (codes "remu") R 0b0110011 7 1 true true
 row Fence = at (codes "fence") FenceForm 0b0001111 0 0 false false
 row Ecall = at (codes "ecall") System 0b1110011 0 0 false false
-row Ebreak = record { name = codes "ebreak"; form = System; bits = 0x0010_0073; unsigned1 = false; unsigned2 = false }
+row Ebreak = record {
+  name = codes "ebreak";
+  form = System;
+  bits = 0x0010_0073;
+  unsigned1 = false;
+  unsigned2 = false;
+}
 
 -- the table's order
 abbrev pub all_ops : List Op
-all_ops = Lui ∷ Auipc ∷ Jal ∷ Jalr ∷ Beq ∷ Bne ∷ Blt ∷ Bge ∷ Bltu ∷ Bgeu ∷ Lb ∷ Lh ∷ Lw ∷ Lbu ∷ Lhu ∷ Sb ∷ Sh ∷ Sw ∷ Addi ∷ Slti ∷ Sltiu ∷ Xori ∷ Ori ∷ Andi ∷ Slli ∷ Srli ∷ Srai ∷ Add ∷ Sub ∷ Sll ∷ Slt ∷ Sltu ∷ Xor ∷ Srl ∷ Sra ∷ Or ∷ And ∷ Mul ∷ Mulh ∷ Mulhsu ∷ Mulhu ∷ Div ∷ Divu ∷ Rem ∷ Remu ∷ Fence ∷ Ecall ∷ Ebreak ∷ []
+all_ops = Lui ∷ Auipc ∷ Jal ∷ Jalr ∷ Beq ∷ Bne ∷ Blt ∷ Bge ∷ Bltu ∷ Bgeu ∷ Lb ∷ Lh ∷ Lw ∷ Lbu ∷ Lhu
+    ∷ Sb ∷ Sh ∷ Sw ∷ Addi ∷ Slti ∷ Sltiu ∷ Xori ∷ Ori ∷ Andi ∷ Slli ∷ Srli ∷ Srai ∷ Add ∷ Sub ∷ Sll
+    ∷ Slt ∷ Sltu ∷ Xor ∷ Srl ∷ Sra ∷ Or ∷ And ∷ Mul ∷ Mulh ∷ Mulhsu ∷ Mulhu ∷ Div ∷ Divu ∷ Rem
+    ∷ Remu ∷ Fence ∷ Ecall ∷ Ebreak ∷ []
 
 -- the bits of a word that its row fixes
 abbrev pub mask : Format → ℕ

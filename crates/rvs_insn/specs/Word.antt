@@ -1,7 +1,9 @@
 -- The word of an instruction.
-use Rattle.std.specs.Prelude.{◌≡◌, ℕ, ◌+◌, ◌-◌, ◌*◌, ◌/◌, ◌%◌, ◌^◌, ◌<◌, ℤ, pos, negsuc, Option, Some, None, unwrap_or}
+use Rattle.std.specs.Prelude.{◌≡◌, ℕ, ◌+◌, ◌-◌, ◌*◌, ◌/◌, ◌%◌, ◌^◌, ◌<◌, ℤ, pos, negsuc, Option}
+use Rattle.std.specs.Prelude.{Some, None, unwrap_or}
 use Rattle.rvs_insn.specs.declared.op.Format.{Format}
-use Rattle.rvs_insn.specs.declared.op.Format.TheVariants.{R, I, Shift, Load, JumpReg, Store, Branch, Upper, Jump, Fence, System}
+use Rattle.rvs_insn.specs.declared.op.Format.TheVariants.{R, I, Shift, Load, JumpReg, Store, Branch}
+use Rattle.rvs_insn.specs.declared.op.Format.TheVariants.{Upper, Jump, Fence, System}
 use Rattle.rvs_insn.specs.Table.{row}
 use Rattle.rvs_insn.specs.Fields.{Fields}
 
@@ -18,10 +20,12 @@ abbrev pub imm_bits_s : ℕ → ℕ
 imm_bits_s n = n / 2 ^ 5 * 2 ^ 25 + n % 2 ^ 5 * 2 ^ 7
 
 abbrev pub imm_bits_b : ℕ → ℕ
-imm_bits_b n = n / 2 ^ 12 * 2 ^ 31 + n / 2 ^ 5 % 2 ^ 6 * 2 ^ 25 + n / 2 % 2 ^ 4 * 2 ^ 8 + n / 2 ^ 11 % 2 * 2 ^ 7
+imm_bits_b n = n / 2 ^ 12 * 2 ^ 31 + n / 2 ^ 5 % 2 ^ 6 * 2 ^ 25 + n / 2 % 2 ^ 4 * 2 ^ 8
+    + n / 2 ^ 11 % 2 * 2 ^ 7
 
 abbrev pub imm_bits_j : ℕ → ℕ
-imm_bits_j n = n / 2 ^ 20 * 2 ^ 31 + n / 2 % 2 ^ 10 * 2 ^ 21 + n / 2 ^ 11 % 2 * 2 ^ 20 + n / 2 ^ 12 % 2 ^ 8 * 2 ^ 12
+imm_bits_j n = n / 2 ^ 20 * 2 ^ 31 + n / 2 % 2 ^ 10 * 2 ^ 21 + n / 2 ^ 11 % 2 * 2 ^ 20
+    + n / 2 ^ 12 % 2 ^ 8 * 2 ^ 12
 
 abbrev pub imm_bits : Format → ℤ → ℕ
 imm_bits I z = imm_bits_i (low_bits 12 z)
@@ -43,7 +47,8 @@ filler _ = 0
 
 abbrev pub word_of : Fields → ℕ
 word_of i =
-    (row i.op).bits + unwrap_or i.rd 0 * 2 ^ 7 + unwrap_or i.rs1 0 * 2 ^ 15 + unwrap_or i.rs2 0 * 2 ^ 20
+    (row i.op).bits + unwrap_or i.rd 0 * 2 ^ 7 + unwrap_or i.rs1 0 * 2 ^ 15
+    + unwrap_or i.rs2 0 * 2 ^ 20
     + imm_bits (row i.op).form (unwrap_or i.imm (pos 0)) + filler (row i.op).form
 
 -- a signed number of k bits

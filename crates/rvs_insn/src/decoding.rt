@@ -1,7 +1,8 @@
 // Words read as instructions.
 ghost use Rattle.std.specs.Prelude.{◌≡◌, ◌%◌, ◌^◌, None, IfSome, true, false};
 ghost use Rattle.rvs_insn.specs.Table.{fits, op_of_word};
-ghost use Rattle.rvs_insn.specs.Fields.{signed, imm_i, imm_s, imm_b, imm_j, fields_at, insn_of_word};
+ghost use Rattle.rvs_insn.specs.Fields.{signed, imm_i, imm_s, imm_b, imm_j, fields_at};
+ghost use Rattle.rvs_insn.specs.Fields.{insn_of_word};
 ghost use Rattle.rvs_insn.specs.Split.{op_of_parts};
 ghost use Rattle.rvs_insn.specs.declared.op.Op.{Op as Mnemonic};
 

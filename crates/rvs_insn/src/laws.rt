@@ -1,5 +1,6 @@
 // What holds of the table as a whole.
-ghost use Rattle.rvs_insn.specs.Laws.{NoWordFitsTwoRows, NamesAreFound, FoundNamesAreTheirs, FirstIsUnsigned, SecondIsUnsigned, MultiplyingNeedsM};
+ghost use Rattle.rvs_insn.specs.Laws.{NoWordFitsTwoRows, NamesAreFound, FoundNamesAreTheirs};
+ghost use Rattle.rvs_insn.specs.Laws.{FirstIsUnsigned, SecondIsUnsigned, MultiplyingNeedsM};
 
 /// No word fits two rows of the table, so that `decode` has no choice.
 #[tactic(auto, using(crate::proofs::Distinct::one_row))]

@@ -1,6 +1,7 @@
 // Mnemonics by name, and what a core admits.
 ghost use Rattle.std.specs.Prelude.{◌≡◌, IfOk};
-ghost use Rattle.rvs_insn.specs.Names.{op_of_name, is_m, is_admitted_op, is_low_register, is_admitted};
+ghost use Rattle.rvs_insn.specs.Names.{op_of_name, is_m, is_admitted_op, is_low_register};
+ghost use Rattle.rvs_insn.specs.Names.{is_admitted};
 ghost use Rattle.rvs_insn.specs.IsaName.{isa_name};
 
 use crate::insn::Insn;

@@ -1,26 +1,35 @@
 -- What stands at paths that no check reads changes nothing.
-use Rattle.std.proofs.Common.{◌≡◌, ℕ, ◌<◌, Bool, false, List, [], ◌∷◌, get_or, Option, Some, None, option_map, Ok, Err, All, codes, refl, ap, subst, sym, ◌∙◌, lit<}
+use Rattle.std.proofs.Common.{◌≡◌, ℕ, ◌<◌, Bool, false, List, [], ◌∷◌, get_or, Option, Some, None}
+use Rattle.std.proofs.Common.{option_map, Ok, Err, All, codes, refl, ap, subst, sym, ◌∙◌, lit<}
 use Rattle.rvs_tree.specs.Data.{Data, scalar, sequence, mapping}
 use Rattle.rvs_insn.specs.Isa.{Isa}
 use Rattle.rvs_isa.specs.declared.checked.Checked.{Checked}
 use Rattle.rvs_isa.specs.declared.isa_text.Extensions.{Extensions}
-use Rattle.rvs_isa.specs.declared.refusal.IsaKind.TheVariants.{MissingEntry, BadXlen, BadAddressSize, HartCount, BadTruth, BadNumber}
-use Rattle.rvs_isa.specs.Check.{checked_hart, hart_number, hart_key, hart_entries, isa_entry, xlen_entry, address_bits, misaligned, misa_entry, misa_path, reset_path, is_a_map, or_absent, reset_value, core_of, named}
-use Rattle.rvs_isa.specs.Entries.{entry_at, only_member, number_in, isa_in, is_xlen, address_size, truth_in}
+use Rattle.rvs_isa.specs.declared.refusal.IsaKind.TheVariants.{MissingEntry, BadXlen}
+use Rattle.rvs_isa.specs.declared.refusal.IsaKind.TheVariants.{BadAddressSize, HartCount, BadTruth}
+use Rattle.rvs_isa.specs.declared.refusal.IsaKind.TheVariants.{BadNumber}
+use Rattle.rvs_isa.specs.Check.{checked_hart, hart_number, hart_key, hart_entries, isa_entry}
+use Rattle.rvs_isa.specs.Check.{xlen_entry, address_bits, misaligned, misa_entry, misa_path}
+use Rattle.rvs_isa.specs.Check.{reset_path, is_a_map, or_absent, reset_value, core_of, named}
+use Rattle.rvs_isa.specs.Entries.{entry_at, only_member, number_in, isa_in, is_xlen, address_size}
+use Rattle.rvs_isa.specs.Entries.{truth_in}
 use Rattle.rvs_isa.specs.Misa.{misa_word}
 use Rattle.rvs_isa.specs.Reads.{read_paths, seen, AreAlikeAt, core_in, OthersChangeNothing}
 use Rattle.rvs_isa.specs.Refusal.{Path, Found, holds, wanted, ◌>>=◌, ◌>>◌}
 
 -- ---- a check that sees no more of an entry than is seen of it
-as_seen : {B : Type 0} (f : Option Data → B) → ((d : Data) → f (Some d) ≡ f (Some (seen d))) → (o : Option Data) → f o ≡ f (option_map seen o)
+as_seen : {B : Type 0} (f : Option Data → B) → ((d : Data) → f (Some d) ≡ f (Some (seen d)))
+    → (o : Option Data) → f o ≡ f (option_map seen o)
 as_seen f h None = refl
 as_seen f h (Some d) = h d
 
-same : {B : Type 0} (f : Option Data → B) → ((d : Data) → f (Some d) ≡ f (Some (seen d))) → (o p : Option Data) → option_map seen o ≡ option_map seen p → f o ≡ f p
+same : {B : Type 0} (f : Option Data → B) → ((d : Data) → f (Some d) ≡ f (Some (seen d)))
+    → (o p : Option Data) → option_map seen o ≡ option_map seen p → f o ≡ f p
 same f h o p e = as_seen f h o ∙ ap f e ∙ sym (as_seen f h p)
 
 abbrev number_at : Path → Option Data → Found ℕ
-number_at path o = wanted o path MissingEntry >>= (λ ids. wanted (only_member ids) path HartCount >>= (λ id. wanted (number_in id) path BadNumber))
+number_at path o = wanted o path MissingEntry >>= (λ ids. wanted (only_member ids) path HartCount
+    >>= (λ id. wanted (number_in id) path BadNumber))
 
 number_seen : (path : Path) (d : Data) → number_at path (Some d) ≡ number_at path (Some (seen d))
 number_seen path (scalar text line) = refl
@@ -70,7 +79,8 @@ truth_seen path (mapping es line) = refl
 abbrev reset_at : Path → ℕ → Option Data → Found (Unit {0})
 reset_at path word o = or_absent tt (reset_value path word) o
 
-reset_seen : (path : Path) (word : ℕ) (d : Data) → reset_at path word (Some d) ≡ reset_at path word (Some (seen d))
+reset_seen : (path : Path) (word : ℕ) (d : Data)
+    → reset_at path word (Some d) ≡ reset_at path word (Some (seen d))
 reset_seen path word (scalar text line) = refl
 reset_seen path word (sequence ds line) = refl
 reset_seen path word (mapping es line) = refl
@@ -79,17 +89,20 @@ reset_seen path word (mapping es line) = refl
 abbrev misa_at : Path → Found (Unit {0}) → Option Data → Found (Unit {0})
 misa_at path reset o = or_absent tt (λ misa. is_a_map path misa >> reset) o
 
-misa_seen : (path : Path) (reset : Found (Unit {0})) (d : Data) → misa_at path reset (Some d) ≡ misa_at path reset (Some (seen d))
+misa_seen : (path : Path) (reset : Found (Unit {0})) (d : Data)
+    → misa_at path reset (Some d) ≡ misa_at path reset (Some (seen d))
 misa_seen path reset (scalar text line) = refl
 misa_seen path reset (sequence ds line) = refl
 misa_seen path reset (mapping es line) = refl
 
 -- ---- one check after another
-chain : {A : Type 0} (x y : Found A) (f g : A → Found Checked) → x ≡ y → ((a : A) → core_in (f a) ≡ core_in (g a)) → core_in (x >>= f) ≡ core_in (y >>= g)
+chain : {A : Type 0} (x y : Found A) (f g : A → Found Checked) → x ≡ y
+    → ((a : A) → core_in (f a) ≡ core_in (g a)) → core_in (x >>= f) ≡ core_in (y >>= g)
 chain (Ok a) y f g e h = h a ∙ ap (λ z. core_in (z >>= g)) e
 chain (Err r) y f g e h = ap (λ z. core_in (z >>= g)) e
 
-next : (x y : Found (Unit {0})) (f g : Found Checked) → x ≡ y → core_in f ≡ core_in g → core_in (x >> f) ≡ core_in (y >> g)
+next : (x y : Found (Unit {0})) (f g : Found Checked) → x ≡ y → core_in f ≡ core_in g
+    → core_in (x >> f) ≡ core_in (y >> g)
 next (Ok a) y f g e h = h ∙ ap (λ z. core_in (z >> g)) e
 next (Err r) y f g e h = ap (λ z. core_in (z >> g)) e
 
@@ -97,51 +110,67 @@ next (Err r) y f g e h = ap (λ z. core_in (z >> g)) e
 abbrev AreAlike : List ℕ → Data → Data → Type 0
 AreAlike hart a b = All (AreAlikeAt a b) (read_paths hart)
 
-alike_at : (hart : List ℕ) (a b : Data) → AreAlike hart a b → (k : ℕ) → (path : Path) → k < 9 → get_or (read_paths hart) k [] ≡ path → AreAlikeAt a b path
+alike_at : (hart : List ℕ) (a b : Data) → AreAlike hart a b → (k : ℕ) → (path : Path) → k < 9
+    → get_or (read_paths hart) k [] ≡ path → AreAlikeAt a b path
 alike_at hart a b alike k path h e = subst (AreAlikeAt a b) e (alike k [] h)
 
-same_misa : (hart : List ℕ) (spec : Isa) (a b : Data) → AreAlike hart a b → misa_entry hart spec a ≡ misa_entry hart spec b
+same_misa : (hart : List ℕ) (spec : Isa) (a b : Data) → AreAlike hart a b
+    → misa_entry hart spec a ≡ misa_entry hart spec b
 same_misa hart spec a b alike =
     let path = reset_path hart in
     let word = misa_word spec in
-    let resets = same (reset_at path word) (reset_seen path word) (entry_at path a) (entry_at path b) (alike_at hart a b alike 8 path (lit< tt) refl) in
-    same (misa_at (misa_path hart) (reset_at path word (entry_at path a))) (misa_seen (misa_path hart) (reset_at path word (entry_at path a)))
-    (entry_at (misa_path hart) a) (entry_at (misa_path hart) b) (alike_at hart a b alike 7 (misa_path hart) (lit< tt) refl)
+    let resets = same (reset_at path word) (reset_seen path word) (entry_at path a)
+    (entry_at path b) (alike_at hart a b alike 8 path (lit< tt) refl) in
+    same (misa_at (misa_path hart) (reset_at path word (entry_at path a)))
+    (misa_seen (misa_path hart) (reset_at path word (entry_at path a)))
+    (entry_at (misa_path hart) a) (entry_at (misa_path hart) b)
+    (alike_at hart a b alike 7 (misa_path hart) (lit< tt) refl)
     ∙ ap (λ r. misa_at (misa_path hart) r (entry_at (misa_path hart) b)) resets
 
-same_map : (hart : List ℕ) (a b : Data) → AreAlike hart a b → hart_entries hart a ≡ hart_entries hart b
+same_map : (hart : List ℕ) (a b : Data) → AreAlike hart a b
+    → hart_entries hart a ≡ hart_entries hart b
 same_map hart a b alike =
     let path : Path = hart ∷ [] in
-    same (map_at path) (map_seen path) (entry_at path a) (entry_at path b) (alike_at hart a b alike 2 path (lit< tt) refl)
+    same (map_at path) (map_seen path) (entry_at path a) (entry_at path b)
+    (alike_at hart a b alike 2 path (lit< tt) refl)
 
 same_isa : (hart : List ℕ) (a b : Data) → AreAlike hart a b → isa_entry hart a ≡ isa_entry hart b
 same_isa hart a b alike =
     let path : Path = hart ∷ codes "ISA" ∷ [] in
-    same (isa_at path) (isa_seen path) (entry_at path a) (entry_at path b) (alike_at hart a b alike 3 path (lit< tt) refl)
+    same (isa_at path) (isa_seen path) (entry_at path a) (entry_at path b)
+    (alike_at hart a b alike 3 path (lit< tt) refl)
 
 same_xlen : (hart : List ℕ) (a b : Data) → AreAlike hart a b → xlen_entry hart a ≡ xlen_entry hart b
 same_xlen hart a b alike =
     let path : Path = hart ∷ codes "supported_xlen" ∷ [] in
-    same (xlen_at path) (xlen_seen path) (entry_at path a) (entry_at path b) (alike_at hart a b alike 4 path (lit< tt) refl)
+    same (xlen_at path) (xlen_seen path) (entry_at path a) (entry_at path b)
+    (alike_at hart a b alike 4 path (lit< tt) refl)
 
-same_size : (hart : List ℕ) (a b : Data) → AreAlike hart a b → address_bits hart a ≡ address_bits hart b
+same_size : (hart : List ℕ) (a b : Data) → AreAlike hart a b
+    → address_bits hart a ≡ address_bits hart b
 same_size hart a b alike =
     let path : Path = hart ∷ codes "physical_addr_sz" ∷ [] in
-    same (size_at path) (size_seen path) (entry_at path a) (entry_at path b) (alike_at hart a b alike 5 path (lit< tt) refl)
+    same (size_at path) (size_seen path) (entry_at path a) (entry_at path b)
+    (alike_at hart a b alike 5 path (lit< tt) refl)
 
-same_truth : (hart : List ℕ) (a b : Data) → AreAlike hart a b → misaligned hart a ≡ misaligned hart b
+same_truth : (hart : List ℕ) (a b : Data) → AreAlike hart a b
+    → misaligned hart a ≡ misaligned hart b
 same_truth hart a b alike =
     let path : Path = hart ∷ codes "hw_data_misaligned_support" ∷ [] in
-    same (truth_at path) (truth_seen path) (entry_at path a) (entry_at path b) (alike_at hart a b alike 6 path (lit< tt) refl)
+    same (truth_at path) (truth_seen path) (entry_at path a) (entry_at path b)
+    (alike_at hart a b alike 6 path (lit< tt) refl)
 
-same_hart : (hart : List ℕ) (a b : Data) → AreAlike hart a b → core_in (checked_hart hart a) ≡ core_in (checked_hart hart b)
+same_hart : (hart : List ℕ) (a b : Data) → AreAlike hart a b
+    → core_in (checked_hart hart a) ≡ core_in (checked_hart hart b)
 same_hart hart a b alike =
     next (hart_entries hart a) (hart_entries hart b) _ _ (same_map hart a b alike)
     (chain (isa_entry hart a) (isa_entry hart b) _ _ (same_isa hart a b alike) (λ extensions.
     next (xlen_entry hart a) (xlen_entry hart b) _ _ (same_xlen hart a b alike)
     (chain (address_bits hart a) (address_bits hart b) _ _ (same_size hart a b alike) (λ bits.
     chain (misaligned hart a) (misaligned hart b) _ _ (same_truth hart a b alike) (λ aligned.
-    next (misa_entry hart (core_of extensions bits aligned) a) (misa_entry hart (core_of extensions bits aligned) b) _ _ (same_misa hart (core_of extensions bits aligned) a b alike) refl)))))
+    next (misa_entry hart (core_of extensions bits aligned) a)
+    (misa_entry hart (core_of extensions bits aligned) b) _ _
+    (same_misa hart (core_of extensions bits aligned) a b alike) refl)))))
 
 -- the first check, of the root
 abbrev root_at : Option Data → Found (Unit {0})
@@ -156,8 +185,13 @@ pub others_change_nothing : OthersChangeNothing
 others_change_nothing a b number e alike =
     let hart = hart_key number in
     let ids : Path = codes "hart_ids" ∷ [] in
-    let numbers : hart_number a ≡ hart_number b = same (number_at ids) (number_seen ids) (entry_at ids a) (entry_at ids b) (alike_at hart a b alike 1 ids (lit< tt) refl) in
-    let of_hart : (x : Found ℕ) → x ≡ Ok number → core_in (x >>= (λ n. checked_hart (hart_key n) a)) ≡ core_in (x >>= (λ n. checked_hart (hart_key n) b))
-    = λ x f. subst (λ (y : Found ℕ). core_in (y >>= (λ n. checked_hart (hart_key n) a)) ≡ core_in (y >>= (λ n. checked_hart (hart_key n) b))) (sym f) (same_hart hart a b alike) in
-    next (is_a_map [] a) (is_a_map [] b) _ _ (same root_at root_seen (Some a) (Some b) (alike_at hart a b alike 0 [] (lit< tt) refl))
-    (of_hart (hart_number a) e ∙ ap (λ (x : Found ℕ). core_in (x >>= (λ n. checked_hart (hart_key n) b))) numbers)
+    let numbers : hart_number a ≡ hart_number b = same (number_at ids) (number_seen ids)
+    (entry_at ids a) (entry_at ids b) (alike_at hart a b alike 1 ids (lit< tt) refl) in
+    let of_hart : (x : Found ℕ) → x ≡ Ok number → core_in (x >>= (λ n. checked_hart (hart_key n) a))
+    ≡ core_in (x >>= (λ n. checked_hart (hart_key n) b))
+    = λ x f. subst (λ (y : Found ℕ). core_in (y >>= (λ n. checked_hart (hart_key n) a))
+    ≡ core_in (y >>= (λ n. checked_hart (hart_key n) b))) (sym f) (same_hart hart a b alike) in
+    next (is_a_map [] a) (is_a_map [] b) _ _
+    (same root_at root_seen (Some a) (Some b) (alike_at hart a b alike 0 [] (lit< tt) refl))
+    (of_hart (hart_number a) e
+    ∙ ap (λ (x : Found ℕ). core_in (x >>= (λ n. checked_hart (hart_key n) b))) numbers)

@@ -7,9 +7,12 @@ use Rattle.rvs_isa.specs.IsaText.{extensions_in}
 
 -- the core of these parts, with the base I and without A
 abbrev plain : Bool → Bool → Bool → Isa → Isa
-plain m zicsr zifencei core = record core { e = false; m = m; a = false; zicsr = zicsr; zifencei = zifencei }
+plain m zicsr zifencei core =
+    record core { e = false; m = m; a = false; zicsr = zicsr; zifencei = zifencei }
 
-named : (m zicsr zifencei : Bool) (core : Isa) → extensions_in (isa_name (plain m zicsr zifencei core)) ≡ Ok (record { m = m; zicsr = zicsr; zifencei = zifencei })
+named : (m zicsr zifencei : Bool) (core : Isa)
+    → extensions_in (isa_name (plain m zicsr zifencei core))
+    ≡ Ok (record { m = m; zicsr = zicsr; zifencei = zifencei })
 named true true true core = refl
 named true true false core = refl
 named true false true core = refl

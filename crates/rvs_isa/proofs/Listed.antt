@@ -1,13 +1,18 @@
 -- The paths that are listed as unread are those of entries at which no check looks.
-use Rattle.std.proofs.Common.{◌≡◌, ℕ, Bool, true, false, ◌||◌, ◌⊎◌, inl, inr, if◌then◌else◌, List, [], ◌∷◌, ◌++◌, Contains, All, flat_map, codes, bytes_eq, refl, sym, subst, arith, lit<}
+use Rattle.std.proofs.Common.{◌≡◌, ℕ, Bool, true, false, ◌||◌, ◌⊎◌, inl, inr, if◌then◌else◌, List}
+use Rattle.std.proofs.Common.{[], ◌∷◌, ◌++◌, Contains, All, flat_map, codes, bytes_eq, refl, sym}
+use Rattle.std.proofs.Common.{subst, arith, lit<}
 use Rattle.std.proofs.lemmas.Bool.{false_from_ne_true}
-use Rattle.std.proofs.lemmas.List.Elements.{All-contains, All-from_recursion, Contains-append_left, Contains-append_right, Contains-append_cases, Contains-push_cases}
+use Rattle.std.proofs.lemmas.List.Elements.{All-contains, All-from_recursion, Contains-append_left}
+use Rattle.std.proofs.lemmas.List.Elements.{Contains-append_right, Contains-append_cases}
+use Rattle.std.proofs.lemmas.List.Elements.{Contains-push_cases}
 use Rattle.std.proofs.lemmas.Slice.Eq.{bytes_eq-Decides}
 use Rattle.rvs_tree.specs.Data.{Data, own_pairs}
 use Rattle.rvs_isa.specs.Check.{misa_path}
 use Rattle.rvs_isa.specs.Reads.{read_paths, opened_maps, Leads, IsUnread, UnreadAreListed}
 use Rattle.rvs_isa.specs.Refusal.{Path, path_text}
-use Rattle.rvs_isa.specs.Unread.{unread, each_entry, is_checked, unread_of_root, unread_of_hart, unread_of_misa}
+use Rattle.rvs_isa.specs.Unread.{unread, each_entry, is_checked, unread_of_root, unread_of_hart}
+use Rattle.rvs_isa.specs.Unread.{unread_of_misa}
 
 -- ---- members of lists
 none_in : {X : Type 0} (x : X) → Contains [] x → ⊥
@@ -22,15 +27,18 @@ in_front x xs = (0, omega arith, refl)
 later : {X : Type 0} (y : X) (xs : List X) (x : X) → Contains xs x → Contains (y ∷ xs) x
 later y xs x c = Contains-append_right (y ∷ []) xs x c
 
-flat_in : {X A : Type 0} (f : X → List A) (xs : List X) (x : X) (a : A) → Contains xs x → Contains (f x) a → Contains (flat_map f xs) a
+flat_in : {X A : Type 0} (f : X → List A) (xs : List X) (x : X) (a : A) → Contains xs x
+    → Contains (f x) a → Contains (flat_map f xs) a
 flat_in f [] x a c d = absurd (none_in x c)
 flat_in f (y ∷ ys) x a c d =
     elim (Contains-append_cases (y ∷ []) ys x c) [
-      | inl h ↦ Contains-append_left (f y) (flat_map f ys) a (subst (λ z. Contains (f z) a) (sym (only y x h)) d)
+      | inl h ↦ Contains-append_left (f y) (flat_map f ys) a
+          (subst (λ z. Contains (f z) a) (sym (only y x h)) d)
       | inr r ↦ Contains-append_right (f y) (flat_map f ys) a (flat_in f ys x a r d)
     ]
 
-flat_from : {X A : Type 0} (f : X → List A) (xs : List X) (a : A) → Contains (flat_map f xs) a → (x : X) × Contains xs x × Contains (f x) a
+flat_from : {X A : Type 0} (f : X → List A) (xs : List X) (a : A) → Contains (flat_map f xs) a
+    → (x : X) × Contains xs x × Contains (f x) a
 flat_from f [] a c = absurd (none_in a c)
 flat_from f (y ∷ ys) a c =
     elim (Contains-append_cases (f y) (flat_map f ys) a c) [
@@ -53,10 +61,12 @@ differ a b n = false_from_ne_true (bytes_eq a b) (λ t. n (equal a b t))
 abbrev Unlike : Path → Path → Type 0
 Unlike path read = read ≡ path → ⊥
 
-not_among : (hart : List ℕ) (path : Path) → All (Unlike path) (read_paths hart) → Contains (read_paths hart) path → ⊥
+not_among : (hart : List ℕ) (path : Path) → All (Unlike path) (read_paths hart)
+    → Contains (read_paths hart) path → ⊥
 not_among hart path unlike c = All-contains (Unlike path) (read_paths hart) path unlike c refl
 
-root_key_unread : (hart key : List ℕ) → bytes_eq key hart ≡ false → bytes_eq key (codes "hart_ids") ≡ false → Contains (read_paths hart) (key ∷ []) → ⊥
+root_key_unread : (hart key : List ℕ) → bytes_eq key hart ≡ false
+    → bytes_eq key (codes "hart_ids") ≡ false → Contains (read_paths hart) (key ∷ []) → ⊥
 root_key_unread hart key e f =
     let h = λ (s : hart ≡ key). unequal key hart e (sym s) in
     let i = λ (s : codes "hart_ids" ≡ key). unequal key (codes "hart_ids") f (sym s) in
@@ -80,7 +90,8 @@ pub record Differs (key : List ℕ) : Type 0 where
   pub size : bytes_eq key (codes "physical_addr_sz") ≡ false
   pub misaligned : bytes_eq key (codes "hw_data_misaligned_support") ≡ false
 
-differs : (key : List ℕ) → bytes_eq key (codes "misa") ≡ false → is_checked key ≡ false → Differs key
+differs : (key : List ℕ) → bytes_eq key (codes "misa") ≡ false → is_checked key ≡ false
+    → Differs key
 differs key m e =
     let a = none_of_two (bytes_eq key (codes "ISA")) _ e in
     let b = none_of_two (bytes_eq key (codes "supported_xlen")) _ a.1 in
@@ -91,12 +102,16 @@ unchecked : (key : List ℕ) → Differs key → is_checked key ≡ false
 unchecked key d =
     two_none (bytes_eq key (codes "ISA")) _ d.isa
     (two_none (bytes_eq key (codes "supported_xlen")) _ d.xlen
-    (two_none (bytes_eq key (codes "physical_addr_sz")) (bytes_eq key (codes "hw_data_misaligned_support")) d.size d.misaligned))
+    (two_none (bytes_eq key (codes "physical_addr_sz"))
+    (bytes_eq key (codes "hw_data_misaligned_support")) d.size d.misaligned))
 
-hart_key_unread : (hart key : List ℕ) → Differs key → Contains (read_paths hart) (hart ∷ key ∷ []) → ⊥
+hart_key_unread : (hart key : List ℕ) → Differs key → Contains (read_paths hart) (hart ∷ key ∷ [])
+    → ⊥
 hart_key_unread hart key d =
-    let no_key = λ (other : List ℕ) (f : bytes_eq key other ≡ false) (s : other ≡ key). unequal key other f (sym s) in
-    not_among hart (hart ∷ key ∷ []) (All-from_recursion (Unlike (hart ∷ key ∷ [])) (read_paths hart) (
+    let no_key = λ (other : List ℕ) (f : bytes_eq key other ≡ false) (s : other ≡ key). unequal key
+    other f (sym s) in
+    not_among hart (hart ∷ key ∷ [])
+    (All-from_recursion (Unlike (hart ∷ key ∷ [])) (read_paths hart) (
       λ s. cc,
       (
         λ s. cc,
@@ -119,59 +134,76 @@ hart_key_unread hart key d =
       ),
     ))
 
-misa_key_unread : (hart key : List ℕ) → bytes_eq key (codes "reset-val") ≡ false → Contains (read_paths hart) (hart ∷ codes "misa" ∷ key ∷ []) → ⊥
+misa_key_unread : (hart key : List ℕ) → bytes_eq key (codes "reset-val") ≡ false
+    → Contains (read_paths hart) (hart ∷ codes "misa" ∷ key ∷ []) → ⊥
 misa_key_unread hart key f =
     let no_key = λ (s : codes "reset-val" ≡ key). unequal key (codes "reset-val") f (sym s) in
-    not_among hart (hart ∷ codes "misa" ∷ key ∷ []) (All-from_recursion (Unlike (hart ∷ codes "misa" ∷ key ∷ [])) (read_paths hart) (
+    not_among hart (hart ∷ codes "misa" ∷ key ∷ [])
+    (All-from_recursion (Unlike (hart ∷ codes "misa" ∷ key ∷ [])) (read_paths hart) (
       λ s. cc,
       (λ s. cc, (λ s. cc, (λ s. cc, (λ s. cc, (λ s. cc, (λ s. cc, (λ s. cc, (λ s. no_key (cc), tt)))))))),
     ))
 
 -- ---- what is listed is unread
-either : {X : Type 0} (b : Bool) (xs ys : List X) (y : X) → Contains (if b then xs else ys) y → ((b ≡ true) × Contains xs y) ⊎ ((b ≡ false) × Contains ys y)
+either : {X : Type 0} (b : Bool) (xs ys : List X) (y : X) → Contains (if b then xs else ys) y
+    → ((b ≡ true) × Contains xs y) ⊎ ((b ≡ false) × Contains ys y)
 either true xs ys y c = inl (refl, c)
 either false xs ys y c = inr (refl, c)
 
-kept : {X : Type 0} (b : Bool) (x y : X) → Contains (if b then [] else x ∷ []) y → (b ≡ false) × (x ≡ y)
+kept : {X : Type 0} (b : Bool) (x y : X) → Contains (if b then [] else x ∷ []) y
+    → (b ≡ false) × (x ≡ y)
 kept true x y c = absurd (none_in y c)
 kept false x y c = (refl, only x y c)
 
-from_misa : (hart : List ℕ) (root entries misa : Data) (text : List ℕ) → Contains (own_pairs root) (hart, entries) → Contains (own_pairs entries) (codes "misa", misa)
+from_misa : (hart : List ℕ) (root entries misa : Data) (text : List ℕ)
+    → Contains (own_pairs root) (hart, entries) → Contains (own_pairs entries) (codes "misa", misa)
     → Contains (each_entry (λ key _. unread_of_misa hart key) misa) text → IsUnread hart root text
 from_misa hart root entries misa text there inside c =
     let g = flat_from (λ p. unread_of_misa hart p.0) (own_pairs misa) text c in
-    let k = kept (bytes_eq g.0.0 (codes "reset-val")) (path_text (hart ∷ codes "misa" ∷ g.0.0 ∷ [])) text g.2 in
+    let k = kept (bytes_eq g.0.0 (codes "reset-val")) (path_text (hart ∷ codes "misa" ∷ g.0.0 ∷ []))
+    text g.2 in
     (misa_path hart, g.0.0, (2, lit< tt, refl), (entries, there, (misa, inside, (g.0.1, g.1, tt))), misa_key_unread hart g.0.0 k.0, k.1)
 
-from_entry : (hart : List ℕ) (root entries : Data) (key : List ℕ) (value : Data) (text : List ℕ) → Contains (own_pairs root) (hart, entries)
-    → Contains (own_pairs entries) (key, value) → Contains (unread_of_hart hart key value) text → IsUnread hart root text
+from_entry : (hart : List ℕ) (root entries : Data) (key : List ℕ) (value : Data) (text : List ℕ)
+    → Contains (own_pairs root) (hart, entries)
+    → Contains (own_pairs entries) (key, value) → Contains (unread_of_hart hart key value) text
+    → IsUnread hart root text
 from_entry hart root entries key value text there inside c =
     let others : List (List ℕ) = if is_checked key then [] else path_text (hart ∷ key ∷ []) ∷ [] in
-    elim (either (bytes_eq key (codes "misa")) (each_entry (λ inner _. unread_of_misa hart inner) value) others text c) [
-      | inl h ↦ from_misa hart root entries value text there (subst (λ (k : List ℕ). Contains (own_pairs entries) (k, value)) (equal key (codes "misa") h.0) inside) h.1
+    elim (either (bytes_eq key (codes "misa"))
+    (each_entry (λ inner _. unread_of_misa hart inner) value) others text c) [
+      | inl h ↦ from_misa hart root entries value text there (subst
+          (λ (k : List ℕ). Contains (own_pairs entries) (k, value)) (equal key (codes "misa") h.0)
+          inside) h.1
       | inr r ↦
           let k = kept (is_checked key) (path_text (hart ∷ key ∷ [])) text r.1 in
           (hart ∷ [], key, (1, lit< tt, refl), (entries, there, (value, inside, tt)), hart_key_unread hart key (differs key r.0 k.0), k.1)
     ]
 
-from_hart : (hart : List ℕ) (root entries : Data) (text : List ℕ) → Contains (own_pairs root) (hart, entries)
+from_hart : (hart : List ℕ) (root entries : Data) (text : List ℕ)
+    → Contains (own_pairs root) (hart, entries)
     → Contains (each_entry (unread_of_hart hart) entries) text → IsUnread hart root text
 from_hart hart root entries text there c =
     let g = flat_from (λ p. unread_of_hart hart p.0 p.1) (own_pairs entries) text c in
     from_entry hart root entries g.0.0 g.0.1 text there g.1 g.2
 
-from_root : (hart : List ℕ) (root : Data) (key : List ℕ) (value : Data) (text : List ℕ) → Contains (own_pairs root) (key, value)
+from_root : (hart : List ℕ) (root : Data) (key : List ℕ) (value : Data) (text : List ℕ)
+    → Contains (own_pairs root) (key, value)
     → Contains (unread_of_root hart key value) text → IsUnread hart root text
 from_root hart root key value text there c =
-    let others : List (List ℕ) = if bytes_eq key (codes "hart_ids") then [] else path_text (key ∷ []) ∷ [] in
+    let others : List (List ℕ) = if bytes_eq key (codes "hart_ids") then []
+    else path_text (key ∷ []) ∷ [] in
     elim (either (bytes_eq key hart) (each_entry (unread_of_hart hart) value) others text c) [
-      | inl h ↦ from_hart hart root value text (subst (λ (k : List ℕ). Contains (own_pairs root) (k, value)) (equal key hart h.0) there) h.1
+      | inl h ↦ from_hart hart root value text
+          (subst (λ (k : List ℕ). Contains (own_pairs root) (k, value)) (equal key hart h.0) there)
+          h.1
       | inr r ↦
           let k = kept (bytes_eq key (codes "hart_ids")) (path_text (key ∷ [])) text r.1 in
           ([], key, (0, lit< tt, refl), (value, there, tt), root_key_unread hart key r.0 k.0, k.1)
     ]
 
-listed_is_unread : (hart : List ℕ) (root : Data) (text : List ℕ) → Contains (unread hart root) text → IsUnread hart root text
+listed_is_unread : (hart : List ℕ) (root : Data) (text : List ℕ) → Contains (unread hart root) text
+    → IsUnread hart root text
 listed_is_unread hart root text c =
     let g = flat_from (λ p. unread_of_root hart p.0 p.1) (own_pairs root) text c in
     from_root hart root g.0.0 g.0.1 text g.1 g.2
@@ -181,42 +213,55 @@ put : {X : Type 0} (b : Bool) (x y : X) → b ≡ false → x ≡ y → Contains
 put true x y e f = cc
 put false x y e f = subst (λ z. Contains (x ∷ []) z) f (in_front x [])
 
-first : {X : Type 0} (b : Bool) (xs ys : List X) (y : X) → b ≡ true → Contains xs y → Contains (if b then xs else ys) y
+first : {X : Type 0} (b : Bool) (xs ys : List X) (y : X) → b ≡ true → Contains xs y
+    → Contains (if b then xs else ys) y
 first true xs ys y e c = c
 first false xs ys y e c = cc
 
-second : {X : Type 0} (b : Bool) (xs ys : List X) (y : X) → b ≡ false → Contains ys y → Contains (if b then xs else ys) y
+second : {X : Type 0} (b : Bool) (xs ys : List X) (y : X) → b ≡ false → Contains ys y
+    → Contains (if b then xs else ys) y
 second true xs ys y e c = cc
 second false xs ys y e c = c
 
 -- an entry of a map, where something holds of the path with its key
 abbrev pub IsListedIn : List ℕ → Data → List ℕ → Path → Type 0
 IsListedIn hart root text front =
-    (key : List ℕ) → Leads (front ++ key ∷ []) root → (Contains (read_paths hart) (front ++ key ∷ []) → ⊥)
+    (key : List ℕ) → Leads (front ++ key ∷ []) root
+    → (Contains (read_paths hart) (front ++ key ∷ []) → ⊥)
     → path_text (front ++ key ∷ []) ≡ text → Contains (unread hart root) text
 
 listed_of_root : (hart : List ℕ) (root : Data) (text : List ℕ) → IsListedIn hart root text []
 listed_of_root hart root text key leads n e =
-    let no_hart = differ key hart (λ s. n (subst (λ (k : List ℕ). Contains (read_paths hart) (k ∷ [])) (sym s) (2, lit< tt, refl))) in
-    let no_ids = differ key (codes "hart_ids") (λ s. n (subst (λ (k : List ℕ). Contains (read_paths hart) (k ∷ [])) (sym s) (1, lit< tt, refl))) in
-    let others : List (List ℕ) = if bytes_eq key (codes "hart_ids") then [] else path_text (key ∷ []) ∷ [] in
+    let no_hart = differ key hart (λ s. n
+    (subst (λ (k : List ℕ). Contains (read_paths hart) (k ∷ [])) (sym s) (2, lit< tt, refl))) in
+    let no_ids = differ key (codes "hart_ids") (λ s. n
+    (subst (λ (k : List ℕ). Contains (read_paths hart) (k ∷ [])) (sym s) (1, lit< tt, refl))) in
+    let others : List (List ℕ) = if bytes_eq key (codes "hart_ids") then []
+    else path_text (key ∷ []) ∷ [] in
     flat_in (λ p. unread_of_root hart p.0 p.1) (own_pairs root) (key, leads.0) text leads.1
-    (second (bytes_eq key hart) (each_entry (unread_of_hart hart) leads.0) others text no_hart (put (bytes_eq key (codes "hart_ids")) (path_text (key ∷ [])) text no_ids e))
+    (second (bytes_eq key hart) (each_entry (unread_of_hart hart) leads.0) others text no_hart
+    (put (bytes_eq key (codes "hart_ids")) (path_text (key ∷ [])) text no_ids e))
 
 -- what an entry of the hart adds is listed
-through_hart : (hart : List ℕ) (root entries : Data) (key : List ℕ) (value : Data) (text : List ℕ) → Contains (own_pairs root) (hart, entries)
-    → Contains (own_pairs entries) (key, value) → Contains (unread_of_hart hart key value) text → Contains (unread hart root) text
+through_hart : (hart : List ℕ) (root entries : Data) (key : List ℕ) (value : Data) (text : List ℕ)
+    → Contains (own_pairs root) (hart, entries)
+    → Contains (own_pairs entries) (key, value) → Contains (unread_of_hart hart key value) text
+    → Contains (unread hart root) text
 through_hart hart root entries key value text there inside c =
-    let others : List (List ℕ) = if bytes_eq hart (codes "hart_ids") then [] else path_text (hart ∷ []) ∷ [] in
+    let others : List (List ℕ) = if bytes_eq hart (codes "hart_ids") then []
+    else path_text (hart ∷ []) ∷ [] in
     flat_in (λ p. unread_of_root hart p.0 p.1) (own_pairs root) (hart, entries) text there
     (first (bytes_eq hart hart) (each_entry (unread_of_hart hart) entries) others text ((bytes_eq-Decides hart hart).1 refl)
     (flat_in (λ p. unread_of_hart hart p.0 p.1) (own_pairs entries) (key, value) text inside c))
 
 -- the key isn't that of a path that is read
-other_key : (hart key other : List ℕ) → (Contains (read_paths hart) (hart ∷ key ∷ []) → ⊥) → Contains (read_paths hart) (hart ∷ other ∷ []) → bytes_eq key other ≡ false
-other_key hart key other n c = differ key other (λ s. n (subst (λ (k : List ℕ). Contains (read_paths hart) (hart ∷ k ∷ [])) (sym s) c))
+other_key : (hart key other : List ℕ) → (Contains (read_paths hart) (hart ∷ key ∷ []) → ⊥)
+    → Contains (read_paths hart) (hart ∷ other ∷ []) → bytes_eq key other ≡ false
+other_key hart key other n c = differ key other
+    (λ s. n (subst (λ (k : List ℕ). Contains (read_paths hart) (hart ∷ k ∷ [])) (sym s) c))
 
-listed_of_hart : (hart : List ℕ) (root : Data) (text : List ℕ) → IsListedIn hart root text (hart ∷ [])
+listed_of_hart : (hart : List ℕ) (root : Data) (text : List ℕ)
+    → IsListedIn hart root text (hart ∷ [])
 listed_of_hart hart root text key leads n e =
     let value = leads.2.0 in
     let d : Differs key = record {
@@ -231,21 +276,28 @@ listed_of_hart hart root text key leads n e =
     (second (bytes_eq key (codes "misa")) (each_entry (λ inner _. unread_of_misa hart inner) value) others text d.misa
     (put (is_checked key) (path_text (hart ∷ key ∷ [])) text (unchecked key d) e))
 
-listed_of_misa : (hart : List ℕ) (root : Data) (text : List ℕ) → IsListedIn hart root text (misa_path hart)
+listed_of_misa : (hart : List ℕ) (root : Data) (text : List ℕ)
+    → IsListedIn hart root text (misa_path hart)
 listed_of_misa hart root text key leads n e =
     let misa = leads.2.0 in
-    let no_reset = differ key (codes "reset-val") (λ s. n (subst (λ (k : List ℕ). Contains (read_paths hart) (hart ∷ codes "misa" ∷ k ∷ [])) (sym s) (8, lit< tt, refl))) in
-    let others : List (List ℕ) = if is_checked (codes "misa") then [] else path_text (hart ∷ codes "misa" ∷ []) ∷ [] in
+    let no_reset = differ key (codes "reset-val") (λ s. n (subst
+    (λ (k : List ℕ). Contains (read_paths hart) (hart ∷ codes "misa" ∷ k ∷ [])) (sym s)
+    (8, lit< tt, refl))) in
+    let others : List (List ℕ) = if is_checked (codes "misa") then []
+    else path_text (hart ∷ codes "misa" ∷ []) ∷ [] in
     through_hart hart root leads.0 (codes "misa") misa text leads.1 leads.2.1
     (first (bytes_eq (codes "misa") (codes "misa")) (each_entry (λ inner _. unread_of_misa hart inner) misa) others text refl
     (flat_in (λ p. unread_of_misa hart p.0) (own_pairs misa) (key, leads.2.2.0) text leads.2.2.1
-    (put (bytes_eq key (codes "reset-val")) (path_text (hart ∷ codes "misa" ∷ key ∷ [])) text no_reset e)))
+    (put (bytes_eq key (codes "reset-val")) (path_text (hart ∷ codes "misa" ∷ key ∷ [])) text
+    no_reset e)))
 
-unread_is_listed : (hart : List ℕ) (root : Data) (text : List ℕ) → IsUnread hart root text → Contains (unread hart root) text
+unread_is_listed : (hart : List ℕ) (root : Data) (text : List ℕ) → IsUnread hart root text
+    → Contains (unread hart root) text
 unread_is_listed hart root text u =
     All-contains (IsListedIn hart root text) (opened_maps hart) u.0
     (All-from_recursion (IsListedIn hart root text) (opened_maps hart) (listed_of_root hart root text, (listed_of_hart hart root text, (listed_of_misa hart root text, tt))))
     u.2 u.1 u.3 u.4 u.5
 
 pub unread_are_listed : UnreadAreListed
-unread_are_listed hart root text = (listed_is_unread hart root text, unread_is_listed hart root text)
+unread_are_listed hart root text =
+    (listed_is_unread hart root text, unread_is_listed hart root text)

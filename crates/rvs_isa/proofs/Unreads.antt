@@ -1,5 +1,6 @@
 -- Entry after entry of a map.
-use Rattle.std.proofs.Common.{◌≡◌, ℕ, ◌+◌, true, List, [], ◌∷◌, ◌++◌, Option, Some, None, map, option_map, slice_get, take, flat_map, ap, sym, ◌∙◌, refl, append-nil}
+use Rattle.std.proofs.Common.{◌≡◌, ℕ, ◌+◌, true, List, [], ◌∷◌, ◌++◌, Option, Some, None, map}
+use Rattle.std.proofs.Common.{option_map, slice_get, take, flat_map, ap, sym, ◌∙◌, refl, append-nil}
 use Rattle.std.proofs.lemmas.List.{take_more}
 use Rattle.std.proofs.lemmas.Option.{slice_get-map, slice_get_within, get_or_from_slice_get}
 use Rattle.std.proofs.lemmas.Grind.{flat_map-append}
@@ -9,21 +10,27 @@ use Rattle.rvs_tree.specs.Data.{Data, Pairs, own_pairs, keys_of, members_of, is_
 abbrev pub first_entries : (List ℕ → Data → List (List ℕ)) → ℕ → Data → List (List ℕ)
 first_entries unread i d = flat_map (λ p. unread p.0 p.1) (take i (own_pairs d))
 
-same_pair : (o : Option (List ℕ × Data)) (k : List ℕ) (v : Data) → option_map (λ p. p.0) o ≡ Some k → option_map (λ p. p.1) o ≡ Some v → o ≡ Some (k, v)
+same_pair : (o : Option (List ℕ × Data)) (k : List ℕ) (v : Data) → option_map (λ p. p.0) o ≡ Some k
+    → option_map (λ p. p.1) o ≡ Some v → o ≡ Some (k, v)
 same_pair None k v e f = cc
 same_pair (Some p) k v e f =
     let k_is : p.0 ≡ k = cc in
     let v_is : p.1 ≡ v = cc in
     ap (λ x. Some (x, p.1)) k_is ∙ ap (λ y. Some (k, y)) v_is
 
-pair_at : (ps : Pairs) (i : ℕ) (k : List ℕ) (v : Data) → slice_get (map (λ p. p.0) ps) i ≡ Some k → slice_get (map (λ p. p.1) ps) i ≡ Some v → slice_get ps i ≡ Some (k, v)
+pair_at : (ps : Pairs) (i : ℕ) (k : List ℕ) (v : Data) → slice_get (map (λ p. p.0) ps) i ≡ Some k
+    → slice_get (map (λ p. p.1) ps) i ≡ Some v → slice_get ps i ≡ Some (k, v)
 pair_at ps i k v e f =
-    same_pair (slice_get ps i) k v (sym (slice_get-map (λ p. p.0) ps i) ∙ e) (sym (slice_get-map (λ p. p.1) ps i) ∙ f)
+    same_pair (slice_get ps i) k v (sym (slice_get-map (λ p. p.0) ps i) ∙ e)
+    (sym (slice_get-map (λ p. p.1) ps i) ∙ f)
 
-more_pairs : (unread : List ℕ → Data → List (List ℕ)) (i : ℕ) (ps : Pairs) (k : List ℕ) (v : Data) → slice_get ps i ≡ Some (k, v)
-    → flat_map (λ p. unread p.0 p.1) (take (i + 1) ps) ≡ flat_map (λ p. unread p.0 p.1) (take i ps) ++ unread k v
+more_pairs : (unread : List ℕ → Data → List (List ℕ)) (i : ℕ) (ps : Pairs) (k : List ℕ) (v : Data)
+    → slice_get ps i ≡ Some (k, v)
+    → flat_map (λ p. unread p.0 p.1) (take (i + 1) ps)
+    ≡ flat_map (λ p. unread p.0 p.1) (take i ps) ++ unread k v
 more_pairs unread i ps k v e =
-    ap (flat_map (λ p. unread p.0 p.1)) (take_more ps i (k, v) (slice_get_within ps i (k, v) e) ∙ ap (λ p. take i ps ++ p ∷ []) (get_or_from_slice_get ps i (k, v) (k, v) e))
+    ap (flat_map (λ p. unread p.0 p.1)) (take_more ps i (k, v) (slice_get_within ps i (k, v) e)
+    ∙ ap (λ p. take i ps ++ p ∷ []) (get_or_from_slice_get ps i (k, v) (k, v) e))
     ∙ flat_map-append (λ p. unread p.0 p.1) (take i ps) ((k, v) ∷ [])
     ∙ ap (λ t. flat_map (λ p. unread p.0 p.1) (take i ps) ++ t) (append-nil (unread k v))
 
@@ -31,12 +38,16 @@ members_of_map : (d : Data) → is_map d ≡ true → members_of d ≡ map (λ p
 members_of_map (mapping es line) e = refl
 members_of_map _ e = cc
 
-pub first-more : (unread : List ℕ → Data → List (List ℕ)) (i : ℕ) (d : Data) (k : List ℕ) (v : Data) → is_map d ≡ true
-    → slice_get (keys_of d) i ≡ Some k → slice_get (members_of d) i ≡ Some v → first_entries unread (i + 1) d ≡ first_entries unread i d ++ unread k v
+pub first-more : (unread : List ℕ → Data → List (List ℕ)) (i : ℕ) (d : Data) (k : List ℕ) (v : Data)
+    → is_map d ≡ true
+    → slice_get (keys_of d) i ≡ Some k → slice_get (members_of d) i ≡ Some v
+    → first_entries unread (i + 1) d ≡ first_entries unread i d ++ unread k v
 first-more unread i d k v m e f =
-    more_pairs unread i (own_pairs d) k v (pair_at (own_pairs d) i k v e (sym (ap (λ ms. slice_get ms i) (members_of_map d m)) ∙ f))
+    more_pairs unread i (own_pairs d) k v
+    (pair_at (own_pairs d) i k v e (sym (ap (λ ms. slice_get ms i) (members_of_map d m)) ∙ f))
 
-some_value : (o : Option (List ℕ × Data)) (k : List ℕ) → option_map (λ p. p.0) o ≡ Some k → (v : Data) × (o ≡ Some (k, v))
+some_value : (o : Option (List ℕ × Data)) (k : List ℕ) → option_map (λ p. p.0) o ≡ Some k
+    → (v : Data) × (o ≡ Some (k, v))
 some_value None k e = absurd (cc)
 some_value (Some p) k e =
     let k_is : p.0 ≡ k = cc in
@@ -44,7 +55,9 @@ some_value (Some p) k e =
 
 -- the same, where the values don't matter
 pub first-more_keys : (unread : List ℕ → List (List ℕ)) (i : ℕ) (d : Data) (k : List ℕ)
-    → slice_get (keys_of d) i ≡ Some k → first_entries (λ key _. unread key) (i + 1) d ≡ first_entries (λ key _. unread key) i d ++ unread k
+    → slice_get (keys_of d) i ≡ Some k → first_entries (λ key _. unread key) (i + 1) d
+    ≡ first_entries (λ key _. unread key) i d ++ unread k
 first-more_keys unread i d k e =
-    let found = some_value (slice_get (own_pairs d) i) k (sym (slice_get-map (λ p. p.0) (own_pairs d) i) ∙ e) in
+    let found = some_value (slice_get (own_pairs d) i) k
+    (sym (slice_get-map (λ p. p.0) (own_pairs d) i) ∙ e) in
     more_pairs (λ key _. unread key) i (own_pairs d) k found.0 found.1

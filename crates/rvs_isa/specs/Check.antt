@@ -1,13 +1,17 @@
 -- The eight checks of an ISA specification, and what an accepted one says.
-use Rattle.std.specs.Prelude.{ℕ, ◌==◌, Bool, false, List, [], ◌∷◌, ◌++◌, Option, Some, None, Result, Ok, Err, codes}
+use Rattle.std.specs.Prelude.{ℕ, ◌==◌, Bool, false, List, [], ◌∷◌, ◌++◌, Option, Some, None, Result}
+use Rattle.std.specs.Prelude.{Ok, Err, codes}
 use Rattle.std.specs.Fmt.{decimal}
 use Rattle.rvs_tree.specs.Data.{Data, is_map}
 use Rattle.rvs_insn.specs.Isa.{Isa}
 use Rattle.rvs_isa.specs.declared.checked.Checked.{Checked}
 use Rattle.rvs_isa.specs.declared.isa_text.Extensions.{Extensions}
 use Rattle.rvs_isa.specs.declared.refusal.IsaKind.{IsaKind}
-use Rattle.rvs_isa.specs.declared.refusal.IsaKind.TheVariants.{NotAMapping, MissingEntry, BadXlen, BadAddressSize, MisaDisagrees, HartCount, BadTruth, BadNumber}
-use Rattle.rvs_isa.specs.Entries.{entry_at, only_member, number_in, isa_in, is_xlen, address_size, truth_in}
+use Rattle.rvs_isa.specs.declared.refusal.IsaKind.TheVariants.{NotAMapping, MissingEntry, BadXlen}
+use Rattle.rvs_isa.specs.declared.refusal.IsaKind.TheVariants.{BadAddressSize, MisaDisagrees}
+use Rattle.rvs_isa.specs.declared.refusal.IsaKind.TheVariants.{HartCount, BadTruth, BadNumber}
+use Rattle.rvs_isa.specs.Entries.{entry_at, only_member, number_in, isa_in, is_xlen, address_size}
+use Rattle.rvs_isa.specs.Entries.{truth_in}
 use Rattle.rvs_isa.specs.Misa.{misa_word}
 use Rattle.rvs_isa.specs.Refusal.{Path, Found, refusal_at, holds, wanted, ◌>>=◌, ◌>>◌}
 use Rattle.rvs_isa.specs.Unread.{unread}
@@ -89,7 +93,8 @@ misa_entries hart spec root misa = do
 
 -- `misa` is a map in which this holds, or absent.
 abbrev pub misa_entry : List ℕ → Isa → Data → Found (Unit {0})
-misa_entry hart spec root = or_absent tt (misa_entries hart spec root) (entry_at (misa_path hart) root)
+misa_entry hart spec root =
+    or_absent tt (misa_entries hart spec root) (entry_at (misa_path hart) root)
 
 -- a core with the base I and without A
 abbrev pub core_of : Extensions → ℕ → Bool → Isa

@@ -1,5 +1,6 @@
 -- The entries of an ISA specification.
-use Rattle.std.specs.Prelude.{ℕ, Bool, true, false, ◌&&◌, ◌||◌, if◌then◌else◌, List, [], ◌∷◌, Option, Some, None, Result, Err, codes, nat_le}
+use Rattle.std.specs.Prelude.{ℕ, Bool, true, false, ◌&&◌, ◌||◌, if◌then◌else◌, List, [], ◌∷◌}
+use Rattle.std.specs.Prelude.{Option, Some, None, Result, Err, codes, nat_le}
 use Rattle.std.specs.Option.{option_and_then}
 use Rattle.std.specs.Str.{bytes_eq}
 use Rattle.rvs_tree.specs.Data.{Data, scalar, sequence, no_items, item, value_at}
@@ -48,5 +49,7 @@ address_size d = option_and_then within_size (number_in d)
 -- the six spellings of a truth value
 abbrev pub truth_in : Data → Option Bool
 truth_in d =
-    if has_text (codes "true") d || (has_text (codes "True") d || has_text (codes "TRUE") d) then Some true
-    else (if has_text (codes "false") d || (has_text (codes "False") d || has_text (codes "FALSE") d) then Some false else None)
+    if has_text (codes "true") d || (has_text (codes "True") d || has_text (codes "TRUE") d)
+    then Some true
+    else (if has_text (codes "false") d
+    || (has_text (codes "False") d || has_text (codes "FALSE") d) then Some false else None)

@@ -1,5 +1,7 @@
 -- The text of an instruction set, as RV32IMZicsr_Zifencei.
-use Rattle.std.specs.Prelude.{ℕ, ◌==◌, Bool, true, false, ◌&&◌, ◌||◌, not, if◌then◌else◌, List, [], ◌∷◌, Option, Some, None, Result, Ok, Err, codes, length, take, drop, take_while, nat_le, nat_lt}
+use Rattle.std.specs.Prelude.{ℕ, ◌==◌, Bool, true, false, ◌&&◌, ◌||◌, not, if◌then◌else◌, List, []}
+use Rattle.std.specs.Prelude.{◌∷◌, Option, Some, None, Result, Ok, Err, codes, length, take, drop}
+use Rattle.std.specs.Prelude.{take_while, nat_le, nat_lt}
 use Rattle.std.specs.Char.{is_ascii_lowercase, is_ascii_digit}
 use Rattle.std.specs.List.{list_any, list_all, count_by, prefix_len, slice_split}
 use Rattle.std.specs.Str.{bytes_eq}
@@ -24,7 +26,8 @@ is_letter c = list_any (λ l. l == c) letter_order
 abbrev pub are_in_order : List ℕ → List ℕ → Bool
 are_in_order [] order = true
 are_in_order (c ∷ cs) [] = false
-are_in_order (c ∷ cs) (o ∷ os) = elim (o == c) [ true ↦ are_in_order cs os | false ↦ are_in_order (c ∷ cs) os ]
+are_in_order (c ∷ cs) (o ∷ os) =
+    elim (o == c) [ true ↦ are_in_order cs os | false ↦ are_in_order (c ∷ cs) os ]
 
 abbrev pub is_name_character : ℕ → Bool
 is_name_character c = is_ascii_lowercase c || is_ascii_digit c
@@ -73,7 +76,8 @@ is_supported_letter l = l == 77
 abbrev pub is_supported : Parts → Bool
 is_supported p =
     ((p.base == 73) && list_all is_supported_letter p.letters)
-    && (list_all is_known_name p.names && (nat_le (times (codes "Zicsr") p.names) 1 && nat_le (times (codes "Zifencei") p.names) 1))
+    && (list_all is_known_name p.names && (nat_le (times (codes "Zicsr") p.names) 1
+    && nat_le (times (codes "Zifencei") p.names) 1))
 
 abbrev pub extensions_of : Parts → Extensions
 extensions_of p = record {

@@ -7,7 +7,11 @@ use Rattle.rvs_insn.specs.Isa.{Isa}
 use Rattle.rvs_insn.specs.IsaName.{isa_name}
 use Rattle.rvs_isa.specs.declared.checked.Checked.{Checked}
 use Rattle.rvs_isa.specs.declared.refusal.IsaKind.{IsaKind}
-use Rattle.rvs_isa.specs.declared.refusal.IsaKind.TheVariants.{NotAMapping, MissingEntry, BadIsaText, UnsupportedExtension, BadXlen, BadAddressSize, MisaDisagrees, HartCount, BadTruth, BadNumber, NoMemory}
+use Rattle.rvs_isa.specs.declared.refusal.IsaKind.TheVariants.{NotAMapping, MissingEntry}
+use Rattle.rvs_isa.specs.declared.refusal.IsaKind.TheVariants.{BadIsaText, UnsupportedExtension}
+use Rattle.rvs_isa.specs.declared.refusal.IsaKind.TheVariants.{BadXlen, BadAddressSize}
+use Rattle.rvs_isa.specs.declared.refusal.IsaKind.TheVariants.{MisaDisagrees, HartCount, BadTruth}
+use Rattle.rvs_isa.specs.declared.refusal.IsaKind.TheVariants.{BadNumber, NoMemory}
 use Rattle.rvs_isa.specs.declared.refusal.IsaRefusal.{IsaRefusal}
 use Rattle.rvs_isa.specs.Misa.{misa_word}
 
@@ -21,7 +25,8 @@ word_text word = codes "0x" ++ hex_word_of word
 abbrev pub core_lines : Isa → List ℕ
 core_lines spec =
     codes "isa " ++ (isa_name spec ++ (codes "\nmisaligned " ++ (truth_text spec.misaligned
-    ++ (codes "\naddress_bits " ++ (decimal spec.address_bits ++ (codes "\nmisa " ++ (word_text (misa_word spec) ++ codes "\n")))))))
+    ++ (codes "\naddress_bits " ++ (decimal spec.address_bits
+    ++ (codes "\nmisa " ++ (word_text (misa_word spec) ++ codes "\n")))))))
 
 abbrev pub unread_line : List ℕ → List ℕ
 unread_line path = codes "unread " ++ (path ++ codes "\n")
@@ -46,9 +51,11 @@ number_of NoMemory = 11
 
 -- where the reset value disagrees, both words
 abbrev pub words_text : IsaKind → List ℕ
-words_text (MisaDisagrees stated expected) = codes " stated " ++ (word_text stated ++ (codes " expected " ++ word_text expected))
+words_text (MisaDisagrees stated expected) =
+    codes " stated " ++ (word_text stated ++ (codes " expected " ++ word_text expected))
 words_text _ = []
 
 -- the number of the kind, and the path, empty or not, behind a space
 abbrev pub refusal_text : IsaRefusal → List ℕ
-refusal_text r = codes "isa " ++ (decimal (number_of r.kind) ++ (codes " " ++ (r.path ++ words_text r.kind)))
+refusal_text r =
+    codes "isa " ++ (decimal (number_of r.kind) ++ (codes " " ++ (r.path ++ words_text r.kind)))

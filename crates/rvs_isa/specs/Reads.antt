@@ -1,5 +1,7 @@
--- Which entries the checks read, and that the paths that are listed as unread are those of the others.
-use Rattle.std.specs.Prelude.{◌≡◌, ◌↔◌, ℕ, List, [], ◌∷◌, ◌++◌, Ok, Err, Contains, All, codes, option_map}
+-- Which entries the checks read, and that the paths that are listed as unread are those of the
+-- others.
+use Rattle.std.specs.Prelude.{◌≡◌, ◌↔◌, ℕ, List, [], ◌∷◌, ◌++◌, Ok, Err, Contains, All, codes}
+use Rattle.std.specs.Prelude.{option_map}
 use Rattle.rvs_tree.specs.Data.{Data, mapping, no_entries, own_pairs}
 use Rattle.rvs_insn.specs.Isa.{Isa}
 use Rattle.rvs_isa.specs.declared.refusal.IsaRefusal.{IsaRefusal}
@@ -12,8 +14,10 @@ use Rattle.rvs_isa.specs.declared.checked.Checked.{Checked}
 -- the paths at which the checks look, with the key of the hart
 abbrev pub read_paths : List ℕ → List Path
 read_paths hart =
-    [] ∷ (codes "hart_ids" ∷ []) ∷ (hart ∷ []) ∷ (hart ∷ codes "ISA" ∷ []) ∷ (hart ∷ codes "supported_xlen" ∷ [])
-    ∷ (hart ∷ codes "physical_addr_sz" ∷ []) ∷ (hart ∷ codes "hw_data_misaligned_support" ∷ []) ∷ misa_path hart ∷ reset_path hart ∷ []
+    [] ∷ (codes "hart_ids" ∷ []) ∷ (hart ∷ []) ∷ (hart ∷ codes "ISA" ∷ [])
+    ∷ (hart ∷ codes "supported_xlen" ∷ [])
+    ∷ (hart ∷ codes "physical_addr_sz" ∷ []) ∷ (hart ∷ codes "hw_data_misaligned_support" ∷ [])
+    ∷ misa_path hart ∷ reset_path hart ∷ []
 
 -- the maps whose entries they look at: the root, the hart and its misa
 abbrev pub opened_maps : List ℕ → List Path
@@ -27,14 +31,17 @@ Leads (key ∷ keys) d = (value : Data) × Contains (own_pairs d) (key, value) �
 -- An entry of one of these maps at which no check looks has a path of this text.
 abbrev pub IsUnread : List ℕ → Data → List ℕ → Type 0
 IsUnread hart root text =
-    (front : Path) × (key : List ℕ) × Contains (opened_maps hart) front × Leads (front ++ key ∷ []) root
+    (front : Path) × (key : List ℕ) × Contains (opened_maps hart) front
+    × Leads (front ++ key ∷ []) root
     × (¬ Contains (read_paths hart) (front ++ key ∷ [])) × (path_text (front ++ key ∷ []) ≡ text)
 
 -- A path is listed as unread exactly where it is that of an entry at which no check looks.
 abbrev pub UnreadAreListed : Type 0
-UnreadAreListed = (hart : List ℕ) (root : Data) (text : List ℕ) → Contains (unread hart root) text ↔ IsUnread hart root text
+UnreadAreListed = (hart : List ℕ) (root : Data) (text : List ℕ)
+    → Contains (unread hart root) text ↔ IsUnread hart root text
 
--- what a check sees of an entry: of a map only that it is one, for its entries have paths of their own
+-- what a check sees of an entry: of a map only that it is one, for its entries have paths of their
+-- own
 abbrev pub seen : Data → Data
 seen (mapping es line) = mapping no_entries 0
 seen d = d
@@ -48,12 +55,16 @@ abbrev pub core_in : Found Checked → Found Isa
 core_in (Ok c) = Ok c.spec
 core_in (Err e) = Err e
 
--- Whatever two specifications have at other paths, they come to the same core or to the same refusal.
+-- Whatever two specifications have at other paths, they come to the same core or to the same
+-- refusal.
 abbrev pub OthersChangeNothing : Type 0
 OthersChangeNothing =
-    (a b : Data) (number : ℕ) → hart_number a ≡ Ok number → All (AreAlikeAt a b) (read_paths (hart_key number)) → core_in (checked a) ≡ core_in (checked b)
+    (a b : Data) (number : ℕ) → hart_number a ≡ Ok number
+    → All (AreAlikeAt a b) (read_paths (hart_key number))
+    → core_in (checked a) ≡ core_in (checked b)
 
 -- Each path that is read, of hart 0, is that of some refusal.
 abbrev pub ReadAreRefused : Type 0
 ReadAreRefused =
-    (path : Path) → Contains (read_paths (hart_key 0)) path → (root : Data) × (e : IsaRefusal) × (checked root ≡ Err e) × (e.path ≡ path_text path)
+    (path : Path) → Contains (read_paths (hart_key 0)) path
+    → (root : Data) × (e : IsaRefusal) × (checked root ≡ Err e) × (e.path ≡ path_text path)

@@ -11,12 +11,14 @@ each_entry unread d = flat_map (λ p. unread p.0 p.1) (own_pairs d)
 
 -- of misa, all but reset-val
 abbrev pub unread_of_misa : List ℕ → List ℕ → List (List ℕ)
-unread_of_misa hart key = if bytes_eq key (codes "reset-val") then [] else path_text (hart ∷ codes "misa" ∷ key ∷ []) ∷ []
+unread_of_misa hart key = if bytes_eq key (codes "reset-val") then []
+    else path_text (hart ∷ codes "misa" ∷ key ∷ []) ∷ []
 
 abbrev pub is_checked : List ℕ → Bool
 is_checked key =
     bytes_eq key (codes "ISA") || (bytes_eq key (codes "supported_xlen")
-    || (bytes_eq key (codes "physical_addr_sz") || bytes_eq key (codes "hw_data_misaligned_support")))
+    || (bytes_eq key (codes "physical_addr_sz")
+    || bytes_eq key (codes "hw_data_misaligned_support")))
 
 -- of a hart, all but the entries that are checked, and what is unread of misa in its place
 abbrev pub unread_of_hart : List ℕ → List ℕ → Data → List (List ℕ)

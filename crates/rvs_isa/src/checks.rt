@@ -1,7 +1,9 @@
 // The eight checks of a specification, in order.
 ghost use Rattle.std.specs.Prelude.{◌≡◌, ◌≢◌, IfOk, IfErr, map};
 ghost use Rattle.rvs_tree.specs.TreeView.{view};
-ghost use Rattle.rvs_isa.specs.Check.{checked, checked_hart, hart_number, hart_key, hart_entries, isa_entry, xlen_entry, address_bits, misaligned, misa_entry, reset_value};
+ghost use Rattle.rvs_isa.specs.Check.{checked, checked_hart, hart_number, hart_key, hart_entries};
+ghost use Rattle.rvs_isa.specs.Check.{isa_entry, xlen_entry, address_bits, misaligned, misa_entry};
+ghost use Rattle.rvs_isa.specs.Check.{reset_value};
 ghost use Rattle.rvs_isa.specs.Refusal.{Answers};
 
 use crate::checked::Checked;
@@ -25,7 +27,8 @@ use std::alloc::Global;
 /// The first of the eight checks that fails, with its path, or `NoMemory`.
 pub fn check(alloc: Global, tree: &Tree) -> Result<Checked, IsaRefusal>
     ensures accepted { IfOk result (λ c. checked (view tree.now) ≡ Ok c) }
-    ensures refused { IfErr result (λ e. e.kind ≢ IsaKind.NoMemory → checked (view tree.now) ≡ Err e) }
+    ensures refused { IfErr result
+        (λ e. e.kind ≢ IsaKind.NoMemory → checked (view tree.now) ≡ Err e) }
 {
     check_map(alloc, tree, &[])?;
     let number = hart_number(alloc, tree)?;
@@ -143,7 +146,8 @@ fn misaligned(alloc: Global, hart: &str, root: &Tree) -> Result<bool, IsaRefusal
     }
 }
 
-/// That `misa`, where it is there, is a map whose reset value is the word that the specification calls for.
+/// That `misa`, where it is there, is a map whose reset value is the word that the specification
+/// calls for.
 fn misa_entry(alloc: Global, hart: &str, spec: &IsaSpec, root: &Tree) -> Result<(), IsaRefusal>
     ensures { Answers result (misa_entry hart.now spec.now (view root.now)) }
 {

@@ -13,7 +13,8 @@ use std::alloc::Global;
 
 /// What a tree has at the end of a path of keys.
 pub fn entry_at<'t>(root: &'t Tree, path: &[&str]) -> Option<&'t Tree>
-    ensures { option_map (λ t. view t.now) result ≡ entry_at (map (λ k. k.now) path.now) (view root.now) }
+    ensures { option_map (λ t. view t.now) result
+        ≡ entry_at (map (λ k. k.now) path.now) (view root.now) }
 {
     let mut entry = root;
     for key in path {
@@ -30,7 +31,8 @@ fn value_at<'t>(tree: &'t Tree, key: &str) -> Option<&'t Tree>
 
 /// The entry at the end of a path, which has to be there.
 pub fn needed<'t>(alloc: Global, root: &'t Tree, path: &[&str]) -> Result<&'t Tree, IsaRefusal>
-    ensures { AnswersWith (λ t. view t.now) result (needed (map (λ k. k.now) path.now) (view root.now)) }
+    ensures { AnswersWith (λ t. view t.now) result
+        (needed (map (λ k. k.now) path.now) (view root.now)) }
 {
     match entry_at(root, path) {
         Some(entry) => Ok(entry),
@@ -51,7 +53,8 @@ pub fn check_map(alloc: Global, tree: &Tree, path: &[&str]) -> Result<(), IsaRef
 
 /// The refusal of this kind at the end of a path, or want of memory.
 pub fn refusal(alloc: Global, path: &[&str], kind: IsaKind) -> IsaRefusal
-    ensures { result.kind ≢ IsaKind.NoMemory → result ≡ refusal_at (map (λ k. k.now) path.now) kind }
+    ensures { result.kind ≢ IsaKind.NoMemory
+        → result ≡ refusal_at (map (λ k. k.now) path.now) kind }
 {
     match path_text(alloc, path) {
         Ok(path) => IsaRefusal { path, kind },

@@ -1,7 +1,9 @@
 // The text of an instruction set, as RV32IMZicsr_Zifencei.
 ghost use Rattle.std.specs.Prelude.{◌≡◌, ◌≤◌, ℕ, List, ◌∷◌, drop, length};
 ghost use Rattle.std.specs.List.{list_all, prefix_len, take_while};
-ghost use Rattle.rvs_isa.specs.IsaText.{extensions_in, is_base, is_letter, are_in_order, letter_order, is_name, is_name_character, names_behind, names_in, times, is_known_name, is_supported_letter};
+ghost use Rattle.rvs_isa.specs.IsaText.{extensions_in, is_base, is_letter, are_in_order};
+ghost use Rattle.rvs_isa.specs.IsaText.{letter_order, is_name, is_name_character, names_behind};
+ghost use Rattle.rvs_isa.specs.IsaText.{names_in, times, is_known_name, is_supported_letter};
 ghost use Rattle.rvs_isa.specs.Names.{known_names};
 
 use crate::refusal::IsaKind;
@@ -84,7 +86,8 @@ fn are_in_order(letters: &[u8]) -> bool
 
 // The letters without the first, where it is this one.
 fn without_first(letters: &[u8], letter: u8) -> &[u8]
-    ensures { (order : List ℕ) → are_in_order result.now order ≡ are_in_order letters.now (letter ∷ order) }
+    ensures { (order : List ℕ)
+        → are_in_order result.now order ≡ are_in_order letters.now (letter ∷ order) }
 {
     match letters {
         [first, rest @ ..] if *first == letter => rest,

@@ -13,8 +13,8 @@ pub fn isa_texts_are_read_as_spelled()
 {}
 
 /// A law: a path is listed as unread exactly where no check looks at its entry. Two specifications
-/// that have the same at the paths that checks look at come to the same core or refusal, and each of
-/// these paths is that of some refusal.
+/// that have the same at the paths that checks look at come to the same core or refusal, and each
+/// of these paths is that of some refusal.
 pub fn unread_paths_are_those_that_no_check_reads()
     ensures listed { UnreadAreListed }
     ensures others { OthersChangeNothing }

@@ -1,6 +1,7 @@
 // The texts of an accepted specification and of a refusal.
 ghost use Rattle.std.specs.Prelude.{◌≡◌, ◌++◌, IfOk, OnOk};
-ghost use Rattle.rvs_isa.specs.Print.{checked_text, core_lines, refusal_text, unread_line, word_text, words_text};
+ghost use Rattle.rvs_isa.specs.Print.{checked_text, core_lines, refusal_text, unread_line};
+ghost use Rattle.rvs_isa.specs.Print.{word_text, words_text};
 
 use crate::checked::Checked;
 use crate::misa::misa_word;

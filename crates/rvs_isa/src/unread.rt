@@ -1,7 +1,8 @@
 // The entries that no check reads.
 ghost use Rattle.std.specs.Prelude.{◌≡◌, ◌++◌, IfOk, OnOk};
 ghost use Rattle.rvs_tree.specs.TreeView.{view};
-ghost use Rattle.rvs_isa.specs.Unread.{unread, each_entry, is_checked, unread_of_root, unread_of_hart, unread_of_misa};
+ghost use Rattle.rvs_isa.specs.Unread.{unread, each_entry, is_checked, unread_of_root};
+ghost use Rattle.rvs_isa.specs.Unread.{unread_of_hart, unread_of_misa};
 
 use crate::entry::path_text;
 use rvs_base::{Items, NoMemory, Text};
@@ -32,7 +33,8 @@ fn add_of_root(
     key: &str,
     value: &Tree,
 ) -> Result<(), NoMemory>
-    ensures { OnOk result (paths.new ≡ paths.old ++ unread_of_root hart.now key.now (view value.now)) }
+    ensures { OnOk result
+        (paths.new ≡ paths.old ++ unread_of_root hart.now key.now (view value.now)) }
 {
     if key == hart {
         add_hart(alloc, paths, hart, value)
@@ -49,7 +51,8 @@ fn add_hart(
     hart: &str,
     entries: &Tree,
 ) -> Result<(), NoMemory>
-    ensures { OnOk result (paths.new ≡ paths.old ++ each_entry (unread_of_hart hart.now) (view entries.now)) }
+    ensures { OnOk result
+        (paths.new ≡ paths.old ++ each_entry (unread_of_hart hart.now) (view entries.now)) }
 {
     if entries.is_map() {
         for i in 0..entries.len() {
@@ -66,7 +69,8 @@ fn add_of_hart(
     key: &str,
     value: &Tree,
 ) -> Result<(), NoMemory>
-    ensures { OnOk result (paths.new ≡ paths.old ++ unread_of_hart hart.now key.now (view value.now)) }
+    ensures { OnOk result
+        (paths.new ≡ paths.old ++ unread_of_hart hart.now key.now (view value.now)) }
 {
     if key == "misa" {
         add_misa(alloc, paths, hart, value)
@@ -92,7 +96,8 @@ fn add_misa(
     hart: &str,
     entries: &Tree,
 ) -> Result<(), NoMemory>
-    ensures { OnOk result (paths.new ≡ paths.old ++ each_entry (λ key _. unread_of_misa hart.now key) (view entries.now)) }
+    ensures { OnOk result (paths.new ≡ paths.old
+        ++ each_entry (λ key _. unread_of_misa hart.now key) (view entries.now)) }
 {
     if entries.is_map() {
         for i in 0..entries.len() {

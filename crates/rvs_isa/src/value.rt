@@ -1,7 +1,8 @@
 // What a single entry says.
 ghost use Rattle.std.specs.Prelude.{◌≡◌, option_map};
 ghost use Rattle.rvs_tree.specs.TreeView.{view};
-ghost use Rattle.rvs_isa.specs.Entries.{only_member, number_in, isa_in, has_text, is_xlen, address_size, truth_in};
+ghost use Rattle.rvs_isa.specs.Entries.{only_member, number_in, isa_in, has_text, is_xlen};
+ghost use Rattle.rvs_isa.specs.Entries.{address_size, truth_in};
 
 use crate::isa_text::{Extensions, read_isa_text};
 use crate::number::read_number;

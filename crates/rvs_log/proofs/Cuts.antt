@@ -1,5 +1,8 @@
 -- How the lines of a piece are found.
-use Rattle.std.proofs.Common.{◌≡◌, ℕ, zero, suc, ◌+◌, ◌<◌, ◌≤◌, Bool, true, false, cond, List, [], ◌∷◌, ◌++◌, Option, Some, None, refl, sym, ap, subst, ◌∙◌, length, take, drop, get_or, arith, append_assoc, append-nil, length-append, length-drop}
+use Rattle.std.proofs.Common.{◌≡◌, ℕ, zero, suc, ◌+◌, ◌<◌, ◌≤◌, Bool, true, false, cond, List, []}
+use Rattle.std.proofs.Common.{◌∷◌, ◌++◌, Option, Some, None, refl, sym, ap, subst, ◌∙◌, length}
+use Rattle.std.proofs.Common.{take, drop, get_or, arith, append_assoc, append-nil, length-append}
+use Rattle.std.proofs.Common.{length-drop}
 use Rattle.std.proofs.lemmas.Bool.Decides.{nat_tests}
 use Rattle.std.specs.Prelude.{◌==◌, nat_le}
 use Rattle.rvs_log.specs.Lines.{held, held_more, without_return}
@@ -8,7 +11,8 @@ use Rattle.rvs_log.specs.Cutting.{held_after, lines_held, lines_after}
 -- ---- bytes that wait
 held_long : (t more : List ℕ) → nat_le (length t) 4096 ≡ false → None ≡ held (t ++ more)
 held_long t more h =
-    sym (ap (λ b. cond b (Some (t ++ more)) None) (longer (length t) (length more) (length (t ++ more)) h (length-append t more)))
+    sym (ap (λ b. cond b (Some (t ++ more)) None)
+    (longer (length t) (length more) (length (t ++ more)) h (length-append t more)))
   where
     longer : (a b c : ℕ) → nat_le a 4096 ≡ false → c ≡ a + b → nat_le c 4096 ≡ false
     longer a b c h e = grind (arith, nat_tests)
@@ -54,7 +58,10 @@ held_feedless : (w : Option (List ℕ)) (bs rest : List ℕ) → feedless bs
     → held_after w (bs ++ rest) ≡ held_after (held_more w bs) rest
 held_feedless w [] rest h = refl
 held_feedless w (b ∷ bs) rest h =
-    ap (λ t. elim t as (λ _. Option (List ℕ)) [ true ↦ held_after (Some []) (bs ++ rest) | false ↦ held_after (held_more w (b ∷ [])) (bs ++ rest) ]) h.0
+    ap (λ t. elim t as (λ _. Option (List ℕ)) [
+      | true ↦ held_after (Some []) (bs ++ rest)
+      | false ↦ held_after (held_more w (b ∷ [])) (bs ++ rest)
+    ]) h.0
     ∙ held_feedless (held_more w (b ∷ [])) bs rest h.1
     ∙ ap (λ w. held_after w rest) (held_more_twice w (b ∷ []) bs)
 
@@ -62,7 +69,10 @@ lines_feedless : (w : Option (List ℕ)) (bs rest : List ℕ) → feedless bs
     → lines_after w (bs ++ rest) ≡ lines_after (held_more w bs) rest
 lines_feedless w [] rest h = refl
 lines_feedless w (b ∷ bs) rest h =
-    ap (λ t. elim t as (λ _. List (List ℕ)) [ true ↦ lines_held w ++ lines_after (Some []) (bs ++ rest) | false ↦ lines_after (held_more w (b ∷ [])) (bs ++ rest) ]) h.0
+    ap (λ t. elim t as (λ _. List (List ℕ)) [
+      | true ↦ lines_held w ++ lines_after (Some []) (bs ++ rest)
+      | false ↦ lines_after (held_more w (b ∷ [])) (bs ++ rest)
+    ]) h.0
     ∙ lines_feedless (held_more w (b ∷ [])) bs rest h.1
     ∙ ap (λ w. lines_after w rest) (held_more_twice w (b ∷ []) bs)
 
@@ -75,8 +85,14 @@ held_join w (x ∷ a) b =
     turn : (t : Bool) → held_after (Some []) (a ++ b) ≡ held_after (held_after (Some []) a) b
         → held_after (held_more w (x ∷ [])) (a ++ b)
         ≡ held_after (held_after (held_more w (x ∷ [])) a) b
-        → (elim t as (λ _. Option (List ℕ)) [ true ↦ held_after (Some []) (a ++ b) | false ↦ held_after (held_more w (x ∷ [])) (a ++ b) ])
-        ≡ held_after (elim t as (λ _. Option (List ℕ)) [ true ↦ held_after (Some []) a | false ↦ held_after (held_more w (x ∷ [])) a ]) b
+        → (elim t as (λ _. Option (List ℕ)) [
+          | true ↦ held_after (Some []) (a ++ b)
+          | false ↦ held_after (held_more w (x ∷ [])) (a ++ b)
+        ])
+        ≡ held_after (elim t as (λ _. Option (List ℕ)) [
+          | true ↦ held_after (Some []) a
+          | false ↦ held_after (held_more w (x ∷ [])) a
+        ]) b
     turn true p q = p
     turn false p q = q
 
@@ -90,12 +106,23 @@ lines_join w (x ∷ a) b =
         → lines_after (Some []) (a ++ b)
         ≡ lines_after (Some []) a ++ lines_after (held_after (Some []) a) b
         → lines_after (held_more w (x ∷ [])) (a ++ b)
-        ≡ lines_after (held_more w (x ∷ [])) a ++ lines_after (held_after (held_more w (x ∷ [])) a) b
-        → (elim t as (λ _. List (List ℕ)) [ true ↦ lines_held w ++ lines_after (Some []) (a ++ b) | false ↦ lines_after (held_more w (x ∷ [])) (a ++ b) ])
-        ≡ (elim t as (λ _. List (List ℕ)) [ true ↦ lines_held w ++ lines_after (Some []) a | false ↦ lines_after (held_more w (x ∷ [])) a ])
-        ++ lines_after (elim t as (λ _. Option (List ℕ)) [ true ↦ held_after (Some []) a | false ↦ held_after (held_more w (x ∷ [])) a ]) b
+        ≡ lines_after (held_more w (x ∷ [])) a
+        ++ lines_after (held_after (held_more w (x ∷ [])) a) b
+        → (elim t as (λ _. List (List ℕ)) [
+          | true ↦ lines_held w ++ lines_after (Some []) (a ++ b)
+          | false ↦ lines_after (held_more w (x ∷ [])) (a ++ b)
+        ])
+        ≡ (elim t as (λ _. List (List ℕ)) [
+          | true ↦ lines_held w ++ lines_after (Some []) a
+          | false ↦ lines_after (held_more w (x ∷ [])) a
+        ])
+        ++ lines_after (elim t as (λ _. Option (List ℕ)) [
+          | true ↦ held_after (Some []) a
+          | false ↦ held_after (held_more w (x ∷ [])) a
+        ]) b
     turn true p q = ap (λ l. lines_held w ++ l) p
-        ∙ sym (append_assoc (lines_held w) (lines_after (Some []) a) (lines_after (held_after (Some []) a) b))
+        ∙ sym (append_assoc (lines_held w) (lines_after (Some []) a)
+        (lines_after (held_after (Some []) a) b))
     turn false p q = q
 
 -- ---- a line feed
@@ -159,7 +186,9 @@ pub lines_step : (w w0 : Option (List ℕ)) (piece : List ℕ) (used end : ℕ) 
 lines_step w w0 piece used end fits e l within none here =
     ap (λ l. lines_after w0 l) (take_twice used (end + 1) piece fits)
     ∙ lines_join w0 (take used piece) (take (end + 1) (drop used piece))
-    ∙ ap (λ p. p ++ lines_after (held_after w0 (take used piece)) (take (end + 1) (drop used piece))) l
+    ∙ ap
+    (λ p. p ++ lines_after (held_after w0 (take used piece)) (take (end + 1) (drop used piece)))
+    l
     ∙ ap (λ w. lines_after w (take (end + 1) (drop used piece))) (sym e)
     ∙ lines_line w (drop used piece) end within none here
 
@@ -181,7 +210,8 @@ pieces (suc n) (x ∷ xs) = ap (λ l. x ∷ l) (pieces n xs)
 -- no line feed is left
 pub held_rest : (w w0 : Option (List ℕ)) (piece : List ℕ) (used : ℕ)
     → w ≡ held_after w0 (take used piece)
-    → ((k : ℕ) → 0 ≤ k → k < length (drop used piece) → (get_or (drop used piece) k 0 == 10) ≡ true → ⊥)
+    → ((k : ℕ) → 0 ≤ k → k < length (drop used piece) → (get_or (drop used piece) k 0 == 10) ≡ true
+    → ⊥)
     → held_after w0 piece ≡ held_more w (drop used piece)
 held_rest w w0 piece used e none =
     ap (λ l. held_after w0 l) (sym (pieces used piece))
@@ -192,7 +222,8 @@ held_rest w w0 piece used e none =
 
 pub lines_rest : (w w0 : Option (List ℕ)) (piece : List ℕ) (used : ℕ)
     → w ≡ held_after w0 (take used piece) → lines_after w0 (take used piece) ≡ []
-    → ((k : ℕ) → 0 ≤ k → k < length (drop used piece) → (get_or (drop used piece) k 0 == 10) ≡ true → ⊥)
+    → ((k : ℕ) → 0 ≤ k → k < length (drop used piece) → (get_or (drop used piece) k 0 == 10) ≡ true
+    → ⊥)
     → lines_after w0 piece ≡ []
 lines_rest w w0 piece used e l none =
     ap (λ l. lines_after w0 l) (sym (pieces used piece))
@@ -250,5 +281,6 @@ rest_at w w0 piece rest used r e none before =
     let P : List ℕ
     → Type 0 = λ rest. ((k : ℕ) → 0 ≤ k → k < length rest → (get_or rest k 0 == 10) ≡ true → ⊥)
     → (lines_after w0 piece ≡ []) × (held_after w0 piece ≡ held_more w rest) in
-    let base : P (drop used piece) = λ before. (lines_rest w w0 piece used e none before, held_rest w w0 piece used e before) in
+    let base : P (drop used piece) =
+    λ before. (lines_rest w w0 piece used e none before, held_rest w w0 piece used e before) in
     subst P (sym r) base before

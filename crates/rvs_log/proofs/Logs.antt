@@ -1,12 +1,15 @@
 -- The log of a run has the run as its entries.
-use Rattle.std.proofs.Common.{◌≡◌, ℕ, suc, ◌+◌, ◌/◌, ◌%◌, ◌^◌, ◌<◌, ◌≤◌, Bool, true, false, cond, not, ◌&&◌, List, [], ◌∷◌, ◌++◌, Option, Some, None, refl, sym, ap, ◌∙◌, length, arith, append_assoc, append-nil, length-append}
+use Rattle.std.proofs.Common.{◌≡◌, ℕ, suc, ◌+◌, ◌/◌, ◌%◌, ◌^◌, ◌<◌, ◌≤◌, Bool, true, false, cond}
+use Rattle.std.proofs.Common.{not, ◌&&◌, List, [], ◌∷◌, ◌++◌, Option, Some, None, refl, sym, ap}
+use Rattle.std.proofs.Common.{◌∙◌, length, arith, append_assoc, append-nil, length-append}
 use Rattle.std.proofs.lemmas.Bool.Decides.{nat_tests}
 use Rattle.std.specs.Prelude.{◌==◌, nat_lt, nat_le, map, codes, All}
 use Rattle.rvs_base.specs.Number.{hex_digit_of, hex_digit_at, hex_word_of}
 use Rattle.rvs_machine.specs.Written.{Write}
 use Rattle.rvs_machine.specs.declared.event.Executed.{Executed}
 use Rattle.rvs_log.specs.Grammar.{Says, Nothing, reading_of}
-use Rattle.rvs_log.specs.Lines.{whole_from, tail_from, whole_lines, tail_of, last_line, line_says, without_return}
+use Rattle.rvs_log.specs.Lines.{whole_from, tail_from, whole_lines, tail_of, last_line, line_says}
+use Rattle.rvs_log.specs.Lines.{without_return}
 use Rattle.rvs_machine.specs.Traces.{word_of, rs2_of_word, ReadsAt, Follows}
 use Rattle.rvs_log.specs.Entries.{Heard, unheard, hear, entry_at, entry_in, entries_in}
 use Rattle.rvs_log.specs.Written.{padded, commit_text, line_of, IsSmall, HasWords}
@@ -40,7 +43,8 @@ neither false false h = (refl, refl)
 plain_join : (a b : List ℕ) → plain a ≡ true → plain b ≡ true → plain (a ++ b) ≡ true
 plain_join [] b g h = h
 plain_join (x ∷ a) b g h =
-    and_true (ok x) (plain (a ++ b)) (both (ok x) (plain a) g).0 (plain_join a b (both (ok x) (plain a) g).1 h)
+    and_true (ok x) (plain (a ++ b)) (both (ok x) (plain a) g).0
+    (plain_join a b (both (ok x) (plain a) g).1 h)
 
 -- ---- plain lines
 whole_plain : (front l rest : List ℕ) → plain l ≡ true
@@ -48,7 +52,10 @@ whole_plain : (front l rest : List ℕ) → plain l ≡ true
 whole_plain front [] rest h = ap (λ f. f ∷ whole_from [] rest) (sym (append-nil front))
 whole_plain front (b ∷ l) rest h =
     let p = both (ok b) (plain l) h in
-    ap (λ t. elim t as (λ _. List (List ℕ)) [ true ↦ front ∷ whole_from [] (l ++ 10 ∷ rest) | false ↦ whole_from (front ++ b ∷ []) (l ++ 10 ∷ rest) ]) (neither (b == 10) (b == 13) p.0).0
+    ap (λ t. elim t as (λ _. List (List ℕ)) [
+      | true ↦ front ∷ whole_from [] (l ++ 10 ∷ rest)
+      | false ↦ whole_from (front ++ b ∷ []) (l ++ 10 ∷ rest)
+    ]) (neither (b == 10) (b == 13) p.0).0
     ∙ whole_plain (front ++ b ∷ []) l rest p.1
     ∙ ap (λ f. f ∷ whole_from [] rest) (append_assoc front (b ∷ []) l)
 
@@ -57,7 +64,10 @@ tail_plain : (front l rest : List ℕ) → plain l ≡ true
 tail_plain front [] rest h = refl
 tail_plain front (b ∷ l) rest h =
     let p = both (ok b) (plain l) h in
-    ap (λ t. elim t as (λ _. List ℕ) [ true ↦ tail_from [] (l ++ 10 ∷ rest) | false ↦ tail_from (front ++ b ∷ []) (l ++ 10 ∷ rest) ]) (neither (b == 10) (b == 13) p.0).0
+    ap (λ t. elim t as (λ _. List ℕ) [
+      | true ↦ tail_from [] (l ++ 10 ∷ rest)
+      | false ↦ tail_from (front ++ b ∷ []) (l ++ 10 ∷ rest)
+    ]) (neither (b == 10) (b == 13) p.0).0
     ∙ tail_plain (front ++ b ∷ []) l rest p.1
 
 return_plain : (l : List ℕ) → plain l ≡ true → without_return l ≡ l
@@ -70,11 +80,13 @@ return_plain (b ∷ c ∷ l) h =
 -- ---- the parts of a line
 low_ok : (d : ℕ) → ok (48 + d) ≡ true
 low_ok d =
-    and_true (not (48 + d == 10)) (not (48 + d == 13)) (grind (arith, nat_tests)) (grind (arith, nat_tests))
+    and_true (not (48 + d == 10)) (not (48 + d == 13)) (grind (arith, nat_tests))
+    (grind (arith, nat_tests))
 
 high_ok : (d : ℕ) → ok (87 + d) ≡ true
 high_ok d =
-    and_true (not (87 + d == 10)) (not (87 + d == 13)) (grind (arith, nat_tests)) (grind (arith, nat_tests))
+    and_true (not (87 + d == 10)) (not (87 + d == 13)) (grind (arith, nat_tests))
+    (grind (arith, nat_tests))
 
 digit_ok : (d : ℕ) → ok (hex_digit_of d) ≡ true
 digit_ok d = turn (nat_lt d 10)
@@ -86,7 +98,8 @@ digit_ok d = turn (nat_lt d 10)
 digits_plain : (w : ℕ) (places : List ℕ) → plain (map (hex_digit_at w) places) ≡ true
 digits_plain w [] = refl
 digits_plain w (p ∷ ps) =
-    and_true (ok (hex_digit_at w p)) (plain (map (hex_digit_at w) ps)) (digit_ok (w / 16 ^ p % 16)) (digits_plain w ps)
+    and_true (ok (hex_digit_at w p)) (plain (map (hex_digit_at w) ps)) (digit_ok (w / 16 ^ p % 16))
+    (digits_plain w ps)
 
 word_plain : (w : ℕ) → plain (hex_word_of w) ≡ true
 unfolding hex_word_of
@@ -103,7 +116,8 @@ padded_plain r h = turn (nat_lt r 10) refl
     turn false e =
         let l : 10 ≤ r = grind (arith, nat_tests) in
         ap (λ l. plain l) (padded_two r l h)
-        ∙ and_true (ok (48 + r / 10)) (plain ((48 + r % 10) ∷ [])) (low_ok (r / 10)) (and_true (ok (48 + r % 10)) true (low_ok (r % 10)) refl)
+        ∙ and_true (ok (48 + r / 10)) (plain ((48 + r % 10) ∷ [])) (low_ok (r / 10))
+        (and_true (ok (48 + r % 10)) true (low_ok (r % 10)) refl)
 
 padded_length : (r : ℕ) → r < 32 → length (padded r) ≡ 2
 padded_length r h = turn (nat_lt r 10) refl
@@ -116,7 +130,9 @@ padded_length r h = turn (nat_lt r 10) refl
 commit_plain : (w : Option Write) → IsSmall w → plain (commit_text w) ≡ true
 commit_plain None h = refl
 commit_plain (Some w) h =
-    plain_join (codes " x") (padded w.reg ++ (codes " 0x" ++ hex_word_of w.value)) refl (plain_join (padded w.reg) (codes " 0x" ++ hex_word_of w.value) (padded_plain w.reg h.0) (plain_join (codes " 0x") (hex_word_of w.value) refl (word_plain w.value)))
+    plain_join (codes " x") (padded w.reg ++ (codes " 0x" ++ hex_word_of w.value)) refl (plain_join
+    (padded w.reg) (codes " 0x" ++ hex_word_of w.value) (padded_plain w.reg h.0)
+    (plain_join (codes " 0x") (hex_word_of w.value) refl (word_plain w.value)))
 
 commit_length : (w : Option Write) → IsSmall w → length (commit_text w) ≤ 15
 commit_length None h = omega arith
@@ -125,7 +141,8 @@ commit_length (Some w) h =
 
 line_plain : (e : Executed) → IsSmall e.commit → plain (line_of e) ≡ true
 line_plain e h =
-    plain_join (codes "core   0: 3 0x") (hex_word_of e.pc ++ (codes " (0x" ++ (hex_word_of e.word ++ (codes ")" ++ commit_text e.commit)))) refl
+    plain_join (codes "core   0: 3 0x") (hex_word_of e.pc
+    ++ (codes " (0x" ++ (hex_word_of e.word ++ (codes ")" ++ commit_text e.commit)))) refl
     (plain_join (hex_word_of e.pc) (codes " (0x" ++ (hex_word_of e.word ++ (codes ")" ++ commit_text e.commit))) (word_plain e.pc)
     (plain_join (codes " (0x") (hex_word_of e.word ++ (codes ")" ++ commit_text e.commit)) refl
     (plain_join (hex_word_of e.word) (codes ")" ++ commit_text e.commit) (word_plain e.word)
@@ -135,8 +152,10 @@ line_length : (e : Executed) → IsSmall e.commit → length (line_of e) ≤ 50
 line_length e h =
     omega (
       arith,
-      length-append (codes "core   0: 3 0x") (hex_word_of e.pc ++ (codes " (0x" ++ (hex_word_of e.word ++ (codes ")" ++ commit_text e.commit)))),
-      length-append (hex_word_of e.pc) (codes " (0x" ++ (hex_word_of e.word ++ (codes ")" ++ commit_text e.commit))),
+      length-append (codes "core   0: 3 0x") (hex_word_of e.pc
+          ++ (codes " (0x" ++ (hex_word_of e.word ++ (codes ")" ++ commit_text e.commit)))),
+      length-append (hex_word_of e.pc)
+          (codes " (0x" ++ (hex_word_of e.word ++ (codes ")" ++ commit_text e.commit))),
       length-append (codes " (0x") (hex_word_of e.word ++ (codes ")" ++ commit_text e.commit)),
       length-append (hex_word_of e.word) (codes ")" ++ commit_text e.commit),
       length-append (codes ")") (commit_text e.commit),
@@ -148,7 +167,8 @@ line_length e h =
 -- ---- the line, and the log
 line_reads : (e : Executed) → HasWords e → line_says (line_of e) ≡ Says e.pc e.word e.commit
 line_reads e h =
-    ap (λ b. cond b (reading_of (without_return (line_of e))) Nothing) (short (length (line_of e)) (line_length e h.commit))
+    ap (λ b. cond b (reading_of (without_return (line_of e))) Nothing)
+    (short (length (line_of e)) (line_length e h.commit))
     ∙ ap (λ l. reading_of l) (return_plain (line_of e) (line_plain e h.commit))
     ∙ reads_back e h.pc h.word h.commit
   where
@@ -183,9 +203,12 @@ trace_reads : (es : List Executed) (h : Heard) → Each es → Follows h.words e
 trace_reads [] h w t = refl
 trace_reads (e ∷ es) h w t =
     ap (λ l. entries_in h (map line_says (whole_from [] l))) (log_next e es)
-    ∙ ap (λ ls. entries_in h (map line_says ls)) (whole_plain [] (line_of e) (log_of es) (line_plain e w.0.commit))
-    ∙ ap (λ r. entry_in h r ++ entries_in (hear h r) (map line_says (whole_from [] (log_of es)))) (line_reads e w.0)
-    ∙ ap (λ x. x ∷ entries_in (hear h (Says e.pc e.word e.commit)) (map line_says (whole_from [] (log_of es)))) (entry_is h.words e t.0)
+    ∙ ap (λ ls. entries_in h (map line_says ls))
+    (whole_plain [] (line_of e) (log_of es) (line_plain e w.0.commit))
+    ∙ ap (λ r. entry_in h r ++ entries_in (hear h r) (map line_says (whole_from [] (log_of es))))
+    (line_reads e w.0)
+    ∙ ap (λ x. x ∷ entries_in (hear h (Says e.pc e.word e.commit))
+    (map line_says (whole_from [] (log_of es)))) (entry_is h.words e t.0)
     ∙ ap (λ l. as_entry e ∷ l) (trace_reads es (hear h (Says e.pc e.word e.commit)) w.1 t.1)
 
 no_tail : (es : List Executed) → Each es → tail_of (log_of es) ≡ []
@@ -195,7 +218,8 @@ no_tail (e ∷ es) w = ap tail_of (log_next e es)
 
 pub logs_read_back : LogsReadBack
 logs_read_back es w t =
-    ap (λ l. entries_in unheard (map line_says (whole_lines (log_of es) ++ last_line l))) (no_tail es (each es w))
+    ap (λ l. entries_in unheard (map line_says (whole_lines (log_of es) ++ last_line l)))
+    (no_tail es (each es w))
     ∙ ap (λ l. entries_in unheard (map line_says l)) (append-nil (whole_lines (log_of es)))
     ∙ trace_reads es unheard (each es w) t
 

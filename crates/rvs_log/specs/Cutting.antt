@@ -1,5 +1,6 @@
 -- The lines that end in a piece.
-use Rattle.std.specs.Prelude.{◌≡◌, ℕ, ◌+◌, ◌-◌, ◌<◌, ◌≤◌, ◌==◌, Bool, true, false, List, [], ◌∷◌, ◌++◌, length, take, drop, Option, Some, None}
+use Rattle.std.specs.Prelude.{◌≡◌, ℕ, ◌+◌, ◌-◌, ◌<◌, ◌≤◌, ◌==◌, Bool, true, false, List, [], ◌∷◌}
+use Rattle.std.specs.Prelude.{◌++◌, length, take, drop, Option, Some, None}
 use Rattle.rvs_log.specs.Lines.{held_more, without_return}
 use Rattle.rvs_log.specs.declared.follow.Place.{Place}
 use Rattle.rvs_log.specs.declared.follow.Place.TheVariants.{Here, Held, Nowhere}
@@ -53,7 +54,8 @@ HasEnded w line too_long bytes ending.Over = (lines_held (held_more w line) ≡ 
 abbrev pub IsPlace : Option (List ℕ) → List ℕ → Bool → List ℕ → Place → Type 0
 IsPlace w piece too_long bytes (Here start end) =
     (start ≤ end) × (end < length piece)
-    × (lines_after w (take (end + 1) piece) ≡ without_return (take (end - start) (drop start piece)) ∷ [])
+    × (lines_after w (take (end + 1) piece) ≡ without_return (take (end - start) (drop start piece))
+    ∷ [])
     × (held_after w (take (end + 1) piece) ≡ Some []) × (waiting too_long bytes ≡ Some [])
 IsPlace w piece too_long bytes (Held used) =
     (used ≤ length piece) × (lines_after w (take used piece) ≡ without_return bytes ∷ [])

@@ -2,10 +2,13 @@
 ghost use Rattle.std.specs.Prelude.{◌≡◌, ◌<◌, ◌∷◌, [], IfSome, true};
 ghost use Rattle.std.specs.Option.{option_copied, option_map};
 ghost use Rattle.rvs_insn.specs.Fields.{insn_of_word};
-ghost use Rattle.rvs_log.specs.Grammar.{after_all, after_byte, after_brackets, after_core, after_privilege};
-ghost use Rattle.rvs_log.specs.Grammar.{after_some, after_spaces, after_text, at_end, blank, commit_log};
+ghost use Rattle.rvs_log.specs.Grammar.{after_all, after_byte, after_brackets, after_core};
+ghost use Rattle.rvs_log.specs.Grammar.{after_privilege};
+ghost use Rattle.rvs_log.specs.Grammar.{after_some, after_spaces, after_text, at_end, blank};
+ghost use Rattle.rvs_log.specs.Grammar.{commit_log};
 ghost use Rattle.rvs_log.specs.Grammar.{first_write, is_capital, is_digit, pc_and_word, reading_of};
-ghost use Rattle.rvs_log.specs.Grammar.{register_at, sail_log, Says, spaced, write_at, write_if, write_line};
+ghost use Rattle.rvs_log.specs.Grammar.{register_at, sail_log, Says, spaced, write_at, write_if};
+ghost use Rattle.rvs_log.specs.Grammar.{write_line};
 ghost use Rattle.rvs_log.specs.Read.{said, IsDecoded, IsOf};
 
 use crate::words::word_at;

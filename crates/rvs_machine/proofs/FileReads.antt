@@ -1,5 +1,7 @@
 -- The image file is read as what it says.
-use Rattle.std.proofs.Common.{◌≡◌, ℕ, suc, ◌+◌, ◌/◌, ◌%◌, ◌^◌, ◌<◌, ◌≤◌, Bool, true, false, cond, List, [], ◌∷◌, ◌++◌, length, Some, None, Result, Ok, Err, refl, ap, ◌∙◌, arith}
+use Rattle.std.proofs.Common.{◌≡◌, ℕ, suc, ◌+◌, ◌/◌, ◌%◌, ◌^◌, ◌<◌, ◌≤◌, Bool, true, false, cond}
+use Rattle.std.proofs.Common.{List, [], ◌∷◌, ◌++◌, length, Some, None, Result, Ok, Err, refl, ap}
+use Rattle.std.proofs.Common.{◌∙◌, arith}
 use Rattle.std.specs.Prelude.{◌==◌, nat_le, codes, option_and_then}
 use Rattle.std.specs.Char.{digit_value}
 use Rattle.std.specs.Fmt.{decimal}
@@ -18,8 +20,12 @@ use Rattle.rvs_machine.specs.Image.{ImageValue}
 use Rattle.rvs_machine.specs.FileLines.{Rest, has_feed, after_feed, taken_from}
 use Rattle.rvs_base.specs.Lines.{before, without_return}
 use Rattle.rvs_base.proofs.Readings.{hex_digit, digits_of-hex_word, digits_of-decimal}
-use Rattle.rvs_machine.specs.ImageText.{refusal, word_in, count_in, after_name, word_with, word_from, word_line, count_with, count_from, count_line, and_then, put_before, word_lines, section, header_with, address_lines, whole, image_of_bytes}
-use Rattle.rvs_machine.specs.ImageFile.{line_of, words_of, section_of, bytes_of, AreWords, FilesReadBack}
+use Rattle.rvs_machine.specs.ImageText.{refusal, word_in, count_in, after_name, word_with}
+use Rattle.rvs_machine.specs.ImageText.{word_from, word_line, count_with, count_from, count_line}
+use Rattle.rvs_machine.specs.ImageText.{and_then, put_before, word_lines, section, header_with}
+use Rattle.rvs_machine.specs.ImageText.{address_lines, whole, image_of_bytes}
+use Rattle.rvs_machine.specs.ImageFile.{line_of, words_of, section_of, bytes_of, AreWords}
+use Rattle.rvs_machine.specs.ImageFile.{FilesReadBack}
 
 -- characters that end no line
 abbrev Plain : List ℕ → Type 0
@@ -56,12 +62,19 @@ kept (c ∷ d ∷ ds) p = ap (λ l. c ∷ l) (kept (d ∷ ds) p.1)
 rest_at : List ℕ → ℕ → Rest
 rest_at bytes n = record { bytes = bytes; line = n }
 
-taken_line : (l rest : List ℕ) (n : ℕ) → Plain l → taken_from (l ++ 10 ∷ rest) n ≡ Some (l, record { bytes = rest; line = n + 1 })
+taken_line : (l rest : List ℕ) (n : ℕ) → Plain l
+    → taken_from (l ++ 10 ∷ rest) n ≡ Some (l, record { bytes = rest; line = n + 1 })
 taken_line [] rest n p = refl
 taken_line (c ∷ cs) rest n p =
     let r = cut (c ∷ cs) rest p in
     let whole = (c ∷ cs) ++ 10 ∷ rest in
-    ap (λ b. Some (cond b (without_return (before 10 whole)) whole, record { bytes = after_feed whole; line = n + 1 })) r.has
+    ap (λ b. Some (
+      cond b (without_return (before 10 whole)) whole,
+      record {
+        bytes = after_feed whole;
+        line = n + 1;
+      },
+    )) r.has
     ∙ ap (λ l. Some (without_return l, record { bytes = after_feed whole; line = n + 1 })) r.front
     ∙ ap (λ l. Some (l, record { bytes = after_feed whole; line = n + 1 })) (kept (c ∷ cs) p)
     ∙ ap (λ x. Some (c ∷ cs, record { bytes = x; line = n + 1 })) r.back
@@ -106,37 +119,55 @@ digits_plain (d ∷ ds) h = (digit_plain d h.0, digits_plain ds h.1)
 
 count_read : (n : ℕ) → n ≤ 4_194_304 → count_in (decimal n) ≡ Some n
 count_read n h =
-    let few : nat_le (length (decimal n)) 7 ≡ true = le-leb (length (decimal n)) 7 (length-decimal-le 7 n (omega arith) (omega arith) (omega arith)) in
+    let few : nat_le (length (decimal n)) 7 ≡ true = le-leb (length (decimal n)) 7
+    (length-decimal-le 7 n (omega arith) (omega arith) (omega arith)) in
     ap (λ b. cond b (digits_of 10 (decimal n)) None) few ∙ digits_of-decimal n (omega arith)
 
 -- lines
-word_line_read : (name rest : List ℕ) (w n : ℕ) → Plain name → after_name name (name ++ hex_word_of w) ≡ Some (hex_word_of w) → w < 2 ^ 32 → word_line name (record { bytes = line_of name (hex_word_of w) rest; line = n }) ≡ Ok (w, record { bytes = rest; line = n + 1 })
+word_line_read : (name rest : List ℕ) (w n : ℕ) → Plain name
+    → after_name name (name ++ hex_word_of w) ≡ Some (hex_word_of w) → w < 2 ^ 32
+    → word_line name (record { bytes = line_of name (hex_word_of w) rest; line = n })
+    ≡ Ok (w, record { bytes = rest; line = n + 1 })
 word_line_read name rest w n p after h =
     let next : Rest = record { bytes = rest; line = n + 1 } in
-    ap (word_from n name) (taken_line (name ++ hex_word_of w) rest n (plain_join name (hex_word_of w) p (hex_plain w)))
+    ap (word_from n name) (taken_line (name ++ hex_word_of w) rest n
+    (plain_join name (hex_word_of w) p (hex_plain w)))
     ∙ ap (λ o. word_with n next (option_and_then word_in o)) after
     ∙ ap (word_with n next) (word_read w h)
 
-count_line_read : (name rest : List ℕ) (limit k n : ℕ) → Plain name → after_name name (name ++ decimal k) ≡ Some (decimal k) → k ≤ 4_194_304 → k ≤ limit → count_line name limit (record { bytes = line_of name (decimal k) rest; line = n }) ≡ Ok (k, record { bytes = rest; line = n + 1 })
+count_line_read : (name rest : List ℕ) (limit k n : ℕ) → Plain name
+    → after_name name (name ++ decimal k) ≡ Some (decimal k) → k ≤ 4_194_304 → k ≤ limit
+    → count_line name limit (record { bytes = line_of name (decimal k) rest; line = n })
+    ≡ Ok (k, record { bytes = rest; line = n + 1 })
 count_line_read name rest limit k n p after few low =
     let next : Rest = record { bytes = rest; line = n + 1 } in
     let is = decimal_is_IsNumeral k (omega arith) in
-    ap (count_from n name limit) (taken_line (name ++ decimal k) rest n (plain_join name (decimal k) p (digits_plain (decimal k) is.0.1)))
+    ap (count_from n name limit) (taken_line (name ++ decimal k) rest n
+    (plain_join name (decimal k) p (digits_plain (decimal k) is.0.1)))
     ∙ ap (λ o. count_with n limit next (option_and_then count_in o)) after
     ∙ ap (count_with n limit next) (count_read k few)
     ∙ ap (λ b. cond b (Ok (k, next)) (Err (refusal n TooLarge))) (le-leb k limit low)
 
-words_read : (ws rest : List ℕ) (n : ℕ) → AreWords ws → word_lines (length ws) (record { bytes = words_of ws rest; line = n }) ≡ Ok (bytes_of ws, record { bytes = rest; line = n + length ws })
-words_read [] rest n h = let e : n ≡ n + 0 = omega arith in ap (λ k. Ok ([], record { bytes = rest; line = k })) e
+words_read : (ws rest : List ℕ) (n : ℕ) → AreWords ws
+    → word_lines (length ws) (record { bytes = words_of ws rest; line = n })
+    ≡ Ok (bytes_of ws, record { bytes = rest; line = n + length ws })
+words_read [] rest n h = let e : n ≡ n + 0 = omega arith in
+    ap (λ k. Ok ([], record { bytes = rest; line = k })) e
 words_read (w ∷ ws) rest n h =
     let e : n + 1 + length ws ≡ n + suc (length ws) = omega arith in
-    ap (λ x. and_then x (λ p. put_before (to_le_bytes w32 p.0) (word_lines (length ws) p.1))) (word_line_read [] (words_of ws rest) w n tt refl h.0)
+    ap (λ x. and_then x (λ p. put_before (to_le_bytes w32 p.0) (word_lines (length ws) p.1)))
+    (word_line_read [] (words_of ws rest) w n tt refl h.0)
     ∙ ap (put_before (to_le_bytes w32 w)) (words_read ws rest (n + 1) h.1)
     ∙ ap (λ k. Ok (to_le_bytes w32 w ++ bytes_of ws, record { bytes = rest; line = k })) e
 
-section_read : (name ws rest : List ℕ) (limit n : ℕ) → Plain name → after_name name (name ++ decimal (length ws)) ≡ Some (decimal (length ws)) → AreWords ws → length ws ≤ 4_194_304 → length ws ≤ limit → section name limit (record { bytes = section_of name ws rest; line = n }) ≡ Ok (bytes_of ws, record { bytes = rest; line = n + 1 + length ws })
+section_read : (name ws rest : List ℕ) (limit n : ℕ) → Plain name
+    → after_name name (name ++ decimal (length ws)) ≡ Some (decimal (length ws)) → AreWords ws
+    → length ws ≤ 4_194_304 → length ws ≤ limit
+    → section name limit (record { bytes = section_of name ws rest; line = n })
+    ≡ Ok (bytes_of ws, record { bytes = rest; line = n + 1 + length ws })
 section_read name ws rest limit n p after are few low =
-    ap (λ x. and_then x (λ p. word_lines p.0 p.1)) (count_line_read name (words_of ws rest) limit (length ws) n p after few low)
+    ap (λ x. and_then x (λ p. word_lines p.0 p.1))
+    (count_line_read name (words_of ws rest) limit (length ws) n p after few low)
     ∙ words_read ws rest (n + 1) are
 
 -- constant names
@@ -150,18 +181,47 @@ both false t h = cc
 
 plain_tested : (l : List ℕ) → plain_test l ≡ true → Plain l
 plain_tested [] h = tt
-plain_tested (c ∷ cs) h = let b = both (nat_le 32 c) (plain_test cs) h in (leb-true 32 c b.0, plain_tested cs b.1)
+plain_tested (c ∷ cs) h = let b = both (nat_le 32 c) (plain_test cs) h in
+    (leb-true 32 c b.0, plain_tested cs b.1)
 
-addresses_read : (at : Addresses) (n : ℕ) → AreWords (at.tohost ∷ at.sig_begin ∷ at.sig_end ∷ []) → address_lines (record { bytes = line_of (codes "tohost ") (hex_word_of at.tohost) (line_of (codes "begin ") (hex_word_of at.sig_begin) (line_of (codes "end ") (hex_word_of at.sig_end) [])); line = n }) ≡ Ok (at, record { bytes = []; line = n + 1 + 1 + 1 })
+addresses_read : (at : Addresses) (n : ℕ) → AreWords (at.tohost ∷ at.sig_begin ∷ at.sig_end ∷ [])
+    → address_lines (record {
+      bytes = line_of (codes "tohost ") (hex_word_of at.tohost) (line_of (codes "begin ")
+          (hex_word_of at.sig_begin) (line_of (codes "end ") (hex_word_of at.sig_end) []));
+      line = n;
+    }) ≡ Ok (at, record { bytes = []; line = n + 1 + 1 + 1 })
 addresses_read at n h =
     let r2 = line_of (codes "end ") (hex_word_of at.sig_end) [] in
     let r1 = line_of (codes "begin ") (hex_word_of at.sig_begin) r2 in
-    ap (λ x. and_then x (λ h. and_then (word_line (codes "begin ") h.1) (λ b. and_then (word_line (codes "end ") b.1) (λ e. Ok (record { tohost = h.0; sig_begin = b.0; sig_end = e.0 }, e.1)))))
+    ap (λ x. and_then x (λ h. and_then (word_line (codes "begin ") h.1) (λ b. and_then (word_line (codes "end ") b.1) (λ e. Ok (
+      record {
+        tohost = h.0;
+        sig_begin = b.0;
+        sig_end = e.0;
+      },
+      e.1,
+    )))))
     (word_line_read (codes "tohost ") r1 at.tohost n (plain_tested (codes "tohost ") refl) refl h.0)
-    ∙ ap (λ x. and_then x (λ b. and_then (word_line (codes "end ") b.1) (λ e. Ok (record { tohost = at.tohost; sig_begin = b.0; sig_end = e.0 }, e.1))))
-    (word_line_read (codes "begin ") r2 at.sig_begin (n + 1) (plain_tested (codes "begin ") refl) refl h.1.0)
-    ∙ ap (λ x. and_then x (λ e. Ok (record { tohost = at.tohost; sig_begin = at.sig_begin; sig_end = e.0 }, e.1)))
-    (word_line_read (codes "end ") [] at.sig_end (n + 1 + 1) (plain_tested (codes "end ") refl) refl h.1.1.0)
+    ∙ ap (λ x. and_then x (λ b. and_then (word_line (codes "end ") b.1) (λ e. Ok (
+      record {
+        tohost = at.tohost;
+        sig_begin = b.0;
+        sig_end = e.0;
+      },
+      e.1,
+    ))))
+    (word_line_read (codes "begin ") r2 at.sig_begin (n + 1) (plain_tested (codes "begin ") refl)
+    refl h.1.0)
+    ∙ ap (λ x. and_then x (λ e. Ok (
+      record {
+        tohost = at.tohost;
+        sig_begin = at.sig_begin;
+        sig_end = e.0;
+      },
+      e.1,
+    )))
+    (word_line_read (codes "end ") [] at.sig_end (n + 1 + 1) (plain_tested (codes "end ") refl) refl
+    h.1.1.0)
 
 -- what follows each part
 abbrev after_addresses : List ℕ → List ℕ → Addresses × Rest → Result ImageValue ImageRefusal
@@ -179,11 +239,16 @@ after_header r = and_then (section (codes "text ") 4_194_304 r) after_text
 pub files_read : FilesReadBack
 unfolding image_of_bytes
 files_read text ram at t d a few_text few_data =
-    let r3 = line_of (codes "tohost ") (hex_word_of at.tohost) (line_of (codes "begin ") (hex_word_of at.sig_begin) (line_of (codes "end ") (hex_word_of at.sig_end) [])) in
+    let r3 = line_of (codes "tohost ") (hex_word_of at.tohost) (line_of (codes "begin ")
+    (hex_word_of at.sig_begin) (line_of (codes "end ") (hex_word_of at.sig_end) [])) in
     let r2 = section_of (codes "data ") ram r3 in
     let r1 = section_of (codes "text ") text r2 in
     let short : length ram ≤ 4_194_304 = omega (arith, few_data) in
-    ap (λ x. and_then (header_with 1 x) after_header) (taken_line (codes "rvimage 1") r1 1 (plain_tested (codes "rvimage 1") refl))
-    ∙ ap (λ x. and_then x after_text) (section_read (codes "text ") text r2 4_194_304 2 (plain_tested (codes "text ") refl) refl t few_text few_text)
-    ∙ ap (λ x. and_then x (after_data (bytes_of text))) (section_read (codes "data ") ram r3 262_144 (2 + 1 + length text) (plain_tested (codes "data ") refl) refl d short few_data)
-    ∙ ap (λ x. and_then x (after_addresses (bytes_of text) (bytes_of ram))) (addresses_read at (2 + 1 + length text + 1 + length ram) a)
+    ap (λ x. and_then (header_with 1 x) after_header)
+    (taken_line (codes "rvimage 1") r1 1 (plain_tested (codes "rvimage 1") refl))
+    ∙ ap (λ x. and_then x after_text) (section_read (codes "text ") text r2 4_194_304 2
+    (plain_tested (codes "text ") refl) refl t few_text few_text)
+    ∙ ap (λ x. and_then x (after_data (bytes_of text))) (section_read (codes "data ") ram r3 262_144
+    (2 + 1 + length text) (plain_tested (codes "data ") refl) refl d short few_data)
+    ∙ ap (λ x. and_then x (after_addresses (bytes_of text) (bytes_of ram)))
+    (addresses_read at (2 + 1 + length text + 1 + length ram) a)

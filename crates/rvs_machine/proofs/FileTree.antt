@@ -1,5 +1,7 @@
 -- The reading of an image file as a tree, in which each line says what goes on.
-use Rattle.std.proofs.Common.{◌≡◌, ℕ, zero, suc, ◌+◌, ◌-◌, Bool, true, false, List, [], ◌∷◌, ◌++◌, Option, Some, None, Result, Ok, Err, if◌then◌else◌, refl, ap, sym, ◌∙◌, arith, bytes_eq, codes}
+use Rattle.std.proofs.Common.{◌≡◌, ℕ, zero, suc, ◌+◌, ◌-◌, Bool, true, false, List, [], ◌∷◌, ◌++◌}
+use Rattle.std.proofs.Common.{Option, Some, None, Result, Ok, Err, if◌then◌else◌, refl, ap, sym}
+use Rattle.std.proofs.Common.{◌∙◌, arith, bytes_eq, codes}
 use Rattle.std.specs.Prelude.{nat_le, option_and_then}
 use Rattle.std.specs.Int.{w32, to_le_bytes}
 use Rattle.rvs_machine.specs.declared.reading.ImageKind.{ImageKind}
@@ -8,7 +10,9 @@ use Rattle.rvs_machine.specs.declared.reading.ImageRefusal.{ImageRefusal}
 use Rattle.rvs_machine.specs.declared.reading.Addresses.{Addresses}
 use Rattle.rvs_machine.specs.Image.{ImageValue}
 use Rattle.rvs_machine.specs.FileLines.{Rest, first_line, after_feed}
-use Rattle.rvs_machine.specs.ImageText.{refusal, word_in, count_in, after_name, header, word_with, word_line, count_with, count_line, and_then, put_before, word_lines, section, address_lines, whole, image_of_bytes}
+use Rattle.rvs_machine.specs.ImageText.{refusal, word_in, count_in, after_name, header, word_with}
+use Rattle.rvs_machine.specs.ImageText.{word_line, count_with, count_line, and_then, put_before}
+use Rattle.rvs_machine.specs.ImageText.{word_lines, section, address_lines, whole, image_of_bytes}
 
 pub data Tree (A : Type 0) : Type 0 where
   done : A → Tree A
@@ -33,21 +37,26 @@ bind (more f) go = more (λ l. bind (f l) go)
 abbrev pub onward : {A B : Type 0} → (A → Tree B) → A × Rest → Found B
 onward go p = run (go p.0) p.1.bytes p.1.line
 
-pub run-bind : {A B : Type 0} (t : Tree A) (go : A → Tree B) (bytes : List ℕ) (n : ℕ) → run (bind t go) bytes n ≡ and_then (run t bytes n) (onward go)
+pub run-bind : {A B : Type 0} (t : Tree A) (go : A → Tree B) (bytes : List ℕ) (n : ℕ)
+    → run (bind t go) bytes n ≡ and_then (run t bytes n) (onward go)
 run-bind (done a) go bytes n = refl
 run-bind (fail kind) go bytes n = refl
 run-bind (more f) go [] n = refl
-run-bind (more f) go (c ∷ cs) n = run-bind (f (first_line (c ∷ cs))) go (after_feed (c ∷ cs)) (n + 1)
+run-bind (more f) go (c ∷ cs) n =
+    run-bind (f (first_line (c ∷ cs))) go (after_feed (c ∷ cs)) (n + 1)
 
 -- a tree says what a reader reads
 abbrev pub IsRun : {A : Type 0} → Tree A → (Rest → Found A) → Type 0
-IsRun t reader = (bytes : List ℕ) (n : ℕ) → reader (record { bytes = bytes; line = n }) ≡ run t bytes n
+IsRun t reader = (bytes : List ℕ) (n : ℕ)
+    → reader (record { bytes = bytes; line = n }) ≡ run t bytes n
 
-go_same : {A B : Type 0} (x : Found A) (f g : A × Rest → Result B ImageRefusal) → ((p : A × Rest) → f p ≡ g p) → and_then x f ≡ and_then x g
+go_same : {A B : Type 0} (x : Found A) (f g : A × Rest → Result B ImageRefusal)
+    → ((p : A × Rest) → f p ≡ g p) → and_then x f ≡ and_then x g
 go_same (Err e) f g h = refl
 go_same (Ok p) f g h = h p
 
-pub bound : {A B : Type 0} (t : Tree A) (reader : Rest → Found A) (go : A → Tree B) (later : A → Rest → Found B) → IsRun t reader → ((a : A) → IsRun (go a) (later a))
+pub bound : {A B : Type 0} (t : Tree A) (reader : Rest → Found A) (go : A → Tree B)
+    (later : A → Rest → Found B) → IsRun t reader → ((a : A) → IsRun (go a) (later a))
     → IsRun (bind t go) (λ r. and_then (reader r) (λ p. later p.0 p.1))
 bound t reader go later h i bytes n =
     ap (λ x. and_then x (λ p. later p.0 p.1)) (h bytes n)
@@ -67,13 +76,17 @@ header_tree = more (λ l. header_said (bytes_eq l (codes "rvimage 1")))
 abbrev pub only_rest : Unit {0} × Rest → Result Rest ImageRefusal
 only_rest p = Ok p.1
 
-header_is : (b : Bool) (bytes : List ℕ) (n : ℕ) → (if b then Ok (record { bytes = bytes; line = n + 1 }) else Err (refusal n BadLine)) ≡ and_then (run (header_said b) bytes (n + 1)) only_rest
+header_is : (b : Bool) (bytes : List ℕ) (n : ℕ)
+    → (if b then Ok (record { bytes = bytes; line = n + 1 }) else Err (refusal n BadLine))
+    ≡ and_then (run (header_said b) bytes (n + 1)) only_rest
 header_is true bytes n = refl
 header_is false bytes n = ap (λ k. Err (refusal k BadLine)) (line_before n)
 
-header_run : (bytes : List ℕ) (n : ℕ) → header (record { bytes = bytes; line = n }) ≡ and_then (run header_tree bytes n) only_rest
+header_run : (bytes : List ℕ) (n : ℕ)
+    → header (record { bytes = bytes; line = n }) ≡ and_then (run header_tree bytes n) only_rest
 header_run [] n = refl
-header_run (c ∷ cs) n = header_is (bytes_eq (first_line (c ∷ cs)) (codes "rvimage 1")) (after_feed (c ∷ cs)) n
+header_run (c ∷ cs) n =
+    header_is (bytes_eq (first_line (c ∷ cs)) (codes "rvimage 1")) (after_feed (c ∷ cs)) n
 
 abbrev pub word_said : Option ℕ → Tree ℕ
 word_said None = fail BadLine
@@ -82,13 +95,15 @@ word_said (Some word) = done word
 abbrev pub word_tree : List ℕ → Tree ℕ
 word_tree name = more (λ l. word_said (option_and_then word_in (after_name name l)))
 
-word_is : (o : Option ℕ) (bytes : List ℕ) (n : ℕ) → word_with n (record { bytes = bytes; line = n + 1 }) o ≡ run (word_said o) bytes (n + 1)
+word_is : (o : Option ℕ) (bytes : List ℕ) (n : ℕ)
+    → word_with n (record { bytes = bytes; line = n + 1 }) o ≡ run (word_said o) bytes (n + 1)
 word_is None bytes n = ap (λ k. Err (refusal k BadLine)) (line_before n)
 word_is (Some word) bytes n = refl
 
 word_run : (name : List ℕ) → IsRun (word_tree name) (word_line name)
 word_run name [] n = refl
-word_run name (c ∷ cs) n = word_is (option_and_then word_in (after_name name (first_line (c ∷ cs)))) (after_feed (c ∷ cs)) n
+word_run name (c ∷ cs) n = word_is (option_and_then word_in (after_name name (first_line (c ∷ cs))))
+    (after_feed (c ∷ cs)) n
 
 abbrev pub limited : Bool → ℕ → Tree ℕ
 limited b count = if b then done count else fail TooLarge
@@ -100,31 +115,40 @@ count_said limit (Some count) = limited (nat_le count limit) count
 abbrev pub count_tree : List ℕ → ℕ → Tree ℕ
 count_tree name limit = more (λ l. count_said limit (option_and_then count_in (after_name name l)))
 
-limited_is : (b : Bool) (count : ℕ) (bytes : List ℕ) (n : ℕ) → (if b then Ok (count, record { bytes = bytes; line = n + 1 }) else Err (refusal n TooLarge)) ≡ run (limited b count) bytes (n + 1)
+limited_is : (b : Bool) (count : ℕ) (bytes : List ℕ) (n : ℕ)
+    → (if b then Ok (count, record { bytes = bytes; line = n + 1 }) else Err (refusal n TooLarge))
+    ≡ run (limited b count) bytes (n + 1)
 limited_is true count bytes n = refl
 limited_is false count bytes n = ap (λ k. Err (refusal k TooLarge)) (line_before n)
 
-count_is : (limit : ℕ) (o : Option ℕ) (bytes : List ℕ) (n : ℕ) → count_with n limit (record { bytes = bytes; line = n + 1 }) o ≡ run (count_said limit o) bytes (n + 1)
+count_is : (limit : ℕ) (o : Option ℕ) (bytes : List ℕ) (n : ℕ)
+    → count_with n limit (record { bytes = bytes; line = n + 1 }) o
+    ≡ run (count_said limit o) bytes (n + 1)
 count_is limit None bytes n = ap (λ k. Err (refusal k BadLine)) (line_before n)
 count_is limit (Some count) bytes n = limited_is (nat_le count limit) count bytes n
 
 count_run : (name : List ℕ) (limit : ℕ) → IsRun (count_tree name limit) (count_line name limit)
 count_run name limit [] n = refl
-count_run name limit (c ∷ cs) n = count_is limit (option_and_then count_in (after_name name (first_line (c ∷ cs)))) (after_feed (c ∷ cs)) n
+count_run name limit (c ∷ cs) n = count_is limit
+    (option_and_then count_in (after_name name (first_line (c ∷ cs)))) (after_feed (c ∷ cs)) n
 
 -- ---- lines together
 abbrev pub words_tree : ℕ → Tree (List ℕ)
 words_tree zero = done []
-words_tree (suc n) = bind (word_tree []) (λ w. bind (words_tree n) (λ bytes. done (to_le_bytes w32 w ++ bytes)))
+words_tree (suc n) =
+    bind (word_tree []) (λ w. bind (words_tree n) (λ bytes. done (to_le_bytes w32 w ++ bytes)))
 
-put_is : (first : List ℕ) (x : Found (List ℕ)) → put_before first x ≡ and_then x (onward (λ bytes. done (first ++ bytes)))
+put_is : (first : List ℕ) (x : Found (List ℕ))
+    → put_before first x ≡ and_then x (onward (λ bytes. done (first ++ bytes)))
 put_is first (Err e) = refl
 put_is first (Ok p) = refl
 
 words_run : (count : ℕ) → IsRun (words_tree count) (word_lines count)
 words_run zero bytes n = refl
 words_run (suc count) bytes n =
-    bound (word_tree []) (word_line []) (λ w. bind (words_tree count) (λ bs. done (to_le_bytes w32 w ++ bs))) (λ w r. put_before (to_le_bytes w32 w) (word_lines count r)) (word_run [])
+    bound (word_tree []) (word_line [])
+    (λ w. bind (words_tree count) (λ bs. done (to_le_bytes w32 w ++ bs)))
+    (λ w r. put_before (to_le_bytes w32 w) (word_lines count r)) (word_run [])
     (λ w bs k. ap (put_before (to_le_bytes w32 w)) (words_run count bs k) ∙ put_is (to_le_bytes w32 w) (run (words_tree count) bs k)
     ∙ sym (run-bind (words_tree count) (λ cs. done (to_le_bytes w32 w ++ cs)) bs k)) bytes n
 
@@ -132,10 +156,15 @@ abbrev pub section_tree : List ℕ → ℕ → Tree (List ℕ)
 section_tree name limit = bind (count_tree name limit) words_tree
 
 section_run : (name : List ℕ) (limit : ℕ) → IsRun (section_tree name limit) (section name limit)
-section_run name limit = bound (count_tree name limit) (count_line name limit) words_tree word_lines (count_run name limit) words_run
+section_run name limit = bound (count_tree name limit) (count_line name limit) words_tree word_lines
+    (count_run name limit) words_run
 
 abbrev pub end_tree : ℕ → ℕ → Tree Addresses
-end_tree tohost sig_begin = bind (word_tree (codes "end ")) (λ e. done (record { tohost = tohost; sig_begin = sig_begin; sig_end = e }))
+end_tree tohost sig_begin = bind (word_tree (codes "end ")) (λ e. done (record {
+  tohost = tohost;
+  sig_begin = sig_begin;
+  sig_end = e;
+}))
 
 abbrev pub begin_tree : ℕ → Tree Addresses
 begin_tree tohost = bind (word_tree (codes "begin ")) (end_tree tohost)
@@ -144,21 +173,41 @@ abbrev pub address_tree : Tree Addresses
 address_tree = bind (word_tree (codes "tohost ")) begin_tree
 
 abbrev end_lines : ℕ → ℕ → Rest → Found Addresses
-end_lines tohost sig_begin r = and_then (word_line (codes "end ") r) (λ e. Ok (record { tohost = tohost; sig_begin = sig_begin; sig_end = e.0 }, e.1))
+end_lines tohost sig_begin r = and_then (word_line (codes "end ") r) (λ e. Ok (
+  record {
+    tohost = tohost;
+    sig_begin = sig_begin;
+    sig_end = e.0;
+  },
+  e.1,
+))
 
 abbrev begin_lines : ℕ → Rest → Found Addresses
 begin_lines tohost r = and_then (word_line (codes "begin ") r) (λ b. end_lines tohost b.0 b.1)
 
 end_run : (tohost sig_begin : ℕ) → IsRun (end_tree tohost sig_begin) (end_lines tohost sig_begin)
 end_run tohost sig_begin =
-    bound (word_tree (codes "end ")) (word_line (codes "end ")) (λ e. done (record { tohost = tohost; sig_begin = sig_begin; sig_end = e }))
-    (λ e r. Ok (record { tohost = tohost; sig_begin = sig_begin; sig_end = e }, r)) (word_run (codes "end ")) (λ e bytes n. refl)
+    bound (word_tree (codes "end ")) (word_line (codes "end ")) (λ e. done (record {
+      tohost = tohost;
+      sig_begin = sig_begin;
+      sig_end = e;
+    }))
+    (λ e r. Ok (
+      record {
+        tohost = tohost;
+        sig_begin = sig_begin;
+        sig_end = e;
+      },
+      r,
+    )) (word_run (codes "end ")) (λ e bytes n. refl)
 
 begin_run : (tohost : ℕ) → IsRun (begin_tree tohost) (begin_lines tohost)
-begin_run tohost = bound (word_tree (codes "begin ")) (word_line (codes "begin ")) (end_tree tohost) (end_lines tohost) (word_run (codes "begin ")) (end_run tohost)
+begin_run tohost = bound (word_tree (codes "begin ")) (word_line (codes "begin ")) (end_tree tohost)
+    (end_lines tohost) (word_run (codes "begin ")) (end_run tohost)
 
 address_run : IsRun address_tree address_lines
-address_run = bound (word_tree (codes "tohost ")) (word_line (codes "tohost ")) begin_tree begin_lines (word_run (codes "tohost ")) begin_run
+address_run = bound (word_tree (codes "tohost ")) (word_line (codes "tohost ")) begin_tree
+    begin_lines (word_run (codes "tohost ")) begin_run
 
 -- ---- the file
 pub record Parts : Type 0 where
@@ -167,7 +216,8 @@ pub record Parts : Type 0 where
   pub at : Addresses
 
 abbrev pub addresses_tree : List ℕ → List ℕ → Tree Parts
-addresses_tree text ram = bind address_tree (λ at. done (record { text = text; ram = ram; at = at }))
+addresses_tree text ram =
+    bind address_tree (λ at. done (record { text = text; ram = ram; at = at }))
 
 abbrev pub data_tree : List ℕ → Tree Parts
 data_tree text = bind (section_tree (codes "data ") 262_144) (addresses_tree text)
@@ -181,17 +231,25 @@ file_tree = bind header_tree text_tree
 abbrev pub judged : Parts × Rest → Result ImageValue ImageRefusal
 judged p = whole p.0.text p.0.ram p.0.at p.1
 
-then_twice : {A B C : Type 0} (x : Found A) (f : A × Rest → Found B) (g : B × Rest → Result C ImageRefusal) → and_then (and_then x f) g ≡ and_then x (λ p. and_then (f p) g)
+then_twice : {A B C : Type 0} (x : Found A) (f : A × Rest → Found B)
+    (g : B × Rest → Result C ImageRefusal) → and_then (and_then x f) g ≡ and_then x
+    (λ p. and_then (f p) g)
 then_twice (Err e) f g = refl
 then_twice (Ok p) f g = refl
 
 -- the same, where the last step is no tree's
-sequel : {A B C : Type 0} (t : Tree A) (reader : Rest → Found A) (go : A → Tree B) (later : A → Rest → Result C ImageRefusal) (g : B × Rest → Result C ImageRefusal) → IsRun t reader
-    → ((a : A) (bytes : List ℕ) (n : ℕ) → later a (record { bytes = bytes; line = n }) ≡ and_then (run (go a) bytes n) g)
-    → (bytes : List ℕ) (n : ℕ) → and_then (reader (record { bytes = bytes; line = n })) (λ p. later p.0 p.1) ≡ and_then (run (bind t go) bytes n) g
+sequel : {A B C : Type 0} (t : Tree A) (reader : Rest → Found A) (go : A → Tree B)
+    (later : A → Rest → Result C ImageRefusal) (g : B × Rest → Result C ImageRefusal) → IsRun t
+    reader
+    → ((a : A) (bytes : List ℕ) (n : ℕ)
+    → later a (record { bytes = bytes; line = n }) ≡ and_then (run (go a) bytes n) g)
+    → (bytes : List ℕ) (n : ℕ)
+    → and_then (reader (record { bytes = bytes; line = n })) (λ p. later p.0 p.1)
+    ≡ and_then (run (bind t go) bytes n) g
 sequel t reader go later g h i bytes n =
     ap (λ x. and_then x (λ p. later p.0 p.1)) (h bytes n)
-    ∙ go_same (run t bytes n) (λ p. later p.0 p.1) (λ p. and_then (onward go p) g) (λ p. i p.0 p.1.bytes p.1.line)
+    ∙ go_same (run t bytes n) (λ p. later p.0 p.1) (λ p. and_then (onward go p) g)
+    (λ p. i p.0 p.1.bytes p.1.line)
     ∙ sym (then_twice (run t bytes n) (onward go) g)
     ∙ ap (λ x. and_then x g) (sym (run-bind t go bytes n))
 
@@ -204,16 +262,28 @@ after_text text r = and_then (section (codes "data ") 262_144 r) (λ d. after_da
 abbrev after_header : Rest → Result ImageValue ImageRefusal
 after_header r = and_then (section (codes "text ") 4_194_304 r) (λ t. after_text t.0 t.1)
 
-data_run : (text ram bytes : List ℕ) (n : ℕ) → after_data text ram (record { bytes = bytes; line = n }) ≡ and_then (run (addresses_tree text ram) bytes n) judged
-data_run text ram = sequel address_tree address_lines (λ at. done (record { text = text; ram = ram; at = at })) (λ at r. whole text ram at r) judged address_run (λ at bytes n. refl)
+data_run : (text ram bytes : List ℕ) (n : ℕ)
+    → after_data text ram (record { bytes = bytes; line = n })
+    ≡ and_then (run (addresses_tree text ram) bytes n) judged
+data_run text ram = sequel address_tree address_lines (λ at. done (record {
+  text = text;
+  ram = ram;
+  at = at;
+})) (λ at r. whole text ram at r) judged address_run (λ at bytes n. refl)
 
-text_run : (text bytes : List ℕ) (n : ℕ) → after_text text (record { bytes = bytes; line = n }) ≡ and_then (run (data_tree text) bytes n) judged
-text_run text = sequel (section_tree (codes "data ") 262_144) (section (codes "data ") 262_144) (addresses_tree text) (after_data text) judged (section_run (codes "data ") 262_144) (data_run text)
+text_run : (text bytes : List ℕ) (n : ℕ) → after_text text (record { bytes = bytes; line = n })
+    ≡ and_then (run (data_tree text) bytes n) judged
+text_run text = sequel (section_tree (codes "data ") 262_144) (section (codes "data ") 262_144)
+    (addresses_tree text) (after_data text) judged (section_run (codes "data ") 262_144)
+    (data_run text)
 
-behind_header : (bytes : List ℕ) (n : ℕ) → after_header (record { bytes = bytes; line = n }) ≡ and_then (run (text_tree tt) bytes n) judged
-behind_header = sequel (section_tree (codes "text ") 4_194_304) (section (codes "text ") 4_194_304) data_tree after_text judged (section_run (codes "text ") 4_194_304) text_run
+behind_header : (bytes : List ℕ) (n : ℕ) → after_header (record { bytes = bytes; line = n })
+    ≡ and_then (run (text_tree tt) bytes n) judged
+behind_header = sequel (section_tree (codes "text ") 4_194_304) (section (codes "text ") 4_194_304)
+    data_tree after_text judged (section_run (codes "text ") 4_194_304) text_run
 
-header_first : (x : Found (Unit {0})) → and_then (and_then x only_rest) after_header ≡ and_then (and_then x (onward text_tree)) judged
+header_first : (x : Found (Unit {0}))
+    → and_then (and_then x only_rest) after_header ≡ and_then (and_then x (onward text_tree)) judged
 header_first (Err e) = refl
 header_first (Ok p) = behind_header p.1.bytes p.1.line
 

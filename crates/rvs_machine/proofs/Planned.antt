@@ -8,7 +8,8 @@ use Rattle.rvs_machine.specs.declared.action.Action.TheVariants.{Refuse, Go, Kee
 use Rattle.rvs_machine.specs.Machine.{Setup, State, done_of, write_reg, commit_of}
 use Rattle.rvs_machine.specs.Plans.{committed, plan_of, done_plan}
 
-written : (regs : List ℕ) (rd : Option ℕ) (value : Option ℕ) → write_reg regs rd value ≡ committed regs (commit_of rd value)
+written : (regs : List ℕ) (rd : Option ℕ) (value : Option ℕ)
+    → write_reg regs rd value ≡ committed regs (commit_of rd value)
 written regs None value = refl
 written regs (Some zero) value = refl
 written regs (Some (suc r)) None = refl
@@ -17,9 +18,11 @@ written regs (Some (suc r)) (Some value) = refl
 abbrev pub bare : State → ℕ → ℕ → ℕ → Executed
 bare s word v1 v2 = record { pc = s.pc; word = word; v1 = v1; v2 = v2; commit = None }
 
-pub planned_does : (setup : Setup) (s : State) (word v1 v2 : ℕ) (i : Fields) (a : Action) → done_of setup s word i v1 v2 a ≡ done_plan setup s (plan_of (bare s word v1 v2) i.rd a)
+pub planned_does : (setup : Setup) (s : State) (word v1 v2 : ℕ) (i : Fields) (a : Action)
+    → done_of setup s word i v1 v2 a ≡ done_plan setup s (plan_of (bare s word v1 v2) i.rd a)
 planned_does setup s word v1 v2 i (Refuse kind) = refl
 planned_does setup s word v1 v2 i (Go value next) =
-    let e : Executed = record { pc = s.pc; word = word; v1 = v1; v2 = v2; commit = commit_of i.rd value } in
+    let e : Executed =
+    record { pc = s.pc; word = word; v1 = v1; v2 = v2; commit = commit_of i.rd value } in
     ap (λ regs. (Ran e, record s { pc = next; regs = regs })) (written s.regs i.rd value)
 planned_does setup s word v1 v2 i (Keep size addr value) = refl

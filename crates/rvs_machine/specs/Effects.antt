@@ -1,11 +1,19 @@
 -- What each row of the table does, in numbers modulo 2 ^ 32.
-use Rattle.std.specs.Prelude.{ℕ, Bool, ◌+◌, ◌-◌, ◌*◌, ◌/◌, ◌%◌, ◌^◌, ◌==◌, nat_lt, nat_le, not, int_lt, ◌*ℤ◌, pos, if◌then◌else◌, bit_and, bit_or, bit_xor, true, false}
+use Rattle.std.specs.Prelude.{ℕ, Bool, ◌+◌, ◌-◌, ◌*◌, ◌/◌, ◌%◌, ◌^◌, ◌==◌, nat_lt, nat_le, not}
+use Rattle.std.specs.Prelude.{int_lt, ◌*ℤ◌, pos, if◌then◌else◌, bit_and, bit_or, bit_xor, true}
+use Rattle.std.specs.Prelude.{false}
 use Rattle.std.specs.Int.{w32, w64, cast_signed, cast_unsigned, int_shr}
 use Rattle.std.specs.Int.RustNames.{int_div, int_rem}
 use Rattle.rvs_insn.specs.declared.op.Op.{Op}
-use Rattle.rvs_insn.specs.declared.op.Op.TheVariants.{Lui, Auipc, Jal, Jalr, Beq, Bne, Blt, Bge, Bltu, Bgeu, Lb, Lh, Lw, Lbu, Lhu, Sb, Sh, Sw, Addi, Slti, Sltiu, Xori, Ori, Andi, Slli, Srli, Srai, Add, Sub, Sll, Slt, Sltu, Xor, Srl, Sra, Or, And, Mul, Mulh, Mulhsu, Mulhu, Div, Divu, Rem, Remu, Fence, Ecall, Ebreak}
+use Rattle.rvs_insn.specs.declared.op.Op.TheVariants.{Lui, Auipc, Jal, Jalr, Beq, Bne, Blt, Bge}
+use Rattle.rvs_insn.specs.declared.op.Op.TheVariants.{Bltu, Bgeu, Lb, Lh, Lw, Lbu, Lhu, Sb, Sh, Sw}
+use Rattle.rvs_insn.specs.declared.op.Op.TheVariants.{Addi, Slti, Sltiu, Xori, Ori, Andi, Slli}
+use Rattle.rvs_insn.specs.declared.op.Op.TheVariants.{Srli, Srai, Add, Sub, Sll, Slt, Sltu, Xor}
+use Rattle.rvs_insn.specs.declared.op.Op.TheVariants.{Srl, Sra, Or, And, Mul, Mulh, Mulhsu, Mulhu}
+use Rattle.rvs_insn.specs.declared.op.Op.TheVariants.{Div, Divu, Rem, Remu, Fence, Ecall, Ebreak}
 use Rattle.rvs_machine.specs.declared.effect.Effect.{Effect}
-use Rattle.rvs_machine.specs.declared.effect.Effect.TheVariants.{Put, JumpTo, GoIf, Load, Store, Pass, CallTrap, BreakTrap}
+use Rattle.rvs_machine.specs.declared.effect.Effect.TheVariants.{Put, JumpTo, GoIf, Load, Store}
+use Rattle.rvs_machine.specs.declared.effect.Effect.TheVariants.{Pass, CallTrap, BreakTrap}
 
 abbrev pub add32 : ℕ → ℕ → ℕ
 add32 a b = (a + b) % 2 ^ 32
@@ -31,10 +39,12 @@ shift_right_signed a b = cast_unsigned w32 (int_shr (cast_signed w32 a) (b % 32)
 
 -- quotients round towards zero
 abbrev pub div_signed : ℕ → ℕ → ℕ
-div_signed a b = if b == 0 then 2 ^ 32 - 1 else cast_unsigned w32 (int_div (cast_signed w32 a) (cast_signed w32 b))
+div_signed a b = if b == 0 then 2 ^ 32 - 1
+    else cast_unsigned w32 (int_div (cast_signed w32 a) (cast_signed w32 b))
 
 abbrev pub rem_signed : ℕ → ℕ → ℕ
-rem_signed a b = if b == 0 then a else cast_unsigned w32 (int_rem (cast_signed w32 a) (cast_signed w32 b))
+rem_signed a b = if b == 0 then a
+    else cast_unsigned w32 (int_rem (cast_signed w32 a) (cast_signed w32 b))
 
 abbrev pub div_unsigned : ℕ → ℕ → ℕ
 div_unsigned a b = if b == 0 then 2 ^ 32 - 1 else a / b
@@ -82,7 +92,8 @@ effect_of Sra pc v1 v2 imm = Put (shift_right_signed v1 v2)
 effect_of Or pc v1 v2 imm = Put (bit_or v1 v2)
 effect_of And pc v1 v2 imm = Put (bit_and v1 v2)
 effect_of Mul pc v1 v2 imm = Put (v1 * v2 % 2 ^ 32)
-effect_of Mulh pc v1 v2 imm = Put (cast_unsigned w64 (cast_signed w32 v1 *ℤ cast_signed w32 v2) / 2 ^ 32)
+effect_of Mulh pc v1 v2 imm =
+    Put (cast_unsigned w64 (cast_signed w32 v1 *ℤ cast_signed w32 v2) / 2 ^ 32)
 effect_of Mulhsu pc v1 v2 imm = Put (cast_unsigned w64 (cast_signed w32 v1 *ℤ pos v2) / 2 ^ 32)
 effect_of Mulhu pc v1 v2 imm = Put (v1 * v2 / 2 ^ 32)
 effect_of Div pc v1 v2 imm = Put (div_signed v1 v2)

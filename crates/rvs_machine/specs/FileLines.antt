@@ -1,5 +1,7 @@
--- The lines of a file. Each ends with a line feed, which the last may lack; a carriage return before a line feed belongs to it.
-use Rattle.std.specs.Prelude.{ℕ, ◌+◌, Bool, if◌then◌else◌, Option, Some, None, is_some, unwrap_or, List, [], ◌∷◌}
+-- The lines of a file. Each ends with a line feed, which the last may lack; a carriage return
+-- before a line feed belongs to it.
+use Rattle.std.specs.Prelude.{ℕ, ◌+◌, Bool, if◌then◌else◌, Option, Some, None, is_some, unwrap_or}
+use Rattle.std.specs.Prelude.{List, [], ◌∷◌}
 use Rattle.rvs_base.specs.Lines.{before, after, without_return}
 
 -- the bytes that are left, and the number of the line that begins there
@@ -20,7 +22,8 @@ first_line bytes = if has_feed bytes then without_return (before 10 bytes) else 
 -- the first line, where there are bytes, and what follows it
 abbrev pub taken_from : List ℕ → ℕ → Option (List ℕ × Rest)
 taken_from [] n = None
-taken_from (c ∷ cs) n = Some (first_line (c ∷ cs), record { bytes = after_feed (c ∷ cs); line = n + 1 })
+taken_from (c ∷ cs) n =
+    Some (first_line (c ∷ cs), record { bytes = after_feed (c ∷ cs); line = n + 1 })
 
 abbrev pub taken : Rest → Option (List ℕ × Rest)
 taken r = taken_from r.bytes r.line

@@ -1,5 +1,6 @@
 -- A program in memory.
-use Rattle.std.specs.Prelude.{◌≡◌, ◌≤◌, ℕ, ◌+◌, ◌%◌, ◌^◌, ◌==◌, ◌&&◌, nat_le, Bool, if◌then◌else◌, Option, Some, None, List, length}
+use Rattle.std.specs.Prelude.{◌≡◌, ◌≤◌, ℕ, ◌+◌, ◌%◌, ◌^◌, ◌==◌, ◌&&◌, nat_le, Bool, if◌then◌else◌}
+use Rattle.std.specs.Prelude.{Option, Some, None, List, length}
 use Rattle.rvs_machine.specs.declared.symbol.Symbol.{Symbol}
 
 -- where text and data begin
@@ -16,7 +17,8 @@ text_limit = 2 ^ 24
 abbrev pub data_limit : ℕ
 data_limit = 2 ^ 20
 
--- the bytes of text and data, the address whose word halts a run, the bounds of the signature, and the symbols
+-- the bytes of text and data, the address whose word halts a run, the bounds of the signature, and
+-- the symbols
 pub record ImageValue : Type 0 where
   pub text : List ℕ
   pub data_bytes : List ℕ
@@ -48,12 +50,14 @@ is_tohost size at = at % 4 == 0 && nat_le data_base at && nat_le (at + 4) (data_
 
 abbrev pub is_signature : ℕ → ℕ → ℕ → Bool
 is_signature size first last =
-    first % 4 == 0 && last % 4 == 0 && nat_le data_base first && nat_le first last && nat_le last (data_base + size)
+    first % 4 == 0 && last % 4 == 0 && nat_le data_base first && nat_le first last
+    && nat_le last (data_base + size)
 
 abbrev pub is_image : ImageValue → Bool
 is_image i =
     is_text_length (length i.text) && nat_le (length i.data_bytes) data_limit
-    && is_tohost (length i.data_bytes) i.tohost && is_signature (length i.data_bytes) i.sig_begin i.sig_end
+    && is_tohost (length i.data_bytes) i.tohost
+    && is_signature (length i.data_bytes) i.sig_begin i.sig_end
 
 -- the image where the regions are in order
 abbrev pub if_image : ImageValue → Option ImageValue

@@ -25,4 +25,5 @@ pub record IsFirstFault (line : ℕ) (bytes : List ℕ) : Type 0 where
 
 -- The line of a refusal is the first faulty one.
 abbrev pub FaultsAreFirst : Type 0
-FaultsAreFirst = (bytes : List ℕ) (e : ImageRefusal) → image_of_bytes bytes ≡ Err e → e.line ≢ 0 → IsFirstFault e.line bytes
+FaultsAreFirst = (bytes : List ℕ) (e : ImageRefusal) → image_of_bytes bytes ≡ Err e → e.line ≢ 0
+    → IsFirstFault e.line bytes

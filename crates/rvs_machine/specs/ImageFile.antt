@@ -1,5 +1,6 @@
 -- The image file as it is written, and that it is read as what it says.
-use Rattle.std.specs.Prelude.{◌≡◌, ◌≤◌, ◌<◌, ℕ, ◌^◌, List, [], ◌∷◌, ◌++◌, length, codes, if◌then◌else◌, Result, Ok, Err}
+use Rattle.std.specs.Prelude.{◌≡◌, ◌≤◌, ◌<◌, ℕ, ◌^◌, List, [], ◌∷◌, ◌++◌, length, codes}
+use Rattle.std.specs.Prelude.{if◌then◌else◌, Result, Ok, Err}
 use Rattle.std.specs.Fmt.{decimal}
 use Rattle.std.specs.Int.{w32, to_le_bytes}
 use Rattle.rvs_base.specs.Number.{hex_word_of}
@@ -25,7 +26,8 @@ section_of name ws rest = line_of name (decimal (length ws)) (words_of ws rest)
 abbrev pub file_of : List ℕ → List ℕ → Addresses → List ℕ
 file_of text ram at =
     line_of (codes "rvimage 1") [] (section_of (codes "text ") text (section_of (codes "data ") ram
-    (line_of (codes "tohost ") (hex_word_of at.tohost) (line_of (codes "begin ") (hex_word_of at.sig_begin) (line_of (codes "end ") (hex_word_of at.sig_end) [])))))
+    (line_of (codes "tohost ") (hex_word_of at.tohost) (line_of (codes "begin ")
+    (hex_word_of at.sig_begin) (line_of (codes "end ") (hex_word_of at.sig_end) [])))))
 
 -- the bytes of words, the lowest of a word first
 abbrev pub bytes_of : List ℕ → List ℕ
@@ -43,5 +45,14 @@ judged image = if is_image image then Ok image else Err (refusal 0 BadRegion)
 -- what is written is read
 abbrev pub FilesReadBack : Type 0
 FilesReadBack =
-    (text ram : List ℕ) (at : Addresses) → AreWords text → AreWords ram → AreWords (at.tohost ∷ at.sig_begin ∷ at.sig_end ∷ []) → length text ≤ 4_194_304 → length ram ≤ 262_144
-    → image_of_bytes (file_of text ram at) ≡ judged (record { text = bytes_of text; data_bytes = bytes_of ram; tohost = at.tohost; sig_begin = at.sig_begin; sig_end = at.sig_end; symbols = [] })
+    (text ram : List ℕ) (at : Addresses) → AreWords text → AreWords ram
+    → AreWords (at.tohost ∷ at.sig_begin ∷ at.sig_end ∷ []) → length text ≤ 4_194_304
+    → length ram ≤ 262_144
+    → image_of_bytes (file_of text ram at) ≡ judged (record {
+      text = bytes_of text;
+      data_bytes = bytes_of ram;
+      tohost = at.tohost;
+      sig_begin = at.sig_begin;
+      sig_end = at.sig_end;
+      symbols = [];
+    })

@@ -1,7 +1,8 @@
 -- The numbers of the kinds of refusals of an image file.
 use Rattle.std.specs.Prelude.{ℕ}
 use Rattle.rvs_machine.specs.declared.reading.ImageKind.{ImageKind}
-use Rattle.rvs_machine.specs.declared.reading.ImageKind.TheVariants.{BadLine, BadRegion, TooLarge, NoMemory}
+use Rattle.rvs_machine.specs.declared.reading.ImageKind.TheVariants.{BadLine, BadRegion, TooLarge}
+use Rattle.rvs_machine.specs.declared.reading.ImageKind.TheVariants.{NoMemory}
 
 abbrev pub image_number : ImageKind → ℕ
 image_number BadLine = 1

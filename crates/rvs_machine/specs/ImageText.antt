@@ -1,11 +1,14 @@
 -- The image file: what its bytes say, line by line, or the first line that is faulty.
-use Rattle.std.specs.Prelude.{◌≡◌, ◌⊎◌, ℕ, zero, suc, ◌==◌, nat_le, nat_eq, if◌then◌else◌, Option, Some, None, Result, Ok, Err, List, [], ◌++◌, length, drop, codes, option_and_then}
+use Rattle.std.specs.Prelude.{◌≡◌, ◌⊎◌, ℕ, zero, suc, ◌==◌, nat_le, nat_eq, if◌then◌else◌, Option}
+use Rattle.std.specs.Prelude.{Some, None, Result, Ok, Err, List, [], ◌++◌, length, drop, codes}
+use Rattle.std.specs.Prelude.{option_and_then}
 use Rattle.std.specs.List.{starts_with}
 use Rattle.std.specs.Int.{w32, to_le_bytes}
 use Rattle.std.specs.Str.{bytes_eq}
 use Rattle.rvs_base.specs.Digits.{digits_of, short_number}
 use Rattle.rvs_machine.specs.declared.reading.ImageKind.{ImageKind}
-use Rattle.rvs_machine.specs.declared.reading.ImageKind.TheVariants.{BadLine, BadRegion, TooLarge, NoMemory}
+use Rattle.rvs_machine.specs.declared.reading.ImageKind.TheVariants.{BadLine, BadRegion, TooLarge}
+use Rattle.rvs_machine.specs.declared.reading.ImageKind.TheVariants.{NoMemory}
 use Rattle.rvs_machine.specs.declared.reading.ImageRefusal.{ImageRefusal}
 use Rattle.rvs_machine.specs.declared.reading.Addresses.{Addresses}
 use Rattle.rvs_machine.specs.Image.{ImageValue, is_image}
@@ -36,7 +39,8 @@ no_memory = refusal 0 NoMemory
 -- the first line
 abbrev pub header_with : ℕ → Option (List ℕ × Rest) → Result Rest ImageRefusal
 header_with n None = Err (refusal n BadLine)
-header_with n (Some p) = if bytes_eq p.0 (codes "rvimage 1") then Ok p.1 else Err (refusal n BadLine)
+header_with n (Some p) = if bytes_eq p.0 (codes "rvimage 1") then Ok p.1
+    else Err (refusal n BadLine)
 
 abbrev pub header : Rest → Result Rest ImageRefusal
 header r = header_with r.line (taken r)
@@ -56,11 +60,13 @@ word_line name r = word_from r.line name (taken r)
 -- a line of a name and a count, which is no more than a limit
 abbrev pub count_with : ℕ → ℕ → Rest → Option ℕ → Result (ℕ × Rest) ImageRefusal
 count_with n limit rest None = Err (refusal n BadLine)
-count_with n limit rest (Some count) = if nat_le count limit then Ok (count, rest) else Err (refusal n TooLarge)
+count_with n limit rest (Some count) = if nat_le count limit then Ok (count, rest)
+    else Err (refusal n TooLarge)
 
 abbrev pub count_from : ℕ → List ℕ → ℕ → Option (List ℕ × Rest) → Result (ℕ × Rest) ImageRefusal
 count_from n name limit None = Err (refusal n BadLine)
-count_from n name limit (Some p) = count_with n limit p.1 (option_and_then count_in (after_name name p.0))
+count_from n name limit (Some p) =
+    count_with n limit p.1 (option_and_then count_in (after_name name p.0))
 
 abbrev pub count_line : List ℕ → ℕ → Rest → Result (ℕ × Rest) ImageRefusal
 count_line name limit r = count_from r.line name limit (taken r)
@@ -68,18 +74,21 @@ count_line name limit r = count_from r.line name limit (taken r)
 -- ---- the lines together
 
 -- goes on with what was read
-abbrev pub and_then : {A B : Type 0} → Result A ImageRefusal → (A → Result B ImageRefusal) → Result B ImageRefusal
+abbrev pub and_then : {A B : Type 0} → Result A ImageRefusal → (A → Result B ImageRefusal)
+    → Result B ImageRefusal
 and_then (Err e) go = Err e
 and_then (Ok a) go = go a
 
 -- the bytes of so many lines of one word each, the lowest byte of a word first
-abbrev pub put_before : List ℕ → Result (List ℕ × Rest) ImageRefusal → Result (List ℕ × Rest) ImageRefusal
+abbrev pub put_before : List ℕ → Result (List ℕ × Rest) ImageRefusal
+    → Result (List ℕ × Rest) ImageRefusal
 put_before bytes (Err e) = Err e
 put_before bytes (Ok p) = Ok (bytes ++ p.0, p.1)
 
 abbrev pub word_lines : ℕ → Rest → Result (List ℕ × Rest) ImageRefusal
 word_lines zero r = Ok ([], r)
-word_lines (suc n) r = and_then (word_line [] r) (λ p. put_before (to_le_bytes w32 p.0) (word_lines n p.1))
+word_lines (suc n) r =
+    and_then (word_line [] r) (λ p. put_before (to_le_bytes w32 p.0) (word_lines n p.1))
 
 -- a count, and so many words
 abbrev pub section : List ℕ → ℕ → Rest → Result (List ℕ × Rest) ImageRefusal
@@ -98,7 +107,14 @@ whole_with n image (Some p) = Err (refusal n BadLine)
 
 abbrev pub whole : List ℕ → List ℕ → Addresses → Rest → Result ImageValue ImageRefusal
 whole text ram a r =
-    whole_with r.line (record { text = text; data_bytes = ram; tohost = a.tohost; sig_begin = a.sig_begin; sig_end = a.sig_end; symbols = [] }) (taken r)
+    whole_with r.line (record {
+      text = text;
+      data_bytes = ram;
+      tohost = a.tohost;
+      sig_begin = a.sig_begin;
+      sig_end = a.sig_end;
+      symbols = [];
+    }) (taken r)
 
 -- the text has at most 4,194,304 words and the data at most 262,144
 unfoldable pub image_of_bytes : List ℕ → Result ImageValue ImageRefusal

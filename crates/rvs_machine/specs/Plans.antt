@@ -1,5 +1,6 @@
 -- What a step is going to do, before it is done.
-use Rattle.std.specs.Prelude.{◌≡◌, ◌≤◌, ◌⊎◌, ℕ, ◌+◌, ◌-◌, ◌%◌, ◌==◌, ◌&&◌, if◌then◌else◌, List, length, slice_set, Option, Some, None}
+use Rattle.std.specs.Prelude.{◌≡◌, ◌≤◌, ◌⊎◌, ℕ, ◌+◌, ◌-◌, ◌%◌, ◌==◌, ◌&&◌, if◌then◌else◌, List}
+use Rattle.std.specs.Prelude.{length, slice_set, Option, Some, None}
 use Rattle.rvs_machine.specs.declared.effect.Effect.{Effect}
 use Rattle.rvs_machine.specs.declared.effect.Effect.TheVariants.{Load, Store}
 use Rattle.rvs_machine.specs.declared.action.Action.{Action}
@@ -8,7 +9,8 @@ use Rattle.rvs_machine.specs.declared.event.Executed.{Executed}
 use Rattle.rvs_machine.specs.declared.event.Event.{Event}
 use Rattle.rvs_machine.specs.declared.event.Event.TheVariants.{Ran, Halted}
 use Rattle.rvs_machine.specs.declared.plan.Plan.{Plan}
-use Rattle.rvs_machine.specs.declared.plan.Plan.TheVariants.{Stop, Write as WriteRegister, Store as StoreData}
+use Rattle.rvs_machine.specs.declared.plan.Plan.TheVariants.{Stop, Write as WriteRegister}
+use Rattle.rvs_machine.specs.declared.plan.Plan.TheVariants.{Store as StoreData}
 use Rattle.rvs_machine.specs.Effects.{add32}
 use Rattle.rvs_machine.specs.Image.{data_base}
 use Rattle.rvs_machine.specs.Machine.{Setup, State, store_bytes, refused, commit_of}
@@ -27,7 +29,8 @@ IsSized _ = Unit {0}
 abbrev pub CanTake : List ℕ → Action → Type 0
 CanTake ram (Refuse kind) = Unit {0}
 CanTake ram (Go value next) = next % 4 ≡ 0
-CanTake ram (Keep size addr value) = IsSize size × (data_base ≤ addr) × (addr + size ≤ data_base + length ram)
+CanTake ram (Keep size addr value) =
+    IsSize size × (data_base ≤ addr) × (addr + size ≤ data_base + length ram)
 
 -- the plan of an action, for an instruction that has no commit yet
 abbrev pub plan_of : Executed → Option ℕ → Action → Plan
@@ -43,15 +46,22 @@ committed regs (Some w) = slice_set regs w.reg w.value
 -- what a plan does
 abbrev pub done_plan : Setup → State → Plan → Event × State
 done_plan setup s (Stop kind) = refused s kind
-done_plan setup s (WriteRegister e next) = (Ran e, record s { pc = next; regs = committed s.regs e.commit })
-done_plan setup s (StoreData e size addr value) =
-    ((if size == 4 && addr == setup.tohost && value == 1 then Halted e else Ran e), record s { pc = add32 s.pc 4; ram = store_bytes size s.ram (addr - data_base) value })
+done_plan setup s (WriteRegister e next) =
+    (Ran e, record s { pc = next; regs = committed s.regs e.commit })
+done_plan setup s (StoreData e size addr value) = (
+  (if size == 4 && addr == setup.tohost && value == 1 then Halted e else Ran e),
+  record s {
+    pc = add32 s.pc 4;
+    ram = store_bytes size s.ram (addr - data_base) value;
+  },
+)
 
 -- a plan that can be carried out
 abbrev pub CanDo : List ℕ → Plan → Type 0
 CanDo ram (Stop kind) = Unit {0}
 CanDo ram (WriteRegister e next) = next % 4 ≡ 0
-CanDo ram (StoreData e size addr value) = IsSize size × (data_base ≤ addr) × (addr + size ≤ data_base + length ram)
+CanDo ram (StoreData e size addr value) =
+    IsSize size × (data_base ≤ addr) × (addr + size ≤ data_base + length ram)
 
 -- the instruction that a plan executes
 abbrev pub executed_by : Plan → Option Executed

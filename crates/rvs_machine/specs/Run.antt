@@ -4,7 +4,8 @@ use Rattle.rvs_machine.specs.declared.event.Executed.{Executed}
 use Rattle.rvs_machine.specs.declared.event.Event.{Event}
 use Rattle.rvs_machine.specs.declared.event.Event.TheVariants.{Ran, Halted, Trapped}
 use Rattle.rvs_machine.specs.declared.event.End.{End}
-use Rattle.rvs_machine.specs.declared.event.End.TheVariants.{Halted as AtHalt, Trapped as AtTrap, StepLimit, NoMemory}
+use Rattle.rvs_machine.specs.declared.event.End.TheVariants.{Halted as AtHalt, Trapped as AtTrap}
+use Rattle.rvs_machine.specs.declared.event.End.TheVariants.{StepLimit, NoMemory}
 use Rattle.rvs_machine.specs.Machine.{Setup, State, Whole, step_of}
 
 -- what was executed, the state after it, and why the run ended
@@ -32,13 +33,15 @@ end_of_run NoMemory = StepLimit
 end_of_run e = e
 
 -- a call of `run` made this much of the run
-pub record HasRun (old new : Whole) (limit : ℕ) (before after : List Executed) (end : End) : Type 0 where
+pub record HasRun (old new : Whole) (limit : ℕ) (before after : List Executed) (end : End) : Type
+    0 where
   pub count : ℕ
   pub steps : List Executed
   pub bound : count ≤ limit
   pub whole : end ≢ NoMemory → count ≡ limit
   pub trace : after ≡ before ++ steps
-  pub run : run_of old.setup count old.state ≡ record { trace = steps; state = new.state; end = end_of_run end }
+  pub run : run_of old.setup count old.state
+      ≡ record { trace = steps; state = new.state; end = end_of_run end }
   pub same : new.setup ≡ old.setup
 
 -- one step into a trace, which ends the run or doesn't

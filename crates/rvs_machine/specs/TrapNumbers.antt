@@ -1,7 +1,9 @@
 -- The numbers of the kinds of traps.
 use Rattle.std.specs.Prelude.{ℕ}
 use Rattle.rvs_machine.specs.declared.event.TrapKind.{TrapKind}
-use Rattle.rvs_machine.specs.declared.event.TrapKind.TheVariants.{Illegal, MisalignedTarget, MisalignedAccess, AccessFault, Ecall, Ebreak}
+use Rattle.rvs_machine.specs.declared.event.TrapKind.TheVariants.{Illegal, MisalignedTarget}
+use Rattle.rvs_machine.specs.declared.event.TrapKind.TheVariants.{MisalignedAccess, AccessFault}
+use Rattle.rvs_machine.specs.declared.event.TrapKind.TheVariants.{Ecall, Ebreak}
 
 abbrev pub trap_number : TrapKind → ℕ
 trap_number (Illegal word) = 1

@@ -1,7 +1,8 @@
 // What each row of the table does.
 ghost use Rattle.std.specs.Prelude.{◌≡◌, ◌≤◌, ◌^◌, ◌/◌, ◌-◌, ◌*ℤ◌, unsigned_abs};
 ghost use Rattle.std.specs.Int.{w32, w64, cast_signed, cast_unsigned, int_shr};
-ghost use Rattle.rvs_machine.specs.Effects.{effect_of, shift_left, shift_right, shift_right_signed, div_signed, rem_signed, div_unsigned, rem_unsigned};
+ghost use Rattle.rvs_machine.specs.Effects.{effect_of, shift_left, shift_right, shift_right_signed};
+ghost use Rattle.rvs_machine.specs.Effects.{div_signed, rem_signed, div_unsigned, rem_unsigned};
 ghost use Rattle.rvs_machine.specs.Plans.{IsSized};
 
 use rvs_insn::Op;

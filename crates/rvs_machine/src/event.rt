@@ -5,7 +5,8 @@ ghost use Rattle.rvs_machine.specs.TrapNumbers.{trap_number};
 use rvs_base::Items;
 use std::marker::Model;
 
-/// A word written to a register. A step writes no other than x1 to x31; a line of a log may name x0.
+/// A word written to a register. A step writes no other than x1 to x31; a line of a log may name
+/// x0.
 #[derive(Debug, Clone, Copy, PartialEq, Eq)]
 pub struct Commit {
     /// The register, from 0 to 31.

@@ -1,6 +1,7 @@
 // Programs in memory.
 ghost use Rattle.std.specs.Prelude.{◌≡◌, ◌≤◌, ◌^◌};
-ghost use Rattle.rvs_machine.specs.Image.{ImageValue, is_text_length, is_tohost, is_signature, if_image};
+ghost use Rattle.rvs_machine.specs.Image.{ImageValue, is_text_length, is_tohost, is_signature};
+ghost use Rattle.rvs_machine.specs.Image.{if_image};
 
 use crate::symbol::Symbol;
 use rvs_base::{Bytes, Items};

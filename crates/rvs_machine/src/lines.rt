@@ -43,7 +43,8 @@ impl<'a> Lines<'a> {
 
     /// The next line, where one is left.
     pub(crate) fn take(&mut self) -> Option<&'a [u8]>
-        ensures { MatchOption result (taken self.old ≡ None) (λ line. taken self.old ≡ Some (line.now, self.new)) }
+        ensures { MatchOption result (taken self.old ≡ None)
+            (λ line. taken self.old ≡ Some (line.now, self.new)) }
     {
         if self.rest.is_empty() {
             return None;

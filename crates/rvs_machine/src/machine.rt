@@ -1,7 +1,8 @@
 // The machine and one step.
 ghost use Rattle.std.specs.Prelude.{◌≡◌, ◌≤◌, ◌^◌, length, IfOk, if◌then◌else◌};
 ghost use Rattle.rvs_insn.specs.Fields.{IsRegister};
-ghost use Rattle.rvs_machine.specs.Machine.{started, step_of, executed, read_reg, commit_of, signature_of};
+ghost use Rattle.rvs_machine.specs.Machine.{started, step_of, executed, read_reg, commit_of};
+ghost use Rattle.rvs_machine.specs.Machine.{signature_of};
 ghost use Rattle.rvs_machine.specs.Plans.{done_plan, plan_of, CanDo};
 
 use crate::action::{Action, checked_action};
@@ -87,7 +88,8 @@ impl Machine {
     /// Executes one instruction, or traps and changes nothing.
     pub fn step(&mut self) -> Event
         ensures event { result ≡ (step_of self.old.setup self.old.state).0 }
-        ensures state { self.new ≡ record self.old { state = (step_of self.old.setup self.old.state).1 } }
+        ensures state { self.new
+            ≡ record self.old { state = (step_of self.old.setup self.old.state).1 } }
     {
         let plan = self.plan();
         self.apply(plan)
@@ -96,7 +98,8 @@ impl Machine {
     /// What the next step does.
     #[tactic(auto, unfolding(crate::specs::Machine::step_of))]
     pub(crate) fn plan(&self) -> Plan
-        ensures step { step_of self.now.setup self.now.state ≡ done_plan self.now.setup self.now.state result }
+        ensures step { step_of self.now.setup self.now.state
+            ≡ done_plan self.now.setup self.now.state result }
         ensures can { CanDo self.now.state.ram result }
     {
         match fetch_word(self.text.as_slice(), self.pc) {
@@ -117,7 +120,8 @@ impl Machine {
     /// The same for the instruction that its word spells.
     #[tactic(auto, using(crate::proofs::Planned::planned_does))]
     fn plan_insn(&self, word: u32, insn: &Insn) -> Plan
-        ensures step { executed self.now.setup self.now.state word insn.now ≡ done_plan self.now.setup self.now.state result }
+        ensures step { executed self.now.setup self.now.state word insn.now
+            ≡ done_plan self.now.setup self.now.state result }
         ensures can { CanDo self.now.state.ram result }
     {
         let v1 = self.register(insn.rs1);
@@ -156,7 +160,8 @@ impl Machine {
     pub(crate) fn apply(&mut self, plan: Plan) -> Event
         requires { CanDo self.old.state.ram plan }
         ensures event { result ≡ (done_plan self.old.setup self.old.state plan).0 }
-        ensures state { self.new ≡ record self.old { state = (done_plan self.old.setup self.old.state plan).1 } }
+        ensures state { self.new
+            ≡ record self.old { state = (done_plan self.old.setup self.old.state plan).1 } }
     {
         match plan {
             Plan::Stop(kind) => Event::Trapped(Trap { pc: self.pc, kind }),

@@ -1,6 +1,8 @@
 // The image file.
 ghost use Rattle.std.specs.Prelude.{◌≡◌, ◌⊎◌, MatchOption, MatchResult, option_and_then};
-ghost use Rattle.rvs_machine.specs.ImageText.{word_in, count_in, after_name, no_memory, refusal, header, word_line, count_line, word_lines, section, address_lines, image_of_bytes, IsSaid};
+ghost use Rattle.rvs_machine.specs.ImageText.{word_in, count_in, after_name, no_memory, refusal};
+ghost use Rattle.rvs_machine.specs.ImageText.{header, word_line, count_line, word_lines, section};
+ghost use Rattle.rvs_machine.specs.ImageText.{address_lines, image_of_bytes, IsSaid};
 ghost use Rattle.rvs_machine.specs.ImageNumbers.{image_number};
 
 use crate::image::{DATA_LIMIT, Image, TEXT_LIMIT};
@@ -111,7 +113,8 @@ fn bad_line(line: u64) -> ImageRefusal
 }
 
 fn header(lines: &mut Lines<'_>) -> Result<(), ImageRefusal>
-    ensures { MatchResult result (λ _. header lines.old ≡ Ok lines.new) (λ e. header lines.old ≡ Err e) }
+    ensures { MatchResult result (λ _. header lines.old ≡ Ok lines.new)
+        (λ e. header lines.old ≡ Err e) }
 {
     let number = lines.number();
     match lines.take() {
@@ -133,7 +136,9 @@ fn section(
     name: &[u8],
     limit: u64,
 ) -> Result<Vec<u8>, ImageRefusal>
-    ensures { MatchResult result (λ bytes. section name.now limit lines.old ≡ Ok (bytes.items, lines.new)) (λ e. (e ≡ no_memory) ⊎ (section name.now limit lines.old ≡ Err e)) }
+    ensures { MatchResult result
+        (λ bytes. section name.now limit lines.old ≡ Ok (bytes.items, lines.new))
+        (λ e. (e ≡ no_memory) ⊎ (section name.now limit lines.old ≡ Err e)) }
 {
     let count = count_line(lines, name, limit)?;
     word_lines(alloc, lines, count)
@@ -142,7 +147,8 @@ fn section(
 /// So many lines of one word each, as bytes, the lowest of a word first.
 #[tactic(auto, using(crate::proofs::WordLines::words_go, crate::proofs::WordLines::words_stop))]
 fn word_lines(alloc: Global, lines: &mut Lines<'_>, count: u64) -> Result<Vec<u8>, ImageRefusal>
-    ensures { MatchResult result (λ bytes. word_lines count lines.old ≡ Ok (bytes.items, lines.new)) (λ e. (e ≡ no_memory) ⊎ (word_lines count lines.old ≡ Err e)) }
+    ensures { MatchResult result (λ bytes. word_lines count lines.old ≡ Ok (bytes.items, lines.new))
+        (λ e. (e ≡ no_memory) ⊎ (word_lines count lines.old ≡ Err e)) }
 {
     let mut bytes = Vec::new(alloc);
     for _ in 0..count {
@@ -153,7 +159,8 @@ fn word_lines(alloc: Global, lines: &mut Lines<'_>, count: u64) -> Result<Vec<u8
 }
 
 fn address_lines(lines: &mut Lines<'_>) -> Result<Addresses, ImageRefusal>
-    ensures { MatchResult result (λ a. address_lines lines.old ≡ Ok (a, lines.new)) (λ e. address_lines lines.old ≡ Err e) }
+    ensures { MatchResult result (λ a. address_lines lines.old ≡ Ok (a, lines.new))
+        (λ e. address_lines lines.old ≡ Err e) }
 {
     let tohost = word_line(lines, b"tohost ")?;
     let sig_begin = word_line(lines, b"begin ")?;
@@ -167,7 +174,9 @@ fn address_lines(lines: &mut Lines<'_>) -> Result<Addresses, ImageRefusal>
 
 /// A line of a name and a count.
 fn count_line(lines: &mut Lines<'_>, name: &[u8], limit: u64) -> Result<u64, ImageRefusal>
-    ensures { MatchResult result (λ count. count_line name.now limit lines.old ≡ Ok (count, lines.new)) (λ e. count_line name.now limit lines.old ≡ Err e) }
+    ensures { MatchResult result
+        (λ count. count_line name.now limit lines.old ≡ Ok (count, lines.new))
+        (λ e. count_line name.now limit lines.old ≡ Err e) }
 {
     let number = lines.number();
     match lines.take() {
@@ -190,7 +199,8 @@ fn count_line(lines: &mut Lines<'_>, name: &[u8], limit: u64) -> Result<u64, Ima
 
 /// A line of a name and a word.
 fn word_line(lines: &mut Lines<'_>, name: &[u8]) -> Result<u32, ImageRefusal>
-    ensures { MatchResult result (λ word. word_line name.now lines.old ≡ Ok (word, lines.new)) (λ e. word_line name.now lines.old ≡ Err e) }
+    ensures { MatchResult result (λ word. word_line name.now lines.old ≡ Ok (word, lines.new))
+        (λ e. word_line name.now lines.old ≡ Err e) }
 {
     let number = lines.number();
     match lines.take() {
@@ -232,7 +242,8 @@ fn word_after(name: &[u8], line: &[u8]) -> Option<u32>
 }
 
 fn after_name<'a>(name: &[u8], line: &'a [u8]) -> Option<&'a [u8]>
-    ensures { MatchOption result (after_name name.now line.now ≡ None) (λ text. after_name name.now line.now ≡ Some text.now) }
+    ensures { MatchOption result (after_name name.now line.now ≡ None)
+        (λ text. after_name name.now line.now ≡ Some text.now) }
 {
     if line.starts_with(name) {
         Some(&line[name.len()..])

@@ -1,5 +1,7 @@
 -- The answer for lines of which each front has a tree, and for lines of rows.
-use Rattle.std.proofs.Common.{◌≡◌, ℕ, zero, suc, ◌*◌, ◌≤◌, Bool, true, false, List, [], ◌∷◌, ◌++◌, length, refl, sym, ap, subst, ◌∙◌, arith, append_assoc, append-nil, Ok}
+use Rattle.std.proofs.Common.{◌≡◌, ℕ, zero, suc, ◌*◌, ◌≤◌, Bool, true, false, List, [], ◌∷◌, ◌++◌}
+use Rattle.std.proofs.Common.{length, refl, sym, ap, subst, ◌∙◌, arith, append_assoc, append-nil}
+use Rattle.std.proofs.Common.{Ok}
 use Rattle.std.specs.Prelude.{◌||◌, map, take, nat_lt, not}
 use Rattle.std.proofs.lemmas.Bool.Decides.{nat_tests}
 use Rattle.rvs_tree.specs.Data.{Data, depth}
@@ -12,9 +14,11 @@ use Rattle.rvs_yaml.specs.Answer.{within_limits, front, at_end, answer_after, an
 use Rattle.rvs_normal.proofs.Lines.{fed, AreInked, lines-fed}
 use Rattle.rvs_normal.proofs.Rows.{Row, row_text, row_words, row-inked, line-words}
 use Rattle.rvs_normal.proofs.Columns.{Col, words}
-use Rattle.rvs_normal.proofs.Placed.{AreRows, rows_words, no-words, lines, cols, row_cols, words-by-columns}
+use Rattle.rvs_normal.proofs.Placed.{AreRows, rows_words, no-words, lines, cols, row_cols}
+use Rattle.rvs_normal.proofs.Placed.{words-by-columns}
 use Rattle.rvs_normal.proofs.Apart.{Distinct}
-use Rattle.rvs_normal.proofs.Trees.{Group, all_cols, AreGroups, group_names, HasGroups, groups_cost, groups-block, groups-within}
+use Rattle.rvs_normal.proofs.Trees.{Group, all_cols, AreGroups, group_names, HasGroups, groups_cost}
+use Rattle.rvs_normal.proofs.Trees.{groups-block, groups-within}
 use Rattle.rvs_normal.proofs.Cuts.{cut_groups, groups-cut, groups-distinct, are-groups, groups-cost}
 
 take-none : {X : Type 0} (xs : List X) → take 0 xs ≡ []
@@ -28,11 +32,15 @@ take-nil (suc n) = refl
 -- ---- from fronts to the answer
 answered : (done ls : List (List ℕ)) (tree : Data) → ((m : ℕ) → HasTree (done ++ take m ls))
     → front (done ++ ls) ≡ Ok tree → answer_after done ls ≡ Ok tree
-answered done [] tree trees whole = ap (at_end (length done)) (ap front (sym (append-nil done)) ∙ whole)
+answered done [] tree trees whole =
+    ap (at_end (length done)) (ap front (sym (append-nil done)) ∙ whole)
 answered done (l ∷ ls) tree trees whole =
-    let first : HasTree (done ++ (l ∷ [])) = subst (λ xs. HasTree (done ++ (l ∷ xs))) (take-none ls) (trees 1) in
+    let first : HasTree (done ++ (l ∷ [])) =
+    subst (λ xs. HasTree (done ++ (l ∷ xs))) (take-none ls) (trees 1) in
     rw (first.1, answer_after)
-    (answered (done ++ (l ∷ [])) ls tree (λ m. subst HasTree (sym (append_assoc done (l ∷ []) (take m ls))) (trees (suc m))) (ap front (append_assoc done (l ∷ []) ls) ∙ whole))
+    (answered (done ++ (l ∷ [])) ls tree
+    (λ m. subst HasTree (sym (append_assoc done (l ∷ []) (take m ls))) (trees (suc m)))
+    (ap front (append_assoc done (l ∷ []) ls) ∙ whole))
 
 -- ---- the tree of rows, and of rows with an empty line behind them
 abbrev pub IsTail : List (List ℕ) → Type 0
@@ -48,8 +56,11 @@ words-of : (n : ℕ) (started : Bool) (rs : List Row) (tail : List (List ℕ)) �
     → IsTail tail → words_of n started (map row_text rs ++ tail) ≡ rows_words n rs
 words-of n started [] tail good is = is n started
 words-of n started (r ∷ rs) tail good is =
-    ap (λ ws. ws ++ words_of (suc n) (started || not (is_blank true (row_text r))) (map row_text rs ++ tail)) (line-words n started r good.0)
-    ∙ ap (λ ws. row_words n r ++ ws) (words-of (suc n) (started || not (is_blank true (row_text r))) rs tail good.1 is)
+    ap (λ ws. ws
+    ++ words_of (suc n) (started || not (is_blank true (row_text r))) (map row_text rs ++ tail))
+    (line-words n started r good.0)
+    ∙ ap (λ ws. row_words n r ++ ws)
+    (words-of (suc n) (started || not (is_blank true (row_text r))) rs tail good.1 is)
 
 small-enough : (v : Value) → 64 * v.nodes ≤ 32000000 → depth v.tree ≤ 4 → within_limits v ≡ Ok tt
 small-enough v n d =
@@ -69,11 +80,14 @@ tree-of-rows rs gs tail good is same apart ok few =
     let b = groups-block gs apart ok [] 1 (lines 1 rs) in
     let w = groups-within gs b.0 b.2 in
     let read : tree_of (words_of 1 false (map row_text rs ++ tail)) ≡ Ok b.0 =
-    ap tree_of (words-of 1 false rs tail good is ∙ words-by-columns 1 rs ∙ ap (words (lines 1 rs)) same) ∙ ap (λ f. f >>= (λ g. Ok g.value)) b.1 in
+    ap tree_of
+    (words-of 1 false rs tail good is ∙ words-by-columns 1 rs ∙ ap (words (lines 1 rs)) same)
+    ∙ ap (λ f. f >>= (λ g. Ok g.value)) b.1 in
     let small = small-enough b.0 (omega (arith, w.nodes, few)) w.depth in
     record {
       value = b.0;
-      is = ap (λ r. r >>= (λ v. within_limits v >> Ok v.tree)) read ∙ ap (λ u. u >> Ok b.0.tree) small;
+      is = ap (λ r. r >>= (λ v. within_limits v >> Ok v.tree)) read
+          ∙ ap (λ u. u >> Ok b.0.tree) small;
       has = b.2;
     }
 
@@ -102,7 +116,8 @@ cols-take : (n : ℕ) (rs : List Row) → cols (take n rs) ≡ take (count n rs)
 cols-take zero [] = refl
 cols-take zero (r ∷ rs) = sym (take-none (cols (r ∷ rs)))
 cols-take (suc n) [] = refl
-cols-take (suc n) (r ∷ rs) = ap (λ cs. row_cols r ++ cs) (cols-take n rs) ∙ sym (take-behind (row_cols r) (cols rs) (count n rs))
+cols-take (suc n) (r ∷ rs) = ap (λ cs. row_cols r ++ cs) (cols-take n rs)
+    ∙ sym (take-behind (row_cols r) (cols rs) (count n rs))
 
 line-fronts : (P : List (List ℕ) → Type 0) (m : ℕ) (rs : List Row)
     → ((k : ℕ) → P (map row_text (take k rs))) → P (map row_text rs ++ ([] ∷ []))
@@ -117,7 +132,9 @@ front-tree : (k : ℕ) (rs : List Row) (gs : List Group) → AreRows rs → cols
     → HasTree (map row_text (take k rs))
 front-tree k rs gs good same apart ok few =
     let n = count k rs in
-    let t = tree-of-rows (take k rs) (cut_groups n gs) [] (are-rows-take k rs good) no-tail (cols-take k rs ∙ ap (take n) same ∙ groups-cut n gs) (groups-distinct n gs apart) (are-groups n gs ok) (omega (arith, groups-cost n gs, few)) in
+    let t = tree-of-rows (take k rs) (cut_groups n gs) [] (are-rows-take k rs good) no-tail
+    (cols-take k rs ∙ ap (take n) same ∙ groups-cut n gs) (groups-distinct n gs apart)
+    (are-groups n gs ok) (omega (arith, groups-cost n gs, few)) in
     (t.value.tree, ap front (sym (append-nil (map row_text (take k rs)))) ∙ t.is)
 
 inked-rows : (rs : List Row) → AreRows rs → AreInked (map row_text rs)
@@ -138,6 +155,7 @@ rows-answered rs gs good same apart ok few =
     record {
       value = t.value;
       is = ap (answer_after []) (lines-fed (map row_text rs) (inked-rows rs good))
-          ∙ answered [] (map row_text rs ++ ([] ∷ [])) t.value.tree (λ m. line-fronts HasTree m rs (λ k. front-tree k rs gs good same apart ok few) (t.value.tree, t.is)) t.is;
+          ∙ answered [] (map row_text rs ++ ([] ∷ [])) t.value.tree (λ m. line-fronts HasTree m rs
+          (λ k. front-tree k rs gs good same apart ok few) (t.value.tree, t.is)) t.is;
       has = t.has;
     }

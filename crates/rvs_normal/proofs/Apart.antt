@@ -1,5 +1,6 @@
 -- Keys and names that differ.
-use Rattle.std.proofs.Common.{◌≡◌, ℕ, Bool, true, false, List, [], ◌∷◌, ◌++◌, refl, sym, subst, ◌∙◌, true≢false}
+use Rattle.std.proofs.Common.{◌≡◌, ℕ, Bool, true, false, List, [], ◌∷◌, ◌++◌, refl, sym, subst, ◌∙◌}
+use Rattle.std.proofs.Common.{true≢false}
 use Rattle.std.specs.Prelude.{not, map, bytes_eq}
 use Rattle.std.specs.List.{list_any}
 use Rattle.std.proofs.lemmas.List.Folds.{list_any-append}
@@ -7,7 +8,8 @@ use Rattle.std.proofs.lemmas.Slice.Eq.{bytes_eq-Decides}
 use Rattle.rvs_tree.specs.Value.{has_key}
 use Rattle.rvs_cgf.specs.Groups.{Point, Label, same_kind, is_point, has}
 use Rattle.rvs_cgf.specs.declared.group.Kind.{Kind}
-use Rattle.rvs_cgf.specs.declared.group.Kind.TheVariants.{Mnemonic, Rs1, Rs2, Rd, OpComb, ValComb, CrossComb}
+use Rattle.rvs_cgf.specs.declared.group.Kind.TheVariants.{Mnemonic, Rs1, Rs2, Rd, OpComb, ValComb}
+use Rattle.rvs_cgf.specs.declared.group.Kind.TheVariants.{CrossComb}
 use Rattle.rvs_cgf.specs.Print.{kind_name}
 use Rattle.rvs_cgf.specs.Spelled.{Block, joined, blocks, kinds_are_apart}
 use Rattle.rvs_cgf.specs.Valid.{are_distinct}
@@ -37,7 +39,8 @@ one-more seen k (m ∷ ms) f d = (list_any-append (λ l. bytes_eq l m) seen (k �
 
 free-from : (seen ks : List (List ℕ)) → FreeOf seen ks → Distinct ks → AreFree seen ks
 free-from seen [] f d = tt
-free-from seen (k ∷ ks) f d = (f.0, free-from (seen ++ (k ∷ [])) ks (one-more seen k ks f.1 d.0) d.1)
+free-from seen (k ∷ ks) f d =
+    (f.0, free-from (seen ++ (k ∷ [])) ks (one-more seen k ks f.1 d.0) d.1)
 
 free-of-one : (k : List ℕ) (ks : List (List ℕ)) → Differs k ks → FreeOf (k ∷ []) ks
 free-of-one k [] d = tt
@@ -158,7 +161,8 @@ eq-back a b h = by-case (bytes_eq b a) refl
   where
     by-case : (s : Bool) → bytes_eq b a ≡ s → bytes_eq b a ≡ false
     by-case false e = e
-    by-case true e = absurd (true≢false (sym ((bytes_eq-Decides a b).1 (sym ((bytes_eq-Decides b a).0 e))) ∙ h))
+    by-case true e =
+        absurd (true≢false (sym ((bytes_eq-Decides a b).1 (sym ((bytes_eq-Decides b a).0 e))) ∙ h))
 
 -- ---- keys of blocks
 abbrev pub NotHas : Kind → List ℕ → List Block → Type 0
@@ -175,13 +179,15 @@ joined-not-has k key q [] h n = (λ s. (other-key k key q h s, tt), tt)
 joined-not-has k key q (b ∷ bs) h n = by-case (same_kind b.kind q.kind) refl
   where
     by-case : (s : Bool) → same_kind b.kind q.kind ≡ s → NotHas k key (joined q (b ∷ bs))
-    by-case true e = rw (e, joined) (λ s. (other-key k key q h s, n.0 (kind-through b.kind q.kind k e s)), n.1)
+    by-case true e =
+        rw (e, joined) (λ s. (other-key k key q h s, n.0 (kind-through b.kind q.kind k e s)), n.1)
     by-case false e = rw (e, joined) (λ s. (other-key k key q h s, tt), n)
 
 not-has : (k : Kind) (key : List ℕ) (ps : List Point) → has k key ps ≡ false
     → NotHas k key (blocks ps)
 not-has k key [] h = tt
-not-has k key (q ∷ qs) h = let p = or-both (is_point k key q) (has k key qs) h in joined-not-has k key q (blocks qs) p.0 (not-has k key qs p.1)
+not-has k key (q ∷ qs) h = let p = or-both (is_point k key q) (has k key qs) h in
+    joined-not-has k key q (blocks qs) p.0 (not-has k key qs p.1)
 
 abbrev pub AllDistinct : List Block → Type 0
 AllDistinct [] = Unit {0}
@@ -200,7 +206,8 @@ pub distinct-blocks : (ps : List Point) → are_distinct ps ≡ true → AllDist
 distinct-blocks [] h = tt
 distinct-blocks (p ∷ ps) h =
     let q = both (not (has p.kind p.key ps)) (are_distinct ps) h in
-    joined-distinct p (blocks ps) (not-has p.kind p.key ps (not-true (has p.kind p.key ps) q.0)) (distinct-blocks ps q.1)
+    joined-distinct p (blocks ps) (not-has p.kind p.key ps (not-true (has p.kind p.key ps) q.0))
+    (distinct-blocks ps q.1)
 
 -- ---- names of nodes
 other-names : (b : Block) (bs : List Block) → list_any (λ c. same_kind c.kind b.kind) bs ≡ false

@@ -1,5 +1,6 @@
 -- Words by their columns and shapes, on any lines.
-use Rattle.std.proofs.Common.{◌≡◌, ℕ, Bool, true, false, List, [], ◌∷◌, ◌++◌, refl, ap, ◌∙◌, arith, None}
+use Rattle.std.proofs.Common.{◌≡◌, ℕ, Bool, true, false, List, [], ◌∷◌, ◌++◌, refl, ap, ◌∙◌, arith}
+use Rattle.std.proofs.Common.{None}
 use Rattle.std.specs.Prelude.{◌&&◌, ◌||◌, ◌==◌, nat_lt}
 use Rattle.std.proofs.lemmas.Bool.Decides.{nat_tests}
 use Rattle.rvs_yaml_text.specs.Word.{Shape, key, nothing, text, Word, head_of, sort_of, is_bare_key}
@@ -32,7 +33,8 @@ behind (c ∷ cs) ns = behind cs (others ns)
 pub words-append : (ns : List ℕ) (xs ys : List Col)
     → words ns (xs ++ ys) ≡ words ns xs ++ words (behind xs ns) ys
 words-append ns [] ys = refl
-words-append ns (x ∷ xs) ys = ap (λ ws. word_at (first ns) x.0 x.1 ∷ ws) (words-append (others ns) xs ys)
+words-append ns (x ∷ xs) ys =
+    ap (λ ws. word_at (first ns) x.0 x.1 ∷ ws) (words-append (others ns) xs ys)
 
 -- ---- parts: a key with nothing behind it, and the words below it
 pub record Part : Type 0 where
@@ -67,12 +69,14 @@ no-dash true q r e = cc
 stops-deeper : (l c : ℕ) (x : Col) (ns : List ℕ) (ps : List Part) → nat_lt c x.0 ≡ true
     → Stops (head_of (word_at l x.0 x.1)) (outline (words ns (parts_cols c ps)))
 stops-deeper l c x ns [] d = tt
-stops-deeper l c x ns (p ∷ ps) d = no-dash (nat_lt x.0 c) (is_bare_key (sort_of x.1)) (x.0 == c) (not-lt c x.0 d)
+stops-deeper l c x ns (p ∷ ps) d =
+    no-dash (nat_lt x.0 c) (is_bare_key (sort_of x.1)) (x.0 == c) (not-lt c x.0 d)
 
 all-stop : (c : ℕ) (ms ns : List ℕ) (xs : List Col) (ps : List Part) → IsDeeper c xs
     → AllStop (words ms xs) (outline (words ns (parts_cols c ps)))
 all-stop c ms ns [] ps d = tt
-all-stop c ms ns (x ∷ xs) ps d = (stops-deeper (first ms) c x ns ps d.0, all-stop c (others ms) ns xs ps d.1)
+all-stop c ms ns (x ∷ xs) ps d =
+    (stops-deeper (first ms) c x ns ps d.0, all-stop c (others ms) ns xs ps d.1)
 
 same-column : (c : ℕ) → nat_lt c c ≡ false
 same-column c = grind (arith, nat_tests)
@@ -83,10 +87,15 @@ stops-next l c name ns [] = tt
 stops-next l c name ns (p ∷ ps) = no-dash (nat_lt c c) true (c == c) (same-column c)
 
 pub outline-parts : (c : ℕ) (ns : List ℕ) (p : Part) (ps : List Part) → IsDeeper c p.inner
-    → outline (words ns (parts_cols c (p ∷ ps))) ≡ below (word_at (first ns) c (key (key_name p.name) None nothing)) (outline (words (others ns) p.inner)) (outline (words (behind p.inner (others ns)) (parts_cols c ps)))
+    → outline (words ns (parts_cols c (p ∷ ps))) ≡ below
+    (word_at (first ns) c (key (key_name p.name) None nothing))
+    (outline (words (others ns) p.inner))
+    (outline (words (behind p.inner (others ns)) (parts_cols c ps)))
 outline-parts c ns p ps d =
-    ap (λ ws. outline (word_at (first ns) c (key (key_name p.name) None nothing) ∷ ws)) (words-append (others ns) p.inner (parts_cols c ps))
-    ∙ section (word_at (first ns) c (key (key_name p.name) None nothing)) (words (others ns) p.inner) (words (behind p.inner (others ns)) (parts_cols c ps))
+    ap (λ ws. outline (word_at (first ns) c (key (key_name p.name) None nothing) ∷ ws))
+    (words-append (others ns) p.inner (parts_cols c ps))
+    ∙ section (word_at (first ns) c (key (key_name p.name) None nothing))
+    (words (others ns) p.inner) (words (behind p.inner (others ns)) (parts_cols c ps))
     (deeper-below (first ns) c p.name (others ns) p.inner d)
     (stops-next (first ns) c p.name (behind p.inner (others ns)) ps)
     (all-stop c (others ns) (behind p.inner (others ns)) p.inner ps d)
@@ -105,5 +114,8 @@ stops-point l c t k ns [] = tt
 stops-point l c t k ns (m ∷ ks) = no-dash (nat_lt c c) false (c == c) (same-column c)
 
 pub outline-points : (c : ℕ) (t : List ℕ) (ns : List ℕ) (k : List ℕ) (ks : List (List ℕ))
-    → outline (words ns (points_cols c t (k ∷ ks))) ≡ below (word_at (first ns) c (key (quoted_name k) None (text t))) end (outline (words (others ns) (points_cols c t ks)))
-outline-points c t ns k ks = section (word_at (first ns) c (key (quoted_name k) None (text t))) [] (words (others ns) (points_cols c t ks)) tt (stops-point (first ns) c t k (others ns) ks) tt
+    → outline (words ns (points_cols c t (k ∷ ks))) ≡ below
+    (word_at (first ns) c (key (quoted_name k) None (text t))) end
+    (outline (words (others ns) (points_cols c t ks)))
+outline-points c t ns k ks = section (word_at (first ns) c (key (quoted_name k) None (text t))) []
+    (words (others ns) (points_cols c t ks)) tt (stops-point (first ns) c t k (others ns) ks) tt

@@ -1,9 +1,12 @@
 -- Fronts of maps of maps of maps.
-use Rattle.std.proofs.Common.{◌≡◌, ℕ, zero, suc, ◌≤◌, List, [], ◌∷◌, ◌++◌, refl, sym, ap, ◌∙◌, arith, append_assoc}
+use Rattle.std.proofs.Common.{◌≡◌, ℕ, zero, suc, ◌≤◌, List, [], ◌∷◌, ◌++◌, refl, sym, ap, ◌∙◌}
+use Rattle.std.proofs.Common.{arith, append_assoc}
 use Rattle.std.specs.Prelude.{map, take}
 use Rattle.rvs_normal.proofs.Columns.{Col, opener, parts_cols, point_col, points_cols}
 use Rattle.rvs_normal.proofs.Apart.{Differs, Distinct}
-use Rattle.rvs_normal.proofs.Trees.{Node, Group, zero_text, node_part, all_cols, AreNodes, AreGroups, node_names, group_names, keys_cost, nodes_cost, groups_cost}
+use Rattle.rvs_normal.proofs.Trees.{Node, Group, zero_text, node_part, all_cols, AreNodes}
+use Rattle.rvs_normal.proofs.Trees.{AreGroups, node_names, group_names, keys_cost, nodes_cost}
+use Rattle.rvs_normal.proofs.Trees.{groups_cost}
 
 -- the front of so many words, and how many words are left for what is behind
 abbrev pub left : ℕ → List (List ℕ) → ℕ
@@ -14,7 +17,8 @@ left (suc n) (k ∷ ks) = left n ks
 abbrev pub cut_nodes : ℕ → List Node → List Node
 cut_nodes n [] = []
 cut_nodes zero (x ∷ xs) = []
-cut_nodes (suc n) (x ∷ xs) = record { name = x.name; keys = take n x.keys } ∷ cut_nodes (left n x.keys) xs
+cut_nodes (suc n) (x ∷ xs) =
+    record { name = x.name; keys = take n x.keys } ∷ cut_nodes (left n x.keys) xs
 
 abbrev pub left_nodes : ℕ → List Node → ℕ
 left_nodes n [] = n
@@ -24,21 +28,24 @@ left_nodes (suc n) (x ∷ xs) = left_nodes (left n x.keys) xs
 abbrev pub cut_groups : ℕ → List Group → List Group
 cut_groups n [] = []
 cut_groups zero (g ∷ gs) = []
-cut_groups (suc n) (g ∷ gs) = record { name = g.name; nodes = cut_nodes n g.nodes } ∷ cut_groups (left_nodes n g.nodes) gs
+cut_groups (suc n) (g ∷ gs) =
+    record { name = g.name; nodes = cut_nodes n g.nodes } ∷ cut_groups (left_nodes n g.nodes) gs
 
 take-none : (xs : List Col) → take 0 xs ≡ []
 take-none [] = refl
 take-none (x ∷ xs) = refl
 
 keys-cut : (n : ℕ) (ks : List (List ℕ)) (rest : List Col)
-    → take n (points_cols 4 zero_text ks ++ rest) ≡ points_cols 4 zero_text (take n ks) ++ take (left n ks) rest
+    → take n (points_cols 4 zero_text ks ++ rest)
+    ≡ points_cols 4 zero_text (take n ks) ++ take (left n ks) rest
 keys-cut zero [] rest = refl
 keys-cut (suc n) [] rest = refl
 keys-cut zero (k ∷ ks) rest = sym (take-none rest)
 keys-cut (suc n) (k ∷ ks) rest = ap (λ cs. point_col 4 zero_text k ∷ cs) (keys-cut n ks rest)
 
 nodes-cut : (n : ℕ) (xs : List Node) (rest : List Col)
-    → take n (parts_cols 2 (map node_part xs) ++ rest) ≡ parts_cols 2 (map node_part (cut_nodes n xs)) ++ take (left_nodes n xs) rest
+    → take n (parts_cols 2 (map node_part xs) ++ rest)
+    ≡ parts_cols 2 (map node_part (cut_nodes n xs)) ++ take (left_nodes n xs) rest
 nodes-cut zero [] rest = refl
 nodes-cut (suc n) [] rest = refl
 nodes-cut zero (x ∷ xs) rest = sym (take-none rest)
@@ -47,7 +54,9 @@ nodes-cut (suc n) (x ∷ xs) rest =
     (ap (take n) (append_assoc (points_cols 4 zero_text x.keys) (parts_cols 2 (map node_part xs)) rest)
     ∙ keys-cut n x.keys (parts_cols 2 (map node_part xs) ++ rest)
     ∙ ap (λ cs. points_cols 4 zero_text (take n x.keys) ++ cs) (nodes-cut (left n x.keys) xs rest)
-    ∙ sym (append_assoc (points_cols 4 zero_text (take n x.keys)) (parts_cols 2 (map node_part (cut_nodes (left n x.keys) xs))) (take (left_nodes (left n x.keys) xs) rest)))
+    ∙ sym (append_assoc (points_cols 4 zero_text (take n x.keys))
+    (parts_cols 2 (map node_part (cut_nodes (left n x.keys) xs)))
+    (take (left_nodes (left n x.keys) xs) rest)))
 
 pub groups-cut : (n : ℕ) (gs : List Group) → take n (all_cols gs) ≡ all_cols (cut_groups n gs)
 groups-cut zero [] = refl
@@ -55,7 +64,9 @@ groups-cut (suc n) [] = refl
 groups-cut zero (g ∷ gs) = refl
 groups-cut (suc n) (g ∷ gs) =
     ap (λ cs. opener 0 g.name ∷ cs)
-    (nodes-cut n g.nodes (all_cols gs) ∙ ap (λ cs. parts_cols 2 (map node_part (cut_nodes n g.nodes)) ++ cs) (groups-cut (left_nodes n g.nodes) gs))
+    (nodes-cut n g.nodes (all_cols gs) ∙ ap
+    (λ cs. parts_cols 2 (map node_part (cut_nodes n g.nodes)) ++ cs)
+    (groups-cut (left_nodes n g.nodes) gs))
 
 -- ---- what holds of the whole holds of its fronts
 differs-take : (n : ℕ) (k : List ℕ) (ks : List (List ℕ)) → Differs k ks → Differs k (take n ks)
@@ -82,7 +93,8 @@ nodes-distinct : (n : ℕ) (xs : List Node) → Distinct (node_names xs)
 nodes-distinct zero [] d = tt
 nodes-distinct (suc n) [] d = tt
 nodes-distinct zero (x ∷ xs) d = tt
-nodes-distinct (suc n) (x ∷ xs) d = (nodes-differ (left n x.keys) x.name xs d.0, nodes-distinct (left n x.keys) xs d.1)
+nodes-distinct (suc n) (x ∷ xs) d =
+    (nodes-differ (left n x.keys) x.name xs d.0, nodes-distinct (left n x.keys) xs d.1)
 
 are-nodes : (n : ℕ) (xs : List Node) → AreNodes xs → AreNodes (cut_nodes n xs)
 are-nodes zero [] a = tt
@@ -127,4 +139,5 @@ pub groups-cost : (n : ℕ) (gs : List Group) → groups_cost (cut_groups n gs) 
 groups-cost zero [] = omega arith
 groups-cost (suc n) [] = omega arith
 groups-cost zero (g ∷ gs) = omega arith
-groups-cost (suc n) (g ∷ gs) = omega (arith, cut-cost n g.nodes, groups-cost (left_nodes n g.nodes) gs)
+groups-cost (suc n) (g ∷ gs) =
+    omega (arith, cut-cost n g.nodes, groups-cost (left_nodes n g.nodes) gs)

@@ -1,11 +1,15 @@
 -- Each map of an accepted text has each of its keys once.
-use Rattle.std.proofs.Common.{◌≡◌, ℕ, Bool, true, false, List, [], ◌∷◌, ◌++◌, refl, sym, ap, subst, ◌∙◌, append_assoc, append-nil}
+use Rattle.std.proofs.Common.{◌≡◌, ℕ, Bool, true, false, List, [], ◌∷◌, ◌++◌, refl, sym, ap, subst}
+use Rattle.std.proofs.Common.{◌∙◌, append_assoc, append-nil}
 use Rattle.std.specs.Prelude.{◌||◌, not, bytes_eq}
 use Rattle.std.specs.List.{list_any}
 use mathlib.Core.Bool.{cond}
 use Rattle.std.proofs.lemmas.List.Folds.{list_any-append}
-use Rattle.rvs_tree.specs.Data.{Data, scalar, sequence, mapping, Items, no_items, item, items_of, list_of, Entries, no_entries, entry, entries_of, pairs_of, Pairs, own_pairs}
-use Rattle.rvs_tree.specs.Value.{Value, list_value, map_value, trees, Written, has_key, pairs_in, merged_pairs, keys_of, added, own_key, explicit_keys, resolved}
+use Rattle.rvs_tree.specs.Data.{Data, scalar, sequence, mapping, Items, no_items, item, items_of}
+use Rattle.rvs_tree.specs.Data.{list_of, Entries, no_entries, entry, entries_of, pairs_of, Pairs}
+use Rattle.rvs_tree.specs.Data.{own_pairs}
+use Rattle.rvs_tree.specs.Value.{Value, list_value, map_value, trees, Written, has_key, pairs_in}
+use Rattle.rvs_tree.specs.Value.{merged_pairs, keys_of, added, own_key, explicit_keys, resolved}
 use Rattle.rvs_yaml_text.specs.Word.{Key}
 use Rattle.rvs_yaml.specs.Entry.{written}
 use Rattle.rvs_cgf.specs.Spelled.{keys_are_own}
@@ -38,7 +42,8 @@ pairs-append (p ∷ ps) qs h k = (h.0, pairs-append ps qs h.1 k)
 
 pairs-in-owned : (is : Items) → ItemsOnce is → PairsOwned (pairs_in (list_of is))
 pairs-in-owned no_items h = tt
-pairs-in-owned (item d ds) h = pairs-append (own_pairs d) (pairs_in (list_of ds)) (own-pairs-owned d h.0) (pairs-in-owned ds h.1)
+pairs-in-owned (item d ds) h = pairs-append (own_pairs d) (pairs_in (list_of ds))
+    (own-pairs-owned d h.0) (pairs-in-owned ds h.1)
 
 merged-owned : (d : Data) → KeysOnce d → PairsOwned (merged_pairs d)
 merged-owned (scalar t l) h = tt
@@ -60,7 +65,9 @@ keys-append (p ∷ ps) qs = ap (λ ks. p.0 ∷ ks) (keys-append ps qs)
 
 has-pushed : (k : List ℕ) (ps : Pairs) (p : List ℕ × Data) → has_key k (keys_of ps) ≡ false
     → bytes_eq p.0 k ≡ false → has_key k (keys_of (ps ++ (p ∷ []))) ≡ false
-has-pushed k ps p h e = ap (has_key k) (keys-append ps (p ∷ [])) ∙ list_any-append (λ l. bytes_eq l k) (keys_of ps) (p.0 ∷ []) ∙ or-last (has_key k (keys_of ps)) (bytes_eq p.0 k) h e
+has-pushed k ps p h e = ap (has_key k) (keys-append ps (p ∷ []))
+    ∙ list_any-append (λ l. bytes_eq l k) (keys_of ps) (p.0 ∷ [])
+    ∙ or-last (has_key k (keys_of ps)) (bytes_eq p.0 k) h e
 
 same-has : (k : List ℕ) (ps : Pairs) → list_any (λ f. bytes_eq f.0 k) ps ≡ has_key k (keys_of ps)
 same-has k [] = refl
@@ -69,7 +76,8 @@ same-has k (p ∷ ps) = ap (λ b. bytes_eq p.0 k || b) (same-has k ps)
 any-pushed : (k : List ℕ) (ps : Pairs) (p : List ℕ × Data)
     → list_any (λ f. bytes_eq f.0 k) ps ≡ false → bytes_eq p.0 k ≡ false
     → list_any (λ f. bytes_eq f.0 k) (ps ++ (p ∷ [])) ≡ false
-any-pushed k ps p h e = list_any-append (λ f. bytes_eq f.0 k) ps (p ∷ []) ∙ or-last (list_any (λ f. bytes_eq f.0 k) ps) (bytes_eq p.0 k) h e
+any-pushed k ps p h e = list_any-append (λ f. bytes_eq f.0 k) ps (p ∷ [])
+    ∙ or-last (list_any (λ f. bytes_eq f.0 k) ps) (bytes_eq p.0 k) h e
 
 -- a pair whose key none has may stand behind them
 own-pushed : (ps : Pairs) (p : List ℕ × Data) → keys_are_own ps ≡ true
@@ -78,8 +86,10 @@ own-pushed [] p h k = refl
 own-pushed (q ∷ qs) p h k =
     let a = both (not (list_any (λ f. bytes_eq f.0 q.0) qs)) (keys_are_own qs) h in
     let b = or-both (bytes_eq q.0 p.0) (has_key p.0 (keys_of qs)) k in
-    and-true (not (list_any (λ f. bytes_eq f.0 q.0) (qs ++ (p ∷ [])))) (keys_are_own (qs ++ (p ∷ [])))
-    (not-false (list_any (λ f. bytes_eq f.0 q.0) (qs ++ (p ∷ []))) (any-pushed q.0 qs p (not-true (list_any (λ f. bytes_eq f.0 q.0) qs) a.0) (eq-back q.0 p.0 b.0)))
+    and-true (not (list_any (λ f. bytes_eq f.0 q.0) (qs ++ (p ∷ []))))
+    (keys_are_own (qs ++ (p ∷ [])))
+    (not-false (list_any (λ f. bytes_eq f.0 q.0) (qs ++ (p ∷ []))) (any-pushed q.0 qs p
+    (not-true (list_any (λ f. bytes_eq f.0 q.0) qs) a.0) (eq-back q.0 p.0 b.0)))
     (own-pushed qs p a.1 b.1)
 
 -- ---- what is merged
@@ -104,12 +114,18 @@ added-good explicit ks so_far (q ∷ qs) sub g n o =
     by-case (has_key q.0 explicit || has_key q.0 (keys_of so_far)) refl
     (added-good explicit ks so_far qs sub g n o.1)
     (λ h. let f = or-both (has_key q.0 explicit) (has_key q.0 (keys_of so_far)) h in
-    added-good explicit ks (so_far ++ (q ∷ [])) qs sub (record { own = own-pushed so_far q g.own f.1; owned = pairs-append so_far (q ∷ []) g.owned (o.0, tt) }) (none-pushed ks so_far q n (sub q.0 f.0)) o.1)
+    added-good explicit ks (so_far ++ (q ∷ [])) qs sub (record {
+      own = own-pushed so_far q g.own f.1;
+      owned = pairs-append so_far (q ∷ []) g.owned (o.0, tt);
+    }) (none-pushed ks so_far q n (sub q.0 f.0)) o.1)
   where
     by-case : (b : Bool) → (has_key q.0 explicit || has_key q.0 (keys_of so_far)) ≡ b
         → Good explicit (added explicit so_far qs) × NoneIn ks (added explicit so_far qs)
-        → ((has_key q.0 explicit || has_key q.0 (keys_of so_far)) ≡ false → Good explicit (added explicit (so_far ++ (q ∷ [])) qs) × NoneIn ks (added explicit (so_far ++ (q ∷ [])) qs))
-        → Good explicit (added explicit so_far (q ∷ qs)) × NoneIn ks (added explicit so_far (q ∷ qs))
+        → ((has_key q.0 explicit || has_key q.0 (keys_of so_far)) ≡ false
+        → Good explicit (added explicit (so_far ++ (q ∷ [])) qs)
+        × NoneIn ks (added explicit (so_far ++ (q ∷ [])) qs))
+        → Good explicit (added explicit so_far (q ∷ qs))
+        × NoneIn ks (added explicit so_far (q ∷ qs))
     by-case true e passed pushed = rw (e, added) passed
     by-case false e passed pushed = rw (e, added) (pushed e)
 
@@ -125,27 +141,46 @@ Apart (k ∷ ks) = (has_key k ks ≡ false) × Apart ks
 
 resolved-good : (explicit : List (List ℕ)) (so_far : Pairs) (ws : List Written)
     → ((k : List ℕ) → has_key k explicit ≡ false → has_key k (explicit_keys ws) ≡ false)
-    → Apart (explicit_keys ws) → Good explicit so_far → NoneIn (explicit_keys ws) so_far → WrittenOwned ws → Good explicit (resolved explicit so_far ws)
+    → Apart (explicit_keys ws) → Good explicit so_far → NoneIn (explicit_keys ws) so_far
+    → WrittenOwned ws → Good explicit (resolved explicit so_far ws)
 resolved-good explicit so_far [] sub a g n o = g
 resolved-good explicit so_far (w ∷ ws) sub a g n o =
     by-case w.merges refl
-    (λ sub' a' n'. let m = added-good explicit (explicit_keys ws) so_far (merged_pairs w.value.tree) sub' g n' (merged-owned w.value.tree o.0) in resolved-good explicit (added explicit so_far (merged_pairs w.value.tree)) ws sub' a' m.0 m.1 o.1)
+    (λ sub' a' n'. let m = added-good explicit (explicit_keys ws) so_far (merged_pairs w.value.tree)
+    sub' g n' (merged-owned w.value.tree o.0) in resolved-good explicit
+    (added explicit so_far (merged_pairs w.value.tree)) ws sub' a' m.0 m.1 o.1)
     (λ sub' a' n'. resolved-good explicit (so_far ++ ((w.key, w.value.tree) ∷ [])) ws (λ k h. (or-both (bytes_eq w.key k) (has_key k (explicit_keys ws)) (sub' k h)).1) a'.1
-    (record { own = own-pushed so_far (w.key, w.value.tree) g.own n'.0; owned = pairs-append so_far ((w.key, w.value.tree) ∷ []) g.owned (o.0, tt) })
+    (record {
+      own = own-pushed so_far (w.key, w.value.tree) g.own n'.0;
+      owned = pairs-append so_far ((w.key, w.value.tree) ∷ []) g.owned (o.0, tt);
+    })
     (none-pushed (explicit_keys ws) so_far (w.key, w.value.tree) n'.1 a'.0) o.1)
   where
     by-case : (b : Bool) → w.merges ≡ b
-        → (((k : List ℕ) → has_key k explicit ≡ false → has_key k (explicit_keys ws) ≡ false) → Apart (explicit_keys ws) → NoneIn (explicit_keys ws) so_far → Good explicit (resolved explicit (added explicit so_far (merged_pairs w.value.tree)) ws))
-        → (((k : List ℕ) → has_key k explicit ≡ false → has_key k (w.key ∷ explicit_keys ws) ≡ false) → Apart (w.key ∷ explicit_keys ws) → NoneIn (w.key ∷ explicit_keys ws) so_far → Good explicit (resolved explicit (so_far ++ ((w.key, w.value.tree) ∷ [])) ws))
+        → (((k : List ℕ) → has_key k explicit ≡ false → has_key k (explicit_keys ws) ≡ false)
+        → Apart (explicit_keys ws) → NoneIn (explicit_keys ws) so_far → Good explicit
+        (resolved explicit (added explicit so_far (merged_pairs w.value.tree)) ws))
+        → (((k : List ℕ) → has_key k explicit ≡ false
+        → has_key k (w.key ∷ explicit_keys ws) ≡ false) → Apart (w.key ∷ explicit_keys ws)
+        → NoneIn (w.key ∷ explicit_keys ws) so_far → Good explicit
+        (resolved explicit (so_far ++ ((w.key, w.value.tree) ∷ [])) ws))
         → Good explicit (resolved explicit so_far (w ∷ ws))
     by-case true e merged owned =
-        let same : explicit_keys (w ∷ ws) ≡ explicit_keys ws = ap (λ b. cond b [] (w.key ∷ []) ++ explicit_keys ws) e in
-        subst (Good explicit) (sym (ap (λ b. cond b (resolved explicit (added explicit so_far (merged_pairs w.value.tree)) ws) (resolved explicit (so_far ++ ((w.key, w.value.tree) ∷ [])) ws)) e))
-        (merged (λ k h. sym (ap (has_key k) same) ∙ sub k h) (subst Apart same a) (subst (λ ks. NoneIn ks so_far) same n))
+        let same : explicit_keys (w ∷ ws) ≡ explicit_keys ws =
+        ap (λ b. cond b [] (w.key ∷ []) ++ explicit_keys ws) e in
+        subst (Good explicit) (sym (ap (λ b. cond b
+        (resolved explicit (added explicit so_far (merged_pairs w.value.tree)) ws)
+        (resolved explicit (so_far ++ ((w.key, w.value.tree) ∷ [])) ws)) e))
+        (merged (λ k h. sym (ap (has_key k) same) ∙ sub k h) (subst Apart same a)
+        (subst (λ ks. NoneIn ks so_far) same n))
     by-case false e merged owned =
-        let same : explicit_keys (w ∷ ws) ≡ w.key ∷ explicit_keys ws = ap (λ b. cond b [] (w.key ∷ []) ++ explicit_keys ws) e in
-        subst (Good explicit) (sym (ap (λ b. cond b (resolved explicit (added explicit so_far (merged_pairs w.value.tree)) ws) (resolved explicit (so_far ++ ((w.key, w.value.tree) ∷ [])) ws)) e))
-        (owned (λ k h. sym (ap (has_key k) same) ∙ sub k h) (subst Apart same a) (subst (λ ks. NoneIn ks so_far) same n))
+        let same : explicit_keys (w ∷ ws) ≡ w.key ∷ explicit_keys ws =
+        ap (λ b. cond b [] (w.key ∷ []) ++ explicit_keys ws) e in
+        subst (Good explicit) (sym (ap (λ b. cond b
+        (resolved explicit (added explicit so_far (merged_pairs w.value.tree)) ws)
+        (resolved explicit (so_far ++ ((w.key, w.value.tree) ∷ [])) ws)) e))
+        (owned (λ k h. sym (ap (has_key k) same) ∙ sub k h) (subst Apart same a)
+        (subst (λ ks. NoneIn ks so_far) same n))
 
 none-in-nothing : (ks : List (List ℕ)) → NoneIn ks []
 none-in-nothing [] = tt
@@ -154,7 +189,8 @@ none-in-nothing (k ∷ ks) = (refl, none-in-nothing ks)
 pub map-owned : (line : ℕ) (ws : List Written) → Apart (explicit_keys ws) → WrittenOwned ws
     → KeysOnce (map_value line ws).tree
 map-owned line ws a o =
-    let g = resolved-good (explicit_keys ws) [] ws (λ k h. h) a (record { own = refl; owned = tt }) (none-in-nothing (explicit_keys ws)) o in
+    let g = resolved-good (explicit_keys ws) [] ws (λ k h. h) a (record { own = refl; owned = tt })
+    (none-in-nothing (explicit_keys ws)) o in
     (ap keys_are_own (pairs-back (resolved (explicit_keys ws) [] ws)) ∙ g.own, to-entries (resolved (explicit_keys ws) [] ws) g.owned)
 
 -- ---- lists of values
@@ -181,7 +217,8 @@ written-append (v ∷ vs) us h k = (h.0, written-append vs us h.1 k)
 -- ---- one key more
 has-behind : (k : List ℕ) (ks : List (List ℕ)) (j : List ℕ) → has_key k ks ≡ false
     → bytes_eq j k ≡ false → has_key k (ks ++ (j ∷ [])) ≡ false
-has-behind k ks j h e = list_any-append (λ l. bytes_eq l k) ks (j ∷ []) ∙ or-last (has_key k ks) (bytes_eq j k) h e
+has-behind k ks j h e =
+    list_any-append (λ l. bytes_eq l k) ks (j ∷ []) ∙ or-last (has_key k ks) (bytes_eq j k) h e
 
 pub apart-pushed : (ks : List (List ℕ)) (k : List ℕ) → Apart ks → has_key k ks ≡ false
     → Apart (ks ++ (k ∷ []))
@@ -193,7 +230,8 @@ apart-pushed (j ∷ ks) k a h =
 explicit-append : (ws : List Written) (w : Written)
     → explicit_keys (ws ++ (w ∷ [])) ≡ explicit_keys ws ++ own_key w
 explicit-append [] w = append-nil (own_key w)
-explicit-append (u ∷ ws) w = ap (λ ks. own_key u ++ ks) (explicit-append ws w) ∙ sym (append_assoc (own_key u) (explicit_keys ws) (own_key w))
+explicit-append (u ∷ ws) w = ap (λ ks. own_key u ++ ks) (explicit-append ws w)
+    ∙ sym (append_assoc (own_key u) (explicit_keys ws) (own_key w))
 
 -- the key merges, or is new
 abbrev pub IsNew : List Written → Key → Type 0
@@ -201,8 +239,12 @@ IsNew ws k = (k.merges || not (has_key k.name (explicit_keys ws))) ≡ true
 
 pub apart-written : (ws : List Written) (k : Key) (v : Value) → Apart (explicit_keys ws)
     → IsNew ws k → Apart (explicit_keys (ws ++ (written k v ∷ [])))
-apart-written ws k v a n = subst Apart (sym (explicit-append ws (written k v))) (by-case k.merges refl)
+apart-written ws k v a n =
+    subst Apart (sym (explicit-append ws (written k v))) (by-case k.merges refl)
   where
     by-case : (b : Bool) → k.merges ≡ b → Apart (explicit_keys ws ++ own_key (written k v))
-    by-case true e = subst Apart (sym (ap (λ b. explicit_keys ws ++ cond b [] (k.name ∷ [])) e ∙ append-nil (explicit_keys ws))) a
-    by-case false e = subst Apart (sym (ap (λ b. explicit_keys ws ++ cond b [] (k.name ∷ [])) e)) (apart-pushed (explicit_keys ws) k.name a (or-true k.merges (has_key k.name (explicit_keys ws)) n e))
+    by-case true e = subst Apart (sym
+        (ap (λ b. explicit_keys ws ++ cond b [] (k.name ∷ [])) e ∙ append-nil (explicit_keys ws))) a
+    by-case false e = subst Apart (sym (ap (λ b. explicit_keys ws ++ cond b [] (k.name ∷ [])) e))
+        (apart-pushed (explicit_keys ws) k.name a
+        (or-true k.merges (has_key k.name (explicit_keys ws)) n e))

@@ -1,5 +1,6 @@
 -- Lines of printable characters.
-use Rattle.std.proofs.Common.{◌≡◌, ℕ, zero, suc, ◌<◌, Bool, true, false, List, [], ◌∷◌, ◌++◌, ◌-◌, length, lit<, refl, ap, ◌∙◌, arith}
+use Rattle.std.proofs.Common.{◌≡◌, ℕ, zero, suc, ◌<◌, Bool, true, false, List, [], ◌∷◌, ◌++◌, ◌-◌}
+use Rattle.std.proofs.Common.{length, lit<, refl, ap, ◌∙◌, arith}
 use Rattle.std.specs.Prelude.{◌&&◌, ◌==◌, nat_le, slice_index, map}
 use Rattle.std.specs.Str.{is_utf8, IsAscii}
 use Rattle.std.proofs.lemmas.Bool.Decides.{nat_tests}
@@ -15,7 +16,8 @@ is_ink c = nat_le 32 c && nat_le c 126
 pub inked-append : (a b : List ℕ) → is_printable a ≡ true → is_printable b ≡ true
     → is_printable (a ++ b) ≡ true
 inked-append [] b h k = k
-inked-append (x ∷ xs) b h k = let p = both (is_ink x) (is_printable xs) h in and-true (is_ink x) (is_printable (xs ++ b)) p.0 (inked-append xs b p.1 k)
+inked-append (x ∷ xs) b h k = let p = both (is_ink x) (is_printable xs) h in
+    and-true (is_ink x) (is_printable (xs ++ b)) p.0 (inked-append xs b p.1 k)
 
 ink-low : (c : ℕ) → is_ink c ≡ true → c < 128
 ink-low c h = grind (arith, nat_tests)

@@ -1,21 +1,36 @@
 -- The values of words have each key of a map once.
-use Rattle.std.proofs.Common.{◌≡◌, ℕ, Bool, true, false, List, [], ◌∷◌, ◌++◌, refl, sym, ap, subst, ◌∙◌, append-nil, Option, Some, None, Ok, Err}
+use Rattle.std.proofs.Common.{◌≡◌, ℕ, Bool, true, false, List, [], ◌∷◌, ◌++◌, refl, sym, ap, subst}
+use Rattle.std.proofs.Common.{◌∙◌, append-nil, Option, Some, None, Ok, Err}
 use Rattle.std.specs.Prelude.{◌&&◌, ◌||◌, ◌==◌, not, bytes_eq}
 use mathlib.Core.Bool.{cond}
-use Rattle.rvs_tree.specs.Value.{Value, scalar_value, list_value, map_value, Written, has_key, explicit_keys}
-use Rattle.rvs_yaml_text.specs.Word.{Key, Content, Shape, dash, key, leaf, refused, nothing, text, alias, flow, faulty, Word, Head, head_of, opens_block, Token, opening, closing, comma, colon, scalar_token, key_token, cut_key, colon_scalar, alias_token, late_colon, fault, Bracket, square, curly}
+use Rattle.rvs_tree.specs.Value.{Value, scalar_value, list_value, map_value, Written, has_key}
+use Rattle.rvs_tree.specs.Value.{explicit_keys}
+use Rattle.rvs_yaml_text.specs.Word.{Key, Content, Shape, dash, key, leaf, refused, nothing, text}
+use Rattle.rvs_yaml_text.specs.Word.{alias, flow, faulty, Word, Head, head_of, opens_block, Token}
+use Rattle.rvs_yaml_text.specs.Word.{opening, closing, comma, colon, scalar_token, key_token}
+use Rattle.rvs_yaml_text.specs.Word.{cut_key, colon_scalar, alias_token, late_colon, fault, Bracket}
+use Rattle.rvs_yaml_text.specs.Word.{square, curly}
 use Rattle.rvs_yaml_text.specs.declared.kind.YamlKind.{YamlKind}
-use Rattle.rvs_yaml_text.specs.declared.kind.YamlKind.TheVariants.{Unsupported, DuplicateKey, BadIndent}
+use Rattle.rvs_yaml_text.specs.declared.kind.YamlKind.TheVariants.{Unsupported, DuplicateKey}
+use Rattle.rvs_yaml_text.specs.declared.kind.YamlKind.TheVariants.{BadIndent}
 use Rattle.rvs_yaml.specs.Anchors.{Anchors, lookup, known_alias}
 use Rattle.rvs_yaml.specs.Checks.{Checked, ◌>>=◌, ◌>>◌, check}
 use Rattle.rvs_yaml.specs.Entry.{written}
-use Rattle.rvs_yaml.specs.Flow.{Nest, none, one, group, inside, ending, behind, nest, Place, member, behind_member, key_place, entry_value, behind_entry, first_place, new_key, with_value, with_comma, with_key, with_cut_key, with_colon_scalar, with_alias, with_fault, with_token, may_open, closes, ends_with, fits, collection, only_end, whole_value, merged_well, flow_value}
-use Rattle.rvs_yaml.specs.Block.{Outline, end, below, Found, found, named, content_value, own_value, value_over, value_of, is_end, item_at, only_leaf, key_at, spelled, check_merge, block, items, entries, tree_of, outline}
+use Rattle.rvs_yaml.specs.Flow.{Nest, none, one, group, inside, ending, behind, nest, Place, member}
+use Rattle.rvs_yaml.specs.Flow.{behind_member, key_place, entry_value, behind_entry, first_place}
+use Rattle.rvs_yaml.specs.Flow.{new_key, with_value, with_comma, with_key, with_cut_key}
+use Rattle.rvs_yaml.specs.Flow.{with_colon_scalar, with_alias, with_fault, with_token, may_open}
+use Rattle.rvs_yaml.specs.Flow.{closes, ends_with, fits, collection, only_end, whole_value}
+use Rattle.rvs_yaml.specs.Flow.{merged_well, flow_value}
+use Rattle.rvs_yaml.specs.Block.{Outline, end, below, Found, found, named, content_value, own_value}
+use Rattle.rvs_yaml.specs.Block.{value_over, value_of, is_end, item_at, only_leaf, key_at, spelled}
+use Rattle.rvs_yaml.specs.Block.{check_merge, block, items, entries, tree_of, outline}
 use Rattle.rvs_normal.specs.Once.{KeysOnce}
 use Rattle.std.proofs.lemmas.List.Folds.{list_any-append}
 use Rattle.rvs_normal.proofs.Truths.{or-both, or-false, or-true}
 use Rattle.rvs_normal.proofs.Apart.{eq-back}
-use Rattle.rvs_normal.proofs.KeysOnce.{WrittenOwned, Apart, ValuesOwned, values-append, written-append, map-owned, list-owned, IsNew, apart-written}
+use Rattle.rvs_normal.proofs.KeysOnce.{WrittenOwned, Apart, ValuesOwned, values-append}
+use Rattle.rvs_normal.proofs.KeysOnce.{written-append, map-owned, list-owned, IsNew, apart-written}
 
 -- ---- checks in order
 pub record Then {A B : Type 0} (a : Checked A) (f : A → Checked B) (b : B) : Type 0 where
@@ -58,11 +73,13 @@ known-owned name (x ∷ xs) v a h = by-case (bytes_eq x.0 name) refl (known-owne
   where
     by-case : (b : Bool) → bytes_eq x.0 name ≡ b
         → (known_alias (lookup name xs) ≡ Ok v → KeysOnce v.tree) → KeysOnce v.tree
-    by-case true e others = subst (λ (u : Value). KeysOnce u.tree) (same x.1 v (sym (ap (λ b. known_alias (cond b (Some x.1) (lookup name xs))) e) ∙ h)) a.0
+    by-case true e others = subst (λ (u : Value). KeysOnce u.tree)
+        (same x.1 v (sym (ap (λ b. known_alias (cond b (Some x.1) (lookup name xs))) e) ∙ h)) a.0
       where
         same : (u w : Value) → ◌≡◌ {A = Checked Value} (Ok u) (Ok w) → u ≡ w
         same u w e = cc
-    by-case false e others = others (sym (ap (λ b. known_alias (cond b (Some x.1) (lookup name xs))) e) ∙ h)
+    by-case false e others =
+        others (sym (ap (λ b. known_alias (cond b (Some x.1) (lookup name xs))) e) ∙ h)
 
 -- ---- flow
 abbrev pub PlaceOwned : Place → Type 0
@@ -100,13 +117,16 @@ value-owned : (p : Place) (v : Value) → PlaceOwned p → KeysOnce v.tree
 value-owned (member vs) v o t = values-append vs (v ∷ []) o (t, tt)
 value-owned (behind_member vs) v o t = tt
 value-owned (key_place ws) v o t = tt
-value-owned (entry_value ws k) v o t = (written-append ws (written k v ∷ []) o.0 (t, tt), apart-written ws k v o.1 o.2)
+value-owned (entry_value ws k) v o t =
+    (written-append ws (written k v ∷ []) o.0 (t, tt), apart-written ws k v o.1 o.2)
 value-owned (behind_entry ws) v o t = tt
 
 key-owned : (p : Place) (k : Key) → PlaceOwned p → Has PlaceOwned (with_key p k)
 key-owned (member vs) k o = tt
 key-owned (behind_member vs) k o = tt
-key-owned (key_place ws) k o = has-check PlaceOwned (k.merges || not (has_key k.name (explicit_keys ws))) _ (Ok (entry_value ws k)) (λ n. (o.0, o.1, n))
+key-owned (key_place ws) k o = has-check PlaceOwned
+    (k.merges || not (has_key k.name (explicit_keys ws))) _ (Ok (entry_value ws k))
+    (λ n. (o.0, o.1, n))
 key-owned (entry_value ws l) k o = tt
 key-owned (behind_entry ws) k o = tt
 
@@ -149,9 +169,14 @@ has-known name known a = by-result (known_alias (lookup name known)) refl
 alias-owned : (known : Anchors) (p : Place) (name : List ℕ) → AnchorsOwned known → PlaceOwned p
     → Has PlaceOwned (with_alias known p name)
 alias-owned known (member vs) [] a o = tt
-alias-owned known (member vs) (c ∷ cs) a o = has-then TreeOwned PlaceOwned (known_alias (lookup (c ∷ cs) known)) (λ v. Ok (behind_member (vs ++ (v ∷ [])))) (has-known (c ∷ cs) known a) (λ v t. values-append vs (v ∷ []) o (t, tt))
+alias-owned known (member vs) (c ∷ cs) a o = has-then TreeOwned PlaceOwned
+    (known_alias (lookup (c ∷ cs) known)) (λ v. Ok (behind_member (vs ++ (v ∷ []))))
+    (has-known (c ∷ cs) known a) (λ v t. values-append vs (v ∷ []) o (t, tt))
 alias-owned known (entry_value ws k) [] a o = tt
-alias-owned known (entry_value ws k) (c ∷ cs) a o = has-then TreeOwned PlaceOwned (known_alias (lookup (c ∷ cs) known)) (λ v. Ok (behind_entry (ws ++ (written k v ∷ [])))) (has-known (c ∷ cs) known a) (λ v t. (written-append ws (written k v ∷ []) o.0 (t, tt), apart-written ws k v o.1 o.2))
+alias-owned known (entry_value ws k) (c ∷ cs) a o = has-then TreeOwned PlaceOwned
+    (known_alias (lookup (c ∷ cs) known)) (λ v. Ok (behind_entry (ws ++ (written k v ∷ []))))
+    (has-known (c ∷ cs) known a)
+    (λ v t. (written-append ws (written k v ∷ []) o.0 (t, tt), apart-written ws k v o.1 o.2))
 alias-owned known (key_place ws) name a o = tt
 alias-owned known (behind_member vs) name a o = tt
 alias-owned known (behind_entry ws) name a o = tt
@@ -186,9 +211,12 @@ FlowOwned v = KeysOnce v.0.tree
 
 pub collection-owned : (known : Anchors) (line : ℕ) (good : Bool) (p : Place) (n : Nest)
     → AnchorsOwned known → PlaceOwned p → Has FlowOwned (collection known line good p n)
-collection-owned known line good p none a o = has-then TreeOwned FlowOwned (closes line p) (λ v. Ok (v, good)) (closes-owned line p o) (λ v t. t)
+collection-owned known line good p none a o = has-then TreeOwned FlowOwned (closes line p)
+    (λ v. Ok (v, good)) (closes-owned line p o) (λ v t. t)
 collection-owned known line good p (one m rest) a o =
-    has-then PlaceOwned FlowOwned (with_token known line p m) (λ next. collection known line (good && fits next) next rest) (token-owned known line p m a o)
+    has-then PlaceOwned FlowOwned (with_token known line p m)
+    (λ next. collection known line (good && fits next) next rest)
+    (token-owned known line p m a o)
     (λ next t. collection-owned known line (good && fits next) next rest a t)
 collection-owned known line good p (group b inner last rest) a o =
     has-behind FlowOwned (may_open p) _
@@ -202,7 +230,8 @@ flow-owned : (known : Anchors) (line : ℕ) (b : Bracket) (tokens : List Token) 
 flow-owned known line b tokens a =
     has-then FlowOwned TreeOwned (whole_value known line b (nest tokens)) merged_well
     (has-then FlowOwned FlowOwned (collection known line true (first_place b) (inside (nest tokens))) _ (collection-owned known line true (first_place b) (inside (nest tokens)) a (first-owned b))
-    (λ v t. has-behind FlowOwned (ends_with b (ending (nest tokens))) _ (has-behind FlowOwned (only_end (behind (nest tokens))) (Ok v) t)))
+    (λ v t. has-behind FlowOwned (ends_with b (ending (nest tokens))) _
+    (has-behind FlowOwned (only_end (behind (nest tokens))) (Ok v) t)))
     (λ v t. has-behind TreeOwned (check v.1 _) (Ok v.0) t)
 
 -- ---- blocks
@@ -210,7 +239,9 @@ content-owned : (known : Anchors) (line : ℕ) (c : Content) → AnchorsOwned kn
     → Has TreeOwned (content_value known line c)
 content-owned known line nothing a = tt
 content-owned known line (text bytes) a = tt
-content-owned known line (alias name ended) a = has-then TreeOwned TreeOwned (known_alias (lookup name known)) _ (has-known name known a) (λ v t. has-behind TreeOwned (check ended _) (Ok v) t)
+content-owned known line (alias name ended) a = has-then TreeOwned TreeOwned
+    (known_alias (lookup name known)) _ (has-known name known a)
+    (λ v t. has-behind TreeOwned (check ended _) (Ok v) t)
 content-owned known line (flow b tokens) a = flow-owned known line b tokens a
 content-owned known line (faulty kind) a = tt
 
@@ -233,14 +264,21 @@ over-owned : (own : Value) (h : Head) (inner : Outline) (b : Checked (Found Valu
 over-owned own h inner b o r = by-case (opens_block h.sort) refl
   where
     by-case : (s : Bool) → opens_block h.sort ≡ s → Has FoundOwned (value_over own h inner b)
-    by-case true e = subst (Has FoundOwned) (sym (ap (λ s. cond s (b >>= (λ g. Ok (named h.anchor g))) (check (is_end inner) Unsupported >> Ok (named h.anchor (found own [])))) e))
-        (has-then FoundOwned FoundOwned b (λ g. Ok (named h.anchor g)) r (λ g k. named-owned h.anchor g k))
-    by-case false e = subst (Has FoundOwned) (sym (ap (λ s. cond s (b >>= (λ g. Ok (named h.anchor g))) (check (is_end inner) Unsupported >> Ok (named h.anchor (found own [])))) e))
-        (has-behind FoundOwned (check (is_end inner) Unsupported) (Ok (named h.anchor (found own []))) (named-owned h.anchor (found own []) (o, tt)))
+    by-case true e = subst (Has FoundOwned) (sym (ap (λ s. cond s
+        (b >>= (λ g. Ok (named h.anchor g)))
+        (check (is_end inner) Unsupported >> Ok (named h.anchor (found own [])))) e))
+        (has-then FoundOwned FoundOwned b (λ g. Ok (named h.anchor g)) r
+        (λ g k. named-owned h.anchor g k))
+    by-case false e = subst (Has FoundOwned) (sym (ap (λ s. cond s
+        (b >>= (λ g. Ok (named h.anchor g)))
+        (check (is_end inner) Unsupported >> Ok (named h.anchor (found own [])))) e))
+        (has-behind FoundOwned (check (is_end inner) Unsupported)
+        (Ok (named h.anchor (found own []))) (named-owned h.anchor (found own []) (o, tt)))
 
 pub word-owned : (known : Anchors) (w : Word) (inner : Outline) (b : Checked (Found Value))
     → AnchorsOwned known → Has FoundOwned b → Has FoundOwned (value_of known w inner b)
-word-owned known w inner b a r = has-then TreeOwned FoundOwned (own_value known w.line w.shape) _ (own-value-owned known w.line w.shape a) (λ own o. over-owned own (head_of w) inner b o r)
+word-owned known w inner b a r = has-then TreeOwned FoundOwned (own_value known w.line w.shape) _
+    (own-value-owned known w.line w.shape a) (λ own o. over-owned own (head_of w) inner b o r)
 
 abbrev pub ItemsOwned : Found (List Value) → Type 0
 ItemsOwned g = ValuesOwned g.value × AnchorsOwned g.anchors
@@ -251,15 +289,19 @@ NoneSeen seen [] = Unit {0}
 NoneSeen seen (k ∷ ks) = (has_key k seen ≡ false) × NoneSeen seen ks
 
 abbrev pub EntriesFound : List (List ℕ) → Found (List Written) → Type 0
-EntriesFound seen g = WrittenOwned g.value × Apart (explicit_keys g.value) × NoneSeen seen (explicit_keys g.value) × AnchorsOwned g.anchors
+EntriesFound seen g = WrittenOwned g.value × Apart (explicit_keys g.value)
+    × NoneSeen seen (explicit_keys g.value) × AnchorsOwned g.anchors
 
-pub key-new : {B : Type 0} (Q : B → Type 0) (column : ℕ) (seen : List (List ℕ)) (at : ℕ) (s : Shape) (f : Key → Checked B)
+pub key-new : {B : Type 0} (Q : B → Type 0) (column : ℕ) (seen : List (List ℕ)) (at : ℕ) (s : Shape)
+    (f : Key → Checked B)
     → ((k : Key) → (k.merges || not (has_key k.name seen)) ≡ true → Has Q (f k))
     → Has Q (key_at column seen at s >>= f)
 key-new Q column seen at (key k n c) f h =
-    has-then (λ m. (m.merges || not (has_key m.name seen)) ≡ true) Q (key_at column seen at (key k n c)) f
+    has-then (λ m. (m.merges || not (has_key m.name seen)) ≡ true) Q
+    (key_at column seen at (key k n c)) f
     (has-behind (λ m. (m.merges || not (has_key m.name seen)) ≡ true) (check (at == column) BadIndent) _
-    (has-check (λ m. (m.merges || not (has_key m.name seen)) ≡ true) (k.merges || not (has_key k.name seen)) DuplicateKey (Ok k) (λ e. e)))
+    (has-check (λ m. (m.merges || not (has_key m.name seen)) ≡ true)
+    (k.merges || not (has_key k.name seen)) DuplicateKey (Ok k) (λ e. e)))
     h
 key-new Q column seen at (dash n) f h = tt
 key-new Q column seen at (leaf c) f h = tt
@@ -270,7 +312,8 @@ none-seen-less : (seen : List (List ℕ)) (k : List ℕ) (ks : List (List ℕ))
     → NoneSeen (seen ++ (k ∷ [])) ks → NoneSeen seen ks × (has_key k ks ≡ false)
 none-seen-less seen k [] n = (tt, refl)
 none-seen-less seen k (j ∷ ks) n =
-    let h = or-both (has_key j seen) (bytes_eq k j || false) (sym (list_any-append (λ l. bytes_eq l j) seen (k ∷ [])) ∙ n.0) in
+    let h = or-both (has_key j seen) (bytes_eq k j || false)
+    (sym (list_any-append (λ l. bytes_eq l j) seen (k ∷ [])) ∙ n.0) in
     let e = or-both (bytes_eq k j) false h.1 in
     let r = none-seen-less seen k ks n.1 in
     ((h.0, r.0), or-false (bytes_eq j k) (has_key k ks) (eq-back k j e.0) r.1)
@@ -282,15 +325,21 @@ more-written : (seen : List (List ℕ)) (k : Key) (v : Value) (ws : List Written
 more-written seen k v ws new a n = by-case k.merges refl
   where
     by-case : (b : Bool) → k.merges ≡ b
-        → Apart (explicit_keys (written k v ∷ ws)) × NoneSeen seen (explicit_keys (written k v ∷ ws))
+        → Apart (explicit_keys (written k v ∷ ws))
+        × NoneSeen seen (explicit_keys (written k v ∷ ws))
     by-case true e =
-        let same : explicit_keys (written k v ∷ ws) ≡ explicit_keys ws = ap (λ b. cond b [] (k.name ∷ []) ++ explicit_keys ws) e in
-        let seen-same : seen ++ spelled k ≡ seen = ap (λ b. seen ++ cond b [] (k.name ∷ [])) e ∙ append-nil seen in
+        let same : explicit_keys (written k v ∷ ws) ≡ explicit_keys ws =
+        ap (λ b. cond b [] (k.name ∷ []) ++ explicit_keys ws) e in
+        let seen-same : seen ++ spelled k ≡ seen =
+        ap (λ b. seen ++ cond b [] (k.name ∷ [])) e ∙ append-nil seen in
         (subst Apart (sym same) a, subst (NoneSeen seen) (sym same) (subst (λ s. NoneSeen s (explicit_keys ws)) seen-same n))
     by-case false e =
-        let same : explicit_keys (written k v ∷ ws) ≡ k.name ∷ explicit_keys ws = ap (λ b. cond b [] (k.name ∷ []) ++ explicit_keys ws) e in
-        let seen-same : seen ++ spelled k ≡ seen ++ (k.name ∷ []) = ap (λ b. seen ++ cond b [] (k.name ∷ [])) e in
-        let less = none-seen-less seen k.name (explicit_keys ws) (subst (λ s. NoneSeen s (explicit_keys ws)) seen-same n) in
+        let same : explicit_keys (written k v ∷ ws) ≡ k.name ∷ explicit_keys ws =
+        ap (λ b. cond b [] (k.name ∷ []) ++ explicit_keys ws) e in
+        let seen-same : seen ++ spelled k ≡ seen ++ (k.name ∷ []) =
+        ap (λ b. seen ++ cond b [] (k.name ∷ [])) e in
+        let less = none-seen-less seen k.name (explicit_keys ws)
+        (subst (λ s. NoneSeen s (explicit_keys ws)) seen-same n) in
         (subst Apart (sym same) (less.1, a), subst (NoneSeen seen) (sym same) (or-true k.merges (has_key k.name seen) new e, less.0))
 
 first-written : (k : Key) (v : Value) (ws : List Written) → Apart (explicit_keys ws)
@@ -300,16 +349,22 @@ first-written k v ws a n = by-case k.merges refl
     by-case : (b : Bool) → k.merges ≡ b → Apart (explicit_keys (written k v ∷ ws))
     by-case true e = subst Apart (sym (ap (λ b. cond b [] (k.name ∷ []) ++ explicit_keys ws) e)) a
     by-case false e =
-        let less = none-seen-less [] k.name (explicit_keys ws) (subst (λ s. NoneSeen s (explicit_keys ws)) (ap (λ b. cond b [] (k.name ∷ [])) e) n) in
+        let less = none-seen-less [] k.name (explicit_keys ws)
+        (subst (λ s. NoneSeen s (explicit_keys ws)) (ap (λ b. cond b [] (k.name ∷ [])) e) n) in
         subst Apart (sym (ap (λ b. cond b [] (k.name ∷ []) ++ explicit_keys ws) e)) (less.1, a)
 
-first-owned-block : (known : Anchors) (line column : ℕ) (rest : Outline) (first : Found Value) (s : Shape)
+first-owned-block : (known : Anchors) (line column : ℕ) (rest : Outline) (first : Found Value)
+    (s : Shape)
     → AnchorsOwned known → FoundOwned first
     → Has ItemsOwned (items (first.anchors ++ known) column rest)
-    → ((seen : List (List ℕ)) → Has (EntriesFound seen) (entries (first.anchors ++ known) column seen rest))
+    → ((seen : List (List ℕ))
+    → Has (EntriesFound seen) (entries (first.anchors ++ known) column seen rest))
     → Has FoundOwned (elim s [
-      | dash b ↦ items (first.anchors ++ known) column rest >>= (λ m. Ok (found (list_value line (first.value ∷ m.value)) (m.anchors ++ first.anchors)))
-      | key k b content ↦ check_merge k first.value >> (entries (first.anchors ++ known) column (spelled k) rest >>= (λ m. Ok (found (map_value line (written k first.value ∷ m.value)) (m.anchors ++ first.anchors))))
+      | dash b ↦ items (first.anchors ++ known) column rest >>= (λ m. Ok
+          (found (list_value line (first.value ∷ m.value)) (m.anchors ++ first.anchors)))
+      | key k b content ↦ check_merge k first.value >> (entries (first.anchors ++ known) column
+          (spelled k) rest >>= (λ m. Ok
+          (found (map_value line (written k first.value ∷ m.value)) (m.anchors ++ first.anchors))))
       | _ ↦ only_leaf rest >> Ok first
     ])
 first-owned-block known line column rest first (dash b) a f is es =
@@ -319,17 +374,21 @@ first-owned-block known line column rest first (key k b content) a f is es =
     has-behind FoundOwned (check_merge k first.value) _
     (has-then (EntriesFound (spelled k)) FoundOwned (entries (first.anchors ++ known) column (spelled k) rest) _ (es (spelled k))
     (λ m o. (map-owned line (written k first.value ∷ m.value) (first-written k first.value m.value o.1 o.2) (f.0, o.0), anchors-append m.anchors first.anchors o.3 f.1)))
-first-owned-block known line column rest first (leaf c) a f is es = has-behind FoundOwned (only_leaf rest) (Ok first) f
-first-owned-block known line column rest first (refused kind) a f is es = has-behind FoundOwned (only_leaf rest) (Ok first) f
+first-owned-block known line column rest first (leaf c) a f is es =
+    has-behind FoundOwned (only_leaf rest) (Ok first) f
+first-owned-block known line column rest first (refused kind) a f is es =
+    has-behind FoundOwned (only_leaf rest) (Ok first) f
 
 mutual
   pub block-owned : (known : Anchors) (line : ℕ) (o : Outline) → AnchorsOwned known
       → Has FoundOwned (block known line o)
   block-owned known line end a = (tt, tt)
   block-owned known line (below w inner rest) a =
-      has-then FoundOwned FoundOwned (value_of known w inner (block known w.line inner)) _ (word-owned known w inner (block known w.line inner) a (block-owned known w.line inner a))
+      has-then FoundOwned FoundOwned (value_of known w inner (block known w.line inner)) _
+      (word-owned known w inner (block known w.line inner) a (block-owned known w.line inner a))
       (λ first f. first-owned-block known w.line w.column rest first w.shape a f (items-owned-block (first.anchors ++ known) w.column rest (anchors-append first.anchors known f.1 a))
-      (λ seen. entries-owned-block (first.anchors ++ known) w.column seen rest (anchors-append first.anchors known f.1 a)))
+      (λ seen. entries-owned-block (first.anchors ++ known) w.column seen rest
+      (anchors-append first.anchors known f.1 a)))
 
   items-owned-block : (known : Anchors) (column : ℕ) (o : Outline) → AnchorsOwned known
       → Has ItemsOwned (items known column o)
@@ -348,9 +407,11 @@ mutual
       (λ k new. has-then FoundOwned (EntriesFound seen) (value_of known w inner (block known w.line inner)) _ (word-owned known w inner (block known w.line inner) a (block-owned known w.line inner a))
       (λ first f. has-behind (EntriesFound seen) (check_merge k first.value) _
       (has-then (EntriesFound (seen ++ spelled k)) (EntriesFound seen) (entries (first.anchors ++ known) column (seen ++ spelled k) rest) _
-      (entries-owned-block (first.anchors ++ known) column (seen ++ spelled k) rest (anchors-append first.anchors known f.1 a))
+      (entries-owned-block (first.anchors ++ known) column (seen ++ spelled k) rest
+      (anchors-append first.anchors known f.1 a))
       (λ others o. let m = more-written seen k first.value others.value new o.1 o.2 in
       ((f.0, o.0), m.0, m.1, anchors-append others.anchors first.anchors o.3 f.1)))))
 
 pub tree-owned : (ws : List Word) → Has TreeOwned (tree_of ws)
-tree-owned ws = has-then FoundOwned TreeOwned (block [] 1 (outline ws)) (λ g. Ok g.value) (block-owned [] 1 (outline ws) tt) (λ g h. h.0)
+tree-owned ws = has-then FoundOwned TreeOwned (block [] 1 (outline ws)) (λ g. Ok g.value)
+    (block-owned [] 1 (outline ws) tt) (λ g h. h.0)

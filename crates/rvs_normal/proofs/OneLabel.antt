@@ -30,8 +30,10 @@ op-meant = record { printable = refl; meaning_is = refl }
 key-is : key_of Rs1Val (pos 7) ≡ codes "rs1_val == 7"
 key-is = ap (λ ds. name_of Rs1Val ++ (codes " == " ++ ds)) (decimal_digit 7 (lit< tt))
 
-value-meant : IsMeant (point ValComb (codes "rs1_val == 7") (nums (equation_of Rs1Val (number_of (pos 7)))))
-value-meant = subst (λ k. IsMeant (point ValComb k (nums (equation_of Rs1Val (number_of (pos 7)))))) key-is (value_meant Rs1Val (pos 7) (lit≤ tt))
+value-meant : IsMeant
+    (point ValComb (codes "rs1_val == 7") (nums (equation_of Rs1Val (number_of (pos 7)))))
+value-meant = subst (λ k. IsMeant (point ValComb k (nums (equation_of Rs1Val (number_of (pos 7))))))
+    key-is (value_meant Rs1Val (pos 7) (lit≤ tt))
 
 value-read : is_skipped (codes "rs1_val == 7") ≡ false
 value-read = sym (ap is_skipped key-is) ∙ value_read Rs1Val (pos 7) (lit≤ tt)
@@ -44,7 +46,11 @@ valid isa = record {
   admitted = refl;
   few = lit≤ tt;
   distinct = refl;
-  meant = All-cons IsMeant (point Mnemonic (codes "add") (op_is Add)) (point ValComb (codes "rs1_val == 7") (nums (equation_of Rs1Val (number_of (pos 7)))) ∷ []) op-meant (All-cons IsMeant (point ValComb (codes "rs1_val == 7") (nums (equation_of Rs1Val (number_of (pos 7))))) [] value-meant (All-nil IsMeant));
+  meant = All-cons IsMeant (point Mnemonic (codes "add") (op_is Add)) (point ValComb
+      (codes "rs1_val == 7") (nums (equation_of Rs1Val (number_of (pos 7)))) ∷ []) op-meant
+      (All-cons IsMeant
+      (point ValComb (codes "rs1_val == 7") (nums (equation_of Rs1Val (number_of (pos 7))))) []
+      value-meant (All-nil IsMeant));
 }
 
 plain : (isa : Isa) → IsPlain isa example

@@ -31,7 +31,8 @@ all-after h (below u inner rest) s = rw (s, after) refl
 
 children-joined : (h : Head) (o p : Outline) → Stops h p → children h (joined o p) ≡ children h o
 children-joined h end p s = none-below h p s
-children-joined h (below u inner rest) p s = by-case (is_below h u) refl (children-joined h rest p s)
+children-joined h (below u inner rest) p s =
+    by-case (is_below h u) refl (children-joined h rest p s)
   where
     by-case : (b : Bool) → is_below h u ≡ b → children h (joined rest p) ≡ children h rest
         → children h (joined (below u inner rest) p) ≡ children h (below u inner rest)
@@ -52,8 +53,10 @@ outline-joined : (ws rest : List Word) → AllStop ws (outline rest)
 outline-joined [] rest s = refl
 outline-joined (u ∷ us) rest s =
     ap (λ o. below u (children (head_of u) o) (after (head_of u) o)) (outline-joined us rest s.1)
-    ∙ ap (λ o. below u o (after (head_of u) (joined (outline us) (outline rest)))) (children-joined (head_of u) (outline us) (outline rest) s.0)
-    ∙ ap (below u (children (head_of u) (outline us))) (after-joined (head_of u) (outline us) (outline rest) s.0)
+    ∙ ap (λ o. below u o (after (head_of u) (joined (outline us) (outline rest))))
+    (children-joined (head_of u) (outline us) (outline rest) s.0)
+    ∙ ap (below u (children (head_of u) (outline us)))
+    (after-joined (head_of u) (outline us) (outline rest) s.0)
 
 -- ---- all words below one
 abbrev pub TopsBelow : Head → Outline → Type 0
@@ -75,7 +78,8 @@ tops h (u ∷ us) a = (a.0, after-tops (head_of u) h (outline us) (tops h us a.1
 
 children-all : (h : Head) (o : Outline) → TopsBelow h o → children h o ≡ o
 children-all h end t = refl
-children-all h (below u inner rest) t = rw (t.0, children) (ap (below u inner) (children-all h rest t.1))
+children-all h (below u inner rest) t =
+    rw (t.0, children) (ap (below u inner) (children-all h rest t.1))
 
 after-all : (h : Head) (o : Outline) → TopsBelow h o → after h o ≡ end
 after-all h end t = refl
@@ -87,5 +91,9 @@ pub section : (w : Word) (inner rest : List Word) → AllBelow (head_of w) inner
     → outline (w ∷ (inner ++ rest)) ≡ below w (outline inner) (outline rest)
 section w inner rest a s all =
     ap (λ o. below w (children (head_of w) o) (after (head_of w) o)) (outline-joined inner rest all)
-    ∙ ap (λ o. below w o (after (head_of w) (joined (outline inner) (outline rest)))) (children-joined (head_of w) (outline inner) (outline rest) s ∙ children-all (head_of w) (outline inner) (tops (head_of w) inner a))
-    ∙ ap (below w (outline inner)) (after-joined (head_of w) (outline inner) (outline rest) s ∙ ap (λ o. joined o (outline rest)) (after-all (head_of w) (outline inner) (tops (head_of w) inner a)))
+    ∙ ap (λ o. below w o (after (head_of w) (joined (outline inner) (outline rest))))
+    (children-joined (head_of w) (outline inner) (outline rest) s
+    ∙ children-all (head_of w) (outline inner) (tops (head_of w) inner a))
+    ∙ ap (below w (outline inner)) (after-joined (head_of w) (outline inner) (outline rest) s ∙ ap
+    (λ o. joined o (outline rest))
+    (after-all (head_of w) (outline inner) (tops (head_of w) inner a)))

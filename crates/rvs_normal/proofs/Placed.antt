@@ -1,16 +1,19 @@
 -- The words of printed groups are those of parts in parts.
-use Rattle.std.proofs.Common.{◌≡◌, ℕ, suc, Bool, true, false, List, [], ◌∷◌, ◌++◌, refl, sym, ap, ◌∙◌, append_assoc, append-nil, Option, Some, None}
+use Rattle.std.proofs.Common.{◌≡◌, ℕ, suc, Bool, true, false, List, [], ◌∷◌, ◌++◌, refl, sym, ap}
+use Rattle.std.proofs.Common.{◌∙◌, append_assoc, append-nil, Option, Some, None}
 use Rattle.std.specs.Prelude.{◌||◌, not, if◌then◌else◌, map, filter, codes}
 use Rattle.rvs_yaml_text.specs.Word.{Word}
 use Rattle.rvs_yaml_text.specs.Scalar.{is_blank}
 use Rattle.rvs_yaml_text.specs.Text.{words_of, line_words}
 use Rattle.rvs_cgf.specs.Groups.{Point, Skipped, Label, same_kind}
 use Rattle.rvs_cgf.specs.declared.group.Kind.{Kind}
-use Rattle.rvs_cgf.specs.declared.group.Kind.TheVariants.{Mnemonic, Rs1, Rs2, Rd, OpComb, ValComb, CrossComb}
+use Rattle.rvs_cgf.specs.declared.group.Kind.TheVariants.{Mnemonic, Rs1, Rs2, Rd, OpComb, ValComb}
+use Rattle.rvs_cgf.specs.declared.group.Kind.TheVariants.{CrossComb}
 use Rattle.rvs_cgf.specs.Print.{kind_name, goes_on}
 use Rattle.rvs_cgf.specs.Spelled.{Block, joined, blocks, selected}
 use Rattle.rvs_normal.proofs.Lines.{inked-utf8}
-use Rattle.rvs_normal.proofs.Rows.{Row, label_row, node_row, point_row, note_row, inner_note_row, row_text, IsRow, row_words, line-words}
+use Rattle.rvs_normal.proofs.Rows.{Row, label_row, node_row, point_row, note_row, inner_note_row}
+use Rattle.rvs_normal.proofs.Rows.{row_text, IsRow, row_words, line-words}
 use Rattle.rvs_normal.proofs.Columns.{Col, words, Part, opener, parts_cols, point_col, points_cols}
 use Rattle.rvs_normal.proofs.Printed.{head_rows, points_rows, skipped_row, label_rows, rows}
 
@@ -29,8 +32,10 @@ pub words-of-rows : (n : ℕ) (started : Bool) (rs : List Row) → AreRows rs
     → words_of n started (map row_text rs ++ ([] ∷ [])) ≡ rows_words n rs
 words-of-rows n started [] good = ap (λ ws. ws ++ []) (no-words n started)
 words-of-rows n started (r ∷ rs) good =
-    ap (λ ws. ws ++ words_of (suc n) (started || not (is_blank true (row_text r))) (map row_text rs ++ ([] ∷ []))) (line-words n started r good.0)
-    ∙ ap (λ ws. row_words n r ++ ws) (words-of-rows (suc n) (started || not (is_blank true (row_text r))) rs good.1)
+    ap (λ ws. ws ++ words_of (suc n) (started || not (is_blank true (row_text r)))
+    (map row_text rs ++ ([] ∷ []))) (line-words n started r good.0)
+    ∙ ap (λ ws. row_words n r ++ ws)
+    (words-of-rows (suc n) (started || not (is_blank true (row_text r))) rs good.1)
 
 -- ---- columns
 abbrev pub row_cols : Row → List Col
@@ -56,15 +61,19 @@ lines n (r ∷ rs) = row_lines n r ++ lines (suc n) rs
 
 pub words-by-columns : (n : ℕ) (rs : List Row) → rows_words n rs ≡ words (lines n rs) (cols rs)
 words-by-columns n [] = refl
-words-by-columns n (label_row name ∷ rs) = ap (λ ws. row_words n (label_row name) ++ ws) (words-by-columns (suc n) rs)
-words-by-columns n (node_row name ∷ rs) = ap (λ ws. row_words n (node_row name) ++ ws) (words-by-columns (suc n) rs)
-words-by-columns n (point_row k ∷ rs) = ap (λ ws. row_words n (point_row k) ++ ws) (words-by-columns (suc n) rs)
+words-by-columns n (label_row name ∷ rs) =
+    ap (λ ws. row_words n (label_row name) ++ ws) (words-by-columns (suc n) rs)
+words-by-columns n (node_row name ∷ rs) =
+    ap (λ ws. row_words n (node_row name) ++ ws) (words-by-columns (suc n) rs)
+words-by-columns n (point_row k ∷ rs) =
+    ap (λ ws. row_words n (point_row k) ++ ws) (words-by-columns (suc n) rs)
 words-by-columns n (note_row t ∷ rs) = words-by-columns (suc n) rs
 words-by-columns n (inner_note_row t ∷ rs) = words-by-columns (suc n) rs
 
 cols-append : (xs ys : List Row) → cols (xs ++ ys) ≡ cols xs ++ cols ys
 cols-append [] ys = refl
-cols-append (x ∷ xs) ys = ap (λ cs. row_cols x ++ cs) (cols-append xs ys) ∙ sym (append_assoc (row_cols x) (cols xs) (cols ys))
+cols-append (x ∷ xs) ys = ap (λ cs. row_cols x ++ cs) (cols-append xs ys)
+    ∙ sym (append_assoc (row_cols x) (cols xs) (cols ys))
 
 -- ---- parts
 abbrev pub keys : List Point → List (List ℕ)
@@ -82,7 +91,8 @@ head_cols before k = if goes_on before k then [] else opener 2 (kind_name k) ∷
 
 abbrev pub cols_behind : Option Kind → List Block → List Col
 cols_behind before [] = []
-cols_behind before (b ∷ bs) = head_cols before b.kind ++ (points_cols 4 (codes "0") (keys b.points) ++ parts_cols 2 (map node_part bs))
+cols_behind before (b ∷ bs) = head_cols before b.kind
+    ++ (points_cols 4 (codes "0") (keys b.points) ++ parts_cols 2 (map node_part bs))
 
 whole : (bs : List Block) → cols_behind None bs ≡ parts_cols 2 (map node_part bs)
 whole [] = refl
@@ -140,12 +150,15 @@ same-kind-back CrossComb ValComb = refl
 same-kind-back CrossComb CrossComb = refl
 
 joined-cols : (before : Option Kind) (p : Point) (bs : List Block)
-    → head_cols before p.kind ++ (point_col 4 (codes "0") p.key ∷ cols_behind (Some p.kind) bs) ≡ cols_behind before (joined p bs)
+    → head_cols before p.kind ++ (point_col 4 (codes "0") p.key ∷ cols_behind (Some p.kind) bs)
+    ≡ cols_behind before (joined p bs)
 joined-cols before p [] = refl
 joined-cols before p (b ∷ bs) = by-case (same_kind b.kind p.kind) refl
   where
     by-case : (s : Bool) → same_kind b.kind p.kind ≡ s
-        → head_cols before p.kind ++ (point_col 4 (codes "0") p.key ∷ cols_behind (Some p.kind) (b ∷ bs)) ≡ cols_behind before (joined p (b ∷ bs))
+        → head_cols before p.kind
+        ++ (point_col 4 (codes "0") p.key ∷ cols_behind (Some p.kind) (b ∷ bs))
+        ≡ cols_behind before (joined p (b ∷ bs))
     by-case true e = rw (e, joined, same-kind-back p.kind b.kind ∙ e, head_cols) refl
     by-case false e = rw (e, joined, same-kind-back p.kind b.kind ∙ e, head_cols) refl
 
@@ -154,8 +167,10 @@ points-cols : (before : Option Kind) (ps : List Point)
 points-cols before [] = refl
 points-cols before (p ∷ ps) =
     cols-append (head_rows before p.kind) (point_row p.key ∷ points_rows (Some p.kind) ps)
-    ∙ ap (λ cs. cs ++ (point_col 4 (codes "0") p.key ∷ cols (points_rows (Some p.kind) ps))) (head-cols before p.kind)
-    ∙ ap (λ cs. head_cols before p.kind ++ (point_col 4 (codes "0") p.key ∷ cs)) (points-cols (Some p.kind) ps)
+    ∙ ap (λ cs. cs ++ (point_col 4 (codes "0") p.key ∷ cols (points_rows (Some p.kind) ps)))
+    (head-cols before p.kind)
+    ∙ ap (λ cs. head_cols before p.kind ++ (point_col 4 (codes "0") p.key ∷ cs))
+    (points-cols (Some p.kind) ps)
     ∙ joined-cols before p (blocks ps)
   where
     head-cols : (before : Option Kind) (k : Kind) → cols (head_rows before k) ≡ head_cols before k
@@ -183,9 +198,13 @@ passed-over l e = rw (e, label_rows) refl
 
 pub groups-cols : (ls : List Label) → cols (rows ls) ≡ parts_cols 0 (map label_part (selected ls))
 groups-cols [] = refl
-groups-cols (l ∷ ls) = cols-append (label_rows l) (rows ls) ∙ ap (λ cs. cols (label_rows l) ++ cs) (groups-cols ls) ∙ by-case l.selected refl
+groups-cols (l ∷ ls) = cols-append (label_rows l) (rows ls)
+    ∙ ap (λ cs. cols (label_rows l) ++ cs) (groups-cols ls) ∙ by-case l.selected refl
   where
     by-case : (s : Bool) → l.selected ≡ s
-        → cols (label_rows l) ++ parts_cols 0 (map label_part (selected ls)) ≡ parts_cols 0 (map label_part (selected (l ∷ ls)))
-    by-case true e = ap (λ cs. cs ++ parts_cols 0 (map label_part (selected ls))) (label-cols l e) ∙ rw (e, selected, filter) refl
-    by-case false e = ap (λ cs. cs ++ parts_cols 0 (map label_part (selected ls))) (passed-over l e) ∙ rw (e, selected, filter) refl
+        → cols (label_rows l) ++ parts_cols 0 (map label_part (selected ls))
+        ≡ parts_cols 0 (map label_part (selected (l ∷ ls)))
+    by-case true e = ap (λ cs. cs ++ parts_cols 0 (map label_part (selected ls))) (label-cols l e)
+        ∙ rw (e, selected, filter) refl
+    by-case false e = ap (λ cs. cs ++ parts_cols 0 (map label_part (selected ls))) (passed-over l e)
+        ∙ rw (e, selected, filter) refl

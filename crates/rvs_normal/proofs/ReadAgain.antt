@@ -1,5 +1,7 @@
 -- The normal text of groups that were read is read again as the selected ones.
-use Rattle.std.proofs.Common.{◌≡◌, ℕ, ◌+◌, ◌*◌, ◌≤◌, ◌<◌, Bool, true, false, List, [], ◌∷◌, ◌++◌, length, refl, sym, ap, subst, ◌∙◌, arith, append_assoc, append-nil, Option, Some, None, Ok, Err, All, true≢false, bytes_eq}
+use Rattle.std.proofs.Common.{◌≡◌, ℕ, ◌+◌, ◌*◌, ◌≤◌, ◌<◌, Bool, true, false, List, [], ◌∷◌, ◌++◌}
+use Rattle.std.proofs.Common.{length, refl, sym, ap, subst, ◌∙◌, arith, append_assoc, append-nil}
+use Rattle.std.proofs.Common.{Option, Some, None, Ok, Err, All, true≢false, bytes_eq}
 use Rattle.std.specs.Prelude.{◌==◌, not, codes, sum_by}
 use Rattle.std.specs.List.{list_all, list_any, flat_map}
 use Rattle.std.proofs.lemmas.List.{length-append}
@@ -7,7 +9,8 @@ use Rattle.std.proofs.lemmas.List.Sums.{sum_by-cons}
 use Rattle.std.proofs.lemmas.List.Elements.{All-head, All-tail}
 use Rattle.rvs_insn.specs.Isa.{Isa}
 use Rattle.rvs_insn.specs.Names.{is_admitted_op}
-use Rattle.rvs_tree.specs.Data.{Data, Entries, no_entries, entry, pairs_of, own_pairs, scalar, sequence, mapping}
+use Rattle.rvs_tree.specs.Data.{Data, Entries, no_entries, entry, pairs_of, own_pairs, scalar}
+use Rattle.rvs_tree.specs.Data.{sequence, mapping}
 use Rattle.rvs_tree.specs.Value.{Value}
 use Rattle.rvs_yaml_text.specs.Text.{lines_of, words_of}
 use Rattle.rvs_yaml.specs.Checks.{Checked, ◌>>=◌, ◌>>◌}
@@ -15,9 +18,11 @@ use Rattle.rvs_yaml.specs.Block.{tree_of}
 use Rattle.rvs_yaml.specs.Answer.{within_limits, front, at_end, answer_after, answer}
 use Rattle.rvs_cgf.specs.Keys.{is_printable}
 use Rattle.rvs_cgf.specs.Groups.{Point, Label, size_of, groups_of, ops_of}
-use Rattle.rvs_cgf.specs.Print.{doubled, doubled_byte, head_line, point_line, points_text, skipped_line, label_text, normal_text}
+use Rattle.rvs_cgf.specs.Print.{doubled, doubled_byte, head_line, point_line, points_text}
+use Rattle.rvs_cgf.specs.Print.{skipped_line, label_text, normal_text}
 use Rattle.rvs_cgf.specs.Valid.{IsMeant}
-use Rattle.rvs_cgf.specs.Spelled.{IsPlain, ArePlain, selected, keys_are_own, nodes_are_own, are_admitted}
+use Rattle.rvs_cgf.specs.Spelled.{IsPlain, ArePlain, selected, keys_are_own, nodes_are_own}
+use Rattle.rvs_cgf.specs.Spelled.{are_admitted}
 use Rattle.rvs_cgf.specs.declared.group.Kind.{Kind}
 use Rattle.rvs_cgf.proofs.Spelling.{groups-spelled}
 use Rattle.rvs_cgf.proofs.ReadBack.{spelled_is_read}
@@ -26,7 +31,9 @@ use Rattle.rvs_normal.specs.Again.{names_are_apart, IsReadAgain}
 use Rattle.rvs_normal.proofs.Truths.{both, and-true, or-both, or-false, not-true, not-false}
 use Rattle.rvs_normal.proofs.OnceRead.{Has, TreeOwned, tree-owned}
 use Rattle.rvs_normal.proofs.Notes.{AllNotes, read-well}
-use Rattle.rvs_normal.proofs.Spelling.{IsPrinted, ArePrinted, IsSome, AllSome, points_cost, labels_cost, printed-is-read, selected-first, selected-others}
+use Rattle.rvs_normal.proofs.Spelling.{IsPrinted, ArePrinted, IsSome, AllSome, points_cost}
+use Rattle.rvs_normal.proofs.Spelling.{labels_cost, printed-is-read, selected-first}
+use Rattle.rvs_normal.proofs.Spelling.{selected-others}
 
 -- ---- trees of texts
 tree-of-answer : (done ls : List (List ℕ)) (tree : Data) → answer_after done ls ≡ Ok tree
@@ -36,14 +43,18 @@ tree-of-answer done [] tree h = ap front (append-nil done) ∙ ended (front done
     ended : (r : Checked Data) → at_end (length done) r ≡ Ok tree → r ≡ Ok tree
     ended (Ok d) h = cc
     ended (Err k) h = cc
-tree-of-answer done (l ∷ ls) tree h = by-front (front (done ++ (l ∷ []))) refl (tree-of-answer (done ++ (l ∷ [])) ls tree)
+tree-of-answer done (l ∷ ls) tree h =
+    by-front (front (done ++ (l ∷ []))) refl (tree-of-answer (done ++ (l ∷ [])) ls tree)
   where
     by-front : (r : Checked Data) → front (done ++ (l ∷ [])) ≡ r
-        → (answer_after (done ++ (l ∷ [])) ls ≡ Ok tree → front ((done ++ (l ∷ [])) ++ ls) ≡ Ok tree)
+        → (answer_after (done ++ (l ∷ [])) ls ≡ Ok tree
+        → front ((done ++ (l ∷ [])) ++ ls) ≡ Ok tree)
         → front (done ++ (l ∷ ls)) ≡ Ok tree
-    by-front (Ok d) e k = ap front (sym (append_assoc done (l ∷ []) ls)) ∙ k (sym (rw (e, answer_after) refl) ∙ h)
+    by-front (Ok d) e k =
+        ap front (sym (append_assoc done (l ∷ []) ls)) ∙ k (sym (rw (e, answer_after) refl) ∙ h)
     by-front (Err kind) e k =
-        let bad : answer_after done (l ∷ ls) ≡ Err (length (done ++ (l ∷ [])), kind) = rw (e, answer_after) refl in
+        let bad : answer_after done (l ∷ ls) ≡ Err (length (done ++ (l ∷ [])), kind) =
+        rw (e, answer_after) refl in
         let worse = sym bad ∙ h in
         cc
 
@@ -57,7 +68,8 @@ front-owned (Ok v) tree o h = subst KeysOnce (kept (within_limits v) h) o
     kept (Err k) h = cc
 
 pub answer-owned : (bytes : List ℕ) (tree : Data) → answer bytes ≡ Ok tree → KeysOnce tree
-answer-owned bytes tree h = front-owned (tree_of (words_of 1 false (lines_of bytes))) tree (tree-owned (words_of 1 false (lines_of bytes))) (tree-of-answer [] (lines_of bytes) tree h)
+answer-owned bytes tree h = front-owned (tree_of (words_of 1 false (lines_of bytes))) tree
+    (tree-owned (words_of 1 false (lines_of bytes))) (tree-of-answer [] (lines_of bytes) tree h)
 
 top-own : (d : Data) → KeysOnce d → keys_are_own (own_pairs d) ≡ true
 top-own (scalar t l) o = refl
@@ -67,7 +79,8 @@ top-own (mapping es l) o = o.0
 each-own : (es : Entries) → EntriesOnce es
     → list_all (λ e. keys_are_own (own_pairs e.1)) (pairs_of es) ≡ true
 each-own no_entries o = refl
-each-own (entry k d es) o = and-true (keys_are_own (own_pairs d)) (list_all (λ e. keys_are_own (own_pairs e.1)) (pairs_of es)) (top-own d o.0) (each-own es o.1)
+each-own (entry k d es) o = and-true (keys_are_own (own_pairs d))
+    (list_all (λ e. keys_are_own (own_pairs e.1)) (pairs_of es)) (top-own d o.0) (each-own es o.1)
 
 nodes-own : (d : Data) → KeysOnce d → nodes_are_own d ≡ true
 nodes-own (scalar t l) o = refl
@@ -77,7 +90,8 @@ nodes-own (mapping es l) o = each-own es o.1
 -- ---- labels that are printed
 points-printable : (ps : List Point) → All IsMeant ps → list_all (λ p. is_printable p.key) ps ≡ true
 points-printable [] h = refl
-points-printable (p ∷ ps) h = and-true (is_printable p.key) (list_all (λ p. is_printable p.key) ps) (All-head IsMeant p ps h).printable (points-printable ps (All-tail IsMeant p ps h))
+points-printable (p ∷ ps) h = and-true (is_printable p.key) (list_all (λ p. is_printable p.key) ps)
+    (All-head IsMeant p ps h).printable (points-printable ps (All-tail IsMeant p ps h))
 
 plain-printed : (isa : Isa) (l : Label) → IsPlain isa l → IsPrinted l
 plain-printed isa l h = record {
@@ -124,20 +138,27 @@ any-selected l (m ∷ ls) h =
     by-case : (b : Bool) → m.selected ≡ b → bytes_eq l.name m.name ≡ false
         → list_any (λ n. bytes_eq l.name n.name) (selected ls) ≡ false
         → list_any (λ n. bytes_eq l.name n.name) (selected (m ∷ ls)) ≡ false
-    by-case true e p q = ap (list_any (λ (n : Label). bytes_eq l.name n.name)) (selected-first m ls e) ∙ or-false (bytes_eq l.name m.name) (list_any (λ n. bytes_eq l.name n.name) (selected ls)) p q
-    by-case false e p q = ap (list_any (λ (n : Label). bytes_eq l.name n.name)) (selected-others m ls e) ∙ q
+    by-case true e p q = ap (list_any (λ (n : Label). bytes_eq l.name n.name))
+        (selected-first m ls e) ∙ or-false (bytes_eq l.name m.name)
+        (list_any (λ n. bytes_eq l.name n.name) (selected ls)) p q
+    by-case false e p q =
+        ap (list_any (λ (n : Label). bytes_eq l.name n.name)) (selected-others m ls e) ∙ q
 
 selected-apart : (ls : List Label) → names_are_apart ls ≡ true
     → names_are_apart (selected ls) ≡ true
 selected-apart [] h = refl
 selected-apart (l ∷ ls) h =
     let p = both (not (list_any (λ m. bytes_eq l.name m.name) ls)) (names_are_apart ls) h in
-    by-case l.selected refl (any-selected l ls (not-true (list_any (λ m. bytes_eq l.name m.name) ls) p.0)) (selected-apart ls p.1)
+    by-case l.selected refl
+    (any-selected l ls (not-true (list_any (λ m. bytes_eq l.name m.name) ls) p.0))
+    (selected-apart ls p.1)
   where
     by-case : (b : Bool) → l.selected ≡ b
         → list_any (λ m. bytes_eq l.name m.name) (selected ls) ≡ false
         → names_are_apart (selected ls) ≡ true → names_are_apart (selected (l ∷ ls)) ≡ true
-    by-case true e p q = ap names_are_apart (selected-first l ls e) ∙ and-true (not (list_any (λ m. bytes_eq l.name m.name) (selected ls))) (names_are_apart (selected ls)) (not-false (list_any (λ m. bytes_eq l.name m.name) (selected ls)) p) q
+    by-case true e p q = ap names_are_apart (selected-first l ls e) ∙ and-true
+        (not (list_any (λ m. bytes_eq l.name m.name) (selected ls))) (names_are_apart (selected ls))
+        (not-false (list_any (λ m. bytes_eq l.name m.name) (selected ls)) p) q
     by-case false e p q = ap names_are_apart (selected-others l ls e) ∙ q
 
 -- ---- how long the text is
@@ -179,7 +200,8 @@ label-long l e =
     rw (e, label_text) (omega (
       arith,
       points-long None l.points,
-      length-append (l.name ++ codes ":\n") (points_text None l.points ++ flat_map skipped_line l.skipped),
+      length-append (l.name ++ codes ":\n")
+          (points_text None l.points ++ flat_map skipped_line l.skipped),
       length-append l.name (codes ":\n"),
       length-append (points_text None l.points) (flat_map skipped_line l.skipped),
     ))
@@ -190,8 +212,10 @@ text-long (l ∷ ls) = by-case l.selected refl (text-long ls)
   where
     by-case : (b : Bool) → l.selected ≡ b → letters (selected ls) ≤ length (normal_text ls)
         → letters (selected (l ∷ ls)) ≤ length (normal_text (l ∷ ls))
-    by-case true e h = let same = ap letters (selected-first l ls e) in omega (arith, same, h, label-long l e, length-append (label_text l) (normal_text ls))
-    by-case false e h = let same = ap letters (selected-others l ls e) in omega (arith, same, h, length-append (label_text l) (normal_text ls))
+    by-case true e h = let same = ap letters (selected-first l ls e) in
+        omega (arith, same, h, label-long l e, length-append (label_text l) (normal_text ls))
+    by-case false e h = let same = ap letters (selected-others l ls e) in
+        omega (arith, same, h, length-append (label_text l) (normal_text ls))
 
 -- ---- how many nodes
 abbrev point_count : List Label → ℕ
@@ -218,7 +242,9 @@ points-few isa (l ∷ ls) h = omega (arith, sum_by-cons size_of l ls, points-few
 plain-admitted : (isa : Isa) (ls : List Label) → ArePlain isa ls
     → list_all (λ l. list_all (is_admitted_op isa) l.ops) ls ≡ true
 plain-admitted isa [] h = refl
-plain-admitted isa (l ∷ ls) h = and-true (list_all (is_admitted_op isa) l.ops) (list_all (λ m. list_all (is_admitted_op isa) m.ops) ls) h.0.valid.admitted (plain-admitted isa ls h.1)
+plain-admitted isa (l ∷ ls) h = and-true (list_all (is_admitted_op isa) l.ops)
+    (list_all (λ m. list_all (is_admitted_op isa) m.ops) ls) h.0.valid.admitted
+    (plain-admitted isa ls h.1)
 
 pub read-again : (isa other : Isa) (bytes : List ℕ) (d : Data) (ls : List Label)
     → answer bytes ≡ Ok d → groups_of isa d ≡ Ok ls → length (normal_text ls) ≤ 4194304
@@ -228,7 +254,8 @@ read-again isa other bytes d ls a g short admits =
     let can = groups-spelled isa d ls (nodes-own d owned) g in
     let well = read-well isa d ls (top-own d owned) g in
     let cost : labels_cost (selected ls) ≤ 31999936 = omega (arith, labels-cost (selected ls), points-few isa (selected ls) can.plain, can.few_labels, can.few_points, text-long ls, short) in
-    let r = printed-is-read ls (all-printed isa ls can.plain well.notes) (all-some isa (selected ls) can.plain) (selected-apart ls well.apart) cost in
+    let r = printed-is-read ls (all-printed isa ls can.plain well.notes)
+    (all-some isa (selected ls) can.plain) (selected-apart ls well.apart) cost in
     record {
       tree = r.tree;
       is = r.is;
@@ -237,4 +264,5 @@ read-again isa other bytes d ls a g short admits =
 
 pub own-admitted : (isa : Isa) (bytes : List ℕ) (d : Data) (ls : List Label) → answer bytes ≡ Ok d
     → groups_of isa d ≡ Ok ls → are_admitted isa ls ≡ true
-own-admitted isa bytes d ls a g = plain-admitted isa (selected ls) (groups-spelled isa d ls (nodes-own d (answer-owned bytes d a)) g).plain
+own-admitted isa bytes d ls a g = plain-admitted isa (selected ls)
+    (groups-spelled isa d ls (nodes-own d (answer-owned bytes d a)) g).plain

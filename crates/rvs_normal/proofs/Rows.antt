@@ -1,13 +1,18 @@
 -- The lines of printed groups, and their words.
-use Rattle.std.proofs.Common.{◌≡◌, ℕ, Bool, true, false, List, [], ◌∷◌, ◌++◌, refl, ap, ◌∙◌, arith, Some, None}
+use Rattle.std.proofs.Common.{◌≡◌, ℕ, Bool, true, false, List, [], ◌∷◌, ◌++◌, refl, ap, ◌∙◌, arith}
+use Rattle.std.proofs.Common.{Some, None}
 use Rattle.std.specs.Prelude.{◌&&◌, ◌||◌, ◌==◌, nat_le}
 use Rattle.std.specs.List.{list_all}
 use Rattle.std.proofs.lemmas.Bool.Decides.{nat_tests}
-use Rattle.rvs_yaml_text.specs.Bytes.{space_byte, single_quote_byte, hash_byte, dash_byte, dot_byte, colon_byte}
+use Rattle.rvs_yaml_text.specs.Bytes.{space_byte, single_quote_byte, hash_byte, dash_byte, dot_byte}
+use Rattle.rvs_yaml_text.specs.Bytes.{colon_byte}
 use Rattle.rvs_yaml_text.specs.Word.{nothing, text, key, Word}
-use Rattle.rvs_yaml_text.specs.Scalar.{onto, is_blank, key_split, trimmed, start_fault, key_name, quoted_name, is_unsupported_start, is_reserved_start, is_indicator_byte}
+use Rattle.rvs_yaml_text.specs.Scalar.{onto, is_blank, key_split, trimmed, start_fault, key_name}
+use Rattle.rvs_yaml_text.specs.Scalar.{quoted_name, is_unsupported_start, is_reserved_start}
+use Rattle.rvs_yaml_text.specs.Scalar.{is_indicator_byte}
 use Rattle.rvs_yaml_text.specs.Printed.{in_quotes, doubled}
-use Rattle.rvs_yaml_text.specs.Text.{word_at, words_at, last_words, line_words, is_mark, key_of, shape_from, plain_key}
+use Rattle.rvs_yaml_text.specs.Text.{word_at, words_at, last_words, line_words, is_mark, key_of}
+use Rattle.rvs_yaml_text.specs.Text.{shape_from, plain_key}
 use Rattle.rvs_yaml_text.proofs.Printing.{printed-reads-back}
 use Rattle.rvs_cgf.specs.Keys.{is_printable}
 use Rattle.rvs_normal.proofs.Truths.{both, and-true}
@@ -15,7 +20,8 @@ use Rattle.rvs_normal.proofs.Lines.{is_ink, inked-append, inked-utf8}
 
 -- ---- names
 abbrev pub is_first : ℕ → Bool
-is_first c = (nat_le 48 c && nat_le c 57) || ((nat_le 65 c && nat_le c 90) || ((nat_le 97 c && nat_le c 122) || c == 95))
+is_first c = (nat_le 48 c && nat_le c 57)
+    || ((nat_le 65 c && nat_le c 90) || ((nat_le 97 c && nat_le c 122) || c == 95))
 
 abbrev pub is_next : ℕ → Bool
 is_next c = is_first c || (c == 45 || c == 46)
@@ -48,7 +54,8 @@ split-name spaced (c ∷ cs) h =
 pub trimmed-name : (cs : List ℕ) → list_all is_next cs ≡ true → trimmed cs ≡ cs
 trimmed-name [] h = refl
 trimmed-name (c ∷ []) h = rw ((not-marks c (both (is_next c) true h).0).space) refl
-trimmed-name (c ∷ d ∷ cs) h = let p = both (is_next c) (list_all is_next (d ∷ cs)) h in rw (trimmed-name (d ∷ cs) p.1) refl
+trimmed-name (c ∷ d ∷ cs) h = let p = both (is_next c) (list_all is_next (d ∷ cs)) h in
+    rw (trimmed-name (d ∷ cs) p.1) refl
 
 -- ---- a name with a colon behind it
 record NotStart (c : ℕ) : Type 0 where
@@ -85,13 +92,15 @@ first-next : (c : ℕ) → is_first c ≡ true → is_next c ≡ true
 first-next c h = rw h refl
 
 starts-well : (c : ℕ) (cs : List ℕ) → is_first c ≡ true → start_fault (c ∷ cs) ≡ None
-starts-well c cs h = let n = not-start c h in rw (n.unsupported, n.reserved, n.indicator, n.question, start_fault) refl
+starts-well c cs h = let n = not-start c h in
+    rw (n.unsupported, n.reserved, n.indicator, n.question, start_fault) refl
 
 key-of-name : (c : ℕ) (cs : List ℕ) → is_first c ≡ true → list_all is_next cs ≡ true
     → key_of (c ∷ (cs ++ (colon_byte ∷ []))) ≡ Some (key_name (c ∷ cs), [])
 key-of-name c cs h k =
     let n = not-start c h in
-    let all : list_all is_next (c ∷ cs) ≡ true = and-true (is_next c) (list_all is_next cs) (first-next c h) k in
+    let all : list_all is_next (c ∷ cs) ≡ true =
+    and-true (is_next c) (list_all is_next cs) (first-next c h) k in
     rw (n.single, n.double, key_of, starts-well c (cs ++ (colon_byte ∷ [])) h, split-name false (c ∷ cs) all, trimmed-name (c ∷ cs) all, plain_key) refl
 
 at-last : (line column c : ℕ) (bs : List ℕ) → (c == 32) ≡ false → (c == 45) ≡ false
@@ -102,25 +111,31 @@ not-blank : (c : ℕ) (bs : List ℕ) → is_first c ≡ true → is_blank true 
 not-blank c bs h = let n = not-start c h in rw (n.hash, n.space, n.tab, is_blank) refl
 
 last-word : (line column c : ℕ) (bs : List ℕ) → is_blank true (c ∷ bs) ≡ false → (c == 9) ≡ false
-    → last_words line column (c ∷ bs) ≡ word_at line column (shape_from (c ∷ bs) (key_of (c ∷ bs))) ∷ []
+    → last_words line column (c ∷ bs)
+    ≡ word_at line column (shape_from (c ∷ bs) (key_of (c ∷ bs))) ∷ []
 last-word line column c bs b t = rw (b, t, last_words) refl
 
 pub name-word : (line column c : ℕ) (cs : List ℕ) → is_first c ≡ true → list_all is_next cs ≡ true
-    → words_at line false column (c ∷ (cs ++ (colon_byte ∷ []))) ≡ word_at line column (key (key_name (c ∷ cs)) None nothing) ∷ []
+    → words_at line false column (c ∷ (cs ++ (colon_byte ∷ [])))
+    ≡ word_at line column (key (key_name (c ∷ cs)) None nothing) ∷ []
 name-word line column c cs h k =
     let n = not-start c h in
     at-last line column c (cs ++ (colon_byte ∷ [])) n.space n.dash
-    ∙ last-word line column c (cs ++ (colon_byte ∷ [])) (not-blank c (cs ++ (colon_byte ∷ [])) h) n.tab
-    ∙ ap (λ o. word_at line column (shape_from (c ∷ (cs ++ (colon_byte ∷ []))) o) ∷ []) (key-of-name c cs h k)
+    ∙ last-word line column c (cs ++ (colon_byte ∷ [])) (not-blank c (cs ++ (colon_byte ∷ [])) h)
+    n.tab
+    ∙ ap (λ o. word_at line column (shape_from (c ∷ (cs ++ (colon_byte ∷ []))) o) ∷ [])
+    (key-of-name c cs h k)
 
 pub merges-nothing : (c : ℕ) (cs : List ℕ) → is_first c ≡ true → (key_name (c ∷ cs)).merges ≡ false
 merges-nothing c cs h = let n = not-start c h in rw (n.less) refl
 
 -- ---- keys in quotes
 pub quoted-word : (line : ℕ) (k : List ℕ)
-    → words_at line false 4 (in_quotes k ++ (colon_byte ∷ space_byte ∷ 48 ∷ [])) ≡ word_at line 4 (key (quoted_name k) None (text (48 ∷ []))) ∷ []
+    → words_at line false 4 (in_quotes k ++ (colon_byte ∷ space_byte ∷ 48 ∷ []))
+    ≡ word_at line 4 (key (quoted_name k) None (text (48 ∷ []))) ∷ []
 quoted-word line k =
-    ap (λ o. word_at line 4 (shape_from (in_quotes k ++ (colon_byte ∷ space_byte ∷ 48 ∷ [])) o) ∷ []) (printed-reads-back.keys k (space_byte ∷ 48 ∷ []) refl)
+    ap (λ o. word_at line 4 (shape_from (in_quotes k ++ (colon_byte ∷ space_byte ∷ 48 ∷ [])) o)
+    ∷ []) (printed-reads-back.keys k (space_byte ∷ 48 ∷ []) refl)
 
 -- ---- lines
 pub data Row : Type 0 where
@@ -133,7 +148,8 @@ pub data Row : Type 0 where
 abbrev pub row_text : Row → List ℕ
 row_text (label_row name) = name ++ (colon_byte ∷ [])
 row_text (node_row name) = space_byte ∷ space_byte ∷ (name ++ (colon_byte ∷ []))
-row_text (point_row k) = space_byte ∷ space_byte ∷ space_byte ∷ space_byte ∷ (in_quotes k ++ (colon_byte ∷ space_byte ∷ 48 ∷ []))
+row_text (point_row k) = space_byte ∷ space_byte ∷ space_byte ∷ space_byte
+    ∷ (in_quotes k ++ (colon_byte ∷ space_byte ∷ 48 ∷ []))
 row_text (note_row t) = hash_byte ∷ t
 row_text (inner_note_row t) = space_byte ∷ space_byte ∷ hash_byte ∷ t
 
@@ -156,11 +172,13 @@ next-ink c h = grind (arith, nat_tests)
 
 name-inked : (cs : List ℕ) → list_all is_next cs ≡ true → is_printable cs ≡ true
 name-inked [] h = refl
-name-inked (c ∷ cs) h = let p = both (is_next c) (list_all is_next cs) h in and-true (is_ink c) (is_printable cs) (next-ink c p.0) (name-inked cs p.1)
+name-inked (c ∷ cs) h = let p = both (is_next c) (list_all is_next cs) h in
+    and-true (is_ink c) (is_printable cs) (next-ink c p.0) (name-inked cs p.1)
 
 pub plain-inked : (name : List ℕ) → is_plain name ≡ true → is_printable name ≡ true
 plain-inked [] h = refl
-plain-inked (c ∷ cs) h = let p = both (is_first c) (list_all is_next cs) h in and-true (is_ink c) (is_printable cs) (next-ink c (first-next c p.0)) (name-inked cs p.1)
+plain-inked (c ∷ cs) h = let p = both (is_first c) (list_all is_next cs) h in
+    and-true (is_ink c) (is_printable cs) (next-ink c (first-next c p.0)) (name-inked cs p.1)
 
 doubled-inked : (k : List ℕ) → is_printable k ≡ true → is_printable (doubled k) ≡ true
 doubled-inked [] h = refl
@@ -171,28 +189,33 @@ doubled-inked (c ∷ cs) h =
     doubled-one : (c : ℕ) (cs : List ℕ) (b : Bool) → (c == single_quote_byte) ≡ b → is_ink c ≡ true
         → is_printable (doubled cs) ≡ true → is_printable (doubled (c ∷ cs)) ≡ true
     doubled-one c cs true e i r = rw (e, doubled) r
-    doubled-one c cs false e i r = rw (e, doubled) (and-true (is_ink c) (is_printable (doubled cs)) i r)
+    doubled-one c cs false e i r =
+        rw (e, doubled) (and-true (is_ink c) (is_printable (doubled cs)) i r)
 
 pub row-inked : (r : Row) → IsRow r → is_printable (row_text r) ≡ true
 row-inked (label_row name) h = inked-append name (colon_byte ∷ []) (plain-inked name h) refl
 row-inked (node_row name) h = inked-append name (colon_byte ∷ []) (plain-inked name h) refl
-row-inked (point_row k) h = inked-append (in_quotes k) (colon_byte ∷ space_byte ∷ 48 ∷ []) (inked-append (doubled k) (single_quote_byte ∷ []) (doubled-inked k h) refl) refl
+row-inked (point_row k) h = inked-append (in_quotes k) (colon_byte ∷ space_byte ∷ 48 ∷ [])
+    (inked-append (doubled k) (single_quote_byte ∷ []) (doubled-inked k h) refl) refl
 row-inked (note_row t) h = h
 row-inked (inner_note_row t) h = h
 
 words-of-row : (line : ℕ) (r : Row) → IsRow r
     → words_at line false 0 (row_text r) ≡ row_words line r
 words-of-row line (label_row []) h = cc
-words-of-row line (label_row (c ∷ cs)) h = let p = both (is_first c) (list_all is_next cs) h in name-word line 0 c cs p.0 p.1
+words-of-row line (label_row (c ∷ cs)) h = let p = both (is_first c) (list_all is_next cs) h in
+    name-word line 0 c cs p.0 p.1
 words-of-row line (node_row []) h = cc
-words-of-row line (node_row (c ∷ cs)) h = let p = both (is_first c) (list_all is_next cs) h in name-word line 2 c cs p.0 p.1
+words-of-row line (node_row (c ∷ cs)) h = let p = both (is_first c) (list_all is_next cs) h in
+    name-word line 2 c cs p.0 p.1
 words-of-row line (point_row k) h = quoted-word line k
 words-of-row line (note_row t) h = refl
 words-of-row line (inner_note_row t) h = refl
 
 no-mark : (r : Row) → IsRow r → is_mark dash_byte (row_text r) ≡ false
 no-mark (label_row []) h = cc
-no-mark (label_row (c ∷ cs)) h = let n = not-start c (both (is_first c) (list_all is_next cs) h).0 in rw (n.dash) refl
+no-mark (label_row (c ∷ cs)) h = let n =
+    not-start c (both (is_first c) (list_all is_next cs) h).0 in rw (n.dash) refl
 no-mark (node_row name) h = refl
 no-mark (point_row k) h = refl
 no-mark (note_row t) h = refl
@@ -200,7 +223,8 @@ no-mark (inner_note_row t) h = refl
 
 no-dots : (r : Row) → IsRow r → is_mark dot_byte (row_text r) ≡ false
 no-dots (label_row []) h = cc
-no-dots (label_row (c ∷ cs)) h = let n = not-start c (both (is_first c) (list_all is_next cs) h).0 in rw (n.dot) refl
+no-dots (label_row (c ∷ cs)) h = let n =
+    not-start c (both (is_first c) (list_all is_next cs) h).0 in rw (n.dot) refl
 no-dots (node_row name) h = refl
 no-dots (point_row k) h = refl
 no-dots (note_row t) h = refl
@@ -208,4 +232,6 @@ no-dots (inner_note_row t) h = refl
 
 pub line-words : (line : ℕ) (started : Bool) (r : Row) → IsRow r
     → line_words line started (row_text r) ≡ row_words line r
-line-words line started r h = rw (inked-utf8 (row_text r) (row-inked r h), no-mark r h, no-dots r h, line_words) (words-of-row line r h)
+line-words line started r h = rw
+    (inked-utf8 (row_text r) (row-inked r h), no-mark r h, no-dots r h, line_words)
+    (words-of-row line r h)

@@ -1,8 +1,10 @@
 -- Maps without merges: their pairs, how many nodes count for them, and how deep they are.
-use Rattle.std.proofs.Common.{◌≡◌, ℕ, suc, ◌+◌, ◌*◌, ◌≤◌, max, false, List, [], ◌∷◌, ◌++◌, length, refl, sym, ap, ◌∙◌, arith, append_assoc, append-nil}
+use Rattle.std.proofs.Common.{◌≡◌, ℕ, suc, ◌+◌, ◌*◌, ◌≤◌, max, false, List, [], ◌∷◌, ◌++◌, length}
+use Rattle.std.proofs.Common.{refl, sym, ap, ◌∙◌, arith, append_assoc, append-nil}
 use Rattle.std.specs.Prelude.{map}
 use Rattle.rvs_tree.specs.Data.{entries_of, pairs_of, own_pairs, Pairs, depth, entries_depth}
-use Rattle.rvs_tree.specs.Value.{Written, map_value, resolved, explicit_keys, written_nodes_from, plus, text_nodes}
+use Rattle.rvs_tree.specs.Value.{Written, map_value, resolved, explicit_keys, written_nodes_from}
+use Rattle.rvs_tree.specs.Value.{plus, text_nodes}
 
 abbrev pub AreOwn : List Written → Type 0
 AreOwn [] = Unit {0}
@@ -15,7 +17,8 @@ resolved-own : (explicit : List (List ℕ)) (so_far : Pairs) (ws : List Written)
     → resolved explicit so_far ws ≡ so_far ++ pairs ws
 resolved-own explicit so_far [] own = sym (append-nil so_far)
 resolved-own explicit so_far (w ∷ ws) own =
-    rw (own.0, resolved) (resolved-own explicit (so_far ++ ((w.key, w.value.tree) ∷ [])) ws own.1 ∙ append_assoc so_far ((w.key, w.value.tree) ∷ []) (pairs ws))
+    rw (own.0, resolved) (resolved-own explicit (so_far ++ ((w.key, w.value.tree) ∷ [])) ws own.1
+    ∙ append_assoc so_far ((w.key, w.value.tree) ∷ []) (pairs ws))
 
 pub pairs-back : (es : Pairs) → pairs_of (entries_of es) ≡ es
 pairs-back [] = refl
@@ -23,7 +26,9 @@ pairs-back (e ∷ es) = ap (λ r. e ∷ r) (pairs-back es)
 
 pub own-pairs : (line : ℕ) (ws : List Written) → AreOwn ws
     → own_pairs (map_value line ws).tree ≡ pairs ws
-own-pairs line ws own = ap (λ es. pairs_of (entries_of es)) (resolved-own (explicit_keys ws) [] ws own) ∙ pairs-back (pairs ws)
+own-pairs line ws own =
+    ap (λ es. pairs_of (entries_of es)) (resolved-own (explicit_keys ws) [] ws own)
+    ∙ pairs-back (pairs ws)
 
 -- ---- depth
 abbrev pub AreShallow : ℕ → List Written → Type 0
@@ -33,14 +38,17 @@ AreShallow d (w ∷ ws) = (depth w.value.tree ≤ d) × AreShallow d ws
 pairs-depth : (d : ℕ) (ws : List Written) → AreShallow d ws
     → entries_depth (entries_of (pairs ws)) ≤ d
 pairs-depth d [] s = omega arith
-pairs-depth d (w ∷ ws) s = max-under (depth w.value.tree) (entries_depth (entries_of (pairs ws))) d s.0 (pairs-depth d ws s.1)
+pairs-depth d (w ∷ ws) s = max-under (depth w.value.tree) (entries_depth (entries_of (pairs ws))) d
+    s.0 (pairs-depth d ws s.1)
   where
     max-under : (a b d : ℕ) → a ≤ d → b ≤ d → max a b ≤ d
     max-under a b d h k = grind arith
 
 pub map-depth : (d line : ℕ) (ws : List Written) → AreOwn ws → AreShallow d ws
     → depth (map_value line ws).tree ≤ suc d
-map-depth d line ws own s = let e = ap (λ es. entries_depth (entries_of es)) (resolved-own (explicit_keys ws) [] ws own) in omega (arith, pairs-depth d ws s, e)
+map-depth d line ws own s = let e =
+    ap (λ es. entries_depth (entries_of es)) (resolved-own (explicit_keys ws) [] ws own) in
+    omega (arith, pairs-depth d ws s, e)
 
 -- ---- nodes, in sixty-fourths
 abbrev pub cost : List Written → ℕ

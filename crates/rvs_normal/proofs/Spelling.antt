@@ -1,5 +1,6 @@
 -- The normal text of groups is read as a tree that spells them.
-use Rattle.std.proofs.Common.{◌≡◌, ℕ, ◌+◌, ◌≤◌, Bool, true, false, List, [], ◌∷◌, ◌++◌, length, refl, sym, ap, subst, ◌∙◌, arith, Ok, None, Some, Option}
+use Rattle.std.proofs.Common.{◌≡◌, ℕ, ◌+◌, ◌≤◌, Bool, true, false, List, [], ◌∷◌, ◌++◌, length}
+use Rattle.std.proofs.Common.{refl, sym, ap, subst, ◌∙◌, arith, Ok, None, Some, Option}
 use Rattle.std.specs.Prelude.{◌&&◌, ◌||◌, map, codes, nat_le}
 use Rattle.std.specs.List.{list_all}
 use mathlib.Core.Bool.{cond}
@@ -12,9 +13,11 @@ use Rattle.rvs_abstract.specs.Calls.{is_letter, is_digit}
 use Rattle.rvs_cgf.specs.Keys.{is_name_byte, is_label_name, is_printable}
 use Rattle.rvs_cgf.specs.Groups.{Point, Skipped, Label, same_kind, is_empty_scalar}
 use Rattle.rvs_cgf.specs.declared.group.Kind.{Kind}
-use Rattle.rvs_cgf.specs.declared.group.Kind.TheVariants.{Mnemonic, Rs1, Rs2, Rd, OpComb, ValComb, CrossComb}
+use Rattle.rvs_cgf.specs.declared.group.Kind.TheVariants.{Mnemonic, Rs1, Rs2, Rd, OpComb, ValComb}
+use Rattle.rvs_cgf.specs.declared.group.Kind.TheVariants.{CrossComb}
 use Rattle.rvs_cgf.specs.Print.{kind_name, goes_on, normal_text}
-use Rattle.rvs_cgf.specs.Spelled.{Block, joined, blocks, selected, kinds_are_apart, SpellsKeys, SpellsNodes, SpellsLabels, SpellsAll, Spells}
+use Rattle.rvs_cgf.specs.Spelled.{Block, joined, blocks, selected, kinds_are_apart, SpellsKeys}
+use Rattle.rvs_cgf.specs.Spelled.{SpellsNodes, SpellsLabels, SpellsAll, Spells}
 use Rattle.rvs_cgf.specs.Valid.{are_distinct}
 use Rattle.rvs_normal.specs.Again.{names_are_apart, notes_are_printable}
 use Rattle.rvs_normal.proofs.Truths.{both, and-true}
@@ -23,11 +26,15 @@ use Rattle.rvs_normal.proofs.Rows.{is_first, is_next, is_plain, merges-nothing, 
 use Rattle.rvs_normal.proofs.Columns.{parts_cols}
 use Rattle.rvs_normal.proofs.Blocks.{SaysTexts, SaysParts}
 use Rattle.rvs_normal.proofs.Sizes.{pairs, own-pairs}
-use Rattle.rvs_normal.proofs.Printed.{head_rows, points_rows, skipped_row, label_rows, rows, groups-text}
+use Rattle.rvs_normal.proofs.Printed.{head_rows, points_rows, skipped_row, label_rows, rows}
+use Rattle.rvs_normal.proofs.Printed.{groups-text}
 use Rattle.rvs_normal.proofs.Placed as placed
 use Rattle.rvs_normal.proofs.Placed.{AreRows, cols, keys, groups-cols}
 use Rattle.rvs_normal.proofs.Apart.{Distinct, AllDistinct, distinct-blocks, node-names, label-names}
-use Rattle.rvs_normal.proofs.Trees.{Node, Group, zero_text, node_part, group_part, AreNodes, AreGroups, node_names, group_names, nodes_cost, groups_cost, HasKeys, IsNode, HasNodes, IsGroup, HasGroups, own-of-texts, own-of-parts}
+use Rattle.rvs_normal.proofs.Trees.{Node, Group, zero_text, node_part, group_part, AreNodes}
+use Rattle.rvs_normal.proofs.Trees.{AreGroups, node_names, group_names, nodes_cost, groups_cost}
+use Rattle.rvs_normal.proofs.Trees.{HasKeys, IsNode, HasNodes, IsGroup, HasGroups, own-of-texts}
+use Rattle.rvs_normal.proofs.Trees.{own-of-parts}
 use Rattle.rvs_normal.proofs.Answered.{rows-answered}
 
 abbrev pub node_of : Block → Node
@@ -43,7 +50,10 @@ same-nodes (b ∷ bs) = ap (λ ps. placed.node_part b ∷ ps) (same-nodes bs)
 same-groups : (ls : List Label) → map placed.label_part ls ≡ map group_part (map group_of ls)
 same-groups [] = refl
 same-groups (l ∷ ls) =
-    ap (λ ps. record { name = l.name; inner = parts_cols 2 ps } ∷ map placed.label_part ls) (same-nodes (blocks l.points))
+    ap (λ ps. record {
+      name = l.name;
+      inner = parts_cols 2 ps;
+    } ∷ map placed.label_part ls) (same-nodes (blocks l.points))
     ∙ ap (λ ps. group_part (group_of l) ∷ ps) (same-groups ls)
 
 -- ---- what is known of labels
@@ -55,7 +65,8 @@ pub record IsPrinted (l : Label) : Type 0 where
 
 abbrev pub ArePrinted : List Label → Type 0
 ArePrinted [] = Unit {0}
-ArePrinted (l ∷ ls) = (l.selected ≡ true → IsPrinted l) × (notes_are_printable l ≡ true) × ArePrinted ls
+ArePrinted (l ∷ ls) =
+    (l.selected ≡ true → IsPrinted l) × (notes_are_printable l ≡ true) × ArePrinted ls
 
 -- ---- lines
 first-byte : (c : ℕ) → (is_letter c || is_digit c) ≡ true → is_first c ≡ true
@@ -66,19 +77,22 @@ next-byte c h = grind (arith, nat_tests)
 
 next-bytes : (cs : List ℕ) → list_all is_name_byte cs ≡ true → list_all is_next cs ≡ true
 next-bytes [] h = refl
-next-bytes (c ∷ cs) h = let p = both (is_name_byte c) (list_all is_name_byte cs) h in and-true (is_next c) (list_all is_next cs) (next-byte c p.0) (next-bytes cs p.1)
+next-bytes (c ∷ cs) h = let p = both (is_name_byte c) (list_all is_name_byte cs) h in
+    and-true (is_next c) (list_all is_next cs) (next-byte c p.0) (next-bytes cs p.1)
 
 pub name-plain : (name : List ℕ) → is_label_name name ≡ true → is_plain name ≡ true
 name-plain [] h = h
 name-plain (c ∷ cs) h =
-    let p = both (is_letter c || is_digit c) (list_all is_name_byte (c ∷ cs) && nat_le (length (c ∷ cs)) 64) h in
+    let p = both (is_letter c || is_digit c)
+    (list_all is_name_byte (c ∷ cs) && nat_le (length (c ∷ cs)) 64) h in
     let q = both (list_all is_name_byte (c ∷ cs)) (nat_le (length (c ∷ cs)) 64) p.1 in
     let r = both (is_name_byte c) (list_all is_name_byte cs) q.0 in
     and-true (is_first c) (list_all is_next cs) (first-byte c p.0) (next-bytes cs r.1)
 
 name-merges : (name : List ℕ) → is_label_name name ≡ true → (key_name name).merges ≡ false
 name-merges [] h = cc
-name-merges (c ∷ cs) h = merges-nothing c cs (first-byte c (both (is_letter c || is_digit c) (list_all is_name_byte (c ∷ cs) && nat_le (length (c ∷ cs)) 64) h).0)
+name-merges (c ∷ cs) h = merges-nothing c cs (first-byte c (both (is_letter c || is_digit c)
+    (list_all is_name_byte (c ∷ cs) && nat_le (length (c ∷ cs)) 64) h).0)
 
 kind-plain : (k : Kind) → is_plain (kind_name k) ≡ true
 kind-plain Mnemonic = refl
@@ -114,14 +128,16 @@ points-good : (before : Option Kind) (ps : List Point)
 points-good before [] h = tt
 points-good before (p ∷ ps) h =
     let q = both (is_printable p.key) (list_all (λ p. is_printable p.key) ps) h in
-    rows-append (head_rows before p.kind) (point_row p.key ∷ points_rows (Some p.kind) ps) (head-good before p.kind) (q.0, points-good (Some p.kind) ps q.1)
+    rows-append (head_rows before p.kind) (point_row p.key ∷ points_rows (Some p.kind) ps)
+    (head-good before p.kind) (q.0, points-good (Some p.kind) ps q.1)
 
 skipped-good : (ss : List Skipped)
     → list_all (λ s. is_printable s.node && is_printable s.key) ss ≡ true
     → AreRows (map skipped_row ss)
 skipped-good [] h = tt
 skipped-good (s ∷ ss) h =
-    let p = both (is_printable s.node && is_printable s.key) (list_all (λ s. is_printable s.node && is_printable s.key) ss) h in
+    let p = both (is_printable s.node && is_printable s.key)
+    (list_all (λ s. is_printable s.node && is_printable s.key) ss) h in
     let q = both (is_printable s.node) (is_printable s.key) p.0 in
     (inked-append (codes " skipped ") (s.node ++ (codes " " ++ s.key)) refl (inked-append s.node (codes " " ++ s.key) q.0 q.1), skipped-good ss p.1)
 
@@ -131,15 +147,18 @@ label-good l h n = by-case l.selected refl
   where
     by-case : (s : Bool) → l.selected ≡ s → AreRows (label_rows l)
     by-case true e =
-        let p = both (is_printable l.name) (list_all (λ s. is_printable s.node && is_printable s.key) l.skipped) n in
+        let p = both (is_printable l.name)
+        (list_all (λ s. is_printable s.node && is_printable s.key) l.skipped) n in
         rw (e, label_rows) (name-plain l.name (h e).named, rows-append (points_rows None l.points) (map skipped_row l.skipped) (points-good None l.points (h e).keys_printable) (skipped-good l.skipped p.1))
     by-case false e =
-        let p = both (is_printable l.name) (list_all (λ s. is_printable s.node && is_printable s.key) l.skipped) n in
+        let p = both (is_printable l.name)
+        (list_all (λ s. is_printable s.node && is_printable s.key) l.skipped) n in
         rw (e, label_rows) (inked-append (codes " unselected ") l.name refl p.0, tt)
 
 rows-good : (ls : List Label) → ArePrinted ls → AreRows (rows ls)
 rows-good [] h = tt
-rows-good (l ∷ ls) h = rows-append (label_rows l) (rows ls) (label-good l h.0 h.1) (rows-good ls h.2)
+rows-good (l ∷ ls) h =
+    rows-append (label_rows l) (rows ls) (label-good l h.0 h.1) (rows-good ls h.2)
 
 -- ---- the selected labels
 abbrev pub AllPrinted : List Label → Type 0
@@ -204,7 +223,8 @@ joined-cost p [] = omega (arith, kind-short p.kind)
 joined-cost p (b ∷ bs) = by-case (same_kind b.kind p.kind) refl
   where
     by-case : (s : Bool) → same_kind b.kind p.kind ≡ s
-        → nodes_cost (map node_of (joined p (b ∷ bs))) ≤ (138 + length p.key) + nodes_cost (map node_of (b ∷ bs))
+        → nodes_cost (map node_of (joined p (b ∷ bs))) ≤ (138 + length p.key)
+        + nodes_cost (map node_of (b ∷ bs))
     by-case true e = rw (e, joined) (omega (arith, kind-short p.kind))
     by-case false e = rw (e, joined) (omega (arith, kind-short p.kind))
 
@@ -258,7 +278,9 @@ spells-nodes (b ∷ bs) (w ∷ ws) f s =
     node-map [] v f h = absurd f
     node-map (p ∷ ps) v f h = (
       ap (λ u. is_map u.tree) h.same,
-      subst (SpellsKeys (p ∷ ps)) (sym (ap (λ u. own_pairs u.tree) h.same ∙ own-pairs h.line h.list (own-of-texts zero_text (keys (p ∷ ps)) h.list h.says_so))) (spells-keys (p ∷ ps) h.list h.says_so),
+      subst (SpellsKeys (p ∷ ps)) (sym (ap (λ u. own_pairs u.tree) h.same
+          ∙ own-pairs h.line h.list (own-of-texts zero_text (keys (p ∷ ps)) h.list h.says_so)))
+          (spells-keys (p ∷ ps) h.list h.says_so),
     )
 
 nodes-map : (bs : List Block) (v : Value) → SomeBlock bs → NoneEmpty bs
@@ -266,7 +288,9 @@ nodes-map : (bs : List Block) (v : Value) → SomeBlock bs → NoneEmpty bs
 nodes-map [] v some f h = absurd some
 nodes-map (b ∷ bs) v some f h = (
   ap (λ u. is_map u.tree) h.same,
-  subst (SpellsNodes (b ∷ bs)) (sym (ap (λ u. own_pairs u.tree) h.same ∙ own-pairs h.line h.list (own-of-parts node_part IsNode (map node_of (b ∷ bs)) h.list h.says_so))) (spells-nodes (b ∷ bs) h.list f h.says_so),
+  subst (SpellsNodes (b ∷ bs)) (sym (ap (λ u. own_pairs u.tree) h.same ∙ own-pairs h.line h.list
+      (own-of-parts node_part IsNode (map node_of (b ∷ bs)) h.list h.says_so))) (spells-nodes (b
+      ∷ bs) h.list f h.says_so),
 )
 
 joined-full : (p : Point) (bs : List Block) → NoneEmpty bs → NoneEmpty (joined p bs)
@@ -299,7 +323,8 @@ spells-labels [] [] f s = tt
 spells-labels [] (w ∷ ws) f s = absurd s
 spells-labels (l ∷ ls) [] f s = absurd s
 spells-labels (l ∷ ls) (w ∷ ws) f s =
-    let m = nodes-map (blocks l.points) w.value (some-blocks l.points f.0) (blocks-full l.points) s.2 in
+    let m =
+    nodes-map (blocks l.points) w.value (some-blocks l.points f.0) (blocks-full l.points) s.2 in
     (s.0, m.0, m.1, spells-labels ls ws f.1 s.3)
 
 spells-all : (ls : List Label) (v : Value) → AllSome ls → HasGroups (map group_of ls) v
@@ -308,7 +333,9 @@ spells-all [] v f h = ap (λ u. is_empty_scalar u.tree) h.1
 spells-all (l ∷ ls) v f h = (
   ap (λ u. is_empty_scalar u.tree) h.same,
   ap (λ u. is_map u.tree) h.same,
-  subst (SpellsLabels (l ∷ ls)) (sym (ap (λ u. own_pairs u.tree) h.same ∙ own-pairs h.line h.list (own-of-parts group_part IsGroup (map group_of (l ∷ ls)) h.list h.says_so))) (spells-labels (l ∷ ls) h.list f h.says_so),
+  subst (SpellsLabels (l ∷ ls)) (sym (ap (λ u. own_pairs u.tree) h.same ∙ own-pairs h.line h.list
+      (own-of-parts group_part IsGroup (map group_of (l ∷ ls)) h.list h.says_so))) (spells-labels (l
+      ∷ ls) h.list f h.says_so),
 )
 
 -- ---- the whole
@@ -322,7 +349,10 @@ pub printed-is-read : (ls : List Label) → ArePrinted ls → AllSome (selected 
 printed-is-read ls good some apart few =
     let gs = map group_of (selected ls) in
     let all = selected-printed ls good in
-    let a = rows-answered (rows ls) gs (rows-good ls good) (groups-cols ls ∙ ap (parts_cols 0) (same-groups (selected ls))) (subst Distinct (sym (names-of-groups (selected ls))) (label-names (selected ls) apart)) (groups-good (selected ls) all) (omega (arith, whole-cost (selected ls), few)) in
+    let a = rows-answered (rows ls) gs (rows-good ls good)
+    (groups-cols ls ∙ ap (parts_cols 0) (same-groups (selected ls)))
+    (subst Distinct (sym (names-of-groups (selected ls))) (label-names (selected ls) apart))
+    (groups-good (selected ls) all) (omega (arith, whole-cost (selected ls), few)) in
     record {
       tree = a.value.tree;
       is = ap answer (groups-text ls) ∙ a.is;

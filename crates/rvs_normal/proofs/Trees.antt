@@ -1,11 +1,13 @@
 -- Maps of maps of maps: their words give their tree.
-use Rattle.std.proofs.Common.{◌≡◌, ℕ, suc, ◌+◌, ◌*◌, ◌≤◌, false, List, [], ◌∷◌, ◌++◌, length, refl, sym, ap, subst, ◌∙◌, arith}
+use Rattle.std.proofs.Common.{◌≡◌, ℕ, suc, ◌+◌, ◌*◌, ◌≤◌, false, List, [], ◌∷◌, ◌++◌, length, refl}
+use Rattle.std.proofs.Common.{sym, ap, subst, ◌∙◌, arith}
 use Rattle.std.specs.Prelude.{map, codes}
 use Rattle.rvs_tree.specs.Data.{depth}
 use Rattle.rvs_tree.specs.Value.{Value, Written, scalar_value, map_value}
 use Rattle.rvs_yaml_text.specs.Scalar.{key_name}
 use Rattle.rvs_normal.proofs.Columns.{Col, Part, parts_cols, points_cols, IsDeeper}
-use Rattle.rvs_normal.proofs.Blocks.{SaysTexts, SaysParts, Maps, Blocks, AreBlocks, block-texts, block-parts}
+use Rattle.rvs_normal.proofs.Blocks.{SaysTexts, SaysParts, Maps, Blocks, AreBlocks, block-texts}
+use Rattle.rvs_normal.proofs.Blocks.{block-parts}
 use Rattle.rvs_normal.proofs.Sizes.{AreOwn, AreShallow, cost, map-depth, map-nodes}
 use Rattle.rvs_normal.proofs.Apart.{Distinct, free}
 
@@ -61,7 +63,8 @@ node_names ns = map (λ n. n.name) ns
 
 abbrev pub AreGroups : List Group → Type 0
 AreGroups [] = Unit {0}
-AreGroups (g ∷ gs) = ((key_name g.name).merges ≡ false) × Distinct (node_names g.nodes) × AreNodes g.nodes × AreGroups gs
+AreGroups (g ∷ gs) = ((key_name g.name).merges ≡ false) × Distinct (node_names g.nodes)
+    × AreNodes g.nodes × AreGroups gs
 
 abbrev pub group_names : List Group → List (List ℕ)
 group_names gs = map (λ g. g.name) gs
@@ -80,12 +83,14 @@ points-deeper (k ∷ ks) = (refl, points-deeper ks)
 
 are-blocks : (ns : List Node) → AreNodes ns → AreBlocks 2 node_part IsNode ns
 are-blocks [] good = tt
-are-blocks (n ∷ ns) good = (points-deeper n.keys, keys-block n.keys good.1, good.0, are-blocks ns good.2)
+are-blocks (n ∷ ns) good =
+    (points-deeper n.keys, keys-block n.keys good.1, good.0, are-blocks ns good.2)
 
 nodes-block : (ns : List Node) → Distinct (node_names ns) → AreNodes ns
     → Blocks (HasNodes ns) (parts_cols 2 (map node_part ns))
 nodes-block [] d good = no-block (HasNodes []) (λ l. (l, refl))
-nodes-block (n ∷ ns) d good = block-parts 2 node_part IsNode n ns refl (are-blocks (n ∷ ns) good) (free n.name (node_names ns) d)
+nodes-block (n ∷ ns) d good = block-parts 2 node_part IsNode n ns refl (are-blocks (n ∷ ns) good)
+    (free n.name (node_names ns) d)
 
 points-deep : (ks : List (List ℕ)) → IsDeeper 0 (points_cols 4 zero_text ks)
 points-deep [] = tt
@@ -101,12 +106,14 @@ nodes-deeper (n ∷ ns) = (refl, deeper-append 0 (points_cols 4 zero_text n.keys
 
 groups-blocks : (gs : List Group) → AreGroups gs → AreBlocks 0 group_part IsGroup gs
 groups-blocks [] good = tt
-groups-blocks (g ∷ gs) good = (nodes-deeper g.nodes, nodes-block g.nodes good.1 good.2, good.0, groups-blocks gs good.3)
+groups-blocks (g ∷ gs) good =
+    (nodes-deeper g.nodes, nodes-block g.nodes good.1 good.2, good.0, groups-blocks gs good.3)
 
 pub groups-block : (gs : List Group) → Distinct (group_names gs) → AreGroups gs
     → Blocks (HasGroups gs) (all_cols gs)
 groups-block [] d good = no-block (HasGroups []) (λ l. (l, refl))
-groups-block (g ∷ gs) d good = block-parts 0 group_part IsGroup g gs refl (groups-blocks (g ∷ gs) good) (free g.name (group_names gs) d)
+groups-block (g ∷ gs) d good = block-parts 0 group_part IsGroup g gs refl
+    (groups-blocks (g ∷ gs) good) (free g.name (group_names gs) d)
 
 -- ---- sizes
 abbrev pub keys_cost : List (List ℕ) → ℕ
@@ -127,13 +134,15 @@ pub record Within (most deep : ℕ) (v : Value) : Type 0 where
   pub depth : depth v.tree ≤ deep
 
 empty-within : (most deep : ℕ) (v : Value) → IsEmpty v → 64 ≤ most → 1 ≤ deep → Within most deep v
-empty-within most deep v e m d = subst (λ w. Within most deep w) (sym e.1) (record { nodes = m; depth = d })
+empty-within most deep v e m d =
+    subst (λ w. Within most deep w) (sym e.1) (record { nodes = m; depth = d })
 
 abbrev pub AreWithin : List ℕ → ℕ → List Written → Type 0
 AreWithin [] deep [] = Unit {0}
 AreWithin [] deep (w ∷ ws) = ⊥
 AreWithin (m ∷ ms) deep [] = ⊥
-AreWithin (m ∷ ms) deep (w ∷ ws) = (w.merges ≡ false) × (length w.key + 64 * w.value.nodes ≤ m) × (depth w.value.tree ≤ deep) × AreWithin ms deep ws
+AreWithin (m ∷ ms) deep (w ∷ ws) = (w.merges ≡ false) × (length w.key + 64 * w.value.nodes ≤ m)
+    × (depth w.value.tree ≤ deep) × AreWithin ms deep ws
 
 abbrev pub total : List ℕ → ℕ
 total [] = 0
@@ -178,15 +187,18 @@ texts-within [] [] s = tt
 texts-within [] (w ∷ ws) s = absurd s
 texts-within (k ∷ ks) [] s = absurd s
 texts-within (k ∷ ks) (w ∷ ws) s =
-    let e : (length w.key + 64 * w.value.nodes) ≡ length k + 64 = ap (λ m. length m + 64 * w.value.nodes) s.0 ∙ ap (λ v. length k + 64 * v.nodes) s.2.1 in
+    let e : (length w.key + 64 * w.value.nodes) ≡ length k + 64 =
+    ap (λ m. length m + 64 * w.value.nodes) s.0 ∙ ap (λ v. length k + 64 * v.nodes) s.2.1 in
     let d : depth w.value.tree ≡ 1 = ap (λ v. depth v.tree) s.2.1 in
     (s.1, omega (arith, e), omega (arith, d), texts-within ks ws s.3)
 
 keys-within : (ks : List (List ℕ)) (v : Value) → HasKeys ks v → Within (64 + keys_cost ks) 2 v
 keys-within [] v h = empty-within 64 2 v h (omega arith) (omega arith)
 keys-within (k ∷ ks) v h =
-    let w = map-within h.line (key_costs (k ∷ ks)) 1 h.list (texts-within (k ∷ ks) h.list h.says_so) in
-    subst (λ u. Within (64 + keys_cost (k ∷ ks)) 2 u) (sym h.same) (subst (λ n. Within (64 + n) 2 (map_value h.line h.list)) (total-keys (k ∷ ks)) w)
+    let w =
+    map-within h.line (key_costs (k ∷ ks)) 1 h.list (texts-within (k ∷ ks) h.list h.says_so) in
+    subst (λ u. Within (64 + keys_cost (k ∷ ks)) 2 u) (sym h.same)
+    (subst (λ n. Within (64 + n) 2 (map_value h.line h.list)) (total-keys (k ∷ ks)) w)
 
 abbrev pub node_costs : List Node → List ℕ
 node_costs [] = []
@@ -209,8 +221,10 @@ parts-within (n ∷ ns) (w ∷ ws) s =
 nodes-within : (ns : List Node) (v : Value) → HasNodes ns v → Within (64 + nodes_cost ns) 3 v
 nodes-within [] v h = empty-within 64 3 v h (omega arith) (omega arith)
 nodes-within (n ∷ ns) v h =
-    let w = map-within h.line (node_costs (n ∷ ns)) 2 h.list (parts-within (n ∷ ns) h.list h.says_so) in
-    subst (λ u. Within (64 + nodes_cost (n ∷ ns)) 3 u) (sym h.same) (subst (λ m. Within (64 + m) 3 (map_value h.line h.list)) (total-nodes (n ∷ ns)) w)
+    let w =
+    map-within h.line (node_costs (n ∷ ns)) 2 h.list (parts-within (n ∷ ns) h.list h.says_so) in
+    subst (λ u. Within (64 + nodes_cost (n ∷ ns)) 3 u) (sym h.same)
+    (subst (λ m. Within (64 + m) 3 (map_value h.line h.list)) (total-nodes (n ∷ ns)) w)
 
 abbrev pub group_costs : List Group → List ℕ
 group_costs [] = []
@@ -234,8 +248,10 @@ pub groups-within : (gs : List Group) (v : Value) → HasGroups gs v
     → Within (64 + groups_cost gs) 4 v
 groups-within [] v h = empty-within 64 4 v h (omega arith) (omega arith)
 groups-within (g ∷ gs) v h =
-    let w = map-within h.line (group_costs (g ∷ gs)) 3 h.list (outer-within (g ∷ gs) h.list h.says_so) in
-    subst (λ u. Within (64 + groups_cost (g ∷ gs)) 4 u) (sym h.same) (subst (λ m. Within (64 + m) 4 (map_value h.line h.list)) (total-groups (g ∷ gs)) w)
+    let w = map-within h.line (group_costs (g ∷ gs)) 3 h.list
+    (outer-within (g ∷ gs) h.list h.says_so) in
+    subst (λ u. Within (64 + groups_cost (g ∷ gs)) 4 u) (sym h.same)
+    (subst (λ m. Within (64 + m) 4 (map_value h.line h.list)) (total-groups (g ∷ gs)) w)
 
 -- ---- nothing merges
 pub own-of-texts : (t : List ℕ) (ks : List (List ℕ)) (ws : List Written) → SaysTexts t ks ws
@@ -245,7 +261,8 @@ own-of-texts t [] (w ∷ ws) s = absurd s
 own-of-texts t (k ∷ ks) [] s = absurd s
 own-of-texts t (k ∷ ks) (w ∷ ws) s = (s.1, own-of-texts t ks ws s.3)
 
-pub own-of-parts : {X : Type 0} (part : X → Part) (is : X → Value → Type 0) (xs : List X) (ws : List Written)
+pub own-of-parts : {X : Type 0} (part : X → Part) (is : X → Value → Type 0) (xs : List X)
+    (ws : List Written)
     → SaysParts part is xs ws → AreOwn ws
 own-of-parts part is [] [] s = tt
 own-of-parts part is [] (w ∷ ws) s = absurd s

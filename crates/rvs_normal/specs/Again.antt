@@ -16,9 +16,11 @@ names_are_apart (l ∷ ls) = not (list_any (λ m. bytes_eq l.name m.name) ls) &&
 
 -- what the comments on a label say is printable
 abbrev pub notes_are_printable : Label → Bool
-notes_are_printable l = is_printable l.name && list_all (λ s. is_printable s.node && is_printable s.key) l.skipped
+notes_are_printable l =
+    is_printable l.name && list_all (λ s. is_printable s.node && is_printable s.key) l.skipped
 
--- the normal text is accepted, and gives for this core the selected labels with the same mnemonics and points, and nothing skipped
+-- the normal text is accepted, and gives for this core the selected labels with the same mnemonics
+-- and points, and nothing skipped
 pub record IsReadAgain (isa : Isa) (groups : List Label) : Type 0 where
   pub tree : Data
   pub is : answer (normal_text groups) ≡ Ok tree

@@ -16,7 +16,8 @@ example = record {
   name = codes "add";
   selected = true;
   ops = Add ∷ [];
-  points = point Mnemonic (codes "add") (op_is Add) ∷ point ValComb (codes "rs1_val == 7") (nums (equation_of Rs1Val (number_of (pos 7)))) ∷ [];
+  points = point Mnemonic (codes "add") (op_is Add)
+      ∷ point ValComb (codes "rs1_val == 7") (nums (equation_of Rs1Val (number_of (pos 7)))) ∷ [];
   skipped = [];
 }
 

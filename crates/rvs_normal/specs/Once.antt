@@ -1,6 +1,7 @@
 -- Trees of which each map has each of its keys once.
 use Rattle.std.specs.Prelude.{◌≡◌, true}
-use Rattle.rvs_tree.specs.Data.{Data, scalar, sequence, mapping, Items, no_items, item, Entries, no_entries, entry, pairs_of}
+use Rattle.rvs_tree.specs.Data.{Data, scalar, sequence, mapping, Items, no_items, item, Entries}
+use Rattle.rvs_tree.specs.Data.{no_entries, entry, pairs_of}
 use Rattle.rvs_cgf.specs.Spelled.{keys_are_own}
 
 abbrev mutual

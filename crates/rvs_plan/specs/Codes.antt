@@ -1,7 +1,8 @@
 -- The exit status of the process.
 use Rattle.std.specs.Prelude.{ℕ}
 use Rattle.rvs_plan.specs.declared.status.Status.{Status}
-use Rattle.rvs_plan.specs.declared.status.Status.TheVariants.{Done, NotPassed, Usage, Refused, HostFault, SinkFault, NoMemory}
+use Rattle.rvs_plan.specs.declared.status.Status.TheVariants.{Done, NotPassed, Usage, Refused}
+use Rattle.rvs_plan.specs.declared.status.Status.TheVariants.{HostFault, SinkFault, NoMemory}
 
 -- 0 where all is well, and a number of its own for each way in which it isn't
 abbrev pub code_of : Status → ℕ

@@ -20,7 +20,8 @@ pub data Deed : Type 0 where
 pub data Effect : Type 0 where
   -- the named file is read, and these bytes are found, or it isn't there
   Read : List ℕ → Option (List ℕ) → Effect
-  -- a device is started with these words on the named test file, and this is what it leaves in the named signature file
+  -- a device is started with these words on the named test file, and this is what it leaves in the
+  -- named signature file
   Device : List (List ℕ) → List ℕ → List ℕ → Answer → Effect
   Did : Deed → Effect
 
@@ -30,8 +31,10 @@ left_by signature answer None = None
 left_by signature answer (Some files) = Some (with_left signature answer.left files)
 
 -- the runs with one more, where files and runs are told
-abbrev pub run_added : List (List ℕ) → List ℕ → List ℕ → Answer → Option Files → Option (List DeviceRun) → Option (List DeviceRun)
-run_added words test signature answer (Some files) (Some runs) = Some (runs ++ run_over words test signature files answer.left answer.status ∷ [])
+abbrev pub run_added : List (List ℕ) → List ℕ → List ℕ → Answer → Option Files
+    → Option (List DeviceRun) → Option (List DeviceRun)
+run_added words test signature answer (Some files) (Some runs) =
+    Some (runs ++ run_over words test signature files answer.left answer.status ∷ [])
 run_added words test signature answer files runs = None
 
 -- what a deed that is done whole makes of the contents
@@ -42,7 +45,10 @@ after_deed (Out bytes) c = record c { out = appended c.out bytes }
 -- the same of an effect
 abbrev pub after_one : Effect → Contents → Contents
 after_one (Read name found) c = c
-after_one (Device words test signature answer) c = record c { files = left_by signature answer c.files; runs = run_added words test signature answer c.files c.runs }
+after_one (Device words test signature answer) c = record c {
+  files = left_by signature answer c.files;
+  runs = run_added words test signature answer c.files c.runs;
+}
 after_one (Did deed) c = after_deed deed c
 
 -- the same of several effects, the first of them first

@@ -1,5 +1,6 @@
 -- The plan of reading an input.
-use Rattle.std.specs.Prelude.{ℕ, List, ◌++◌, Option, Some, None, Result, Ok, Err, nat_lt, length, if◌then◌else◌, codes, decimal}
+use Rattle.std.specs.Prelude.{ℕ, List, ◌++◌, Option, Some, None, Result, Ok, Err, nat_lt, length}
+use Rattle.std.specs.Prelude.{if◌then◌else◌, codes, decimal}
 use Rattle.rvs_plan.specs.Plan.{Plan, Ends, Asks}
 use Rattle.rvs_plan.specs.declared.stop.Stop.{Stop}
 use Rattle.rvs_plan.specs.declared.stop.Stop.TheVariants.{Refused, NoFile}
@@ -8,10 +9,12 @@ use Rattle.rvs_plan.specs.declared.stop.Stop.TheVariants.{Refused, NoFile}
 abbrev pub too_long_text : List ℕ → ℕ → List ℕ
 too_long_text what most = what ++ codes ": length " ++ decimal most
 
--- what comes of the bytes of the named file, where it is there; the last two name it and its limit in the line of a refusal
+-- what comes of the bytes of the named file, where it is there; the last two name it and its limit
+-- in the line of a refusal
 abbrev pub part_end : ℕ → List ℕ → List ℕ → ℕ → Option (List ℕ) → Result (List ℕ) Stop
 part_end limit name what most None = Err (NoFile name)
-part_end limit name what most (Some bytes) = if nat_lt limit (length bytes) then Err (Refused (too_long_text what most)) else Ok bytes
+part_end limit name what most (Some bytes) =
+    if nat_lt limit (length bytes) then Err (Refused (too_long_text what most)) else Ok bytes
 
 -- a file that is a part of an input is read, up to what is left of the limit of that input
 abbrev pub part : ℕ → List ℕ → List ℕ → ℕ → Plan (List ℕ)

@@ -10,7 +10,8 @@ pub data Plan (A : Type 0) : Type 0 where
   Does : Deed → Plan A → Plan A
   -- the named file is read, and then comes what follows from what is found
   Asks : List ℕ → (Option (List ℕ) → Plan A) → Plan A
-  -- a device is run, with these words, test file and signature file, and then comes what follows from its answer
+  -- a device is run, with these words, test file and signature file, and then comes what follows
+  -- from its answer
   Runs : List (List ℕ) → List ℕ → List ℕ → (Answer → Plan A) → Plan A
 
 -- no effect, and this value
@@ -56,6 +57,7 @@ Goes (Does deed plan) (Device words test signature answer ∷ effects) rest = �
 Goes (Asks name next) (Read n found ∷ effects) rest = (name ≡ n) × Goes (next found) effects rest
 Goes (Asks name next) (Device words test signature answer ∷ effects) rest = ⊥
 Goes (Asks name next) (Did d ∷ effects) rest = ⊥
-Goes (Runs words test signature next) (Device w t s answer ∷ effects) rest = (words ≡ w) × (test ≡ t) × (signature ≡ s) × Goes (next answer) effects rest
+Goes (Runs words test signature next) (Device w t s answer ∷ effects) rest =
+    (words ≡ w) × (test ≡ t) × (signature ≡ s) × Goes (next answer) effects rest
 Goes (Runs words test signature next) (Read name found ∷ effects) rest = ⊥
 Goes (Runs words test signature next) (Did d ∷ effects) rest = ⊥

@@ -17,7 +17,8 @@ use std::alloc::Global;
 ///
 /// [`Stop::SinkFault`]; a front of the bytes is out.
 pub fn print<O: Sink>(out: &mut O, bytes: &[u8]) -> Result<(), Stop>
-    ensures { (host : HostState) → Meets (prints bytes.now) (world host (O.state out.old)) (world host (O.state out.new)) result }
+    ensures { (host : HostState) → Meets (prints bytes.now) (world host (O.state out.old))
+        (world host (O.state out.new)) result }
 {
     match put_all(out, bytes) {
         Ok(()) => Ok(()),
@@ -29,7 +30,8 @@ pub fn print<O: Sink>(out: &mut O, bytes: &[u8]) -> Result<(), Stop>
 ///
 /// # Errors
 ///
-/// [`Stop::NoFile`], [`Stop::CannotRead`] and [`Stop::NoMemory`]; [`Stop::Refused`] where the file has more than `limit` bytes.
+/// [`Stop::NoFile`], [`Stop::CannotRead`] and [`Stop::NoMemory`]; [`Stop::Refused`] where the file
+/// has more than `limit` bytes.
 pub fn read_input<H: Host>(
     alloc: Global,
     host: &mut H,
@@ -37,13 +39,15 @@ pub fn read_input<H: Host>(
     limit: u64,
 ) -> Result<Bytes, Stop>
     requires { limit < 2 ^ 63 }
-    ensures { (out : SinkState) → Meets (input limit name.now) (world (H.state host.old) out) (world (H.state host.new) out) result }
+    ensures { (out : SinkState) → Meets (input limit name.now) (world (H.state host.old) out)
+        (world (H.state host.new) out) result }
 {
     read_part(alloc, host, name, limit, name, limit)
 }
 
-/// Reads a file that is a part of an input which is made of several. `limit` is what the earlier parts have left of the limit of the
-/// whole; the last two name the whole and its limit, `most`, in the line of a refusal.
+/// Reads a file that is a part of an input which is made of several. `limit` is what the earlier
+/// parts have left of the limit of the whole; the last two name the whole and its limit, `most`, in
+/// the line of a refusal.
 ///
 /// # Errors
 ///
@@ -57,7 +61,8 @@ pub fn read_part<H: Host>(
     most: u64,
 ) -> Result<Bytes, Stop>
     requires { limit < 2 ^ 63 }
-    ensures { (out : SinkState) → Meets (part limit name.now whole.now most) (world (H.state host.old) out) (world (H.state host.new) out) result }
+    ensures { (out : SinkState) → Meets (part limit name.now whole.now most)
+        (world (H.state host.old) out) (world (H.state host.new) out) result }
 {
     let file = Text::from(String::from_str(alloc, name)?);
     match read_file(alloc, host, name, limit) {
@@ -80,13 +85,15 @@ pub fn too_long(alloc: Global, whole: &str, most: u64) -> Result<Text, NoMemory>
     Ok(Text::from(format!(in alloc; "{whole}: length {most}")?))
 }
 
-/// Makes an output file hold these bytes. The name is owned, since it is the stop's where writing fails.
+/// Makes an output file hold these bytes. The name is owned, since it is the stop's where writing
+/// fails.
 ///
 /// # Errors
 ///
 /// [`Stop::CannotWrite`]; the file is as before, absent, or a front of the bytes.
 pub fn write_output<H: Host>(host: &mut H, name: Text, bytes: &[u8]) -> Result<(), Stop>
-    ensures { (out : SinkState) → Meets (writes name bytes.now) (world (H.state host.old) out) (world (H.state host.new) out) result }
+    ensures { (out : SinkState) → Meets (writes name bytes.now) (world (H.state host.old) out)
+        (world (H.state host.new) out) result }
 {
     match host.write_file(name.as_str(), bytes) {
         Ok(()) => Ok(()),

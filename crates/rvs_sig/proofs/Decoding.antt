@@ -2,7 +2,9 @@
 use Rattle.std.proofs.lemmas.Bool.Decides.{nat_tests}
 use Rattle.std.specs.Result.{MatchResult}
 use Rattle.hex.specs.declared.error.FromHexError.TheVariants.{OddLength, InvalidStringLength}
-use Rattle.std.proofs.Common.{◌≡◌, ◌≢◌, ℕ, ◌+◌, ◌*◌, ◌/◌, ◌%◌, eqb, Bool, true, false, List, [], ◌∷◌, length, Option, Some, None, Result, Ok, Err, refl, sym, ap, ◌∙◌, arith, if◌then◌else◌}
+use Rattle.std.proofs.Common.{◌≡◌, ◌≢◌, ℕ, ◌+◌, ◌*◌, ◌/◌, ◌%◌, eqb, Bool, true, false, List, []}
+use Rattle.std.proofs.Common.{◌∷◌, length, Option, Some, None, Result, Ok, Err, refl, sym, ap, ◌∙◌}
+use Rattle.std.proofs.Common.{arith, if◌then◌else◌}
 use Rattle.std.specs.Int.{from_be_bytes, w32}
 use Rattle.std.specs.Option.{option_and_then}
 use Rattle.hex.specs.declared.error.FromHexError.{FromHexError}
@@ -18,7 +20,8 @@ abbrev pub value_of : ℕ → Result (List ℕ) FromHexError → Option ℕ
 value_of front (Ok bytes) = Some (total front bytes)
 value_of front (Err e) = None
 
-abbrev pub after_pair : ℕ → ℕ → ℕ → Option ℕ → Option ℕ → Result (List ℕ) FromHexError → Result (List ℕ) FromHexError
+abbrev pub after_pair : ℕ → ℕ → ℕ → Option ℕ → Option ℕ → Result (List ℕ) FromHexError
+    → Result (List ℕ) FromHexError
 after_pair high low i h l rest = do
   byte ← (do
     x ← digit_or_error high i h
@@ -28,8 +31,10 @@ after_pair high low i h l rest = do
   Ok (byte ∷ bytes)
 
 -- one pair of digits, where the rest is known
-pair_step : (front high low i : ℕ) (digits : List ℕ) (h l : Option ℕ) (rest : Result (List ℕ) FromHexError) → ((n : ℕ) → value_onto n digits ≡ value_of n rest)
-    → option_and_then (λ x. option_and_then (λ y. value_onto (16 * (16 * front + x) + y) digits) l) h ≡ value_of front (after_pair high low i h l rest)
+pair_step : (front high low i : ℕ) (digits : List ℕ) (h l : Option ℕ)
+    (rest : Result (List ℕ) FromHexError) → ((n : ℕ) → value_onto n digits ≡ value_of n rest)
+    → option_and_then (λ x. option_and_then (λ y. value_onto (16 * (16 * front + x) + y) digits) l)
+    h ≡ value_of front (after_pair high low i h l rest)
 pair_step front high low i digits None l rest more = refl
 pair_step front high low i digits (Some x) None rest more = refl
 pair_step front high low i digits (Some x) (Some y) (Err e) more = more (16 * (16 * front + x) + y)
@@ -37,12 +42,14 @@ pair_step front high low i digits (Some x) (Some y) (Ok bytes) more =
     let joined : 16 * (16 * front + x) + y ≡ 256 * front + (x * 16 + y) = omega arith in
     more (16 * (16 * front + x) + y) ∙ ap (λ n. Some (total n bytes)) joined
 
-pub value_onto-pairs : (front i : ℕ) (digits : List ℕ) → length digits % 2 ≡ 0 → value_onto front digits ≡ value_of front (decode_pairs i digits)
+pub value_onto-pairs : (front i : ℕ) (digits : List ℕ) → length digits % 2 ≡ 0
+    → value_onto front digits ≡ value_of front (decode_pairs i digits)
 unfolding decode_pairs
 value_onto-pairs front i [] even = refl
 value_onto-pairs front i (digit ∷ []) even = absurd (omega (arith, even))
 value_onto-pairs front i (high ∷ low ∷ digits) even =
-    pair_step front high low i digits (hex_digit_value high) (hex_digit_value low) (decode_pairs (i + 2) digits) (λ n. value_onto-pairs n (i + 2) digits (omega (arith, even)))
+    pair_step front high low i digits (hex_digit_value high) (hex_digit_value low)
+    (decode_pairs (i + 2) digits) (λ n. value_onto-pairs n (i + 2) digits (omega (arith, even)))
 
 -- the four bytes of a word
 pub total-be : (bytes : List ℕ) → length bytes ≡ 4 → total 0 bytes ≡ from_be_bytes w32 bytes
@@ -53,7 +60,9 @@ total-be (a ∷ b ∷ c ∷ []) four = absurd (omega (arith, four))
 total-be (a ∷ b ∷ c ∷ d ∷ []) four = omega arith
 total-be (a ∷ b ∷ c ∷ d ∷ e ∷ rest) four = absurd (omega (arith, four))
 
-choose : (t u v : Bool) (x : Option ℕ) (r : Result (List ℕ) FromHexError) (d e : FromHexError) → (v ≡ true → (t ≡ false) × (u ≡ true)) → (t ≡ false → u ≡ true → v ≡ true) → (v ≡ true → x ≡ value_of 0 r)
+choose : (t u v : Bool) (x : Option ℕ) (r : Result (List ℕ) FromHexError) (d e : FromHexError)
+    → (v ≡ true → (t ≡ false) × (u ≡ true)) → (t ≡ false → u ≡ true → v ≡ true)
+    → (v ≡ true → x ≡ value_of 0 r)
     → (if v then x else None) ≡ value_of 0 (if t then Err d else if u then r else Err e)
 choose true u true x r d e apart both same = let (p, q) = apart refl in cc
 choose true u false x r d e apart both same = refl
@@ -76,20 +85,30 @@ even_eight : (n : ℕ) → eqb n 8 ≡ true → n % 2 ≡ 0
 even_eight n is = let eight : n ≡ 8 = grind (arith, nat_tests) in rw eight refl
 
 -- what decoding into four bytes answers, as a word
-pub value_of-sized : (digits : List ℕ) → (if eqb (length digits) 8 then value_onto 0 digits else None) ≡ value_of 0 (decode_sized digits 4)
+pub value_of-sized : (digits : List ℕ)
+    → (if eqb (length digits) 8 then value_onto 0 digits else None)
+    ≡ value_of 0 (decode_sized digits 4)
 value_of-sized digits =
-    choose (eqb (length digits % 2) 1) (eqb (length digits / 2) 4) (eqb (length digits) 8) (value_onto 0 digits) (decode_pairs 0 digits) OddLength InvalidStringLength
-    (even_half (length digits)) (eight_again (length digits)) (λ is. value_onto-pairs 0 0 digits (even_eight (length digits) is))
+    choose (eqb (length digits % 2) 1) (eqb (length digits / 2) 4) (eqb (length digits) 8)
+    (value_onto 0 digits) (decode_pairs 0 digits) OddLength InvalidStringLength
+    (even_half (length digits)) (eight_again (length digits))
+    (λ is. value_onto-pairs 0 0 digits (even_eight (length digits) is))
 
 abbrev pub Answer : Type 0
 Answer = Result (Unit {0}) FromHexError
 
-pub value_of-written : (r : Result (List ℕ) FromHexError) (out : List ℕ) (u : Unit {0}) → length out ≡ 4 → MatchResult r (λ bytes. (◌≡◌ {A = Answer} (Ok u) (Ok tt)) × (out ≡ bytes)) (λ e. ◌≡◌ {A = Answer} (Ok u) (Err e))
+pub value_of-written : (r : Result (List ℕ) FromHexError) (out : List ℕ) (u : Unit {0}) → length out
+    ≡ 4 → MatchResult r (λ bytes. (◌≡◌ {A = Answer} (Ok u) (Ok tt)) × (out ≡ bytes))
+    (λ e. ◌≡◌ {A = Answer} (Ok u) (Err e))
     → value_of 0 r ≡ Some (from_be_bytes w32 out)
 value_of-written (Ok bytes) out u four written = rw (sym written.1) (ap Some (total-be out four))
-value_of-written (Err e) out u four written = let p : ◌≡◌ {A = Answer} (Ok u) (Err e) = written in cc
+value_of-written (Err e) out u four written = let p : ◌≡◌ {A = Answer} (Ok u) (Err e) = written in
+    cc
 
-pub value_of-refused : (r : Result (List ℕ) FromHexError) (out : List ℕ) (d : FromHexError) → MatchResult r (λ bytes. (◌≡◌ {A = Answer} (Err d) (Ok tt)) × (out ≡ bytes)) (λ e. ◌≡◌ {A = Answer} (Err d) (Err e))
+pub value_of-refused : (r : Result (List ℕ) FromHexError) (out : List ℕ) (d : FromHexError)
+    → MatchResult r (λ bytes. (◌≡◌ {A = Answer} (Err d) (Ok tt)) × (out ≡ bytes))
+    (λ e. ◌≡◌ {A = Answer} (Err d) (Err e))
     → value_of 0 r ≡ None
-value_of-refused (Ok bytes) out d written = let p : ◌≡◌ {A = Answer} (Err d) (Ok tt) = written.0 in cc
+value_of-refused (Ok bytes) out d written = let p : ◌≡◌ {A = Answer} (Err d) (Ok tt) = written.0 in
+    cc
 value_of-refused (Err e) out d written = refl

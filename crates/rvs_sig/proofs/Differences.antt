@@ -11,10 +11,12 @@ use Rattle.std.proofs.lemmas.Slice.Zip.{get_or-zip}
 use Rattle.std.proofs.lemmas.Bool.Decides.{nat_tests}
 use Rattle.rvs_sig.specs.Verdicts.{differ, FirstDiffers}
 
-length-zip : (left right : List ℕ) → length left ≡ length right → length (zip left right) ≡ length left
+length-zip : (left right : List ℕ) → length left ≡ length right
+    → length (zip left right) ≡ length left
 length-zip [] right same = refl
 length-zip (l ∷ left) [] same = absurd (omega (arith, same))
-length-zip (l ∷ left) (r ∷ right) same = ap (λ n. suc n) (length-zip left right (omega (arith, same)))
+length-zip (l ∷ left) (r ∷ right) same =
+    ap (λ n. suc n) (length-zip left right (omega (arith, same)))
 
 none_below : (i n : ℕ) → cond (nat_lt i n) (Some i) None ≡ None → n ≤ i
 none_below i n none = grind (arith, nat_tests)
@@ -25,8 +27,11 @@ alike l r same = grind (arith, nat_tests)
 unlike : (l r : ℕ) → differ (l, r) ≡ true → l ≢ r
 unlike l r different = grind (arith, nat_tests)
 
-at_zip : (left right : List ℕ) (k : ℕ) (answer : Bool) → length left ≡ length right → k < length left → differ (get_or (zip left right) k (0, 0)) ≡ answer → differ (get_or left k 0, get_or right k 0) ≡ answer
-at_zip left right k answer same within is = ap differ (sym (get_or-zip left right k (0, 0) within (omega (arith, same, within)))) ∙ is
+at_zip : (left right : List ℕ) (k : ℕ) (answer : Bool) → length left ≡ length right
+    → k < length left → differ (get_or (zip left right) k (0, 0)) ≡ answer
+    → differ (get_or left k 0, get_or right k 0) ≡ answer
+at_zip left right k answer same within is =
+    ap differ (sym (get_or-zip left right k (0, 0) within (omega (arith, same, within)))) ∙ is
 
 position_from-same : (i : ℕ) (words : List ℕ)
     → position_from differ i (zip words words) ≡ None
@@ -42,23 +47,35 @@ differs_nowhere words =
     position_from-zero differ (zip words words) ∙ position_from-same 0 words
 
 -- lists of one length of which no place differs are the same
-pub agrees : (left right : List ℕ) → length left ≡ length right → position differ (zip left right) ≡ None → left ≡ right
+pub agrees : (left right : List ℕ) → length left ≡ length right
+    → position differ (zip left right) ≡ None → left ≡ right
 agrees left right same none =
-    let past = none_below (position_or_len differ (zip left right)) (length (zip left right)) none in
+    let past =
+    none_below (position_or_len differ (zip left right)) (length (zip left right)) none in
     let long = length-zip left right same in
-    ext_get_or 0 left right same (λ k within. alike (get_or left k 0) (get_or right k 0) (at_zip left right k false same within (fails_before_first differ (zip left right) k (0, 0) (omega (arith, past, long, within)))))
+    ext_get_or 0 left right same (λ k within. alike (get_or left k 0) (get_or right k 0) (at_zip
+    left right k false same within
+    (fails_before_first differ (zip left right) k (0, 0) (omega (arith, past, long, within)))))
 
-pub first_differs : (left right : List ℕ) (at : ℕ) → length left ≡ length right → position differ (zip left right) ≡ Some at → FirstDiffers left right at (get_or left at 0) (get_or right at 0)
+pub first_differs : (left right : List ℕ) (at : ℕ) → length left ≡ length right
+    → position differ (zip left right) ≡ Some at
+    → FirstDiffers left right at (get_or left at 0) (get_or right at 0)
 first_differs left right at same found =
     let (below, here, before) = position-Some differ (zip left right) at (0, 0) found in
     let within : at < length left = omega (arith, below, length-zip left right same) in
-    let front : length (take at left) ≡ length (take at right) = length-take-le at left (omega (arith, within)) ∙ sym (length-take-le at right (omega (arith, within, same))) in
+    let front : length (take at left) ≡ length (take at right) =
+    length-take-le at left (omega (arith, within))
+    ∙ sym (length-take-le at right (omega (arith, within, same))) in
     record {
       within = within;
       left_word = refl;
       right_word = refl;
-      differ = unlike (get_or left at 0) (get_or right at 0) (at_zip left right at true same within here);
+      differ = unlike (get_or left at 0) (get_or right at 0)
+          (at_zip left right at true same within here);
       before = ext_get_or 0 (take at left) (take at right) front (λ k short.
-          let k_below : k < at = omega (arith, short, length-take-le at left (omega (arith, within))) in
-          get_or-take at left k 0 k_below ∙ alike (get_or left k 0) (get_or right k 0) (at_zip left right k false same (omega (arith, k_below, within)) (before k k_below)) ∙ sym (get_or-take at right k 0 k_below));
+          let k_below : k < at =
+          omega (arith, short, length-take-le at left (omega (arith, within))) in
+          get_or-take at left k 0 k_below ∙ alike (get_or left k 0) (get_or right k 0)
+          (at_zip left right k false same (omega (arith, k_below, within)) (before k k_below))
+          ∙ sym (get_or-take at right k 0 k_below));
     }

@@ -1,5 +1,7 @@
 -- The words of a signature file.
-use Rattle.std.specs.Prelude.{ℕ, ◌+◌, ◌*◌, ◌==◌, ◌&&◌, nat_lt, if◌then◌else◌, List, [], ◌∷◌, ◌++◌, length, take, slice_index, position, Option, Some, None, is_none, option_and_then, Result, Ok, Err}
+use Rattle.std.specs.Prelude.{ℕ, ◌+◌, ◌*◌, ◌==◌, ◌&&◌, nat_lt, if◌then◌else◌, List, [], ◌∷◌, ◌++◌}
+use Rattle.std.specs.Prelude.{length, take, slice_index, position, Option, Some, None, is_none}
+use Rattle.std.specs.Prelude.{option_and_then, Result, Ok, Err}
 use Rattle.std.specs.List.{filter_map, flat_map}
 use Rattle.hex.specs.Hex.{hex_digit_value}
 use Rattle.rvs_base.specs.Number.{hex_word_of}
@@ -14,7 +16,8 @@ most_lines = 262144
 -- the number that hexadecimal digits of either case go on from
 abbrev pub value_onto : ℕ → List ℕ → Option ℕ
 value_onto front [] = Some front
-value_onto front (digit ∷ digits) = option_and_then (λ value. value_onto (16 * front + value) digits) (hex_digit_value digit)
+value_onto front (digit ∷ digits) =
+    option_and_then (λ value. value_onto (16 * front + value) digits) (hex_digit_value digit)
 
 -- a line without a carriage return after eight bytes
 abbrev pub digits_of_line : List ℕ → List ℕ
@@ -33,7 +36,8 @@ first_bad lines = position (λ line. is_none (word_of_line line)) lines
 
 -- the words of good lines
 abbrev pub words_of_good : List (List ℕ) → Result (List ℕ) SigRefusal
-words_of_good lines = if nat_lt most_lines (length lines) then Err TooLong else Ok (filter_map word_of_line lines)
+words_of_good lines = if nat_lt most_lines (length lines) then Err TooLong
+    else Ok (filter_map word_of_line lines)
 
 -- a bad line, counted from 1, is refused before a line too many
 abbrev pub words_unless_bad : List (List ℕ) → Option ℕ → Result (List ℕ) SigRefusal

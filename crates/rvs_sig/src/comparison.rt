@@ -34,10 +34,14 @@ pub enum Verdict {
 /// Compares two lists of words, place by place. It takes no memory.
 pub fn compare(left: &[u32], right: &[u32]) -> Verdict
     ensures verdict { result ≡ verdict_of left.now right.now }
-    ensures same { (n : ℕ) → (result ≡ Verdict.Same n) ↔ ((left.now ≡ right.now) × (n ≡ length left.now)) }
-    ensures lengths { (m n : ℕ) → (result ≡ Verdict.Lengths m n) ↔ ((m ≡ length left.now) × (n ≡ length right.now) × (m ≢ n)) }
-    ensures differs { (at l r d : ℕ) → result ≡ Verdict.Differs at l r d → FirstDiffers left.now right.now at l r }
-    ensures counts { (at l r d : ℕ) → result ≡ Verdict.Differs at l r d → d ≡ differing left.now right.now }
+    ensures same { (n : ℕ)
+        → (result ≡ Verdict.Same n) ↔ ((left.now ≡ right.now) × (n ≡ length left.now)) }
+    ensures lengths { (m n : ℕ) → (result ≡ Verdict.Lengths m n)
+        ↔ ((m ≡ length left.now) × (n ≡ length right.now) × (m ≢ n)) }
+    ensures differs { (at l r d : ℕ) → result ≡ Verdict.Differs at l r d
+        → FirstDiffers left.now right.now at l r }
+    ensures counts { (at l r d : ℕ) → result ≡ Verdict.Differs at l r d
+        → d ≡ differing left.now right.now }
 {
     if left.len() != right.len() {
         return Verdict::Lengths {

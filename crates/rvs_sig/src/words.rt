@@ -31,14 +31,16 @@ impl From<NoMemory> for SigRefusal {
     }
 }
 
-/// Reads the words of a file: one a line, as eight hexadecimal digits of either case. A carriage return may stand before a line feed, and the last line needs no line feed.
+/// Reads the words of a file: one a line, as eight hexadecimal digits of either case. A carriage
+/// return may stand before a line feed, and the last line needs no line feed.
 ///
 /// # Errors
 ///
 /// [`SigRefusal`].
 pub fn read_words(alloc: Global, bytes: &[u8]) -> Result<Items<u32>, SigRefusal>
     ensures words { IfOk result (λ words. words_of bytes.now ≡ Ok words) }
-    ensures refused { IfErr result (λ refusal. (refusal ≡ SigRefusal.NoMemory) ⊎ (words_of bytes.now ≡ Err refusal)) }
+    ensures refused { IfErr result
+        (λ refusal. (refusal ≡ SigRefusal.NoMemory) ⊎ (words_of bytes.now ≡ Err refusal)) }
 {
     let mut words = Items::new(alloc);
     let mut left = bytes;
@@ -64,7 +66,8 @@ pub fn read_words(alloc: Global, bytes: &[u8]) -> Result<Items<u32>, SigRefusal>
 /// [`NoMemory`].
 pub fn print_words(alloc: Global, words: &[u32]) -> Result<Text, NoMemory>
     ensures text { IfOk result (λ text. text ≡ text_of_words words.now) }
-    ensures read_again { IfOk result (λ text. length words.now ≤ 262144 → words_of text ≡ Ok words.now) }
+    ensures read_again { IfOk result
+        (λ text. length words.now ≤ 262144 → words_of text ≡ Ok words.now) }
 {
     let mut bytes = Vec::new(alloc);
     for word in words {

@@ -1,5 +1,6 @@
 -- What the calls of a search ask and give, with the values that the code holds.
-use Rattle.std.proofs.Common.{◌≡◌, ℕ, ◌+◌, ◌*◌, ◌≤◌, Bool, true, false, cond, List, [], map, length, Option, Some, None, refl, sym, ap, ◌∙◌, subst, arith}
+use Rattle.std.proofs.Common.{◌≡◌, ℕ, ◌+◌, ◌*◌, ◌≤◌, Bool, true, false, cond, List, [], map, length}
+use Rattle.std.proofs.Common.{Option, Some, None, refl, sym, ap, ◌∙◌, subst, arith}
 use Rattle.std.specs.Prelude.{find, flat_map, All, sum_by, count_by}
 use Rattle.std.specs.Option.{option_or}
 use Rattle.rvs_insn.specs.declared.op.Format.{Format}
@@ -12,8 +13,11 @@ use Rattle.rvs_expr.specs.Only.{only_numbers}
 use Rattle.rvs_solver.specs.Truth.{constants_in, part_of}
 use Rattle.rvs_solver.specs.declared.operand.Operand.{Operand}
 use Rattle.rvs_solver.specs.Choices.{ChoiceValue, choices}
-use Rattle.rvs_solver.specs.Bound.{first_registers, operands, fixed_names, passes, seconds, value_bound}
-use Rattle.rvs_solver.specs.Walk.{is_true_at, sees_first, tried, at_operand, base_of, MayPassOver, inner_cost, second_w1s, second_w2s, same_registers, storing_address, MayPassOverSame, store_cost}
+use Rattle.rvs_solver.specs.Bound.{first_registers, operands, fixed_names, passes, seconds}
+use Rattle.rvs_solver.specs.Bound.{value_bound}
+use Rattle.rvs_solver.specs.Walk.{is_true_at, sees_first, tried, at_operand, base_of, MayPassOver}
+use Rattle.rvs_solver.specs.Walk.{inner_cost, second_w1s, second_w2s, same_registers}
+use Rattle.rvs_solver.specs.Walk.{storing_address, MayPassOverSame, store_cost}
 use Rattle.rvs_solver.specs.Held.{Held}
 use Rattle.rvs_solver.proofs.Product.{is_store}
 use Rattle.rvs_solver.proofs.Operands.{value_is, all_may_pass, cost_is}

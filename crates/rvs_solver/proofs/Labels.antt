@@ -1,5 +1,6 @@
 -- The points of a valid label.
-use Rattle.std.proofs.Common.{◌≡◌, ℕ, ◌+◌, ◌<◌, ◌≤◌, true, List, [], length, map, get_or, Option, Some, None, refl, sym, ap, ◌∙◌, subst}
+use Rattle.std.proofs.Common.{◌≡◌, ℕ, ◌+◌, ◌<◌, ◌≤◌, true, List, [], length, map, get_or, Option}
+use Rattle.std.proofs.Common.{Some, None, refl, sym, ap, ◌∙◌, subst}
 use Rattle.std.specs.Prelude.{option_map, option_and_then, slice_get, IfSome, IfNone, Ok, Err}
 use Rattle.std.proofs.lemmas.List.{get_or-map, length-map}
 use Rattle.std.proofs.lemmas.Option.{slice_get_read, slice_get-map}
@@ -13,17 +14,21 @@ use Rattle.rvs_expr.specs.Typed.{Formula}
 use Rattle.rvs_expr.specs.Parse.{parse}
 use Rattle.rvs_expr.specs.Only.{only_numbers, only_registers}
 use Rattle.rvs_expr.proofs.OneLanguage.{numbers_alone, registers_alone}
-use Rattle.rvs_cgf.specs.Groups.{Meaning, op_is, reg_is, regs, nums, window, Point as PointOf, Label as LabelOf}
+use Rattle.rvs_cgf.specs.Groups.{Meaning, op_is, reg_is, regs, nums, window, Point as PointOf}
+use Rattle.rvs_cgf.specs.Groups.{Label as LabelOf}
 use Rattle.rvs_cgf.specs.GroupView.{meaning_view, point_view, label_view}
 use Rattle.rvs_cross.specs.Cross.{Place}
 use Rattle.rvs_cross.specs.Parse as crosses
 use Rattle.rvs_cgf.specs.Valid.{found, places, meaning_of, IsValid}
 use Rattle.rvs_cgf.specs.declared.group.Kind.{Kind}
-use Rattle.rvs_cgf.specs.declared.group.Kind.TheVariants.{Mnemonic, Rs1, Rs2, Rd, OpComb, ValComb, CrossComb}
+use Rattle.rvs_cgf.specs.declared.group.Kind.TheVariants.{Mnemonic, Rs1, Rs2, Rd, OpComb, ValComb}
+use Rattle.rvs_cgf.specs.declared.group.Kind.TheVariants.{CrossComb}
 use Rattle.rvs_cgf.specs.declared.group.Point.{Point}
 use Rattle.rvs_cgf.specs.declared.group.Label.{Label}
 use Rattle.rvs_solver.specs.Point.{is_valid}
-use Rattle.rvs_solver.specs.Solving.{first_meant, first_of_point, first_at, bound_meant, bound_at, bound_or_none, SolvesAs, IsLeastAt, IsSolvable, IsSolvableAs, IsSolvableAt}
+use Rattle.rvs_solver.specs.Solving.{first_meant, first_of_point, first_at, bound_meant, bound_at}
+use Rattle.rvs_solver.specs.Solving.{bound_or_none, SolvesAs, IsLeastAt, IsSolvable, IsSolvableAs}
+use Rattle.rvs_solver.specs.Solving.{IsSolvableAt}
 use Rattle.rvs_solver.specs.declared.solved.Solved.{Solved}
 
 -- ---- meanings of keys are of one language

@@ -11,7 +11,8 @@ use Rattle.rvs_solver.specs.declared.solved.Solved.TheVariants.{One}
 use Rattle.rvs_solver.specs.Choices.{ChoiceValue}
 use Rattle.rvs_solver.specs.First.{first_choice, Solvable}
 use Rattle.rvs_solver.specs.Bound.{bound}
-use Rattle.rvs_solver.specs.Solving.{IsSingle, first_meant, IsLeastChoice, SolvesAs, IsSolvableAs, bound_meant}
+use Rattle.rvs_solver.specs.Solving.{IsSingle, first_meant, IsLeastChoice, SolvesAs, IsSolvableAs}
+use Rattle.rvs_solver.specs.Solving.{bound_meant}
 use Rattle.rvs_solver.proofs.Answer.{is_least}
 
 pub first_single : (spec : Isa) (ops : List Op) (k : Kind) (m : Meaning) → IsSingle m

@@ -1,5 +1,6 @@
 -- What is found was kept, and hits.
-use Rattle.std.proofs.Common.{◌≡◌, Bool, true, false, not, ◌&&◌, ◌||◌, cond, List, [], ◌∷◌, Option, Some, None, refl, sym, ap, subst, ◌∙◌}
+use Rattle.std.proofs.Common.{◌≡◌, Bool, true, false, not, ◌&&◌, ◌||◌, cond, List, [], ◌∷◌, Option}
+use Rattle.std.proofs.Common.{Some, None, refl, sym, ap, subst, ◌∙◌}
 use Rattle.std.specs.Prelude.{ℤ, ◌==◌, find, filter, flat_map, IfOk, IfSome, Result, Ok, Err}
 use Rattle.std.proofs.lemmas.Bool.{eqb-true, eq-eqb}
 use Rattle.rvs_insn.specs.declared.op.Op.{Op}
@@ -7,7 +8,8 @@ use Rattle.rvs_insn.specs.Isa.{Isa}
 use Rattle.rvs_insn.specs.Table.{row}
 use Rattle.rvs_cgf.specs.declared.group.Kind.{Kind}
 use Rattle.rvs_cgf.specs.Groups.{Meaning}
-use Rattle.rvs_solver.specs.Choices.{ChoiceValue, is_same, is_zero, is_kept, registers, with_registers, choices}
+use Rattle.rvs_solver.specs.Choices.{ChoiceValue, is_same, is_zero, is_kept, registers}
+use Rattle.rvs_solver.specs.Choices.{with_registers, choices}
 use Rattle.rvs_solver.specs.Point.{hits, constants_of}
 use Rattle.rvs_solver.specs.First.{all_choices, first_choice, HasOneWordEach}
 use Rattle.rvs_solver.proofs.Search.{Each}

@@ -1,5 +1,6 @@
 -- The product of the operands of a value point, as its walk goes through it.
-use Rattle.std.proofs.Common.{◌≡◌, ℕ, ◌+◌, ◌*◌, Bool, true, false, cond, List, [], ◌∷◌, map, length, Option, Some, None, refl, sym, ap, ◌∙◌, arith, append-nil, zero, suc}
+use Rattle.std.proofs.Common.{◌≡◌, ℕ, ◌+◌, ◌*◌, Bool, true, false, cond, List, [], ◌∷◌, map, length}
+use Rattle.std.proofs.Common.{Option, Some, None, refl, sym, ap, ◌∙◌, arith, append-nil, zero, suc}
 use Rattle.std.specs.Prelude.{ℤ, find, flat_map, is_some, All, sum_by, count_by}
 use Rattle.std.proofs.lemmas.List.Sums.{sum_by-cons}
 use Rattle.rvs_insn.specs.declared.op.Format.{Format}
@@ -16,10 +17,14 @@ use Rattle.rvs_solver.proofs.Framing.{frame_within, whole_within, part_holds, no
 use Rattle.rvs_solver.specs.declared.operand.Operand.{Operand}
 use Rattle.rvs_solver.specs.Datasets.{words, immediates, immediate_numbers, alignments}
 use Rattle.rvs_solver.specs.Choices.{Registers, ChoiceValue, choice_of, table_of, w1s, w2s, choices}
-use Rattle.rvs_solver.specs.Bound.{first_registers, operands, operands_at, fixed_word, fixed_names, passes, seconds}
-use Rattle.rvs_solver.specs.Walk.{is_true_at, with_numbers, at_w1, word_or, at_operand, base_of, front_of, is_part_true_at, MayPassOver, inner_cost, second_w1s, second_w2s}
+use Rattle.rvs_solver.specs.Bound.{first_registers, operands, operands_at, fixed_word, fixed_names}
+use Rattle.rvs_solver.specs.Bound.{passes, seconds}
+use Rattle.rvs_solver.specs.Walk.{is_true_at, with_numbers, at_w1, word_or, at_operand, base_of}
+use Rattle.rvs_solver.specs.Walk.{front_of, is_part_true_at, MayPassOver, inner_cost, second_w1s}
+use Rattle.rvs_solver.specs.Walk.{second_w2s}
 use Rattle.rvs_solver.proofs.Search.{Each, flat_one, flat_map_map, flat_flat, flat_same, all_none}
-use Rattle.rvs_solver.proofs.Product.{is_store, spread, registers_decide, each_flat, each_map, each_any}
+use Rattle.rvs_solver.proofs.Product.{is_store, spread, registers_decide, each_flat, each_map}
+use Rattle.rvs_solver.proofs.Product.{each_any}
 
 -- ---- the lists are the same
 

@@ -1,6 +1,7 @@
 -- The search for a value point in all choices of a mnemonic is a search in the product of its
 -- operands.
-use Rattle.std.proofs.Common.{◌≡◌, ℕ, Bool, true, false, not, ◌&&◌, cond, List, [], ◌∷◌, ◌++◌, map, drop, Option, Some, None, refl, sym, ap, ◌∙◌, subst}
+use Rattle.std.proofs.Common.{◌≡◌, ℕ, Bool, true, false, not, ◌&&◌, cond, List, [], ◌∷◌, ◌++◌, map}
+use Rattle.std.proofs.Common.{drop, Option, Some, None, refl, sym, ap, ◌∙◌, subst}
 use Rattle.std.specs.Prelude.{ℤ, find, flat_map, is_some}
 use Rattle.rvs_insn.specs.declared.op.Format.{Format}
 use Rattle.rvs_insn.specs.declared.op.Format.TheVariants.{R, Store}
@@ -15,10 +16,13 @@ use Rattle.rvs_facts.specs.Facts.{value_of, alignment}
 use Rattle.rvs_solver.specs.Truth.{num_at}
 use Rattle.rvs_solver.proofs.Framing.{frame}
 use Rattle.rvs_solver.specs.Datasets.{rds, rs1s, rs2s, immediates, alignments}
-use Rattle.rvs_solver.specs.Choices.{Registers, Numbers, ChoiceValue, choice_of, table_of, base_value, is_same, is_kept, w1s, w2s, at_word, at_alignment, at_immediate, numbers, registers, with_registers, choices}
+use Rattle.rvs_solver.specs.Choices.{Registers, Numbers, ChoiceValue, choice_of, table_of}
+use Rattle.rvs_solver.specs.Choices.{base_value, is_same, is_kept, w1s, w2s, at_word, at_alignment}
+use Rattle.rvs_solver.specs.Choices.{at_immediate, numbers, registers, with_registers, choices}
 use Rattle.rvs_solver.specs.Bound.{first_registers}
 use Rattle.rvs_solver.specs.Walk.{is_true_at, second_w2s}
-use Rattle.rvs_solver.proofs.Search.{Each, map_flat, map_map, flat_same, find_filter, find_alike, first_decides}
+use Rattle.rvs_solver.proofs.Search.{Each, map_flat, map_map, flat_same, find_filter, find_alike}
+use Rattle.rvs_solver.proofs.Search.{first_decides}
 
 -- ---- a list that begins with an element
 

@@ -1,6 +1,7 @@
 -- The search for a point on registers in all choices of a mnemonic is a search in the registers,
 -- each with its least numbers.
-use Rattle.std.proofs.Common.{◌≡◌, ℕ, Bool, true, false, not, ◌&&◌, cond, List, [], ◌∷◌, ◌++◌, map, drop, Option, Some, None, refl, sym, ap, ◌∙◌}
+use Rattle.std.proofs.Common.{◌≡◌, ℕ, Bool, true, false, not, ◌&&◌, cond, List, [], ◌∷◌, ◌++◌, map}
+use Rattle.std.proofs.Common.{drop, Option, Some, None, refl, sym, ap, ◌∙◌}
 use Rattle.std.specs.Prelude.{ℤ, pos, ◌==◌, find, flat_map, option_map, is_some}
 use Rattle.std.specs.Option.{option_or}
 use Rattle.std.proofs.lemmas.Bool.{eqb-true}
@@ -17,12 +18,17 @@ use Rattle.rvs_cgf.specs.declared.group.Kind.{Kind}
 use Rattle.rvs_cgf.specs.declared.group.Kind.TheVariants.{Rd}
 use Rattle.rvs_cgf.specs.Groups.{Meaning}
 use Rattle.rvs_cgf.specs.Groups.{op_is, reg_is, regs, nums, window}
-use Rattle.rvs_solver.specs.Datasets.{rds, rs1s, rs2s, words, base_words, immediates, alignments, aligned, dataset, distance_list}
-use Rattle.rvs_solver.specs.Choices.{Registers, Numbers, choice_of, table_of, is_same, is_zero, has_one_word, is_kept, at_alignment, at_immediate, numbers, registers, with_registers, choices}
+use Rattle.rvs_solver.specs.Datasets.{rds, rs1s, rs2s, words, base_words, immediates, alignments}
+use Rattle.rvs_solver.specs.Datasets.{aligned, dataset, distance_list}
+use Rattle.rvs_solver.specs.Choices.{Registers, Numbers, choice_of, table_of, is_same, is_zero}
+use Rattle.rvs_solver.specs.Choices.{has_one_word, is_kept, at_alignment, at_immediate, numbers}
+use Rattle.rvs_solver.specs.Choices.{registers, with_registers, choices}
 use Rattle.rvs_solver.specs.Point.{hits, is_valid, is_on_values}
 use Rattle.rvs_solver.specs.Least.{least_imm, least_numbers, least, at_rd}
-use Rattle.rvs_solver.proofs.Search.{Each, map_flat, map_map, flat_same, find_filter, find_map, find_same, each_finds, all_none, by_test}
-use Rattle.rvs_solver.proofs.Product.{Begins, each_of, each_flat, each_map, each_any, all_of, and_false}
+use Rattle.rvs_solver.proofs.Search.{Each, map_flat, map_map, flat_same, find_filter, find_map}
+use Rattle.rvs_solver.proofs.Search.{find_same, each_finds, all_none, by_test}
+use Rattle.rvs_solver.proofs.Product.{Begins, each_of, each_flat, each_map, each_any, all_of}
+use Rattle.rvs_solver.proofs.Product.{and_false}
 
 -- ---- such a point doesn't depend on the numbers
 

@@ -1,10 +1,12 @@
 -- Immediates fit 32 bits.
 use Rattle.std.proofs.Common.{◌≡◌, Bool, true, false, List, [], ◌∷◌, ◌++◌, refl, arith}
-use Rattle.std.specs.Prelude.{ℤ, pos, negsuc, nat_lt, unsigned_abs, fold, flat_map, All, if◌then◌else◌}
+use Rattle.std.specs.Prelude.{ℤ, pos, negsuc, nat_lt, unsigned_abs, fold, flat_map, All}
+use Rattle.std.specs.Prelude.{if◌then◌else◌}
 use Rattle.std.proofs.lemmas.Bool.{ltb-true}
 use Rattle.std.proofs.lemmas.Int.{ints}
 use Rattle.rvs_solver.specs.Truth.{IsShort}
-use Rattle.rvs_solver.specs.Datasets.{around, is_between, is_there, joined, dataset, short_numbers, upper_numbers, shifts, offsets}
+use Rattle.rvs_solver.specs.Datasets.{around, is_between, is_there, joined, dataset, short_numbers}
+use Rattle.rvs_solver.specs.Datasets.{upper_numbers, shifts, offsets}
 use Rattle.rvs_solver.proofs.Search.{Each}
 use Rattle.rvs_solver.proofs.Product.{all_of, each_of, each_append}
 use Rattle.rvs_solver.proofs.Operands.{all_from_each}

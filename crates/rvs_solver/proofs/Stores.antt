@@ -1,6 +1,7 @@
 -- The search for a value point in all choices of a store: the product of its operands, and then the
 -- stores of their own address.
-use Rattle.std.proofs.Common.{◌≡◌, ℕ, ◌+◌, ◌*◌, Bool, true, false, not, ◌&&◌, ◌||◌, List, [], ◌∷◌, map, Option, Some, refl, sym, ap, ◌∙◌, subst, arith}
+use Rattle.std.proofs.Common.{◌≡◌, ℕ, ◌+◌, ◌*◌, Bool, true, false, not, ◌&&◌, ◌||◌, List, [], ◌∷◌}
+use Rattle.std.proofs.Common.{map, Option, Some, refl, sym, ap, ◌∙◌, subst, arith}
 use Rattle.std.specs.Prelude.{ℤ, ◌==◌, find, flat_map, unwrap_or, All, sum_by, count_by}
 use Rattle.std.specs.Option.{option_or}
 use Rattle.std.proofs.lemmas.List.Concat.{flat_map_single}
@@ -13,12 +14,20 @@ use Rattle.rvs_expr.specs.Only.{only_numbers}
 use Rattle.rvs_solver.specs.Truth.{num_at, part_of}
 use Rattle.rvs_solver.specs.declared.operand.Operand.{Operand}
 use Rattle.rvs_solver.specs.Datasets.{words, immediates, alignments, address}
-use Rattle.rvs_solver.specs.Choices.{Registers, Numbers, ChoiceValue, choice_of, table_of, is_same, is_zero, has_one_word, is_kept, at_immediate, numbers, registers, with_registers, choices}
+use Rattle.rvs_solver.specs.Choices.{Registers, Numbers, ChoiceValue, choice_of, table_of, is_same}
+use Rattle.rvs_solver.specs.Choices.{is_zero, has_one_word, is_kept, at_immediate, numbers}
+use Rattle.rvs_solver.specs.Choices.{registers, with_registers, choices}
 use Rattle.rvs_solver.specs.Bound.{first_registers, operands, fixed_names, passes, seconds}
-use Rattle.rvs_solver.specs.Walk.{is_true_at, at_operand, base_of, front_of, is_part_true_at, second_w2s, same_registers, storing_address, MayPassOverSame, store_cost}
-use Rattle.rvs_solver.proofs.Search.{Each, map_flat, map_map, flat_same, find_filter, find_alike, two_decide}
-use Rattle.rvs_solver.proofs.Product.{registers_begin, registers_shaped, Shaped, same_truth, is_kept_and_true, weaker, at_first, and_false, find_on_map, spread}
-use Rattle.rvs_solver.proofs.Operands.{by_operands, part_is, not_whole, operands_seconds, seconds_at, sum_is_product, all_from_each, each_then}
+use Rattle.rvs_solver.specs.Walk.{is_true_at, at_operand, base_of, front_of, is_part_true_at}
+use Rattle.rvs_solver.specs.Walk.{second_w2s, same_registers, storing_address, MayPassOverSame}
+use Rattle.rvs_solver.specs.Walk.{store_cost}
+use Rattle.rvs_solver.proofs.Search.{Each, map_flat, map_map, flat_same, find_filter, find_alike}
+use Rattle.rvs_solver.proofs.Search.{two_decide}
+use Rattle.rvs_solver.proofs.Product.{registers_begin, registers_shaped, Shaped, same_truth}
+use Rattle.rvs_solver.proofs.Product.{is_kept_and_true, weaker, at_first, and_false, find_on_map}
+use Rattle.rvs_solver.proofs.Product.{spread}
+use Rattle.rvs_solver.proofs.Operands.{by_operands, part_is, not_whole, operands_seconds}
+use Rattle.rvs_solver.proofs.Operands.{seconds_at, sum_is_product, all_from_each, each_then}
 
 -- the choices before any is left out, by the registers
 abbrev pub stores_with : Isa → Op → List ℤ → Registers → List ChoiceValue

@@ -1,5 +1,6 @@
 -- Where the expression doesn't see which immediate it is, the first one decides.
-use Rattle.std.proofs.Common.{◌≡◌, ℕ, ◌+◌, ◌≤◌, Bool, true, false, List, [], ◌∷◌, length, take, Option, Some, None, refl, sym, ap, ◌∙◌, arith, zero, suc, length-take}
+use Rattle.std.proofs.Common.{◌≡◌, ℕ, ◌+◌, ◌≤◌, Bool, true, false, List, [], ◌∷◌, length, take}
+use Rattle.std.proofs.Common.{Option, Some, None, refl, sym, ap, ◌∙◌, arith, zero, suc, length-take}
 use Rattle.std.specs.Prelude.{ℤ, find, flat_map, All, sum_by}
 use Rattle.std.specs.Option.{option_or}
 use Rattle.std.proofs.lemmas.List.Folds.{find-append}
@@ -20,7 +21,8 @@ use Rattle.rvs_solver.specs.declared.operand.Operand.{Operand}
 use Rattle.rvs_solver.specs.Datasets.{immediates, alignments}
 use Rattle.rvs_solver.specs.Choices.{Registers, table_of}
 use Rattle.rvs_solver.specs.Bound.{operands}
-use Rattle.rvs_solver.specs.Walk.{is_true_at, with_numbers, at_w1, word_or, at_operand, base_of, sees_first, tried}
+use Rattle.rvs_solver.specs.Walk.{is_true_at, with_numbers, at_w1, word_or, at_operand, base_of}
+use Rattle.rvs_solver.specs.Walk.{sees_first, tried}
 use Rattle.rvs_solver.proofs.Search.{Each, flat_one, find_alike, first_decides}
 use Rattle.rvs_solver.proofs.Operands.{pairs_each}
 

@@ -1,7 +1,9 @@
 -- How often expressions are evaluated at most.
-use Rattle.std.specs.Prelude.{ℕ, ◌+◌, ◌*◌, ℤ, Bool, List, [], ◌∷◌, map, flat_map, length, count_by, sum_by, Option, Some, None, unwrap_or}
+use Rattle.std.specs.Prelude.{ℕ, ◌+◌, ◌*◌, ℤ, Bool, List, [], ◌∷◌, map, flat_map, length, count_by}
+use Rattle.std.specs.Prelude.{sum_by, Option, Some, None, unwrap_or}
 use Rattle.rvs_insn.specs.declared.op.Format.{Format}
-use Rattle.rvs_insn.specs.declared.op.Format.TheVariants.{R, I, Shift, Load, Store, Branch, Upper, Jump, Fence, System}
+use Rattle.rvs_insn.specs.declared.op.Format.TheVariants.{R, I, Shift, Load, Store, Branch, Upper}
+use Rattle.rvs_insn.specs.declared.op.Format.TheVariants.{Jump, Fence, System}
 use Rattle.rvs_insn.specs.declared.op.Op.{Op}
 use Rattle.rvs_insn.specs.Isa.{Isa}
 use Rattle.rvs_insn.specs.Table.{row}

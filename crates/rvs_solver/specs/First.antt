@@ -1,5 +1,6 @@
 -- The first choice that hits a point.
-use Rattle.std.specs.Prelude.{◌≡◌, ◌<◌, Bool, true, false, ℕ, ℤ, List, Option, Some, flat_map, find, slice_get, Contains}
+use Rattle.std.specs.Prelude.{◌≡◌, ◌<◌, Bool, true, false, ℕ, ℤ, List, Option, Some, flat_map, find}
+use Rattle.std.specs.Prelude.{slice_get, Contains}
 use Rattle.rvs_insn.specs.declared.op.Op.{Op}
 use Rattle.rvs_insn.specs.Isa.{Isa}
 use Rattle.rvs_cgf.specs.declared.group.Kind.{Kind}

@@ -1,7 +1,9 @@
 -- The choice with the least numbers that its registers allow.
-use Rattle.std.specs.Prelude.{ℕ, ℤ, pos, Bool, if◌then◌else◌, List, map, flat_map, Option, Some, None, false, not}
+use Rattle.std.specs.Prelude.{ℕ, ℤ, pos, Bool, if◌then◌else◌, List, map, flat_map, Option, Some}
+use Rattle.std.specs.Prelude.{None, false, not}
 use Rattle.rvs_insn.specs.declared.op.Format.{Format}
-use Rattle.rvs_insn.specs.declared.op.Format.TheVariants.{R, I, Shift, Load, Store, Branch, Jump, Fence, System}
+use Rattle.rvs_insn.specs.declared.op.Format.TheVariants.{R, I, Shift, Load, Store, Branch, Jump}
+use Rattle.rvs_insn.specs.declared.op.Format.TheVariants.{Fence, System}
 use Rattle.rvs_insn.specs.declared.op.Op.{Op}
 use Rattle.rvs_cgf.specs.declared.group.Kind.{Kind}
 use Rattle.rvs_cgf.specs.declared.group.Kind.TheVariants.{Rd, Rs1}

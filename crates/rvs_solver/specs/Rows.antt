@@ -1,13 +1,15 @@
 -- Some points, and the most evaluations that each takes on a core without misaligned data.
 use Rattle.std.specs.Prelude.{ℕ, ℤ, pos, negsuc, true, false, List, [], ◌∷◌}
 use Rattle.rvs_insn.specs.declared.op.Op.{Op}
-use Rattle.rvs_insn.specs.declared.op.Op.TheVariants.{Mul, Div, Beq, Sw, Sb, Lb, Addi, Fence, Jalr, Sltiu, Add}
+use Rattle.rvs_insn.specs.declared.op.Op.TheVariants.{Mul, Div, Beq, Sw, Sb, Lb, Addi, Fence, Jalr}
+use Rattle.rvs_insn.specs.declared.op.Op.TheVariants.{Sltiu, Add}
 use Rattle.rvs_insn.specs.Isa.{Isa}
 use Rattle.rvs_expr_text.specs.declared.lexeme.NumName.{NumName}
 use Rattle.rvs_expr_text.specs.declared.lexeme.NumName.TheVariants.{Rs1Val, Rs2Val, ImmVal, EaAlign}
 use Rattle.rvs_expr_text.specs.declared.lexeme.RegName.TheVariants.{Rd, Rs1}
 use Rattle.rvs_expr.specs.declared.formula.Comparison.TheVariants.{Equal}
-use Rattle.rvs_expr.specs.Typed.{Num, literal, named, product, pair, reg_pair, register, Formula, numbers, registers, conjunction}
+use Rattle.rvs_expr.specs.Typed.{Num, literal, named, product, pair, reg_pair, register, Formula}
+use Rattle.rvs_expr.specs.Typed.{numbers, registers, conjunction}
 use Rattle.rvs_cgf.specs.Groups.{Meaning, regs, nums}
 use Rattle.rvs_solver.specs.Bound.{bound}
 

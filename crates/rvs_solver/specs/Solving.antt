@@ -1,5 +1,6 @@
 -- What solves a point of a label.
-use Rattle.std.specs.Prelude.{◌≡◌, ℕ, true, List, length, map, Option, Some, None, option_map, option_and_then, slice_get, sum_by, All}
+use Rattle.std.specs.Prelude.{◌≡◌, ℕ, true, List, length, map, Option, Some, None, option_map}
+use Rattle.std.specs.Prelude.{option_and_then, slice_get, sum_by, All}
 use Rattle.rvs_insn.specs.declared.op.Op.{Op}
 use Rattle.rvs_insn.specs.Isa.{Isa}
 use Rattle.rvs_insn.specs.Fields.{Fields}

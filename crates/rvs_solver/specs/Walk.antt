@@ -1,5 +1,6 @@
 -- What a walk goes through.
-use Rattle.std.specs.Prelude.{◌≡◌, ℕ, ◌+◌, ◌*◌, ℤ, Bool, true, false, if◌then◌else◌, List, [], ◌∷◌, map, flat_map, length, take, find, Option, Some, None, unwrap_or}
+use Rattle.std.specs.Prelude.{◌≡◌, ℕ, ◌+◌, ◌*◌, ℤ, Bool, true, false, if◌then◌else◌, List, [], ◌∷◌}
+use Rattle.std.specs.Prelude.{map, flat_map, length, take, find, Option, Some, None, unwrap_or}
 use Rattle.rvs_insn.specs.declared.op.Format.{Format}
 use Rattle.rvs_insn.specs.declared.op.Format.TheVariants.{I, Shift, Branch}
 use Rattle.rvs_insn.specs.declared.op.Op.{Op}

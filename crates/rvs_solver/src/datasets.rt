@@ -1,11 +1,14 @@
 // Values, immediates and alignments.
-ghost use Rattle.std.specs.Prelude.{◌≡◌, ◌++◌, ◌∷◌, [], ◌<◌, ◌≤◌, ◌^◌, ℤ, pos, OnOk, IfOk, All, map, flat_map, fold, not, length, Some, None, if◌then◌else◌};
+ghost use Rattle.std.specs.Prelude.{◌≡◌, ◌++◌, ◌∷◌, [], ◌<◌, ◌≤◌, ◌^◌, ℤ, pos, OnOk, IfOk, All};
+ghost use Rattle.std.specs.Prelude.{map, flat_map, fold, not, length, Some, None, if◌then◌else◌};
 ghost use Rattle.std.specs.List.{list_any};
 ghost use Rattle.std.specs.Ordering.{int_eq};
 ghost use Rattle.rvs_insn.specs.Table.{row};
 ghost use Rattle.rvs_insn.specs.Word.{low_bits};
 ghost use Rattle.rvs_solver.specs.Truth.{IsNarrow, IsShort};
-ghost use Rattle.rvs_solver.specs.Datasets.{joined, is_between, is_there, around, dataset, values, words, distance, distances, distance_list, alignments, address, immediate_numbers};
+ghost use Rattle.rvs_solver.specs.Datasets.{joined, is_between, is_there, around, dataset, values};
+ghost use Rattle.rvs_solver.specs.Datasets.{words, distance, distances, distance_list, alignments};
+ghost use Rattle.rvs_solver.specs.Datasets.{address, immediate_numbers};
 ghost use Rattle.rvs_solver.specs.Bound.{operands, operands_at, fixed_word};
 
 use crate::operand::Operand;

@@ -1,13 +1,15 @@
 // The search for a point on the mnemonic or on registers: all registers, each with the least
 // numbers that they allow.
-ghost use Rattle.std.specs.Prelude.{◌≡◌, ◌+◌, ◌*◌, ◌≤◌, ◌<◌, ℕ, map, flat_map, length, find, All, Some, None, IsTrue};
+ghost use Rattle.std.specs.Prelude.{◌≡◌, ◌+◌, ◌*◌, ◌≤◌, ◌<◌, ℕ, map, flat_map, length, find, All};
+ghost use Rattle.std.specs.Prelude.{Some, None, IsTrue};
 ghost use Rattle.rvs_insn.specs.Table.{row};
 ghost use Rattle.rvs_insn.specs.Fields.{IsRegister};
 ghost use Rattle.rvs_cgf.specs.GroupView.{meaning_view};
 ghost use Rattle.rvs_cgf.specs.Hits.{is_register, steps_of};
 ghost use Rattle.rvs_solver.specs.Choices.{is_zero, is_same};
 ghost use Rattle.rvs_solver.specs.Point.{hits};
-ghost use Rattle.rvs_solver.specs.Least.{least, least_imm, least_w1, least_w2, at_rs1, at_rd, asks_other_rd, asks_other_rs1};
+ghost use Rattle.rvs_solver.specs.Least.{least, least_imm, least_w1, least_w2, at_rs1, at_rd};
+ghost use Rattle.rvs_solver.specs.Least.{asks_other_rd, asks_other_rs1};
 
 use crate::choice::Choice;
 use rvs_cgf::{Kind, Meaning, is_meant};

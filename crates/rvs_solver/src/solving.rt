@@ -1,5 +1,6 @@
 // The first choice that hits a point.
-ghost use Rattle.std.specs.Prelude.{◌≡◌, [], ◌+◌, ◌*◌, ◌≤◌, ◌<◌, length, option_map, true, false, IfOk, IfNone, IfSome, find, flat_map, sum_by};
+ghost use Rattle.std.specs.Prelude.{◌≡◌, [], ◌+◌, ◌*◌, ◌≤◌, ◌<◌, length, option_map, true, false};
+ghost use Rattle.std.specs.Prelude.{IfOk, IfNone, IfSome, find, flat_map, sum_by};
 ghost use Rattle.rvs_insn.specs.Table.{row};
 ghost use Rattle.rvs_cross.specs.CrossView.{cross_view};
 ghost use Rattle.rvs_cross.specs.Sequences.{first_sequence};
@@ -10,7 +11,9 @@ ghost use Rattle.rvs_cgf.specs.Valid.{IsValid};
 ghost use Rattle.rvs_solver.specs.Choices.{choices, ChoiceValue};
 ghost use Rattle.rvs_solver.specs.Point.{hits, is_valid, is_on_values, constants_of};
 ghost use Rattle.rvs_solver.specs.First.{first_choice, Solvable, HasOneWordEach};
-ghost use Rattle.rvs_solver.specs.Solving.{first_at, first_meant, bound_at, bound_meant, IsSingle, IsLeastAt, IsLeastChoice, IsWindow, SolvesAs, IsSolvableAs, IsSolvableAt, HaveOneWordEach};
+ghost use Rattle.rvs_solver.specs.Solving.{first_at, first_meant, bound_at, bound_meant, IsSingle};
+ghost use Rattle.rvs_solver.specs.Solving.{IsLeastAt, IsLeastChoice, IsWindow, SolvesAs};
+ghost use Rattle.rvs_solver.specs.Solving.{IsSolvableAs, IsSolvableAt, HaveOneWordEach};
 ghost use Rattle.rvs_solver.specs.Bound.{bound_of, bound, register_bound};
 
 use crate::choice::Choice;

@@ -1,6 +1,7 @@
 // The first choice of one mnemonic for a value point. The registers don't matter to its
 // expression, so the first ones are taken, and only operands are walked.
-ghost use Rattle.std.specs.Prelude.{◌≡◌, ◌+◌, ◌≤◌, true, false, [], ◌∷◌, IfOk, find, All, length, flat_map, map, sum_by, Some, option_map};
+ghost use Rattle.std.specs.Prelude.{◌≡◌, ◌+◌, ◌≤◌, true, false, [], ◌∷◌, IfOk, find, All, length};
+ghost use Rattle.std.specs.Prelude.{flat_map, map, sum_by, Some, option_map};
 ghost use Rattle.std.specs.Option.{option_or};
 ghost use Rattle.rvs_insn.specs.Table.{row};
 ghost use Rattle.rvs_insn.specs.Fields.{IsRegister};
@@ -10,7 +11,8 @@ ghost use Rattle.rvs_solver.specs.Truth.{IsNarrow, constants_in, part_of, uses};
 ghost use Rattle.rvs_solver.specs.Datasets.{words};
 ghost use Rattle.rvs_solver.specs.Choices.{choices};
 ghost use Rattle.rvs_solver.specs.Bound.{fixed_names, first_registers, value_bound};
-ghost use Rattle.rvs_solver.specs.Walk.{is_true_at, second_w1s, second_w2s, base_of, same_registers, sees_first, tried};
+ghost use Rattle.rvs_solver.specs.Walk.{is_true_at, second_w1s, second_w2s, base_of};
+ghost use Rattle.rvs_solver.specs.Walk.{same_registers, sees_first, tried};
 ghost use Rattle.rvs_solver.specs.Held.{Held};
 
 use crate::choice::Choice;

@@ -1,9 +1,12 @@
 // The search for a value point: first operands outside, passed over by their part of the
 // expression, and words inside.
-ghost use Rattle.std.specs.Prelude.{◌≡◌, ◌+◌, ◌*◌, ◌≤◌, ◌∷◌, [], map, flat_map, length, find, sum_by, All, Some, None, unwrap_or, option_map};
+ghost use Rattle.std.specs.Prelude.{◌≡◌, ◌+◌, ◌*◌, ◌≤◌, ◌∷◌, [], map, flat_map, length, find};
+ghost use Rattle.std.specs.Prelude.{sum_by, All, Some, None, unwrap_or, option_map};
 ghost use Rattle.rvs_expr.specs.TypedView.{view};
 ghost use Rattle.std.specs.Option.{option_or};
-ghost use Rattle.rvs_solver.specs.Walk.{is_true_at, with_numbers, at_w1, at_operand, word_or, front_of, is_part_true_at, MayPassOver, inner_cost, storing_address, MayPassOverSame, store_cost};
+ghost use Rattle.rvs_solver.specs.Walk.{is_true_at, with_numbers, at_w1, at_operand, word_or};
+ghost use Rattle.rvs_solver.specs.Walk.{front_of, is_part_true_at, MayPassOver, inner_cost};
+ghost use Rattle.rvs_solver.specs.Walk.{storing_address, MayPassOverSame, store_cost};
 
 use crate::choice::Choice;
 use crate::operand::Operand;

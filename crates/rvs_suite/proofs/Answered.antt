@@ -1,5 +1,6 @@
 -- How a command answers that reads its inputs first, and then does its deeds.
-use Rattle.std.proofs.Common.{◌≡◌, ◌≢◌, ◌⊎◌, inl, inr, ℕ, List, [], Option, Some, Result, Ok, Err, refl, sym, ap, subst, ◌∙◌}
+use Rattle.std.proofs.Common.{◌≡◌, ◌≢◌, ◌⊎◌, inl, inr, ℕ, List, [], Option, Some, Result, Ok, Err}
+use Rattle.std.proofs.Common.{refl, sym, ap, subst, ◌∙◌}
 use Rattle.rvs_base.specs.Host.{Files, Tells}
 use Rattle.rvs_base.specs.Sink.{SinkState}
 use Rattle.rvs_plan.specs.World.{World, Contents, contents}
@@ -19,13 +20,16 @@ use Rattle.rvs_suite.specs.Plans.{plan_of}
 use Rattle.rvs_suite.specs.Commands.{command_of}
 use Rattle.rvs_suite.specs.Call.{Call, world_of}
 use Rattle.rvs_suite.specs.Answered.{HasLeft, HasRefused, HasMissed, Answered}
-use Rattle.rvs_suite.proofs.Ends.{same_end, means-end, WasRefused, was_refused, WasMissing, was_missing}
-use Rattle.rvs_suite.proofs.Finding.{Finds, end-found, Behind, behind, Deeds, left, end-deeds, left-after}
+use Rattle.rvs_suite.proofs.Ends.{same_end, means-end, WasRefused, was_refused, WasMissing}
+use Rattle.rvs_suite.proofs.Ends.{was_missing}
+use Rattle.rvs_suite.proofs.Finding.{Finds, end-found, Behind, behind, Deeds, left, end-deeds}
+use Rattle.rvs_suite.proofs.Finding.{left-after}
 use Rattle.rvs_suite.proofs.Running.{Ran, at_status, asked_means}
 use Rattle.rvs_suite.specs.declared.command.Command.{Command}
 
 -- a command reads its inputs, which over these files come to this, and then does its deeds
-pub record Works {A : Type 0} (command : Command) (files : Files) (found : Result A Stop) : Type 0 where
+pub record Works {A : Type 0} (command : Command) (files : Files) (found : Result A Stop) : Type
+    0 where
   pub inputs : Plan A
   pub deeds : A → Plan Finish
   pub plan : plan_of command ≡ (inputs >>= deeds)
@@ -37,68 +41,120 @@ abbrev end_after : {A : Type 0} → Result A Stop → Result Finish Stop
 end_after (Ok given) = Ok Done
 end_after (Err stop) = Err stop
 
-followed-end : {A : Type 0} (files : Files) (answers : List Answer) (found : Result A Stop) (deeds : A → Plan Finish) → ((given : A) → Deeds Done (deeds given)) → end_of (followed found deeds) files answers ≡ Some (end_after found)
-followed-end files answers (Ok given) deeds does = end-deeds files answers Done (deeds given) (does given)
+followed-end : {A : Type 0} (files : Files) (answers : List Answer) (found : Result A Stop)
+    (deeds : A → Plan Finish) → ((given : A) → Deeds Done (deeds given)) → end_of
+    (followed found deeds) files answers ≡ Some (end_after found)
+followed-end files answers (Ok given) deeds does =
+    end-deeds files answers Done (deeds given) (does given)
 followed-end files answers (Err stop) deeds does = refl
 
-works-end : {A : Type 0} {command : Command} {files : Files} {found : Result A Stop} → Works command files found → (answers : List Answer) → end_of (plan_of command) files answers ≡ Some (end_after found)
-works-end {files = files} {found = found} w answers = ap (λ (p : Plan Finish). end_of p files answers) w.plan ∙ end-found files answers w.inputs w.deeds found w.finds ∙ followed-end files answers found w.deeds w.does
+works-end : {A : Type 0} {command : Command} {files : Files} {found : Result A Stop}
+    → Works command files found → (answers : List Answer)
+    → end_of (plan_of command) files answers ≡ Some (end_after found)
+works-end {files = files} {found = found} w answers =
+    ap (λ (p : Plan Finish). end_of p files answers) w.plan
+    ∙ end-found files answers w.inputs w.deeds found w.finds
+    ∙ followed-end files answers found w.deeds w.does
 
 -- what deeds of accepted inputs leave, where the command did all of them
-works-left : {A : Type 0} {command : Command} {files : Files} (given : A) (end : Result Finish Stop) (old new : Contents) → (w : Works command files (Ok given)) → old.files ≡ Some files → Completes (plan_of command) end old new → new ≡ left (w.deeds given) old
+works-left : {A : Type 0} {command : Command} {files : Files} (given : A) (end : Result Finish Stop)
+    (old new : Contents) → (w : Works command files (Ok given)) → old.files ≡ Some files → Completes
+    (plan_of command) end old new → new ≡ left (w.deeds given) old
 works-left {A} {command} {files} given end old new w told r =
-    let b : Behind (w.deeds given) end r.effects old = behind files w.inputs w.deeds (Ok given) end r.effects old w.finds told r.saw (subst (λ (p : Plan Finish). Goes p r.effects (Ends end)) w.plan r.goes) in
+    let b : Behind (w.deeds given) end r.effects old = behind files w.inputs w.deeds (Ok given) end
+    r.effects old w.finds told r.saw
+    (subst (λ (p : Plan Finish). Goes p r.effects (Ends end)) w.plan r.goes) in
     r.did ∙ b.same ∙ left-after Done end (w.deeds given) b.later old (w.does given) b.goes
 
 -- an end that the command came to is the one that its inputs lead to
-works-same : {A : Type 0} {command : Command} {files : Files} {found : Result A Stop} (end : Result Finish Stop) (old new : World) → Works command files found → Tells old.host files → Completes (plan_of command) end (contents old) (contents new) → end ≡ end_after found
-works-same {command = command} {files = files} {found = found} end old new w t r = same_end (plan_of command) files end (end_after found) (ComesTo-Completes (plan_of command) end old new files t r) (works-end w)
+works-same : {A : Type 0} {command : Command} {files : Files} {found : Result A Stop}
+    (end : Result Finish Stop) (old new : World) → Works command files found → Tells old.host files
+    → Completes (plan_of command) end (contents old) (contents new) → end ≡ end_after found
+works-same {command = command} {files = files} {found = found} end old new w t r = same_end
+    (plan_of command) files end (end_after found)
+    (ComesTo-Completes (plan_of command) end old new files t r) (works-end w)
 
-left-done : {A : Type 0} {command : Command} {files : Files} (found : Result A Stop) (old new : World) (Left : A → Type 0) → (w : Works command files found) → Tells old.host files → ((given : A) → contents new ≡ left (w.deeds given) (contents old) → Left given) → Completes (plan_of command) (Ok Done) (contents old) (contents new) → HasLeft found Left
-left-done (Ok given) old new Left w t leaves r = record { given = given; accepted = refl; left = leaves given (works-left given (Ok Done) (contents old) (contents new) w t.files r) }
-left-done (Err stop) old new Left w t leaves r = let no : Ok Done ≡ Err stop = works-same (Ok Done) old new w t r in absurd cc
+left-done : {A : Type 0} {command : Command} {files : Files} (found : Result A Stop)
+    (old new : World) (Left : A → Type 0) → (w : Works command files found) → Tells old.host files
+    → ((given : A) → contents new ≡ left (w.deeds given) (contents old) → Left given) → Completes
+    (plan_of command) (Ok Done) (contents old) (contents new) → HasLeft found Left
+left-done (Ok given) old new Left w t leaves r = record {
+  given = given;
+  accepted = refl;
+  left = leaves given (works-left given (Ok Done) (contents old) (contents new) w t.files r);
+}
+left-done (Err stop) old new Left w t leaves r = let no : Ok Done ≡ Err stop =
+    works-same (Ok Done) old new w t r in absurd cc
 
 no-verdict : {A : Type 0} (found : Result A Stop) → Ok NotPassed ≡ end_after found → ⊥
 no-verdict (Ok given) e = cc
 no-verdict (Err stop) e = cc
 
-refused-for : {A : Type 0} (found : Result A Stop) (stop : Stop) → Err stop ≡ end_after found → found ≡ Err stop
+refused-for : {A : Type 0} (found : Result A Stop) (stop : Stop) → Err stop ≡ end_after found
+    → found ≡ Err stop
 refused-for (Ok given) stop e = absurd cc
 refused-for (Err s) stop e = let same : s ≡ stop = cc in ap (λ (x : Stop). Err x) same
 
 -- the status of such a command, where nothing failed
-works-means : {A : Type 0} {command : Command} {files : Files} {found : Result A Stop} {old new : World} {err err' : SinkState} {status : Status} (end : Result A Stop) → Works command files found → Ran command old new err err' status → Tells old.host files → found ≡ end → NoneRose old new err err' → (status ≡ end_status (end_after end)) ⊎ (status ≡ answer.NoMemory)
-works-means {command = command} {files = files} {found = found} {status = status} end w r t is none = elim (asked_means r files command t refl none) [
-  | inl m ↦ inl (means-end (plan_of command) files status (end_after end) m (λ answers. works-end w answers ∙ ap (λ (f : Result _ Stop). Some (end_after f)) is))
-  | inr no_memory ↦ inr no_memory
-]
+works-means : {A : Type 0} {command : Command} {files : Files} {found : Result A Stop}
+    {old new : World} {err err' : SinkState} {status : Status} (end : Result A Stop) → Works command
+    files found → Ran command old new err err' status → Tells old.host files → found ≡ end
+    → NoneRose old new err err' → (status ≡ end_status (end_after end)) ⊎ (status ≡ answer.NoMemory)
+works-means {command = command} {files = files} {found = found} {status = status} end w r t is
+    none = elim (asked_means r files command t refl none) [
+      | inl m ↦ inl (means-end (plan_of command) files status (end_after end) m
+          (λ answers. works-end w answers ∙ ap (λ (f : Result _ Stop). Some (end_after f)) is))
+      | inr no_memory ↦ inr no_memory
+    ]
 
 -- a call whose command ran, by what its inputs come to
 pub record RunsOn (call : Call) (files : Files) (command : Command) : Type 0 where
-  pub ran : Ran (command_of call.words) (world_of call.old) (world_of call.new) call.old.err call.new.err call.status
+  pub ran : Ran (command_of call.words) (world_of call.old) (world_of call.new) call.old.err
+      call.new.err call.status
   pub told : Tells call.old.host files
   pub asks : command_of call.words ≡ command
 
-pub ran-command : {call : Call} {files : Files} {command : Command} → RunsOn call files command → Ran command (world_of call.old) (world_of call.new) call.old.err call.new.err call.status
-ran-command {call} r = subst (λ (c : Command). Ran c (world_of call.old) (world_of call.new) call.old.err call.new.err call.status) r.asks r.ran
+pub ran-command : {call : Call} {files : Files} {command : Command} → RunsOn call files command
+    → Ran command (world_of call.old) (world_of call.new) call.old.err call.new.err call.status
+ran-command {call} r = subst (λ (c : Command). Ran c (world_of call.old) (world_of call.new)
+    call.old.err call.new.err call.status) r.asks r.ran
 
-pub answered : {A : Type 0} {call : Call} {files : Files} {command : Command} {found : Result A Stop} (Left : A → Type 0) → RunsOn call files command → (w : Works command files found) → ((given : A) → contents (world_of call.new) ≡ left (w.deeds given) (contents (world_of call.old)) → Left given) → Answered call found Left
+pub answered : {A : Type 0} {call : Call} {files : Files} {command : Command}
+    {found : Result A Stop} (Left : A → Type 0) → RunsOn call files command
+    → (w : Works command files found) → ((given : A)
+    → contents (world_of call.new) ≡ left (w.deeds given) (contents (world_of call.old))
+    → Left given) → Answered call found Left
 answered {A} {call} {files} {command} {found} Left r w leaves =
     let old = world_of call.old in
     let new = world_of call.new in
     let plan = plan_of command in
     let ran = ran-command r in
     record {
-      done = λ is. left-done found old new Left w r.told leaves (at_status ran files command answer.Done r.told refl is).completes;
-      no_verdict = λ is. no-verdict found (works-same (Ok NotPassed) old new w r.told (at_status ran files command answer.NotPassed r.told refl is).completes);
+      done = λ is. left-done found old new Left w r.told leaves
+          (at_status ran files command answer.Done r.told refl is).completes;
+      no_verdict = λ is. no-verdict found (works-same (Ok NotPassed) old new w r.told
+          (at_status ran files command answer.NotPassed r.told refl is).completes);
       by_inputs = λ given is none. works-means (Ok given) w ran r.told is none;
       refused = λ is.
-          let was : WasRefused plan old new call.old.err call.new.err = was_refused plan old new call.old.err call.new.err (at_status ran files command answer.Refused r.told refl is) in
-          record { text = was.text; refused = refused-for found (why.Refused was.text) (works-same (Err (why.Refused was.text)) old new w r.told was.completes); line = was.line };
+          let was : WasRefused plan old new call.old.err call.new.err = was_refused plan old new
+          call.old.err call.new.err
+          (at_status ran files command answer.Refused r.told refl is) in
+          record {
+            text = was.text;
+            refused = refused-for found (why.Refused was.text)
+                (works-same (Err (why.Refused was.text)) old new w r.told was.completes);
+            line = was.line;
+          };
       by_refusal = λ text is none. works-means (Err (why.Refused text)) w ran r.told is none;
-      absent = λ is. elim (was_missing plan old new call.old.err call.new.err (at_status ran files command answer.HostFault r.told refl is)) [
-        | inl was ↦ inl (record { name = was.name; absent = refused-for found (why.NoFile was.name) (works-same (Err (why.NoFile was.name)) old new w r.told was.completes); line = was.line })
-        | inr rose ↦ inr rose
-      ];
+      absent = λ is. elim (was_missing plan old new call.old.err call.new.err
+          (at_status ran files command answer.HostFault r.told refl is)) [
+            | inl was ↦ inl (record {
+              name = was.name;
+              absent = refused-for found (why.NoFile was.name)
+                  (works-same (Err (why.NoFile was.name)) old new w r.told was.completes);
+              line = was.line;
+            })
+            | inr rose ↦ inr rose
+          ];
       by_absence = λ name is none. works-means (Err (why.NoFile name)) w ran r.told is none;
     }

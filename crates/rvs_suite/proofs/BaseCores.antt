@@ -9,18 +9,22 @@ use Rattle.rvs_isa.specs.declared.isa_text.Extensions.{Extensions}
 use Rattle.rvs_isa.specs.declared.refusal.IsaRefusal.{IsaRefusal}
 use Rattle.rvs_isa.specs.Refusal.{Found, ◌>>=◌, ◌>>◌}
 use Rattle.rvs_isa.specs.Unread.{unread}
-use Rattle.rvs_isa.specs.Check.{is_a_map, hart_number, hart_key, hart_entries, isa_entry, xlen_entry, address_bits, misaligned, misa_entry, core_of, checked_hart, checked}
+use Rattle.rvs_isa.specs.Check.{is_a_map, hart_number, hart_key, hart_entries, isa_entry}
+use Rattle.rvs_isa.specs.Check.{xlen_entry, address_bits, misaligned, misa_entry, core_of}
+use Rattle.rvs_isa.specs.Check.{checked_hart, checked}
 use Rattle.rvs_yaml.specs.Answer.{Answer, answer}
 use Rattle.rvs_suite.specs.Specification.{isa_limit, checked_end, tree_end, bytes_said, said_in}
 
 abbrev pub IsBase : Checked → Type 0
 IsBase said = said.spec.e ≡ false
 
-ok-then : {A : Type 0} (r : Found A) (next : A → Found Checked) → ((a : A) → IfOk (next a) IsBase) → IfOk (r >>= next) IsBase
+ok-then : {A : Type 0} (r : Found A) (next : A → Found Checked) → ((a : A) → IfOk (next a) IsBase)
+    → IfOk (r >>= next) IsBase
 ok-then (Ok a) next each = each a
 ok-then (Err refusal) next each = tt
 
-ok-behind : {A : Type 0} (r : Found A) (next : Found Checked) → IfOk next IsBase → IfOk (r >> next) IsBase
+ok-behind : {A : Type 0} (r : Found A) (next : Found Checked) → IfOk next IsBase
+    → IfOk (r >> next) IsBase
 ok-behind (Ok a) next is = is
 ok-behind (Err refusal) next is = tt
 
@@ -34,9 +38,11 @@ base_hart hart root =
     ok-behind (misa_entry hart (core_of extensions bits aligned) root) _ refl)))))
 
 base_checked : (root : Data) → IfOk (checked root) IsBase
-base_checked root = ok-behind (is_a_map [] root) _ (ok-then (hart_number root) _ (λ number. base_hart (hart_key number) root))
+base_checked root = ok-behind (is_a_map [] root) _
+    (ok-then (hart_number root) _ (λ number. base_hart (hart_key number) root))
 
-base_end : (name : List ℕ) (r : Result Checked IsaRefusal) → IfOk r IsBase → IfOk (checked_end name r) IsBase
+base_end : (name : List ℕ) (r : Result Checked IsaRefusal) → IfOk r IsBase
+    → IfOk (checked_end name r) IsBase
 base_end name (Ok said) is = is
 base_end name (Err refusal) is = tt
 

@@ -1,5 +1,7 @@
 -- The text of a number gives it.
-use Rattle.std.proofs.Common.{◌≡◌, ℕ, ◌+◌, ◌*◌, ◌-◌, ◌/◌, ◌%◌, ◌^◌, ◌<◌, ◌≤◌, Bool, true, false, cond, List, [], ◌∷◌, ◌++◌, length, get_or, Option, Some, None, refl, ap, ◌∙◌, arith}
+use Rattle.std.proofs.Common.{◌≡◌, ℕ, ◌+◌, ◌*◌, ◌-◌, ◌/◌, ◌%◌, ◌^◌, ◌<◌, ◌≤◌, Bool, true, false}
+use Rattle.std.proofs.Common.{cond, List, [], ◌∷◌, ◌++◌, length, get_or, Option, Some, None, refl}
+use Rattle.std.proofs.Common.{ap, ◌∙◌, arith}
 use Rattle.std.proofs.lemmas.Bool.Decides.{nat_tests}
 use Rattle.std.proofs.lemmas.Bool.{le-leb}
 use Rattle.std.proofs.lemmas.Fmt.{length-decimal-le, first_decimal}
@@ -15,8 +17,10 @@ use Rattle.rvs_suite.specs.CommandLaws.{StepsAreRead, CountsAreRead}
 
 number-read : (n : ℕ) → n ≤ 9999999 → number_of (decimal n) ≡ Some n
 number-read n h =
-    let few = le-leb (length (decimal n)) 7 (length-decimal-le 7 n (omega arith) (omega arith) (omega arith)) in
-    ap (λ (t : Bool). cond t (digits_of 10 (decimal n)) None) few ∙ digits_of-decimal n (omega arith)
+    let few = le-leb (length (decimal n)) 7
+    (length-decimal-le 7 n (omega arith) (omega arith) (omega arith)) in
+    ap (λ (t : Bool). cond t (digits_of 10 (decimal n)) None) few
+    ∙ digits_of-decimal n (omega arith)
 
 above-dash : (text : List ℕ) → 48 < get_or text 0 0 → is_positional text ≡ true
 above-dash [] h = absurd (omega arith)
@@ -34,5 +38,7 @@ steps_are_read n low high = (
 
 pub counts_are_read : CountsAreRead
 counts_are_read program n low high =
-    ap (λ (o : Option ℕ). given (option_and_then size_of o) (λ count. Demo count)) (number-read n (omega arith))
-    ∙ ap (λ (t : Bool). given (cond t (Some n) None) (λ count. Demo count)) (within n 1000000 low high)
+    ap (λ (o : Option ℕ). given (option_and_then size_of o) (λ count. Demo count))
+    (number-read n (omega arith))
+    ∙ ap (λ (t : Bool). given (cond t (Some n) None) (λ count. Demo count))
+    (within n 1000000 low high)

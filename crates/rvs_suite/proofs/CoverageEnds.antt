@@ -1,5 +1,6 @@
 -- What every call of `coverage` promises.
-use Rattle.std.proofs.Common.{◌≡◌, ◌≤◌, ℕ, Bool, false, List, map, length, nat_lt, Option, Some, Result, Ok, Err, if◌then◌else◌, refl, sym, ap, subst, ◌∙◌}
+use Rattle.std.proofs.Common.{◌≡◌, ◌≤◌, ℕ, Bool, false, List, map, length, nat_lt, Option, Some}
+use Rattle.std.proofs.Common.{Result, Ok, Err, if◌then◌else◌, refl, sym, ap, subst, ◌∙◌}
 use Rattle.std.proofs.lemmas.Bool.{le-ltb}
 use Rattle.rvs_base.specs.Host.{Files, Tells}
 use Rattle.rvs_plan.specs.World.{Contents}
@@ -15,40 +16,72 @@ use Rattle.rvs_count.specs.declared.window.Window.{Window}
 use Rattle.rvs_suite.specs.Call.{Call, Asks}
 use Rattle.rvs_suite.specs.Answered.{HasLeft, Answered}
 use Rattle.rvs_suite.specs.GroupFiles.{Inputs, and_then, inputs_in}
-use Rattle.rvs_suite.specs.Coverage.{log_limit, report_on, report_found, report_in, reported, print_report, coverage}
+use Rattle.rvs_suite.specs.Coverage.{log_limit, report_on, report_found, report_in, reported}
+use Rattle.rvs_suite.specs.Coverage.{print_report, coverage}
 use Rattle.rvs_suite.specs.Covering as covering
 use Rattle.rvs_suite.specs.declared.command.Command.TheVariants.{Coverage}
 use Rattle.rvs_suite.proofs.Answered.{Works, RunsOn, answered}
 use Rattle.rvs_suite.proofs.LogReads.{reads-reported, finds-reported}
 use Rattle.rvs_suite.proofs.Keeping.{WritesNone, WritesNone-then, reads-none, keeps}
 
-abbrev works : (files : Files) (isa : List ℕ) (names : List (List ℕ)) (log : List ℕ) (windows : List Window) → Works (Coverage isa names log windows) files (report_in files isa names log windows)
-works files isa names log windows = record { inputs = reported isa names log windows; deeds = print_report; plan = refl; finds = finds-reported files isa names log windows; does = λ report. refl }
+abbrev works : (files : Files) (isa : List ℕ) (names : List (List ℕ)) (log : List ℕ)
+    (windows : List Window) → Works (Coverage isa names log windows) files
+    (report_in files isa names log windows)
+works files isa names log windows = record {
+  inputs = reported isa names log windows;
+  deeds = print_report;
+  plan = refl;
+  finds = finds-reported files isa names log windows;
+  does = λ report. refl;
+}
 
-writes-coverage : (isa : List ℕ) (names : List (List ℕ)) (log : List ℕ) (windows : List Window) → WritesNone (coverage isa names log windows)
-writes-coverage isa names log windows = WritesNone-then (reported isa names log windows) print_report (reads-none (reported isa names log windows) (reads-reported isa names log windows)) (λ report. tt)
+writes-coverage : (isa : List ℕ) (names : List (List ℕ)) (log : List ℕ) (windows : List Window)
+    → WritesNone (coverage isa names log windows)
+writes-coverage isa names log windows = WritesNone-then (reported isa names log windows)
+    print_report
+    (reads-none (reported isa names log windows) (reads-reported isa names log windows))
+    (λ report. tt)
 
 -- the report over given files, where these are accepted and the log is there
-found-report : (files : Files) (isa : List ℕ) (names : List (List ℕ)) (log : List ℕ) (windows : List Window) (inputs : Inputs) (bytes : List ℕ) → inputs_in files isa names ≡ Ok inputs → files log ≡ Some bytes → length bytes ≤ log_limit → report_in files isa names log windows ≡ Ok (report_on inputs.groups windows bytes)
+found-report : (files : Files) (isa : List ℕ) (names : List (List ℕ)) (log : List ℕ)
+    (windows : List Window) (inputs : Inputs) (bytes : List ℕ) → inputs_in files isa names ≡ Ok
+    inputs → files log ≡ Some bytes → length bytes ≤ log_limit → report_in files isa names log
+    windows ≡ Ok (report_on inputs.groups windows bytes)
 found-report files isa names log windows inputs bytes given there short =
-    ap (λ (r : Result Inputs Stop). and_then r (λ i. report_found i.groups windows log (files log))) given
+    ap (λ (r : Result Inputs Stop). and_then r (λ i. report_found i.groups windows log (files log)))
+    given
     ∙ ap (report_found inputs.groups windows log) there
-    ∙ ap (λ (long : Bool). if long then Err (Refused (too_long_text log log_limit)) else Ok (report_on inputs.groups windows bytes)) (le-ltb log_limit (length bytes) short)
+    ∙ ap (λ (long : Bool). if long then Err (Refused (too_long_text log log_limit)) else Ok
+    (report_on inputs.groups windows bytes)) (le-ltb log_limit (length bytes) short)
 
-the-report : (groups : List Label) (windows : List Window) (bytes : List ℕ) (entries : List Entry) → entries_of bytes ≡ entries → report_on groups windows bytes ≡ report_of groups (map (count (kept windows entries)) (aims_of groups)) (length (kept windows entries))
+the-report : (groups : List Label) (windows : List Window) (bytes : List ℕ) (entries : List Entry)
+    → entries_of bytes ≡ entries → report_on groups windows bytes ≡ report_of groups
+    (map (count (kept windows entries)) (aims_of groups)) (length (kept windows entries))
 unfolding report_on
-the-report groups windows bytes entries are = ap (λ (es : List Entry). report_of groups (map (count (kept windows es)) (aims_of groups)) (length (kept windows es))) are
+the-report groups windows bytes entries are = ap (λ (es : List Entry). report_of groups
+    (map (count (kept windows es)) (aims_of groups)) (length (kept windows es))) are
 
-counted-report : (call : Call) (found : Result (List ℕ) Stop) (report : List ℕ) → found ≡ Ok report → HasLeft found (covering.HasReported call) → covering.HasReported call report
-counted-report call found report is left = let same : left.given ≡ report = cc in subst (covering.HasReported call) same left.left
+counted-report : (call : Call) (found : Result (List ℕ) Stop) (report : List ℕ) → found ≡ Ok report
+    → HasLeft found (covering.HasReported call) → covering.HasReported call report
+counted-report call found report is left = let same : left.given ≡ report = cc in
+    subst (covering.HasReported call) same left.left
 
-pub covers : {call : Call} (files : Files) (isa : List ℕ) (names : List (List ℕ)) (log : List ℕ) (windows : List Window) → RunsOn call files (Coverage isa names log windows) → covering.Covers call files isa names log windows
+pub covers : {call : Call} (files : Files) (isa : List ℕ) (names : List (List ℕ)) (log : List ℕ)
+    (windows : List Window) → RunsOn call files (Coverage isa names log windows) → covering.Covers
+    call files isa names log windows
 covers {call} files isa names log windows r =
-    let a : Answered call (report_in files isa names log windows) (covering.HasReported call) = answered (covering.HasReported call) r (works files isa names log windows) (λ report left. ap (λ (c : Contents). c.out) left) in
+    let a : Answered call (report_in files isa names log windows) (covering.HasReported call) =
+    answered (covering.HasReported call) r (works files isa names log windows)
+    (λ report left. ap (λ (c : Contents). c.out) left) in
     record {
       answered = a;
       counts = λ inputs entries given is_log done.
-          subst (covering.HasReported call) (the-report inputs.groups windows is_log.0 entries is_log.3)
-          (counted-report call (report_in files isa names log windows) (report_on inputs.groups windows is_log.0) (found-report files isa names log windows inputs is_log.0 given is_log.1 is_log.2) (a.done done));
-      files_kept = keeps r.ran files (Coverage isa names log windows) r.told r.asks (writes-coverage isa names log windows);
+          subst (covering.HasReported call)
+          (the-report inputs.groups windows is_log.0 entries is_log.3)
+          (counted-report call (report_in files isa names log windows)
+          (report_on inputs.groups windows is_log.0)
+          (found-report files isa names log windows inputs is_log.0 given is_log.1 is_log.2)
+          (a.done done));
+      files_kept = keeps r.ran files (Coverage isa names log windows) r.told r.asks
+          (writes-coverage isa names log windows);
     }

@@ -1,5 +1,7 @@
 -- What every call of `generate` promises.
-use Rattle.std.proofs.Common.{◌≡◌, ℕ, Bool, true, false, if◌then◌else◌, List, [], ◌∷◌, map, All, Contains, Option, Some, None, Result, Ok, Err, IfOk, IsTrue, refl, sym, ap, subst, ◌∙◌}
+use Rattle.std.proofs.Common.{◌≡◌, ℕ, Bool, true, false, if◌then◌else◌, List, [], ◌∷◌, map, All}
+use Rattle.std.proofs.Common.{Contains, Option, Some, None, Result, Ok, Err, IfOk, IsTrue, refl}
+use Rattle.std.proofs.Common.{sym, ap, subst, ◌∙◌}
 use Rattle.std.proofs.lemmas.List.Elements.{All-contains, All-head}
 use Rattle.rvs_base.specs.Host.{Files, Tells, written}
 use Rattle.rvs_base.specs.Sink.{appended}
@@ -27,9 +29,11 @@ use Rattle.rvs_suite.specs.Answered.{HasLeft, Answered}
 use Rattle.rvs_suite.specs.Call.{Call, Asks}
 use Rattle.rvs_suite.specs.Specification.{said_in}
 use Rattle.rvs_suite.specs.Coverage.{print_report}
-use Rattle.rvs_suite.specs.GroupFiles.{Inputs, and_then, text_in, checked_groups, tree_groups, groups_found, inputs_of, inputs_in, group_inputs}
+use Rattle.rvs_suite.specs.GroupFiles.{Inputs, and_then, text_in, checked_groups, tree_groups}
+use Rattle.rvs_suite.specs.GroupFiles.{groups_found, inputs_of, inputs_in, group_inputs}
 use Rattle.rvs_suite.specs.GenerateTexts.{listing}
-use Rattle.rvs_suite.specs.Generate.{path_of, writes_text, writes_test, writes_tests, written_tests, generates, generate}
+use Rattle.rvs_suite.specs.Generate.{path_of, writes_text, writes_test, writes_tests, written_tests}
+use Rattle.rvs_suite.specs.Generate.{generates, generate}
 use Rattle.rvs_suite.specs.Generating as generating
 use Rattle.rvs_suite.specs.declared.command.Command.TheVariants.{Generate}
 use Rattle.rvs_suite.proofs.BaseCores.{IsBase, base_said}
@@ -53,26 +57,35 @@ deeds-test work isa l = deeds-chosen l.selected (path_of work l.name) (text_of_l
 
 deeds-tests : (work : List ℕ) (isa : Isa) (ls : List Label) → Deeds tt (writes_tests work isa ls)
 deeds-tests work isa [] = refl
-deeds-tests work isa (l ∷ ls) = deeds-then tt tt (writes_test work isa l) (λ _. writes_tests work isa ls) (deeds-test work isa l) (deeds-tests work isa ls)
+deeds-tests work isa (l ∷ ls) = deeds-then tt tt (writes_test work isa l)
+    (λ _. writes_tests work isa ls) (deeds-test work isa l) (deeds-tests work isa ls)
 
-deeds-written : (work : List ℕ) (isa : Isa) (ls : List Label) → Deeds (listing isa ls) (written_tests work isa ls)
-deeds-written work isa ls = deeds-then tt (listing isa ls) (writes_tests work isa ls) (λ _. gives (listing isa ls)) (deeds-tests work isa ls) refl
+deeds-written : (work : List ℕ) (isa : Isa) (ls : List Label)
+    → Deeds (listing isa ls) (written_tests work isa ls)
+deeds-written work isa ls = deeds-then tt (listing isa ls) (writes_tests work isa ls)
+    (λ _. gives (listing isa ls)) (deeds-tests work isa ls) refl
 
 deeds-generates : (work : List ℕ) (inputs : Inputs) → Deeds Done (generates work inputs)
-deeds-generates work inputs = deeds-then (listing inputs.isa inputs.groups) Done (written_tests work inputs.isa inputs.groups) print_report (deeds-written work inputs.isa inputs.groups) refl
+deeds-generates work inputs = deeds-then (listing inputs.isa inputs.groups) Done
+    (written_tests work inputs.isa inputs.groups) print_report
+    (deeds-written work inputs.isa inputs.groups) refl
 
 abbrev with_files : Contents → Option Files → Contents
 with_files c files = record { files = files; runs = c.runs; out = c.out }
 
-left-chosen : (b : Bool) (path : List ℕ) (text : Option (List ℕ)) (c : Contents) → left (chosen b path text) c ≡ with_files c (if b then generating.with_text path text c.files else c.files)
+left-chosen : (b : Bool) (path : List ℕ) (text : Option (List ℕ)) (c : Contents)
+    → left (chosen b path text) c
+    ≡ with_files c (if b then generating.with_text path text c.files else c.files)
 left-chosen true path None c = refl
 left-chosen true path (Some text) c = refl
 left-chosen false path text c = refl
 
-left-test : (work : List ℕ) (isa : Isa) (l : Label) (c : Contents) → left (writes_test work isa l) c ≡ with_files c (generating.with_test work isa l c.files)
+left-test : (work : List ℕ) (isa : Isa) (l : Label) (c : Contents)
+    → left (writes_test work isa l) c ≡ with_files c (generating.with_test work isa l c.files)
 left-test work isa l c = left-chosen l.selected (path_of work l.name) (text_of_label isa l) c
 
-left-tests : (work : List ℕ) (isa : Isa) (ls : List Label) (c : Contents) → left (writes_tests work isa ls) c ≡ with_files c (generating.with_tests work isa ls c.files)
+left-tests : (work : List ℕ) (isa : Isa) (ls : List Label) (c : Contents)
+    → left (writes_tests work isa ls) c ≡ with_files c (generating.with_tests work isa ls c.files)
 left-tests work isa [] c = refl
 left-tests work isa (l ∷ ls) c =
     left-then tt (writes_test work isa l) (λ _. writes_tests work isa ls) c (deeds-test work isa l)
@@ -80,98 +93,153 @@ left-tests work isa (l ∷ ls) c =
     ∙ left-tests work isa ls (with_files c (generating.with_test work isa l c.files))
 
 abbrev after : List ℕ → Inputs → Contents → Contents
-after work inputs c = record { files = generating.with_tests work inputs.isa inputs.groups c.files; runs = c.runs; out = appended c.out (listing inputs.isa inputs.groups) }
+after work inputs c = record {
+  files = generating.with_tests work inputs.isa inputs.groups c.files;
+  runs = c.runs;
+  out = appended c.out (listing inputs.isa inputs.groups);
+}
 
-left-generates : (work : List ℕ) (inputs : Inputs) (c : Contents) → left (generates work inputs) c ≡ after work inputs c
+left-generates : (work : List ℕ) (inputs : Inputs) (c : Contents)
+    → left (generates work inputs) c ≡ after work inputs c
 left-generates work inputs c =
     let isa = inputs.isa in
     let ls = inputs.groups in
-    left-then (listing isa ls) (written_tests work isa ls) print_report c (deeds-written work isa ls)
-    ∙ ap (left (print_report (listing isa ls))) (left-then tt (writes_tests work isa ls) (λ _. gives (listing isa ls)) c (deeds-tests work isa ls) ∙ left-tests work isa ls c)
+    left-then (listing isa ls) (written_tests work isa ls) print_report c
+    (deeds-written work isa ls)
+    ∙ ap (left (print_report (listing isa ls))) (left-then tt (writes_tests work isa ls)
+    (λ _. gives (listing isa ls)) c (deeds-tests work isa ls) ∙ left-tests work isa ls c)
 
 -- ---- the labels that are read are valid, for a core that tests are made for
 record IsGood (inputs : Inputs) : Type 0 where
   base : inputs.isa.e ≡ false
   valid : All (IsValidIfSelected inputs.isa) inputs.groups
 
-good-checked : (isa : Isa) (tree : Data) (r : Result (List Label) Refusal) → isa.e ≡ false → groups_of isa tree ≡ r → IfOk (inputs_of isa (checked_groups r)) IsGood
+good-checked : (isa : Isa) (tree : Data) (r : Result (List Label) Refusal) → isa.e ≡ false
+    → groups_of isa tree ≡ r → IfOk (inputs_of isa (checked_groups r)) IsGood
 good-checked isa tree (Ok ls) base is = record { base = base; valid = groups_good isa tree ls is }
 good-checked isa tree (Err refusal) base is = tt
 
-good-tree : (isa : Isa) (a : Answer) → isa.e ≡ false → IfOk (inputs_of isa (tree_groups isa a)) IsGood
+good-tree : (isa : Isa) (a : Answer) → isa.e ≡ false
+    → IfOk (inputs_of isa (tree_groups isa a)) IsGood
 good-tree isa (Ok tree) base = good-checked isa tree (groups_of isa tree) base refl
 good-tree isa (Err fault) base = tt
 
-good-text : (isa : Isa) (r : Result (List ℕ) Stop) → isa.e ≡ false → IfOk (and_then r (λ text. inputs_of isa (groups_found isa text))) IsGood
+good-text : (isa : Isa) (r : Result (List ℕ) Stop) → isa.e ≡ false
+    → IfOk (and_then r (λ text. inputs_of isa (groups_found isa text))) IsGood
 good-text isa (Ok text) base = good-tree isa (answer text) base
 good-text isa (Err stop) base = tt
 
-good-said : (files : Files) (names : List (List ℕ)) (r : Result Checked Stop) → IfOk r IsBase → IfOk (and_then r (λ said. and_then (text_in files None names) (λ text. inputs_of said.spec (groups_found said.spec text)))) IsGood
+good-said : (files : Files) (names : List (List ℕ)) (r : Result Checked Stop) → IfOk r IsBase → IfOk
+    (and_then r (λ said. and_then (text_in files None names)
+    (λ text. inputs_of said.spec (groups_found said.spec text)))) IsGood
 good-said files names (Ok said) base = good-text said.spec (text_in files None names) base
 good-said files names (Err stop) base = tt
 
-good-inputs : (files : Files) (isa : List ℕ) (names : List (List ℕ)) (inputs : Inputs) → inputs_in files isa names ≡ Ok inputs → IsGood inputs
-good-inputs files isa names inputs given = subst (λ (r : Result Inputs Stop). IfOk r IsGood) given (good-said files names (said_in files isa) (base_said files isa))
+good-inputs : (files : Files) (isa : List ℕ) (names : List (List ℕ)) (inputs : Inputs)
+    → inputs_in files isa names ≡ Ok inputs → IsGood inputs
+good-inputs files isa names inputs given = subst (λ (r : Result Inputs Stop). IfOk r IsGood) given
+    (good-said files names (said_in files isa) (base_said files isa))
 
 -- the text of a label's test is that of its cases
-whole : (isa : Isa) (l : Label) (cs : List Solved) (text : List ℕ) → text_for isa l cs ≡ Some text → test_text l.name isa (map (λ (c : Claim). named_at l c.point) (claims_of isa l)) cs ≡ text
+whole : (isa : Isa) (l : Label) (cs : List Solved) (text : List ℕ) → text_for isa l cs ≡ Some text
+    → test_text l.name isa (map (λ (c : Claim). named_at l c.point) (claims_of isa l)) cs ≡ text
 whole isa l [] text is = absurd cc
 whole isa l (c ∷ cs) text is = cc
 
-runs-label : (isa : Isa) (l : Label) (text : List ℕ) → isa.e ≡ false → IsValid isa l → text_of_label isa l ≡ Some text → TestRuns isa l text (claims_of isa l) (step_limit (cases_of isa l))
-runs-label isa l text base valid is = subst (λ (t : List ℕ). TestRuns isa l t (claims_of isa l) (step_limit (cases_of isa l))) (whole isa l (cases_of isa l) text is) (label_runs isa l base valid)
+runs-label : (isa : Isa) (l : Label) (text : List ℕ) → isa.e ≡ false → IsValid isa l
+    → text_of_label isa l ≡ Some text
+    → TestRuns isa l text (claims_of isa l) (step_limit (cases_of isa l))
+runs-label isa l text base valid is = subst
+    (λ (t : List ℕ). TestRuns isa l t (claims_of isa l) (step_limit (cases_of isa l)))
+    (whole isa l (cases_of isa l) text is) (label_runs isa l base valid)
 
-reads-label : (isa : Isa) (l : Label) (text : List ℕ) → isa.e ≡ false → IsValid isa l → text_of_label isa l ≡ Some text → claims_read text ≡ Some (map (named_claim l) (claims_of isa l))
-reads-label isa l text base valid is = back_there isa l base valid text (claims_of isa l) (cases_of isa l) refl refl (sym (whole isa l (cases_of isa l) text is))
+reads-label : (isa : Isa) (l : Label) (text : List ℕ) → isa.e ≡ false → IsValid isa l
+    → text_of_label isa l ≡ Some text
+    → claims_read text ≡ Some (map (named_claim l) (claims_of isa l))
+reads-label isa l text base valid is = back_there isa l base valid text (claims_of isa l)
+    (cases_of isa l) refl refl (sym (whole isa l (cases_of isa l) text is))
 
-reads-good : (inputs : Inputs) (l : Label) (text : List ℕ) → IsGood inputs → Contains inputs.groups l → IsTrue l.selected → text_of_label inputs.isa l ≡ Some text → claims_read text ≡ Some (map (named_claim l) (claims_of inputs.isa l))
-reads-good inputs l text good there selected is = reads-label inputs.isa l text good.base (All-contains (IsValidIfSelected inputs.isa) inputs.groups l good.valid there selected) is
+reads-good : (inputs : Inputs) (l : Label) (text : List ℕ) → IsGood inputs
+    → Contains inputs.groups l → IsTrue l.selected → text_of_label inputs.isa l ≡ Some text
+    → claims_read text ≡ Some (map (named_claim l) (claims_of inputs.isa l))
+reads-good inputs l text good there selected is = reads-label inputs.isa l text good.base
+    (All-contains (IsValidIfSelected inputs.isa) inputs.groups l good.valid there selected) is
 
-runs-good : (inputs : Inputs) (l : Label) (text : List ℕ) → IsGood inputs → Contains inputs.groups l → IsTrue l.selected → text_of_label inputs.isa l ≡ Some text → TestRuns inputs.isa l text (claims_of inputs.isa l) (step_limit (cases_of inputs.isa l))
-runs-good inputs l text good there selected is = runs-label inputs.isa l text good.base (All-contains (IsValidIfSelected inputs.isa) inputs.groups l good.valid there selected) is
+runs-good : (inputs : Inputs) (l : Label) (text : List ℕ) → IsGood inputs → Contains inputs.groups l
+    → IsTrue l.selected → text_of_label inputs.isa l ≡ Some text
+    → TestRuns inputs.isa l text (claims_of inputs.isa l) (step_limit (cases_of inputs.isa l))
+runs-good inputs l text good there selected is = runs-label inputs.isa l text good.base
+    (All-contains (IsValidIfSelected inputs.isa) inputs.groups l good.valid there selected) is
 
 -- ---- one point
 abbrev files-one : List ℕ → Bool → List ℕ → Option (List ℕ) → Option Files → Option Files
-files-one work b name text files = if b then generating.with_text (path_of work name) text files else files
+files-one work b name text files = if b then generating.with_text (path_of work name) text files
+    else files
 
-one-test : {call : Call} (work : List ℕ) (isa : Isa) (l : Label) (p : Point) → isa.e ≡ false → IsValidIfSelected isa l → IsTrue l.selected → l.points ≡ p ∷ [] → IsSolvableAt isa l 0
-    → call.new.host.files ≡ generating.with_tests work isa (l ∷ []) call.old.host.files → generating.HasOneTest call work isa l
+one-test : {call : Call} (work : List ℕ) (isa : Isa) (l : Label) (p : Point) → isa.e ≡ false
+    → IsValidIfSelected isa l → IsTrue l.selected → l.points ≡ p ∷ [] → IsSolvableAt isa l 0
+    → call.new.host.files ≡ generating.with_tests work isa (l ∷ []) call.old.host.files
+    → generating.HasOneTest call work isa l
 one-test {call} work isa l p base valid selected one solvable files =
     let found = one-point isa l p one solvable in
     let chosen : l.selected ≡ true = selected in
     let left : call.new.host.files ≡ written (path_of work l.name) found.text call.old.host.files =
-    files ∙ ap (λ (b : Bool). files-one work b l.name (text_of_label isa l) call.old.host.files) chosen
-    ∙ ap (λ (t : Option (List ℕ)). generating.with_text (path_of work l.name) t call.old.host.files) found.is in
+    files ∙ ap (λ (b : Bool). files-one work b l.name (text_of_label isa l) call.old.host.files)
+    chosen
+    ∙ ap (λ (t : Option (List ℕ)). generating.with_text (path_of work l.name) t call.old.host.files)
+    found.is in
     record {
       text = found.text;
-      there = λ files' told. file-there (path_of work l.name) found.text call.old.host.files files' (sym left ∙ told);
-      runs = subst (λ (cs : List Claim). TestRuns isa l found.text cs (step_limit (cases_of isa l))) found.claims (runs-label isa l found.text base (valid selected) found.is);
+      there = λ files' told. file-there (path_of work l.name) found.text call.old.host.files files'
+          (sym left ∙ told);
+      runs = subst (λ (cs : List Claim). TestRuns isa l found.text cs (step_limit (cases_of isa l)))
+          found.claims (runs-label isa l found.text base (valid selected) found.is);
     }
 
-one-left : {call : Call} (work : List ℕ) (found : Result Inputs Stop) (isa : Isa) (l : Label) (p : Point) → found ≡ Ok (record { isa = isa; groups = l ∷ [] }) → isa.e ≡ false → IsValidIfSelected isa l → IsTrue l.selected → l.points ≡ p ∷ [] → IsSolvableAt isa l 0
+one-left : {call : Call} (work : List ℕ) (found : Result Inputs Stop) (isa : Isa) (l : Label)
+    (p : Point) → found ≡ Ok (record { isa = isa; groups = l ∷ [] }) → isa.e ≡ false
+    → IsValidIfSelected isa l → IsTrue l.selected → l.points ≡ p ∷ [] → IsSolvableAt isa l 0
     → HasLeft found (generating.HasGenerated call work) → generating.HasOneTest call work isa l
 one-left {call} work found isa l p given base valid selected one solvable left =
-    let both : Ok left.given ≡ Ok (record { isa = isa; groups = l ∷ [] }) = sym left.accepted ∙ given in
+    let both : Ok left.given ≡ Ok (record { isa = isa; groups = l ∷ [] }) =
+    sym left.accepted ∙ given in
     let same : left.given ≡ record { isa = isa; groups = l ∷ [] } = cc in
-    one-test work isa l p base valid selected one solvable (left.left.files ∙ ap (λ (i : Inputs). generating.with_tests work i.isa i.groups call.old.host.files) same)
+    one-test work isa l p base valid selected one solvable (left.left.files
+    ∙ ap (λ (i : Inputs). generating.with_tests work i.isa i.groups call.old.host.files) same)
 
 -- ---- the promise
-abbrev works : (files : Files) (isa : List ℕ) (names : List (List ℕ)) (work : List ℕ) → Works (Generate isa names work) files (inputs_in files isa names)
-works files isa names work = record { inputs = group_inputs isa names; deeds = generates work; plan = refl; finds = finds-inputs files isa names; does = deeds-generates work }
+abbrev works : (files : Files) (isa : List ℕ) (names : List (List ℕ)) (work : List ℕ)
+    → Works (Generate isa names work) files (inputs_in files isa names)
+works files isa names work = record {
+  inputs = group_inputs isa names;
+  deeds = generates work;
+  plan = refl;
+  finds = finds-inputs files isa names;
+  does = deeds-generates work;
+}
 
-answers-generate : {call : Call} (files : Files) (isa : List ℕ) (names : List (List ℕ)) (work : List ℕ) → RunsOn call files (Generate isa names work) → Answered call (inputs_in files isa names) (generating.HasGenerated call work)
-answers-generate {call} files isa names work r = answered (generating.HasGenerated call work) r (works files isa names work) (λ inputs is.
+answers-generate : {call : Call} (files : Files) (isa : List ℕ) (names : List (List ℕ))
+    (work : List ℕ) → RunsOn call files (Generate isa names work) → Answered call
+    (inputs_in files isa names) (generating.HasGenerated call work)
+answers-generate {call} files isa names work r =
+    answered (generating.HasGenerated call work) r (works files isa names work) (λ inputs is.
     let all = is ∙ left-generates work inputs _ in
     record { files = ap (λ (c : Contents). c.files) all; out = ap (λ (c : Contents). c.out) all })
 
-pub makes : {call : Call} (files : Files) (isa : List ℕ) (names : List (List ℕ)) (work : List ℕ) → RunsOn call files (Generate isa names work) → generating.Generates call files isa names work
+pub makes : {call : Call} (files : Files) (isa : List ℕ) (names : List (List ℕ)) (work : List ℕ)
+    → RunsOn call files (Generate isa names work) → generating.Generates call files isa names work
 makes {call} files isa names work r = record {
   answered = answers-generate files isa names work r;
   one = λ isa' l p given selected single solvable is.
       let good = good-inputs files isa names (record { isa = isa'; groups = l ∷ [] }) given in
-      one-left work (inputs_in files isa names) isa' l p given good.base (All-head (IsValidIfSelected isa') l [] good.valid) selected single solvable ((answers-generate files isa names work r).done is);
-  read = λ inputs l text given there selected is. reads-good inputs l text (good-inputs files isa names inputs given) there selected is;
+      one-left work (inputs_in files isa names) isa' l p given good.base
+      (All-head (IsValidIfSelected isa') l [] good.valid) selected single solvable
+      ((answers-generate files isa names work r).done is);
+  read = λ inputs l text given there selected is. reads-good inputs l text
+      (good-inputs files isa names inputs given) there selected is;
   accounted = λ inputs l k given there within. accounted inputs.isa l k within;
-  others_kept = λ files' other. generate-spares r.ran files files' isa names work other r.told r.asks;
-  runs = λ inputs l text given there selected is. runs-good inputs l text (good-inputs files isa names inputs given) there selected is;
+  others_kept =
+      λ files' other. generate-spares r.ran files files' isa names work other r.told r.asks;
+  runs = λ inputs l text given there selected is. runs-good inputs l text
+      (good-inputs files isa names inputs given) there selected is;
 }

@@ -1,5 +1,6 @@
 -- Text and data of an image are bytes.
-use Rattle.std.proofs.Common.{◌≡◌, ℕ, zero, suc, ◌/◌, ◌^◌, ◌<◌, Bool, true, false, cond, not, List, [], ◌∷◌, ◌++◌, Option, Some, None, Result, Ok, Err, subst, arith}
+use Rattle.std.proofs.Common.{◌≡◌, ℕ, zero, suc, ◌/◌, ◌^◌, ◌<◌, Bool, true, false, cond, not, List}
+use Rattle.std.proofs.Common.{[], ◌∷◌, ◌++◌, Option, Some, None, Result, Ok, Err, subst, arith}
 use Rattle.std.specs.Prelude.{take, slice_index, codes, ℤ}
 use Rattle.std.specs.List.{flat_map}
 use Rattle.std.specs.Int.{w32, to_le_bytes}
@@ -12,16 +13,19 @@ use Rattle.rvs_machine.specs.declared.reading.ImageRefusal.{ImageRefusal}
 use Rattle.rvs_machine.specs.declared.reading.ImageKind.TheVariants.{BadRegion}
 use Rattle.rvs_asm_text.specs.declared.bodies.Value.{Value}
 use Rattle.rvs_asm_text.specs.declared.bodies.Body.{Body}
-use Rattle.rvs_asm_text.specs.declared.bodies.Body.TheVariants.{Nothing, ToText, ToData, Insn, Values, Align, Fill}
+use Rattle.rvs_asm_text.specs.declared.bodies.Body.TheVariants.{Nothing, ToText, ToData, Insn}
+use Rattle.rvs_asm_text.specs.declared.bodies.Body.TheVariants.{Values, Align, Fill}
 use Rattle.rvs_asm_text.specs.Directives.{data_value}
 use Rattle.rvs_asm.specs.declared.place.Place.{Place}
 use Rattle.rvs_asm.specs.declared.refusal.AsmRefusal.{AsmRefusal}
 use Rattle.rvs_asm.specs.Symbols.{Table, address_of}
 use Rattle.rvs_asm.specs.Places.{Reading, body_of, padding, offset, address, next, start, labels}
-use Rattle.rvs_asm.specs.Bytes.{linked, value_in, number_bytes, value_bytes, repeated, nop_word, filler, bytes_of, section}
+use Rattle.rvs_asm.specs.Bytes.{linked, value_in, number_bytes, value_bytes, repeated, nop_word}
+use Rattle.rvs_asm.specs.Bytes.{filler, bytes_of, section}
 use Rattle.rvs_asm.specs.Faults.{first_fault, second_fault, first_missing, needed}
 use Rattle.rvs_log.proofs.Octets.{AreBytes, joined, front, word_bytes}
-use Rattle.rvs_asm.specs.Answer.{text_readings, image_of, region_checked, if_all_there, if_linked, if_placed, answer}
+use Rattle.rvs_asm.specs.Answer.{text_readings, image_of, region_checked, if_all_there, if_linked}
+use Rattle.rvs_asm.specs.Answer.{if_placed, answer}
 
 -- the bytes of an image
 pub record HasBytes (image : ImageValue) : Type 0 where

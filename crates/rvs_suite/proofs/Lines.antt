@@ -1,5 +1,6 @@
 -- The line on the sink for errors, by the status.
-use Rattle.std.proofs.Common.{◌≡◌, ◌≢◌, ◌⊎◌, inl, inr, ℕ, List, [], Result, Ok, Err, refl, sym, ap, codes, ◌∙◌}
+use Rattle.std.proofs.Common.{◌≡◌, ◌≢◌, ◌⊎◌, inl, inr, ℕ, List, [], Result, Ok, Err, refl, sym, ap}
+use Rattle.std.proofs.Common.{codes, ◌∙◌}
 use Rattle.rvs_base.specs.Sink.{SinkState, appended}
 use Rattle.rvs_plan.specs.Account.{status_of, finish_status, line_of, fault_line, Concludes}
 use Rattle.rvs_plan.specs.declared.stop.Stop.{Stop}
@@ -15,9 +16,12 @@ pub record Stopped (wanted : Status) (err err' : SinkState) : Type 0 where
   pub is : status_of reason ≡ wanted
   pub line : err'.bytes ≡ appended err.bytes (line_of reason)
 
-pub stopped : (status wanted : Status) (err err' : SinkState) (result : Result Finish Stop) → Concludes result status err err' → status ≡ wanted → wanted ≢ answer.Done → wanted ≢ answer.NotPassed → wanted ≢ answer.SinkFault → Stopped wanted err err'
+pub stopped : (status wanted : Status) (err err' : SinkState) (result : Result Finish Stop)
+    → Concludes result status err err' → status ≡ wanted → wanted ≢ answer.Done
+    → wanted ≢ answer.NotPassed → wanted ≢ answer.SinkFault → Stopped wanted err err'
 stopped status wanted err err' (Ok Done) c is done not_passed sink = absurd (done (sym is ∙ c.0))
-stopped status wanted err err' (Ok NotPassed) c is done not_passed sink = absurd (not_passed (sym is ∙ c.0))
+stopped status wanted err err' (Ok NotPassed) c is done not_passed sink =
+    absurd (not_passed (sym is ∙ c.0))
 stopped status wanted err err' (Err reason) c is done not_passed sink = elim c.outcome [
   | inl whole ↦ record { reason = reason; is = sym whole.0 ∙ is; line = whole.1 }
   | inr lost ↦ absurd (sink (sym is ∙ lost.0))
@@ -33,7 +37,8 @@ usage-line (why.CannotRun test) e = absurd cc
 usage-line why.NoMemory e = absurd cc
 usage-line why.SinkFault e = absurd cc
 
-memory-line : (reason : Stop) → status_of reason ≡ answer.NoMemory → line_of reason ≡ line_of why.NoMemory
+memory-line : (reason : Stop) → status_of reason ≡ answer.NoMemory
+    → line_of reason ≡ line_of why.NoMemory
 memory-line why.Usage e = absurd cc
 memory-line (why.Refused text) e = absurd cc
 memory-line (why.NoFile name) e = absurd cc
@@ -43,7 +48,8 @@ memory-line (why.CannotRun test) e = absurd cc
 memory-line why.NoMemory e = refl
 memory-line why.SinkFault e = absurd cc
 
-refused-line : (reason : Stop) → status_of reason ≡ answer.Refused → (text : List ℕ) × (line_of reason ≡ fault_line text [])
+refused-line : (reason : Stop) → status_of reason ≡ answer.Refused
+    → (text : List ℕ) × (line_of reason ≡ fault_line text [])
 refused-line why.Usage e = absurd cc
 refused-line (why.Refused text) e = (text, refl)
 refused-line (why.NoFile name) e = absurd cc
@@ -55,9 +61,13 @@ refused-line why.SinkFault e = absurd cc
 
 -- a line that names a file
 abbrev Names : List ℕ → List ℕ → Type 0
-Names line name = (line ≡ fault_line (codes "no file ") name) ⊎ (line ≡ fault_line (codes "cannot read ") name) ⊎ (line ≡ fault_line (codes "cannot write ") name) ⊎ (line ≡ fault_line (codes "cannot run ") name)
+Names line name = (line ≡ fault_line (codes "no file ") name) ⊎
+    (line ≡ fault_line (codes "cannot read ") name) ⊎
+    (line ≡ fault_line (codes "cannot write ") name) ⊎
+    (line ≡ fault_line (codes "cannot run ") name)
 
-host-line : (reason : Stop) → status_of reason ≡ answer.HostFault → (name : List ℕ) × Names (line_of reason) name
+host-line : (reason : Stop) → status_of reason ≡ answer.HostFault
+    → (name : List ℕ) × Names (line_of reason) name
 host-line why.Usage e = absurd cc
 host-line (why.Refused text) e = absurd cc
 host-line (why.NoFile name) e = (name, inl refl)
@@ -68,20 +78,34 @@ host-line why.NoMemory e = absurd cc
 host-line why.SinkFault e = absurd cc
 
 -- ---- what each status says
-pub says-usage : (status : Status) (err err' : SinkState) (result : Result Finish Stop) → Concludes result status err err' → status ≡ answer.Usage → err'.bytes ≡ appended err.bytes (fault_line (codes "usage: rvsuite <command> <options>") [])
-says-usage status err err' result c is = let s = stopped status answer.Usage err err' result c is (λ e. cc) (λ e. cc) (λ e. cc) in s.line ∙ ap (appended err.bytes) (usage-line s.reason s.is)
+pub says-usage : (status : Status) (err err' : SinkState) (result : Result Finish Stop)
+    → Concludes result status err err' → status ≡ answer.Usage
+    → err'.bytes ≡ appended err.bytes (fault_line (codes "usage: rvsuite <command> <options>") [])
+says-usage status err err' result c is = let s =
+    stopped status answer.Usage err err' result c is (λ e. cc) (λ e. cc) (λ e. cc) in
+    s.line ∙ ap (appended err.bytes) (usage-line s.reason s.is)
 
-pub says-no_memory : (status : Status) (err err' : SinkState) (result : Result Finish Stop) → Concludes result status err err' → status ≡ answer.NoMemory → err'.bytes ≡ appended err.bytes (fault_line (codes "out of memory") [])
-says-no_memory status err err' result c is = let s = stopped status answer.NoMemory err err' result c is (λ e. cc) (λ e. cc) (λ e. cc) in s.line ∙ ap (appended err.bytes) (memory-line s.reason s.is)
+pub says-no_memory : (status : Status) (err err' : SinkState) (result : Result Finish Stop)
+    → Concludes result status err err' → status ≡ answer.NoMemory
+    → err'.bytes ≡ appended err.bytes (fault_line (codes "out of memory") [])
+says-no_memory status err err' result c is = let s =
+    stopped status answer.NoMemory err err' result c is (λ e. cc) (λ e. cc) (λ e. cc) in
+    s.line ∙ ap (appended err.bytes) (memory-line s.reason s.is)
 
-pub says-refused : (status : Status) (err err' : SinkState) (result : Result Finish Stop) → Concludes result status err err' → status ≡ answer.Refused → (text : List ℕ) × (err'.bytes ≡ appended err.bytes (fault_line text []))
+pub says-refused : (status : Status) (err err' : SinkState) (result : Result Finish Stop)
+    → Concludes result status err err' → status ≡ answer.Refused
+    → (text : List ℕ) × (err'.bytes ≡ appended err.bytes (fault_line text []))
 says-refused status err err' result c is =
     let s = stopped status answer.Refused err err' result c is (λ e. cc) (λ e. cc) (λ e. cc) in
     let line = refused-line s.reason s.is in
     (line.0, s.line ∙ ap (appended err.bytes) line.1)
 
-pub says-host : (status : Status) (err err' : SinkState) (result : Result Finish Stop) → Concludes result status err err' → status ≡ answer.HostFault
-    → (name : List ℕ) × ((err'.bytes ≡ appended err.bytes (fault_line (codes "no file ") name)) ⊎ (err'.bytes ≡ appended err.bytes (fault_line (codes "cannot read ") name)) ⊎ (err'.bytes ≡ appended err.bytes (fault_line (codes "cannot write ") name)) ⊎ (err'.bytes ≡ appended err.bytes (fault_line (codes "cannot run ") name)))
+pub says-host : (status : Status) (err err' : SinkState) (result : Result Finish Stop)
+    → Concludes result status err err' → status ≡ answer.HostFault
+    → (name : List ℕ) × ((err'.bytes ≡ appended err.bytes (fault_line (codes "no file ") name)) ⊎
+    (err'.bytes ≡ appended err.bytes (fault_line (codes "cannot read ") name)) ⊎
+    (err'.bytes ≡ appended err.bytes (fault_line (codes "cannot write ") name)) ⊎
+    (err'.bytes ≡ appended err.bytes (fault_line (codes "cannot run ") name)))
 says-host status err err' result c is =
     let s = stopped status answer.HostFault err err' result c is (λ e. cc) (λ e. cc) (λ e. cc) in
     let line = host-line s.reason s.is in (
@@ -98,27 +122,45 @@ says-host status err err' result c is =
       ],
     )
 
-unsaid : (end : Status) → (end ≡ answer.Done) ⊎ (end ≡ answer.NotPassed) → end ≡ answer.SinkFault → ⊥
+unsaid : (end : Status) → (end ≡ answer.Done) ⊎ (end ≡ answer.NotPassed) → end ≡ answer.SinkFault
+    → ⊥
 unsaid end (inl done) e = let both : answer.Done ≡ answer.SinkFault = sym done ∙ e in cc
 unsaid end (inr failed) e = let both : answer.NotPassed ≡ answer.SinkFault = sym failed ∙ e in cc
 
-not-stopped : (reason : Stop) (end : Status) → (end ≡ answer.Done) ⊎ (end ≡ answer.NotPassed) → end ≡ status_of reason → ⊥
+not-stopped : (reason : Stop) (end : Status) → (end ≡ answer.Done) ⊎ (end ≡ answer.NotPassed)
+    → end ≡ status_of reason → ⊥
 not-stopped why.Usage end (inl d) e = let both : answer.Done ≡ answer.Usage = sym d ∙ e in cc
 not-stopped why.Usage end (inr d) e = let both : answer.NotPassed ≡ answer.Usage = sym d ∙ e in cc
-not-stopped (why.Refused text) end (inl d) e = let both : answer.Done ≡ answer.Refused = sym d ∙ e in cc
-not-stopped (why.Refused text) end (inr d) e = let both : answer.NotPassed ≡ answer.Refused = sym d ∙ e in cc
-not-stopped (why.NoFile name) end (inl d) e = let both : answer.Done ≡ answer.HostFault = sym d ∙ e in cc
-not-stopped (why.NoFile name) end (inr d) e = let both : answer.NotPassed ≡ answer.HostFault = sym d ∙ e in cc
-not-stopped (why.CannotRead name) end (inl d) e = let both : answer.Done ≡ answer.HostFault = sym d ∙ e in cc
-not-stopped (why.CannotRead name) end (inr d) e = let both : answer.NotPassed ≡ answer.HostFault = sym d ∙ e in cc
-not-stopped (why.CannotWrite name) end (inl d) e = let both : answer.Done ≡ answer.HostFault = sym d ∙ e in cc
-not-stopped (why.CannotWrite name) end (inr d) e = let both : answer.NotPassed ≡ answer.HostFault = sym d ∙ e in cc
-not-stopped (why.CannotRun test) end (inl d) e = let both : answer.Done ≡ answer.HostFault = sym d ∙ e in cc
-not-stopped (why.CannotRun test) end (inr d) e = let both : answer.NotPassed ≡ answer.HostFault = sym d ∙ e in cc
+not-stopped (why.Refused text) end (inl d) e = let both : answer.Done ≡ answer.Refused =
+    sym d ∙ e in cc
+not-stopped (why.Refused text) end (inr d) e = let both : answer.NotPassed ≡ answer.Refused =
+    sym d ∙ e in cc
+not-stopped (why.NoFile name) end (inl d) e = let both : answer.Done ≡ answer.HostFault =
+    sym d ∙ e in cc
+not-stopped (why.NoFile name) end (inr d) e = let both : answer.NotPassed ≡ answer.HostFault =
+    sym d ∙ e in cc
+not-stopped (why.CannotRead name) end (inl d) e = let both : answer.Done ≡ answer.HostFault =
+    sym d ∙ e in cc
+not-stopped (why.CannotRead name) end (inr d) e = let both : answer.NotPassed ≡ answer.HostFault =
+    sym d ∙ e in cc
+not-stopped (why.CannotWrite name) end (inl d) e = let both : answer.Done ≡ answer.HostFault =
+    sym d ∙ e in cc
+not-stopped (why.CannotWrite name) end (inr d) e = let both : answer.NotPassed ≡ answer.HostFault =
+    sym d ∙ e in cc
+not-stopped (why.CannotRun test) end (inl d) e = let both : answer.Done ≡ answer.HostFault =
+    sym d ∙ e in cc
+not-stopped (why.CannotRun test) end (inr d) e = let both : answer.NotPassed ≡ answer.HostFault =
+    sym d ∙ e in cc
 not-stopped why.NoMemory end (inl d) e = let both : answer.Done ≡ answer.NoMemory = sym d ∙ e in cc
-not-stopped why.NoMemory end (inr d) e = let both : answer.NotPassed ≡ answer.NoMemory = sym d ∙ e in cc
+not-stopped why.NoMemory end (inr d) e = let both : answer.NotPassed ≡ answer.NoMemory =
+    sym d ∙ e in cc
 not-stopped why.SinkFault end d e = unsaid end d e
 
-pub says-nothing : (status : Status) (err err' : SinkState) (result : Result Finish Stop) → Concludes result status err err' → (status ≡ answer.Done) ⊎ (status ≡ answer.NotPassed) → err' ≡ err
+pub says-nothing : (status : Status) (err err' : SinkState) (result : Result Finish Stop)
+    → Concludes result status err err' → (status ≡ answer.Done) ⊎ (status ≡ answer.NotPassed)
+    → err' ≡ err
 says-nothing status err err' (Ok end) c is = c.1
-says-nothing status err err' (Err reason) c is = elim c.outcome [ inl whole ↦ absurd (not-stopped reason status is whole.0) | inr lost ↦ absurd (unsaid status is lost.0) ]
+says-nothing status err err' (Err reason) c is = elim c.outcome [
+  | inl whole ↦ absurd (not-stopped reason status is whole.0)
+  | inr lost ↦ absurd (unsaid status is lost.0)
+]

@@ -1,5 +1,6 @@
 -- The log of a test that halts has the executed instructions as its entries.
-use Rattle.std.proofs.Common.{◌≡◌, ℕ, Bool, true, false, cond, List, Option, Result, Ok, Err, refl, ap, subst}
+use Rattle.std.proofs.Common.{◌≡◌, ℕ, Bool, true, false, cond, List, Option, Result, Ok, Err, refl}
+use Rattle.std.proofs.Common.{ap, subst}
 use Rattle.std.specs.Prelude.{map}
 use Rattle.rvs_base.specs.Host.{Files}
 use Rattle.rvs_insn.specs.Isa.{Isa}

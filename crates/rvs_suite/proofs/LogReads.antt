@@ -8,8 +8,15 @@ use Rattle.rvs_suite.proofs.Readers.{OnlyReads, OnlyReads-then}
 use Rattle.rvs_suite.proofs.Finding.{Finds}
 use Rattle.rvs_suite.proofs.GroupInputs.{reads-inputs, finds-inputs, finds-and_then}
 
-pub reads-reported : (isa : List ℕ) (names : List (List ℕ)) (log : List ℕ) (windows : List Window) → OnlyReads (reported isa names log windows)
-reads-reported isa names log windows = OnlyReads-then (group_inputs isa names) (counts_log log windows) (reads-inputs isa names) (λ inputs found. tt)
+pub reads-reported : (isa : List ℕ) (names : List (List ℕ)) (log : List ℕ) (windows : List Window)
+    → OnlyReads (reported isa names log windows)
+reads-reported isa names log windows = OnlyReads-then (group_inputs isa names)
+    (counts_log log windows) (reads-inputs isa names) (λ inputs found. tt)
 
-pub finds-reported : (files : Files) (isa : List ℕ) (names : List (List ℕ)) (log : List ℕ) (windows : List Window) → Finds files (reported isa names log windows) (report_in files isa names log windows)
-finds-reported files isa names log windows = finds-and_then files (group_inputs isa names) (counts_log log windows) (inputs_in files isa names) (λ inputs. report_found inputs.groups windows log (files log)) (finds-inputs files isa names) (λ inputs. refl)
+pub finds-reported : (files : Files) (isa : List ℕ) (names : List (List ℕ)) (log : List ℕ)
+    (windows : List Window) → Finds files (reported isa names log windows)
+    (report_in files isa names log windows)
+finds-reported files isa names log windows = finds-and_then files (group_inputs isa names)
+    (counts_log log windows) (inputs_in files isa names)
+    (λ inputs. report_found inputs.groups windows log (files log)) (finds-inputs files isa names)
+    (λ inputs. refl)

@@ -1,5 +1,6 @@
 -- What `normalize` puts is read again.
-use Rattle.std.proofs.Common.{◌≡◌, ℕ, ◌≤◌, Bool, true, false, List, [], ◌∷◌, length, map, Option, Some, None, Ok, Err, Result, refl, sym, ap, subst, ◌∙◌, arith}
+use Rattle.std.proofs.Common.{◌≡◌, ℕ, ◌≤◌, Bool, true, false, List, [], ◌∷◌, length, map, Option}
+use Rattle.std.proofs.Common.{Some, None, Ok, Err, Result, refl, sym, ap, subst, ◌∙◌, arith}
 use Rattle.std.specs.Prelude.{nat_lt, if◌then◌else◌, unwrap_or}
 use Rattle.std.proofs.lemmas.Bool.Decides.{nat_tests}
 use Rattle.rvs_base.specs.Host.{Files}
@@ -16,54 +17,81 @@ use Rattle.rvs_plan.specs.declared.stop.Stop.TheVariants.{Refused}
 use Rattle.rvs_suite.specs.GroupTexts.{groups_name}
 use Rattle.rvs_isa.specs.declared.checked.Checked.{Checked}
 use Rattle.rvs_suite.specs.Specification.{said_in, bytes_said, isa_limit}
-use Rattle.rvs_suite.specs.GroupFiles.{groups_limit, within_limit, joined, join_found, and_then, text_in, checked_groups, tree_groups, groups_found, Inputs, inputs_of, inputs_in}
+use Rattle.rvs_suite.specs.GroupFiles.{groups_limit, within_limit, joined, join_found, and_then}
+use Rattle.rvs_suite.specs.GroupFiles.{text_in, checked_groups, tree_groups, groups_found, Inputs}
+use Rattle.rvs_suite.specs.GroupFiles.{inputs_of, inputs_in}
 
 -- the groups again, where these are those of a text
-again-of : (isa : Isa) (text : List ℕ) (inputs : Inputs) → inputs_of isa (groups_found isa text) ≡ Ok inputs → length (normal_text inputs.groups) ≤ groups_limit
-    → (inputs.isa ≡ isa) × (groups_found isa (normal_text inputs.groups) ≡ Ok (map bare (selected inputs.groups)))
+again-of : (isa : Isa) (text : List ℕ) (inputs : Inputs)
+    → inputs_of isa (groups_found isa text) ≡ Ok inputs
+    → length (normal_text inputs.groups) ≤ groups_limit
+    → (inputs.isa ≡ isa)
+    × (groups_found isa (normal_text inputs.groups) ≡ Ok (map bare (selected inputs.groups)))
 again-of isa text inputs e short = by-answer (answer text) refl e
   where
-    same : (groups : List Label) → ◌≡◌ {A = Result Inputs Stop} (Ok (record { isa = isa; groups = groups })) (Ok inputs) → record { isa = isa; groups = groups } ≡ inputs
+    same : (groups : List Label)
+        → ◌≡◌ {A = Result Inputs Stop} (Ok (record { isa = isa; groups = groups })) (Ok inputs)
+        → record { isa = isa; groups = groups } ≡ inputs
     same groups e = cc
 
-    by-groups : (tree : Data) (r : Result (List Label) Refusal) → answer text ≡ Ok tree → groups_of isa tree ≡ r → inputs_of isa (checked_groups r) ≡ Ok inputs → (inputs.isa ≡ isa) × (groups_found isa (normal_text inputs.groups) ≡ Ok (map bare (selected inputs.groups)))
+    by-groups : (tree : Data) (r : Result (List Label) Refusal) → answer text ≡ Ok tree
+        → groups_of isa tree ≡ r → inputs_of isa (checked_groups r) ≡ Ok inputs → (inputs.isa ≡ isa)
+        × (groups_found isa (normal_text inputs.groups) ≡ Ok (map bare (selected inputs.groups)))
     by-groups tree (Err refusal) a g e = cc
     by-groups tree (Ok groups) a g e =
         let is = same groups e in
         let listed : groups ≡ inputs.groups = ap (λ (i : Inputs). i.groups) is in
         let g' : groups_of isa tree ≡ Ok inputs.groups = g ∙ ap (λ ls. Ok ls) listed in
-        let r = read-again isa isa text tree inputs.groups a g' short (own-admitted isa text tree inputs.groups a g') in
+        let r = read-again isa isa text tree inputs.groups a g' short
+        (own-admitted isa text tree inputs.groups a g') in
         (sym (ap (λ (i : Inputs). i.isa) is), ap (tree_groups isa) r.is ∙ ap checked_groups r.groups_are)
 
-    by-answer : (r : Answer) → answer text ≡ r → inputs_of isa (tree_groups isa r) ≡ Ok inputs → (inputs.isa ≡ isa) × (groups_found isa (normal_text inputs.groups) ≡ Ok (map bare (selected inputs.groups)))
+    by-answer : (r : Answer) → answer text ≡ r → inputs_of isa (tree_groups isa r) ≡ Ok inputs
+        → (inputs.isa ≡ isa)
+        × (groups_found isa (normal_text inputs.groups) ≡ Ok (map bare (selected inputs.groups)))
     by-answer (Err fault) a e = cc
     by-answer (Ok tree) a e = by-groups tree (groups_of isa tree) a refl e
 
-kept-text : (after : Files) (name text : List ℕ) → after name ≡ Some text → length text ≤ groups_limit → text_in after None (name ∷ []) ≡ Ok text
+kept-text : (after : Files) (name text : List ℕ) → after name ≡ Some text
+    → length text ≤ groups_limit → text_in after None (name ∷ []) ≡ Ok text
 kept-text after name text there short =
     ap (λ found. and_then (join_found None name found) (λ t. text_in after (Some t) [])) there
-    ∙ ap (λ b. and_then (if b then Err (Refused (too_long_text groups_name groups_limit)) else Ok text) (λ t. text_in after (Some t) [])) (fits (length text) short)
+    ∙ ap (λ b. and_then
+    (if b then Err (Refused (too_long_text groups_name groups_limit)) else Ok text)
+    (λ t. text_in after (Some t) [])) (fits (length text) short)
   where
     fits : (n : ℕ) → n ≤ groups_limit → nat_lt groups_limit n ≡ false
     fits n h = grind (arith, nat_tests)
 
 -- what was put, kept in a file, gives the selected labels again
-pub normal-again : (files after : Files) (isa : List ℕ) (names : List (List ℕ)) (name : List ℕ) (inputs : Inputs) → inputs_in files isa names ≡ Ok inputs → length (normal_text inputs.groups) ≤ groups_limit
+pub normal-again : (files after : Files) (isa : List ℕ) (names : List (List ℕ)) (name : List ℕ)
+    (inputs : Inputs) → inputs_in files isa names ≡ Ok inputs → length (normal_text inputs.groups)
+    ≤ groups_limit
     → after isa ≡ files isa → after name ≡ Some (normal_text inputs.groups)
-    → inputs_in after isa (name ∷ []) ≡ Ok (record { isa = inputs.isa; groups = map bare (selected inputs.groups) })
-normal-again files after isa names name inputs e short same there = by-said (said_in files isa) refl e
+    → inputs_in after isa (name ∷ [])
+    ≡ Ok (record { isa = inputs.isa; groups = map bare (selected inputs.groups) })
+normal-again files after isa names name inputs e short same there =
+    by-said (said_in files isa) refl e
   where
-    by-text : (said : Checked) (r : Result (List ℕ) Stop) → said_in files isa ≡ Ok said → and_then r (λ text. inputs_of said.spec (groups_found said.spec text)) ≡ Ok inputs
-        → inputs_in after isa (name ∷ []) ≡ Ok (record { isa = inputs.isa; groups = map bare (selected inputs.groups) })
+    by-text : (said : Checked) (r : Result (List ℕ) Stop) → said_in files isa ≡ Ok said
+        → and_then r (λ text. inputs_of said.spec (groups_found said.spec text)) ≡ Ok inputs
+        → inputs_in after isa (name ∷ [])
+        ≡ Ok (record { isa = inputs.isa; groups = map bare (selected inputs.groups) })
     by-text said (Err stop) s e = cc
     by-text said (Ok text) s e =
         let a = again-of said.spec text inputs e short in
-        ap (λ r. and_then r (λ c. and_then (text_in after None (name ∷ [])) (λ t. inputs_of c.spec (groups_found c.spec t)))) (ap (λ found. bytes_said isa (part_end isa_limit isa isa isa_limit found)) same ∙ s)
-        ∙ ap (λ r. and_then r (λ t. inputs_of said.spec (groups_found said.spec t))) (kept-text after name (normal_text inputs.groups) there short)
+        ap (λ r. and_then r (λ c. and_then (text_in after None (name ∷ []))
+        (λ t. inputs_of c.spec (groups_found c.spec t)))) (ap (λ found. bytes_said isa
+        (part_end isa_limit isa isa isa_limit found)) same ∙ s)
+        ∙ ap (λ r. and_then r (λ t. inputs_of said.spec (groups_found said.spec t)))
+        (kept-text after name (normal_text inputs.groups) there short)
         ∙ ap (inputs_of said.spec) a.1
         ∙ ap (λ i. Ok (record { isa = i; groups = map bare (selected inputs.groups) })) (sym a.0)
 
-    by-said : (r : Result Checked Stop) → said_in files isa ≡ r → and_then r (λ said. and_then (text_in files None names) (λ text. inputs_of said.spec (groups_found said.spec text))) ≡ Ok inputs
-        → inputs_in after isa (name ∷ []) ≡ Ok (record { isa = inputs.isa; groups = map bare (selected inputs.groups) })
+    by-said : (r : Result Checked Stop) → said_in files isa ≡ r → and_then r (λ said. and_then
+        (text_in files None names) (λ text. inputs_of said.spec (groups_found said.spec text))) ≡ Ok
+        inputs
+        → inputs_in after isa (name ∷ [])
+        ≡ Ok (record { isa = inputs.isa; groups = map bare (selected inputs.groups) })
     by-said (Err stop) s e = cc
     by-said (Ok said) s e = by-text said (text_in files None names) s e

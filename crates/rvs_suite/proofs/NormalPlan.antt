@@ -7,33 +7,57 @@ use Rattle.rvs_cgf.specs.Print.{normal_text}
 use Rattle.rvs_suite.specs.Seen.{seen}
 use Rattle.rvs_suite.specs.Specification.{specification}
 use Rattle.rvs_suite.specs.GroupFiles.{joins_all, groups_found, group_files}
-use Rattle.rvs_suite.specs.Normalize.{print_text, print_normal, normal_files, normal_inputs, normalize}
+use Rattle.rvs_suite.specs.Normalize.{print_text, print_normal, normal_files, normal_inputs}
+use Rattle.rvs_suite.specs.Normalize.{normalize}
 
-then-then : {A B C : Type 0} (p : Plan A) (f : A → Plan B) (g : B → Plan C) → ((p >>= f) >>= g) ≡ (p >>= (λ a. f a >>= g))
+then-then : {A B C : Type 0} (p : Plan A) (f : A → Plan B) (g : B → Plan C)
+    → ((p >>= f) >>= g) ≡ (p >>= (λ a. f a >>= g))
 then-then (Ends (Ok a)) f g = refl
 then-then (Ends (Err stop)) f g = refl
 then-then (Does deed rest) f g = ap (Does deed) (then-then rest f g)
 then-then (Asks name next) f g = ap (Asks name) (fun_ext (λ found. then-then (next found) f g))
-then-then (Runs words test signature next) f g = ap (Runs words test signature) (fun_ext (λ answer. then-then (next answer) f g))
+then-then (Runs words test signature next) f g =
+    ap (Runs words test signature) (fun_ext (λ answer. then-then (next answer) f g))
 
-then-same : {A B : Type 0} (p : Plan A) (f g : A → Plan B) → ((a : A) → f a ≡ g a) → (p >>= f) ≡ (p >>= g)
+then-same : {A B : Type 0} (p : Plan A) (f g : A → Plan B) → ((a : A) → f a ≡ g a)
+    → (p >>= f) ≡ (p >>= g)
 then-same p f g e = ap (λ h. p >>= h) (fun_ext e)
 
-then-seen : {A B C : Type 0} (see : A → B) (r : Result A Stop) (next : B → Plan C) → (Ends r >>= (λ a. next (see a))) ≡ (Ends (seen see r) >>= next)
+then-seen : {A B C : Type 0} (see : A → B) (r : Result A Stop) (next : B → Plan C)
+    → (Ends r >>= (λ a. next (see a))) ≡ (Ends (seen see r) >>= next)
 then-seen see (Ok a) next = refl
 then-seen see (Err stop) next = refl
 
-files-plan : (isa : _) (names : List (List ℕ)) → (group_files isa names >>= (λ groups. print_text (normal_text groups))) ≡ (normal_files isa names >>= print_text)
+files-plan : (isa : _) (names : List (List ℕ))
+    → (group_files isa names >>= (λ groups. print_text (normal_text groups)))
+    ≡ (normal_files isa names >>= print_text)
 files-plan isa names =
-    then-then (joins_all None names) (λ text. Ends (groups_found isa text)) (λ groups. print_text (normal_text groups))
-    ∙ then-same (joins_all None names) (λ text. Ends (groups_found isa text) >>= (λ groups. print_text (normal_text groups))) (λ text. Ends (seen normal_text (groups_found isa text)) >>= print_text) (λ text. then-seen normal_text (groups_found isa text) print_text)
-    ∙ sym (then-then (joins_all None names) (λ text. Ends (seen normal_text (groups_found isa text))) print_text)
+    then-then (joins_all None names) (λ text. Ends (groups_found isa text))
+    (λ groups. print_text (normal_text groups))
+    ∙ then-same (joins_all None names)
+    (λ text. Ends (groups_found isa text) >>= (λ groups. print_text (normal_text groups)))
+    (λ text. Ends (seen normal_text (groups_found isa text)) >>= print_text)
+    (λ text. then-seen normal_text (groups_found isa text) print_text)
+    ∙ sym (then-then (joins_all None names)
+    (λ text. Ends (seen normal_text (groups_found isa text))) print_text)
 
 -- the normal text is made, and then it is put
-pub normal-plan : (isa : List ℕ) (names : List (List ℕ)) → normalize isa names ≡ (normal_inputs isa names >>= print_text)
+pub normal-plan : (isa : List ℕ) (names : List (List ℕ))
+    → normalize isa names ≡ (normal_inputs isa names >>= print_text)
 normal-plan isa names =
-    then-then (specification isa) (λ said. group_files said.spec names >>= (λ groups. gives (record { isa = said.spec; groups = groups }))) print_normal
-    ∙ then-same (specification isa) (λ said. (group_files said.spec names >>= (λ groups. gives (record { isa = said.spec; groups = groups }))) >>= print_normal) (λ said. normal_files said.spec names >>= print_text) (λ said.
-    then-then (group_files said.spec names) (λ groups. gives (record { isa = said.spec; groups = groups })) print_normal
+    then-then (specification isa)
+    (λ said. group_files said.spec names >>= (λ groups. gives (record {
+      isa = said.spec;
+      groups = groups;
+    }))) print_normal
+    ∙ then-same (specification isa)
+    (λ said. (group_files said.spec names >>= (λ groups. gives (record {
+      isa = said.spec;
+      groups = groups;
+    }))) >>= print_normal) (λ said. normal_files said.spec names >>= print_text) (λ said.
+    then-then (group_files said.spec names) (λ groups. gives (record {
+      isa = said.spec;
+      groups = groups;
+    })) print_normal
     ∙ files-plan said.spec names)
     ∙ sym (then-then (specification isa) (λ said. normal_files said.spec names) print_text)

@@ -1,5 +1,7 @@
 -- What `generate` leaves of a single point that a choice hits.
-use Rattle.std.proofs.Common.{◌≡◌, ◌<◌, inl, inr, ℕ, Bool, true, false, if◌then◌else◌, List, [], ◌∷◌, ◌++◌, length, Contains, Option, Some, None, is_some, option_to_list, refl, sym, ap, subst, ◌∙◌, arith}
+use Rattle.std.proofs.Common.{◌≡◌, ◌<◌, inl, inr, ℕ, Bool, true, false, if◌then◌else◌, List, []}
+use Rattle.std.proofs.Common.{◌∷◌, ◌++◌, length, Contains, Option, Some, None, is_some}
+use Rattle.std.proofs.Common.{option_to_list, refl, sym, ap, subst, ◌∙◌, arith}
 use Rattle.std.specs.List.{range_with_len}
 use Rattle.std.specs.Str.{bytes_eq}
 use Rattle.std.proofs.lemmas.Slice.Eq.{bytes_eq-Decides}
@@ -9,7 +11,8 @@ use Rattle.rvs_cgf.specs.Groups.{Label, Point}
 use Rattle.rvs_solver.specs.Solving.{first_at, IsSolvableAt}
 use Rattle.rvs_solver.specs.declared.solved.Solved.{Solved}
 use Rattle.rvs_test.specs.declared.made.Claim.{Claim}
-use Rattle.rvs_test.specs.Made.{is_solved, solved_among, numbered, claims_of, unsolved_of, cases_of, cases_among, text_for, text_of_label, places}
+use Rattle.rvs_test.specs.Made.{is_solved, solved_among, numbered, claims_of, unsolved_of, cases_of}
+use Rattle.rvs_test.specs.Made.{cases_among, text_for, text_of_label, places}
 use Rattle.rvs_test.specs.Claimed.{IsAccounted}
 use Rattle.rvs_test.proofs.Joined.{accounted}
 
@@ -17,33 +20,45 @@ use Rattle.rvs_test.proofs.Joined.{accounted}
 abbrev pub only_claim : Claim
 only_claim = record { case = 0; point = 0 }
 
-claims-by : (isa : Isa) (l : Label) (b : Bool) → is_solved isa l 0 ≡ b → numbered 0 (solved_among isa l (0 ∷ [])) ≡ (if b then only_claim ∷ [] else [])
+claims-by : (isa : Isa) (l : Label) (b : Bool) → is_solved isa l 0 ≡ b
+    → numbered 0 (solved_among isa l (0 ∷ [])) ≡ (if b then only_claim ∷ [] else [])
 claims-by isa l b is = ap (λ (t : Bool). numbered 0 (if t then 0 ∷ [] else [])) is ∙ step b
   where
     step : (b : Bool) → numbered 0 (if b then 0 ∷ [] else []) ≡ (if b then only_claim ∷ [] else [])
     step true = refl
     step false = refl
 
-claims-are : (isa : Isa) (l : Label) (p : Point) (b : Bool) → l.points ≡ p ∷ [] → is_solved isa l 0 ≡ b → claims_of isa l ≡ (if b then only_claim ∷ [] else [])
+claims-are : (isa : Isa) (l : Label) (p : Point) (b : Bool) → l.points ≡ p ∷ []
+    → is_solved isa l 0 ≡ b → claims_of isa l ≡ (if b then only_claim ∷ [] else [])
 unfolding claims_of
-claims-are isa l p b one is = ap (λ (ps : List Point). numbered 0 (solved_among isa l (range_with_len 0 (length ps)))) one ∙ claims-by isa l b is
+claims-are isa l p b one is =
+    ap (λ (ps : List Point). numbered 0 (solved_among isa l (range_with_len 0 (length ps)))) one
+    ∙ claims-by isa l b is
 
 none-there : (c : Claim) → Contains [] c → ⊥
 none-there c there = omega (arith, there.1)
 
-solved-by : (isa : Isa) (l : Label) (p : Point) (b : Bool) → l.points ≡ p ∷ [] → is_solved isa l 0 ≡ b → IsSolvableAt isa l 0 → is_solved isa l 0 ≡ true
+solved-by : (isa : Isa) (l : Label) (p : Point) (b : Bool) → l.points ≡ p ∷ []
+    → is_solved isa l 0 ≡ b → IsSolvableAt isa l 0 → is_solved isa l 0 ≡ true
 solved-by isa l p true one is solvable = is
-solved-by isa l p false one is solvable = elim (accounted isa l 0 (subst (λ (ps : List Point). 0 < length ps) (sym one) (omega arith))) [
-  | inl left ↦ absurd (left.1 solvable)
-  | inr claimed ↦ absurd (none-there claimed.0 (subst (λ (cs : List Claim). Contains cs claimed.0) (claims-are isa l p false one is) claimed.1))
-]
+solved-by isa l p false one is solvable =
+    elim (accounted isa l 0 (subst (λ (ps : List Point). 0 < length ps) (sym one) (omega arith))) [
+      | inl left ↦ absurd (left.1 solvable)
+      | inr claimed ↦ absurd
+          (none-there claimed.0 (subst (λ (cs : List Claim). Contains cs claimed.0)
+          (claims-are isa l p false one is) claimed.1))
+    ]
 
 -- the cases of its only point
-cases-by : (isa : Isa) (l : Label) (first : Option Solved) → first_at isa l 0 ≡ first → is_solved isa l 0 ≡ true → (cases : List Solved) × (s : Solved) × (cases_among isa l (0 ∷ []) ≡ s ∷ cases)
-cases-by isa l None is solved = let no : false ≡ true = sym (ap (λ (o : Option Solved). is_some o) is) ∙ solved in absurd cc
+cases-by : (isa : Isa) (l : Label) (first : Option Solved) → first_at isa l 0 ≡ first
+    → is_solved isa l 0 ≡ true
+    → (cases : List Solved) × (s : Solved) × (cases_among isa l (0 ∷ []) ≡ s ∷ cases)
+cases-by isa l None is solved = let no : false ≡ true =
+    sym (ap (λ (o : Option Solved). is_some o) is) ∙ solved in absurd cc
 cases-by isa l (Some s) is solved = ([], s, ap (λ (o : Option Solved). option_to_list o ++ []) is)
 
-cases-are : (isa : Isa) (l : Label) (p : Point) → l.points ≡ p ∷ [] → is_solved isa l 0 ≡ true → (cases : List Solved) × (s : Solved) × (cases_of isa l ≡ s ∷ cases)
+cases-are : (isa : Isa) (l : Label) (p : Point) → l.points ≡ p ∷ [] → is_solved isa l 0 ≡ true
+    → (cases : List Solved) × (s : Solved) × (cases_of isa l ≡ s ∷ cases)
 unfolding cases_of
 cases-are isa l p one solved =
     let c = cases-by isa l (first_at isa l 0) refl solved in
@@ -55,10 +70,12 @@ pub record OnePoint (isa : Isa) (l : Label) : Type 0 where
   pub is : text_of_label isa l ≡ Some text
   pub claims : claims_of isa l ≡ only_claim ∷ []
 
-text-of : (isa : Isa) (l : Label) (cs : List Solved) (s : Solved) (more : List Solved) → cs ≡ s ∷ more → (text : List ℕ) × (text_for isa l cs ≡ Some text)
+text-of : (isa : Isa) (l : Label) (cs : List Solved) (s : Solved) (more : List Solved)
+    → cs ≡ s ∷ more → (text : List ℕ) × (text_for isa l cs ≡ Some text)
 text-of isa l cs s more is = (_, ap (λ (x : List Solved). text_for isa l x) is)
 
-pub one-point : (isa : Isa) (l : Label) (p : Point) → l.points ≡ p ∷ [] → IsSolvableAt isa l 0 → OnePoint isa l
+pub one-point : (isa : Isa) (l : Label) (p : Point) → l.points ≡ p ∷ [] → IsSolvableAt isa l 0
+    → OnePoint isa l
 one-point isa l p one solvable =
     let solved = solved-by isa l p (is_solved isa l 0) one refl solvable in
     let c = cases-are isa l p one solved in
@@ -66,11 +83,13 @@ one-point isa l p one solvable =
     record { text = t.0; is = t.1; claims = claims-are isa l p true one solved }
 
 -- the file of a written text
-pub file-there : (path text : List ℕ) (files : Option Files) (files' : Files) → written path text files ≡ Some files' → files' path ≡ Some text
+pub file-there : (path text : List ℕ) (files : Option Files) (files' : Files)
+    → written path text files ≡ Some files' → files' path ≡ Some text
 file-there path text None files' is = absurd cc
 file-there path text (Some files) files' is =
     let same : with_file path text files ≡ files' = cc in
-    ap (λ (f : Files). f path) (sym same) ∙ found-in (bytes_eq path path) (Some text) (files path) ((bytes_eq-Decides path path).1 refl)
+    ap (λ (f : Files). f path) (sym same) ∙ found-in (bytes_eq path path) (Some text) (files path)
+    ((bytes_eq-Decides path path).1 refl)
   where
     found-in : (b : Bool) (x y : Option (List ℕ)) → b ≡ true → (if b then x else y) ≡ x
     found-in b x y e = rw e refl

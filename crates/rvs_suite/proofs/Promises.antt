@@ -20,11 +20,18 @@ use Rattle.rvs_suite.specs.Referencing as referencing
 use Rattle.rvs_suite.specs.Judging as judging
 use Rattle.rvs_suite.specs.Planned as planned
 use Rattle.rvs_suite.specs.Causes as causes
-use Rattle.rvs_suite.proofs.Running.{Ran, answers, answered, completes, usage, no_command, compare-passes, compare-fails, compare-spelt, compare-refused, compare-refuses, compare-missed, compare-misses}
-use Rattle.rvs_suite.proofs.ValidateRuns.{validate-done, validate-no_verdict, validate-refused, validate-missed, validate-accepts, validate-refuses, validate-misses}
-use Rattle.rvs_suite.proofs.ReferenceRuns.{reference-done, reference-halts, reference-no_verdict, reference-refused, reference-refuses, reference-missed, reference-misses}
+use Rattle.rvs_suite.proofs.Running.{Ran, answers, answered, completes, usage, no_command}
+use Rattle.rvs_suite.proofs.Running.{compare-passes, compare-fails, compare-spelt, compare-refused}
+use Rattle.rvs_suite.proofs.Running.{compare-refuses, compare-missed, compare-misses}
+use Rattle.rvs_suite.proofs.ValidateRuns.{validate-done, validate-no_verdict, validate-refused}
+use Rattle.rvs_suite.proofs.ValidateRuns.{validate-missed, validate-accepts, validate-refuses}
+use Rattle.rvs_suite.proofs.ValidateRuns.{validate-misses}
+use Rattle.rvs_suite.proofs.ReferenceRuns.{reference-done, reference-halts, reference-no_verdict}
+use Rattle.rvs_suite.proofs.ReferenceRuns.{reference-refused, reference-refuses, reference-missed}
+use Rattle.rvs_suite.proofs.ReferenceRuns.{reference-misses}
 use Rattle.rvs_suite.proofs.LogEntries.{halting_entries}
-use Rattle.rvs_suite.proofs.Lines.{says-usage, says-no_memory, says-refused, says-host, says-nothing}
+use Rattle.rvs_suite.proofs.Lines.{says-usage, says-no_memory, says-refused, says-host}
+use Rattle.rvs_suite.proofs.Lines.{says-nothing}
 use Rattle.rvs_suite.proofs.Untouched.{untouched, untouched-absent}
 use Rattle.rvs_suite.proofs.Keeping.{compare-keeps, validate-keeps}
 use Rattle.rvs_suite.proofs.Sparing.{reference-spares}
@@ -36,10 +43,15 @@ use Rattle.rvs_suite.proofs.DemoEnds.{demonstrates}
 
 -- a call whose command ran
 pub record RanCall (call : Call) : Type 0 where
-  pub ran : Ran (command_of call.words) (world_of call.old) (world_of call.new) call.old.err call.new.err call.status
+  pub ran : Ran (command_of call.words) (world_of call.old) (world_of call.new) call.old.err
+      call.new.err call.status
 
-pub ran : {words : List (List ℕ)} {host host' : HostState} {out out' err err' : SinkState} {status : Status} {result : Result Finish Stop} → Performs (command_of words) (world host out) (world host' out') result → Concludes result status err err' → RanCall (call words host host' out out' err err' status)
-ran {result = result} performs concludes = record { ran = record { result = result; performs = performs; concludes = concludes } }
+pub ran : {words : List (List ℕ)} {host host' : HostState} {out out' err err' : SinkState}
+    {status : Status} {result : Result Finish Stop} → Performs (command_of words) (world host out)
+    (world host' out') result → Concludes result status err err' → RanCall
+    (call words host host' out out' err err' status)
+ran {result = result} performs concludes =
+    record { ran = record { result = result; performs = performs; concludes = concludes } }
 
 pub planned-promise : {call : Call} → RanCall call → planned.Promise call
 planned-promise r files t =
@@ -61,9 +73,12 @@ causes-promise {call} r =
       unfaulted = (answers r.ran).unfaulted;
       missing = (answers r.ran).missing;
       line_usage = says-usage call.status call.old.err call.new.err r.ran.result r.ran.concludes;
-      line_no_memory = says-no_memory call.status call.old.err call.new.err r.ran.result r.ran.concludes;
-      line_refused = says-refused call.status call.old.err call.new.err r.ran.result r.ran.concludes;
-      line_host_fault = says-host call.status call.old.err call.new.err r.ran.result r.ran.concludes;
+      line_no_memory =
+          says-no_memory call.status call.old.err call.new.err r.ran.result r.ran.concludes;
+      line_refused =
+          says-refused call.status call.old.err call.new.err r.ran.result r.ran.concludes;
+      line_host_fault =
+          says-host call.status call.old.err call.new.err r.ran.result r.ran.concludes;
       quiet = says-nothing call.status call.old.err call.new.err r.ran.result r.ran.concludes;
       later = (answers r.ran).later;
       errors_later = (answers r.ran).errors_later;
@@ -74,7 +89,8 @@ compare-promise r files left right t is =
     record {
       done = compare-passes r.ran files left right t is;
       not_passed = compare-fails r.ran files left right t is;
-      by_inputs = λ left_words right_words. compare-spelt r.ran files left right left_words right_words t is;
+      by_inputs = λ left_words right_words. compare-spelt r.ran files left right left_words
+          right_words t is;
       refused = compare-refused r.ran files left right t is;
       by_refusal = λ text. compare-refuses r.ran files left right text t is;
       absent = compare-missed r.ran files left right t is;
@@ -106,20 +122,26 @@ reference-promise r files isa test signature log steps t is =
       by_refusal = λ text. reference-refuses r.ran files isa test signature log steps text t is;
       absent = reference-missed r.ran files isa test signature log steps t is;
       by_absence = λ name. reference-misses r.ran files isa test signature log steps name t is;
-      others_kept = λ files' other. reference-spares r.ran files files' isa test signature log steps other t is;
+      others_kept = λ files' other. reference-spares r.ran files files' isa test signature log steps
+          other t is;
     }
 
 pub normalize-promise : {call : Call} → RanCall call → normalizing.Promise call
-normalize-promise r files isa names t is = normalizes files isa names (record { ran = r.ran; told = t; asks = is })
+normalize-promise r files isa names t is =
+    normalizes files isa names (record { ran = r.ran; told = t; asks = is })
 
 pub generate-promise : {call : Call} → RanCall call → generating.Promise call
-generate-promise r files isa names work t is = makes files isa names work (record { ran = r.ran; told = t; asks = is })
+generate-promise r files isa names work t is =
+    makes files isa names work (record { ran = r.ran; told = t; asks = is })
 
 pub coverage-promise : {call : Call} → RanCall call → covering.Promise call
-coverage-promise r files isa names log windows t is = covers files isa names log windows (record { ran = r.ran; told = t; asks = is })
+coverage-promise r files isa names log windows t is =
+    covers files isa names log windows (record { ran = r.ran; told = t; asks = is })
 
 pub run-promise : {call : Call} → RanCall call → judging.Promise call
-run-promise r files program isa names device work t is = judges files program isa names device work (record { ran = r.ran; told = t; asks = is })
+run-promise r files program isa names device work t is =
+    judges files program isa names device work (record { ran = r.ran; told = t; asks = is })
 
 pub demo-promise : {call : Call} → RanCall call → demonstrating.Promise call
-demo-promise r files count t is = demonstrates files count (record { ran = r.ran; told = t; asks = is })
+demo-promise r files count t is =
+    demonstrates files count (record { ran = r.ran; told = t; asks = is })

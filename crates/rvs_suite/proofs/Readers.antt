@@ -11,12 +11,15 @@ OnlyReads (Does deed plan) = ⊥
 OnlyReads (Asks name next) = (found : Option (List ℕ)) → OnlyReads (next found)
 OnlyReads (Runs words test signature next) = ⊥
 
-OnlyReads-followed : {A B : Type 0} (end : Result A Stop) (next : A → Plan B) → ((a : A) → OnlyReads (next a)) → OnlyReads (followed end next)
+OnlyReads-followed : {A B : Type 0} (end : Result A Stop) (next : A → Plan B)
+    → ((a : A) → OnlyReads (next a)) → OnlyReads (followed end next)
 OnlyReads-followed (Ok a) next reads = reads a
 OnlyReads-followed (Err stop) next reads = tt
 
-pub OnlyReads-then : {A B : Type 0} (plan : Plan A) (next : A → Plan B) → OnlyReads plan → ((a : A) → OnlyReads (next a)) → OnlyReads (plan >>= next)
+pub OnlyReads-then : {A B : Type 0} (plan : Plan A) (next : A → Plan B) → OnlyReads plan
+    → ((a : A) → OnlyReads (next a)) → OnlyReads (plan >>= next)
 OnlyReads-then (Ends end) next reads then = OnlyReads-followed end next then
 OnlyReads-then (Does deed plan) next reads then = absurd reads
-OnlyReads-then (Asks name rest) next reads then = λ found. OnlyReads-then (rest found) next (reads found) then
+OnlyReads-then (Asks name rest) next reads then =
+    λ found. OnlyReads-then (rest found) next (reads found) then
 OnlyReads-then (Runs words test signature rest) next reads then = absurd reads

@@ -1,5 +1,7 @@
 -- What comes of a signature file.
-use Rattle.std.proofs.Common.{◌≡◌, ◌≤◌, ◌<◌, inl, inr, ℕ, Bool, true, false, List, ◌∷◌, length, nat_lt, Option, Some, None, Result, Ok, Err, if◌then◌else◌, refl, sym, ap, ◌∙◌}
+use Rattle.std.proofs.Common.{◌≡◌, ◌≤◌, ◌<◌, inl, inr, ℕ, Bool, true, false, List, ◌∷◌, length}
+use Rattle.std.proofs.Common.{nat_lt, Option, Some, None, Result, Ok, Err, if◌then◌else◌, refl, sym}
+use Rattle.std.proofs.Common.{ap, ◌∙◌}
 use Rattle.std.proofs.lemmas.Bool.{lt-ltb, le-ltb, ltb-true, ltb-false}
 use Rattle.rvs_base.specs.Host.{Files}
 use Rattle.rvs_plan.specs.Effect.{Answer, Read}
@@ -24,49 +26,105 @@ if-false b x y e = rw e refl
 if-true : {A : Type 0} (b : Bool) (x y : A) → b ≡ true → (if b then x else y) ≡ x
 if-true b x y e = rw e refl
 
-found-none : (files : Files) (name : List ℕ) → files name ≡ None → part_end signature_limit name name signature_limit (files name) ≡ Err (NoFile name)
+found-none : (files : Files) (name : List ℕ) → files name ≡ None
+    → part_end signature_limit name name signature_limit (files name) ≡ Err (NoFile name)
 found-none files name none = ap (part_end signature_limit name name signature_limit) none
 
-found-long : (files : Files) (name bytes : List ℕ) → files name ≡ Some bytes → signature_limit < length bytes → part_end signature_limit name name signature_limit (files name) ≡ Err (Refused (too_long_text name signature_limit))
-found-long files name bytes there long = ap (part_end signature_limit name name signature_limit) there ∙ if-true (nat_lt signature_limit (length bytes)) _ _ (lt-ltb signature_limit (length bytes) long)
+found-long : (files : Files) (name bytes : List ℕ) → files name ≡ Some bytes
+    → signature_limit < length bytes
+    → part_end signature_limit name name signature_limit (files name)
+    ≡ Err (Refused (too_long_text name signature_limit))
+found-long files name bytes there long = ap (part_end signature_limit name name signature_limit)
+    there ∙ if-true (nat_lt signature_limit (length bytes)) _ _
+    (lt-ltb signature_limit (length bytes) long)
 
-found-whole : (files : Files) (name bytes : List ℕ) → files name ≡ Some bytes → length bytes ≤ signature_limit → part_end signature_limit name name signature_limit (files name) ≡ Ok bytes
-found-whole files name bytes there within = ap (part_end signature_limit name name signature_limit) there ∙ if-false (nat_lt signature_limit (length bytes)) _ _ (le-ltb signature_limit (length bytes) within)
+found-whole : (files : Files) (name bytes : List ℕ) → files name ≡ Some bytes
+    → length bytes ≤ signature_limit
+    → part_end signature_limit name name signature_limit (files name) ≡ Ok bytes
+found-whole files name bytes there within = ap (part_end signature_limit name name signature_limit)
+    there ∙ if-false (nat_lt signature_limit (length bytes)) _ _
+    (le-ltb signature_limit (length bytes) within)
 
 -- where the file isn't there
-pub end-missing : {A : Type 0} (files : Files) (answers : List Answer) (name : List ℕ) (next : List ℕ → Plan A) → files name ≡ None → end_of (signature name >>= next) files answers ≡ Some (Err (NoFile name))
-end-missing files answers name next none = ap (λ (r : Result (List ℕ) Stop). end_of (followed r (words name) >>= next) files answers) (found-none files name none)
+pub end-missing : {A : Type 0} (files : Files) (answers : List Answer) (name : List ℕ)
+    (next : List ℕ → Plan A) → files name ≡ None → end_of (signature name >>= next) files answers
+    ≡ Some (Err (NoFile name))
+end-missing files answers name next none = ap
+    (λ (r : Result (List ℕ) Stop). end_of (followed r (words name) >>= next) files answers)
+    (found-none files name none)
 
 -- where it is refused
-pub end-refused : {A : Type 0} (files : Files) (answers : List Answer) (name text : List ℕ) (next : List ℕ → Plan A) → IsRefused files name text → end_of (signature name >>= next) files answers ≡ Some (Err (Refused text))
+pub end-refused : {A : Type 0} (files : Files) (answers : List Answer) (name text : List ℕ)
+    (next : List ℕ → Plan A) → IsRefused files name text → end_of (signature name >>= next) files
+    answers ≡ Some (Err (Refused text))
 end-refused files answers name text next r = elim r.reason [
-  | inl long ↦ ap (λ (e : Result (List ℕ) Stop). end_of (followed e (words name) >>= next) files answers) (found-long files name r.bytes r.there long.longer) ∙ ap (λ (t : List ℕ). Some (Err (Refused t))) (sym long.text_is)
-  | inr none ↦ ap (λ (e : Result (List ℕ) Stop). end_of (followed e (words name) >>= next) files answers) (found-whole files name r.bytes r.there none.within) ∙ ap (λ (e : Result (List ℕ) SigRefusal). end_of (Ends (words_end name e) >>= next) files answers) none.spelt ∙ ap (λ (t : List ℕ). Some (Err (Refused t))) (sym none.text_is)
+  | inl long ↦ ap
+      (λ (e : Result (List ℕ) Stop). end_of (followed e (words name) >>= next) files answers)
+      (found-long files name r.bytes r.there long.longer) ∙ ap
+      (λ (t : List ℕ). Some (Err (Refused t))) (sym long.text_is)
+  | inr none ↦ ap
+      (λ (e : Result (List ℕ) Stop). end_of (followed e (words name) >>= next) files answers)
+      (found-whole files name r.bytes r.there none.within) ∙ ap
+      (λ (e : Result (List ℕ) SigRefusal). end_of (Ends (words_end name e) >>= next) files answers)
+      none.spelt ∙ ap (λ (t : List ℕ). Some (Err (Refused t))) (sym none.text_is)
 ]
 
 -- where it spells words
-pub end-spells : {A : Type 0} (files : Files) (answers : List Answer) (name spelt : List ℕ) (next : List ℕ → Plan A) → Spells files name spelt → end_of (signature name >>= next) files answers ≡ end_of (next spelt) files answers
+pub end-spells : {A : Type 0} (files : Files) (answers : List Answer) (name spelt : List ℕ)
+    (next : List ℕ → Plan A) → Spells files name spelt → end_of (signature name >>= next) files
+    answers ≡ end_of (next spelt) files answers
 end-spells files answers name spelt next s =
-    ap (λ (e : Result (List ℕ) Stop). end_of (followed e (words name) >>= next) files answers) (found-whole files name s.bytes s.there s.within)
-    ∙ ap (λ (e : Result (List ℕ) SigRefusal). end_of (Ends (words_end name e) >>= next) files answers) s.spelt
+    ap (λ (e : Result (List ℕ) Stop). end_of (followed e (words name) >>= next) files answers)
+    (found-whole files name s.bytes s.there s.within)
+    ∙ ap (λ (e : Result (List ℕ) SigRefusal). end_of (Ends (words_end name e) >>= next) files
+    answers) s.spelt
 
-pub performed-spells : {A : Type 0} (files : Files) (answers : List Answer) (name spelt : List ℕ) (next : List ℕ → Plan A) → Spells files name spelt → performed (signature name >>= next) files answers ≡ Read name (files name) ∷ performed (next spelt) files answers
+pub performed-spells : {A : Type 0} (files : Files) (answers : List Answer) (name spelt : List ℕ)
+    (next : List ℕ → Plan A) → Spells files name spelt → performed (signature name >>= next) files
+    answers ≡ Read name (files name) ∷ performed (next spelt) files answers
 performed-spells files answers name spelt next s =
-    ap (λ (e : Result (List ℕ) Stop). Read name (files name) ∷ performed (followed e (words name) >>= next) files answers) (found-whole files name s.bytes s.there s.within)
-    ∙ ap (λ (e : Result (List ℕ) SigRefusal). Read name (files name) ∷ performed (Ends (words_end name e) >>= next) files answers) s.spelt
+    ap (λ (e : Result (List ℕ) Stop). Read name (files name)
+    ∷ performed (followed e (words name) >>= next) files answers)
+    (found-whole files name s.bytes s.there s.within)
+    ∙ ap (λ (e : Result (List ℕ) SigRefusal). Read name (files name)
+    ∷ performed (Ends (words_end name e) >>= next) files answers) s.spelt
 
-checked : {G : Type 0} (files : Files) (name bytes : List ℕ) (end : Result (List ℕ) SigRefusal) → files name ≡ Some bytes → length bytes ≤ signature_limit → words_of bytes ≡ end → ((text : List ℕ) → IsRefused files name text → G) → ((spelt : List ℕ) → Spells files name spelt → G) → G
-checked files name bytes (Ok spelt) there within is refused spells = spells spelt (record { bytes = bytes; there = there; within = within; spelt = is })
-checked files name bytes (Err refusal) there within is refused spells = refused (refusal_text name refusal) (record { bytes = bytes; there = there; reason = inr (record { within = within; refusal = refusal; spelt = is; text_is = refl }) })
+checked : {G : Type 0} (files : Files) (name bytes : List ℕ) (end : Result (List ℕ) SigRefusal)
+    → files name ≡ Some bytes → length bytes ≤ signature_limit → words_of bytes ≡ end
+    → ((text : List ℕ) → IsRefused files name text → G)
+    → ((spelt : List ℕ) → Spells files name spelt → G) → G
+checked files name bytes (Ok spelt) there within is refused spells =
+    spells spelt (record { bytes = bytes; there = there; within = within; spelt = is })
+checked files name bytes (Err refusal) there within is refused spells =
+    refused (refusal_text name refusal) (record {
+      bytes = bytes;
+      there = there;
+      reason = inr (record { within = within; refusal = refusal; spelt = is; text_is = refl });
+    })
 
-measured : {G : Type 0} (files : Files) (name bytes : List ℕ) (long : Bool) → files name ≡ Some bytes → nat_lt signature_limit (length bytes) ≡ long → ((text : List ℕ) → IsRefused files name text → G) → ((spelt : List ℕ) → Spells files name spelt → G) → G
-measured files name bytes true there is refused spells = refused (too_long_text name signature_limit) (record { bytes = bytes; there = there; reason = inl (record { longer = ltb-true signature_limit (length bytes) is; text_is = refl }) })
-measured files name bytes false there is refused spells = checked files name bytes (words_of bytes) there (ltb-false signature_limit (length bytes) is) refl refused spells
+measured : {G : Type 0} (files : Files) (name bytes : List ℕ) (long : Bool)
+    → files name ≡ Some bytes → nat_lt signature_limit (length bytes) ≡ long
+    → ((text : List ℕ) → IsRefused files name text → G)
+    → ((spelt : List ℕ) → Spells files name spelt → G) → G
+measured files name bytes true there is refused spells =
+    refused (too_long_text name signature_limit) (record {
+      bytes = bytes;
+      there = there;
+      reason = inl (record { longer = ltb-true signature_limit (length bytes) is; text_is = refl });
+    })
+measured files name bytes false there is refused spells = checked files name bytes (words_of bytes)
+    there (ltb-false signature_limit (length bytes) is) refl refused spells
 
-opened : {G : Type 0} (files : Files) (name : List ℕ) (found : Option (List ℕ)) → files name ≡ found → (files name ≡ None → G) → ((text : List ℕ) → IsRefused files name text → G) → ((spelt : List ℕ) → Spells files name spelt → G) → G
+opened : {G : Type 0} (files : Files) (name : List ℕ) (found : Option (List ℕ)) → files name ≡ found
+    → (files name ≡ None → G) → ((text : List ℕ) → IsRefused files name text → G)
+    → ((spelt : List ℕ) → Spells files name spelt → G) → G
 opened files name None is missing refused spells = missing is
-opened files name (Some bytes) is missing refused spells = measured files name bytes (nat_lt signature_limit (length bytes)) is refl refused spells
+opened files name (Some bytes) is missing refused spells =
+    measured files name bytes (nat_lt signature_limit (length bytes)) is refl refused spells
 
 -- a signature file isn't there, is refused, or spells words
-pub signature_by : {G : Type 0} (files : Files) (name : List ℕ) → (files name ≡ None → G) → ((text : List ℕ) → IsRefused files name text → G) → ((spelt : List ℕ) → Spells files name spelt → G) → G
-signature_by files name missing refused spells = opened files name (files name) refl missing refused spells
+pub signature_by : {G : Type 0} (files : Files) (name : List ℕ) → (files name ≡ None → G)
+    → ((text : List ℕ) → IsRefused files name text → G)
+    → ((spelt : List ℕ) → Spells files name spelt → G) → G
+signature_by files name missing refused spells =
+    opened files name (files name) refl missing refused spells

@@ -1,5 +1,7 @@
 -- What every call of `run` promises.
-use Rattle.std.proofs.Common.{◌≡◌, ◌⊎◌, inl, inr, ℕ, true, is_some, List, [], ◌∷◌, ◌++◌, length, option_map, Option, Some, None, Result, Ok, Err, refl, sym, ap, subst, ◌∙◌}
+use Rattle.std.proofs.Common.{◌≡◌, ◌⊎◌, inl, inr, ℕ, true, is_some, List, [], ◌∷◌, ◌++◌, length}
+use Rattle.std.proofs.Common.{option_map, Option, Some, None, Result, Ok, Err, refl, sym, ap, subst}
+use Rattle.std.proofs.Common.{◌∙◌}
 use Rattle.std.proofs.lemmas.List.{append_cancel_left}
 use Rattle.rvs_base.specs.Host.{Files, Tells}
 use Rattle.rvs_base.specs.Sink.{appended}
@@ -23,7 +25,8 @@ use Rattle.rvs_device.proofs.Passing as passing
 use Rattle.rvs_suite.specs.Call.{Call, world_of, NothingFailed, AnswersOnly}
 use Rattle.rvs_suite.specs.Answered.{HasLeft}
 use Rattle.rvs_suite.specs.GenerateTexts.{listing}
-use Rattle.rvs_suite.specs.RunTests.{Bench, tally_line, tallies, passes, with_one, verdict_of_all, RunInputs, run_inputs, bench_of, runs, run}
+use Rattle.rvs_suite.specs.RunTests.{Bench, tally_line, tallies, passes, with_one, verdict_of_all}
+use Rattle.rvs_suite.specs.RunTests.{RunInputs, run_inputs, bench_of, runs, run}
 use Rattle.rvs_suite.specs.RunLeft.{verdict_lines, passed_onto, with_all_judged}
 use Rattle.rvs_suite.specs.Judging.{run_inputs_in, tests_in, task_of, HasJudged, Runs}
 use Rattle.rvs_suite.specs.declared.gathering.Test.{Test}
@@ -33,7 +36,8 @@ use Rattle.rvs_suite.proofs.Ends.{means-end, was_refused, was_missing}
 use Rattle.rvs_suite.proofs.Finding.{Behind, behind, end-found}
 use Rattle.rvs_suite.proofs.Running.{at_status, asked_means}
 use Rattle.rvs_suite.proofs.RunReads.{finds-run}
-use Rattle.rvs_suite.proofs.RunSteps.{FirstDid, first_did, contents_of, appended-twice, JudgedAll, judged-all}
+use Rattle.rvs_suite.proofs.RunSteps.{FirstDid, first_did, contents_of, appended-twice, JudgedAll}
+use Rattle.rvs_suite.proofs.RunSteps.{judged-all}
 use Rattle.rvs_suite.proofs.Sparing.{run-spares}
 use Rattle.rvs_suite.proofs.Untouched.{never-end, runs-on}
 
@@ -41,40 +45,77 @@ use Rattle.rvs_suite.proofs.Untouched.{never-end, runs-on}
 abbrev rest_of : List ℕ → List ℕ → Result RunInputs Stop → Plan Finish
 rest_of program work found = followed found (runs program work)
 
-end-rest : (files : Files) (answers : List Answer) (program isa : List ℕ) (names : List (List ℕ)) (device work : List ℕ) → end_of (run program isa names device work) files answers ≡ end_of (rest_of program work (run_inputs_in files isa names device)) files answers
-end-rest files answers program isa names device work = end-found files answers (run_inputs isa names device) (runs program work) (run_inputs_in files isa names device) (finds-run files isa names device)
+end-rest : (files : Files) (answers : List Answer) (program isa : List ℕ) (names : List (List ℕ))
+    (device work : List ℕ) → end_of (run program isa names device work) files answers ≡ end_of
+    (rest_of program work (run_inputs_in files isa names device)) files answers
+end-rest files answers program isa names device work = end-found files answers
+    (run_inputs isa names device) (runs program work) (run_inputs_in files isa names device)
+    (finds-run files isa names device)
 
-stopped-rest : (files : Files) (answers : List Answer) (program work : List ℕ) (found : Result RunInputs Stop) (stop : Stop) → end_of (rest_of program work found) files answers ≡ Some (Err stop) → found ≡ Err stop
-stopped-rest files answers program work (Ok inputs) stop is = absurd (never-end (runs program work inputs) files answers stop (runs-on program work inputs) is)
-stopped-rest files answers program work (Err s) stop is = let same : s ≡ stop = cc in ap (λ (x : Stop). Err x) same
+stopped-rest : (files : Files) (answers : List Answer) (program work : List ℕ)
+    (found : Result RunInputs Stop) (stop : Stop) → end_of (rest_of program work found) files
+    answers ≡ Some (Err stop) → found ≡ Err stop
+stopped-rest files answers program work (Ok inputs) stop is = absurd
+    (never-end (runs program work inputs) files answers stop (runs-on program work inputs) is)
+stopped-rest files answers program work (Err s) stop is = let same : s ≡ stop = cc in
+    ap (λ (x : Stop). Err x) same
 
 -- a run that stopped did so at its inputs
-stopped : (files : Files) (program isa : List ℕ) (names : List (List ℕ)) (device work : List ℕ) (stop : Stop) → ComesTo (run program isa names device work) files (Err stop) → run_inputs_in files isa names device ≡ Err stop
-stopped files program isa names device work stop comes = stopped-rest files comes.answers program work (run_inputs_in files isa names device) stop (sym (end-rest files comes.answers program isa names device work) ∙ comes.is)
+stopped : (files : Files) (program isa : List ℕ) (names : List (List ℕ)) (device work : List ℕ)
+    (stop : Stop) → ComesTo (run program isa names device work) files (Err stop) → run_inputs_in
+    files isa names device ≡ Err stop
+stopped files program isa names device work stop comes = stopped-rest files comes.answers program
+    work (run_inputs_in files isa names device) stop
+    (sym (end-rest files comes.answers program isa names device work) ∙ comes.is)
 
-stops : (files : Files) (program isa : List ℕ) (names : List (List ℕ)) (device work : List ℕ) (stop : Stop) → run_inputs_in files isa names device ≡ Err stop → (answers : List Answer) → end_of (run program isa names device work) files answers ≡ Some (Err stop)
-stops files program isa names device work stop is answers = end-rest files answers program isa names device work ∙ ap (λ (found : Result RunInputs Stop). end_of (rest_of program work found) files answers) is
+stops : (files : Files) (program isa : List ℕ) (names : List (List ℕ)) (device work : List ℕ)
+    (stop : Stop) → run_inputs_in files isa names device ≡ Err stop → (answers : List Answer)
+    → end_of (run program isa names device work) files answers ≡ Some (Err stop)
+stops files program isa names device work stop is answers =
+    end-rest files answers program isa names device work
+    ∙ ap (λ (found : Result RunInputs Stop). end_of (rest_of program work found) files answers) is
 
-ended : (files : Files) (program isa : List ℕ) (names : List (List ℕ)) (device work : List ℕ) (inputs : RunInputs) (status : Status) (end : Result Finish Stop) → run_inputs_in files isa names device ≡ Ok inputs → ComesTo (run program isa names device work) files end → status ≡ end_status end → (status ≡ answer.Done) ⊎ (status ≡ answer.NotPassed) ⊎ (status ≡ answer.NoMemory)
+ended : (files : Files) (program isa : List ℕ) (names : List (List ℕ)) (device work : List ℕ)
+    (inputs : RunInputs) (status : Status) (end : Result Finish Stop) → run_inputs_in files isa
+    names device ≡ Ok inputs → ComesTo (run program isa names device work) files end → status
+    ≡ end_status end → (status ≡ answer.Done) ⊎ (status ≡ answer.NotPassed) ⊎
+    (status ≡ answer.NoMemory)
 ended files program isa names device work inputs status (Ok finish.Done) given comes is = inl is
-ended files program isa names device work inputs status (Ok finish.NotPassed) given comes is = inr (inl is)
-ended files program isa names device work inputs status (Err stop) given comes is = let both : Ok inputs ≡ Err stop = sym given ∙ stopped files program isa names device work stop comes in absurd cc
+ended files program isa names device work inputs status (Ok finish.NotPassed) given comes is =
+    inr (inl is)
+ended files program isa names device work inputs status (Err stop) given comes is =
+    let both : Ok inputs ≡ Err stop =
+    sym given ∙ stopped files program isa names device work stop comes in absurd cc
 
 -- ---- what is left
-record Left (program work : List ℕ) (inputs : RunInputs) (files : Files) (before : List DeviceRun) (out : Option (List ℕ)) (end : Finish) (effects : List Effect) : Type 0 where
-  all : JudgedAll (bench_of program work inputs) (tests_in inputs) 0 (tallies (length (tests_in inputs))) files before (appended out (listing inputs.groups.isa inputs.groups.groups)) (Ok end) effects
-  same : after effects (contents_of files before (appended out (listing inputs.groups.isa inputs.groups.groups)))
-      ≡ contents_of (with_all_judged (bench_of program work inputs) (tests_in inputs) all.news files) (before ++ all.news)
-      (appended out (listing inputs.groups.isa inputs.groups.groups ++ (verdict_lines (bench_of program work inputs) (tests_in inputs) all.news ++ tally_line (length (tests_in inputs)) (passed_onto (bench_of program work inputs) 0 (tests_in inputs) all.news))))
-  verdict : end ≡ verdict_of_all (length (tests_in inputs)) (passed_onto (bench_of program work inputs) 0 (tests_in inputs) all.news)
+record Left (program work : List ℕ) (inputs : RunInputs) (files : Files) (before : List DeviceRun)
+    (out : Option (List ℕ)) (end : Finish) (effects : List Effect) : Type 0 where
+  all : JudgedAll (bench_of program work inputs) (tests_in inputs) 0
+      (tallies (length (tests_in inputs))) files before
+      (appended out (listing inputs.groups.isa inputs.groups.groups)) (Ok end) effects
+  same : after effects
+      (contents_of files before (appended out (listing inputs.groups.isa inputs.groups.groups)))
+      ≡ contents_of
+      (with_all_judged (bench_of program work inputs) (tests_in inputs) all.news files)
+      (before ++ all.news)
+      (appended out (listing inputs.groups.isa inputs.groups.groups ++ (verdict_lines
+      (bench_of program work inputs) (tests_in inputs) all.news ++ tally_line
+      (length (tests_in inputs))
+      (passed_onto (bench_of program work inputs) 0 (tests_in inputs) all.news))))
+  verdict : end ≡ verdict_of_all (length (tests_in inputs))
+      (passed_onto (bench_of program work inputs) 0 (tests_in inputs) all.news)
 
 -- nothing comes behind an end
-at-end : (value end : Finish) (effects : List Effect) → Goes (Ends (Ok value)) effects (Ends (Ok end)) → (effects ≡ []) × (end ≡ value)
+at-end : (value end : Finish) (effects : List Effect)
+    → Goes (Ends (Ok value)) effects (Ends (Ok end)) → (effects ≡ []) × (end ≡ value)
 at-end value end [] goes = (refl, let same : value ≡ end = cc in sym same)
 at-end value end (effect ∷ effects) goes = absurd goes
 
-tallied : (program work : List ℕ) (inputs : RunInputs) (files : Files) (before : List DeviceRun) (out : Option (List ℕ)) (end : Finish) (effects : List Effect)
-    → JudgedAll (bench_of program work inputs) (tests_in inputs) 0 (tallies (length (tests_in inputs))) files before (appended out (listing inputs.groups.isa inputs.groups.groups)) (Ok end) effects
+tallied : (program work : List ℕ) (inputs : RunInputs) (files : Files) (before : List DeviceRun)
+    (out : Option (List ℕ)) (end : Finish) (effects : List Effect)
+    → JudgedAll (bench_of program work inputs) (tests_in inputs) 0
+    (tallies (length (tests_in inputs))) files before
+    (appended out (listing inputs.groups.isa inputs.groups.groups)) (Ok end) effects
     → Left program work inputs files before out end effects
 tallied program work inputs files before out end effects all =
     let bench = bench_of program work inputs in
@@ -82,19 +123,29 @@ tallied program work inputs files before out end effects all =
     let said = listing inputs.groups.isa inputs.groups.groups in
     let lines = verdict_lines bench tests all.news in
     let tally = tally_line (length tests) (passed_onto bench 0 tests all.news) in
-    let last = first_did (Out tally) (Ends (Ok (verdict_of_all (length tests) (passed_onto bench 0 tests all.news)))) (Ok end) all.later all.goes in
-    let over = at-end (verdict_of_all (length tests) (passed_onto bench 0 tests all.news)) end last.rest last.goes in
-    let later : all.later ≡ Did (Out tally) ∷ [] = last.is ∙ ap (λ (es : List Effect). Did (Out tally) ∷ es) over.0 in
+    let last = first_did (Out tally)
+    (Ends (Ok (verdict_of_all (length tests) (passed_onto bench 0 tests all.news)))) (Ok end)
+    all.later all.goes in
+    let over = at-end (verdict_of_all (length tests) (passed_onto bench 0 tests all.news)) end
+    last.rest last.goes in
+    let later : all.later ≡ Did (Out tally) ∷ [] =
+    last.is ∙ ap (λ (es : List Effect). Did (Out tally) ∷ es) over.0 in
     let now = contents_of (with_all_judged bench tests all.news files) (before ++ all.news) in
     record {
       all = all;
-      same = all.same ∙ ap (λ (es : List Effect). after es (now (appended (appended out said) lines))) later
-          ∙ ap (λ (o : Option (List ℕ)). now o) (appended-twice (appended out said) lines tally ∙ appended-twice out said (lines ++ tally));
+      same = all.same
+          ∙ ap (λ (es : List Effect). after es (now (appended (appended out said) lines))) later
+          ∙ ap (λ (o : Option (List ℕ)). now o) (appended-twice (appended out said) lines tally
+          ∙ appended-twice out said (lines ++ tally));
       verdict = over.1;
     }
 
-judged : (program work : List ℕ) (inputs : RunInputs) (files : Files) (before : List DeviceRun) (out : Option (List ℕ)) (end : Finish) (effects : List Effect) → Goes (runs program work inputs) effects (Ends (Ok end)) → Saw effects (contents_of files before out)
-    → (later : List Effect) × Left program work inputs files before out end later × (after effects (contents_of files before out) ≡ after later (contents_of files before (appended out (listing inputs.groups.isa inputs.groups.groups))))
+judged : (program work : List ℕ) (inputs : RunInputs) (files : Files) (before : List DeviceRun)
+    (out : Option (List ℕ)) (end : Finish) (effects : List Effect) → Goes (runs program work inputs)
+    effects (Ends (Ok end)) → Saw effects (contents_of files before out)
+    → (later : List Effect) × Left program work inputs files before out end later × (after effects
+    (contents_of files before out) ≡ after later
+    (contents_of files before (appended out (listing inputs.groups.isa inputs.groups.groups))))
 judged program work inputs files before out end effects goes saw =
     let bench = bench_of program work inputs in
     let tests = tests_in inputs in
@@ -102,44 +153,70 @@ judged program work inputs files before out end effects goes saw =
     let first = first_did (Out said) _ (Ok end) effects goes in
     let seen = subst (λ (es : List Effect). Saw es (contents_of files before out)) first.is saw in (
       first.rest,
-      tallied program work inputs files before out end first.rest (judged-all bench tests 0 (tallies (length tests)) files before (appended out said) (Ok end) first.rest first.goes seen.1),
+      tallied program work inputs files before out end first.rest (judged-all bench tests 0
+          (tallies (length tests)) files before (appended out said) (Ok end) first.rest first.goes
+          seen.1),
       ap (λ (es : List Effect). after es (contents_of files before out)) first.is,
     )
 
-told-runs : (r : Option (List DeviceRun)) → is_some r ≡ true → (runs : List DeviceRun) × (r ≡ Some runs)
+told-runs : (r : Option (List DeviceRun)) → is_some r ≡ true
+    → (runs : List DeviceRun) × (r ≡ Some runs)
 told-runs (Some runs) is = (runs, refl)
 told-runs None is = absurd cc
 
-has-judged : {call : Call} (program work : List ℕ) (inputs : RunInputs) (files : Files) (end : Finish) (effects : List Effect) → Tells call.old.host files → Goes (runs program work inputs) effects (Ends (Ok end)) → Saw effects (contents (world_of call.old)) → contents (world_of call.new) ≡ after effects (contents (world_of call.old)) → HasJudged call program work end inputs
+has-judged : {call : Call} (program work : List ℕ) (inputs : RunInputs) (files : Files)
+    (end : Finish) (effects : List Effect) → Tells call.old.host files → Goes
+    (runs program work inputs) effects (Ends (Ok end)) → Saw effects (contents (world_of call.old))
+    → contents (world_of call.new) ≡ after effects (contents (world_of call.old)) → HasJudged call
+    program work end inputs
 has-judged {call} program work inputs files end effects t goes saw did =
     let before = told-runs call.old.host.runs t.runs in
     let out = call.old.out.bytes in
-    let old : contents (world_of call.old) ≡ contents_of files before.0 out = λ i. record { files = t.files i; runs = before.1 i; out = out } in
-    let now = judged program work inputs files before.0 out end effects goes (subst (λ (c : Contents). Saw effects c) old saw) in
+    let old : contents (world_of call.old) ≡ contents_of files before.0 out =
+    λ i. record { files = t.files i; runs = before.1 i; out = out } in
+    let now = judged program work inputs files before.0 out end effects goes
+    (subst (λ (c : Contents). Saw effects c) old saw) in
     let left = now.1 in
     let new = did ∙ ap (λ (c : Contents). after effects c) old ∙ now.2 ∙ left.same in
     record {
       runs = left.all.news;
       each = left.all.each;
-      made = ap (λ (c : Contents). c.runs) new ∙ sym (ap (λ (r : Option (List DeviceRun)). option_map (λ b. b ++ left.all.news) r) before.1);
-      files = ap (λ (c : Contents). c.files) new ∙ sym (ap (λ (f : Option Files). option_map (with_all_judged (bench_of program work inputs) (tests_in inputs) left.all.news) f) t.files);
+      made = ap (λ (c : Contents). c.runs) new ∙ sym
+          (ap (λ (r : Option (List DeviceRun)). option_map (λ b. b ++ left.all.news) r) before.1);
+      files = ap (λ (c : Contents). c.files) new ∙ sym (ap (λ (f : Option Files). option_map
+          (with_all_judged (bench_of program work inputs) (tests_in inputs) left.all.news) f)
+          t.files);
       out = ap (λ (c : Contents). c.out) new;
       verdict = left.verdict;
     }
 
 -- by what the inputs come to
-left-by : {call : Call} (program work : List ℕ) (found : Result RunInputs Stop) (files : Files) (end : Finish) (effects : List Effect) → Tells call.old.host files → Behind (rest_of program work found) (Ok end) effects (contents (world_of call.old)) → contents (world_of call.new) ≡ after effects (contents (world_of call.old)) → HasLeft found (HasJudged call program work end)
-left-by program work (Ok inputs) files end effects t b did = record { given = inputs; accepted = refl; left = has-judged program work inputs files end b.later t b.goes b.saw (did ∙ b.same) }
+left-by : {call : Call} (program work : List ℕ) (found : Result RunInputs Stop) (files : Files)
+    (end : Finish) (effects : List Effect) → Tells call.old.host files → Behind
+    (rest_of program work found) (Ok end) effects (contents (world_of call.old)) → contents
+    (world_of call.new) ≡ after effects (contents (world_of call.old)) → HasLeft found
+    (HasJudged call program work end)
+left-by program work (Ok inputs) files end effects t b did = record {
+  given = inputs;
+  accepted = refl;
+  left = has-judged program work inputs files end b.later t b.goes b.saw (did ∙ b.same);
+}
 left-by program work (Err stop) files end effects t b did = absurd (no-end b.later b.goes)
   where
     no-end : (later : List Effect) → Goes (Ends (Err stop)) later (Ends (Ok end)) → ⊥
     no-end [] goes = cc
     no-end (effect ∷ later) goes = goes
 
-left : {call : Call} (files : Files) (program isa : List ℕ) (names : List (List ℕ)) (device work : List ℕ) (end : Finish) → Tells call.old.host files → Completes (run program isa names device work) (Ok end) (contents (world_of call.old)) (contents (world_of call.new)) → HasLeft (run_inputs_in files isa names device) (HasJudged call program work end)
+left : {call : Call} (files : Files) (program isa : List ℕ) (names : List (List ℕ))
+    (device work : List ℕ) (end : Finish) → Tells call.old.host files → Completes
+    (run program isa names device work) (Ok end) (contents (world_of call.old))
+    (contents (world_of call.new)) → HasLeft (run_inputs_in files isa names device)
+    (HasJudged call program work end)
 left {call} files program isa names device work end t r =
     left-by program work (run_inputs_in files isa names device) files end r.effects t
-    (behind files (run_inputs isa names device) (runs program work) (run_inputs_in files isa names device) (Ok end) r.effects (contents (world_of call.old)) (finds-run files isa names device) t.files r.saw r.goes) r.did
+    (behind files (run_inputs isa names device) (runs program work)
+    (run_inputs_in files isa names device) (Ok end) r.effects (contents (world_of call.old))
+    (finds-run files isa names device) t.files r.saw r.goes) r.did
 
 -- ---- one test that passes
 one_passes : (bench : Bench) (test : Test) (run : DeviceRun) → Spells (task_of bench test) run.after
@@ -149,17 +226,24 @@ one_passes bench test run spells =
     ((passing.passes (task_of bench test) run.status run.after).1 spells)
 
 -- so it isn't the one that doesn't
-not-failed : {call : Call} (program work : List ℕ) (inputs : RunInputs) (test : Test) (before : List DeviceRun) (run : DeviceRun)
-    → HasJudged call program work finish.NotPassed inputs → tests_in inputs ≡ test ∷ [] → call.old.host.runs ≡ Some before
-    → call.new.host.runs ≡ Some (before ++ run ∷ []) → Spells (task_of (bench_of program work inputs) test) run.after → ⊥
+not-failed : {call : Call} (program work : List ℕ) (inputs : RunInputs) (test : Test)
+    (before : List DeviceRun) (run : DeviceRun)
+    → HasJudged call program work finish.NotPassed inputs → tests_in inputs ≡ test ∷ []
+    → call.old.host.runs ≡ Some before
+    → call.new.host.runs ≡ Some (before ++ run ∷ [])
+    → Spells (task_of (bench_of program work inputs) test) run.after → ⊥
 not-failed {call} program work inputs test before run judged one old new spells =
     let bench = bench_of program work inputs in
     let both : Some (before ++ run ∷ []) ≡ Some (before ++ judged.runs) =
-    sym new ∙ judged.made ∙ ap (λ (r : Option (List DeviceRun)). option_map (λ b. b ++ judged.runs) r) old in
+    sym new ∙ judged.made
+    ∙ ap (λ (r : Option (List DeviceRun)). option_map (λ b. b ++ judged.runs) r) old in
     let same : before ++ run ∷ [] ≡ before ++ judged.runs = cc in
     let runs_are = append_cancel_left before (run ∷ []) judged.runs same in
-    let verdict = subst (λ (tests : List Test). finish.NotPassed ≡ verdict_of_all (length tests) (passed_onto bench 0 tests judged.runs)) one judged.verdict in
-    let said = subst (λ (news : List DeviceRun). finish.NotPassed ≡ verdict_of_all 1 (passed_onto bench 0 (test ∷ []) news)) (sym runs_are) verdict in
+    let verdict = subst (λ (tests : List Test). finish.NotPassed
+    ≡ verdict_of_all (length tests) (passed_onto bench 0 tests judged.runs)) one
+    judged.verdict in
+    let said = subst (λ (news : List DeviceRun). finish.NotPassed
+    ≡ verdict_of_all 1 (passed_onto bench 0 (test ∷ []) news)) (sym runs_are) verdict in
     let no : finish.NotPassed ≡ finish.Done = said ∙ one_passes bench test run spells in cc
 
 done-only : (status : Status)
@@ -169,15 +253,19 @@ done-only status (inl done) never = inl done
 done-only status (inr (inl not_passed)) never = absurd (never not_passed)
 done-only status (inr (inr no_memory)) never = inr no_memory
 
-given-left : {call : Call} (program work : List ℕ) (inputs : RunInputs) (found : Result RunInputs Stop)
-    → found ≡ Ok inputs → HasLeft found (HasJudged call program work finish.NotPassed) → HasJudged call program work finish.NotPassed inputs
+given-left : {call : Call} (program work : List ℕ) (inputs : RunInputs)
+    (found : Result RunInputs Stop)
+    → found ≡ Ok inputs → HasLeft found (HasJudged call program work finish.NotPassed)
+    → HasJudged call program work finish.NotPassed inputs
 given-left {call} program work inputs found is l =
     let both : Ok l.given ≡ Ok inputs = sym l.accepted ∙ is in
     let same : l.given ≡ inputs = cc in
     subst (λ (g : RunInputs). HasJudged call program work finish.NotPassed g) same l.left
 
 -- ---- the promise
-pub judges : {call : Call} (files : Files) (program isa : List ℕ) (names : List (List ℕ)) (device work : List ℕ) → RunsOn call files (Run program isa names device work) → Runs call files program isa names device work
+pub judges : {call : Call} (files : Files) (program isa : List ℕ) (names : List (List ℕ))
+    (device work : List ℕ) → RunsOn call files (Run program isa names device work) → Runs call files
+    program isa names device work
 judges {call} files program isa names device work r =
     let old = world_of call.old in
     let new = world_of call.new in
@@ -185,35 +273,59 @@ judges {call} files program isa names device work r =
     let plan = run program isa names device work in
     let ran = ran-command r in
     record {
-      done = λ is. left files program isa names device work finish.Done r.told (at_status ran files command answer.Done r.told refl is).completes;
-      not_passed = λ is. left files program isa names device work finish.NotPassed r.told (at_status ran files command answer.NotPassed r.told refl is).completes;
+      done = λ is. left files program isa names device work finish.Done r.told
+          (at_status ran files command answer.Done r.told refl is).completes;
+      not_passed = λ is. left files program isa names device work finish.NotPassed r.told
+          (at_status ran files command answer.NotPassed r.told refl is).completes;
       by_inputs = λ inputs given none. elim (asked_means ran files command r.told refl none) [
-        | inl m ↦ ended files program isa names device work inputs call.status m.end given m.comes m.status_is
+        | inl m ↦ ended files program isa names device work inputs call.status m.end given m.comes
+            m.status_is
         | inr no_memory ↦ inr (inr no_memory)
       ];
       refused = λ is.
-          let was = was_refused plan old new call.old.err call.new.err (at_status ran files command answer.Refused r.told refl is) in
-          record { text = was.text; refused = stopped files program isa names device work (why.Refused was.text) (ComesTo-Completes plan (Err (why.Refused was.text)) old new files r.told was.completes); line = was.line };
+          let was = was_refused plan old new call.old.err call.new.err
+          (at_status ran files command answer.Refused r.told refl is) in
+          record {
+            text = was.text;
+            refused = stopped files program isa names device work (why.Refused was.text)
+                (ComesTo-Completes plan (Err (why.Refused was.text)) old new files r.told
+                was.completes);
+            line = was.line;
+          };
       by_refusal = λ text given none. elim (asked_means ran files command r.told refl none) [
-        | inl m ↦ inl (means-end plan files call.status (Err (why.Refused text)) m (stops files program isa names device work (why.Refused text) given))
+        | inl m ↦ inl (means-end plan files call.status (Err (why.Refused text)) m
+            (stops files program isa names device work (why.Refused text) given))
         | inr no_memory ↦ inr no_memory
       ];
-      absent = λ is. elim (was_missing plan old new call.old.err call.new.err (at_status ran files command answer.HostFault r.told refl is)) [
-        | inl was ↦ inl (record { name = was.name; absent = stopped files program isa names device work (why.NoFile was.name) (ComesTo-Completes plan (Err (why.NoFile was.name)) old new files r.told was.completes); line = was.line })
-        | inr rose ↦ inr rose
-      ];
+      absent = λ is. elim (was_missing plan old new call.old.err call.new.err
+          (at_status ran files command answer.HostFault r.told refl is)) [
+            | inl was ↦ inl (record {
+              name = was.name;
+              absent = stopped files program isa names device work (why.NoFile was.name)
+                  (ComesTo-Completes plan (Err (why.NoFile was.name)) old new files r.told
+                  was.completes);
+              line = was.line;
+            })
+            | inr rose ↦ inr rose
+          ];
       by_absence = λ name given none. elim (asked_means ran files command r.told refl none) [
-        | inl m ↦ inl (means-end plan files call.status (Err (why.NoFile name)) m (stops files program isa names device work (why.NoFile name) given))
+        | inl m ↦ inl (means-end plan files call.status (Err (why.NoFile name)) m
+            (stops files program isa names device work (why.NoFile name) given))
         | inr no_memory ↦ inr no_memory
       ];
-      alone = λ inputs test before run given one was now spells none. elim (asked_means ran files command r.told refl none) [
-        | inl m ↦ done-only call.status
-            (ended files program isa names device work inputs call.status m.end given m.comes m.status_is)
-            (λ not_passed. not-failed {call = call} program work inputs test before run
-            (given-left {call = call} program work inputs (run_inputs_in files isa names device) given
-            (left {call = call} files program isa names device work finish.NotPassed r.told (at_status ran files command answer.NotPassed r.told refl not_passed).completes)) one was now spells)
-        | inr no_memory ↦ inr no_memory
-      ];
-      others_kept = λ files' other. run-spares r.ran files files' program isa names device work other r.told r.asks;
+      alone = λ inputs test before run given one was now spells none.
+          elim (asked_means ran files command r.told refl none) [
+            | inl m ↦ done-only call.status
+                (ended files program isa names device work inputs call.status m.end given m.comes
+                m.status_is)
+                (λ not_passed. not-failed {call = call} program work inputs test before run
+                (given-left {call = call} program work inputs (run_inputs_in files isa names device) given
+                (left {call = call} files program isa names device work finish.NotPassed r.told
+                (at_status ran files command answer.NotPassed r.told refl not_passed).completes))
+                one was now spells)
+            | inr no_memory ↦ inr no_memory
+          ];
+      others_kept = λ files' other. run-spares r.ran files files' program isa names device work
+          other r.told r.asks;
       passes = λ inputs test run. passing.passes _ run.status run.after;
     }

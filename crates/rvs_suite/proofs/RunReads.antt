@@ -21,19 +21,35 @@ abbrev device_behind : List ℕ → Inputs → Plan RunInputs
 device_behind device inputs = device_file device >>= with_device inputs
 
 reads-device : (device : List ℕ) (inputs : Inputs) → OnlyReads (device_behind device inputs)
-reads-device device inputs = OnlyReads-then (device_file device) (with_device inputs) (OnlyReads-then (input device_limit device) (checks device) (λ found. tt) (λ bytes. tt)) (λ told. tt)
+reads-device device inputs = OnlyReads-then (device_file device) (with_device inputs)
+    (OnlyReads-then (input device_limit device) (checks device) (λ found. tt) (λ bytes. tt))
+    (λ told. tt)
 
-pub reads-run : (isa : List ℕ) (names : List (List ℕ)) (device : List ℕ) → OnlyReads (run_inputs isa names device)
-reads-run isa names device = OnlyReads-then (group_inputs isa names) (device_behind device) (reads-inputs isa names) (reads-device device)
+pub reads-run : (isa : List ℕ) (names : List (List ℕ)) (device : List ℕ)
+    → OnlyReads (run_inputs isa names device)
+reads-run isa names device = OnlyReads-then (group_inputs isa names) (device_behind device)
+    (reads-inputs isa names) (reads-device device)
 
-told-by : (files : Files) (device : List ℕ) (bytes : Result (List ℕ) Stop) → Finds files (followed bytes (checks device)) (and_then bytes (λ b. tree_end device (answer b)))
+told-by : (files : Files) (device : List ℕ) (bytes : Result (List ℕ) Stop) → Finds files
+    (followed bytes (checks device)) (and_then bytes (λ b. tree_end device (answer b)))
 told-by files device (Ok bytes) = refl
 told-by files device (Err stop) = refl
 
-finds-device : (files : Files) (device : List ℕ) → Finds files (device_file device) (device_in files device)
-finds-device files device = told-by files device (part_end device_limit device device device_limit (files device))
+finds-device : (files : Files) (device : List ℕ)
+    → Finds files (device_file device) (device_in files device)
+finds-device files device =
+    told-by files device (part_end device_limit device device device_limit (files device))
 
-pub finds-run : (files : Files) (isa : List ℕ) (names : List (List ℕ)) (device : List ℕ) → Finds files (run_inputs isa names device) (run_inputs_in files isa names device)
+pub finds-run : (files : Files) (isa : List ℕ) (names : List (List ℕ)) (device : List ℕ)
+    → Finds files (run_inputs isa names device) (run_inputs_in files isa names device)
 finds-run files isa names device =
-    finds-and_then files (group_inputs isa names) (device_behind device) (inputs_in files isa names) (λ inputs. and_then (device_in files device) (λ told. Ok (record { groups = inputs; device = told }))) (finds-inputs files isa names) (λ inputs.
-    finds-and_then files (device_file device) (with_device inputs) (device_in files device) (λ told. Ok (record { groups = inputs; device = told })) (finds-device files device) (λ told. refl))
+    finds-and_then files (group_inputs isa names) (device_behind device) (inputs_in files isa names)
+    (λ inputs. and_then (device_in files device) (λ told. Ok (record {
+      groups = inputs;
+      device = told;
+    }))) (finds-inputs files isa names) (λ inputs.
+    finds-and_then files (device_file device) (with_device inputs) (device_in files device)
+    (λ told. Ok (record {
+      groups = inputs;
+      device = told;
+    })) (finds-device files device) (λ told. refl))

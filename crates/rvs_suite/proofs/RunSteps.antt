@@ -1,5 +1,7 @@
 -- What the effects of `run` leave, test by test.
-use Rattle.std.proofs.Common.{◌≡◌, ◌≢◌, ℕ, ◌+◌, Bool, true, false, if◌then◌else◌, List, [], ◌∷◌, ◌++◌, length, length-append, append_assoc, append-nil, Option, Some, None, Result, Ok, Err, codes, refl, sym, ap, subst, ◌∙◌, arith}
+use Rattle.std.proofs.Common.{◌≡◌, ◌≢◌, ℕ, ◌+◌, Bool, true, false, if◌then◌else◌, List, [], ◌∷◌}
+use Rattle.std.proofs.Common.{◌++◌, length, length-append, append_assoc, append-nil, Option, Some}
+use Rattle.std.proofs.Common.{None, Result, Ok, Err, codes, refl, sym, ap, subst, ◌∙◌, arith}
 use Rattle.std.proofs.lemmas.Slice.Eq.{bytes_eq-Decides}
 use Rattle.std.specs.Str.{bytes_eq}
 use Rattle.rvs_base.specs.Host.{Files, with_file, with_left, run_over}
@@ -15,41 +17,58 @@ use Rattle.rvs_device.specs.Printed.{verdict_line}
 use Rattle.rvs_suite.specs.Generate.{path_of}
 use Rattle.rvs_suite.specs.Judging.{task_of}
 use Rattle.rvs_suite.specs.Tests.{reference_words}
-use Rattle.rvs_suite.specs.RunTests.{Bench, reference_path, device_path, passes, judges_one, judges_all, with_one}
-use Rattle.rvs_suite.specs.RunLeft.{IsRunOf, AreRunsOf, verdict_by, verdict_lines, passed_onto, with_judged, with_all_judged}
+use Rattle.rvs_suite.specs.RunTests.{Bench, reference_path, device_path, passes, judges_one}
+use Rattle.rvs_suite.specs.RunTests.{judges_all, with_one}
+use Rattle.rvs_suite.specs.RunLeft.{IsRunOf, AreRunsOf, verdict_by, verdict_lines, passed_onto}
+use Rattle.rvs_suite.specs.RunLeft.{with_judged, with_all_judged}
 use Rattle.rvs_suite.specs.declared.gathering.Test.{Test}
 
 -- ---- the first effect of a plan that comes to its end
-pub record FirstDid (deed : Deed) (plan : Plan Finish) (end : Result Finish Stop) (effects : List Effect) : Type 0 where
+pub record FirstDid (deed : Deed) (plan : Plan Finish) (end : Result Finish Stop)
+    (effects : List Effect) : Type 0 where
   pub rest : List Effect
   pub is : effects ≡ Did deed ∷ rest
   pub goes : Goes plan rest (Ends end)
 
-pub first_did : (deed : Deed) (plan : Plan Finish) (end : Result Finish Stop) (effects : List Effect) → Goes (Does deed plan) effects (Ends end) → FirstDid deed plan end effects
+pub first_did : (deed : Deed) (plan : Plan Finish) (end : Result Finish Stop)
+    (effects : List Effect) → Goes (Does deed plan) effects (Ends end) → FirstDid deed plan end
+    effects
 first_did deed plan end [] goes = absurd cc
-first_did deed plan end (Did d ∷ effects) goes = record { rest = effects; is = ap (λ (x : Deed). Did x ∷ effects) (sym goes.0); goes = goes.1 }
+first_did deed plan end (Did d ∷ effects) goes =
+    record { rest = effects; is = ap (λ (x : Deed). Did x ∷ effects) (sym goes.0); goes = goes.1 }
 first_did deed plan end (Read name found ∷ effects) goes = absurd goes
 first_did deed plan end (Device words test signature answer ∷ effects) goes = absurd goes
 
-record FirstRead (name : List ℕ) (next : Option (List ℕ) → Plan Finish) (end : Result Finish Stop) (effects : List Effect) : Type 0 where
+record FirstRead (name : List ℕ) (next : Option (List ℕ) → Plan Finish) (end : Result Finish Stop)
+    (effects : List Effect) : Type 0 where
   found : Option (List ℕ)
   rest : List Effect
   is : effects ≡ Read name found ∷ rest
   goes : Goes (next found) rest (Ends end)
 
-first_read : (name : List ℕ) (next : Option (List ℕ) → Plan Finish) (end : Result Finish Stop) (effects : List Effect) → Goes (Asks name next) effects (Ends end) → FirstRead name next end effects
+first_read : (name : List ℕ) (next : Option (List ℕ) → Plan Finish) (end : Result Finish Stop)
+    (effects : List Effect) → Goes (Asks name next) effects (Ends end) → FirstRead name next end
+    effects
 first_read name next end [] goes = absurd cc
-first_read name next end (Read n found ∷ effects) goes = record { found = found; rest = effects; is = ap (λ (x : List ℕ). Read x found ∷ effects) (sym goes.0); goes = goes.1 }
+first_read name next end (Read n found ∷ effects) goes = record {
+  found = found;
+  rest = effects;
+  is = ap (λ (x : List ℕ). Read x found ∷ effects) (sym goes.0);
+  goes = goes.1;
+}
 first_read name next end (Did deed ∷ effects) goes = absurd goes
 first_read name next end (Device words test signature answer ∷ effects) goes = absurd goes
 
-record FirstRan (words : List (List ℕ)) (test signature : List ℕ) (next : Answer → Plan Finish) (end : Result Finish Stop) (effects : List Effect) : Type 0 where
+record FirstRan (words : List (List ℕ)) (test signature : List ℕ) (next : Answer → Plan Finish)
+    (end : Result Finish Stop) (effects : List Effect) : Type 0 where
   answer : Answer
   rest : List Effect
   is : effects ≡ Device words test signature answer ∷ rest
   goes : Goes (next answer) rest (Ends end)
 
-first_ran : (words : List (List ℕ)) (test signature : List ℕ) (next : Answer → Plan Finish) (end : Result Finish Stop) (effects : List Effect) → Goes (Runs words test signature next) effects (Ends end) → FirstRan words test signature next end effects
+first_ran : (words : List (List ℕ)) (test signature : List ℕ) (next : Answer → Plan Finish)
+    (end : Result Finish Stop) (effects : List Effect) → Goes (Runs words test signature next)
+    effects (Ends end) → FirstRan words test signature next end effects
 first_ran words test signature next end [] goes = absurd cc
 first_ran words test signature next end (Device w t s answer ∷ effects) goes = record {
   answer = answer;
@@ -72,12 +91,16 @@ other-bytes one other differ = by (bytes_eq one other) refl
     by false is = is
 
 -- names of other lengths are others
-longer : (work name : List ℕ) (one other : List ℕ) → length one ≢ length other → bytes_eq (work ++ (codes "/" ++ (name ++ one))) (work ++ (codes "/" ++ (name ++ other))) ≡ false
+longer : (work name : List ℕ) (one other : List ℕ) → length one ≢ length other
+    → bytes_eq (work ++ (codes "/" ++ (name ++ one))) (work ++ (codes "/" ++ (name ++ other)))
+    ≡ false
 longer work name one other differ = other-bytes _ _ (λ same.
-    let lengths : length (work ++ (codes "/" ++ (name ++ one))) ≡ length (work ++ (codes "/" ++ (name ++ other))) = ap (λ (x : List ℕ). length x) same in
+    let lengths : length (work ++ (codes "/" ++ (name ++ one)))
+    ≡ length (work ++ (codes "/" ++ (name ++ other))) = ap (λ (x : List ℕ). length x) same in
     differ (omega (arith, lengths, length-append work (codes "/" ++ (name ++ one)), length-append work (codes "/" ++ (name ++ other)), length-append name one, length-append name other)))
 
-not-reference : (work name : List ℕ) → bytes_eq (path_of work name) (reference_path work name) ≡ false
+not-reference : (work name : List ℕ)
+    → bytes_eq (path_of work name) (reference_path work name) ≡ false
 not-reference work name = longer work name (codes ".S") (codes ".reference.sig") (λ same. cc)
 
 not-device : (work name : List ℕ) → bytes_eq (path_of work name) (device_path work name) ≡ false
@@ -96,47 +119,65 @@ started bench test files =
     (with_file (reference_path bench.work test.name) (text_of_words (reference_words bench.isa test))
     (with_file (path_of bench.work test.name) test.text files))
 
-test-there : (bench : Bench) (test : Test) (files : Files) → started bench test files (path_of bench.work test.name) ≡ Some test.text
+test-there : (bench : Bench) (test : Test) (files : Files)
+    → started bench test files (path_of bench.work test.name) ≡ Some test.text
 test-there bench test files =
-    passed-by (bytes_eq (path_of bench.work test.name) (device_path bench.work test.name)) _ _ (not-device bench.work test.name)
-    ∙ passed-by (bytes_eq (path_of bench.work test.name) (reference_path bench.work test.name)) _ _ (not-reference bench.work test.name)
-    ∙ found-in (bytes_eq (path_of bench.work test.name) (path_of bench.work test.name)) _ _ (same-bytes (path_of bench.work test.name))
+    passed-by (bytes_eq (path_of bench.work test.name) (device_path bench.work test.name)) _ _
+    (not-device bench.work test.name)
+    ∙ passed-by (bytes_eq (path_of bench.work test.name) (reference_path bench.work test.name)) _ _
+    (not-reference bench.work test.name)
+    ∙ found-in (bytes_eq (path_of bench.work test.name) (path_of bench.work test.name)) _ _
+    (same-bytes (path_of bench.work test.name))
 
-empty-there : (bench : Bench) (test : Test) (files : Files) → started bench test files (device_path bench.work test.name) ≡ Some []
-empty-there bench test files = found-in (bytes_eq (device_path bench.work test.name) (device_path bench.work test.name)) _ _ (same-bytes (device_path bench.work test.name))
+empty-there : (bench : Bench) (test : Test) (files : Files)
+    → started bench test files (device_path bench.work test.name) ≡ Some []
+empty-there bench test files = found-in
+    (bytes_eq (device_path bench.work test.name) (device_path bench.work test.name)) _ _
+    (same-bytes (device_path bench.work test.name))
 
-left-there : (name : List ℕ) (left : Option (List ℕ)) (files : Files) → with_left name left files name ≡ left
+left-there : (name : List ℕ) (left : Option (List ℕ)) (files : Files)
+    → with_left name left files name ≡ left
 left-there name left files = found-in (bytes_eq name name) _ _ (same-bytes name)
 
-either : (b : Bool) (x y z : Option (List ℕ)) → (if b then x else (if b then y else z)) ≡ (if b then x else z)
+either : (b : Bool) (x y z : Option (List ℕ))
+    → (if b then x else (if b then y else z)) ≡ (if b then x else z)
 either true x y z = refl
 either false x y z = refl
 
 -- what a run leaves takes the place of what was written before it
-left-over : (name bytes : List ℕ) (left : Option (List ℕ)) (files : Files) → with_left name left (with_file name bytes files) ≡ with_left name left files
-left-over name bytes left files = λ i other. either (bytes_eq other name) left (Some bytes) (files other) i
+left-over : (name bytes : List ℕ) (left : Option (List ℕ)) (files : Files)
+    → with_left name left (with_file name bytes files) ≡ with_left name left files
+left-over name bytes left files =
+    λ i other. either (bytes_eq other name) left (Some bytes) (files other) i
 
-pub appended-twice : (out : Option (List ℕ)) (one more : List ℕ) → appended (appended out one) more ≡ appended out (one ++ more)
+pub appended-twice : (out : Option (List ℕ)) (one more : List ℕ)
+    → appended (appended out one) more ≡ appended out (one ++ more)
 appended-twice None one more = refl
 appended-twice (Some out) one more = ap (λ (x : List ℕ). Some x) (append_assoc out one more)
 
 -- ---- one test
 abbrev run_with : Bench → Test → Files → Answer → DeviceRun
-run_with bench test files answer = run_over (task_of bench test).words (path_of bench.work test.name) (device_path bench.work test.name) (started bench test files) answer.left answer.status
+run_with bench test files answer = run_over (task_of bench test).words
+    (path_of bench.work test.name) (device_path bench.work test.name) (started bench test files)
+    answer.left answer.status
 
 abbrev pub contents_of : Files → List DeviceRun → Option (List ℕ) → Contents
 contents_of files runs out = record { files = Some files; runs = Some runs; out = out }
 
 abbrev after_test : Bench → Test → Files → List DeviceRun → Option (List ℕ) → DeviceRun → Contents
-after_test bench test files runs out run = contents_of (with_judged bench test run files) (runs ++ run ∷ []) (appended out (verdict_line test.name (verdict_by bench test run)))
+after_test bench test files runs out run = contents_of (with_judged bench test run files)
+    (runs ++ run ∷ []) (appended out (verdict_line test.name (verdict_by bench test run)))
 
-record JudgedOne (bench : Bench) (test : Test) (next : Bool → Plan Finish) (files : Files) (runs : List DeviceRun) (out : Option (List ℕ)) (end : Result Finish Stop) (effects : List Effect) : Type 0 where
+record JudgedOne (bench : Bench) (test : Test) (next : Bool → Plan Finish) (files : Files)
+    (runs : List DeviceRun) (out : Option (List ℕ)) (end : Result Finish Stop)
+    (effects : List Effect) : Type 0 where
   run : DeviceRun
   is : IsRunOf bench test run
   later : List Effect
   goes : Goes (next (passes (verdict_by bench test run))) later (Ends end)
   saw : Saw later (after_test bench test files runs out run)
-  same : after effects (contents_of files runs out) ≡ after later (after_test bench test files runs out run)
+  same : after effects (contents_of files runs out)
+      ≡ after later (after_test bench test files runs out run)
 
 -- these are the effects
 abbrev effects_with : Bench → Test → Files → Answer → Option (List ℕ) → List Effect → List Effect
@@ -146,30 +187,62 @@ effects_with bench test files answer found later =
     ∷ (Did (Write (device_path bench.work test.name) [])
     ∷ (Device (task_of bench test).words (path_of bench.work test.name) (device_path bench.work test.name) answer
     ∷ (Read (device_path bench.work test.name) found
-    ∷ (Did (Out (verdict_line test.name (verdict_by bench test (record { words = []; test = None; before = None; after = found; status = answer.status })))) ∷ later)))))
+    ∷ (Did (Out (verdict_line test.name (verdict_by bench test (record {
+      words = [];
+      test = None;
+      before = None;
+      after = found;
+      status = answer.status;
+    })))) ∷ later)))))
 
-judged-with : (bench : Bench) (test : Test) (next : Bool → Plan Finish) (files : Files) (runs : List DeviceRun) (out : Option (List ℕ)) (end : Result Finish Stop) (effects : List Effect) (answer : Answer) (found : Option (List ℕ)) (later : List Effect)
+judged-with : (bench : Bench) (test : Test) (next : Bool → Plan Finish) (files : Files)
+    (runs : List DeviceRun) (out : Option (List ℕ)) (end : Result Finish Stop)
+    (effects : List Effect) (answer : Answer) (found : Option (List ℕ)) (later : List Effect)
     → effects ≡ effects_with bench test files answer found later → found ≡ answer.left
-    → Goes (next (passes (verdict_by bench test (record { words = []; test = None; before = None; after = found; status = answer.status })))) later (Ends end)
+    → Goes (next (passes (verdict_by bench test (record {
+      words = [];
+      test = None;
+      before = None;
+      after = found;
+      status = answer.status;
+    })))) later (Ends end)
     → Saw effects (contents_of files runs out)
     → JudgedOne bench test next files runs out end effects
 judged-with bench test next files runs out end effects answer found later is left goes saw =
     let run = run_with bench test files answer in
-    let effects-are : effects ≡ effects_with bench test files answer answer.left later = is ∙ ap (λ (f : Option (List ℕ)). effects_with bench test files answer f later) left in
+    let effects-are : effects ≡ effects_with bench test files answer answer.left later =
+    is ∙ ap (λ (f : Option (List ℕ)). effects_with bench test files answer f later) left in
     let put = verdict_line test.name (verdict_by bench test run) in
-    let over : with_left (device_path bench.work test.name) answer.left (started bench test files) ≡ with_judged bench test run files = left-over (device_path bench.work test.name) [] answer.left _ in
+    let over : with_left (device_path bench.work test.name) answer.left (started bench test files)
+    ≡ with_judged bench test run files =
+    left-over (device_path bench.work test.name) [] answer.left _ in
     let seen = subst (λ (es : List Effect). Saw es (contents_of files runs out)) effects-are saw in
     record {
       run = run;
-      is = record { words = refl; text = test-there bench test files; before = empty-there bench test files };
+      is = record {
+        words = refl;
+        text = test-there bench test files;
+        before = empty-there bench test files;
+      };
       later = later;
-      goes = subst (λ (f : Option (List ℕ)). Goes (next (passes (verdict_by bench test (record { words = []; test = None; before = None; after = f; status = answer.status })))) later (Ends end)) left goes;
-      saw = subst (λ (f : Files). Saw later (contents_of f (runs ++ run ∷ []) (appended out put))) over seen.1.1.1.1.1.1;
-      same = ap (λ (es : List Effect). after es (contents_of files runs out)) effects-are ∙ ap (λ (f : Files). after later (contents_of f (runs ++ run ∷ []) (appended out put))) over;
+      goes = subst (λ (f : Option (List ℕ)). Goes (next (passes (verdict_by bench test (record {
+        words = [];
+        test = None;
+        before = None;
+        after = f;
+        status = answer.status;
+      })))) later (Ends end)) left goes;
+      saw = subst (λ (f : Files). Saw later (contents_of f (runs ++ run ∷ []) (appended out put)))
+          over seen.1.1.1.1.1.1;
+      same = ap (λ (es : List Effect). after es (contents_of files runs out)) effects-are ∙ ap
+          (λ (f : Files). after later (contents_of f (runs ++ run ∷ []) (appended out put))) over;
     }
 
-judged-one : (bench : Bench) (test : Test) (next : Bool → Plan Finish) (files : Files) (runs : List DeviceRun) (out : Option (List ℕ)) (end : Result Finish Stop) (effects : List Effect)
-    → Goes (judges_one bench test >>= next) effects (Ends end) → Saw effects (contents_of files runs out)
+judged-one : (bench : Bench) (test : Test) (next : Bool → Plan Finish) (files : Files)
+    (runs : List DeviceRun) (out : Option (List ℕ)) (end : Result Finish Stop)
+    (effects : List Effect)
+    → Goes (judges_one bench test >>= next) effects (Ends end)
+    → Saw effects (contents_of files runs out)
     → JudgedOne bench test next files runs out end effects
 judged-one bench test next files runs out end effects goes saw =
     let text = first_did _ _ end effects goes in
@@ -181,33 +254,47 @@ judged-one bench test next files runs out end effects goes saw =
     let path = path_of bench.work test.name in
     let device = device_path bench.work test.name in
     let one = Did (Write path test.text) in
-    let two = Did (Write (reference_path bench.work test.name) (text_of_words (reference_words bench.isa test))) in
+    let two = Did (Write (reference_path bench.work test.name)
+    (text_of_words (reference_words bench.isa test))) in
     let three = Did (Write device []) in
     let four = Device (task_of bench test).words path device ran.answer in
     let five = Read device back.found in
     let are : effects ≡ effects_with bench test files ran.answer back.found line.rest =
-    text.is ∙ ap (λ (es : List Effect). one ∷ es) (words.is ∙ ap (λ (es : List Effect). two ∷ es) (empty.is ∙ ap (λ (es : List Effect). three ∷ es) (ran.is ∙ ap (λ (es : List Effect). four ∷ es) (back.is ∙ ap (λ (es : List Effect). five ∷ es) line.is)))) in
+    text.is ∙ ap (λ (es : List Effect). one ∷ es) (words.is ∙ ap (λ (es : List Effect). two ∷ es)
+    (empty.is ∙ ap (λ (es : List Effect). three ∷ es) (ran.is ∙ ap
+    (λ (es : List Effect). four ∷ es)
+    (back.is ∙ ap (λ (es : List Effect). five ∷ es) line.is)))) in
     let seen = subst (λ (es : List Effect). Saw es (contents_of files runs out)) are saw in
-    let left : back.found ≡ ran.answer.left = sym (seen.1.1.1.1.0 _ refl) ∙ left-there (device_path bench.work test.name) ran.answer.left (started bench test files) in
-    judged-with bench test next files runs out end effects ran.answer back.found line.rest are left line.goes saw
+    let left : back.found ≡ ran.answer.left = sym (seen.1.1.1.1.0 _ refl) ∙ left-there
+    (device_path bench.work test.name) ran.answer.left (started bench test files) in
+    judged-with bench test next files runs out end effects ran.answer back.found line.rest are left
+    line.goes saw
 
 -- ---- all tests
-abbrev after_tests : Bench → List Test → Files → List DeviceRun → Option (List ℕ) → List DeviceRun → Contents
-after_tests bench tests files runs out news = contents_of (with_all_judged bench tests news files) (runs ++ news) (appended out (verdict_lines bench tests news))
+abbrev after_tests : Bench → List Test → Files → List DeviceRun → Option (List ℕ) → List DeviceRun
+    → Contents
+after_tests bench tests files runs out news = contents_of (with_all_judged bench tests news files)
+    (runs ++ news) (appended out (verdict_lines bench tests news))
 
-pub record JudgedAll (bench : Bench) (tests : List Test) (passed : ℕ) (next : ℕ → Plan Finish) (files : Files) (runs : List DeviceRun) (out : Option (List ℕ)) (end : Result Finish Stop) (effects : List Effect) : Type 0 where
+pub record JudgedAll (bench : Bench) (tests : List Test) (passed : ℕ) (next : ℕ → Plan Finish)
+    (files : Files) (runs : List DeviceRun) (out : Option (List ℕ)) (end : Result Finish Stop)
+    (effects : List Effect) : Type 0 where
   pub news : List DeviceRun
   pub each : AreRunsOf bench tests news
   pub later : List Effect
   pub goes : Goes (next (passed_onto bench passed tests news)) later (Ends end)
-  pub same : after effects (contents_of files runs out) ≡ after later (after_tests bench tests files runs out news)
+  pub same : after effects (contents_of files runs out)
+      ≡ after later (after_tests bench tests files runs out news)
 
 append-none : (out : Option (List ℕ)) → appended out [] ≡ out
 append-none None = refl
 append-none (Some out) = ap (λ (x : List ℕ). Some x) (append-nil out)
 
-pub judged-all : (bench : Bench) (tests : List Test) (passed : ℕ) (next : ℕ → Plan Finish) (files : Files) (runs : List DeviceRun) (out : Option (List ℕ)) (end : Result Finish Stop) (effects : List Effect)
-    → Goes (judges_all bench passed tests >>= next) effects (Ends end) → Saw effects (contents_of files runs out)
+pub judged-all : (bench : Bench) (tests : List Test) (passed : ℕ) (next : ℕ → Plan Finish)
+    (files : Files) (runs : List DeviceRun) (out : Option (List ℕ)) (end : Result Finish Stop)
+    (effects : List Effect)
+    → Goes (judges_all bench passed tests >>= next) effects (Ends end)
+    → Saw effects (contents_of files runs out)
     → JudgedAll bench tests passed next files runs out end effects
 judged-all bench [] passed next files runs out end effects goes saw = record {
   news = [];
@@ -217,14 +304,20 @@ judged-all bench [] passed next files runs out end effects goes saw = record {
   same = λ i. after effects (contents_of files (sym (append-nil runs) i) (sym (append-none out) i));
 }
 judged-all bench (test ∷ tests) passed next files runs out end effects goes saw =
-    let one = judged-one bench test (λ pass. judges_all bench (with_one passed pass) tests >>= next) files runs out end effects goes saw in
+    let one = judged-one bench test (λ pass. judges_all bench (with_one passed pass) tests >>= next)
+    files runs out end effects goes saw in
     let verdict = verdict_by bench test one.run in
     let line = verdict_line test.name verdict in
-    let rest = judged-all bench tests (with_one passed (passes verdict)) next (with_judged bench test one.run files) (runs ++ one.run ∷ []) (appended out line) end one.later one.goes one.saw in
+    let rest = judged-all bench tests (with_one passed (passes verdict)) next
+    (with_judged bench test one.run files) (runs ++ one.run ∷ []) (appended out line) end
+    one.later one.goes one.saw in
     record {
       news = one.run ∷ rest.news;
       each = (one.is, rest.each);
       later = rest.later;
       goes = rest.goes;
-      same = one.same ∙ rest.same ∙ (λ i. after rest.later (contents_of (with_all_judged bench tests rest.news (with_judged bench test one.run files)) (append_assoc runs (one.run ∷ []) rest.news i) (appended-twice out line (verdict_lines bench tests rest.news) i)));
+      same = one.same ∙ rest.same ∙ (λ i. after rest.later (contents_of
+          (with_all_judged bench tests rest.news (with_judged bench test one.run files))
+          (append_assoc runs (one.run ∷ []) rest.news i)
+          (appended-twice out line (verdict_lines bench tests rest.news) i)));
     }

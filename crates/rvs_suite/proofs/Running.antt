@@ -6,90 +6,172 @@ use Rattle.rvs_plan.specs.World.{World}
 use Rattle.rvs_plan.specs.Performed.{NeverStops}
 use Rattle.rvs_plan.specs.Meets.{MeetsWith}
 use Rattle.rvs_plan.specs.Account.{Accounts, Concludes, HostRose, NoneRose, Means, Answers}
-use Rattle.rvs_plan.proofs.Answering.{Answers-of, Accounts-means, Means-never_stops, Obeys-meets, Obeys-usage, Obeys-no_memory, Meets-not_usage, usage-status, memory-status, status-usage}
+use Rattle.rvs_plan.proofs.Answering.{Answers-of, Accounts-means, Means-never_stops, Obeys-meets}
+use Rattle.rvs_plan.proofs.Answering.{Obeys-usage, Obeys-no_memory, Meets-not_usage, usage-status}
+use Rattle.rvs_plan.proofs.Answering.{memory-status, status-usage}
 use Rattle.rvs_plan.specs.declared.stop.Stop.{Stop}
 use Rattle.rvs_plan.specs.declared.stop.Stop.TheVariants as why
 use Rattle.rvs_plan.specs.declared.status.Status.{Status}
 use Rattle.rvs_plan.specs.declared.status.Status.TheVariants as answer
 use Rattle.rvs_plan.specs.declared.status.Finish.{Finish}
 use Rattle.rvs_suite.specs.Plans.{plan_of, absence_of, Performs}
-use Rattle.rvs_suite.specs.Spells.{Passes, Fails, BothSpell, FirstRefused, FirstMissing, Refuses, Misses}
-use Rattle.rvs_suite.proofs.CompareEnds.{passes, fails, refuses, misses, refused-status, missing-status, spelt-status}
+use Rattle.rvs_suite.specs.Spells.{Passes, Fails, BothSpell, FirstRefused, FirstMissing, Refuses}
+use Rattle.rvs_suite.specs.Spells.{Misses}
+use Rattle.rvs_suite.proofs.CompareEnds.{passes, fails, refuses, misses, refused-status}
+use Rattle.rvs_suite.proofs.CompareEnds.{missing-status, spelt-status}
 use Rattle.rvs_suite.specs.declared.command.Command.{Command}
 use Rattle.rvs_suite.specs.declared.command.Command.TheVariants.{Unknown, Compare}
 
 -- a command that met its plan
-pub Performs-meets : {command : Command} {old new : World} {result : Result Finish Stop} → (command ≡ Unknown → ⊥) → MeetsWith (absence_of command) (plan_of command) old new result → Performs command old new result
-Performs-meets known m = record { obeys = Obeys-meets m; usage = λ is. absurd (Meets-not_usage m is); no_command = λ is. absurd (known is) }
+pub Performs-meets : {command : Command} {old new : World} {result : Result Finish Stop}
+    → (command ≡ Unknown → ⊥) → MeetsWith (absence_of command) (plan_of command) old new result
+    → Performs command old new result
+Performs-meets known m = record {
+  obeys = Obeys-meets m;
+  usage = λ is. absurd (Meets-not_usage m is);
+  no_command = λ is. absurd (known is);
+}
 
 pub Performs-unknown : (w : World) → Performs Unknown w w (Err why.Usage)
-Performs-unknown w = record { obeys = Obeys-usage w; usage = λ is. refl; no_command = λ is. inl refl }
+Performs-unknown w =
+    record { obeys = Obeys-usage w; usage = λ is. refl; no_command = λ is. inl refl }
 
 pub Performs-no_memory : (command : Command) (w : World) → Performs command w w (Err why.NoMemory)
-Performs-no_memory command w = record { obeys = Obeys-no_memory (absence_of command) (plan_of command) w; usage = λ is. absurd cc; no_command = λ is. inr refl }
+Performs-no_memory command w = record {
+  obeys = Obeys-no_memory (absence_of command) (plan_of command) w;
+  usage = λ is. absurd cc;
+  no_command = λ is. inr refl;
+}
 
 -- a command line, and the line after it
-pub record Ran (command : Command) (old new : World) (err err' : SinkState) (status : Status) : Type 0 where
+pub record Ran (command : Command) (old new : World) (err err' : SinkState) (status : Status) : Type
+    0 where
   pub result : Result Finish Stop
   pub performs : Performs command old new result
   pub concludes : Concludes result status err err'
 
-pub answers : {command : Command} {old new : World} {err err' : SinkState} {status : Status} → Ran command old new err err' status → Answers (absence_of command) (plan_of command) old new err err' status
-answers {command} {old} {new} {err} {err'} {status} r = Answers-of (absence_of command) (plan_of command) old new err err' r.result status r.performs.obeys r.concludes
+pub answers : {command : Command} {old new : World} {err err' : SinkState} {status : Status}
+    → Ran command old new err err' status
+    → Answers (absence_of command) (plan_of command) old new err err' status
+answers {command} {old} {new} {err} {err'} {status} r = Answers-of (absence_of command)
+    (plan_of command) old new err err' r.result status r.performs.obeys r.concludes
 
-pub answered : {command : Command} {old new : World} {err err' : SinkState} {status : Status} → Ran command old new err err' status → (files : Files) → Tells old.host files → NoneRose old new err err' → Means (plan_of command) files status ⊎ (status ≡ answer.NoMemory)
-answered {command} {old} {new} {err} {err'} {status} r files t none = Accounts-means (plan_of command) old new err err' files status t none ((answers r).effects files t)
+pub answered : {command : Command} {old new : World} {err err' : SinkState} {status : Status}
+    → Ran command old new err err' status → (files : Files) → Tells old.host files
+    → NoneRose old new err err' → Means (plan_of command) files status ⊎ (status ≡ answer.NoMemory)
+answered {command} {old} {new} {err} {err'} {status} r files t none = Accounts-means
+    (plan_of command) old new err err' files status t none ((answers r).effects files t)
 
-pub completes : {command : Command} {old new : World} {err err' : SinkState} {status : Status} → Ran command old new err err' status → (files : Files) → Tells old.host files → NoneRose old new err err' → NeverStops (plan_of command) files → (status ≡ answer.Done) ⊎ (status ≡ answer.NotPassed) ⊎ (status ≡ answer.NoMemory)
-completes {command} {old} {new} {err} {err'} {status} r files t none never = elim (answered r files t none) [
-  | inl m ↦ elim (Means-never_stops (plan_of command) files status never m) [ inl done ↦ inl done | inr not_passed ↦ inr (inl not_passed) ]
-  | inr no_memory ↦ inr (inr no_memory)
-]
+pub completes : {command : Command} {old new : World} {err err' : SinkState} {status : Status}
+    → Ran command old new err err' status → (files : Files) → Tells old.host files
+    → NoneRose old new err err' → NeverStops (plan_of command) files
+    → (status ≡ answer.Done) ⊎ (status ≡ answer.NotPassed) ⊎ (status ≡ answer.NoMemory)
+completes {command} {old} {new} {err} {err'} {status} r files t none never =
+    elim (answered r files t none) [
+      | inl m ↦ elim (Means-never_stops (plan_of command) files status never m) [
+        | inl done ↦ inl done
+        | inr not_passed ↦ inr (inl not_passed)
+      ]
+      | inr no_memory ↦ inr (inr no_memory)
+    ]
 
-pub usage : {command : Command} {old new : World} {err err' : SinkState} {status : Status} → Ran command old new err err' status → status ≡ answer.Usage → command ≡ Unknown
-usage {command} {old} {new} {err} {err'} {status} r is = r.performs.usage (status-usage status err err' r.result is r.concludes)
+pub usage : {command : Command} {old new : World} {err err' : SinkState} {status : Status}
+    → Ran command old new err err' status → status ≡ answer.Usage → command ≡ Unknown
+usage {command} {old} {new} {err} {err'} {status} r is =
+    r.performs.usage (status-usage status err err' r.result is r.concludes)
 
-pub no_command : {command : Command} {old new : World} {err err' : SinkState} {status : Status} → Ran command old new err err' status → command ≡ Unknown → (status ≡ answer.Usage) ⊎ (status ≡ answer.NoMemory) ⊎ (status ≡ answer.SinkFault)
+pub no_command : {command : Command} {old new : World} {err err' : SinkState} {status : Status}
+    → Ran command old new err err' status → command ≡ Unknown
+    → (status ≡ answer.Usage) ⊎ (status ≡ answer.NoMemory) ⊎ (status ≡ answer.SinkFault)
 no_command {command} {old} {new} {err} {err'} {status} r is = elim (r.performs.no_command is) [
-  | inl used ↦ elim (usage-status status err err' r.result used r.concludes) [ inl s ↦ inl s | inr s ↦ inr (inr s) ]
-  | inr memory ↦ elim (memory-status status err err' r.result memory r.concludes) [ inl s ↦ inr (inl s) | inr s ↦ inr (inr s) ]
+  | inl used ↦ elim (usage-status status err err' r.result used r.concludes) [
+    | inl s ↦ inl s
+    | inr s ↦ inr (inr s)
+  ]
+  | inr memory ↦ elim (memory-status status err err' r.result memory r.concludes) [
+    | inl s ↦ inr (inl s)
+    | inr s ↦ inr (inr s)
+  ]
 ]
 
 -- what was done of a command, at a status
-pub at_status : {command : Command} {old new : World} {err err' : SinkState} {status : Status} → Ran command old new err err' status → (files : Files) (asked : Command) (wanted : Status) → Tells old.host files → command ≡ asked → status ≡ wanted → Accounts (plan_of asked) old new err err' wanted
+pub at_status : {command : Command} {old new : World} {err err' : SinkState} {status : Status}
+    → Ran command old new err err' status → (files : Files) (asked : Command) (wanted : Status)
+    → Tells old.host files → command ≡ asked → status ≡ wanted
+    → Accounts (plan_of asked) old new err err' wanted
 at_status {command} {old} {new} {err} {err'} {status} r files asked wanted t is done =
-    subst (λ (s : Status). Accounts (plan_of asked) old new err err' s) done (subst (λ (c : Command). Accounts (plan_of c) old new err err' status) is ((answers r).effects files t))
+    subst (λ (s : Status). Accounts (plan_of asked) old new err err' s) done (subst
+    (λ (c : Command). Accounts (plan_of c) old new err err' status) is
+    ((answers r).effects files t))
 
-pub compare-passes : {command : Command} {old new : World} {err err' : SinkState} {status : Status} → Ran command old new err err' status → (files : Files) (left right : List ℕ) → Tells old.host files → command ≡ Compare left right → status ≡ answer.Done → Passes files left right old.out new.out
-compare-passes {command} {old} {new} r files left right t is done = passes files left right old new t (at_status r files (Compare left right) answer.Done t is done).completes
+pub compare-passes : {command : Command} {old new : World} {err err' : SinkState} {status : Status}
+    → Ran command old new err err' status → (files : Files) (left right : List ℕ)
+    → Tells old.host files → command ≡ Compare left right → status ≡ answer.Done
+    → Passes files left right old.out new.out
+compare-passes {command} {old} {new} r files left right t is done = passes files left right old new
+    t (at_status r files (Compare left right) answer.Done t is done).completes
 
-pub compare-fails : {command : Command} {old new : World} {err err' : SinkState} {status : Status} → Ran command old new err err' status → (files : Files) (left right : List ℕ) → Tells old.host files → command ≡ Compare left right → status ≡ answer.NotPassed → Fails files left right old.out new.out
-compare-fails {command} {old} {new} r files left right t is done = fails files left right old new t (at_status r files (Compare left right) answer.NotPassed t is done).completes
+pub compare-fails : {command : Command} {old new : World} {err err' : SinkState} {status : Status}
+    → Ran command old new err err' status → (files : Files) (left right : List ℕ)
+    → Tells old.host files → command ≡ Compare left right → status ≡ answer.NotPassed
+    → Fails files left right old.out new.out
+compare-fails {command} {old} {new} r files left right t is done = fails files left right old new t
+    (at_status r files (Compare left right) answer.NotPassed t is done).completes
 
-pub compare-refused : {command : Command} {old new : World} {err err' : SinkState} {status : Status} → Ran command old new err err' status → (files : Files) (left right : List ℕ) → Tells old.host files → command ≡ Compare left right → status ≡ answer.Refused → Refuses files left right err err'
-compare-refused {command} {old} {new} {err} {err'} r files left right t is done = refuses files left right old new err err' t (at_status r files (Compare left right) answer.Refused t is done)
+pub compare-refused : {command : Command} {old new : World} {err err' : SinkState} {status : Status}
+    → Ran command old new err err' status → (files : Files) (left right : List ℕ)
+    → Tells old.host files → command ≡ Compare left right → status ≡ answer.Refused
+    → Refuses files left right err err'
+compare-refused {command} {old} {new} {err} {err'} r files left right t is done = refuses files left
+    right old new err err' t (at_status r files (Compare left right) answer.Refused t is done)
 
-pub compare-missed : {command : Command} {old new : World} {err err' : SinkState} {status : Status} → Ran command old new err err' status → (files : Files) (left right : List ℕ) → Tells old.host files → command ≡ Compare left right → status ≡ answer.HostFault → Misses files left right err err' ⊎ HostRose old new
-compare-missed {command} {old} {new} {err} {err'} r files left right t is done = misses files left right old new err err' t (at_status r files (Compare left right) answer.HostFault t is done)
+pub compare-missed : {command : Command} {old new : World} {err err' : SinkState} {status : Status}
+    → Ran command old new err err' status → (files : Files) (left right : List ℕ)
+    → Tells old.host files → command ≡ Compare left right → status ≡ answer.HostFault
+    → Misses files left right err err' ⊎ HostRose old new
+compare-missed {command} {old} {new} {err} {err'} r files left right t is done = misses files left
+    right old new err err' t (at_status r files (Compare left right) answer.HostFault t is done)
 
 -- the status that a command means
-pub asked_means : {command : Command} {old new : World} {err err' : SinkState} {status : Status} → Ran command old new err err' status → (files : Files) (asked : Command) → Tells old.host files → command ≡ asked → NoneRose old new err err' → Means (plan_of asked) files status ⊎ (status ≡ answer.NoMemory)
-asked_means {command} {old} {new} {err} {err'} {status} r files asked t is none = subst (λ (c : Command). Means (plan_of c) files status ⊎ (status ≡ answer.NoMemory)) is (answered r files t none)
+pub asked_means : {command : Command} {old new : World} {err err' : SinkState} {status : Status}
+    → Ran command old new err err' status → (files : Files) (asked : Command) → Tells old.host files
+    → command ≡ asked → NoneRose old new err err'
+    → Means (plan_of asked) files status ⊎ (status ≡ answer.NoMemory)
+asked_means {command} {old} {new} {err} {err'} {status} r files asked t is none = subst
+    (λ (c : Command). Means (plan_of c) files status ⊎ (status ≡ answer.NoMemory)) is
+    (answered r files t none)
 
-pub compare-refuses : {command : Command} {old new : World} {err err' : SinkState} {status : Status} → Ran command old new err err' status → (files : Files) (left right text : List ℕ) → Tells old.host files → command ≡ Compare left right → FirstRefused files left right text → NoneRose old new err err' → (status ≡ answer.Refused) ⊎ (status ≡ answer.NoMemory)
-compare-refuses {status = status} r files left right text t is first none = elim (asked_means r files (Compare left right) t is none) [
-  | inl m ↦ inl (refused-status files left right text status first m)
-  | inr no_memory ↦ inr no_memory
-]
+pub compare-refuses : {command : Command} {old new : World} {err err' : SinkState} {status : Status}
+    → Ran command old new err err' status → (files : Files) (left right text : List ℕ)
+    → Tells old.host files → command ≡ Compare left right → FirstRefused files left right text
+    → NoneRose old new err err' → (status ≡ answer.Refused) ⊎ (status ≡ answer.NoMemory)
+compare-refuses {status = status} r files left right text t is first none =
+    elim (asked_means r files (Compare left right) t is none) [
+      | inl m ↦ inl (refused-status files left right text status first m)
+      | inr no_memory ↦ inr no_memory
+    ]
 
-pub compare-misses : {command : Command} {old new : World} {err err' : SinkState} {status : Status} → Ran command old new err err' status → (files : Files) (left right name : List ℕ) → Tells old.host files → command ≡ Compare left right → FirstMissing files left right name → NoneRose old new err err' → (status ≡ answer.HostFault) ⊎ (status ≡ answer.NoMemory)
-compare-misses {status = status} r files left right name t is first none = elim (asked_means r files (Compare left right) t is none) [
-  | inl m ↦ inl (missing-status files left right name status first m)
-  | inr no_memory ↦ inr no_memory
-]
+pub compare-misses : {command : Command} {old new : World} {err err' : SinkState} {status : Status}
+    → Ran command old new err err' status → (files : Files) (left right name : List ℕ)
+    → Tells old.host files → command ≡ Compare left right → FirstMissing files left right name
+    → NoneRose old new err err' → (status ≡ answer.HostFault) ⊎ (status ≡ answer.NoMemory)
+compare-misses {status = status} r files left right name t is first none =
+    elim (asked_means r files (Compare left right) t is none) [
+      | inl m ↦ inl (missing-status files left right name status first m)
+      | inr no_memory ↦ inr no_memory
+    ]
 
-pub compare-spelt : {command : Command} {old new : World} {err err' : SinkState} {status : Status} → Ran command old new err err' status → (files : Files) (left right left_words right_words : List ℕ) → Tells old.host files → command ≡ Compare left right → BothSpell files left right left_words right_words → NoneRose old new err err' → (status ≡ answer.Done) ⊎ (status ≡ answer.NotPassed) ⊎ (status ≡ answer.NoMemory)
-compare-spelt {status = status} r files left right left_words right_words t is both none = elim (asked_means r files (Compare left right) t is none) [
-  | inl m ↦ elim (spelt-status files left right left_words right_words status both m) [ inl done ↦ inl done | inr not_passed ↦ inr (inl not_passed) ]
-  | inr no_memory ↦ inr (inr no_memory)
-]
+pub compare-spelt : {command : Command} {old new : World} {err err' : SinkState} {status : Status}
+    → Ran command old new err err' status
+    → (files : Files) (left right left_words right_words : List ℕ) → Tells old.host files
+    → command ≡ Compare left right → BothSpell files left right left_words right_words
+    → NoneRose old new err err'
+    → (status ≡ answer.Done) ⊎ (status ≡ answer.NotPassed) ⊎ (status ≡ answer.NoMemory)
+compare-spelt {status = status} r files left right left_words right_words t is both none =
+    elim (asked_means r files (Compare left right) t is none) [
+      | inl m ↦ elim (spelt-status files left right left_words right_words status both m) [
+        | inl done ↦ inl done
+        | inr not_passed ↦ inr (inl not_passed)
+      ]
+      | inr no_memory ↦ inr (inr no_memory)
+    ]

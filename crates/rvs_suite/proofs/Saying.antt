@@ -5,6 +5,7 @@ use Rattle.rvs_cgf.specs.Groups.{Label}
 use Rattle.rvs_suite.specs.GenerateTexts.{Totals, total_line, listing}
 use Rattle.rvs_suite.specs.Generate.{IsSaid}
 
-pub listed : (isa : Isa) (ls : List Label) (text : List ℕ) (totals : Totals) → IsSaid isa ls text totals → text ++ total_line totals ≡ listing isa ls
+pub listed : (isa : Isa) (ls : List Label) (text : List ℕ) (totals : Totals)
+    → IsSaid isa ls text totals → text ++ total_line totals ≡ listing isa ls
 unfolding listing
 listed isa ls text totals s = λ i. s.lines i ++ total_line (s.counted i)

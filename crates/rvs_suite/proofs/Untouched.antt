@@ -1,5 +1,6 @@
 -- That a command which stops for its words, its inputs or their absence has changed nothing.
-use Rattle.std.proofs.Common.{◌≡◌, ◌⊎◌, inl, inr, ℕ, Bool, true, false, if◌then◌else◌, List, [], ◌∷◌, length, Option, Some, None, Result, Ok, Err, refl, subst, ◌∙◌}
+use Rattle.std.proofs.Common.{◌≡◌, ◌⊎◌, inl, inr, ℕ, Bool, true, false, if◌then◌else◌, List, []}
+use Rattle.std.proofs.Common.{◌∷◌, length, Option, Some, None, Result, Ok, Err, refl, subst, ◌∙◌}
 use Rattle.std.specs.Prelude.{⊤}
 use Rattle.rvs_base.specs.Host.{Files, Tells, with_left}
 use Rattle.rvs_base.specs.Sink.{SinkState}
@@ -24,13 +25,15 @@ use Rattle.rvs_cgf.specs.Groups.{Label}
 use Rattle.rvs_test.specs.Made.{text_of_label}
 use Rattle.rvs_suite.specs.GroupFiles.{Inputs, group_inputs}
 use Rattle.rvs_suite.specs.GenerateTexts.{listing}
-use Rattle.rvs_suite.specs.Generate.{path_of, writes_text, writes_test, writes_tests, written_tests, generates}
+use Rattle.rvs_suite.specs.Generate.{path_of, writes_text, writes_test, writes_tests, written_tests}
+use Rattle.rvs_suite.specs.Generate.{generates}
 use Rattle.rvs_suite.specs.Normalize.{print_normal}
 use Rattle.rvs_suite.specs.Coverage.{reported, print_report}
 use Rattle.rvs_suite.specs.Reference.{test_limit, trial, records, reference_on}
 use Rattle.rvs_suite.specs.TestRun.{accepted, test_found}
 use Rattle.rvs_suite.specs.Tests.{tests_of}
-use Rattle.rvs_suite.specs.RunTests.{Bench, judges_one, with_one, judges_all, tallies, RunInputs, run_inputs, bench_of, runs}
+use Rattle.rvs_suite.specs.RunTests.{Bench, judges_one, with_one, judges_all, tallies, RunInputs}
+use Rattle.rvs_suite.specs.RunTests.{run_inputs, bench_of, runs}
 use Rattle.rvs_suite.specs.Plans.{plan_of}
 use Rattle.rvs_suite.proofs.Ends.{was_refused, WasMissing, was_missing}
 use Rattle.rvs_suite.proofs.Readers.{OnlyReads, OnlyReads-then}
@@ -39,7 +42,9 @@ use Rattle.rvs_suite.proofs.LogReads.{reads-reported}
 use Rattle.rvs_suite.proofs.RunReads.{reads-run}
 use Rattle.rvs_suite.proofs.Running.{Ran, answers}
 use Rattle.rvs_suite.specs.declared.command.Command.{Command}
-use Rattle.rvs_suite.specs.declared.command.Command.TheVariants.{Unknown, Compare, Validate, Normalize, Generate, Reference, Coverage, Run, Demo}
+use Rattle.rvs_suite.specs.declared.command.Command.TheVariants.{Unknown, Compare, Validate}
+use Rattle.rvs_suite.specs.declared.command.Command.TheVariants.{Normalize, Generate, Reference}
+use Rattle.rvs_suite.specs.declared.command.Command.TheVariants.{Coverage, Run, Demo}
 use Rattle.rvs_suite.specs.declared.test_run.Run.{Run as TestRun}
 use Rattle.rvs_suite.specs.declared.gathering.Test.{Test}
 
@@ -53,9 +58,11 @@ NeverStops (Runs words test signature next) = (answer : Answer) → NeverStops (
 
 -- where the plan stops, nothing was changed
 abbrev StopsUntouched : {A : Type 0} → Plan A → Type 0
-StopsUntouched plan = (effects : List Effect) (stop : Stop) (c : Contents) → Goes plan effects (Ends (Err stop)) → after effects c ≡ c
+StopsUntouched plan = (effects : List Effect) (stop : Stop) (c : Contents)
+    → Goes plan effects (Ends (Err stop)) → after effects c ≡ c
 
-goes-on : {A : Type 0} (plan : Plan A) (effects : List Effect) (stop : Stop) → NeverStops plan → Goes plan effects (Ends (Err stop)) → ⊥
+goes-on : {A : Type 0} (plan : Plan A) (effects : List Effect) (stop : Stop) → NeverStops plan
+    → Goes plan effects (Ends (Err stop)) → ⊥
 goes-on (Ends (Ok a)) [] stop never goes = cc
 goes-on (Ends (Ok a)) (effect ∷ effects) stop never goes = goes
 goes-on (Ends (Err s)) effects stop never goes = never
@@ -64,11 +71,13 @@ goes-on (Does deed plan) (Did d ∷ effects) stop never goes = goes-on plan effe
 goes-on (Does deed plan) (Read name found ∷ effects) stop never goes = goes
 goes-on (Does deed plan) (Device words test signature answer ∷ effects) stop never goes = goes
 goes-on (Asks name next) [] stop never goes = cc
-goes-on (Asks name next) (Read n found ∷ effects) stop never goes = goes-on (next found) effects stop (never found) goes.1
+goes-on (Asks name next) (Read n found ∷ effects) stop never goes =
+    goes-on (next found) effects stop (never found) goes.1
 goes-on (Asks name next) (Did deed ∷ effects) stop never goes = goes
 goes-on (Asks name next) (Device words test signature answer ∷ effects) stop never goes = goes
 goes-on (Runs words test signature next) [] stop never goes = cc
-goes-on (Runs words test signature next) (Device w t s answer ∷ effects) stop never goes = goes-on (next answer) effects stop (never answer) goes.3
+goes-on (Runs words test signature next) (Device w t s answer ∷ effects) stop never goes =
+    goes-on (next answer) effects stop (never answer) goes.3
 goes-on (Runs words test signature next) (Did deed ∷ effects) stop never goes = goes
 goes-on (Runs words test signature next) (Read name found ∷ effects) stop never goes = goes
 
@@ -76,100 +85,139 @@ untouched-end : (A : Type 0) (stop : Stop) → StopsUntouched {A = A} (Ends (Err
 untouched-end A stop [] stop' c goes = refl
 untouched-end A stop (effect ∷ effects) stop' c goes = absurd goes
 
-untouched-followed : {A B : Type 0} (end : Result A Stop) (next : A → Plan B) → ((a : A) → StopsUntouched (next a)) → StopsUntouched (followed end next)
+untouched-followed : {A B : Type 0} (end : Result A Stop) (next : A → Plan B)
+    → ((a : A) → StopsUntouched (next a)) → StopsUntouched (followed end next)
 untouched-followed (Ok a) next each = each a
 untouched-followed {B = B} (Err stop) next each = untouched-end B stop
 
 -- what is read first, and what follows from it
-untouched-then : {A B : Type 0} (plan : Plan A) (next : A → Plan B) → OnlyReads plan → ((a : A) → StopsUntouched (next a)) → (effects : List Effect) (stop : Stop) (c : Contents) → Goes (plan >>= next) effects (Ends (Err stop)) → after effects c ≡ c
-untouched-then (Ends end) next reads each effects stop c goes = untouched-followed end next each effects stop c goes
+untouched-then : {A B : Type 0} (plan : Plan A) (next : A → Plan B) → OnlyReads plan
+    → ((a : A) → StopsUntouched (next a)) → (effects : List Effect) (stop : Stop) (c : Contents)
+    → Goes (plan >>= next) effects (Ends (Err stop)) → after effects c ≡ c
+untouched-then (Ends end) next reads each effects stop c goes =
+    untouched-followed end next each effects stop c goes
 untouched-then (Does deed plan) next reads each effects stop c goes = absurd reads
 untouched-then (Runs words test signature rest) next reads each effects stop c goes = absurd reads
 untouched-then (Asks name rest) next reads each [] stop c goes = absurd cc
-untouched-then (Asks name rest) next reads each (Read n found ∷ effects) stop c goes = untouched-then (rest found) next (reads found) each effects stop c goes.1
-untouched-then (Asks name rest) next reads each (Device words test signature answer ∷ effects) stop c goes = absurd goes
+untouched-then (Asks name rest) next reads each (Read n found ∷ effects) stop c goes =
+    untouched-then (rest found) next (reads found) each effects stop c goes.1
+untouched-then (Asks name rest) next reads each (Device words test signature answer ∷ effects) stop
+    c goes = absurd goes
 untouched-then (Asks name rest) next reads each (Did deed ∷ effects) stop c goes = absurd goes
 
 reads-signature : (name : List ℕ) → OnlyReads (comparing.signature name)
-reads-signature name = OnlyReads-then (input comparing.signature_limit name) (comparing.words name) (λ found. tt) (λ bytes. tt)
+reads-signature name = OnlyReads-then (input comparing.signature_limit name) (comparing.words name)
+    (λ found. tt) (λ bytes. tt)
 
 reads-trial : (steps : Option ℕ) (isa : Isa) (test : List ℕ) → OnlyReads (trial steps isa test)
-reads-trial steps isa test = OnlyReads-then (input test_limit test) (λ bytes. accepted (test_found steps isa test bytes)) (λ found. tt) (λ bytes. tt)
+reads-trial steps isa test = OnlyReads-then (input test_limit test)
+    (λ bytes. accepted (test_found steps isa test bytes)) (λ found. tt) (λ bytes. tt)
 
-records-on : (signature : List ℕ) (log : Option (List ℕ)) (run : TestRun) → NeverStops (records signature log run)
+records-on : (signature : List ℕ) (log : Option (List ℕ)) (run : TestRun)
+    → NeverStops (records signature log run)
 records-on signature None run = tt
 records-on signature (Some log) run = tt
 
-pub never-then : {A B : Type 0} (plan : Plan A) (next : A → Plan B) → NeverStops plan → ((a : A) → NeverStops (next a)) → NeverStops (plan >>= next)
+pub never-then : {A B : Type 0} (plan : Plan A) (next : A → Plan B) → NeverStops plan
+    → ((a : A) → NeverStops (next a)) → NeverStops (plan >>= next)
 never-then (Ends (Ok a)) next never each = each a
 never-then (Ends (Err stop)) next never each = absurd never
 never-then (Does deed plan) next never each = never-then plan next never each
-never-then (Asks name rest) next never each = λ found. never-then (rest found) next (never found) each
-never-then (Runs words test signature rest) next never each = λ answer. never-then (rest answer) next (never answer) each
+never-then (Asks name rest) next never each =
+    λ found. never-then (rest found) next (never found) each
+never-then (Runs words test signature rest) next never each =
+    λ answer. never-then (rest answer) next (never answer) each
 
 -- its end is a value
-pub never-end : {A : Type 0} (plan : Plan A) (files : Files) (answers : List Answer) (stop : Stop) → NeverStops plan → end_of plan files answers ≡ Some (Err stop) → ⊥
+pub never-end : {A : Type 0} (plan : Plan A) (files : Files) (answers : List Answer) (stop : Stop)
+    → NeverStops plan → end_of plan files answers ≡ Some (Err stop) → ⊥
 never-end (Ends (Ok a)) files answers stop never is = cc
 never-end (Ends (Err s)) files answers stop never is = never
-never-end (Does deed plan) files answers stop never is = never-end plan (files_after deed files) answers stop never is
-never-end (Asks name next) files answers stop never is = never-end (next (files name)) files answers stop (never (files name)) is
+never-end (Does deed plan) files answers stop never is =
+    never-end plan (files_after deed files) answers stop never is
+never-end (Asks name next) files answers stop never is =
+    never-end (next (files name)) files answers stop (never (files name)) is
 never-end (Runs words test signature next) files [] stop never is = cc
-never-end (Runs words test signature next) files (answer ∷ answers) stop never is = never-end (next answer) (with_left signature answer.left files) answers stop (never answer) is
+never-end (Runs words test signature next) files (answer ∷ answers) stop never is =
+    never-end (next answer) (with_left signature answer.left files) answers stop (never answer) is
 
-chosen-on : (b : Bool) (path : List ℕ) (text : Option (List ℕ)) → NeverStops (if b then writes_text path text else gives tt)
+chosen-on : (b : Bool) (path : List ℕ) (text : Option (List ℕ))
+    → NeverStops (if b then writes_text path text else gives tt)
 chosen-on true path None = tt
 chosen-on true path (Some text) = tt
 chosen-on false path text = tt
 
 tests-on : (work : List ℕ) (isa : Isa) (ls : List Label) → NeverStops (writes_tests work isa ls)
 tests-on work isa [] = tt
-tests-on work isa (l ∷ ls) = never-then (writes_test work isa l) (λ _. writes_tests work isa ls) (chosen-on l.selected (path_of work l.name) (text_of_label isa l)) (λ _. tests-on work isa ls)
+tests-on work isa (l ∷ ls) = never-then (writes_test work isa l) (λ _. writes_tests work isa ls)
+    (chosen-on l.selected (path_of work l.name) (text_of_label isa l)) (λ _. tests-on work isa ls)
 
 generates-on : (work : List ℕ) (inputs : Inputs) → NeverStops (generates work inputs)
-generates-on work inputs = never-then (written_tests work inputs.isa inputs.groups) print_report (never-then (writes_tests work inputs.isa inputs.groups) (λ _. gives (listing inputs.isa inputs.groups)) (tests-on work inputs.isa inputs.groups) (λ _. tt)) (λ text. tt)
+generates-on work inputs = never-then (written_tests work inputs.isa inputs.groups) print_report
+    (never-then (writes_tests work inputs.isa inputs.groups)
+    (λ _. gives (listing inputs.isa inputs.groups)) (tests-on work inputs.isa inputs.groups)
+    (λ _. tt)) (λ text. tt)
 
-judges-on : (bench : Bench) (passed : ℕ) (tests : List Test) → NeverStops (judges_all bench passed tests)
+judges-on : (bench : Bench) (passed : ℕ) (tests : List Test)
+    → NeverStops (judges_all bench passed tests)
 judges-on bench passed [] = tt
-judges-on bench passed (test ∷ tests) = never-then (judges_one bench test) (λ pass. judges_all bench (with_one passed pass) tests) (λ answer found. tt) (λ pass. judges-on bench (with_one passed pass) tests)
+judges-on bench passed (test ∷ tests) = never-then (judges_one bench test)
+    (λ pass. judges_all bench (with_one passed pass) tests) (λ answer found. tt)
+    (λ pass. judges-on bench (with_one passed pass) tests)
 
 pub runs-on : (program work : List ℕ) (inputs : RunInputs) → NeverStops (runs program work inputs)
 runs-on program work inputs =
     let bench = bench_of program work inputs in
     let tests = tests_of bench.isa inputs.groups.groups in
-    never-then (judges_all bench 0 tests) (tallies (length tests)) (judges-on bench 0 tests) (λ passed. tt)
+    never-then (judges_all bench 0 tests) (tallies (length tests)) (judges-on bench 0 tests)
+    (λ passed. tt)
 
 -- no command stops once it has changed anything
-stops_untouched : (command : Command) (effects : List Effect) (stop : Stop) (c : Contents) → Goes (plan_of command) effects (Ends (Err stop)) → after effects c ≡ c
+stops_untouched : (command : Command) (effects : List Effect) (stop : Stop) (c : Contents)
+    → Goes (plan_of command) effects (Ends (Err stop)) → after effects c ≡ c
 stops_untouched Unknown = untouched-end Finish why.Usage
 stops_untouched (Compare left right) =
-    untouched-then (comparing.signature left) (comparing.compare_right right) (reads-signature left) (λ lw.
-    untouched-then (comparing.signature right) (comparing.announce lw) (reads-signature right) (λ rw' effects stop c goes.
+    untouched-then (comparing.signature left) (comparing.compare_right right) (reads-signature left)
+    (λ lw.
+    untouched-then (comparing.signature right) (comparing.announce lw) (reads-signature right)
+    (λ rw' effects stop c goes.
     absurd (goes-on (comparing.announce lw rw') effects stop tt goes)))
 stops_untouched (Validate isa) =
-    untouched-then (specification isa) print_said (reads-specification isa) (λ said effects stop c goes.
+    untouched-then (specification isa) print_said (reads-specification isa)
+    (λ said effects stop c goes.
     absurd (goes-on (print_said said) effects stop tt goes))
 stops_untouched (Normalize isa names) =
-    untouched-then (group_inputs isa names) print_normal (reads-inputs isa names) (λ inputs effects stop c goes.
+    untouched-then (group_inputs isa names) print_normal (reads-inputs isa names)
+    (λ inputs effects stop c goes.
     absurd (goes-on (print_normal inputs) effects stop tt goes))
 stops_untouched (Generate isa names work) =
-    untouched-then (group_inputs isa names) (generates work) (reads-inputs isa names) (λ inputs effects stop c goes.
+    untouched-then (group_inputs isa names) (generates work) (reads-inputs isa names)
+    (λ inputs effects stop c goes.
     absurd (goes-on (generates work inputs) effects stop (generates-on work inputs) goes))
 stops_untouched (Run program isa names device work) =
-    untouched-then (run_inputs isa names device) (runs program work) (reads-run isa names device) (λ inputs effects stop c goes.
+    untouched-then (run_inputs isa names device) (runs program work) (reads-run isa names device)
+    (λ inputs effects stop c goes.
     absurd (goes-on (runs program work inputs) effects stop (runs-on program work inputs) goes))
 stops_untouched (Coverage isa names log windows) =
-    untouched-then (reported isa names log windows) print_report (reads-reported isa names log windows) (λ report effects stop c goes.
+    untouched-then (reported isa names log windows) print_report
+    (reads-reported isa names log windows) (λ report effects stop c goes.
     absurd (goes-on (print_report report) effects stop tt goes))
-stops_untouched (Demo count) = λ effects stop c goes. absurd (goes-on (demonstrate count) effects stop tt goes)
+stops_untouched (Demo count) =
+    λ effects stop c goes. absurd (goes-on (demonstrate count) effects stop tt goes)
 stops_untouched (Reference isa test signature log steps) =
-    untouched-then (specification isa) (λ said. reference_on test signature log steps said.spec) (reads-specification isa) (λ said.
-    untouched-then (trial steps said.spec test) (records signature log) (reads-trial steps said.spec test) (λ run effects stop c goes.
+    untouched-then (specification isa) (λ said. reference_on test signature log steps said.spec)
+    (reads-specification isa) (λ said.
+    untouched-then (trial steps said.spec test) (records signature log)
+    (reads-trial steps said.spec test) (λ run effects stop c goes.
     absurd (goes-on (records signature log run) effects stop (records-on signature log run) goes)))
 
-unchanged : (command : Command) (stop : Stop) (old new : Contents) → Completes (plan_of command) (Err stop) old new → new ≡ old
+unchanged : (command : Command) (stop : Stop) (old new : Contents)
+    → Completes (plan_of command) (Err stop) old new → new ≡ old
 unchanged command stop old new r = r.did ∙ stops_untouched command r.effects stop old r.goes
 
-used : (command : Command) (old new : World) (reason : Stop) → Halts (plan_of command) (contents old) (contents new) reason → answer.Usage ≡ status_of reason → contents new ≡ contents old
+used : (command : Command) (old new : World) (reason : Stop)
+    → Halts (plan_of command) (contents old) (contents new) reason → answer.Usage ≡ status_of reason
+    → contents new ≡ contents old
 used command old new why.Usage h is = unchanged command why.Usage (contents old) (contents new) h
 used command old new (why.Refused text) h is = absurd cc
 used command old new (why.NoFile name) h is = absurd cc
@@ -179,18 +227,32 @@ used command old new (why.CannotRun test) h is = absurd cc
 used command old new why.NoMemory h is = absurd cc
 used command old new why.SinkFault h is = absurd cc
 
-accounts : {command : Command} {old new : World} {err err' : SinkState} {status : Status} → Ran command old new err err' status → (files : Files) (wanted : Status) → Tells old.host files → status ≡ wanted → Accounts (plan_of command) old new err err' wanted
-accounts {command} {old} {new} {err} {err'} r files wanted t is = subst (λ (s : Status). Accounts (plan_of command) old new err err' s) is ((answers r).effects files t)
+accounts : {command : Command} {old new : World} {err err' : SinkState} {status : Status}
+    → Ran command old new err err' status → (files : Files) (wanted : Status) → Tells old.host files
+    → status ≡ wanted → Accounts (plan_of command) old new err err' wanted
+accounts {command} {old} {new} {err} {err'} r files wanted t is = subst
+    (λ (s : Status). Accounts (plan_of command) old new err err' s) is ((answers r).effects files t)
 
 -- a run that is refused, or whose words are no command
-pub untouched : {command : Command} {old new : World} {err err' : SinkState} {status : Status} → Ran command old new err err' status → (files : Files) → Tells old.host files → (status ≡ answer.Usage) ⊎ (status ≡ answer.Refused) → contents new ≡ contents old
-untouched {command} {old} {new} {err} {err'} r files t (inl is) = let a = accounts r files answer.Usage t is in used command old new a.reason a.halts a.status_is
-untouched {command} {old} {new} {err} {err'} r files t (inr is) = let w = was_refused (plan_of command) old new err err' (accounts r files answer.Refused t is) in unchanged command (why.Refused w.text) (contents old) (contents new) w.completes
+pub untouched : {command : Command} {old new : World} {err err' : SinkState} {status : Status}
+    → Ran command old new err err' status → (files : Files) → Tells old.host files
+    → (status ≡ answer.Usage) ⊎ (status ≡ answer.Refused) → contents new ≡ contents old
+untouched {command} {old} {new} {err} {err'} r files t (inl is) = let a =
+    accounts r files answer.Usage t is in used command old new a.reason a.halts a.status_is
+untouched {command} {old} {new} {err} {err'} r files t (inr is) = let w =
+    was_refused (plan_of command) old new err err' (accounts r files answer.Refused t is) in
+    unchanged command (why.Refused w.text) (contents old) (contents new) w.completes
 
-absent : (command : Command) (old new : World) (err err' : SinkState) → WasMissing (plan_of command) old new err err' ⊎ HostRose old new → (contents new ≡ contents old) ⊎ HostRose old new
-absent command old new err err' (inl w) = inl (unchanged command (why.NoFile w.name) (contents old) (contents new) w.completes)
+absent : (command : Command) (old new : World) (err err' : SinkState)
+    → WasMissing (plan_of command) old new err err' ⊎ HostRose old new
+    → (contents new ≡ contents old) ⊎ HostRose old new
+absent command old new err err' (inl w) =
+    inl (unchanged command (why.NoFile w.name) (contents old) (contents new) w.completes)
 absent command old new err err' (inr rose) = inr rose
 
 -- one that lacks an input
-pub untouched-absent : {command : Command} {old new : World} {err err' : SinkState} {status : Status} → Ran command old new err err' status → (files : Files) → Tells old.host files → status ≡ answer.HostFault → (contents new ≡ contents old) ⊎ HostRose old new
-untouched-absent {command} {old} {new} {err} {err'} r files t is = absent command old new err err' (was_missing (plan_of command) old new err err' (accounts r files answer.HostFault t is))
+pub untouched-absent : {command : Command} {old new : World} {err err' : SinkState}
+    {status : Status} → Ran command old new err err' status → (files : Files) → Tells old.host files
+    → status ≡ answer.HostFault → (contents new ≡ contents old) ⊎ HostRose old new
+untouched-absent {command} {old} {new} {err} {err'} r files t is = absent command old new err err'
+    (was_missing (plan_of command) old new err err' (accounts r files answer.HostFault t is))

@@ -1,5 +1,6 @@
 -- The text of a window gives it.
-use Rattle.std.proofs.Common.{◌≡◌, ℕ, ◌+◌, ◌/◌, ◌%◌, ◌^◌, ◌<◌, ◌≤◌, Bool, true, false, cond, List, [], ◌∷◌, ◌++◌, length, Some, None, refl, ap, ◌∙◌, codes, arith}
+use Rattle.std.proofs.Common.{◌≡◌, ℕ, ◌+◌, ◌/◌, ◌%◌, ◌^◌, ◌<◌, ◌≤◌, Bool, true, false, cond, List}
+use Rattle.std.proofs.Common.{[], ◌∷◌, ◌++◌, length, Some, None, refl, ap, ◌∙◌, codes, arith}
 use Rattle.std.proofs.lemmas.List.{length-append, length-map}
 use Rattle.std.proofs.lemmas.Bool.Decides.{nat_tests}
 use Rattle.std.specs.Prelude.{◌==◌, nat_le, nat_lt, map, position, option_and_then}
@@ -8,7 +9,8 @@ use Rattle.rvs_base.specs.Number.{hex_digit_of, hex_word_of}
 use Rattle.rvs_base.specs.Digits.{digits_of}
 use Rattle.rvs_base.proofs.HexDigits.{length-hex_word_of}
 use Rattle.rvs_base.proofs.Readings.{digits_of-hex_word}
-use Rattle.rvs_suite.specs.Windows.{address_of, window_between, window_at, window_of, with_window, all_windows}
+use Rattle.rvs_suite.specs.Windows.{address_of, window_between, window_at, window_of, with_window}
+use Rattle.rvs_suite.specs.Windows.{all_windows}
 use Rattle.rvs_count.specs.declared.window.Window.{Window}
 use Rattle.rvs_suite.specs.CommandLaws.{window_text, AreWindows, WindowsAreRead}
 use Rattle.rvs_suite.proofs.FirstCuts.{first-at, take-front, drop-front}
@@ -21,7 +23,8 @@ address-text w = codes "0x" ++ hex_word_of w
 
 address-read : (w : ℕ) → w < 2 ^ 32 → address_of (address-text w) ≡ Some w
 address-read w h =
-    let eight : nat_le (length (hex_word_of w)) 8 ≡ true = ap (λ n. nat_le n 8) (length-hex_word_of w) in
+    let eight : nat_le (length (hex_word_of w)) 8 ≡ true =
+    ap (λ n. nat_le n 8) (length-hex_word_of w) in
     ap (λ (t : Bool). cond t (digits_of 16 (hex_word_of w)) None) eight ∙ digits_of-hex_word w h
 
 abbrev is-colon : ℕ → Bool
@@ -40,7 +43,8 @@ no-colon w h =
     let i = apart (w / 16 ^ 0 % 16) (omega arith) in
     rw (a, b, c, d, e, f, g, i) refl
 
-within-text : (front : List ℕ) (byte : ℕ) (back : List ℕ) → nat_lt (length front) (length (front ++ byte ∷ back)) ≡ true
+within-text : (front : List ℕ) (byte : ℕ) (back : List ℕ)
+    → nat_lt (length front) (length (front ++ byte ∷ back)) ≡ true
 within-text front byte back = simp length-append (grind (arith, nat_tests))
 
 colon-at : (front back : List ℕ) → list_any is-colon front ≡ false
@@ -53,7 +57,8 @@ colon-at front back none =
 below : (lo hi : ℕ) → lo < hi → nat_lt lo hi ≡ true
 below lo hi h = grind (arith, nat_tests)
 
-window-at : (front back : List ℕ) (lo hi : ℕ) → address_of front ≡ Some lo → address_of back ≡ Some hi → lo < hi
+window-at : (front back : List ℕ) (lo hi : ℕ) → address_of front ≡ Some lo
+    → address_of back ≡ Some hi → lo < hi
     → window_at (front ++ 58 ∷ back) (length front) ≡ Some (record { lo = lo; hi = hi })
 window-at front back lo hi a b h =
     let first = ap address_of (take-front front (58 ∷ back)) ∙ a in
@@ -65,19 +70,24 @@ window-read : (w : Window) → w.lo < w.hi → w.hi < 2 ^ 32 → window_of (wind
 unfolding window_of
 window-read w h l =
     let text = address-text w.lo ++ 58 ∷ address-text w.hi in
-    ap (option_and_then (window_at text)) (colon-at (address-text w.lo) (address-text w.hi) (no-colon w.lo (omega arith)))
-    ∙ window-at (address-text w.lo) (address-text w.hi) w.lo w.hi (address-read w.lo (omega arith)) (address-read w.hi l) h
+    ap (option_and_then (window_at text))
+    (colon-at (address-text w.lo) (address-text w.hi) (no-colon w.lo (omega arith)))
+    ∙ window-at (address-text w.lo) (address-text w.hi) w.lo w.hi (address-read w.lo (omega arith))
+    (address-read w.hi l) h
 
-all-read : (windows : List Window) → AreWindows windows → all_windows (map window_text windows) ≡ Some windows
+all-read : (windows : List Window) → AreWindows windows
+    → all_windows (map window_text windows) ≡ Some windows
 all-read [] are = refl
 all-read (w ∷ windows) are =
     let one = window-read w are.0 are.1 in
     let rest = all-read windows are.2 in
     (λ k. with_window (one k) (rest k))
 
-few : (windows : List Window) → length windows ≤ 16 → nat_le (length (map window_text windows)) 16 ≡ true
+few : (windows : List Window) → length windows ≤ 16
+    → nat_le (length (map window_text windows)) 16 ≡ true
 few windows h = simp length-map (grind (arith, nat_tests))
 
 pub windows_are_read : WindowsAreRead
 windows_are_read windows h are =
-    ap (λ (t : Bool). cond t (all_windows (map window_text windows)) None) (few windows h) ∙ all-read windows are
+    ap (λ (t : Bool). cond t (all_windows (map window_text windows)) None) (few windows h)
+    ∙ all-read windows are

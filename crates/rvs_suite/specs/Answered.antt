@@ -26,14 +26,18 @@ pub record HasMissed {A : Type 0} (call : Call) (found : Result A Stop) : Type 0
   pub line : call.new.err.bytes ≡ appended call.old.err.bytes (line_of (why.NoFile name))
 
 -- a call whose inputs come to this, and leave that where they are accepted
-pub record Answered {A : Type 0} (call : Call) (found : Result A Stop) (Left : A → Type 0) : Type 0 where
-  -- it is done where its inputs are accepted, and has then left what they give; it has no other verdict
+pub record Answered {A : Type 0} (call : Call) (found : Result A Stop) (Left : A → Type 0) : Type
+    0 where
+  -- it is done where its inputs are accepted, and has then left what they give; it has no other
+  -- verdict
   pub done : call.status ≡ Done → HasLeft found Left
   pub no_verdict : call.status ≢ NotPassed
   pub by_inputs : (given : A) → found ≡ Ok given → NothingFailed call → AnswersOnly call Done
   -- it is refused where the first input that isn't accepted is refused, and says why
   pub refused : call.status ≡ Refused → HasRefused call found
-  pub by_refusal : (text : List ℕ) → found ≡ Err (why.Refused text) → NothingFailed call → AnswersOnly call Refused
+  pub by_refusal : (text : List ℕ) → found ≡ Err (why.Refused text) → NothingFailed call
+      → AnswersOnly call Refused
   -- the host fails where a count rose, or where the first input that isn't accepted isn't there
   pub absent : call.status ≡ HostFault → HasMissed call found ⊎ HostRose call
-  pub by_absence : (name : List ℕ) → found ≡ Err (why.NoFile name) → NothingFailed call → AnswersOnly call HostFault
+  pub by_absence : (name : List ℕ) → found ≡ Err (why.NoFile name) → NothingFailed call
+      → AnswersOnly call HostFault

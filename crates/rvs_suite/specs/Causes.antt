@@ -17,25 +17,36 @@ HasLine call what which = call.new.err.bytes ≡ appended call.old.err.bytes (fa
 
 -- the line of a host fault names a file, or the test file of a device run
 abbrev pub HasHostLine : Call → Type 0
-HasHostLine call = (name : List ℕ) × (HasLine call (codes "no file ") name ⊎ HasLine call (codes "cannot read ") name
+HasHostLine call = (name : List ℕ)
+    × (HasLine call (codes "no file ") name ⊎ HasLine call (codes "cannot read ") name
     ⊎ HasLine call (codes "cannot write ") name ⊎ HasLine call (codes "cannot run ") name)
 
 pub record Promise (call : Call) : Type 0 where
   -- it says how it is used where its words are no command
   pub usage : call.status ≡ answer.Usage → Asks call Unknown
-  pub by_words : Asks call Unknown → (call.status ≡ answer.Usage) ⊎ (call.status ≡ answer.NoMemory) ⊎ (call.status ≡ answer.SinkFault)
+  pub by_words : Asks call Unknown → (call.status ≡ answer.Usage) ⊎ (call.status ≡ answer.NoMemory)
+      ⊎ (call.status ≡ answer.SinkFault)
   -- a count rose where a host that doesn't tell fails, or a sink
   pub host_fault : call.status ≡ answer.HostFault → is_told call.old.host ≡ false → HostRose call
-  pub sink_fault : call.status ≡ answer.SinkFault → Rose call.old.out.faults call.new.out.faults ⊎ Rose call.old.err.faults call.new.err.faults
-  -- no fault is passed over: with any other status no count has changed, but that of reading by `run` where a host that doesn't tell has no signature of a device; nor has one where a told host lacks a file
-  pub unfaulted : call.status ≢ answer.HostFault → call.status ≢ answer.SinkFault → NoneChanged (absence_of (command_of call.words)) (world_of call.old) (world_of call.new) call.old.err call.new.err
-  pub missing : call.status ≡ answer.HostFault → is_told call.old.host ≡ true → HostRose call ⊎ NoneChanged (absence_of (command_of call.words)) (world_of call.old) (world_of call.new) call.old.err call.new.err
+  pub sink_fault : call.status ≡ answer.SinkFault
+      → Rose call.old.out.faults call.new.out.faults ⊎ Rose call.old.err.faults call.new.err.faults
+  -- no fault is passed over: with any other status no count has changed, but that of reading by
+  -- `run` where a host that doesn't tell has no signature of a device; nor has one where a told
+  -- host lacks a file
+  pub unfaulted : call.status ≢ answer.HostFault → call.status ≢ answer.SinkFault → NoneChanged
+      (absence_of (command_of call.words)) (world_of call.old) (world_of call.new) call.old.err
+      call.new.err
+  pub missing : call.status ≡ answer.HostFault → is_told call.old.host ≡ true → HostRose call ⊎
+      NoneChanged (absence_of (command_of call.words)) (world_of call.old) (world_of call.new)
+      call.old.err call.new.err
   -- no count falls, and what was told is told
   pub later : Later (world_of call.old) (world_of call.new)
   pub errors_later : LaterSink call.old.err call.new.err
   -- the one line that each answer has, and no other
-  pub line_usage : call.status ≡ answer.Usage → HasLine call (codes "usage: rvsuite <command> <options>") []
+  pub line_usage : call.status ≡ answer.Usage
+      → HasLine call (codes "usage: rvsuite <command> <options>") []
   pub line_no_memory : call.status ≡ answer.NoMemory → HasLine call (codes "out of memory") []
   pub line_refused : call.status ≡ answer.Refused → (text : List ℕ) × HasLine call text []
   pub line_host_fault : call.status ≡ answer.HostFault → HasHostLine call
-  pub quiet : (call.status ≡ answer.Done) ⊎ (call.status ≡ answer.NotPassed) → call.new.err ≡ call.old.err
+  pub quiet : (call.status ≡ answer.Done) ⊎ (call.status ≡ answer.NotPassed)
+      → call.new.err ≡ call.old.err

@@ -1,5 +1,7 @@
 -- What a command line asks for, by what stands in it.
-use Rattle.std.specs.Prelude.{◌≡◌, ◌<◌, ◌≤◌, ◌^◌, ℕ, Bool, true, false, not, ◌==◌, nat_le, if◌then◌else◌, List, [], ◌∷◌, ◌++◌, length, map, Option, Some, None, option_map, option_and_then, codes, bytes_eq}
+use Rattle.std.specs.Prelude.{◌≡◌, ◌<◌, ◌≤◌, ◌^◌, ℕ, Bool, true, false, not, ◌==◌, nat_le}
+use Rattle.std.specs.Prelude.{if◌then◌else◌, List, [], ◌∷◌, ◌++◌, length, map, Option, Some, None}
+use Rattle.std.specs.Prelude.{option_map, option_and_then, codes, bytes_eq}
 use Rattle.std.specs.Fmt.{decimal}
 use Rattle.std.specs.List.{flat_map, list_all, list_any}
 use Rattle.rvs_base.specs.Number.{hex_word_of}
@@ -8,7 +10,9 @@ use Rattle.rvs_suite.specs.Commands.{number_of, steps_of, command_of}
 use Rattle.rvs_suite.specs.Windows.{windows_of}
 use Rattle.rvs_suite.specs.declared.words.Pair.{Pair}
 use Rattle.rvs_count.specs.declared.window.Window.{Window}
-use Rattle.rvs_suite.specs.declared.command.Command.TheVariants.{Compare, Validate, Normalize, Generate, Reference, Coverage, Run, Demo}
+use Rattle.rvs_suite.specs.declared.command.Command.TheVariants.{Compare, Validate, Normalize}
+use Rattle.rvs_suite.specs.declared.command.Command.TheVariants.{Generate, Reference, Coverage, Run}
+use Rattle.rvs_suite.specs.declared.command.Command.TheVariants.{Demo}
 use Rattle.rvs_demo.specs.Sizes.{size_of}
 
 -- a word that isn't empty and doesn't begin with a dash

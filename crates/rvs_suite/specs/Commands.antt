@@ -1,16 +1,20 @@
 -- What the words of a command line ask for.
-use Rattle.std.specs.Prelude.{ℕ, ◌-◌, ◌&&◌, nat_le, if◌then◌else◌, List, [], ◌∷◌, length, bytes_eq, Option, Some, None, option_map, option_and_then, codes}
+use Rattle.std.specs.Prelude.{ℕ, ◌-◌, ◌&&◌, nat_le, if◌then◌else◌, List, [], ◌∷◌, length, bytes_eq}
+use Rattle.std.specs.Prelude.{Option, Some, None, option_map, option_and_then, codes}
 use Rattle.rvs_base.specs.Digits.{short_number}
 use Rattle.rvs_demo.specs.Sizes.{size_of}
 use Rattle.rvs_suite.specs.Words.{is_positional, pairs_of, values_of, are_known, only, at_most_one}
 use Rattle.rvs_suite.specs.Windows.{windows_of}
 use Rattle.rvs_suite.specs.declared.words.Pair.{Pair}
 use Rattle.rvs_suite.specs.declared.command.Command.{Command}
-use Rattle.rvs_suite.specs.declared.command.Command.TheVariants.{Unknown, Compare, Validate, Normalize, Generate, Reference, Coverage, Run, Demo}
+use Rattle.rvs_suite.specs.declared.command.Command.TheVariants.{Unknown, Compare, Validate}
+use Rattle.rvs_suite.specs.declared.command.Command.TheVariants.{Normalize, Generate, Reference}
+use Rattle.rvs_suite.specs.declared.command.Command.TheVariants.{Coverage, Run, Demo}
 
 -- two names of files
 abbrev pub compare_command : List (List ℕ) → Command
-compare_command (left ∷ right ∷ []) = if is_positional left && is_positional right then Compare left right else Unknown
+compare_command (left ∷ right ∷ []) =
+    if is_positional left && is_positional right then Compare left right else Unknown
 compare_command words = Unknown
 
 -- a number of one to seven decimal digits
@@ -41,32 +45,38 @@ abbrev pub validate_of : List Pair → Command
 validate_of pairs = given (only (values_of (codes "--isa") pairs)) (λ isa. Validate isa)
 
 abbrev pub validate_command : List (List ℕ) → Command
-validate_command words = given (pairs_of words) (λ pairs. if are_known validate_options pairs then validate_of pairs else Unknown)
+validate_command words = given (pairs_of words)
+    (λ pairs. if are_known validate_options pairs then validate_of pairs else Unknown)
 
 -- the options of `reference`
 abbrev pub reference_options : List (List ℕ)
-reference_options = codes "--isa" ∷ codes "--test" ∷ codes "--signature" ∷ codes "--log" ∷ codes "--steps" ∷ []
+reference_options =
+    codes "--isa" ∷ codes "--test" ∷ codes "--signature" ∷ codes "--log" ∷ codes "--steps" ∷ []
 
 -- what a run of these inputs may leave and take besides: a log, and a number of steps
 abbrev pub reference_run : List ℕ → List ℕ → List ℕ → List Pair → Command
 reference_run isa test signature pairs =
     given (at_most_one (values_of (codes "--log") pairs)) (λ log.
-    given (steps_of (values_of (codes "--steps") pairs)) (λ steps. Reference isa test signature log steps))
+    given (steps_of (values_of (codes "--steps") pairs))
+    (λ steps. Reference isa test signature log steps))
 
 -- the names of the ISA file, the test and the signature, each once
 abbrev pub reference_of : List Pair → Command
 reference_of pairs =
     given (only (values_of (codes "--isa") pairs)) (λ isa.
     given (only (values_of (codes "--test") pairs)) (λ test.
-    given (only (values_of (codes "--signature") pairs)) (λ signature. reference_run isa test signature pairs)))
+    given (only (values_of (codes "--signature") pairs))
+    (λ signature. reference_run isa test signature pairs)))
 
 -- options and their values, in any order
 abbrev pub reference_command : List (List ℕ) → Command
-reference_command words = given (pairs_of words) (λ pairs. if are_known reference_options pairs then reference_of pairs else Unknown)
+reference_command words = given (pairs_of words)
+    (λ pairs. if are_known reference_options pairs then reference_of pairs else Unknown)
 
 -- one value at least, and so many at most
 abbrev pub some_of : ℕ → List (List ℕ) → Option (List (List ℕ))
-some_of most values = if nat_le 1 (length values) && nat_le (length values) most then Some values else None
+some_of most values = if nat_le 1 (length values) && nat_le (length values) most then Some values
+    else None
 
 -- so many group files may be named
 abbrev pub most_groups : ℕ
@@ -82,23 +92,27 @@ normalize_of pairs =
     given (some_of most_groups (values_of (codes "--cgf") pairs)) (λ groups. Normalize isa groups))
 
 abbrev pub normalize_command : List (List ℕ) → Command
-normalize_command words = given (pairs_of words) (λ pairs. if are_known normalize_options pairs then normalize_of pairs else Unknown)
+normalize_command words = given (pairs_of words)
+    (λ pairs. if are_known normalize_options pairs then normalize_of pairs else Unknown)
 
 abbrev pub generate_options : List (List ℕ)
 generate_options = codes "--isa" ∷ codes "--cgf" ∷ codes "--work" ∷ []
 
 -- the folder of the tests
 abbrev pub generate_work : List ℕ → List (List ℕ) → List Pair → Command
-generate_work isa groups pairs = given (only (values_of (codes "--work") pairs)) (λ work. Generate isa groups work)
+generate_work isa groups pairs =
+    given (only (values_of (codes "--work") pairs)) (λ work. Generate isa groups work)
 
 -- the names of the ISA file, of the group files and of the folder
 abbrev pub generate_of : List Pair → Command
 generate_of pairs =
     given (only (values_of (codes "--isa") pairs)) (λ isa.
-    given (some_of most_groups (values_of (codes "--cgf") pairs)) (λ groups. generate_work isa groups pairs))
+    given (some_of most_groups (values_of (codes "--cgf") pairs))
+    (λ groups. generate_work isa groups pairs))
 
 abbrev pub generate_command : List (List ℕ) → Command
-generate_command words = given (pairs_of words) (λ pairs. if are_known generate_options pairs then generate_of pairs else Unknown)
+generate_command words = given (pairs_of words)
+    (λ pairs. if are_known generate_options pairs then generate_of pairs else Unknown)
 
 abbrev pub coverage_options : List (List ℕ)
 coverage_options = codes "--isa" ∷ codes "--cgf" ∷ codes "--log" ∷ codes "--window" ∷ []
@@ -107,16 +121,19 @@ coverage_options = codes "--isa" ∷ codes "--cgf" ∷ codes "--log" ∷ codes "
 abbrev pub coverage_log : List ℕ → List (List ℕ) → List Pair → Command
 coverage_log isa groups pairs =
     given (only (values_of (codes "--log") pairs)) (λ log.
-    given (windows_of (values_of (codes "--window") pairs)) (λ windows. Coverage isa groups log windows))
+    given (windows_of (values_of (codes "--window") pairs))
+    (λ windows. Coverage isa groups log windows))
 
 -- the names of the ISA file, of the group files and of the log, and windows, which needn't stand
 abbrev pub coverage_of : List Pair → Command
 coverage_of pairs =
     given (only (values_of (codes "--isa") pairs)) (λ isa.
-    given (some_of most_groups (values_of (codes "--cgf") pairs)) (λ groups. coverage_log isa groups pairs))
+    given (some_of most_groups (values_of (codes "--cgf") pairs))
+    (λ groups. coverage_log isa groups pairs))
 
 abbrev pub coverage_command : List (List ℕ) → Command
-coverage_command words = given (pairs_of words) (λ pairs. if are_known coverage_options pairs then coverage_of pairs else Unknown)
+coverage_command words = given (pairs_of words)
+    (λ pairs. if are_known coverage_options pairs then coverage_of pairs else Unknown)
 
 abbrev pub run_options : List (List ℕ)
 run_options = codes "--isa" ∷ codes "--cgf" ∷ codes "--device" ∷ codes "--work" ∷ []
@@ -131,12 +148,14 @@ run_device program isa groups pairs =
 abbrev pub run_of : List ℕ → List Pair → Command
 run_of program pairs =
     given (only (values_of (codes "--isa") pairs)) (λ isa.
-    given (some_of most_groups (values_of (codes "--cgf") pairs)) (λ groups. run_device program isa groups pairs))
+    given (some_of most_groups (values_of (codes "--cgf") pairs))
+    (λ groups. run_device program isa groups pairs))
 
 -- the program's own name stands for it in the words of a device
 abbrev pub run_command : List ℕ → List (List ℕ) → Command
 run_command program words =
-    given (pairs_of words) (λ pairs. if are_known run_options pairs then run_of program pairs else Unknown)
+    given (pairs_of words)
+    (λ pairs. if are_known run_options pairs then run_of program pairs else Unknown)
 
 -- how many instructions are to be generated, from 1 to 1,000,000
 abbrev pub demo_command : List (List ℕ) → Command

@@ -19,15 +19,22 @@ HasReported call report = call.new.out.bytes ≡ appended call.old.out.bytes rep
 
 -- the instructions of a log, each with the words that its source registers held before it
 abbrev pub IsLogOf : Files → List ℕ → List Entry → Type 0
-IsLogOf files log entries = (bytes : List ℕ) × (files log ≡ Some bytes) × (length bytes ≤ log_limit) × (entries_of bytes ≡ entries)
+IsLogOf files log entries = (bytes : List ℕ) × (files log ≡ Some bytes) × (length bytes ≤ log_limit)
+    × (entries_of bytes ≡ entries)
 
 -- a call of `coverage` on these of these files
-pub record Covers (call : Call) (files : Files) (isa : List ℕ) (names : List (List ℕ)) (log : List ℕ) (windows : List Window) : Type 0 where
-  -- it is done where all files are accepted, and has put the report; it is refused, or the host fails, at the first file that isn't
+pub record Covers (call : Call) (files : Files) (isa : List ℕ) (names : List (List ℕ))
+    (log : List ℕ) (windows : List Window) : Type 0 where
+  -- it is done where all files are accepted, and has put the report; it is refused, or the host
+  -- fails, at the first file that isn't
   pub answered : Answered call (report_in files isa names log windows) (HasReported call)
-  -- the numbers of the report are those of the log's instructions that the windows leave: how many hit each point of the groups, and how many there are
-  pub counts : (inputs : Inputs) (entries : List Entry) → inputs_in files isa names ≡ Ok inputs → IsLogOf files log entries → call.status ≡ Done
-      → HasReported call (report_of inputs.groups (map (count (kept windows entries)) (aims_of inputs.groups)) (length (kept windows entries)))
+  -- the numbers of the report are those of the log's instructions that the windows leave: how many
+  -- hit each point of the groups, and how many there are
+  pub counts : (inputs : Inputs) (entries : List Entry) → inputs_in files isa names ≡ Ok inputs
+      → IsLogOf files log entries → call.status ≡ Done
+      → HasReported call (report_of inputs.groups
+      (map (count (kept windows entries)) (aims_of inputs.groups))
+      (length (kept windows entries)))
   -- it writes no file, however it ends
   pub files_kept : call.new.host.files ≡ call.old.host.files
 
@@ -35,4 +42,5 @@ pub record Covers (call : Call) (files : Files) (isa : List ℕ) (names : List (
 abbrev pub Promise : Call → Type 0
 Promise call =
     (files : Files) (isa : List ℕ) (names : List (List ℕ)) (log : List ℕ) (windows : List Window)
-    → Tells call.old.host files → Asks call (Coverage isa names log windows) → Covers call files isa names log windows
+    → Tells call.old.host files → Asks call (Coverage isa names log windows)
+    → Covers call files isa names log windows

@@ -41,4 +41,5 @@ device_file name = do
 -- over these files, the device that the named file tells, or why the command stops there
 abbrev pub device_in : Files → List ℕ → Result Told Stop
 device_in files name =
-    and_then (part_end device_limit name name device_limit (files name)) (λ bytes. tree_end name (answer bytes))
+    and_then (part_end device_limit name name device_limit (files name))
+    (λ bytes. tree_end name (answer bytes))

@@ -1,5 +1,6 @@
 -- What `generate` does.
-use Rattle.std.specs.Prelude.{ℕ, Bool, true, false, if◌then◌else◌, List, [], ◌∷◌, ◌++◌, Option, Some, None, Result, Ok, Err, codes, ◌≡◌}
+use Rattle.std.specs.Prelude.{ℕ, Bool, true, false, if◌then◌else◌, List, [], ◌∷◌, ◌++◌, Option}
+use Rattle.std.specs.Prelude.{Some, None, Result, Ok, Err, codes, ◌≡◌}
 use Rattle.std.specs.List.{flat_map}
 use Rattle.rvs_plan.specs.Plan.{Plan, gives, writes, ◌>>=◌}
 use Rattle.rvs_plan.specs.declared.stop.Stop.{Stop}
@@ -22,7 +23,8 @@ writes_text path (Some text) = writes path text
 
 -- the test of a selected label is written where a point of it is solved
 abbrev pub writes_test : List ℕ → Isa → Label → Plan (Unit {0})
-writes_test work isa l = if l.selected then writes_text (path_of work l.name) (text_of_label isa l) else gives tt
+writes_test work isa l = if l.selected then writes_text (path_of work l.name) (text_of_label isa l)
+    else gives tt
 
 abbrev pub writes_tests : List ℕ → Isa → List Label → Plan (Unit {0})
 writes_tests work isa [] = gives tt

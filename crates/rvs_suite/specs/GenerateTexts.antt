@@ -1,5 +1,6 @@
 -- What `generate` puts: the cases, what is left, and how many tests there are.
-use Rattle.std.specs.Prelude.{ℕ, ◌+◌, ◌==◌, min, Bool, true, false, if◌then◌else◌, List, [], ◌∷◌, ◌++◌, length, Option, Some, None, codes}
+use Rattle.std.specs.Prelude.{ℕ, ◌+◌, ◌==◌, min, Bool, true, false, if◌then◌else◌, List, [], ◌∷◌}
+use Rattle.std.specs.Prelude.{◌++◌, length, Option, Some, None, codes}
 use Rattle.std.specs.List.{flat_map}
 use Rattle.std.specs.Fmt.{decimal}
 use Rattle.rvs_insn.specs.Isa.{Isa}
@@ -13,7 +14,8 @@ use Rattle.rvs_test.specs.TestText.{step_limit}
 -- a point that a case hits
 abbrev pub case_line : ℕ → Point → List ℕ
 case_line k p =
-    codes "case " ++ (decimal k ++ (codes " " ++ (kind_name p.kind ++ (codes " " ++ (p.key ++ codes "\n")))))
+    codes "case "
+    ++ (decimal k ++ (codes " " ++ (kind_name p.kind ++ (codes " " ++ (p.key ++ codes "\n")))))
 
 -- a point that no choice hits
 abbrev pub unsolved_line : Point → List ℕ
@@ -36,7 +38,8 @@ claims_after (c ∷ cs) k = if c.point == k then cs else c ∷ cs
 -- the points from the k-th on, in their order, with the claims of them, which are in that order too
 abbrev pub point_lines : List Claim → ℕ → List Point → List ℕ
 point_lines claims k [] = []
-point_lines claims k (p ∷ ps) = point_line (case_at claims k) p ++ point_lines (claims_after claims k) (k + 1) ps
+point_lines claims k (p ∷ ps) =
+    point_line (case_at claims k) p ++ point_lines (claims_after claims k) (k + 1) ps
 
 -- how many instructions the test takes at most, where one is written
 abbrev pub steps_line : Option (List ℕ) → ℕ → List ℕ
@@ -49,13 +52,16 @@ name_line name = codes "label " ++ (name ++ codes "\n")
 -- a selected label with what was made of it
 abbrev pub made_text : Label → List Claim → Option (List ℕ) → ℕ → List ℕ
 made_text l claims text steps =
-    name_line l.name ++ (point_lines claims 0 l.points ++ (flat_map skipped_line l.skipped ++ steps_line text steps))
+    name_line l.name ++ (point_lines claims 0 l.points
+    ++ (flat_map skipped_line l.skipped ++ steps_line text steps))
 
 abbrev pub selected_text : Isa → Label → List ℕ
-selected_text isa l = made_text l (claims_of isa l) (text_of_label isa l) (step_limit (cases_of isa l))
+selected_text isa l =
+    made_text l (claims_of isa l) (text_of_label isa l) (step_limit (cases_of isa l))
 
 abbrev pub label_text : Isa → Label → List ℕ
-label_text isa l = if l.selected then selected_text isa l else codes "label " ++ (l.name ++ codes " unselected\n")
+label_text isa l = if l.selected then selected_text isa l
+    else codes "label " ++ (l.name ++ codes " unselected\n")
 
 -- how many tests, cases, points without one, and skipped entries there are
 pub record Totals : Type 0 where
@@ -97,7 +103,8 @@ with_labels isa t (l ∷ ls) = with_labels isa (with_label isa t l) ls
 abbrev pub total_line : Totals → List ℕ
 total_line t =
     codes "total " ++ (decimal t.tests ++ (codes " tests, " ++ (decimal t.cases ++ (codes " cases, "
-    ++ (decimal t.unsolved ++ (codes " unsolved, " ++ (decimal t.skipped ++ codes " skipped\n")))))))
+    ++ (decimal t.unsolved
+    ++ (codes " unsolved, " ++ (decimal t.skipped ++ codes " skipped\n")))))))
 
 -- the labels in their order, and the totals
 unfoldable pub listing : Isa → List Label → List ℕ

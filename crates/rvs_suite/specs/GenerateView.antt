@@ -9,7 +9,8 @@ use Rattle.rvs_suite.specs.GenerateTexts.{Totals}
 use Rattle.rvs_suite.specs.declared.listing.Totals.{Totals as Code}
 
 abbrev pub totals_view : Code → Totals
-totals_view t = record { tests = t.tests; cases = t.cases; unsolved = t.unsolved; skipped = t.skipped }
+totals_view t =
+    record { tests = t.tests; cases = t.cases; unsolved = t.unsolved; skipped = t.skipped }
 
 -- this was made of a label
 pub record IsMade (isa : Isa) (l : Label) (m : Made) : Type 0 where

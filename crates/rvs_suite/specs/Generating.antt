@@ -1,5 +1,6 @@
 -- What every call of `generate` promises.
-use Rattle.std.specs.Prelude.{◌≡◌, ◌≢◌, ◌<◌, ℕ, length, map, IsTrue, if◌then◌else◌, List, [], ◌∷◌, Contains, Option, Some, None, Ok}
+use Rattle.std.specs.Prelude.{◌≡◌, ◌≢◌, ◌<◌, ℕ, length, map, IsTrue, if◌then◌else◌, List, [], ◌∷◌}
+use Rattle.std.specs.Prelude.{Contains, Option, Some, None, Ok}
 use Rattle.rvs_base.specs.Host.{Files, Tells, written}
 use Rattle.rvs_base.specs.Sink.{appended}
 use Rattle.rvs_plan.specs.declared.status.Status.TheVariants.{Done}
@@ -24,7 +25,8 @@ with_text path (Some text) files = written path text files
 
 -- the files with the test of a label
 abbrev pub with_test : List ℕ → Isa → Label → Option Files → Option Files
-with_test work isa l files = if l.selected then with_text (path_of work l.name) (text_of_label isa l) files else files
+with_test work isa l files =
+    if l.selected then with_text (path_of work l.name) (text_of_label isa l) files else files
 
 -- the files with the tests of all labels, one after another
 abbrev pub with_tests : List ℕ → Isa → List Label → Option Files → Option Files
@@ -36,33 +38,50 @@ pub record HasGenerated (call : Call) (work : List ℕ) (inputs : Inputs) : Type
   pub files : call.new.host.files ≡ with_tests work inputs.isa inputs.groups call.old.host.files
   pub out : call.new.out.bytes ≡ appended call.old.out.bytes (listing inputs.isa inputs.groups)
 
--- the file of a label's test is there, and its run executes one instruction at the symbol of its only case, which hits the label's only point
+-- the file of a label's test is there, and its run executes one instruction at the symbol of its
+-- only case, which hits the label's only point
 pub record HasOneTest (call : Call) (work : List ℕ) (isa : Isa) (l : Label) : Type 0 where
   pub text : List ℕ
-  pub there : (files' : Files) → call.new.host.files ≡ Some files' → files' (path_of work l.name) ≡ Some text
+  pub there : (files' : Files) → call.new.host.files ≡ Some files'
+      → files' (path_of work l.name) ≡ Some text
   pub runs : TestRuns isa l text (record { case = 0; point = 0 } ∷ []) (step_limit (cases_of isa l))
 
 -- a call of `generate` on these of these files, for this folder
-pub record Generates (call : Call) (files : Files) (isa : List ℕ) (names : List (List ℕ)) (work : List ℕ) : Type 0 where
-  -- it is done where the ISA file and the groups are accepted, and has written the tests and put their cases; it is refused, or the host fails, at the first file that isn't
+pub record Generates (call : Call) (files : Files) (isa : List ℕ) (names : List (List ℕ))
+    (work : List ℕ) : Type 0 where
+  -- it is done where the ISA file and the groups are accepted, and has written the tests and put
+  -- their cases; it is refused, or the host fails, at the first file that isn't
   pub answered : Answered call (inputs_in files isa names) (HasGenerated call work)
-  -- One image stands to the text of each test; its run halts within the header's steps, hits each point that is claimed, and leaves the outcome of each case and no other words. The claims are those of all points that a choice hits.
-  pub runs : (inputs : Inputs) (l : Label) (text : List ℕ) → inputs_in files isa names ≡ Ok inputs → Contains inputs.groups l → IsTrue l.selected
-      → text_of_label inputs.isa l ≡ Some text → TestRuns inputs.isa l text (claims_of inputs.isa l) (step_limit (cases_of inputs.isa l))
+  -- One image stands to the text of each test; its run halts within the header's steps, hits each
+  -- point that is claimed, and leaves the outcome of each case and no other words. The claims are
+  -- those of all points that a choice hits.
+  pub runs : (inputs : Inputs) (l : Label) (text : List ℕ) → inputs_in files isa names ≡ Ok inputs
+      → Contains inputs.groups l → IsTrue l.selected
+      → text_of_label inputs.isa l ≡ Some text
+      → TestRuns inputs.isa l text (claims_of inputs.isa l) (step_limit (cases_of inputs.isa l))
   -- these claims, by case, kind and key, are what is read back from the bytes of the text alone
-  pub read : (inputs : Inputs) (l : Label) (text : List ℕ) → inputs_in files isa names ≡ Ok inputs → Contains inputs.groups l → IsTrue l.selected
-      → text_of_label inputs.isa l ≡ Some text → claims_read text ≡ Some (map (named_claim l) (claims_of inputs.isa l))
-  -- each point of a selected label is claimed, where a choice of the datasets hits it, or is listed as unsolved, where none does
-  pub accounted : (inputs : Inputs) (l : Label) (k : ℕ) → inputs_in files isa names ≡ Ok inputs → Contains inputs.groups l → k < length l.points
+  pub read : (inputs : Inputs) (l : Label) (text : List ℕ) → inputs_in files isa names ≡ Ok inputs
+      → Contains inputs.groups l → IsTrue l.selected
+      → text_of_label inputs.isa l ≡ Some text
+      → claims_read text ≡ Some (map (named_claim l) (claims_of inputs.isa l))
+  -- each point of a selected label is claimed, where a choice of the datasets hits it, or is listed
+  -- as unsolved, where none does
+  pub accounted : (inputs : Inputs) (l : Label) (k : ℕ) → inputs_in files isa names ≡ Ok inputs
+      → Contains inputs.groups l → k < length l.points
       → IsAccounted inputs.isa l (claims_of inputs.isa l) (unsolved_of inputs.isa l) k
   -- so a group file with one label and one point that a choice hits leaves a test that hits it
-  pub one : (isa' : Isa) (l : Label) (p : Point) → inputs_in files isa names ≡ Ok (record { isa = isa'; groups = l ∷ [] })
-      → IsTrue l.selected → l.points ≡ p ∷ [] → IsSolvableAt isa' l 0 → call.status ≡ Done → HasOneTest call work isa' l
+  pub one : (isa' : Isa) (l : Label) (p : Point)
+      → inputs_in files isa names ≡ Ok (record { isa = isa'; groups = l ∷ [] })
+      → IsTrue l.selected → l.points ≡ p ∷ [] → IsSolvableAt isa' l 0 → call.status ≡ Done
+      → HasOneTest call work isa' l
   -- it changes no file but those of tests, however it ends
-  pub others_kept : (files' : Files) (other : List ℕ) → ((name : List ℕ) → other ≢ path_of work name) → call.new.host.files ≡ Some files' → files' other ≡ files other
+  pub others_kept : (files' : Files) (other : List ℕ)
+      → ((name : List ℕ) → other ≢ path_of work name) → call.new.host.files ≡ Some files'
+      → files' other ≡ files other
 
 -- the same of every call: over told files, where its words ask for `generate`
 abbrev pub Promise : Call → Type 0
 Promise call =
     (files : Files) (isa : List ℕ) (names : List (List ℕ)) (work : List ℕ)
-    → Tells call.old.host files → Asks call (Generate isa names work) → Generates call files isa names work
+    → Tells call.old.host files → Asks call (Generate isa names work)
+    → Generates call files isa names work

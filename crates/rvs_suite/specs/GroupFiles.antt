@@ -1,5 +1,6 @@
 -- What comes of coverage group files, which are joined and read as one text.
-use Rattle.std.specs.Prelude.{ℕ, ◌+◌, ◌-◌, nat_lt, if◌then◌else◌, List, [], ◌∷◌, ◌++◌, length, Option, Some, None, unwrap_or, Result, Ok, Err}
+use Rattle.std.specs.Prelude.{ℕ, ◌+◌, ◌-◌, nat_lt, if◌then◌else◌, List, [], ◌∷◌, ◌++◌, length}
+use Rattle.std.specs.Prelude.{Option, Some, None, unwrap_or, Result, Ok, Err}
 use Rattle.rvs_base.specs.Host.{Files}
 use Rattle.rvs_plan.specs.Plan.{Plan, Ends, gives, ◌>>=◌}
 use Rattle.rvs_plan.specs.Inputs.{part, too_long_text}
@@ -22,7 +23,9 @@ joined (Some front) bytes = front ++ 10 ∷ bytes
 
 -- a joined text keeps the limit
 abbrev pub within_limit : List ℕ → Result (List ℕ) Stop
-within_limit text = if nat_lt groups_limit (length text) then Err (Refused (too_long_text groups_name groups_limit)) else Ok text
+within_limit text =
+    if nat_lt groups_limit (length text) then Err (Refused (too_long_text groups_name groups_limit))
+    else Ok text
 
 -- ---- over given files
 abbrev pub join_found : Option (List ℕ) → List ℕ → Option (List ℕ) → Result (List ℕ) Stop
@@ -33,10 +36,12 @@ abbrev pub and_then : {A B : Type 0} → Result A Stop → (A → Result B Stop)
 and_then (Ok a) next = next a
 and_then (Err stop) next = Err stop
 
--- the text of the named files, joined in order; the first that isn't there, or passes the limit, is told
+-- the text of the named files, joined in order; the first that isn't there, or passes the limit, is
+-- told
 abbrev pub text_in : Files → Option (List ℕ) → List (List ℕ) → Result (List ℕ) Stop
 text_in files front [] = Ok (unwrap_or front [])
-text_in files front (name ∷ names) = and_then (join_found front name (files name)) (λ text. text_in files (Some text) names)
+text_in files front (name ∷ names) =
+    and_then (join_found front name (files name)) (λ text. text_in files (Some text) names)
 
 abbrev pub checked_groups : Result (List Label) Refusal → Result (List Label) Stop
 checked_groups (Ok groups) = Ok groups
@@ -61,7 +66,8 @@ inputs_of isa (Err stop) = Err stop
 
 -- what the ISA file and the group files give, or the first of them that isn't there or is refused
 abbrev pub inputs_in : Files → List ℕ → List (List ℕ) → Result Inputs Stop
-inputs_in files isa names = and_then (said_in files isa) (λ said. and_then (text_in files None names) (λ text. inputs_of said.spec (groups_found said.spec text)))
+inputs_in files isa names = and_then (said_in files isa) (λ said. and_then
+    (text_in files None names) (λ text. inputs_of said.spec (groups_found said.spec text)))
 
 -- ---- as plans
 -- what the files so far leave of the limit, for the next and the line feed before it

@@ -11,20 +11,25 @@ use Rattle.rvs_suite.specs.declared.command.Command.TheVariants.{Normalize}
 
 -- the output has the groups with all points written out
 abbrev pub HasPrinted : Call → Inputs → Type 0
-HasPrinted call inputs = call.new.out.bytes ≡ appended call.old.out.bytes (normal_text inputs.groups)
+HasPrinted call inputs =
+    call.new.out.bytes ≡ appended call.old.out.bytes (normal_text inputs.groups)
 
 -- a call of `normalize` on these of these files
-pub record Normalizes (call : Call) (files : Files) (isa : List ℕ) (names : List (List ℕ)) : Type 0 where
-  -- it is done where the ISA file and the groups are accepted, and has put the groups; it is refused, or the host fails, at the first file that isn't
+pub record Normalizes (call : Call) (files : Files) (isa : List ℕ) (names : List (List ℕ)) : Type
+    0 where
+  -- it is done where the ISA file and the groups are accepted, and has put the groups; it is
+  -- refused, or the host fails, at the first file that isn't
   pub answered : Answered call (inputs_in files isa names) (HasPrinted call)
   -- it writes no file, however it ends
   pub files_kept : call.new.host.files ≡ call.old.host.files
-  -- what it put, kept in a file within the limit of group files and read with the same ISA file, gives the selected labels with the same mnemonics and points, and nothing skipped
+  -- what it put, kept in a file within the limit of group files and read with the same ISA file,
+  -- gives the selected labels with the same mnemonics and points, and nothing skipped
   pub again :
       (after : Files) (name : List ℕ) (inputs : Inputs) → inputs_in files isa names ≡ Ok inputs
       → length (normal_text inputs.groups) ≤ groups_limit → after isa ≡ files isa
       → after name ≡ Some (normal_text inputs.groups)
-      → inputs_in after isa (name ∷ []) ≡ Ok (record { isa = inputs.isa; groups = map bare (selected inputs.groups) })
+      → inputs_in after isa (name ∷ [])
+      ≡ Ok (record { isa = inputs.isa; groups = map bare (selected inputs.groups) })
 
 -- the same of every call: over told files, where its words ask for `normalize`
 abbrev pub Promise : Call → Type 0

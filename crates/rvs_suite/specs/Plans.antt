@@ -16,7 +16,9 @@ use Rattle.rvs_suite.specs.Reference as running
 use Rattle.rvs_suite.specs.RunTests as judging
 use Rattle.rvs_suite.specs.Demonstrate as demonstrating
 use Rattle.rvs_suite.specs.declared.command.Command.{Command}
-use Rattle.rvs_suite.specs.declared.command.Command.TheVariants.{Unknown, Compare, Validate, Normalize, Generate, Reference, Coverage, Run, Demo}
+use Rattle.rvs_suite.specs.declared.command.Command.TheVariants.{Unknown, Compare, Validate}
+use Rattle.rvs_suite.specs.declared.command.Command.TheVariants.{Normalize, Generate, Reference}
+use Rattle.rvs_suite.specs.declared.command.Command.TheVariants.{Coverage, Run, Demo}
 
 -- the plan of a command
 abbrev pub plan_of : Command → Plan Finish
@@ -40,7 +42,8 @@ absence_of (Run program isa groups device work) = IsAnswer
 absence_of _ = IsFault
 
 -- what was done for a command, and how it ended
-pub record Performs (command : Command) (old new : World) (result : Result Finish Stop) : Type 0 where
+pub record Performs (command : Command) (old new : World) (result : Result Finish Stop) : Type
+    0 where
   pub obeys : Obeys (absence_of command) (plan_of command) old new result
   -- it stops for its words where they are no command
   pub usage : result ≡ Err why.Usage → command ≡ Unknown

@@ -12,10 +12,12 @@ use Rattle.rvs_suite.specs.Tests.{reference_words}
 use Rattle.rvs_suite.specs.RunTests.{Bench, reference_path, device_path, passes, with_one}
 use Rattle.rvs_suite.specs.declared.gathering.Test.{Test}
 
--- a run of the device on a test: with the device's words, the test's text in its file, and an empty signature file before
+-- a run of the device on a test: with the device's words, the test's text in its file, and an empty
+-- signature file before
 pub record IsRunOf (bench : Bench) (test : Test) (run : DeviceRun) : Type 0 where
   pub words : run.words
-      ≡ started_with bench.program (path_of bench.work test.name) (device_path bench.work test.name) bench.device.command
+      ≡ started_with bench.program (path_of bench.work test.name) (device_path bench.work test.name)
+      bench.device.command
   pub text : run.test ≡ Some test.text
   pub before : run.before ≡ Some []
 

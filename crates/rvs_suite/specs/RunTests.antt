@@ -1,5 +1,6 @@
 -- What `run` does.
-use Rattle.std.specs.Prelude.{ℕ, ◌+◌, ◌-◌, ◌==◌, Bool, true, false, if◌then◌else◌, List, [], ◌∷◌, ◌++◌, length, codes, decimal}
+use Rattle.std.specs.Prelude.{ℕ, ◌+◌, ◌-◌, ◌==◌, Bool, true, false, if◌then◌else◌, List, [], ◌∷◌}
+use Rattle.std.specs.Prelude.{◌++◌, length, codes, decimal}
 use Rattle.rvs_plan.specs.Plan.{Plan, gives, prints, writes, ◌>>=◌}
 use Rattle.rvs_plan.specs.declared.status.Finish.{Finish}
 use Rattle.rvs_plan.specs.declared.status.Finish.TheVariants.{Done, NotPassed}
@@ -43,9 +44,11 @@ tally_line tests passed =
 -- the device is run on the test of this name, and judged by these words
 abbrev pub judges_by : Bench → List ℕ → List ℕ → Plan TestVerdict
 judges_by bench name words =
-    judged (task bench.device.command bench.program (path_of bench.work name) (device_path bench.work name) words)
+    judged (task bench.device.command bench.program (path_of bench.work name)
+    (device_path bench.work name) words)
 
--- a test is written, and then the words that it leaves on the reference machine; the device is run on it and judged by these
+-- a test is written, and then the words that it leaves on the reference machine; the device is run
+-- on it and judged by these
 abbrev pub judges : Bench → Test → Plan TestVerdict
 judges bench test = do
   _ ← writes (path_of bench.work test.name) test.text

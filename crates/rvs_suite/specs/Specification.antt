@@ -17,9 +17,11 @@ use Rattle.rvs_isa.specs.declared.refusal.IsaRefusal.{IsaRefusal}
 abbrev pub isa_limit : ℕ
 isa_limit = 65536
 
--- why the named file has no tree: its first faulty line, counted from 1, and the number of the fault's kind
+-- why the named file has no tree: its first faulty line, counted from 1, and the number of the
+-- fault's kind
 unfoldable pub yaml_text : List ℕ → ℕ → YamlKind → List ℕ
-yaml_text name line kind = name ++ (codes ": yaml " ++ (decimal (number_of kind) ++ (codes " line " ++ decimal line)))
+yaml_text name line kind =
+    name ++ (codes ": yaml " ++ (decimal (number_of kind) ++ (codes " line " ++ decimal line)))
 
 -- why the tree of the named file is no specification: the first check that fails
 unfoldable pub isa_text : List ℕ → IsaRefusal → List ℕ

@@ -1,5 +1,6 @@
 -- What the files of `compare` spell, and when they are refused.
-use Rattle.std.specs.Prelude.{◌≡◌, ◌≢◌, ◌≤◌, ◌<◌, ◌⊎◌, ℕ, List, [], length, Some, None, Ok, Err, codes}
+use Rattle.std.specs.Prelude.{◌≡◌, ◌≢◌, ◌≤◌, ◌<◌, ◌⊎◌, ℕ, List, [], length, Some, None, Ok, Err}
+use Rattle.std.specs.Prelude.{codes}
 use Rattle.rvs_base.specs.Host.{Files}
 use Rattle.rvs_base.specs.Sink.{SinkState, appended}
 use Rattle.rvs_plan.specs.Inputs.{too_long_text}
@@ -42,11 +43,13 @@ pub record BothSpell (files : Files) (left right left_words right_words : List �
 
 -- the left file is refused, or it spells words and the right one is refused
 abbrev pub FirstRefused : Files → List ℕ → List ℕ → List ℕ → Type 0
-FirstRefused files left right text = IsRefused files left text ⊎ ((words : List ℕ) × Spells files left words × IsRefused files right text)
+FirstRefused files left right text = IsRefused files left text ⊎
+    ((words : List ℕ) × Spells files left words × IsRefused files right text)
 
 -- the left file isn't there, or it spells words and the right one isn't there; this is its name
 abbrev pub FirstMissing : Files → List ℕ → List ℕ → List ℕ → Type 0
-FirstMissing files left right name = ((name ≡ left) × (files left ≡ None)) ⊎ ((words : List ℕ) × Spells files left words × (name ≡ right) × (files right ≡ None))
+FirstMissing files left right name = ((name ≡ left) × (files left ≡ None)) ⊎
+    ((words : List ℕ) × Spells files left words × (name ≡ right) × (files right ≡ None))
 
 -- both files spell the same words, and the output has the line that says so
 pub record Passes (files : Files) (left right : List ℕ) (out out' : SinkState) : Type 0 where
@@ -60,7 +63,8 @@ pub record Fails (files : Files) (left right : List ℕ) (out out' : SinkState) 
   pub right_words : List ℕ
   pub both : BothSpell files left right left_words right_words
   pub differ : left_words ≢ right_words
-  pub printed : out'.bytes ≡ appended out.bytes (verdict_line (length left_words) (verdict_of left_words right_words))
+  pub printed : out'.bytes
+      ≡ appended out.bytes (verdict_line (length left_words) (verdict_of left_words right_words))
 
 -- a file is refused, and the sink for errors has the line that says why
 pub record Refuses (files : Files) (left right : List ℕ) (err err' : SinkState) : Type 0 where

@@ -1,9 +1,12 @@
 -- What comes of a test file: its image, and the run of that.
-use Rattle.std.specs.Prelude.{◌≡◌, ℕ, Bool, nat_eq, if◌then◌else◌, List, Option, Some, None, unwrap_or, Result, Ok, Err, codes, ⊤}
+use Rattle.std.specs.Prelude.{◌≡◌, ℕ, Bool, nat_eq, if◌then◌else◌, List, Option, Some, None}
+use Rattle.std.specs.Prelude.{unwrap_or, Result, Ok, Err, codes, ⊤}
 use Rattle.std.specs.List.{ends_with}
 use Rattle.rvs_plan.specs.Plan.{Plan, Ends}
 use Rattle.rvs_plan.specs.declared.stop.Stop.{Stop}
-use Rattle.rvs_plan.specs.declared.stop.Stop.TheVariants.{Usage, Refused, NoFile, CannotRead, CannotWrite, CannotRun, NoMemory, SinkFault}
+use Rattle.rvs_plan.specs.declared.stop.Stop.TheVariants.{Usage, Refused, NoFile, CannotRead}
+use Rattle.rvs_plan.specs.declared.stop.Stop.TheVariants.{CannotWrite, CannotRun, NoMemory}
+use Rattle.rvs_plan.specs.declared.stop.Stop.TheVariants.{SinkFault}
 use Rattle.rvs_insn.specs.Isa.{Isa}
 use Rattle.rvs_machine.specs.Image.{ImageValue}
 use Rattle.rvs_machine.specs.ImageText.{image_of_bytes}
@@ -28,7 +31,8 @@ abbrev pub accepted : {A : Type 0} → Result A (List ℕ) → Plan A
 accepted found = Ends (found_end found)
 
 -- goes on with what was found
-abbrev pub then_found : {A B : Type 0} → Result A (List ℕ) → (A → Result B (List ℕ)) → Result B (List ℕ)
+abbrev pub then_found : {A B : Type 0} → Result A (List ℕ) → (A → Result B (List ℕ))
+    → Result B (List ℕ)
 then_found (Ok a) next = next a
 then_found (Err text) next = Err text
 
@@ -58,7 +62,8 @@ text_found name (Err refusal) = Err (asm_text name refusal)
 
 -- the image of a test file, which is an image file or assembler text
 abbrev pub image_found : Isa → List ℕ → List ℕ → Result ImageValue (List ℕ)
-image_found isa name bytes = if is_image_name name then file_found name (image_of_bytes bytes) else text_found name (answer isa bytes)
+image_found isa name bytes = if is_image_name name then file_found name (image_of_bytes bytes)
+    else text_found name (answer isa bytes)
 
 -- how many instructions a test may have, where nothing says it
 abbrev pub usual_limit : ℕ
@@ -67,11 +72,13 @@ usual_limit = 1_000_000
 -- how many instructions a test may have: what was asked for, or what the header of its text says
 abbrev pub limit_of : Option ℕ → List ℕ → List ℕ → ℕ
 limit_of (Some steps) name bytes = steps
-limit_of None name bytes = if is_image_name name then usual_limit else unwrap_or (header_steps bytes) usual_limit
+limit_of None name bytes = if is_image_name name then usual_limit
+    else unwrap_or (header_steps bytes) usual_limit
 
 -- what a run leaves
 abbrev pub left_by : Setup → Outcome → Run
-left_by setup o = record { words = signature_of (record { setup = setup; state = o.state }); trace = o.trace }
+left_by setup o =
+    record { words = signature_of (record { setup = setup; state = o.state }); trace = o.trace }
 
 -- What a run that halted leaves, or why it didn't halt. No run ends for want of memory.
 abbrev pub run_end : List ℕ → ℕ → Run → End → Result Run (List ℕ)
@@ -85,8 +92,10 @@ outcome_end name limit setup o = run_end name limit (left_by setup o) o.end
 
 -- the run of at most so many instructions of an image on a core
 unfoldable pub run_found : List ℕ → ℕ → Isa → ImageValue → Result Run (List ℕ)
-run_found name limit isa image = outcome_end name limit (started image isa).setup (run_of (started image isa).setup limit (started image isa).state)
+run_found name limit isa image = outcome_end name limit (started image isa).setup
+    (run_of (started image isa).setup limit (started image isa).state)
 
 -- the run of a test file
 abbrev pub test_found : Option ℕ → Isa → List ℕ → List ℕ → Result Run (List ℕ)
-test_found steps isa name bytes = then_found (image_found isa name bytes) (run_found name (limit_of steps name bytes) isa)
+test_found steps isa name bytes =
+    then_found (image_found isa name bytes) (run_found name (limit_of steps name bytes) isa)

@@ -12,11 +12,14 @@ same_line n = codes "PASS " ++ (decimal n ++ codes " words\n")
 
 -- of n words the first that differ are these, at a place that counts from 0
 unfoldable pub differs_line : ℕ → ℕ → ℕ → ℕ → ℕ → List ℕ
-differs_line n at left right differing = codes "FAIL word " ++ (decimal at ++ (codes " is " ++ (hex_word_of left ++ (codes " and " ++ (hex_word_of right ++ (codes ", " ++ (decimal differing ++ (codes " of " ++ (decimal n ++ codes " words differ\n")))))))))
+differs_line n at left right differing = codes "FAIL word " ++ (decimal at ++ (codes " is "
+    ++ (hex_word_of left ++ (codes " and " ++ (hex_word_of right ++ (codes ", "
+    ++ (decimal differing ++ (codes " of " ++ (decimal n ++ codes " words differ\n")))))))))
 
 -- the files spell this many words
 unfoldable pub lengths_line : ℕ → ℕ → List ℕ
-lengths_line left right = codes "FAIL lengths " ++ (decimal left ++ (codes " and " ++ (decimal right ++ codes "\n")))
+lengths_line left right =
+    codes "FAIL lengths " ++ (decimal left ++ (codes " and " ++ (decimal right ++ codes "\n")))
 
 -- the line of a verdict on files of which the left one spells n words
 abbrev pub verdict_line : ℕ → Verdict → List ℕ

@@ -1,5 +1,7 @@
 -- The words of a command line.
-use Rattle.std.specs.Prelude.{ℕ, Bool, true, false, not, ◌==◌, if◌then◌else◌, List, [], ◌∷◌, map, filter, string_bytes, bytes_eq, Option, Some, None, option_map, String}
+use Rattle.std.specs.Prelude.{ℕ, Bool, true, false, not, ◌==◌, if◌then◌else◌, List, [], ◌∷◌, map}
+use Rattle.std.specs.Prelude.{filter, string_bytes, bytes_eq, Option, Some, None, option_map}
+use Rattle.std.specs.Prelude.{String}
 use Rattle.std.specs.List.{list_any, list_all, before_first, after_first}
 use Rattle.std.specs.declared.alloc.Global.{Global}
 use Rattle.rvs_suite.specs.declared.words.Pair.{Pair}
@@ -32,7 +34,8 @@ abbrev pub with_two_words : List ℕ → List ℕ → Option (List Pair) → Opt
 with_two_words name value more =
     if is_positional value then with_pair (record { name = name; value = value }) more else None
 
--- words that are options, each with its value in the same word or in the next, or none where one lacks its value
+-- words that are options, each with its value in the same word or in the next, or none where one
+-- lacks its value
 abbrev pub pairs_of : List (List ℕ) → Option (List Pair)
 pairs_of [] = Some []
 pairs_of (word ∷ []) = option_map (λ (pair : Pair). pair ∷ []) (pair_in word)
@@ -43,11 +46,13 @@ pairs_of (word ∷ value ∷ words) = elim (pair_in word) [
 
 -- the values of an option, in order
 abbrev pub values_of : List ℕ → List Pair → List (List ℕ)
-values_of name pairs = map (λ (p : Pair). p.value) (filter (λ (p : Pair). bytes_eq p.name name) pairs)
+values_of name pairs =
+    map (λ (p : Pair). p.value) (filter (λ (p : Pair). bytes_eq p.name name) pairs)
 
 -- each option is one of these
 abbrev pub are_known : List (List ℕ) → List Pair → Bool
-are_known names pairs = list_all (λ (p : Pair). list_any (λ (name : List ℕ). bytes_eq p.name name) names) pairs
+are_known names pairs =
+    list_all (λ (p : Pair). list_any (λ (name : List ℕ). bytes_eq p.name name) names) pairs
 
 -- the value of an option that stands once
 abbrev pub only : List (List ℕ) → Option (List ℕ)

@@ -2,7 +2,11 @@
 ghost use Rattle.std.specs.Prelude.{◌≡◌, IfOk, codes, option_and_then};
 ghost use Rattle.rvs_demo.specs.Sizes.{size_of};
 ghost use Rattle.rvs_suite.specs.Words.{texts, values_of, are_known};
-ghost use Rattle.rvs_suite.specs.Commands.{compare_command, validate_options, validate_of, validate_command, number_of, within_steps, steps_of, reference_options, reference_run, reference_of, reference_command, given, demo_command, named_command, command_of};
+ghost use Rattle.rvs_suite.specs.Commands.{compare_command, validate_options, validate_of};
+ghost use Rattle.rvs_suite.specs.Commands.{validate_command, number_of, within_steps, steps_of};
+ghost use Rattle.rvs_suite.specs.Commands.{reference_options, reference_run, reference_of};
+ghost use Rattle.rvs_suite.specs.Commands.{reference_command, given, demo_command, named_command};
+ghost use Rattle.rvs_suite.specs.Commands.{command_of};
 
 use crate::group_commands::{read_coverage, read_generate, read_normalize, read_run};
 use crate::words::{
@@ -57,7 +61,8 @@ pub enum Command {
         /// The group files, one to 64, in the order in which they are joined.
         groups: Items<Text>,
         log: Text,
-        /// The windows of addresses whose instructions are counted, up to 16; all where there are none.
+        /// The windows of addresses whose instructions are counted, up to 16; all where there are
+        /// none.
         windows: Items<Window>,
     },
     /// Write a test for each label of coverage groups, run it on the reference machine and on a
@@ -212,7 +217,8 @@ fn read_reference_run(
     })
 }
 
-/// The value of `--steps`, which needn't stand. There is none where it isn't a number of steps, or stands twice.
+/// The value of `--steps`, which needn't stand. There is none where it isn't a number of steps, or
+/// stands twice.
 fn read_steps(alloc: Global, pairs: &[Pair]) -> Result<Option<Option<u64>>, NoMemory>
     ensures { IfOk result (λ steps. steps ≡ steps_of (values_of (codes "--steps") pairs.now)) }
 {

@@ -15,7 +15,8 @@ use std::alloc::Global;
 /// The greatest length of a signature file in bytes: 262,144 lines of ten.
 pub const SIGNATURE_LIMIT: u64 = 2_621_440;
 
-/// Compares two signature files, and puts the verdict. Where neither is accepted, the left one is told.
+/// Compares two signature files, and puts the verdict. Where neither is accepted, the left one is
+/// told.
 ///
 /// # Errors
 ///
@@ -27,7 +28,8 @@ pub fn compare_files<H: Host, O: Sink>(
     host: &mut H,
     out: &mut O,
 ) -> Result<Finish, Stop>
-    ensures { Meets (compare left.now right.now) (world (H.state host.old) (O.state out.old)) (world (H.state host.new) (O.state out.new)) result }
+    ensures { Meets (compare left.now right.now) (world (H.state host.old) (O.state out.old))
+        (world (H.state host.new) (O.state out.new)) result }
 {
     let left_words = read_signature(alloc, host, left)?;
     let right_words = read_signature(alloc, host, right)?;
@@ -40,7 +42,8 @@ pub fn compare_files<H: Host, O: Sink>(
 ///
 /// [`Stop`].
 pub fn read_signature<H: Host>(alloc: Global, host: &mut H, name: &str) -> Result<Items<u32>, Stop>
-    ensures { (out : SinkState) → Meets (signature name.now) (world (H.state host.old) out) (world (H.state host.new) out) result }
+    ensures { (out : SinkState) → Meets (signature name.now) (world (H.state host.old) out)
+        (world (H.state host.new) out) result }
 {
     let bytes = read_input(alloc, host, name, SIGNATURE_LIMIT)?;
     check_words(alloc, name, bytes.as_slice())
@@ -62,7 +65,8 @@ fn print_verdict<O: Sink>(
     right: &[u32],
     out: &mut O,
 ) -> Result<Finish, Stop>
-    ensures { (host : HostState) → Meets (announce left.now right.now) (world host (O.state out.old)) (world host (O.state out.new)) result }
+    ensures { (host : HostState) → Meets (announce left.now right.now)
+        (world host (O.state out.old)) (world host (O.state out.new)) result }
 {
     let verdict = compare(left, right);
     let line = texts::verdict_line(alloc, left.len(), &verdict)?;

@@ -9,7 +9,8 @@ ghost use Rattle.rvs_cgf.specs.declared.group.Label.{Label};
 ghost use Rattle.rvs_count.specs.State.{ended, state_of};
 ghost use Rattle.rvs_count.specs.declared.window.Window.{Window as Span};
 ghost use Rattle.rvs_suite.specs.GroupsView.{groups_view};
-ghost use Rattle.rvs_suite.specs.Coverage.{report_on, report_found, reported, print_report, coverage};
+ghost use Rattle.rvs_suite.specs.Coverage.{report_on, report_found, reported, print_report};
+ghost use Rattle.rvs_suite.specs.Coverage.{coverage};
 
 use crate::group_files::read_inputs;
 use crate::words::owned;
@@ -84,7 +85,8 @@ fn count_named<H: Host>(
     log: &str,
 ) -> Result<Text, Stop>
     ensures { (out : SinkState) → Meets
-        (Asks log.now (λ found. Ends (report_found (groups_view groups.now) windows.now log.now found)))
+        (Asks log.now
+        (λ found. Ends (report_found (groups_view groups.now) windows.now log.now found)))
         (world (H.state host.old) out) (world (H.state host.new) out) result }
 {
     let name = owned(alloc, log)?;

@@ -10,7 +10,8 @@ ghost use Rattle.rvs_test.specs.Made.{text_of_label};
 ghost use Rattle.rvs_suite.specs.GenerateTexts as texts;
 ghost use Rattle.rvs_suite.specs.GenerateView.{totals_view};
 ghost use Rattle.rvs_suite.specs.GroupsView.{groups_view, inputs_view};
-ghost use Rattle.rvs_suite.specs.Generate.{IsSaid, done, path_of, writes_text, writes_test, writes_tests, written_tests, generate};
+ghost use Rattle.rvs_suite.specs.Generate.{IsSaid, done, path_of, writes_text, writes_test};
+ghost use Rattle.rvs_suite.specs.Generate.{writes_tests, written_tests, generate};
 
 use crate::covering::print_report;
 use crate::group_files::{Inputs, read_inputs};

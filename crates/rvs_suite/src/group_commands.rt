@@ -1,7 +1,11 @@
 // The command lines that name coverage group files.
 ghost use Rattle.std.specs.Prelude.{◌≡◌, IfOk, codes};
 ghost use Rattle.rvs_suite.specs.Words.{texts, values_of, are_known};
-ghost use Rattle.rvs_suite.specs.Commands.{some_of, most_groups, normalize_options, normalize_of, normalize_command, generate_options, generate_work, generate_of, generate_command, coverage_options, coverage_log, coverage_of, coverage_command, run_options, run_device, run_of, run_command};
+ghost use Rattle.rvs_suite.specs.Commands.{some_of, most_groups, normalize_options, normalize_of};
+ghost use Rattle.rvs_suite.specs.Commands.{normalize_command, generate_options, generate_work};
+ghost use Rattle.rvs_suite.specs.Commands.{generate_of, generate_command, coverage_options};
+ghost use Rattle.rvs_suite.specs.Commands.{coverage_log, coverage_of, coverage_command};
+ghost use Rattle.rvs_suite.specs.Commands.{run_options, run_device, run_of, run_command};
 
 use crate::command::Command;
 use crate::windows::read_windows;
@@ -48,7 +52,8 @@ fn read_inputs(alloc: Global, pairs: &[Pair]) -> Result<Command, NoMemory>
 
 /// The values of `--cgf`, which stands one to 64 times. There are none where it doesn't.
 fn group_files(alloc: Global, pairs: &[Pair]) -> Result<Option<Items<Text>>, NoMemory>
-    ensures { IfOk result (λ files. files ≡ some_of most_groups (values_of (codes "--cgf") pairs.now)) }
+    ensures { IfOk result
+        (λ files. files ≡ some_of most_groups (values_of (codes "--cgf") pairs.now)) }
 {
     let files = values(alloc, pairs, "--cgf")?;
     let count = files.as_slice().len();

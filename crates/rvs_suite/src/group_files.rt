@@ -11,7 +11,9 @@ ghost use Rattle.rvs_cgf.specs.Groups.{groups_of};
 ghost use Rattle.rvs_suite.specs.Seen.{seen};
 ghost use Rattle.rvs_suite.specs.GroupsView.{groups_view, inputs_view};
 ghost use Rattle.rvs_suite.specs.GroupTexts.{group_text};
-ghost use Rattle.rvs_suite.specs.GroupFiles.{joined, joins, joins_all, room, within_limit, checked_groups, groups_found, group_files, group_inputs};
+ghost use Rattle.rvs_suite.specs.GroupFiles.{joined, joins, joins_all, room, within_limit};
+ghost use Rattle.rvs_suite.specs.GroupFiles.{checked_groups, groups_found, group_files};
+ghost use Rattle.rvs_suite.specs.GroupFiles.{group_inputs};
 
 use crate::isa_file::{read_isa, yaml_text};
 use rvs_base::{Bytes, Host, Items, NoMemory, Text};

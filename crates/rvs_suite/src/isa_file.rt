@@ -7,7 +7,8 @@ ghost use Rattle.rvs_plan.specs.Meets.{Meets};
 ghost use Rattle.rvs_yaml_text.specs.Kinds.{number_of};
 ghost use Rattle.rvs_tree.specs.TreeView.{view};
 ghost use Rattle.rvs_isa.specs.Check.{checked};
-ghost use Rattle.rvs_suite.specs.Specification.{yaml_text, isa_text, checked_end, checks, specification};
+ghost use Rattle.rvs_suite.specs.Specification.{yaml_text, isa_text, checked_end, checks};
+ghost use Rattle.rvs_suite.specs.Specification.{specification};
 
 use rvs_base::{Host, NoMemory, Text};
 use rvs_isa::{Checked, IsaKind, IsaRefusal, check, refusal_text};
@@ -22,9 +23,11 @@ pub const ISA_LIMIT: u64 = 65_536;
 ///
 /// # Errors
 ///
-/// [`Stop`]: the file isn't there, can't be read, is longer than [`ISA_LIMIT`], has no tree, or fails a check.
+/// [`Stop`]: the file isn't there, can't be read, is longer than [`ISA_LIMIT`], has no tree, or
+/// fails a check.
 pub fn read_isa<H: Host>(alloc: Global, host: &mut H, name: &str) -> Result<Checked, Stop>
-    ensures { (out : SinkState) → Meets (specification name.now) (world (H.state host.old) out) (world (H.state host.new) out) result }
+    ensures { (out : SinkState) → Meets (specification name.now) (world (H.state host.old) out)
+        (world (H.state host.new) out) result }
 {
     let bytes = read_input(alloc, host, name, ISA_LIMIT)?;
     check_bytes(alloc, name, bytes.as_slice())
@@ -40,7 +43,8 @@ fn check_bytes(alloc: Global, name: &str, bytes: &[u8]) -> Result<Checked, Stop>
 }
 
 fn check_tree(alloc: Global, name: &str, tree: &Tree) -> Result<Checked, Stop>
-    ensures { (w : World) → Meets (Ends (checked_end name.now (checked (view tree.now)))) w w result }
+    ensures { (w : World)
+        → Meets (Ends (checked_end name.now (checked (view tree.now)))) w w result }
 {
     match check(alloc, tree) {
         Ok(said) => Ok(said),
@@ -55,7 +59,8 @@ fn check_tree(alloc: Global, name: &str, tree: &Tree) -> Result<Checked, Stop>
 /// [`NoMemory`].
 pub fn yaml_text(alloc: Global, name: &str, refusal: &YamlRefusal) -> Result<Text, NoMemory>
     ensures fault { IfOk result (λ _. refusal.now.kind ≢ YamlKind.NoMemory) }
-    ensures text { IfOk result (λ text. text ≡ yaml_text name.now refusal.now.line refusal.now.kind) }
+    ensures text { IfOk result
+        (λ text. text ≡ yaml_text name.now refusal.now.line refusal.now.kind) }
 {
     match refusal.kind {
         YamlKind::NoMemory => Err(NoMemory),

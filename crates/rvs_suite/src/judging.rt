@@ -11,7 +11,8 @@ ghost use Rattle.rvs_device.specs.Judging.{Task};
 ghost use Rattle.rvs_device.specs.Plans.{stopped};
 ghost use Rattle.rvs_suite.specs.Generate.{path_of};
 ghost use Rattle.rvs_suite.specs.Tests.{IsRunnable, reference_words};
-ghost use Rattle.rvs_suite.specs.RunTests.{reference_path, device_path, judges_by, judges, passes, announces, judges_one};
+ghost use Rattle.rvs_suite.specs.RunTests.{reference_path, device_path, judges_by, judges, passes};
+ghost use Rattle.rvs_suite.specs.RunTests.{announces, judges_one};
 ghost use Rattle.rvs_suite.specs.RunView.{bench_view};
 
 use crate::gathering::Test;
@@ -53,7 +54,8 @@ pub fn judge_one<H: Host, O: Sink>(
     print_verdict(alloc, test.name.as_str(), &verdict, out)
 }
 
-/// Writes a test and the words that it leaves on the reference machine, and judges the device by them.
+/// Writes a test and the words that it leaves on the reference machine, and judges the device by
+/// them.
 fn judge_test<H: Host>(
     alloc: Global,
     host: &mut H,

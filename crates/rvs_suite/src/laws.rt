@@ -1,5 +1,9 @@
 // What command lines ask for.
-ghost use Rattle.rvs_suite.specs.CommandLaws.{ComparesAreRead, ValidatesAreRead, NormalizesAreRead, GeneratesAreRead, ReferencesAreRead, CoveragesAreRead, RunsAreRead, DemosAreRead, OptionsArePairs, OptionsChangePlaces, StepsAreRead, CountsAreRead, WindowsAreRead};
+ghost use Rattle.rvs_suite.specs.CommandLaws.{ComparesAreRead, ValidatesAreRead, NormalizesAreRead};
+ghost use Rattle.rvs_suite.specs.CommandLaws.{GeneratesAreRead, ReferencesAreRead};
+ghost use Rattle.rvs_suite.specs.CommandLaws.{CoveragesAreRead, RunsAreRead, DemosAreRead};
+ghost use Rattle.rvs_suite.specs.CommandLaws.{OptionsArePairs, OptionsChangePlaces, StepsAreRead};
+ghost use Rattle.rvs_suite.specs.CommandLaws.{CountsAreRead, WindowsAreRead};
 
 /// The words of each command, with its options in the usual order, ask for that command with these
 /// values, for all names: whichever form each option has, with any list of one to 64 group files,

@@ -25,13 +25,15 @@ use std::alloc::Global;
 /// The greatest length of a test file in bytes: 64 MiB.
 pub const TEST_LIMIT: u64 = 67_108_864;
 
-/// Runs a test on the reference machine, on the core of an ISA file, and writes its signature, and its log where one is asked for. The
-/// test may have `steps` instructions, or where that is `None` as many as the header of its text says, or else 1,000,000. Nothing is
-/// written before the run has halted.
+/// Runs a test on the reference machine, on the core of an ISA file, and writes its signature, and
+/// its log where one is asked for. The test may have `steps` instructions, or where that is `None`
+/// as many as the header of its text says, or else 1,000,000. Nothing is written before the run has
+/// halted.
 ///
 /// # Errors
 ///
-/// [`Stop`]: a file isn't accepted, an instruction traps, the run doesn't halt, a file can't be written, or the output failed.
+/// [`Stop`]: a file isn't accepted, an instruction traps, the run doesn't halt, a file can't be
+/// written, or the output failed.
 pub fn run_reference<H: Host, O: Sink>(
     alloc: Global,
     isa: &str,
@@ -42,7 +44,9 @@ pub fn run_reference<H: Host, O: Sink>(
     host: &mut H,
     out: &mut O,
 ) -> Result<Finish, Stop>
-    ensures { Meets (reference isa.now test.now signature.now log.now steps) (world (H.state host.old) (O.state out.old)) (world (H.state host.new) (O.state out.new)) result }
+    ensures { Meets (reference isa.now test.now signature.now log.now steps)
+        (world (H.state host.old) (O.state out.old)) (world (H.state host.new) (O.state out.new))
+        result }
 {
     let said = read_isa(alloc, host, isa)?;
     let run = run_test(alloc, steps, said.spec, test, host)?;
@@ -57,13 +61,15 @@ fn run_test<H: Host>(
     test: &str,
     host: &mut H,
 ) -> Result<Run, Stop>
-    ensures { (out : SinkState) → Meets (trial steps spec test.now) (world (H.state host.old) out) (world (H.state host.new) out) result }
+    ensures { (out : SinkState) → Meets (trial steps spec test.now) (world (H.state host.old) out)
+        (world (H.state host.new) out) result }
 {
     let bytes = read_input(alloc, host, test, TEST_LIMIT)?;
     run_bytes(alloc, steps, spec, test, bytes.as_slice())
 }
 
-/// Writes what a run has left: its signature, and then its log, where one is asked for. Puts the line that counts both.
+/// Writes what a run has left: its signature, and then its log, where one is asked for. Puts the
+/// line that counts both.
 fn record_run<H: Host, O: Sink>(
     alloc: Global,
     signature: &str,
@@ -72,7 +78,9 @@ fn record_run<H: Host, O: Sink>(
     host: &mut H,
     out: &mut O,
 ) -> Result<Finish, Stop>
-    ensures { Meets (records signature.now log.now run.now) (world (H.state host.old) (O.state out.old)) (world (H.state host.new) (O.state out.new)) result }
+    ensures { Meets (records signature.now log.now run.now)
+        (world (H.state host.old) (O.state out.old)) (world (H.state host.new) (O.state out.new))
+        result }
 {
     write_signature(alloc, signature, run.words.as_slice(), host)?;
     write_log(alloc, log, run.trace.as_slice(), host)?;
@@ -85,7 +93,8 @@ fn write_signature<H: Host>(
     words: &[u32],
     host: &mut H,
 ) -> Result<(), Stop>
-    ensures { (out : SinkState) → Meets (writes signature.now (text_of_words words.now)) (world (H.state host.old) out) (world (H.state host.new) out) result }
+    ensures { (out : SinkState) → Meets (writes signature.now (text_of_words words.now))
+        (world (H.state host.old) out) (world (H.state host.new) out) result }
 {
     let text = print_words(alloc, words)?;
     let name = owned(alloc, signature)?;
@@ -98,7 +107,8 @@ fn write_log<H: Host>(
     trace: &[Executed],
     host: &mut H,
 ) -> Result<(), Stop>
-    ensures { (out : SinkState) → Meets (writes_log log.now trace.now) (world (H.state host.old) out) (world (H.state host.new) out) result }
+    ensures { (out : SinkState) → Meets (writes_log log.now trace.now)
+        (world (H.state host.old) out) (world (H.state host.new) out) result }
 {
     match log {
         None => Ok(()),
@@ -112,7 +122,8 @@ fn write_lines<H: Host>(
     trace: &[Executed],
     host: &mut H,
 ) -> Result<(), Stop>
-    ensures { (out : SinkState) → Meets (writes log.now (log_of trace.now)) (world (H.state host.old) out) (world (H.state host.new) out) result }
+    ensures { (out : SinkState) → Meets (writes log.now (log_of trace.now))
+        (world (H.state host.old) out) (world (H.state host.new) out) result }
 {
     let lines = log_lines(alloc, trace)?;
     let name = owned(alloc, log)?;
@@ -132,7 +143,8 @@ fn log_lines(alloc: Global, trace: &[Executed]) -> Result<Bytes, NoMemory>
 }
 
 fn announce_run<O: Sink>(alloc: Global, run: &Run, out: &mut O) -> Result<Finish, Stop>
-    ensures { (host : HostState) → Meets (announces_run run.now) (world host (O.state out.old)) (world host (O.state out.new)) result }
+    ensures { (host : HostState) → Meets (announces_run run.now) (world host (O.state out.old))
+        (world host (O.state out.new)) result }
 {
     let line = ran_line(
         alloc,

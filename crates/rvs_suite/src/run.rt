@@ -6,7 +6,8 @@ ghost use Rattle.rvs_plan.specs.World.{world, IsAnswer};
 ghost use Rattle.rvs_plan.specs.Meets.{MeetsWith, Meets};
 ghost use Rattle.rvs_device.specs.DeviceView.{told};
 ghost use Rattle.rvs_suite.specs.Tests.{IsRunnable};
-ghost use Rattle.rvs_suite.specs.RunTests.{tally_line, with_one, judges_all, verdict_of_all, tallies, judges_tests, run};
+ghost use Rattle.rvs_suite.specs.RunTests.{tally_line, with_one, judges_all, verdict_of_all};
+ghost use Rattle.rvs_suite.specs.RunTests.{tallies, judges_tests, run};
 ghost use Rattle.rvs_suite.specs.RunView.{bench_view};
 
 use crate::device_file::read_device_file;
@@ -20,9 +21,9 @@ use rvs_insn::IsaSpec;
 use rvs_plan::{Finish, Stop, print};
 use std::alloc::Global;
 
-/// Reads coverage group files for the core of an ISA file, and a device file; writes a test for each
-/// label that has a solved point, runs it on the reference machine and on the device, and puts the
-/// verdict on the words that the device leaves.
+/// Reads coverage group files for the core of an ISA file, and a device file; writes a test for
+/// each label that has a solved point, runs it on the reference machine and on the device, and puts
+/// the verdict on the words that the device leaves.
 ///
 /// # Errors
 ///

@@ -1,7 +1,8 @@
 // The image of a test file.
 ghost use Rattle.std.specs.Prelude.{◌≡◌, ◌≢◌, ◌++◌, codes, IfOk};
 ghost use Rattle.rvs_suite.specs.TestTexts.{image_text, asm_text, asm_detail};
-ghost use Rattle.rvs_suite.specs.TestRun.{is_image_name, file_found, text_found, image_found, limit_of, test_found, Accepts};
+ghost use Rattle.rvs_suite.specs.TestRun.{is_image_name, file_found, text_found, image_found};
+ghost use Rattle.rvs_suite.specs.TestRun.{limit_of, test_found, Accepts};
 ghost use Rattle.rvs_machine.specs.ImageText.{image_of_bytes};
 ghost use Rattle.rvs_asm.specs.Answer.{answer};
 
@@ -17,12 +18,13 @@ use std::alloc::Global;
 /// How many instructions a test may have, where nothing says it.
 const USUAL_LIMIT: u64 = 1_000_000;
 
-/// Runs the named test on a core until it halts. It may have `steps` instructions, or where that is `None` as many as the header of
-/// its text says, or else 1,000,000.
+/// Runs the named test on a core until it halts. It may have `steps` instructions, or where that is
+/// `None` as many as the header of its text says, or else 1,000,000.
 ///
 /// # Errors
 ///
-/// [`Stop::Refused`] where the bytes have no image, where an instruction traps, and where the run doesn't halt; [`Stop::NoMemory`].
+/// [`Stop::Refused`] where the bytes have no image, where an instruction traps, and where the run
+/// doesn't halt; [`Stop::NoMemory`].
 pub fn run_bytes(
     alloc: Global,
     steps: Option<u64>,
@@ -94,7 +96,8 @@ fn image_text(alloc: Global, name: &str, refusal: &ImageRefusal) -> Result<Text,
 
 #[tactic(auto, unfolding(crate::specs::TestTexts::image_text))]
 fn image_line(alloc: Global, name: &str, line: u64, kind: ImageKind) -> Result<Text, NoMemory>
-    ensures { IfOk result (λ text. text ≡ image_text name.now (record { line = line; kind = kind })) }
+    ensures { IfOk result
+        (λ text. text ≡ image_text name.now (record { line = line; kind = kind })) }
 {
     let number = kind.number();
     Ok(Text::from(format!(in alloc; "{name}: image {number} line {line}")?))

@@ -23,7 +23,8 @@ pub struct Run {
 ///
 /// # Errors
 ///
-/// [`Stop::Refused`] where an instruction traps, and where the run doesn't halt; [`Stop::NoMemory`].
+/// [`Stop::Refused`] where an instruction traps, and where the run doesn't halt;
+/// [`Stop::NoMemory`].
 pub fn run_image(
     alloc: Global,
     name: &str,

@@ -1,7 +1,8 @@
 // The lines that commands put.
 ghost use Rattle.std.specs.Prelude.{◌≡◌, ℕ, IfOk};
 ghost use Rattle.rvs_base.specs.Number.{hex_word_of};
-ghost use Rattle.rvs_suite.specs.Texts.{verdict_line, same_line, differs_line, lengths_line, refusal_text, bad_line_text, too_many_text};
+ghost use Rattle.rvs_suite.specs.Texts.{verdict_line, same_line, differs_line, lengths_line};
+ghost use Rattle.rvs_suite.specs.Texts.{refusal_text, bad_line_text, too_many_text};
 
 use rvs_base::{NoMemory, Text, hex_text};
 use rvs_sig::{SigRefusal, Verdict};

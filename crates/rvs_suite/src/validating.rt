@@ -21,14 +21,16 @@ pub fn validate_file<H: Host, O: Sink>(
     host: &mut H,
     out: &mut O,
 ) -> Result<Finish, Stop>
-    ensures { Meets (validate isa.now) (world (H.state host.old) (O.state out.old)) (world (H.state host.new) (O.state out.new)) result }
+    ensures { Meets (validate isa.now) (world (H.state host.old) (O.state out.old))
+        (world (H.state host.new) (O.state out.new)) result }
 {
     let said = read_isa(alloc, host, isa)?;
     print_said(alloc, &said, out)
 }
 
 fn print_said<O: Sink>(alloc: Global, said: &Checked, out: &mut O) -> Result<Finish, Stop>
-    ensures { (host : HostState) → Meets (print_said said.now) (world host (O.state out.old)) (world host (O.state out.new)) result }
+    ensures { (host : HostState) → Meets (print_said said.now) (world host (O.state out.old))
+        (world host (O.state out.new)) result }
 {
     let text = print_checked(alloc, said)?;
     print(out, text.as_str().as_bytes())?;

@@ -10,8 +10,8 @@ use std::alloc::Global;
 /// The most windows that may be given.
 const MOST_WINDOWS: usize = 16;
 
-/// The windows that these words spell, each `LO:HI`. There are none where one doesn't, or where there
-/// are more than 16.
+/// The windows that these words spell, each `LO:HI`. There are none where one doesn't, or where
+/// there are more than 16.
 ///
 /// # Errors
 ///

@@ -1,7 +1,8 @@
 // The words of a command line, and its options.
 ghost use Rattle.std.specs.Prelude.{◌≡◌, ◌≤◌, ◌∷◌, length, Some, None, IfOk, MatchOption, bytes_eq};
 ghost use Rattle.std.specs.List.{list_any, list_all};
-ghost use Rattle.rvs_suite.specs.Words.{texts, is_positional, pair_in, with_pair, pairs_of, values_of, only, at_most_one};
+ghost use Rattle.rvs_suite.specs.Words.{texts, is_positional, pair_in, with_pair, pairs_of};
+ghost use Rattle.rvs_suite.specs.Words.{values_of, only, at_most_one};
 
 use rvs_base::{Items, NoMemory, Text};
 use std::alloc::Global;
@@ -95,7 +96,8 @@ pub fn read_pairs(alloc: Global, words: &[String]) -> Result<Option<Items<Pair>>
 
 /// Whether each option is one of these.
 pub fn are_known(pairs: &[Pair], names: &[&str]) -> bool
-    ensures { result ≡ list_all (λ pair. list_any (λ name. bytes_eq pair.name name.now) names.now) pairs.now }
+    ensures { result
+        ≡ list_all (λ pair. list_any (λ name. bytes_eq pair.name name.now) names.now) pairs.now }
 {
     pairs
         .iter()

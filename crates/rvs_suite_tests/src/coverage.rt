@@ -5,8 +5,8 @@ use rvs_suite::Status;
 use std::alloc::Global;
 use std::test::Fail;
 
-/// The words behind `--isa i.yaml`, the status, the output, and the line of an error. Words have one
-/// space between them.
+/// The words behind `--isa i.yaml`, the status, the output, and the line of an error. Words have
+/// one space between them.
 type Row<'r> = (&'r str, Status, &'r str, &'r str);
 
 const COVERAGE: &str = "coverage --isa i.yaml --cgf addi.cgf --log ";

@@ -1,6 +1,6 @@
-//! Tests over several crates: group files read from texts, and whole runs of each command over hosts
-//! and sinks in memory. They stand in a crate of their own, since the proof of a crate's tests
-//! proves the crate again.
+//! Tests over several crates: group files read from texts, and whole runs of each command over
+//! hosts and sinks in memory. They stand in a crate of their own, since the proof of a crate's
+//! tests proves the crate again.
 #![tactic(auto)]
 
 #[cfg(test)]

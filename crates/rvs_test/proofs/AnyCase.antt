@@ -1,6 +1,9 @@
 -- A case of any kind that is made.
-use Rattle.std.proofs.Common.{◌≡◌, ◌≢◌, ℕ, zero, suc, ◌+◌, ◌*◌, ◌/◌, ◌%◌, ◌^◌, ◌-◌, ◌<◌, ◌≤◌, Bool, true, false, cond, List, [], ◌∷◌, ◌++◌, length, Option, Some, None, refl, sym, ap, ◌∙◌, arith, subst, ◌⊎◌, inl, inr}
-use Rattle.std.specs.Prelude.{ℤ, pos, negsuc, unwrap_or, replicate, nat_le, ◌-ℤ◌, ◌&&◌, ◌||◌, not, ◌==◌}
+use Rattle.std.proofs.Common.{◌≡◌, ◌≢◌, ℕ, zero, suc, ◌+◌, ◌*◌, ◌/◌, ◌%◌, ◌^◌, ◌-◌, ◌<◌, ◌≤◌, Bool}
+use Rattle.std.proofs.Common.{true, false, cond, List, [], ◌∷◌, ◌++◌, length, Option, Some, None}
+use Rattle.std.proofs.Common.{refl, sym, ap, ◌∙◌, arith, subst, ◌⊎◌, inl, inr}
+use Rattle.std.specs.Prelude.{ℤ, pos, negsuc, unwrap_or, replicate, nat_le, ◌-ℤ◌, ◌&&◌, ◌||◌, not}
+use Rattle.std.specs.Prelude.{◌==◌}
 use Rattle.std.specs.List.{find}
 use Rattle.std.proofs.lemmas.Bool.Decides.{nat_tests}
 use Rattle.rvs_insn.specs.declared.op.Op.{Op}
@@ -27,15 +30,20 @@ use Rattle.rvs_expr.specs.Meaning.{Table}
 use Rattle.rvs_expr.specs.Facts.{Extends}
 use Rattle.rvs_facts.specs.Facts.{facts_of, num_of, value_of, first_value, alignment}
 use Rattle.rvs_test.specs.declared.statement.Name.{Name}
-use Rattle.rvs_test.specs.declared.statement.Name.TheVariants.{Case as CaseName, Target, Done, Slot, Scratch}
+use Rattle.rvs_test.specs.declared.statement.Name.TheVariants.{Case as CaseName, Target, Done, Slot}
+use Rattle.rvs_test.specs.declared.statement.Name.TheVariants.{Scratch}
 use Rattle.rvs_test.specs.declared.statement.Statement.{Statement}
 use Rattle.rvs_test.specs.declared.statement.Statement.TheVariants.{Label, Plain, High, Low}
-use Rattle.rvs_test.specs.Sound.{is_plain, has_case, access_size, IsNearby, Accesses, IsSound, IsWordOf, AreSame}
+use Rattle.rvs_test.specs.Sound.{is_plain, has_case, access_size, IsNearby, Accesses, IsSound}
+use Rattle.rvs_test.specs.Sound.{IsWordOf, AreSame}
 use Rattle.rvs_test.specs.Statements.{line_of, lui, addi}
-use Rattle.rvs_test.specs.TestText.{sw, lw, source, pointer, marker, save, first_part, second_part, plain_case, store_case, jalr_case, jump_case, between, unlinked, frame, copy_word, case_by, choice_statements}
+use Rattle.rvs_test.specs.TestText.{sw, lw, source, pointer, marker, save, first_part, second_part}
+use Rattle.rvs_test.specs.TestText.{plain_case, store_case, jalr_case, jump_case, between, unlinked}
+use Rattle.rvs_test.specs.TestText.{frame, copy_word, case_by, choice_statements}
 use Rattle.rvs_test.proofs.Runs.{StandFrom}
 use Rattle.rvs_test.proofs.Cases.{Case, IsGood}
-use Rattle.rvs_test.proofs.Shapes.{lead, source_size, source_small, source_code, plain_code, save as save_code, stand_split, stands_there}
+use Rattle.rvs_test.proofs.Shapes.{lead, source_size, source_small, source_code, plain_code}
+use Rattle.rvs_test.proofs.Shapes.{save as save_code, stand_split, stands_there}
 use Rattle.rvs_test.specs.Claim.{outcome_by, written_value, is_taken, mark_of}
 use Rattle.rvs_test.proofs.SplitBase.{parts_fit}
 use Rattle.rvs_asm.proofs.Linked.{relinked}
@@ -46,17 +54,27 @@ use Rattle.std.proofs.lemmas.Int.{ints}
 use Rattle.rvs_machine.proofs.Steps.{StandsAt}
 use Rattle.rvs_machine.proofs.Results.{HasValue}
 use Rattle.rvs_machine.proofs.Jumps.{Jumping, branch_jumps, jal_jumps, is_taken as machine_taken}
-use Rattle.rvs_test.proofs.Frames.{skip_code, back_code, to_place, forward_mark, backward_mark, passed_mark}
-use Rattle.rvs_test.proofs.JumpGood.{IsJump, jump_of, forward_code, backward_code, front_piece, forward_good, backward_good, back_length}
-use Rattle.rvs_test.proofs.JumpCases.{frame_size, frame_bytes, frame_marks, frame_marks_are, forward_made, backward_made, frame_distinct, IsLinkable, frame_fine, IsLabelled, mark_at, FrameThere, frame_linked}
+use Rattle.rvs_test.proofs.Frames.{skip_code, back_code, to_place, forward_mark, backward_mark}
+use Rattle.rvs_test.proofs.Frames.{passed_mark}
+use Rattle.rvs_test.proofs.JumpGood.{IsJump, jump_of, forward_code, backward_code, front_piece}
+use Rattle.rvs_test.proofs.JumpGood.{forward_good, backward_good, back_length}
+use Rattle.rvs_test.proofs.JumpCases.{frame_size, frame_bytes, frame_marks, frame_marks_are}
+use Rattle.rvs_test.proofs.JumpCases.{forward_made, backward_made, frame_distinct, IsLinkable}
+use Rattle.rvs_test.proofs.JumpCases.{frame_fine, IsLabelled, mark_at, FrameThere, frame_linked}
 use Rattle.rvs_test.proofs.JalrGood.{IsJalr, jalr_code, jalr_of, jalr_good, base_of}
 use Rattle.rvs_test.proofs.StoreRuns.{scratch_after as scratch}
 use Rattle.rvs_test.proofs.StoreGood.{store_code, IsStore, store_of, store_good}
 use Rattle.rvs_test.proofs.KindLaws.{IsSmall, OwnFormat, LinkedFormat}
-use Rattle.rvs_test.proofs.Tables.{Marks, find_name, AllBelow, Lacks, stage, below_join, lacks_later, lacks_join}
-use Rattle.rvs_test.proofs.Assembled.{AllFine, fine_join, marks, Distinct, AllLinked, IsThere, made_all, bytes_all, text_at}
+use Rattle.rvs_test.proofs.Tables.{Marks, find_name, AllBelow, Lacks, stage, below_join}
+use Rattle.rvs_test.proofs.Tables.{lacks_later, lacks_join}
+use Rattle.rvs_test.proofs.Assembled.{AllFine, fine_join, marks, Distinct, AllLinked, IsThere}
+use Rattle.rvs_test.proofs.Assembled.{made_all, bytes_all, text_at}
 use Rattle.rvs_test.proofs.Helpers.{pointer_free}
-use Rattle.rvs_test.proofs.PlainCases.{IsPlainChoice, plain_bytes, plain_marks, plain_distinct, plain_made, plain_fine, plain_linked, HasPattern, plain_does, source_bytes, source_marks, source_distinct, source_made, source_linked, fine_word, fine_save, register_low, admitted_low, registers_of}
+use Rattle.rvs_test.proofs.PlainCases.{IsPlainChoice, plain_bytes, plain_marks, plain_distinct}
+use Rattle.rvs_test.proofs.PlainCases.{plain_made, plain_fine, plain_linked, HasPattern, plain_does}
+use Rattle.rvs_test.proofs.PlainCases.{source_bytes, source_marks, source_distinct, source_made}
+use Rattle.rvs_test.proofs.PlainCases.{source_linked, fine_word, fine_save, register_low}
+use Rattle.rvs_test.proofs.PlainCases.{admitted_low, registers_of}
 use Rattle.rvs_test.proofs.PlainCases.{case_of as plain_case_of}
 
 pub record IsMade (isa : Isa) (c : ChoiceValue) : Type 0 where

@@ -1,5 +1,6 @@
 -- The cases one after the other: their lines, their symbols, and what they do.
-use Rattle.std.proofs.Common.{◌≡◌, ℕ, zero, suc, ◌+◌, ◌*◌, ◌%◌, ◌^◌, ◌<◌, ◌≤◌, List, [], ◌∷◌, ◌++◌, length, refl, sym, ap, ◌∙◌, arith, subst}
+use Rattle.std.proofs.Common.{◌≡◌, ℕ, zero, suc, ◌+◌, ◌*◌, ◌%◌, ◌^◌, ◌<◌, ◌≤◌, List, [], ◌∷◌, ◌++◌}
+use Rattle.std.proofs.Common.{length, refl, sym, ap, ◌∙◌, arith, subst}
 use Rattle.rvs_insn.specs.Isa.{Isa}
 use Rattle.rvs_machine.specs.Image.{text_base, data_base}
 use Rattle.rvs_machine.specs.Machine.{Setup}
@@ -10,11 +11,17 @@ use Rattle.rvs_test.specs.TestText.{case_statements, cases, all_steps}
 use Rattle.rvs_test.proofs.Runs.{StandFrom}
 use Rattle.rvs_test.proofs.Cases.{Case, AreGood, end_of, steps_of}
 use Rattle.rvs_test.proofs.Shapes.{stand_split, stands_later}
-use Rattle.rvs_test.proofs.Tables.{Marks, lacks_later, AllBelow, below_join, below_more, stage, find_after}
-use Rattle.rvs_test.proofs.Assembled.{AllFine, fine_join, marks, marks_join, after, fine_after, Distinct, distinct_join, AllLinked, linked_join, IsThere, made_all, made_join, made_length, bytes_all, bytes_join, text_at}
+use Rattle.rvs_test.proofs.Tables.{Marks, lacks_later, AllBelow, below_join, below_more, stage}
+use Rattle.rvs_test.proofs.Tables.{find_after}
+use Rattle.rvs_test.proofs.Assembled.{AllFine, fine_join, marks, marks_join, after, fine_after}
+use Rattle.rvs_test.proofs.Assembled.{Distinct, distinct_join, AllLinked, linked_join, IsThere}
+use Rattle.rvs_test.proofs.Assembled.{made_all, made_join, made_length, bytes_all, bytes_join}
+use Rattle.rvs_test.proofs.Assembled.{text_at}
 use Rattle.rvs_test.proofs.PlainCases.{HasPattern}
 use Rattle.rvs_test.proofs.AnyCase.{late_stage, later_late, Keeps, NamesAt, IsPlaced}
-use Rattle.rvs_test.proofs.Every.{IsMade, case_size, size_low, case_bytes, case_marks_is, case_distinct, case_fine, case_linked, case_of, own_marks, own_below, has_names, target_at, size_words, case_does, case_is}
+use Rattle.rvs_test.proofs.Every.{IsMade, case_size, size_low, case_bytes, case_marks_is}
+use Rattle.rvs_test.proofs.Every.{case_distinct, case_fine, case_linked, case_of, own_marks}
+use Rattle.rvs_test.proofs.Every.{own_below, has_names, target_at, size_words, case_does, case_is}
 
 abbrev pub AllMade : Isa → List Solved → Type 0
 AllMade isa [] = Unit {0}

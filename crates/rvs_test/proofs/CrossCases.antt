@@ -1,5 +1,7 @@
 -- A case of a cross point: its lines, their symbols, their instructions, and what it does.
-use Rattle.std.proofs.Common.{None, ◌≡◌, ℕ, zero, suc, ◌+◌, ◌*◌, ◌^◌, ◌<◌, ◌≤◌, true, false, List, [], ◌∷◌, ◌++◌, length, Some, refl, sym, ap, ◌∙◌, arith, subst, append-nil}
+use Rattle.std.proofs.Common.{None, ◌≡◌, ℕ, zero, suc, ◌+◌, ◌*◌, ◌^◌, ◌<◌, ◌≤◌, true, false, List}
+use Rattle.std.proofs.Common.{[], ◌∷◌, ◌++◌, length, Some, refl, sym, ap, ◌∙◌, arith, subst}
+use Rattle.std.proofs.Common.{append-nil}
 use Rattle.std.specs.Prelude.{pos, map}
 use Rattle.rvs_insn.specs.declared.op.Op.TheVariants.{Add}
 use Rattle.rvs_insn.specs.declared.op.Format.{Format}
@@ -19,13 +21,16 @@ use Rattle.rvs_test.specs.declared.statement.Statement.TheVariants.{Label, Plain
 use Rattle.rvs_test.specs.Sound.{computes, AllComputing, IsSequence}
 use Rattle.rvs_test.specs.Claim.{insns_of}
 use Rattle.rvs_test.specs.Statements.{line_of, addi}
-use Rattle.rvs_test.specs.TestText.{save, start_word, load_words, plains, first_rd, last_rd, cross_case}
+use Rattle.rvs_test.specs.TestText.{save, start_word, load_words, plains, first_rd, last_rd}
+use Rattle.rvs_test.specs.TestText.{cross_case}
 use Rattle.rvs_test.proofs.Runs.{StandFrom}
 use Rattle.rvs_test.proofs.Cases.{IsGood}
 use Rattle.rvs_test.proofs.KindLaws.{OwnFormat}
 use Rattle.rvs_test.proofs.Tables.{Marks, AllBelow, lacks_later}
-use Rattle.rvs_test.proofs.Assembled.{AllFine, fine_join, marks, Distinct, AllLinked, IsThere, made_all, bytes_all, text_at}
-use Rattle.rvs_test.proofs.PlainCases.{source_made, source_distinct, source_linked, source_marks, source_bytes, fine_word, fine_save, admitted_low}
+use Rattle.rvs_test.proofs.Assembled.{AllFine, fine_join, marks, Distinct, AllLinked, IsThere}
+use Rattle.rvs_test.proofs.Assembled.{made_all, bytes_all, text_at}
+use Rattle.rvs_test.proofs.PlainCases.{source_made, source_distinct, source_linked, source_marks}
+use Rattle.rvs_test.proofs.PlainCases.{source_bytes, fine_word, fine_save, admitted_low}
 use Rattle.rvs_test.proofs.AnyCase.{IsPlaced}
 use Rattle.rvs_test.proofs.Window.{Words, entries, entry_in, words_behind, words_code}
 use Rattle.rvs_test.proofs.CrossGood.{rd_middle, last_middle, cross_code, cross_of, cross_good}

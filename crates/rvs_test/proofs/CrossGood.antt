@@ -1,5 +1,7 @@
 -- A case of a cross point is good wherever its lines stand.
-use Rattle.std.proofs.Common.{zero, suc, ◌≡◌, ℕ, ◌+◌, ◌*◌, ◌%◌, ◌^◌, ◌-◌, ◌<◌, ◌≤◌, true, List, [], ◌∷◌, ◌++◌, length, Option, Some, None, refl, sym, ap, ◌∙◌, arith, subst, inl, inr, length-append}
+use Rattle.std.proofs.Common.{zero, suc, ◌≡◌, ℕ, ◌+◌, ◌*◌, ◌%◌, ◌^◌, ◌-◌, ◌<◌, ◌≤◌, true, List, []}
+use Rattle.std.proofs.Common.{◌∷◌, ◌++◌, length, Option, Some, None, refl, sym, ap, ◌∙◌, arith}
+use Rattle.std.proofs.Common.{subst, inl, inr, length-append}
 use Rattle.std.specs.Prelude.{unwrap_or, ℤ}
 use Rattle.rvs_insn.specs.declared.op.Format.{Format}
 use Rattle.rvs_insn.specs.declared.op.Format.TheVariants.{R, I, Shift}
@@ -21,7 +23,10 @@ use Rattle.rvs_test.proofs.Pieces.{join, same_length}
 use Rattle.rvs_test.proofs.Shapes.{save, save_piece, saved, IsSlot, stand_split}
 use Rattle.rvs_test.proofs.Good.{elsewhere_of}
 use Rattle.rvs_test.proofs.Stored.{leaves_two}
-use Rattle.rvs_test.proofs.Window.{Words, AreWords, value_in, value_low, low_behind, if_same, entries, entry_in, words_behind, windowed, window_within, window_length, words_code, started_regs, words_piece, words_held, words_low, words_regs_long}
+use Rattle.rvs_test.proofs.Window.{Words, AreWords, value_in, value_low, low_behind, if_same}
+use Rattle.rvs_test.proofs.Window.{entries, entry_in, words_behind, windowed, window_within}
+use Rattle.rvs_test.proofs.Window.{window_length, words_code, started_regs, words_piece, words_held}
+use Rattle.rvs_test.proofs.Window.{words_low, words_regs_long}
 
 -- ---- the registers that its outcome names
 pub record IsMiddleNumber (r : ℕ) : Type 0 where

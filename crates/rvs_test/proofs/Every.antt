@@ -1,5 +1,6 @@
 -- One case of a test: of one choice, or of a window.
-use Rattle.std.proofs.Common.{◌≡◌, ℕ, ◌+◌, ◌*◌, ◌/◌, ◌%◌, ◌^◌, ◌<◌, ◌≤◌, Bool, true, false, cond, List, [], ◌∷◌, ◌++◌, length, Option, Some, None, refl, ap, ◌∙◌, arith}
+use Rattle.std.proofs.Common.{◌≡◌, ℕ, ◌+◌, ◌*◌, ◌/◌, ◌%◌, ◌^◌, ◌<◌, ◌≤◌, Bool, true, false, cond}
+use Rattle.std.proofs.Common.{List, [], ◌∷◌, ◌++◌, length, Option, Some, None, refl, ap, ◌∙◌, arith}
 use Rattle.std.proofs.lemmas.Bool.Decides.{nat_tests}
 use Rattle.std.specs.Prelude.{◌==◌, unwrap_or, ℤ, pos, negsuc, unsigned_abs, map}
 use Rattle.rvs_insn.specs.declared.op.Format.{Format}
@@ -18,18 +19,31 @@ use Rattle.rvs_solver.specs.declared.solved.Solved.{Solved}
 use Rattle.rvs_solver.specs.declared.solved.Solved.TheVariants.{One, Many}
 use Rattle.rvs_test.specs.Sound.{IsSequence, IsNearby, Accesses}
 use Rattle.rvs_test.specs.Statements.{addi}
-use Rattle.rvs_test.specs.TestText.{first_rd, last_rd, case_statements, case_steps, jump_steps, start_word}
+use Rattle.rvs_test.specs.TestText.{first_rd, last_rd, case_statements, case_steps, jump_steps}
+use Rattle.rvs_test.specs.TestText.{start_word}
 use Rattle.rvs_test.specs.Claim.{insns_of, window_of, IsKnown, outcome_of}
 use Rattle.rvs_test.proofs.Runs.{StandFrom}
 use Rattle.rvs_test.proofs.Cases.{Case, IsGood}
 use Rattle.rvs_test.proofs.JumpCases.{frame_size}
 use Rattle.rvs_test.proofs.Tables.{Marks, find_name, AllBelow}
-use Rattle.rvs_test.proofs.Assembled.{AllFine, marks, Distinct, AllLinked, IsThere, made_all, bytes_all, text_at}
-use Rattle.rvs_test.proofs.AnyCase.{Keeps, NamesAt, IsPlaced, size_by, case_of_by, jump_case_of, jump_value, jump_taken, imm_of, sources, HasNames as HasNamesOne, TargetAt as TargetOne}
-use Rattle.rvs_test.proofs.AnyCase.{IsMade as IsMadeOne, case_size as one_size, case_lead as one_lead, size_low as one_low, case_bytes as one_bytes, case_marks_is as one_marks, case_distinct as one_distinct, case_fine as one_fine, case_linked as one_linked, case_of as one_of, own_marks as one_own, own_below as one_below, own_found as one_found, has_names as one_names, target_at as one_target, size_words as one_words, case_does as one_does, case_entry as one_entry}
+use Rattle.rvs_test.proofs.Assembled.{AllFine, marks, Distinct, AllLinked, IsThere, made_all}
+use Rattle.rvs_test.proofs.Assembled.{bytes_all, text_at}
+use Rattle.rvs_test.proofs.AnyCase.{Keeps, NamesAt, IsPlaced, size_by, case_of_by, jump_case_of}
+use Rattle.rvs_test.proofs.AnyCase.{jump_value, jump_taken, imm_of, sources}
+use Rattle.rvs_test.proofs.AnyCase.{HasNames as HasNamesOne, TargetAt as TargetOne}
+use Rattle.rvs_test.proofs.AnyCase.{IsMade as IsMadeOne, case_size as one_size}
+use Rattle.rvs_test.proofs.AnyCase.{case_lead as one_lead, size_low as one_low}
+use Rattle.rvs_test.proofs.AnyCase.{case_bytes as one_bytes, case_marks_is as one_marks}
+use Rattle.rvs_test.proofs.AnyCase.{case_distinct as one_distinct, case_fine as one_fine}
+use Rattle.rvs_test.proofs.AnyCase.{case_linked as one_linked, case_of as one_of}
+use Rattle.rvs_test.proofs.AnyCase.{own_marks as one_own, own_below as one_below}
+use Rattle.rvs_test.proofs.AnyCase.{own_found as one_found, has_names as one_names}
+use Rattle.rvs_test.proofs.AnyCase.{target_at as one_target, size_words as one_words}
+use Rattle.rvs_test.proofs.AnyCase.{case_does as one_does, case_entry as one_entry}
 use Rattle.rvs_test.proofs.CrossGood.{cross_of, first_free, last_free}
 use Rattle.rvs_test.proofs.Window.{words_low}
-use Rattle.rvs_test.proofs.CrossCases.{cross_bytes, cross_marks, cross_distinct, cross_fine, cross_linked, cross_does, window_is}
+use Rattle.rvs_test.proofs.CrossCases.{cross_bytes, cross_marks, cross_distinct, cross_fine}
+use Rattle.rvs_test.proofs.CrossCases.{cross_linked, cross_does, window_is}
 
 abbrev pub IsMade : Isa → Solved → Type 0
 IsMade isa (One c) = IsMadeOne isa c

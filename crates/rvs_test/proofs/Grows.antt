@@ -1,5 +1,7 @@
 -- A text that grows.
-use Rattle.std.proofs.Common.{◌≡◌, ℕ, ◌+◌, ◌<◌, false, List, [], ◌∷◌, ◌++◌, length, map, take, get_or, zero, suc, sym, ap, ◌∙◌, subst, arith, append_assoc, append-nil}
+use Rattle.std.proofs.Common.{◌≡◌, ℕ, ◌+◌, ◌<◌, false, List, [], ◌∷◌, ◌++◌, length, map, take}
+use Rattle.std.proofs.Common.{get_or, zero, suc, sym, ap, ◌∙◌, subst, arith, append_assoc}
+use Rattle.std.proofs.Common.{append-nil}
 use Rattle.std.specs.Prelude.{◌-◌, All, OnOk, Result, Ok, Err, Some, slice_get, unwrap_or}
 use Rattle.std.proofs.lemmas.Option.{slice_get_within, get_or_from_slice_get}
 use Rattle.rvs_insn.specs.Fields.{Fields}
@@ -18,7 +20,10 @@ use Rattle.rvs_solver.proofs.Operands.{all_from_each}
 use Rattle.rvs_test.specs.declared.statement.Statement.{Statement}
 use Rattle.rvs_test.specs.declared.statement.Statement.TheVariants.{Label, Plain, To}
 use Rattle.rvs_test.specs.Statements.{printed, IsLinked, IsPrinted}
-use Rattle.rvs_test.specs.TestText.{Point as Named, claim_lines, front, header, step_limit, test_text, ended, text_of, case_statements, begin, clear, last_register, cases, halt, loop, code_part, fixed_data, slots, data_part, claim_line, line_of_claim, last_rd}
+use Rattle.rvs_test.specs.TestText.{Point as Named, claim_lines, front, header, step_limit}
+use Rattle.rvs_test.specs.TestText.{test_text, ended, text_of, case_statements, begin, clear}
+use Rattle.rvs_test.specs.TestText.{last_register, cases, halt, loop, code_part, fixed_data, slots}
+use Rattle.rvs_test.specs.TestText.{data_part, claim_line, line_of_claim, last_rd}
 use Rattle.rvs_test.specs.declared.statement.Name.TheVariants.{EndSignature}
 use Rattle.rvs_test.specs.declared.made.Claim.{Claim}
 use Rattle.rvs_test.specs.Made.{named, named_or_none, named_at}

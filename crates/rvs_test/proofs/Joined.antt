@@ -1,6 +1,9 @@
 -- The cases of a label's test hit the points that it claims.
-use Rattle.std.proofs.Common.{◌≡◌, ℕ, zero, suc, ◌+◌, ◌*◌, ◌<◌, Bool, true, false, cond, not, ◌&&◌, ◌||◌, List, [], ◌∷◌, ◌++◌, length, map, Option, Some, None, refl, sym, ap, ◌∙◌, subst, arith}
-use Rattle.std.specs.Prelude.{ℤ, filter, find, flat_map, is_some, option_map, option_and_then, option_to_list, slice_get, All, Contains}
+use Rattle.std.proofs.Common.{◌≡◌, ℕ, zero, suc, ◌+◌, ◌*◌, ◌<◌, Bool, true, false, cond, not, ◌&&◌}
+use Rattle.std.proofs.Common.{◌||◌, List, [], ◌∷◌, ◌++◌, length, map, Option, Some, None, refl, sym}
+use Rattle.std.proofs.Common.{ap, ◌∙◌, subst, arith}
+use Rattle.std.specs.Prelude.{ℤ, filter, find, flat_map, is_some, option_map, option_and_then}
+use Rattle.std.specs.Prelude.{option_to_list, slice_get, All, Contains}
 use Rattle.std.proofs.Common.{inl, inr}
 use Rattle.std.specs.List.{range_with_len}
 use Rattle.std.proofs.lemmas.Bool.{eq-eqb}
@@ -29,10 +32,13 @@ use Rattle.rvs_cgf.specs.Groups.{Meaning, op_is, reg_is, regs, nums, window, Lab
 use Rattle.rvs_cgf.specs.Hits.{is_register, field_of, is_meant, has_op}
 use Rattle.rvs_cgf.specs.Hits as points
 use Rattle.rvs_cgf.specs.Valid.{IsValid}
-use Rattle.rvs_solver.specs.Choices.{ChoiceValue, choice_of, fields_of, table_of, is_kept, is_same as is_same_register, numbers, registers, with_registers, choices}
+use Rattle.rvs_solver.specs.Choices.{ChoiceValue, choice_of, fields_of, table_of, is_kept}
+use Rattle.rvs_solver.specs.Choices.{is_same as is_same_register, numbers, registers}
+use Rattle.rvs_solver.specs.Choices.{with_registers, choices}
 use Rattle.rvs_solver.specs.Point.{hits, constants_of}
 use Rattle.rvs_solver.specs.First.{all_choices, first_choice, Solvable}
-use Rattle.rvs_solver.specs.Solving.{IsSingle, first_meant, first_of_point, first_at, IsSolvableAs, IsSolvableAt}
+use Rattle.rvs_solver.specs.Solving.{IsSingle, first_meant, first_of_point, first_at, IsSolvableAs}
+use Rattle.rvs_solver.specs.Solving.{IsSolvableAt}
 use Rattle.rvs_solver.specs.declared.solved.Solved.{Solved}
 use Rattle.rvs_solver.specs.declared.solved.Solved.TheVariants.{One, Many}
 use Rattle.rvs_solver.proofs.Search.{Each}
@@ -43,9 +49,12 @@ use Rattle.rvs_solver.proofs.Answer.{nothing_hits}
 use Rattle.rvs_test.specs.declared.made.Claim.{Claim}
 use Rattle.rvs_test.specs.TestText.{step_limit, test_text}
 use Rattle.rvs_test.specs.Claim.{IsOnly, insns_of, IsHit, AreHit, IsTest}
-use Rattle.rvs_test.specs.Made.{places, is_solved, solved_among, cases_among, numbered, claims_of, unsolved_of, cases_of, named_at}
-use Rattle.rvs_test.specs.Claimed.{HitsAlone, HitsTogether, HitsAs, words_of_case, IsClaimed, TestRuns, IsAccounted}
-use Rattle.rvs_test.proofs.Solvings.{IsFirst, IsFirstWindow, first_is, cases_ready, cases_few, claims_same, name_text, points_text}
+use Rattle.rvs_test.specs.Made.{places, is_solved, solved_among, cases_among, numbered, claims_of}
+use Rattle.rvs_test.specs.Made.{unsolved_of, cases_of, named_at}
+use Rattle.rvs_test.specs.Claimed.{HitsAlone, HitsTogether, HitsAs, words_of_case, IsClaimed}
+use Rattle.rvs_test.specs.Claimed.{TestRuns, IsAccounted}
+use Rattle.rvs_test.proofs.Solvings.{IsFirst, IsFirstWindow, first_is, cases_ready, cases_few}
+use Rattle.rvs_test.proofs.Solvings.{claims_same, name_text, points_text}
 use Rattle.rvs_test.proofs.Main.{tests_run, steps_high}
 
 -- ---- a choice has a mnemonic of the label

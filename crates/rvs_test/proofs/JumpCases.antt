@@ -1,5 +1,6 @@
 -- The lines of a case with a jump frame.
-use Rattle.std.proofs.Common.{◌≡◌, ℕ, zero, suc, ◌+◌, ◌*◌, ◌%◌, ◌^◌, ◌<◌, ◌≤◌, true, false, List, [], ◌∷◌, ◌++◌, Some, refl, sym, ap, ◌∙◌, arith, subst, append-nil}
+use Rattle.std.proofs.Common.{◌≡◌, ℕ, zero, suc, ◌+◌, ◌*◌, ◌%◌, ◌^◌, ◌<◌, ◌≤◌, true, false, List}
+use Rattle.std.proofs.Common.{[], ◌∷◌, ◌++◌, Some, refl, sym, ap, ◌∙◌, arith, subst, append-nil}
 use Rattle.std.proofs.lemmas.Int.{ints}
 use Rattle.std.proofs.lemmas.Bool.Decides.{nat_tests}
 use Rattle.std.specs.Prelude.{ℤ, pos, negsuc, ◌-ℤ◌}
@@ -25,7 +26,10 @@ use Rattle.rvs_test.specs.Statements.{line_of, addi}
 use Rattle.rvs_test.specs.TestText.{jal, save, between, filler, skip, back_body, frame}
 use Rattle.rvs_test.proofs.KindLaws.{IsSmall, LinkedFormat}
 use Rattle.rvs_test.proofs.Tables.{Marks, find_name, Lacks, lacks_join}
-use Rattle.rvs_test.proofs.Assembled.{IsFine, AllFine, fine_join, own_marks, marks, marks_join, after, Distinct, distinct_join, AllLinked, linked_join, IsThere, IsNear, made_all, made_join, bytes_all, bytes_join, text_at, nops}
+use Rattle.rvs_test.proofs.Assembled.{IsFine, AllFine, fine_join, own_marks, marks, marks_join}
+use Rattle.rvs_test.proofs.Assembled.{after, Distinct, distinct_join, AllLinked, linked_join}
+use Rattle.rvs_test.proofs.Assembled.{IsThere, IsNear, made_all, made_join, bytes_all, bytes_join}
+use Rattle.rvs_test.proofs.Assembled.{text_at, nops}
 use Rattle.rvs_test.proofs.Frames.{skip_code, back_code, to_place}
 use Rattle.rvs_test.proofs.Shapes.{save as save_code}
 use Rattle.rvs_test.proofs.PlainCases.{admitted_low}

@@ -1,5 +1,7 @@
 -- A case with a jump frame is good wherever its lines stand.
-use Rattle.std.proofs.Common.{◌≡◌, ◌≢◌, ℕ, zero, suc, ◌+◌, ◌*◌, ◌%◌, ◌^◌, ◌-◌, ◌<◌, ◌≤◌, Bool, true, false, List, [], ◌∷◌, ◌++◌, length, Option, Some, None, refl, sym, ap, ◌∙◌, arith, subst, inl, inr, append_assoc, length-append}
+use Rattle.std.proofs.Common.{◌≡◌, ◌≢◌, ℕ, zero, suc, ◌+◌, ◌*◌, ◌%◌, ◌^◌, ◌-◌, ◌<◌, ◌≤◌, Bool, true}
+use Rattle.std.proofs.Common.{false, List, [], ◌∷◌, ◌++◌, length, Option, Some, None, refl, sym, ap}
+use Rattle.std.proofs.Common.{◌∙◌, arith, subst, inl, inr, append_assoc, length-append}
 use Rattle.std.specs.Prelude.{pos, unwrap_or}
 use Rattle.rvs_insn.specs.Fields.{Fields, IsRegister}
 use Rattle.rvs_machine.specs.Image.{data_base}
@@ -11,13 +13,18 @@ use Rattle.rvs_test.specs.Sound.{IsWordOf, AreSame}
 use Rattle.rvs_test.specs.Claim.{written_value}
 use Rattle.rvs_test.proofs.Runs.{StandFrom, Runs, Piece}
 use Rattle.rvs_test.proofs.Cases.{Case, Leaves, IsGood, DoneFrom}
-use Rattle.rvs_test.proofs.Pieces.{addi, addi_step, one_piece, then_piece, ends_at, read_same, read_other, same_length, join}
+use Rattle.rvs_test.proofs.Pieces.{addi, addi_step, one_piece, then_piece, ends_at, read_same}
+use Rattle.rvs_test.proofs.Pieces.{read_other, same_length, join}
 use Rattle.rvs_test.proofs.Stored.{leaves_two}
-use Rattle.rvs_test.proofs.Shapes.{saved, IsSlot, save, save_piece, source_code, source_size, source_count, source_small, source_piece, source_length, read_first, read_source, read_outcome, write_length, stand_split, stands_later}
+use Rattle.rvs_test.proofs.Shapes.{saved, IsSlot, save, save_piece, source_code, source_size}
+use Rattle.rvs_test.proofs.Shapes.{source_count, source_small, source_piece, source_length}
+use Rattle.rvs_test.proofs.Shapes.{read_first, read_source, read_outcome, write_length, stand_split}
+use Rattle.rvs_test.proofs.Shapes.{stands_later}
 use Rattle.rvs_test.proofs.Induction.{elsewhere_join, same_place}
 use Rattle.rvs_test.proofs.Good.{elsewhere_of}
 use Rattle.rvs_test.proofs.Assembled.{nops, length_nops}
-use Rattle.rvs_test.proofs.Frames.{Framed, forward, backward, skip_code, back_code, to_place, forward_mark, backward_mark}
+use Rattle.rvs_test.proofs.Frames.{Framed, forward, backward, skip_code, back_code, to_place}
+use Rattle.rvs_test.proofs.Frames.{forward_mark, backward_mark}
 
 -- what is asked of its registers and words
 pub record IsJump (i : Fields) (w1 w2 : ℕ) (value : Option ℕ) (p m : ℕ) : Type 0 where

@@ -1,5 +1,7 @@
 -- One turn of each loop.
-use Rattle.std.proofs.Common.{◌≡◌, ℕ, zero, suc, ◌+◌, ◌<◌, Bool, true, false, not, cond, List, [], ◌∷◌, ◌++◌, length, map, take, get_or, Option, Some, None, refl, sym, ap, ◌∙◌, arith, append_assoc, append-nil, add-one, length-take}
+use Rattle.std.proofs.Common.{◌≡◌, ℕ, zero, suc, ◌+◌, ◌<◌, Bool, true, false, not, cond, List, []}
+use Rattle.std.proofs.Common.{◌∷◌, ◌++◌, length, map, take, get_or, Option, Some, None, refl, sym}
+use Rattle.std.proofs.Common.{ap, ◌∙◌, arith, append_assoc, append-nil, add-one, length-take}
 use Rattle.std.specs.Prelude.{pos, ◌-◌, find, filter, flat_map, unwrap_or, is_some, option_to_list}
 use Rattle.std.specs.List.{range_with_len}
 use Rattle.std.proofs.lemmas.List.{take_more, map_more}
@@ -13,12 +15,15 @@ use Rattle.rvs_solver.specs.Solving.{first_at}
 use Rattle.rvs_test.specs.declared.made.Claim.{Claim}
 use Rattle.rvs_test.specs.declared.statement.Statement.{Statement}
 use Rattle.rvs_test.specs.Statements.{printed, addi}
-use Rattle.rvs_test.specs.TestText.{helpers, load_word, load_words, start_word, clear, cases, case_statements, slots, last_rd, ended, text_of, all_steps, case_steps}
+use Rattle.rvs_test.specs.TestText.{helpers, load_word, load_words, start_word, clear, cases}
+use Rattle.rvs_test.specs.TestText.{case_statements, slots, last_rd, ended, text_of, all_steps}
+use Rattle.rvs_test.specs.TestText.{case_steps}
 use Rattle.rvs_test.specs.Made.{is_solved, solved_among, unsolved_among, cases_among, numbered}
 use Rattle.rvs_test.specs.Found.{FoundValue, found_before, nothing_found, with_one}
 use Rattle.rvs_test.specs.declared.statement.Name.TheVariants.{Slot}
 use Rattle.rvs_test.specs.declared.statement.Fixed.TheVariants.{Unset}
-use Rattle.rvs_test.specs.declared.statement.Statement.TheVariants.{Label as LabelLine, Plain, Fixed as FixedLine}
+use Rattle.rvs_test.specs.declared.statement.Statement.TheVariants.{Label as LabelLine, Plain}
+use Rattle.rvs_test.specs.declared.statement.Statement.TheVariants.{Fixed as FixedLine}
 use Rattle.rvs_test.proofs.Printed.{ended_join, text_join, text_one}
 
 -- ---- what was found, by its parts

@@ -1,5 +1,7 @@
 -- A test text, assembled and run.
-use Rattle.std.proofs.Common.{◌≡◌, ℕ, zero, suc, ◌+◌, ◌*◌, ◌/◌, ◌%◌, ◌^◌, ◌<◌, ◌≤◌, true, false, cond, List, [], ◌∷◌, ◌++◌, length, Some, None, refl, sym, ap, ◌∙◌, arith, append-nil}
+use Rattle.std.proofs.Common.{◌≡◌, ℕ, zero, suc, ◌+◌, ◌*◌, ◌/◌, ◌%◌, ◌^◌, ◌<◌, ◌≤◌, true, false}
+use Rattle.std.proofs.Common.{cond, List, [], ◌∷◌, ◌++◌, length, Some, None, refl, sym, ap, ◌∙◌}
+use Rattle.std.proofs.Common.{arith, append-nil}
 use Rattle.std.proofs.lemmas.Bool.Decides.{nat_tests}
 use Rattle.std.specs.Prelude.{◌&&◌, nat_le, pos, map, codes, unwrap_or, option_and_then}
 use Rattle.std.specs.Option.{option_or}
@@ -25,13 +27,17 @@ use Rattle.rvs_solver.specs.declared.solved.Solved.TheVariants.{One, Many}
 use Rattle.rvs_test.specs.declared.statement.Name.TheVariants.{ToHost, BeginSignature, EndSignature}
 use Rattle.rvs_test.specs.Sound.{Accesses}
 use Rattle.rvs_test.specs.Statements.{printed}
-use Rattle.rvs_test.specs.TestText.{begin, clear, cases, halt, loop, data_part, Point, header, claim_lines, ended, statements, test_text, step_limit, all_steps, jump_steps}
+use Rattle.rvs_test.specs.TestText.{begin, clear, cases, halt, loop, data_part, Point, header}
+use Rattle.rvs_test.specs.TestText.{claim_lines, ended, statements, test_text, step_limit}
+use Rattle.rvs_test.specs.TestText.{all_steps, jump_steps}
 use Rattle.rvs_test.specs.Claim.{AreReady, ArePrintable, IsTest, TestsRun}
 use Rattle.rvs_test.proofs.Chars.{tested}
 use Rattle.rvs_test.proofs.Tables.{named, find_name, found}
 use Rattle.rvs_test.proofs.Assembled.{also, read_as, labelled, first_free, second_free}
 use Rattle.rvs_test.proofs.CaseList.{AllMade}
-use Rattle.rvs_test.proofs.Parts.{code_fine, whole, whole_read, whole_distinct, whole_stands, whole_linked, table, table_small, tohost_there, begin_there, end_there}
+use Rattle.rvs_test.proofs.Parts.{code_fine, whole, whole_read, whole_distinct, whole_stands}
+use Rattle.rvs_test.proofs.Parts.{whole_linked, table, table_small, tohost_there, begin_there}
+use Rattle.rvs_test.proofs.Parts.{end_there}
 use Rattle.rvs_test.proofs.Ran.{AreChoices, image_for, image_fine, test_runs}
 use Rattle.rvs_test.proofs.Text.{ArePoints, lines_back, blanks, header_read, text_are_lines}
 

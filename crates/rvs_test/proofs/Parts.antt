@@ -1,5 +1,7 @@
 -- A test's parts, assembled: the whole table of its names, its text, its data.
-use Rattle.std.proofs.Common.{◌≡◌, ℕ, zero, suc, ◌+◌, ◌*◌, ◌^◌, ◌<◌, ◌≤◌, true, false, List, [], ◌∷◌, ◌++◌, length, Some, Ok, refl, sym, ap, ◌∙◌, arith, subst, append-nil}
+use Rattle.std.proofs.Common.{◌≡◌, ℕ, zero, suc, ◌+◌, ◌*◌, ◌^◌, ◌<◌, ◌≤◌, true, false, List, []}
+use Rattle.std.proofs.Common.{◌∷◌, ◌++◌, length, Some, Ok, refl, sym, ap, ◌∙◌, arith, subst}
+use Rattle.std.proofs.Common.{append-nil}
 use Rattle.std.proofs.lemmas.Int.{ints}
 use Rattle.std.specs.Prelude.{pos, map, ◌-ℤ◌}
 use Rattle.rvs_insn.specs.declared.op.Format.TheVariants.{Jump}
@@ -14,20 +16,31 @@ use Rattle.rvs_asm.specs.Places.{start}
 use Rattle.rvs_asm.specs.Bytes.{distance, section}
 use Rattle.rvs_solver.specs.declared.solved.Solved.{Solved}
 use Rattle.rvs_test.specs.declared.statement.Name.{Name}
-use Rattle.rvs_test.specs.declared.statement.Name.TheVariants.{Start, Halt, Scratch, ToHost, BeginSignature, Slot, EndSignature}
+use Rattle.rvs_test.specs.declared.statement.Name.TheVariants.{Start, Halt, Scratch, ToHost}
+use Rattle.rvs_test.specs.declared.statement.Name.TheVariants.{BeginSignature, Slot, EndSignature}
 use Rattle.rvs_test.specs.declared.statement.Fixed.TheVariants.{NoRvc, NoRelax, ToText, Globl}
 use Rattle.rvs_test.specs.declared.statement.Statement.{Statement}
 use Rattle.rvs_test.specs.declared.statement.Statement.TheVariants.{Label}
 use Rattle.rvs_test.specs.Statements.{name_of, printed, line_of, lui, addi}
 use Rattle.rvs_test.specs.TestText.{sw, cases, begin, clear, jal, halt, loop, data_part}
 use Rattle.rvs_test.proofs.KindLaws.{fixed_line}
-use Rattle.rvs_test.proofs.Tables.{Marks, find_name, AllSmall, lacks_later, AllBelow, below_join, below_more, stage, find_first, find_after, address_found}
-use Rattle.rvs_test.proofs.Assembled.{Reads, none, cons, read_as, text_at, all_read, AllFine, fine_join, after, fine_after, marks, marks_join, marks_small, Distinct, distinct_join, Stands, stands_join, all_stand, AllLinked, linked_join, IsThere, IsNear, made_all, made_join, bytes_all, bytes_join, env_of, code, text_bytes_of, no_data_of, all_good, AreGoodCode}
+use Rattle.rvs_test.proofs.Tables.{Marks, find_name, AllSmall, lacks_later, AllBelow, below_join}
+use Rattle.rvs_test.proofs.Tables.{below_more, stage, find_first, find_after, address_found}
+use Rattle.rvs_test.proofs.Assembled.{Reads, none, cons, read_as, text_at, all_read, AllFine}
+use Rattle.rvs_test.proofs.Assembled.{fine_join, after, fine_after, marks, marks_join, marks_small}
+use Rattle.rvs_test.proofs.Assembled.{Distinct, distinct_join, Stands, stands_join, all_stand}
+use Rattle.rvs_test.proofs.Assembled.{AllLinked, linked_join, IsThere, IsNear, made_all, made_join}
+use Rattle.rvs_test.proofs.Assembled.{bytes_all, bytes_join, env_of, code, text_bytes_of}
+use Rattle.rvs_test.proofs.Assembled.{no_data_of, all_good, AreGoodCode}
 use Rattle.rvs_test.proofs.PlainCases.{admitted_low}
 use Rattle.rvs_test.proofs.AnyCase.{Keeps, late_stage}
-use Rattle.rvs_test.proofs.CaseList.{AllMade, size_of_all, sizes_low, cases_bytes, cases_fine, cases_below, cases_distinct, HasSlots, cases_linked, SlotsAt}
+use Rattle.rvs_test.proofs.CaseList.{AllMade, size_of_all, sizes_low, cases_bytes, cases_fine}
+use Rattle.rvs_test.proofs.CaseList.{cases_below, cases_distinct, HasSlots, cases_linked, SlotsAt}
 use Rattle.rvs_test.proofs.Whole.{clears, halt_lines}
-use Rattle.rvs_test.proofs.Data.{label_line, reads_join, data_read, slot_found, scratch_found, tohost_found, begin_found, end_found, data_distinct, data_stands, data_linked, parts_made, data_made, data_no_text, fixed_bytes, slot_bytes}
+use Rattle.rvs_test.proofs.Data.{label_line, reads_join, data_read, slot_found, scratch_found}
+use Rattle.rvs_test.proofs.Data.{tohost_found, begin_found, end_found, data_distinct, data_stands}
+use Rattle.rvs_test.proofs.Data.{data_linked, parts_made, data_made, data_no_text, fixed_bytes}
+use Rattle.rvs_test.proofs.Data.{slot_bytes}
 
 -- ---- registers are cleared
 clear_bytes : (first n : ℕ) → bytes_all (clear first n) ≡ 4 * n

@@ -1,12 +1,15 @@
 -- A case without a jump: its lines, their symbols, their instructions, and what it does.
-use Rattle.std.proofs.Common.{◌≡◌, ℕ, zero, suc, ◌+◌, ◌*◌, ◌%◌, ◌^◌, ◌<◌, ◌≤◌, true, false, List, [], ◌∷◌, ◌++◌, length, Option, Some, None, refl, ap, ◌∙◌, arith, subst, ◌⊎◌, inl, inr}
+use Rattle.std.proofs.Common.{◌≡◌, ℕ, zero, suc, ◌+◌, ◌*◌, ◌%◌, ◌^◌, ◌<◌, ◌≤◌, true, false, List}
+use Rattle.std.proofs.Common.{[], ◌∷◌, ◌++◌, length, Option, Some, None, refl, ap, ◌∙◌, arith}
+use Rattle.std.proofs.Common.{subst, ◌⊎◌, inl, inr}
 use Rattle.std.specs.List.{list_all}
 use Rattle.std.proofs.lemmas.Bool.Decides.{nat_tests}
 use Rattle.std.specs.Prelude.{nat_lt, slice_index, ◌&&◌, ◌||◌, not, ℤ, pos, unwrap_or}
 use Rattle.rvs_insn.specs.declared.op.Op.{Op}
 use Rattle.rvs_insn.specs.declared.op.Op.TheVariants.{Lb, Lbu, Lh, Lhu, Lw}
 use Rattle.rvs_insn.specs.declared.op.Format.{Format}
-use Rattle.rvs_insn.specs.declared.op.Format.TheVariants.{R, I, Shift, Load, JumpReg, Store, Branch, Upper, Jump, Fence, System}
+use Rattle.rvs_insn.specs.declared.op.Format.TheVariants.{R, I, Shift, Load, JumpReg, Store, Branch}
+use Rattle.rvs_insn.specs.declared.op.Format.TheVariants.{Upper, Jump, Fence, System}
 use Rattle.rvs_insn.specs.Isa.{Isa}
 use Rattle.rvs_insn.specs.Table.{row}
 use Rattle.rvs_insn.specs.Fields.{Fields, IsRegister}
@@ -15,7 +18,8 @@ use Rattle.rvs_insn.specs.Names.{is_admitted, is_m, is_low_register}
 use Rattle.rvs_machine.specs.Image.{text_base, data_base}
 use Rattle.rvs_machine.specs.Machine.{Setup, imm_word, extended}
 use Rattle.rvs_machine.proofs.Steps.{Acts, only_writes, written_by, writing_acts}
-use Rattle.rvs_machine.proofs.Loads.{same_little, load_size, load_signed, load_value, load_acts, load_is_word, AreBytes, IsAligned}
+use Rattle.rvs_machine.proofs.Loads.{same_little, load_size, load_signed, load_value, load_acts}
+use Rattle.rvs_machine.proofs.Loads.{load_is_word, AreBytes, IsAligned}
 use Rattle.rvs_machine.proofs.Results.{HasValue, value_is_word}
 use Rattle.rvs_asm.specs.declared.place.Place.{Place}
 use Rattle.rvs_asm.specs.Places.{next}
@@ -30,11 +34,13 @@ use Rattle.rvs_test.specs.Statements.{line_of, lui, addi}
 use Rattle.rvs_test.specs.TestText.{sw, save, source, pointer, plain_case}
 use Rattle.rvs_test.proofs.Runs.{StandFrom}
 use Rattle.rvs_test.proofs.Cases.{Case, IsGood, IsReady}
-use Rattle.rvs_test.proofs.Shapes.{lead, source_size, source_code, save as code_save, plain_code, IsPlain}
+use Rattle.rvs_test.proofs.Shapes.{lead, source_size, source_code, save as code_save, plain_code}
+use Rattle.rvs_test.proofs.Shapes.{IsPlain}
 use Rattle.rvs_test.proofs.Good.{plain_of, plain_good}
 use Rattle.rvs_test.proofs.KindLaws.{OwnFormat}
 use Rattle.rvs_test.proofs.Tables.{Marks, lacks_later, AllBelow}
-use Rattle.rvs_test.proofs.Assembled.{AllFine, fine_join, marks, Distinct, AllLinked, IsThere, made_all, bytes_all, text_at, low_fits, high_fits}
+use Rattle.rvs_test.proofs.Assembled.{AllFine, fine_join, marks, Distinct, AllLinked, IsThere}
+use Rattle.rvs_test.proofs.Assembled.{made_all, bytes_all, text_at, low_fits, high_fits}
 use Rattle.rvs_test.proofs.Chars.{both}
 use Rattle.rvs_test.proofs.Data.{fixed_bytes}
 use Rattle.rvs_test.proofs.Helpers.{pointer_free}

@@ -1,5 +1,7 @@
 -- What the run of an assembled test is.
-use Rattle.std.proofs.Common.{◌≡◌, ℕ, zero, suc, ◌+◌, ◌*◌, ◌/◌, ◌^◌, ◌-◌, ◌<◌, ◌≤◌, Bool, true, false, cond, List, [], ◌∷◌, ◌++◌, length, Some, refl, sym, ap, ◌∙◌, arith, subst, append-nil}
+use Rattle.std.proofs.Common.{◌≡◌, ℕ, zero, suc, ◌+◌, ◌*◌, ◌/◌, ◌^◌, ◌-◌, ◌<◌, ◌≤◌, Bool, true}
+use Rattle.std.proofs.Common.{false, cond, List, [], ◌∷◌, ◌++◌, length, Some, refl, sym, ap, ◌∙◌}
+use Rattle.std.proofs.Common.{arith, subst, append-nil}
 use Rattle.std.proofs.lemmas.List.{get_or_append_left}
 use Rattle.std.specs.Prelude.{slice_index}
 use Rattle.std.specs.Option.{option_map}
@@ -13,23 +15,33 @@ use Rattle.rvs_asm.specs.declared.mark.Mark.{Mark}
 use Rattle.rvs_asm.specs.Symbols.{Table, find_mark, symbols_of}
 use Rattle.rvs_asm.specs.Answer.{image_of}
 use Rattle.rvs_solver.specs.declared.solved.Solved.{Solved}
-use Rattle.rvs_test.specs.declared.statement.Name.TheVariants.{Case as CaseName, ToHost, BeginSignature, EndSignature}
+use Rattle.rvs_test.specs.declared.statement.Name.TheVariants.{Case as CaseName, ToHost}
+use Rattle.rvs_test.specs.declared.statement.Name.TheVariants.{BeginSignature, EndSignature}
 use Rattle.rvs_test.specs.Statements.{name_of}
 use Rattle.rvs_test.specs.TestText.{cases, loop, step_limit, all_steps}
-use Rattle.rvs_test.specs.Claim.{symbol_address, Elsewhere, IsOnly, IsHit, AreHit, RunsWell, words_after}
+use Rattle.rvs_test.specs.Claim.{symbol_address, Elsewhere, IsOnly, IsHit, AreHit, RunsWell}
+use Rattle.rvs_test.specs.Claim.{words_after}
 use Rattle.rvs_test.proofs.Runs.{StandFrom}
-use Rattle.rvs_test.proofs.Cases.{Once, AllOnce, AllLeft, end_of, steps_of, Elsewhere as ElsewhereIn}
+use Rattle.rvs_test.proofs.Cases.{Once, AllOnce, AllLeft, end_of, steps_of}
+use Rattle.rvs_test.proofs.Cases.{Elsewhere as ElsewhereIn}
 use Rattle.rvs_test.proofs.Shapes.{stand_split, stands_later}
 use Rattle.rvs_test.proofs.Whole.{clears, halt_lines, whole_run}
-use Rattle.rvs_test.proofs.Tables.{Marks, named, find_name, stage, found, find_first, find_after, lacks_later, address_found}
-use Rattle.rvs_test.proofs.Assembled.{read_as, marks, made_all, env_of, text_at, code, length_code, made_length}
+use Rattle.rvs_test.proofs.Tables.{Marks, named, find_name, stage, found, find_first, find_after}
+use Rattle.rvs_test.proofs.Tables.{lacks_later, address_found}
+use Rattle.rvs_test.proofs.Assembled.{read_as, marks, made_all, env_of, text_at, code, length_code}
+use Rattle.rvs_test.proofs.Assembled.{made_length}
 use Rattle.rvs_test.proofs.Standing.{stand_from}
 use Rattle.rvs_test.proofs.PlainCases.{HasPattern}
 use Rattle.rvs_test.proofs.AnyCase.{late_stage, NamesAt}
-use Rattle.rvs_test.proofs.Every.{case_size, case_lead, case_of, own_marks, own_found, own_below, case_is, case_entry}
-use Rattle.rvs_test.proofs.CaseList.{AllMade, size_of_all, sizes_low, cases_bytes, case_marks_of, cases_at, end_at, steps_at, cases_good}
+use Rattle.rvs_test.proofs.Every.{case_size, case_lead, case_of, own_marks, own_found, own_below}
+use Rattle.rvs_test.proofs.Every.{case_is, case_entry}
+use Rattle.rvs_test.proofs.CaseList.{AllMade, size_of_all, sizes_low, cases_bytes, case_marks_of}
+use Rattle.rvs_test.proofs.CaseList.{cases_at, end_at, steps_at, cases_good}
 use Rattle.rvs_test.proofs.Data.{fixed_bytes, slot_bytes, data_length}
-use Rattle.rvs_test.proofs.Parts.{code_of, code_bytes, whole, table, table_small, case_marks, case_there, instructions, instructions_good, instructions_are, slots_at, scratch_at, tohost_at, begin_there, end_there, text_made, ram_made}
+use Rattle.rvs_test.proofs.Parts.{code_of, code_bytes, whole, table, table_small, case_marks}
+use Rattle.rvs_test.proofs.Parts.{case_there, instructions, instructions_good, instructions_are}
+use Rattle.rvs_test.proofs.Parts.{slots_at, scratch_at, tohost_at, begin_there, end_there}
+use Rattle.rvs_test.proofs.Parts.{text_made, ram_made}
 
 -- ---- symbols of an image
 pub symbol_found : (ss : Table) (name : List ℕ)

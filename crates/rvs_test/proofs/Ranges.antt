@@ -1,18 +1,23 @@
 -- The members of the datasets are in range.
-use Rattle.std.proofs.Common.{◌≡◌, ℕ, zero, suc, ◌+◌, ◌-◌, ◌*◌, ◌%◌, ◌^◌, ◌<◌, ◌≤◌, Bool, true, false, not, ◌&&◌, cond, List, [], ◌∷◌, ◌++◌, Option, Some, None, refl, subst, arith, ◌⊎◌, inl, inr}
+use Rattle.std.proofs.Common.{◌≡◌, ℕ, zero, suc, ◌+◌, ◌-◌, ◌*◌, ◌%◌, ◌^◌, ◌<◌, ◌≤◌, Bool, true}
+use Rattle.std.proofs.Common.{false, not, ◌&&◌, cond, List, [], ◌∷◌, ◌++◌, Option, Some, None, refl}
+use Rattle.std.proofs.Common.{subst, arith, ◌⊎◌, inl, inr}
 use Rattle.std.specs.Prelude.{ℤ, pos, negsuc, neg_ℤ, ◌-ℤ◌, nat_lt, ◌==◌, flat_map, fold, unwrap_or}
 use Rattle.std.specs.List.{range_with_len}
 use Rattle.std.specs.Int.{w32, cast_unsigned}
 use Rattle.std.proofs.lemmas.Bool.Decides.{nat_tests}
 use Rattle.std.proofs.lemmas.Int.{ints}
 use Rattle.rvs_insn.specs.declared.op.Format.{Format}
-use Rattle.rvs_insn.specs.declared.op.Format.TheVariants.{R, Load, JumpReg, Store, Branch, Upper, Jump, Fence, System}
+use Rattle.rvs_insn.specs.declared.op.Format.TheVariants.{R, Load, JumpReg, Store, Branch, Upper}
+use Rattle.rvs_insn.specs.declared.op.Format.TheVariants.{Jump, Fence, System}
 use Rattle.rvs_insn.specs.declared.op.Op.{Op}
 use Rattle.rvs_insn.specs.declared.op.Op.TheVariants.{Lb}
 use Rattle.rvs_insn.specs.Isa.{Isa}
 use Rattle.rvs_insn.specs.Word.{low_bits, FitsBits, FitsUnsigned, FitsEven}
 use Rattle.rvs_machine.specs.Effects.{add32}
-use Rattle.rvs_solver.specs.Datasets.{rds, rs1s, rs2s, around, is_between, is_there, joined, dataset, words, distance, distance_list, short_numbers, upper_numbers, shifts, aligned, address}
+use Rattle.rvs_solver.specs.Datasets.{rds, rs1s, rs2s, around, is_between, is_there, joined}
+use Rattle.rvs_solver.specs.Datasets.{dataset, words, distance, distance_list, short_numbers}
+use Rattle.rvs_solver.specs.Datasets.{upper_numbers, shifts, aligned, address}
 use Rattle.rvs_solver.specs.Choices.{Registers, registers, is_zero}
 use Rattle.rvs_solver.proofs.Search.{Each}
 use Rattle.rvs_solver.proofs.Product.{all_of, each_of, each_append, each_flat, each_map, each_any}

@@ -1,5 +1,6 @@
 -- What a test claims is read back from its text.
-use Rattle.std.proofs.Common.{◌≡◌, ℕ, ◌+◌, ◌^◌, ◌<◌, true, false, cond, List, [], ◌∷◌, ◌++◌, length, Option, Some, None, refl, sym, ap, ◌∙◌, arith, append-nil}
+use Rattle.std.proofs.Common.{◌≡◌, ℕ, ◌+◌, ◌^◌, ◌<◌, true, false, cond, List, [], ◌∷◌, ◌++◌, length}
+use Rattle.std.proofs.Common.{Option, Some, None, refl, sym, ap, ◌∙◌, arith, append-nil}
 use Rattle.std.specs.Prelude.{◌==◌, map, slice_get, option_map, option_and_then}
 use Rattle.std.specs.List.{filter_map, cons_option, list_all}
 use Rattle.std.specs.Fmt.{decimal}
@@ -23,11 +24,15 @@ use Rattle.rvs_test.specs.declared.statement.Name.TheVariants.{Start}
 use Rattle.rvs_test.specs.declared.statement.Fixed.{Fixed}
 use Rattle.rvs_test.specs.declared.statement.Fixed.TheVariants.{NoRvc}
 use Rattle.rvs_test.specs.declared.statement.Statement.{Statement}
-use Rattle.rvs_test.specs.declared.statement.Statement.TheVariants.{Label as LabelLine, Plain, High, Low, To, Nops, Fixed as FixedLine}
+use Rattle.rvs_test.specs.declared.statement.Statement.TheVariants.{Label as LabelLine, Plain, High}
+use Rattle.rvs_test.specs.declared.statement.Statement.TheVariants.{Low, To, Nops}
+use Rattle.rvs_test.specs.declared.statement.Statement.TheVariants.{Fixed as FixedLine}
 use Rattle.rvs_test.specs.Statements.{name_of, written, operands_of, fixed_text, printed}
 use Rattle.rvs_test.specs.TestText.{Point, claim_lines, header, step_limit, test_text}
-use Rattle.rvs_test.specs.Made.{places, solved_among, numbered, claims_of, cases_of, named_or_none, named_at}
-use Rattle.rvs_test.specs.Named.{Named, point_read, claim_read, behind_front, all_read, claims_read, named_claim}
+use Rattle.rvs_test.specs.Made.{places, solved_among, numbered, claims_of, cases_of, named_or_none}
+use Rattle.rvs_test.specs.Made.{named_at}
+use Rattle.rvs_test.specs.Named.{Named, point_read, claim_read, behind_front, all_read, claims_read}
+use Rattle.rvs_test.specs.Named.{named_claim}
 use Rattle.rvs_test.proofs.Chars.{All, tested, is_clean}
 use Rattle.rvs_test.proofs.Digits.{decimal_spells, digit_words}
 use Rattle.rvs_test.proofs.Loops.{numbered_length}

@@ -1,10 +1,13 @@
 -- A case can be made from each choice.
-use Rattle.std.proofs.Common.{◌≡◌, ◌≢◌, ℕ, ◌+◌, ◌-◌, ◌^◌, ◌<◌, ◌≤◌, Bool, true, false, cond, ◌&&◌, List, [], ◌∷◌, map, Option, Some, None, refl, sym, ap, ◌∙◌, subst, arith}
+use Rattle.std.proofs.Common.{◌≡◌, ◌≢◌, ℕ, ◌+◌, ◌-◌, ◌^◌, ◌<◌, ◌≤◌, Bool, true, false, cond, ◌&&◌}
+use Rattle.std.proofs.Common.{List, [], ◌∷◌, map, Option, Some, None, refl, sym, ap, ◌∙◌, subst}
+use Rattle.std.proofs.Common.{arith}
 use Rattle.std.specs.Prelude.{ℤ, pos, filter, flat_map, unwrap_or}
 use Rattle.std.specs.List.{list_all}
 use Rattle.std.specs.Int.{w32, cast_unsigned}
 use Rattle.rvs_insn.specs.declared.op.Format.{Format}
-use Rattle.rvs_insn.specs.declared.op.Format.TheVariants.{R, I, Shift, Load, JumpReg, Store, Branch, Upper, Jump, Fence, System}
+use Rattle.rvs_insn.specs.declared.op.Format.TheVariants.{R, I, Shift, Load, JumpReg, Store, Branch}
+use Rattle.rvs_insn.specs.declared.op.Format.TheVariants.{Upper, Jump, Fence, System}
 use Rattle.rvs_insn.specs.declared.op.Op.{Op}
 use Rattle.rvs_insn.specs.Isa.{Isa}
 use Rattle.rvs_insn.specs.Table.{row}
@@ -15,15 +18,21 @@ use Rattle.rvs_machine.specs.Effects.{add32}
 use Rattle.rvs_cgf.specs.declared.group.Kind.{Kind}
 use Rattle.rvs_cgf.specs.Groups.{Meaning}
 use Rattle.rvs_solver.specs.Datasets.{shifts, immediates, alignments, address}
-use Rattle.rvs_solver.specs.Choices.{ChoiceValue, Registers, Numbers, choice_of, fields_of, is_same, is_zero, is_kept, w1s, w2s, at_word, at_alignment, at_immediate, numbers, registers, with_registers, choices}
+use Rattle.rvs_solver.specs.Choices.{ChoiceValue, Registers, Numbers, choice_of, fields_of, is_same}
+use Rattle.rvs_solver.specs.Choices.{is_zero, is_kept, w1s, w2s, at_word, at_alignment}
+use Rattle.rvs_solver.specs.Choices.{at_immediate, numbers, registers, with_registers, choices}
 use Rattle.rvs_solver.specs.Point.{hits, constants_of}
 use Rattle.rvs_solver.specs.First.{all_choices, first_choice}
 use Rattle.rvs_solver.proofs.Search.{Each}
 use Rattle.rvs_solver.proofs.Product.{each_append, each_flat, each_map}
 use Rattle.rvs_solver.proofs.OneWord.{found_each, one_word_each}
-use Rattle.rvs_test.specs.Sound.{IsWordOf, AreSame, has_case, ReadsPattern, WritesScratch, IsNearby, Accesses, IsSound}
+use Rattle.rvs_test.specs.Sound.{IsWordOf, AreSame, has_case, ReadsPattern, WritesScratch, IsNearby}
+use Rattle.rvs_test.specs.Sound.{Accesses, IsSound}
 use Rattle.rvs_test.proofs.Chars.{both}
-use Rattle.rvs_test.proofs.Ranges.{has_rd, has_rs1, has_rs2, is_base, IsField, AreRegisters, registers_are, words_are, short_are, upper_are, shifts_are, IsDistance, distances_are, IsAlignment, alignments_are, address_low, address_is}
+use Rattle.rvs_test.proofs.Ranges.{has_rd, has_rs1, has_rs2, is_base, IsField, AreRegisters}
+use Rattle.rvs_test.proofs.Ranges.{registers_are, words_are, short_are, upper_are, shifts_are}
+use Rattle.rvs_test.proofs.Ranges.{IsDistance, distances_are, IsAlignment, alignments_are}
+use Rattle.rvs_test.proofs.Ranges.{address_low, address_is}
 
 -- ---- the numbers of a choice, by its format
 

@@ -1,5 +1,6 @@
 -- A case can be made from the instructions that solve a cross point.
-use Rattle.std.proofs.Common.{◌≡◌, ℕ, zero, suc, ◌+◌, ◌<◌, ◌≤◌, true, false, List, [], ◌∷◌, length, Option, Some, None, Ok, Err, refl, sym, ap, subst, ◌∙◌, arith}
+use Rattle.std.proofs.Common.{◌≡◌, ℕ, zero, suc, ◌+◌, ◌<◌, ◌≤◌, true, false, List, [], ◌∷◌, length}
+use Rattle.std.proofs.Common.{Option, Some, None, Ok, Err, refl, sym, ap, subst, ◌∙◌, arith}
 use Rattle.std.specs.Prelude.{All, Contains, option_map, pos, ℤ}
 use Rattle.std.specs.List.{range_with_len}
 use Rattle.rvs_insn.specs.declared.op.Format.{Format}
@@ -11,7 +12,8 @@ use Rattle.rvs_insn.specs.Fields.{Fields}
 use Rattle.rvs_insn.specs.Word.{AreOf, IsEncodable}
 use Rattle.rvs_cross.specs.Cross.{Place}
 use Rattle.rvs_cross.specs.Parse as crosses
-use Rattle.rvs_cross.specs.Sequences.{middle_registers, middle, at_rs1, at_rd, over_registers, in_format, insns_of, first_sequence}
+use Rattle.rvs_cross.specs.Sequences.{middle_registers, middle, at_rs1, at_rd, over_registers}
+use Rattle.rvs_cross.specs.Sequences.{in_format, insns_of, first_sequence}
 use Rattle.rvs_cross.specs.Sequences as cross
 use Rattle.rvs_cross.proofs.Few.{read_places}
 use Rattle.rvs_cross.proofs.Solved.{sequence_solves}
@@ -61,7 +63,13 @@ unfolding over_registers
 over_each op imm P rs2s all =
     each_flat (at_rd op imm middle rs2s) IsThere (IsOver op imm P)
     (λ d hd. each_flat (at_rs1 op imm rs2s d) IsThere (IsOver op imm P)
-    (λ s hs. each_map (λ t. record { op = op; rd = d; rs1 = s; rs2 = t; imm = imm }) P (IsOver op imm P)
+    (λ s hs. each_map (λ t. record {
+      op = op;
+      rd = d;
+      rs1 = s;
+      rs2 = t;
+      imm = imm;
+    }) P (IsOver op imm P)
     (λ t ht. record { op_is = refl; imm_is = refl; rd = hd; rs1 = hs; rs2 = ht }) rs2s all)
     middle inner) middle inner
 
@@ -115,7 +123,8 @@ with_sources : (op : Op) (i : Fields) → (row op).form ≡ R → IsOver op None
 with_sources op i e o =
     record {
       form = ap computes e;
-      encodable = encodable_by R op i None e o.op_is o.imm_is (of_r i.rd i.rs1 i.rs2 o.rd o.rs1 o.rs2);
+      encodable =
+          encodable_by R op i None e o.op_is o.imm_is (of_r i.rd i.rs1 i.rs2 o.rd o.rs1 o.rs2);
       rd = is_middle i.rd o.rd;
       rs1 = is_middle i.rs1 o.rs1;
       rs2 = is_middle i.rs2 o.rs2;
@@ -205,7 +214,8 @@ sequence_ready isa ps is e some few found =
 
 from_places : (found : crosses.Found) (ps : List Place)
     → option_map window (places found) ≡ Some (window ps) → found ≡ Ok (crosses.read ps)
-from_places (Ok (crosses.read qs)) ps h = let same : qs ≡ ps = cc in ap (λ x. Ok (crosses.read x)) same
+from_places (Ok (crosses.read qs)) ps h = let same : qs ≡ ps = cc in
+    ap (λ x. Ok (crosses.read x)) same
 from_places (Ok crosses.skipped) ps h = absurd cc
 from_places (Err e) ps h = absurd cc
 

@@ -1,5 +1,7 @@
 -- Whole cases of the test text.
-use Rattle.std.proofs.Common.{◌≡◌, ◌≢◌, ℕ, zero, suc, ◌+◌, ◌*◌, ◌/◌, ◌%◌, ◌^◌, ◌-◌, ◌<◌, ◌≤◌, List, [], ◌∷◌, ◌++◌, length, Option, Some, None, refl, sym, ap, ◌∙◌, arith, subst}
+use Rattle.std.proofs.Common.{◌≡◌, ◌≢◌, ℕ, zero, suc, ◌+◌, ◌*◌, ◌/◌, ◌%◌, ◌^◌, ◌-◌, ◌<◌, ◌≤◌, List}
+use Rattle.std.proofs.Common.{[], ◌∷◌, ◌++◌, length, Option, Some, None, refl, sym, ap, ◌∙◌, arith}
+use Rattle.std.proofs.Common.{subst}
 use Rattle.std.specs.Prelude.{ℤ, pos, slice_set, unwrap_or}
 use Rattle.std.proofs.Common.{length-set}
 use Rattle.std.specs.Int.{w32, cast_unsigned}
@@ -9,13 +11,15 @@ use Rattle.rvs_machine.specs.Effects.{add32}
 use Rattle.rvs_machine.specs.Image.{data_base}
 use Rattle.rvs_machine.specs.Machine.{Setup, read_reg, write_reg, store_bytes, commit_of}
 use Rattle.rvs_machine.proofs.Results.{HasValue}
-use Rattle.rvs_machine.proofs.Steps.{StandsAt, state, sw, entry, Acts, acting_step, store_entry, store_step}
+use Rattle.rvs_machine.proofs.Steps.{StandsAt, state, sw, entry, Acts, acting_step, store_entry}
+use Rattle.rvs_machine.proofs.Steps.{store_step}
 use Rattle.rvs_test.specs.Sound.{IsWordOf, AreSame}
 use Rattle.rvs_test.specs.Claim.{written_value}
 use Rattle.rvs_test.proofs.Runs.{StandFrom, Piece, CaseRun}
 use Rattle.std.proofs.lemmas.Bool.{cases_eq}
 use Rattle.std.proofs.Common.{⊎_elim}
-use Rattle.rvs_test.proofs.Pieces.{lui, addi, high_part, low_part, load_word, one_piece, then_piece, ends_at, read_same, read_other, same_length}
+use Rattle.rvs_test.proofs.Pieces.{lui, addi, high_part, low_part, load_word, one_piece, then_piece}
+use Rattle.rvs_test.proofs.Pieces.{ends_at, read_same, read_other, same_length}
 
 -- a word goes to data
 pub store_piece : (setup : Setup) (pc b p addr v : ℕ) (z : ℤ) (regs ram : List ℕ)

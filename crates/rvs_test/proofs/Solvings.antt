@@ -1,6 +1,9 @@
 -- The cases of a label: a case can be made from each, and each belongs to a claim.
-use Rattle.std.proofs.Common.{◌≡◌, ℕ, ◌+◌, ◌<◌, ◌≤◌, Bool, true, false, cond, ◌&&◌, ◌||◌, List, [], ◌∷◌, ◌++◌, length, map, get_or, Option, Some, None, refl, sym, ap, ◌∙◌, subst, arith, length-append}
-use Rattle.std.specs.Prelude.{All, nat_le, filter, is_some, option_map, option_and_then, option_to_list, slice_get}
+use Rattle.std.proofs.Common.{◌≡◌, ℕ, ◌+◌, ◌<◌, ◌≤◌, Bool, true, false, cond, ◌&&◌, ◌||◌, List, []}
+use Rattle.std.proofs.Common.{◌∷◌, ◌++◌, length, map, get_or, Option, Some, None, refl, sym, ap}
+use Rattle.std.proofs.Common.{◌∙◌, subst, arith, length-append}
+use Rattle.std.specs.Prelude.{All, nat_le, filter, is_some, option_map, option_and_then}
+use Rattle.std.specs.Prelude.{option_to_list, slice_get}
 use Rattle.std.specs.List.{list_all, range_with_len}
 use Rattle.std.proofs.lemmas.Bool.Decides.{nat_tests}
 use Rattle.std.proofs.lemmas.List.FromFn.{length-range_with_len}
@@ -27,7 +30,8 @@ use Rattle.rvs_solver.specs.declared.solved.Solved.TheVariants.{One, Many}
 use Rattle.rvs_test.specs.declared.made.Claim.{Claim}
 use Rattle.rvs_test.specs.TestText.{Point, claim_lines, line_of_claim}
 use Rattle.rvs_test.specs.Claim.{IsReady, AreReady, ArePrintable}
-use Rattle.rvs_test.specs.Made.{places, is_solved, solved_among, cases_among, numbered, claims_of, cases_of, named_or_none, named_at}
+use Rattle.rvs_test.specs.Made.{places, is_solved, solved_among, cases_among, numbered, claims_of}
+use Rattle.rvs_test.specs.Made.{cases_of, named_or_none, named_at}
 use Rattle.rvs_test.proofs.Chars.{all_map, both, tested, untested}
 use Rattle.rvs_test.proofs.Ready.{first_ready}
 use Rattle.rvs_test.proofs.Sequences.{places_few, sequence_ready}

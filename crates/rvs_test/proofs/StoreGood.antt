@@ -1,5 +1,6 @@
 -- A case of a store is good wherever its lines stand.
-use Rattle.std.proofs.Common.{◌≡◌, ◌≢◌, ℕ, ◌+◌, ◌%◌, ◌^◌, ◌<◌, ◌≤◌, List, [], ◌∷◌, ◌++◌, length, Some, refl, ap, ◌∙◌, arith, subst, inl, inr}
+use Rattle.std.proofs.Common.{◌≡◌, ◌≢◌, ℕ, ◌+◌, ◌%◌, ◌^◌, ◌<◌, ◌≤◌, List, [], ◌∷◌, ◌++◌, length}
+use Rattle.std.proofs.Common.{Some, refl, ap, ◌∙◌, arith, subst, inl, inr}
 use Rattle.std.specs.Prelude.{slice_index}
 use Rattle.rvs_insn.specs.declared.op.Op.{Op}
 use Rattle.rvs_insn.specs.declared.op.Op.TheVariants.{Sb}
@@ -9,7 +10,8 @@ use Rattle.rvs_insn.specs.Fields.{Fields}
 use Rattle.rvs_machine.specs.Effects.{add32}
 use Rattle.rvs_machine.specs.Image.{data_base}
 use Rattle.rvs_machine.specs.declared.event.Event.TheVariants.{Ran}
-use Rattle.rvs_machine.specs.Machine.{Setup, State, read_reg, write_reg, store_bytes, word_at, imm_word}
+use Rattle.rvs_machine.specs.Machine.{Setup, State, read_reg, write_reg, store_bytes, word_at}
+use Rattle.rvs_machine.specs.Machine.{imm_word}
 use Rattle.rvs_machine.proofs.Steps.{state, store_entry}
 use Rattle.rvs_machine.proofs.Loads.{IsAligned}
 use Rattle.rvs_machine.proofs.Stores.{store_size, storing_step}
@@ -18,9 +20,11 @@ use Rattle.rvs_test.proofs.Runs.{StandFrom, Piece, CaseRun}
 use Rattle.rvs_test.proofs.Cases.{Case, Leaves, IsGood}
 use Rattle.rvs_test.proofs.Pieces.{load_word, then_piece, ends_at, same_length}
 use Rattle.rvs_test.proofs.Stored.{store_length, stored_other, leaves_two}
-use Rattle.rvs_test.proofs.Shapes.{IsSlot, save, save_piece, source_code, read_first, read_source, stand_split, stands_later}
+use Rattle.rvs_test.proofs.Shapes.{IsSlot, save, save_piece, source_code, read_first, read_source}
+use Rattle.rvs_test.proofs.Shapes.{stand_split, stands_later}
 use Rattle.rvs_test.proofs.Good.{once_of}
-use Rattle.rvs_test.proofs.StoreRuns.{zeros, first_eight, same_store, scratch_after, scratch_word, same_word, copy, copied, copy_piece}
+use Rattle.rvs_test.proofs.StoreRuns.{zeros, first_eight, same_store, scratch_after, scratch_word}
+use Rattle.rvs_test.proofs.StoreRuns.{same_word, copy, copied, copy_piece}
 
 abbrev pub store_code : Fields → ℕ → ℕ → ℕ → ℕ → ℕ → ℕ → ℕ → List Fields
 store_code i a b w1 w2 p m sig =

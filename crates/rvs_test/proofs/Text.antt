@@ -1,12 +1,14 @@
 -- The text of a test is cut and read as its statements.
-use Rattle.std.proofs.Common.{◌≡◌, ℕ, zero, suc, ◌+◌, ◌^◌, ◌<◌, Bool, true, false, cond, List, [], ◌∷◌, ◌++◌, length, Option, Some, None, Ok, refl, ap, ◌∙◌, arith}
+use Rattle.std.proofs.Common.{◌≡◌, ℕ, zero, suc, ◌+◌, ◌^◌, ◌<◌, Bool, true, false, cond, List, []}
+use Rattle.std.proofs.Common.{◌∷◌, ◌++◌, length, Option, Some, None, Ok, refl, ap, ◌∙◌, arith}
 use Rattle.std.proofs.lemmas.Bool.Decides.{nat_tests}
 use Rattle.std.specs.Prelude.{◌==◌, ℤ, pos, negsuc, map, codes}
 use Rattle.std.specs.List.{list_all}
 use Rattle.std.specs.Fmt.{decimal, signed_decimal}
 use Rattle.rvs_insn.specs.declared.op.Op.{Op}
 use Rattle.rvs_insn.specs.declared.op.Format.{Format}
-use Rattle.rvs_insn.specs.declared.op.Format.TheVariants.{R, I, Shift, Load, JumpReg, Store, Branch, Upper, Jump, Fence, System}
+use Rattle.rvs_insn.specs.declared.op.Format.TheVariants.{R, I, Shift, Load, JumpReg, Store, Branch}
+use Rattle.rvs_insn.specs.declared.op.Format.TheVariants.{Upper, Jump, Fence, System}
 use Rattle.rvs_insn.specs.Isa.{Isa}
 use Rattle.rvs_insn.specs.IsaName.{isa_name, long_names}
 use Rattle.rvs_insn.specs.Table.{row}
@@ -17,16 +19,24 @@ use Rattle.rvs_asm_text.specs.Text.{lines_of, is_text_byte}
 use Rattle.rvs_asm.specs.Places.{Reading}
 use Rattle.rvs_solver.specs.declared.solved.Solved.{Solved}
 use Rattle.rvs_test.specs.declared.statement.Name.{Name}
-use Rattle.rvs_test.specs.declared.statement.Name.TheVariants.{Start, Scratch, Pattern, ToHost, BeginSignature, Slot, EndSignature}
+use Rattle.rvs_test.specs.declared.statement.Name.TheVariants.{Start, Scratch, Pattern, ToHost}
+use Rattle.rvs_test.specs.declared.statement.Name.TheVariants.{BeginSignature, Slot, EndSignature}
 use Rattle.rvs_test.specs.declared.statement.Fixed.{Fixed}
-use Rattle.rvs_test.specs.declared.statement.Fixed.TheVariants.{NoRvc, NoRelax, ToText, Globl, ToData, Align, Zeros, FirstPattern, SecondPattern, Unset}
+use Rattle.rvs_test.specs.declared.statement.Fixed.TheVariants.{NoRvc, NoRelax, ToText, Globl}
+use Rattle.rvs_test.specs.declared.statement.Fixed.TheVariants.{ToData, Align, Zeros, FirstPattern}
+use Rattle.rvs_test.specs.declared.statement.Fixed.TheVariants.{SecondPattern, Unset}
 use Rattle.rvs_test.specs.declared.statement.Statement.{Statement}
-use Rattle.rvs_test.specs.declared.statement.Statement.TheVariants.{Label, Plain, High, Low, To, Nops, Fixed as FixedLine}
-use Rattle.rvs_test.specs.Statements.{name_of, written, register, in_brackets, operands_of, fixed_text, printed, bare}
-use Rattle.rvs_test.specs.TestText.{begin, fixed_data, slots, data_part, Point, claim_line, claim_lines, header, ended}
-use Rattle.rvs_test.proofs.Chars.{All, all_join, all_map, tested, is_clean, is_digit, differs, digit_plain, plain_clean, IsWord, AreWords, clean_word}
+use Rattle.rvs_test.specs.declared.statement.Statement.TheVariants.{Label, Plain, High, Low, To}
+use Rattle.rvs_test.specs.declared.statement.Statement.TheVariants.{Nops, Fixed as FixedLine}
+use Rattle.rvs_test.specs.Statements.{name_of, written, register, in_brackets, operands_of}
+use Rattle.rvs_test.specs.Statements.{fixed_text, printed, bare}
+use Rattle.rvs_test.specs.TestText.{begin, fixed_data, slots, data_part, Point, claim_line}
+use Rattle.rvs_test.specs.TestText.{claim_lines, header, ended}
+use Rattle.rvs_test.proofs.Chars.{All, all_join, all_map, tested, is_clean, is_digit, differs}
+use Rattle.rvs_test.proofs.Chars.{digit_plain, plain_clean, IsWord, AreWords, clean_word}
 use Rattle.rvs_test.proofs.Reading.{written_none, text_bytes, label_bytes}
-use Rattle.rvs_test.proofs.Digits.{decimal_spells, decimal_number, signed_number, hex_number, register_read}
+use Rattle.rvs_test.proofs.Digits.{decimal_spells, decimal_number, signed_number, hex_number}
+use Rattle.rvs_test.proofs.Digits.{register_read}
 use Rattle.rvs_test.proofs.KindLaws.{IsSmall, name_word, name_is, brackets_word, comment_line}
 use Rattle.rvs_test.proofs.Assembled.{IsFine, AllFine, Reads, none, cons}
 use Rattle.rvs_test.proofs.Parts.{code_of, whole}

@@ -1,5 +1,7 @@
 -- Windows: instructions that compute, one after the other, over registers whose words are known.
-use Rattle.std.proofs.Common.{◌≡◌, ◌≢◌, ℕ, zero, suc, ◌+◌, ◌*◌, ◌^◌, ◌<◌, ◌≤◌, Bool, true, false, cond, List, [], ◌∷◌, length, Option, Some, None, refl, sym, ap, ◌∙◌, arith, subst, ⊎_elim}
+use Rattle.std.proofs.Common.{◌≡◌, ◌≢◌, ℕ, zero, suc, ◌+◌, ◌*◌, ◌^◌, ◌<◌, ◌≤◌, Bool, true, false}
+use Rattle.std.proofs.Common.{cond, List, [], ◌∷◌, length, Option, Some, None, refl, sym, ap, ◌∙◌}
+use Rattle.std.proofs.Common.{arith, subst, ⊎_elim}
 use Rattle.std.proofs.lemmas.Bool.{cases_eq}
 use Rattle.std.proofs.lemmas.Bool.Decides.{nat_tests}
 use Rattle.std.specs.Prelude.{◌==◌}
@@ -12,13 +14,15 @@ use Rattle.rvs_machine.specs.declared.event.Executed.{Executed}
 use Rattle.rvs_machine.specs.declared.event.Event.TheVariants.{Ran}
 use Rattle.rvs_machine.specs.Effects.{add32}
 use Rattle.rvs_machine.specs.Machine.{Setup, read_reg, write_reg, commit_of, imm_word}
-use Rattle.rvs_machine.proofs.Steps.{state, entry, only_writes, written_by, writing_acts, acting_step}
+use Rattle.rvs_machine.proofs.Steps.{state, entry, only_writes, written_by, writing_acts}
+use Rattle.rvs_machine.proofs.Steps.{acting_step}
 use Rattle.rvs_machine.proofs.Results.{HasValue, value_is_word}
 use Rattle.rvs_test.specs.Sound.{IsComputing, computes, IsMiddle, AllComputing}
 use Rattle.rvs_test.specs.Claim.{after_commit, register_after}
 use Rattle.rvs_test.specs.TestText.{start_word}
 use Rattle.rvs_test.proofs.Runs.{StandFrom, Runs, Within, Piece}
-use Rattle.rvs_test.proofs.Pieces.{lui, addi, high_part, low_part, load_word, then_piece, ends_at, read_same, read_other, same_length, within_more}
+use Rattle.rvs_test.proofs.Pieces.{lui, addi, high_part, low_part, load_word, then_piece, ends_at}
+use Rattle.rvs_test.proofs.Pieces.{read_same, read_other, same_length, within_more}
 use Rattle.rvs_test.proofs.Shapes.{stands_later, write_length}
 
 -- ---- what is executed, by the words of the registers

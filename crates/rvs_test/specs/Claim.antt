@@ -1,5 +1,7 @@
 -- What is claimed of a test's run.
-use Rattle.std.specs.Prelude.{◌≡◌, ◌≢◌, ◌≤◌, ℕ, ◌+◌, ◌-◌, ◌*◌, replicate, ℤ, pos, negsuc, Bool, not, ◌==◌, nat_lt, nat_le, unwrap_or, false, true, Option, Some, None, List, [], ◌∷◌, ◌++◌, length, map, slice_index, if◌then◌else◌}
+use Rattle.std.specs.Prelude.{◌≡◌, ◌≢◌, ◌≤◌, ℕ, ◌+◌, ◌-◌, ◌*◌, replicate, ℤ, pos, negsuc, Bool, not}
+use Rattle.std.specs.Prelude.{◌==◌, nat_lt, nat_le, unwrap_or, false, true, Option, Some, None}
+use Rattle.std.specs.Prelude.{List, [], ◌∷◌, ◌++◌, length, map, slice_index, if◌then◌else◌}
 use Rattle.std.specs.List.{list_all}
 use Rattle.std.specs.Str.{bytes_eq}
 use Rattle.rvs_insn.specs.declared.op.Format.{Format}

@@ -1,5 +1,6 @@
 -- What a test's text claims of its run.
-use Rattle.std.specs.Prelude.{◌≡◌, ◌≤◌, ◌⊎◌, ℕ, ◌+◌, ◌*◌, true, List, [], ◌∷◌, length, map, All, Contains, Some, slice_index, slice_get}
+use Rattle.std.specs.Prelude.{◌≡◌, ◌≤◌, ◌⊎◌, ℕ, ◌+◌, ◌*◌, true, List, [], ◌∷◌, length, map, All}
+use Rattle.std.specs.Prelude.{Contains, Some, slice_index, slice_get}
 use Rattle.rvs_insn.specs.Isa.{Isa}
 use Rattle.rvs_insn.specs.Fields.{Fields, insn_of_word}
 use Rattle.rvs_machine.specs.declared.event.Executed.{Executed}
@@ -19,7 +20,8 @@ use Rattle.rvs_test.specs.declared.made.Claim.{Claim}
 use Rattle.rvs_test.specs.declared.statement.Name.TheVariants.{Case}
 use Rattle.rvs_test.specs.Statements.{name_of}
 use Rattle.rvs_test.specs.TestText.{first_rd, last_rd}
-use Rattle.rvs_test.specs.Claim.{symbol_address, IsOnly, outcome_at, last_word, words_after, insns_of}
+use Rattle.rvs_test.specs.Claim.{symbol_address, IsOnly, outcome_at, last_word, words_after}
+use Rattle.rvs_test.specs.Claim.{insns_of}
 
 -- one instruction alone hits the point, and the outcome is that of its format
 pub record HitsAlone (l : Label) (p : Point) (e : Executed) (more : List Executed)

@@ -1,5 +1,6 @@
 -- The test of a label: which points its cases are to hit, and what is left.
-use Rattle.std.specs.Prelude.{ℕ, ◌+◌, Bool, not, List, [], ◌∷◌, length, map, filter, flat_map, Option, Some, None, option_to_list, is_some, slice_get}
+use Rattle.std.specs.Prelude.{ℕ, ◌+◌, Bool, not, List, [], ◌∷◌, length, map, filter, flat_map}
+use Rattle.std.specs.Prelude.{Option, Some, None, option_to_list, is_some, slice_get}
 use Rattle.std.specs.List.{range_with_len}
 use Rattle.rvs_insn.specs.Isa.{Isa}
 use Rattle.rvs_cgf.specs.Print.{kind_name}

@@ -1,5 +1,6 @@
 -- What a test claims, as a reader has it who knows nothing but the bytes of its text.
-use Rattle.std.specs.Prelude.{ℕ, Option, Some, None, option_map, option_and_then, List, [], ◌∷◌, codes}
+use Rattle.std.specs.Prelude.{ℕ, Option, Some, None, option_map, option_and_then, List, [], ◌∷◌}
+use Rattle.std.specs.Prelude.{codes}
 use Rattle.std.specs.List.{filter_map}
 use Rattle.rvs_base.specs.Digits.{digits_of}
 use Rattle.rvs_base.specs.Lines.{before, after}

@@ -1,5 +1,7 @@
 -- The text of a test.
-use Rattle.std.specs.Prelude.{ℕ, zero, suc, ◌+◌, ◌-◌, ◌*◌, ◌/◌, ◌==◌, ◌||◌, ◌&&◌, not, ℤ, pos, negsuc, Bool, Option, Some, None, List, [], ◌∷◌, ◌++◌, length, map, unwrap_or, codes, if◌then◌else◌, unsigned_abs}
+use Rattle.std.specs.Prelude.{ℕ, zero, suc, ◌+◌, ◌-◌, ◌*◌, ◌/◌, ◌==◌, ◌||◌, ◌&&◌, not, ℤ, pos}
+use Rattle.std.specs.Prelude.{negsuc, Bool, Option, Some, None, List, [], ◌∷◌, ◌++◌, length, map}
+use Rattle.std.specs.Prelude.{unwrap_or, codes, if◌then◌else◌, unsigned_abs}
 use Rattle.std.specs.List.{find}
 use Rattle.std.specs.Fmt.{decimal}
 use Rattle.rvs_insn.specs.declared.op.Op.TheVariants.{Sw, Lw, Jal}
@@ -13,10 +15,15 @@ use Rattle.rvs_asm.specs.Bytes.{high, low}
 use Rattle.rvs_solver.specs.Choices.{ChoiceValue, fields_of}
 use Rattle.rvs_test.specs.declared.made.Claim.{Claim}
 use Rattle.rvs_test.specs.declared.statement.Name.{Name}
-use Rattle.rvs_test.specs.declared.statement.Name.TheVariants.{Start, Case, Target, Done, Halt, Scratch, Pattern, ToHost, BeginSignature, Slot, EndSignature}
-use Rattle.rvs_test.specs.declared.statement.Fixed.TheVariants.{NoRvc, NoRelax, ToText, Globl, ToData, Align, Zeros, FirstPattern, SecondPattern, Unset}
+use Rattle.rvs_test.specs.declared.statement.Name.TheVariants.{Start, Case, Target, Done, Halt}
+use Rattle.rvs_test.specs.declared.statement.Name.TheVariants.{Scratch, Pattern, ToHost}
+use Rattle.rvs_test.specs.declared.statement.Name.TheVariants.{BeginSignature, Slot, EndSignature}
+use Rattle.rvs_test.specs.declared.statement.Fixed.TheVariants.{NoRvc, NoRelax, ToText, Globl}
+use Rattle.rvs_test.specs.declared.statement.Fixed.TheVariants.{ToData, Align, Zeros, FirstPattern}
+use Rattle.rvs_test.specs.declared.statement.Fixed.TheVariants.{SecondPattern, Unset}
 use Rattle.rvs_test.specs.declared.statement.Statement.{Statement}
-use Rattle.rvs_test.specs.declared.statement.Statement.TheVariants.{Label, Plain, High, Low, To, Nops, Fixed as FixedLine}
+use Rattle.rvs_test.specs.declared.statement.Statement.TheVariants.{Label, Plain, High, Low, To}
+use Rattle.rvs_test.specs.declared.statement.Statement.TheVariants.{Nops, Fixed as FixedLine}
 use Rattle.rvs_solver.specs.declared.solved.Solved.{Solved}
 use Rattle.rvs_solver.specs.declared.solved.Solved.TheVariants.{One, Many}
 use Rattle.rvs_test.specs.Statements.{printed, lui, addi}

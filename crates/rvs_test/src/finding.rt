@@ -1,11 +1,13 @@
 // The first choices of a label's points.
-ghost use Rattle.std.specs.Prelude.{◌≡◌, ◌≤◌, ◌<◌, ◌+◌, ◌++◌, ◌∷◌, [], IfOk, length, take, sum_by, option_to_list};
+ghost use Rattle.std.specs.Prelude.{◌≡◌, ◌≤◌, ◌<◌, ◌+◌, ◌++◌, ◌∷◌, [], IfOk, length, take, sum_by};
+ghost use Rattle.std.specs.Prelude.{option_to_list};
 ghost use Rattle.std.specs.List.{range_with_len};
 ghost use Rattle.rvs_cgf.specs.GroupView.{label_view, point_view};
 ghost use Rattle.rvs_cgf.specs.Valid.{IsValid};
 ghost use Rattle.rvs_solver.specs.Solving.{first_at, bound_of_label};
 ghost use Rattle.rvs_test.specs.Made.{places, claims_of, unsolved_of, cases_of};
-ghost use Rattle.rvs_test.specs.Found.{FoundValue, found_view, found_before, nothing_found, with_one};
+ghost use Rattle.rvs_test.specs.Found.{FoundValue, found_view, found_before, nothing_found};
+ghost use Rattle.rvs_test.specs.Found.{with_one};
 
 use crate::made::Claim;
 use rvs_base::{Items, NoMemory};

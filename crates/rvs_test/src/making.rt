@@ -1,10 +1,12 @@
 // The test of a label.
-ghost use Rattle.std.specs.Prelude.{◌≡◌, ◌≤◌, ◌<◌, ◌+◌, ◌*◌, ◌^◌, ℕ, false, length, map, Contains, IfOk, IfSome, Some, pos, unwrap_or};
+ghost use Rattle.std.specs.Prelude.{◌≡◌, ◌≤◌, ◌<◌, ◌+◌, ◌*◌, ◌^◌, ℕ, false, length, map, Contains};
+ghost use Rattle.std.specs.Prelude.{IfOk, IfSome, Some, pos, unwrap_or};
 ghost use Rattle.rvs_cgf.specs.GroupView.{label_view};
 ghost use Rattle.rvs_cgf.specs.Valid.{IsValid};
 ghost use Rattle.rvs_solver.specs.Solving.{IsSolvableAt, bound_of_label};
 ghost use Rattle.rvs_test.specs.TestText as layout;
-ghost use Rattle.rvs_test.specs.Made.{claims_of, unsolved_of, cases_of, text_for, text_of_label, named_at};
+ghost use Rattle.rvs_test.specs.Made.{claims_of, unsolved_of, cases_of, text_for, text_of_label};
+ghost use Rattle.rvs_test.specs.Made.{named_at};
 ghost use Rattle.rvs_test.specs.Claimed.{TestRuns, IsAccounted};
 ghost use Rattle.rvs_test.specs.Named.{claims_read, named_claim};
 

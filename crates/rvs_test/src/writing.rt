@@ -1,5 +1,6 @@
 // The text of a test.
-ghost use Rattle.std.specs.Prelude.{◌≡◌, ◌<◌, ◌≤◌, ◌+◌, ◌++◌, ◌∷◌, [], All, IfOk, OnOk, MatchOption, Some, length, map, false, codes};
+ghost use Rattle.std.specs.Prelude.{◌≡◌, ◌<◌, ◌≤◌, ◌+◌, ◌++◌, ◌∷◌, [], All, IfOk, OnOk};
+ghost use Rattle.std.specs.Prelude.{MatchOption, Some, length, map, false, codes};
 ghost use Rattle.rvs_cgf.specs.GroupView.{label_view, point_view};
 ghost use Rattle.rvs_test.specs.TestText as layout;
 ghost use Rattle.rvs_test.specs.TestText.{text_of, ended};

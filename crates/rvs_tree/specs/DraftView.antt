@@ -29,7 +29,8 @@ abbrev pub data_of : List Written → ℕ → Data
 data_of ws line = mapping (entries_of (resolved (explicit_keys ws) [] ws)) line
 
 abbrev pub draft_step : Draft-F Written Data → Data
-draft_step d = if d.is_list then sequence (items_of (merged_trees d.parts.items)) d.line else data_of d.parts.items d.line
+draft_step d = if d.is_list then sequence (items_of (merged_trees d.parts.items)) d.line
+    else data_of d.parts.items d.line
 
 abbrev pub draft_view : Draft → Data
 draft_view = fold-Draft Written Data part_step draft_step

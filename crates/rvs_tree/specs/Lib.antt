@@ -2,7 +2,8 @@
 pub mod Data
 pub mod Value
 pub mod OwnKeys
--- How the code bounds the depth, what stands for a value, and what the values of the code stand for.
+-- How the code bounds the depth, what stands for a value, and what the values of the code stand
+-- for.
 pub mod Bound
 pub mod Sifted
 pub mod Standin

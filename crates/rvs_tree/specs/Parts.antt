@@ -14,4 +14,5 @@ takes taken (w ∷ ws) =
 -- the maps among what is merged
 abbrev pub map_entries : List Written → List Written
 map_entries [] = []
-map_entries (w ∷ ws) = if w.merges && is_map w.value.tree then w ∷ map_entries ws else map_entries ws
+map_entries (w ∷ ws) = if w.merges && is_map w.value.tree then w ∷ map_entries ws
+    else map_entries ws

@@ -47,7 +47,8 @@ impl Draft {
         parts: Vec<Part>,
         line: u64,
     ) -> Result<Rc<Draft>, AllocError>
-        ensures { IfOk result (λ d. draft_view d.value ≡ sequence (items_of (merged_trees (parts_view parts.items))) line) }
+        ensures { IfOk result (λ d. draft_view d.value
+            ≡ sequence (items_of (merged_trees (parts_view parts.items))) line) }
     {
         Draft::shared(alloc, parts, true, line)
     }
@@ -58,7 +59,8 @@ impl Draft {
         is_list: bool,
         line: u64,
     ) -> Result<Rc<Draft>, AllocError>
-        ensures { IfOk result (λ d. (d.value.parts ≡ parts) × (d.value.is_list ≡ is_list) × (d.value.line ≡ line)) }
+        ensures { IfOk result
+            (λ d. (d.value.parts ≡ parts) × (d.value.is_list ≡ is_list) × (d.value.line ≡ line)) }
     {
         Ok(Rc::new(
             alloc,
@@ -86,9 +88,12 @@ impl Draft {
 
     /// The entries or the items.
     pub(crate) fn parts(&self) -> &[Part]
-        ensures map { is_list (draft_view self.now) ≡ false → (l : ℕ) × (draft_view self.now ≡ data_of (parts_view result.now) l) }
-        ensures list { is_list (draft_view self.now) ≡ true → merged_pairs (draft_view self.now) ≡ pairs_in (merged_trees (parts_view result.now)) }
-        ensures items { is_list (draft_view self.now) ≡ true → (l : ℕ) × (draft_view self.now ≡ sequence (items_of (merged_trees (parts_view result.now))) l) }
+        ensures map { is_list (draft_view self.now) ≡ false
+            → (l : ℕ) × (draft_view self.now ≡ data_of (parts_view result.now) l) }
+        ensures list { is_list (draft_view self.now) ≡ true
+            → merged_pairs (draft_view self.now) ≡ pairs_in (merged_trees (parts_view result.now)) }
+        ensures items { is_list (draft_view self.now) ≡ true → (l : ℕ)
+            × (draft_view self.now ≡ sequence (items_of (merged_trees (parts_view result.now))) l) }
         ensures size { draft_size self.now ≡ sizes result.now }
     {
         self.parts.as_slice()

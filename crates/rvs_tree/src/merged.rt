@@ -36,7 +36,8 @@ impl Pairs {
 
     /// These pairs and one more.
     pub(crate) fn with(self, alloc: Global, key: &str, tree: &Rc<Tree>) -> Result<Pairs, AllocError>
-        ensures { IfOk result (λ p. pairs_view p ≡ pairs_view self ++ (key.now, view tree.now.value) ∷ []) }
+        ensures { IfOk result
+            (λ p. pairs_view p ≡ pairs_view self ++ (key.now, view tree.now.value) ∷ []) }
     {
         let Pairs {
             mut keys,
@@ -60,7 +61,9 @@ impl Pairs {
 
     /// Whether the key is among those of the map or of these pairs.
     fn is_taken(&self, own: &EntryList, key: &str) -> bool
-        ensures { result ≡ (spec.has_key key.now (spec.explicit_keys (entries_view own.now.entries.items)) || spec.has_key key.now (spec.keys_of (pairs_view self.now))) }
+        ensures { result
+            ≡ (spec.has_key key.now (spec.explicit_keys (entries_view own.now.entries.items))
+            || spec.has_key key.now (spec.keys_of (pairs_view self.now))) }
     {
         own.has_key(key) || self.has_key(key)
     }
@@ -73,7 +76,9 @@ impl Pairs {
         key: &str,
         tree: &Rc<Tree>,
     ) -> Result<Pairs, AllocError>
-        ensures { IfOk result (λ p. pairs_view p ≡ spec.added (spec.explicit_keys (entries_view own.now.entries.items)) (pairs_view self) ((key.now, view tree.now.value) ∷ [])) }
+        ensures { IfOk result (λ p. pairs_view p ≡ spec.added
+            (spec.explicit_keys (entries_view own.now.entries.items)) (pairs_view self)
+            ((key.now, view tree.now.value) ∷ [])) }
     {
         if self.is_taken(own, key) {
             Ok(self)
@@ -84,7 +89,9 @@ impl Pairs {
 
     /// These pairs and those of a merged map.
     fn with_map(self, alloc: Global, own: &EntryList, tree: &Tree) -> Result<Pairs, AllocError>
-        ensures { IfOk result (λ p. pairs_view p ≡ spec.added (spec.explicit_keys (entries_view own.now.entries.items)) (pairs_view self) (own_pairs (view tree.now))) }
+        ensures { IfOk result (λ p. pairs_view p ≡ spec.added
+            (spec.explicit_keys (entries_view own.now.entries.items)) (pairs_view self)
+            (own_pairs (view tree.now))) }
     {
         let (keys, values) = tree.entries();
         let mut pairs = self;
@@ -104,7 +111,9 @@ impl Pairs {
         own: &EntryList,
         trees: &[Rc<Tree>],
     ) -> Result<Pairs, AllocError>
-        ensures { IfOk result (λ p. pairs_view p ≡ spec.added (spec.explicit_keys (entries_view own.now.entries.items)) (pairs_view self) (spec.pairs_in (map rc_view trees.now))) }
+        ensures { IfOk result (λ p. pairs_view p ≡ spec.added
+            (spec.explicit_keys (entries_view own.now.entries.items)) (pairs_view self)
+            (spec.pairs_in (map rc_view trees.now))) }
     {
         let mut pairs = self;
         for tree in trees {
@@ -115,7 +124,9 @@ impl Pairs {
 
     /// These pairs and those of a merged value.
     fn with_merged(self, alloc: Global, own: &EntryList, tree: &Tree) -> Result<Pairs, AllocError>
-        ensures { IfOk result (λ p. pairs_view p ≡ spec.added (spec.explicit_keys (entries_view own.now.entries.items)) (pairs_view self) (spec.merged_pairs (view tree.now))) }
+        ensures { IfOk result (λ p. pairs_view p ≡ spec.added
+            (spec.explicit_keys (entries_view own.now.entries.items)) (pairs_view self)
+            (spec.merged_pairs (view tree.now))) }
     {
         if tree.is_list() {
             self.with_maps(alloc, own, tree.items())
@@ -131,7 +142,9 @@ impl Pairs {
         own: &EntryList,
         written: &Written,
     ) -> Result<Pairs, AllocError>
-        ensures { IfOk result (λ p. pairs_view p ≡ spec.resolved (spec.explicit_keys (entries_view own.now.entries.items)) (pairs_view self) (written_view written.now ∷ [])) }
+        ensures { IfOk result (λ p. pairs_view p ≡ spec.resolved
+            (spec.explicit_keys (entries_view own.now.entries.items)) (pairs_view self)
+            (written_view written.now ∷ [])) }
     {
         let tree = tree_of(alloc, &written.value)?;
         if written.merges {
@@ -144,7 +157,9 @@ impl Pairs {
 
 /// The pairs of a map with its merges resolved.
 fn resolved_pairs(alloc: Global, own: &EntryList) -> Result<Pairs, AllocError>
-    ensures { IfOk result (λ p. pairs_view p ≡ spec.resolved (spec.explicit_keys (entries_view own.now.entries.items)) [] (entries_view own.now.entries.items)) }
+    ensures { IfOk result (λ p. pairs_view p ≡ spec.resolved
+        (spec.explicit_keys (entries_view own.now.entries.items)) []
+        (entries_view own.now.entries.items)) }
 {
     let mut pairs = Pairs::new(alloc);
     for written in &own.entries {
@@ -159,7 +174,8 @@ pub(crate) fn resolved_tree(
     line: u64,
     own: &EntryList,
 ) -> Result<Rc<Tree>, AllocError>
-    ensures { IfOk result (λ t. view t.value ≡ (spec.map_value line (entries_view own.now.entries.items)).tree) }
+    ensures { IfOk result
+        (λ t. view t.value ≡ (spec.map_value line (entries_view own.now.entries.items)).tree) }
 {
     let Pairs {
         keys,
@@ -169,10 +185,11 @@ pub(crate) fn resolved_tree(
     Tree::new_map(alloc, keys, values, line)
 }
 
-/// What a map of these entries is held as, which begins on this line. Where it merges, its merges are
-/// worked out with those of the map that takes it.
+/// What a map of these entries is held as, which begins on this line. Where it merges, its merges
+/// are worked out with those of the map that takes it.
 fn held_map(alloc: Global, line: u64, own: &EntryList) -> Result<Held, AllocError>
-    ensures { IfOk result (λ h. held_view h ≡ (spec.map_value line (entries_view own.now.entries.items)).tree) }
+    ensures { IfOk result
+        (λ h. held_view h ≡ (spec.map_value line (entries_view own.now.entries.items)).tree) }
 {
     if own.merges {
         Ok(Held::Merging(map_draft(alloc, line, own.entries.as_slice())?))
@@ -183,7 +200,8 @@ fn held_map(alloc: Global, line: u64, own: &EntryList) -> Result<Held, AllocErro
 
 /// The map of these entries, which begins on this line.
 pub fn map_value(alloc: Global, line: u64, own: &EntryList) -> Result<Value, AllocError>
-    ensures value { IfOk result (λ v. value_view v ≡ spec.map_value line (entries_view own.now.entries.items)) }
+    ensures value { IfOk result
+        (λ v. value_view v ≡ spec.map_value line (entries_view own.now.entries.items)) }
     ensures depth { IfOk result (λ v. v.depth ≡ min (own.now.depth + 1) 33) }
 {
     let held = held_map(alloc, line, own)?;
@@ -209,7 +227,8 @@ fn shared_trees(alloc: Global, values: &[Value]) -> Result<Vec<Rc<Tree>>, AllocE
 /// What a list of these values is held as, which begins on this line. Where it can be merged, the
 /// merges of its maps may wait for the map that takes it.
 fn held_list(alloc: Global, line: u64, list: &ValueList) -> Result<Held, AllocError>
-    ensures view { IfOk result (λ h. held_view h ≡ (spec.list_value line (values_view list.now.values.items)).tree) }
+    ensures view { IfOk result
+        (λ h. held_view h ≡ (spec.list_value line (values_view list.now.values.items)).tree) }
     ensures ready { IfOk result (λ h. (is_whole h || list.now.all_maps) ≡ true) }
 {
     if list.merging && list.all_maps {
@@ -221,7 +240,8 @@ fn held_list(alloc: Global, line: u64, list: &ValueList) -> Result<Held, AllocEr
 
 /// The list of these values, which begins on this line.
 pub fn list_value(alloc: Global, line: u64, list: &ValueList) -> Result<Value, AllocError>
-    ensures value { IfOk result (λ v. value_view v ≡ spec.list_value line (values_view list.now.values.items)) }
+    ensures value { IfOk result
+        (λ v. value_view v ≡ spec.list_value line (values_view list.now.values.items)) }
     ensures depth { IfOk result (λ v. v.depth ≡ min (list.now.depth + 1) 33) }
 {
     let held = held_list(alloc, line, list)?;

@@ -51,7 +51,8 @@ pub(crate) fn map_draft(
     line: u64,
     entries: &[Written],
 ) -> Result<Rc<Draft>, AllocError>
-    ensures { IfOk result (λ d. draft_view d.value ≡ (spec.map_value line (entries_view entries.now)).tree) }
+    ensures { IfOk result
+        (λ d. draft_view d.value ≡ (spec.map_value line (entries_view entries.now)).tree) }
 {
     let mut parts = Vec::with_capacity(alloc, entries.len())?;
     for written in entries {
@@ -66,7 +67,8 @@ pub(crate) fn list_draft(
     line: u64,
     values: &[Value],
 ) -> Result<Rc<Draft>, AllocError>
-    ensures { IfOk result (λ d. draft_view d.value ≡ (spec.list_value line (values_view values.now)).tree) }
+    ensures { IfOk result
+        (λ d. draft_view d.value ≡ (spec.list_value line (values_view values.now)).tree) }
 {
     let mut parts = Vec::with_capacity(alloc, values.len())?;
     for value in values {

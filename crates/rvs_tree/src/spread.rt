@@ -7,7 +7,8 @@ ghost use Rattle.rvs_tree.specs.Parts as parts_spec;
 ghost use Rattle.rvs_tree.specs.DraftView.{part_view, draft_view, merging_entry};
 ghost use Rattle.rvs_tree.specs.PairsView.{pairs_view};
 ghost use Rattle.rvs_tree.specs.GatheredView.{taken_view};
-ghost use Rattle.rvs_tree.specs.PartsView.{parts_view, refs_view, next_view, brings, part_size, draft_size, sizes, ref_sizes};
+ghost use Rattle.rvs_tree.specs.PartsView.{parts_view, refs_view, next_view, brings, part_size};
+ghost use Rattle.rvs_tree.specs.PartsView.{draft_size, sizes, ref_sizes};
 
 use crate::draft::{Draft, Part};
 use crate::gathering::Gathered;
@@ -16,17 +17,20 @@ use crate::taken::Taken;
 use std::alloc::{AllocError, Global};
 use std::rc::Rc;
 
-/// The keys that are taken and the entries that are kept, with one entry more: it is kept unless its
-/// own key is taken, and then its key is taken.
+/// The keys that are taken and the entries that are kept, with one entry more: it is kept unless
+/// its own key is taken, and then its key is taken.
 fn keep_one<'a>(
     alloc: Global,
     taken: Taken,
     mut kept: Vec<&'a Part>,
     part: &'a Part,
 ) -> Result<(Taken, Vec<&'a Part>), AllocError>
-    ensures taken { IfOk result (λ r. taken_view r.0 ≡ parts_spec.takes (taken_view taken) (part_view part.now ∷ [])) }
-    ensures kept { IfOk result (λ r. refs_view r.1.items ≡ refs_view kept.entry.items ++ sifted.kept (taken_view taken) (part_view part.now ∷ [])) }
-    ensures small { IfOk result (λ r. ref_sizes r.1.items ≤ ref_sizes kept.entry.items + part_size part.now) }
+    ensures taken { IfOk result
+        (λ r. taken_view r.0 ≡ parts_spec.takes (taken_view taken) (part_view part.now ∷ [])) }
+    ensures kept { IfOk result (λ r. refs_view r.1.items ≡ refs_view kept.entry.items
+        ++ sifted.kept (taken_view taken) (part_view part.now ∷ [])) }
+    ensures small { IfOk result
+        (λ r. ref_sizes r.1.items ≤ ref_sizes kept.entry.items + part_size part.now) }
 {
     match part {
         Part::Pair(key, _) => {
@@ -54,8 +58,10 @@ fn keep<'a>(
     taken: Taken,
     parts: &'a [Part],
 ) -> Result<(Taken, Vec<&'a Part>), AllocError>
-    ensures taken { IfOk result (λ r. taken_view r.0 ≡ parts_spec.takes (taken_view taken) (parts_view parts.now)) }
-    ensures kept { IfOk result (λ r. refs_view r.1.items ≡ sifted.kept (taken_view taken) (parts_view parts.now)) }
+    ensures taken { IfOk result
+        (λ r. taken_view r.0 ≡ parts_spec.takes (taken_view taken) (parts_view parts.now)) }
+    ensures kept { IfOk result
+        (λ r. refs_view r.1.items ≡ sifted.kept (taken_view taken) (parts_view parts.now)) }
     ensures small { IfOk result (λ r. ref_sizes r.1.items ≤ sizes parts.now) }
 {
     let mut taken = taken;
@@ -79,8 +85,10 @@ fn is_map_part(part: &Part) -> bool
 
 /// These and a part that is a map.
 fn with_map_part<'a>(mut maps: Vec<&'a Part>, part: &'a Part) -> Result<Vec<&'a Part>, AllocError>
-    ensures maps { IfOk result (λ v. refs_view v.items ≡ refs_view maps.entry.items ++ parts_spec.map_entries (part_view part.now ∷ [])) }
-    ensures small { IfOk result (λ v. ref_sizes v.items ≤ ref_sizes maps.entry.items + part_size part.now) }
+    ensures maps { IfOk result (λ v. refs_view v.items ≡ refs_view maps.entry.items
+        ++ parts_spec.map_entries (part_view part.now ∷ [])) }
+    ensures small { IfOk result
+        (λ v. ref_sizes v.items ≤ ref_sizes maps.entry.items + part_size part.now) }
 {
     if !is_map_part(part) {
         return Ok(maps);
@@ -91,7 +99,8 @@ fn with_map_part<'a>(mut maps: Vec<&'a Part>, part: &'a Part) -> Result<Vec<&'a 
 
 /// The maps among these items.
 fn maps_in<'a>(alloc: Global, parts: &'a [Part]) -> Result<Vec<&'a Part>, AllocError>
-    ensures maps { IfOk result (λ v. refs_view v.items ≡ parts_spec.map_entries (parts_view parts.now)) }
+    ensures maps { IfOk result
+        (λ v. refs_view v.items ≡ parts_spec.map_entries (parts_view parts.now)) }
     ensures small { IfOk result (λ v. ref_sizes v.items ≤ sizes parts.now) }
 {
     let mut maps = Vec::new(alloc);
@@ -106,8 +115,10 @@ fn stacked<'a>(
     mut work: Vec<&'a Part>,
     mut first: Vec<&'a Part>,
 ) -> Result<Vec<&'a Part>, AllocError>
-    ensures next { IfOk result (λ v. next_view v.items ≡ refs_view first.entry.items ++ next_view work.entry.items) }
-    ensures small { IfOk result (λ v. ref_sizes v.items ≡ ref_sizes work.entry.items + ref_sizes first.entry.items) }
+    ensures next { IfOk result
+        (λ v. next_view v.items ≡ refs_view first.entry.items ++ next_view work.entry.items) }
+    ensures small { IfOk result
+        (λ v. ref_sizes v.items ≡ ref_sizes work.entry.items + ref_sizes first.entry.items) }
 {
     while let Some(part) = first.pop() {
         work.push(part)?;
@@ -122,8 +133,10 @@ fn entered<'a>(
     work: Vec<&'a Part>,
     draft: &'a Draft,
 ) -> Result<(Gathered, Vec<&'a Part>), AllocError>
-    ensures brought { IfOk result (λ r. brings r.0 (next_view r.1.items) ≡ brings gathered (merging_entry (draft_view draft.now) ∷ next_view work.entry.items)) }
-    ensures small { IfOk result (λ r. ref_sizes r.1.items ≤ ref_sizes work.entry.items + draft_size draft.now) }
+    ensures brought { IfOk result (λ r. brings r.0 (next_view r.1.items)
+        ≡ brings gathered (merging_entry (draft_view draft.now) ∷ next_view work.entry.items)) }
+    ensures small { IfOk result
+        (λ r. ref_sizes r.1.items ≤ ref_sizes work.entry.items + draft_size draft.now) }
 {
     if draft.is_list() {
         let maps = maps_in(alloc, draft.parts())?;
@@ -143,8 +156,10 @@ fn done<'a>(
     work: Vec<&'a Part>,
     part: &'a Part,
 ) -> Result<(Gathered, Vec<&'a Part>), AllocError>
-    ensures brought { IfOk result (λ r. brings r.0 (next_view r.1.items) ≡ brings gathered (part_view part.now ∷ next_view work.entry.items)) }
-    ensures small { IfOk result (λ r. ref_sizes r.1.items < ref_sizes work.entry.items + part_size part.now) }
+    ensures brought { IfOk result (λ r. brings r.0 (next_view r.1.items)
+        ≡ brings gathered (part_view part.now ∷ next_view work.entry.items)) }
+    ensures small { IfOk result
+        (λ r. ref_sizes r.1.items < ref_sizes work.entry.items + part_size part.now) }
 {
     match part {
         Part::Pair(key, tree) => {
@@ -188,7 +203,8 @@ fn all_of<'a>(alloc: Global, parts: &'a [Part]) -> Result<Vec<&'a Part>, AllocEr
 
 /// The pairs of a map of these entries, with all that they merge.
 pub(crate) fn resolved_parts(alloc: Global, parts: &[Part]) -> Result<Pairs, AllocError>
-    ensures { IfOk result (λ p. pairs_view p ≡ resolved (explicit_keys (parts_view parts.now)) [] (parts_view parts.now)) }
+    ensures { IfOk result (λ p. pairs_view p
+        ≡ resolved (explicit_keys (parts_view parts.now)) [] (parts_view parts.now)) }
 {
     let (taken, kept) = keep(alloc, Taken::new(alloc), parts)?;
     drop(kept);

@@ -19,7 +19,8 @@ use std::rc::Rc;
 
 /// The tree that stands for a list, all of whose items are maps or empty scalars, or not.
 fn thin_list(alloc: Global, all_maps: bool, line: u64) -> Result<Rc<Tree>, AllocError>
-    ensures { IfOk result (λ t. view t.value ≡ (if all_maps then sequence no_items line else scalar (120 ∷ []) line)) }
+    ensures { IfOk result (λ t. view t.value
+        ≡ (if all_maps then sequence no_items line else scalar (120 ∷ []) line)) }
 {
     if all_maps {
         Tree::new_list(alloc, Vec::new(alloc), line)
@@ -86,7 +87,8 @@ pub fn thin_value(alloc: Global, value: &Value) -> Result<Value, AllocError>
 
 /// The value that stands for the map of these entries, whose merges needn't be resolved for it.
 pub fn thin_map_value(alloc: Global, line: u64, own: &EntryList) -> Result<Value, AllocError>
-    ensures { IfOk result (λ v. value_view v ≡ standin (spec.map_value line (entries_view own.now.entries.items))) }
+    ensures { IfOk result
+        (λ v. value_view v ≡ standin (spec.map_value line (entries_view own.now.entries.items))) }
 {
     let tree = thin_map(alloc, line)?;
     Ok(Value {
@@ -99,7 +101,8 @@ pub fn thin_map_value(alloc: Global, line: u64, own: &EntryList) -> Result<Value
 
 /// The value that stands for the list of these values.
 pub fn thin_list_value(alloc: Global, line: u64, list: &ValueList) -> Result<Value, AllocError>
-    ensures { IfOk result (λ v. value_view v ≡ standin (spec.list_value line (values_view list.now.values.items))) }
+    ensures { IfOk result
+        (λ v. value_view v ≡ standin (spec.list_value line (values_view list.now.values.items))) }
 {
     let tree = thin_list(alloc, list.all_maps, line)?;
     Ok(Value {

@@ -38,7 +38,8 @@ fn with_item(
     part: &Part,
 ) -> Result<Vec<Rc<Tree>>, AllocError>
     requires { spec.are_maps_or_empty (items_of (merged_trees (part_view part.now ∷ []))) ≡ true }
-    ensures { IfOk result (λ v. map rc_view v.items ≡ map rc_view items.items ++ merged_trees (part_view part.now ∷ [])) }
+    ensures { IfOk result (λ v. map rc_view v.items ≡ map rc_view items.items
+        ++ merged_trees (part_view part.now ∷ [])) }
 {
     match part {
         Part::Pair(_, _) => Ok(items),

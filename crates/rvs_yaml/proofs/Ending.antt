@@ -13,30 +13,49 @@ use Rattle.rvs_yaml_text.specs.declared.kind.YamlKind.{YamlKind}
 use Rattle.rvs_yaml_text.specs.declared.kind.YamlKind.TheVariants.{NoMemory}
 use Rattle.rvs_yaml.proofs.Answering.{Reads, Reads-end}
 
-line_refused : {A : Type 0} (kind : YamlKind) (line n : ℕ) (a : Answer) (m : Checked A) → (m ≡ Err kind → a ≡ Err (n, kind)) → Fails kind m → ((b : Answer) → b ≡ Err (n, kind) → Refuses kind line b) → (kind ≡ NoMemory → line ≡ 0) → Refuses kind line a
+line_refused : {A : Type 0} (kind : YamlKind) (line n : ℕ) (a : Answer) (m : Checked A)
+    → (m ≡ Err kind → a ≡ Err (n, kind)) → Fails kind m
+    → ((b : Answer) → b ≡ Err (n, kind) → Refuses kind line b) → (kind ≡ NoMemory → line ≡ 0)
+    → Refuses kind line a
 line_refused NoMemory line n a m to h f memory = memory refl
 line_refused kind line n a m to h f memory = f a (to h)
 
-pub refused-line : {A : Type 0} (told kind : YamlKind) (line n : ℕ) (a : Answer) (m : Checked A) → told ≡ kind → (m ≡ Err kind → a ≡ Err (n, kind)) → Fails kind m → ((b : Answer) → b ≡ Err (n, kind) → Refuses kind line b) → (kind ≡ NoMemory → line ≡ 0) → Refuses told line a
-refused-line told kind line n a m same to h f memory = subst (λ k. Refuses k line a) (sym same) (line_refused kind line n a m to h f memory)
+pub refused-line : {A : Type 0} (told kind : YamlKind) (line n : ℕ) (a : Answer) (m : Checked A)
+    → told ≡ kind → (m ≡ Err kind → a ≡ Err (n, kind)) → Fails kind m
+    → ((b : Answer) → b ≡ Err (n, kind) → Refuses kind line b) → (kind ≡ NoMemory → line ≡ 0)
+    → Refuses told line a
+refused-line told kind line n a m same to h f memory =
+    subst (λ k. Refuses k line a) (sym same) (line_refused kind line n a m to h f memory)
 
-never-fails : (m : Checked Value) (kind : YamlKind) → (m >>= within_limits) ≡ Ok tt → (m >>= λ v. let r : Checked Data = Ok v.tree in r) ≡ Err kind → ⊥
+never-fails : (m : Checked Value) (kind : YamlKind) → (m >>= within_limits) ≡ Ok tt
+    → (m >>= λ v. let r : Checked Data = Ok v.tree in r) ≡ Err kind → ⊥
 never-fails (Ok v) kind k e = cc
 never-fails (Err x) kind k e = cc
 
-last_refused : (kind : YamlKind) (line : ℕ) (a : Answer) (bs : List Open) → checked_front bs ≡ Ok tt → Fails kind (whole bs) → (kind ≡ NoMemory → line ≡ 0) → Refuses kind line a
+last_refused : (kind : YamlKind) (line : ℕ) (a : Answer) (bs : List Open) → checked_front bs ≡ Ok tt
+    → Fails kind (whole bs) → (kind ≡ NoMemory → line ≡ 0) → Refuses kind line a
 last_refused NoMemory line a bs k h memory = memory refl
 last_refused kind line a bs k h memory = absurd (never-fails (front_value bs) kind k h)
 
-pub refused-last : (told kind : YamlKind) (line : ℕ) (a : Answer) (bs : List Open) → told ≡ kind → checked_front bs ≡ Ok tt → Fails kind (whole bs) → (kind ≡ NoMemory → line ≡ 0) → Refuses told line a
-refused-last told kind line a bs same k h memory = subst (λ x. Refuses x line a) (sym same) (last_refused kind line a bs k h memory)
+pub refused-last : (told kind : YamlKind) (line : ℕ) (a : Answer) (bs : List Open) → told ≡ kind
+    → checked_front bs ≡ Ok tt → Fails kind (whole bs) → (kind ≡ NoMemory → line ≡ 0)
+    → Refuses told line a
+refused-last told kind line a bs same k h memory =
+    subst (λ x. Refuses x line a) (sym same) (last_refused kind line a bs k h memory)
 
 abbrev good_answer : Data → Answer
 good_answer d = Ok d
 
-whole-by : (bytes : List ℕ) (number : ℕ) (started : Bool) (blocks : List Open) (rest : Option (Bor (List ℕ))) (d : Data) (m : Checked Value) → Reads bytes number started blocks rest → rest ≡ None → front_value blocks ≡ m → (m >>= λ v. let r : Checked Data = Ok v.tree in r) ≡ Ok d → answer bytes ≡ Ok d
-whole-by bytes number started blocks rest d (Ok v) h is e k = let same : v.tree ≡ d = cc in Reads-end bytes number started blocks rest v h is e ∙ ap good_answer same
+whole-by : (bytes : List ℕ) (number : ℕ) (started : Bool) (blocks : List Open)
+    (rest : Option (Bor (List ℕ))) (d : Data) (m : Checked Value) → Reads bytes number started
+    blocks rest → rest ≡ None → front_value blocks ≡ m
+    → (m >>= λ v. let r : Checked Data = Ok v.tree in r) ≡ Ok d → answer bytes ≡ Ok d
+whole-by bytes number started blocks rest d (Ok v) h is e k = let same : v.tree ≡ d = cc in
+    Reads-end bytes number started blocks rest v h is e ∙ ap good_answer same
 whole-by bytes number started blocks rest d (Err x) h is e k = cc
 
-pub Reads-whole : (bytes : List ℕ) (number : ℕ) (started : Bool) (blocks : List Open) (rest : Option (Bor (List ℕ))) (d : Data) → Reads bytes number started blocks rest → rest ≡ None → whole blocks ≡ Ok d → answer bytes ≡ Ok d
-Reads-whole bytes number started blocks rest d h is k = whole-by bytes number started blocks rest d (front_value blocks) h is refl k
+pub Reads-whole : (bytes : List ℕ) (number : ℕ) (started : Bool) (blocks : List Open)
+    (rest : Option (Bor (List ℕ))) (d : Data) → Reads bytes number started blocks rest → rest ≡ None
+    → whole blocks ≡ Ok d → answer bytes ≡ Ok d
+Reads-whole bytes number started blocks rest d h is k =
+    whole-by bytes number started blocks rest d (front_value blocks) h is refl k

@@ -5,7 +5,8 @@ use Rattle.rvs_yaml.specs.Checks.{Checked, ◌>>=◌}
 use Rattle.rvs_tree.specs.Value.{Value, scalar_value}
 use Rattle.rvs_yaml_text.specs.Word.{Name, opens_block}
 use Rattle.rvs_yaml.specs.Block.{Found, found, named, check_merge}
-use Rattle.rvs_yaml.specs.Stack.{Done, done_items, done_entries, alone, Open, own_found, closed_as, closed, closed_into, unwound, finished}
+use Rattle.rvs_yaml.specs.Stack.{Done, done_items, done_entries, alone, Open, own_found, closed_as}
+use Rattle.rvs_yaml.specs.Stack.{closed, closed_into, unwound, finished}
 use Rattle.rvs_yaml.specs.StepParts.{closed_value}
 use Rattle.rvs_yaml.specs.Front.{own_value, ends, front_value}
 use Rattle.rvs_yaml.proofs.Outlined.{bind_assoc, bind_same, then_assoc}
@@ -13,7 +14,8 @@ use Rattle.rvs_yaml.proofs.Outlined.{bind_assoc, bind_same, then_assoc}
 abbrev pub value_of : Found Value → Checked Value
 value_of g = Ok g.value
 
-pub closed-value : (dn : Done) (line : ℕ) (anchors : _) (g : Found Value) → (closed_as dn line anchors g >>= value_of) ≡ closed_value dn line g.value
+pub closed-value : (dn : Done) (line : ℕ) (anchors : _) (g : Found Value)
+    → (closed_as dn line anchors g >>= value_of) ≡ closed_value dn line g.value
 closed-value (done_items vs) line anchors g = refl
 closed-value (done_entries ws k) line anchors g = then_assoc (check_merge k g.value) _ _
 closed-value alone line anchors g = refl
@@ -26,21 +28,26 @@ ends-one : (m : Checked Value) → m ≡ (m >>= λ w. let r : Checked Value = Ok
 ends-one (Ok w) = refl
 ends-one (Err k) = refl
 
-bind_values : {A : Type 0} (m : Checked (Found Value)) (f : Value → Checked A) → ((m >>= value_of) >>= f) ≡ (m >>= λ g. f g.value)
+bind_values : {A : Type 0} (m : Checked (Found Value)) (f : Value → Checked A)
+    → ((m >>= value_of) >>= f) ≡ (m >>= λ g. f g.value)
 bind_values (Ok g) f = refl
 bind_values (Err k) f = refl
 
-unwound-ends : (g : Found Value) (b : Open) (bs : List Open) → (unwound g b bs >>= value_of) ≡ ends g.value (b ∷ bs)
-unwound-ends g b [] = closed-value b.done b.line b.anchors g ∙ ends-one (closed_value b.done b.line g.value)
+unwound-ends : (g : Found Value) (b : Open) (bs : List Open)
+    → (unwound g b bs >>= value_of) ≡ ends g.value (b ∷ bs)
+unwound-ends g b [] =
+    closed-value b.done b.line b.anchors g ∙ ends-one (closed_value b.done b.line g.value)
 unwound-ends g b (outer ∷ bs) =
     bind_assoc (closed_into b g outer.head.anchor) _ _
     ∙ bind_assoc (closed b g) _ _
-    ∙ bind_same (closed b g) _ _ (λ h. unwound-ends (named outer.head.anchor h) outer bs ∙ ap (λ v. ends v (outer ∷ bs)) (named-value outer.head.anchor h))
+    ∙ bind_same (closed b g) _ _ (λ h. unwound-ends (named outer.head.anchor h) outer bs
+    ∙ ap (λ v. ends v (outer ∷ bs)) (named-value outer.head.anchor h))
     ∙ sym (bind_values (closed b g) (λ v. ends v (outer ∷ bs)))
     ∙ ap (λ m. m >>= λ w. ends w (outer ∷ bs)) (closed-value b.done b.line b.anchors g)
 
 pub own-value : (b : Open) → (own_found b).value ≡ own_value b
-own-value b = named-value b.head.anchor (found (if opens_block b.head.sort then scalar_value [] b.head.line else b.own) [])
+own-value b = named-value b.head.anchor
+    (found (if opens_block b.head.sort then scalar_value [] b.head.line else b.own) [])
 
 pub finished-front : (bs : List Open) → (finished bs >>= value_of) ≡ front_value bs
 finished-front [] = refl

@@ -7,15 +7,18 @@ use Rattle.rvs_yaml.specs.Stack.{Open}
 use Rattle.rvs_yaml_text.specs.declared.kind.YamlKind.{YamlKind}
 use Rattle.rvs_yaml_text.specs.declared.kind.YamlKind.TheVariants.{NoMemory}
 
-pub fails_to : {A B : Type 0} (kind : YamlKind) (m : Checked A) (t : Checked B) → (m ≡ Err kind → t ≡ Err kind) → Fails kind m → Fails kind t
+pub fails_to : {A B : Type 0} (kind : YamlKind) (m : Checked A) (t : Checked B)
+    → (m ≡ Err kind → t ≡ Err kind) → Fails kind m → Fails kind t
 fails_to NoMemory m t f h = tt
 fails_to kind m t f h = f h
 
 -- what fails at first fails as a whole
-pub fails_first : {A B : Type 0} (kind : YamlKind) (m : Checked A) (f : A → Checked B) (t : Checked B) → (m >>= f) ≡ t → Fails kind m → Fails kind t
+pub fails_first : {A B : Type 0} (kind : YamlKind) (m : Checked A) (f : A → Checked B)
+    (t : Checked B) → (m >>= f) ≡ t → Fails kind m → Fails kind t
 fails_first kind m f t e h = fails_to kind m t (λ is. sym e ∙ ap (λ n. n >>= f) is) h
 
-pub gives_same : {X Y : Type 0} (see : X → Y) (r : Result X YamlKind) (m t : Checked Y) → m ≡ t → Gives see r m → Gives see r t
+pub gives_same : {X Y : Type 0} (see : X → Y) (r : Result X YamlKind) (m t : Checked Y) → m ≡ t
+    → Gives see r m → Gives see r t
 gives_same see (Ok x) m t e h = sym e ∙ h
 gives_same see (Err kind) m t e h = fails_to kind m t (λ is. sym e ∙ is) h
 
@@ -24,17 +27,23 @@ fails_with NoMemory m is = tt
 fails_with kind m is = is
 
 -- a function that takes no memory, in one that does
-pub agrees_gives : {X Y : Type 0} (see : X → Y) (r : Result X YamlKind) (m t : Checked Y) → m ≡ t → Agrees see r m → Gives see r t
+pub agrees_gives : {X Y : Type 0} (see : X → Y) (r : Result X YamlKind) (m t : Checked Y) → m ≡ t
+    → Agrees see r m → Gives see r t
 agrees_gives see (Ok x) m t e h = sym e ∙ h
 agrees_gives see (Err kind) m t e h = fails_with kind t (sym e ∙ h)
 
-pub passes_same : {X : Type 0} (see : X → List Open) (r : Result X YamlKind) (m t : Checked (List Open)) → m ≡ t → Passes see r m → Passes see r t
+pub passes_same : {X : Type 0} (see : X → List Open) (r : Result X YamlKind)
+    (m t : Checked (List Open)) → m ≡ t → Passes see r m → Passes see r t
 passes_same see r m t e h = subst (Passes see r) e h
 
-pub gives_passes : {X : Type 0} (see : X → List Open) (r : Result X YamlKind) (m t : Checked (List Open)) → m ≡ t → Gives see r m → Passes see r t
+pub gives_passes : {X : Type 0} (see : X → List Open) (r : Result X YamlKind)
+    (m t : Checked (List Open)) → m ≡ t → Gives see r m → Passes see r t
 gives_passes see (Ok x) m t e h = sym e ∙ h
-gives_passes see (Err kind) m t e h = fails_to kind m (t >>= kept) (λ is. ap (λ n. n >>= kept) (sym e ∙ is)) h
+gives_passes see (Err kind) m t e h =
+    fails_to kind m (t >>= kept) (λ is. ap (λ n. n >>= kept) (sym e ∙ is)) h
 
 -- what fails at first fails in the end
-pub fails_kept : (kind : YamlKind) (m t : Checked (List Open)) (f : List Open → Checked (List Open)) → (m >>= f) ≡ t → Fails kind m → Fails kind (t >>= kept)
-fails_kept kind m t f e h = fails_to kind m (t >>= kept) (λ is. ap (λ n. n >>= kept) (sym e ∙ ap (λ n. n >>= f) is)) h
+pub fails_kept : (kind : YamlKind) (m t : Checked (List Open)) (f : List Open → Checked (List Open))
+    → (m >>= f) ≡ t → Fails kind m → Fails kind (t >>= kept)
+fails_kept kind m t f e h =
+    fails_to kind m (t >>= kept) (λ is. ap (λ n. n >>= kept) (sym e ∙ ap (λ n. n >>= f) is)) h

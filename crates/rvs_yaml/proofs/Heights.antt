@@ -1,5 +1,6 @@
 -- No flow collection is deeper than its tokens reach.
-use Rattle.std.proofs.Common.{◌≡◌, ℕ, suc, ◌+◌, ◌≤◌, max, Bool, false, List, [], ◌∷◌, ◌++◌, length, Option, Some, None, Ok, Err, refl, sym, ap, subst, ◌∙◌, arith}
+use Rattle.std.proofs.Common.{◌≡◌, ℕ, suc, ◌+◌, ◌≤◌, max, Bool, false, List, [], ◌∷◌, ◌++◌, length}
+use Rattle.std.proofs.Common.{Option, Some, None, Ok, Err, refl, sym, ap, subst, ◌∙◌, arith}
 use Rattle.std.specs.Prelude.{◌&&◌}
 use Rattle.rvs_tree.specs.Data.{depth}
 use Rattle.rvs_tree.specs.Value.{Value, Written, scalar_value, list_value, map_value, explicit_keys}
@@ -7,13 +8,18 @@ use Rattle.rvs_tree.specs.Bound.{values_depth, written_depth}
 use Rattle.rvs_tree.proofs.Sums.{values_depth-push, brought_small}
 use Rattle.rvs_tree.proofs.Merging.{list-depth, map-depth}
 use Rattle.rvs_tree.proofs.Depths.{written_depth-push}
-use Rattle.rvs_yaml_text.specs.Word.{Key, Bracket, square, curly, Token, opening, closing, comma, colon, scalar_token, key_token, cut_key, colon_scalar, alias_token, late_colon, fault}
+use Rattle.rvs_yaml_text.specs.Word.{Key, Bracket, square, curly, Token, opening, closing, comma}
+use Rattle.rvs_yaml_text.specs.Word.{colon, scalar_token, key_token, cut_key, colon_scalar}
+use Rattle.rvs_yaml_text.specs.Word.{alias_token, late_colon, fault}
 use Rattle.rvs_yaml_text.specs.declared.kind.YamlKind.{YamlKind}
 use Rattle.rvs_yaml_text.specs.declared.kind.YamlKind.TheVariants.{BadFlow, BadScalar, BadMerge}
 use Rattle.rvs_yaml.specs.Checks.{Checked, ◌>>=◌, ◌>>◌, check}
 use Rattle.rvs_yaml.specs.Anchors.{Anchors, lookup, known_alias}
 use Rattle.rvs_yaml.specs.Entry.{written}
-use Rattle.rvs_yaml.specs.Flow.{Place, member, behind_member, key_place, entry_value, behind_entry, first_place, new_key, with_value, with_comma, with_key, with_cut_key, with_colon_scalar, with_alias, with_fault, with_token, may_open, closes, ends_with, fits, flow_value}
+use Rattle.rvs_yaml.specs.Flow.{Place, member, behind_member, key_place, entry_value, behind_entry}
+use Rattle.rvs_yaml.specs.Flow.{first_place, new_key, with_value, with_comma, with_key}
+use Rattle.rvs_yaml.specs.Flow.{with_cut_key, with_colon_scalar, with_alias, with_fault, with_token}
+use Rattle.rvs_yaml.specs.Flow.{may_open, closes, ends_with, fits, flow_value}
 use Rattle.rvs_yaml.specs.FlowSteps.{Reading, open_in, whole, into, moved, flow_step, flow_steps}
 use Rattle.rvs_yaml.specs.FlowParts.{first_reading, ended}
 use Rattle.rvs_yaml.specs.Heights.{found_depth, level_behind, reach, height}
@@ -40,7 +46,8 @@ abbrev level_of : Reading → ℕ
 level_of (open_in good b p outer) = suc (length outer)
 level_of (whole p) = 0
 
-bound : {A B : Type 0} (m : Checked A) (f : A → Checked B) (q : B) → (m >>= f) ≡ Ok q → (x : A) × (m ≡ Ok x) × (f x ≡ Ok q)
+bound : {A B : Type 0} (m : Checked A) (f : A → Checked B) (q : B) → (m >>= f) ≡ Ok q
+    → (x : A) × (m ≡ Ok x) × (f x ≡ Ok q)
 bound (Ok x) f q h = (x, refl, h)
 bound (Err k) f q h = cc
 
@@ -48,14 +55,19 @@ follows : {A B : Type 0} (m : Checked A) (n : Checked B) (q : B) → (m >> n) �
 follows (Ok x) n q h = h
 follows (Err k) n q h = cc
 
-entry-deep : (ws : List Written) (k : Key) (v : Value) → written_depth (ws ++ written k v ∷ []) ≤ max (written_depth ws) (depth v.tree)
-entry-deep ws k v = omega (arith, written_depth-push ws (written k v), brought_small (explicit_keys ws) k.merges v.tree)
+entry-deep : (ws : List Written) (k : Key) (v : Value)
+    → written_depth (ws ++ written k v ∷ []) ≤ max (written_depth ws) (depth v.tree)
+entry-deep ws k v = omega
+    (arith, written_depth-push ws (written k v), brought_small (explicit_keys ws) k.merges v.tree)
 
-value-deep : (p q : Place) (v : Value) → with_value p v ≡ Ok q → place_depth q ≤ max (place_depth p) (depth v.tree)
-value-deep (member vs) q v h = let e : behind_member (vs ++ v ∷ []) ≡ q = cc in omega (arith, ap place_depth e, values_depth-push vs v)
+value-deep : (p q : Place) (v : Value) → with_value p v ≡ Ok q
+    → place_depth q ≤ max (place_depth p) (depth v.tree)
+value-deep (member vs) q v h = let e : behind_member (vs ++ v ∷ []) ≡ q = cc in
+    omega (arith, ap place_depth e, values_depth-push vs v)
 value-deep (behind_member vs) q v h = cc
 value-deep (key_place ws) q v h = cc
-value-deep (entry_value ws k) q v h = let e : behind_entry (ws ++ written k v ∷ []) ≡ q = cc in omega (arith, ap place_depth e, entry-deep ws k v)
+value-deep (entry_value ws k) q v h = let e : behind_entry (ws ++ written k v ∷ []) ≡ q = cc in
+    omega (arith, ap place_depth e, entry-deep ws k v)
 value-deep (behind_entry ws) q v h = cc
 
 comma-deep : (p q : Place) → with_comma p ≡ Ok q → place_depth q ≡ place_depth p
@@ -68,14 +80,16 @@ comma-deep (behind_entry ws) q h = let e : key_place ws ≡ q = cc in sym (ap pl
 key-deep : (p q : Place) (k : Key) → with_key p k ≡ Ok q → place_depth q ≡ place_depth p
 key-deep (member vs) q k h = cc
 key-deep (behind_member vs) q k h = cc
-key-deep (key_place ws) q k h = let is = follows (new_key ws k) (Ok (entry_value ws k)) q h in let e : entry_value ws k ≡ q = cc in sym (ap place_depth e)
+key-deep (key_place ws) q k h = let is = follows (new_key ws k) (Ok (entry_value ws k)) q h in
+    let e : entry_value ws k ≡ q = cc in sym (ap place_depth e)
 key-deep (entry_value ws l) q k h = cc
 key-deep (behind_entry ws) q k h = cc
 
 cut-deep : (p q : Place) (k : Key) → with_cut_key p k ≡ Ok q → ⊥
 cut-deep (member vs) q k h = cc
 cut-deep (behind_member vs) q k h = cc
-cut-deep (key_place ws) q k h = let is = follows (new_key ws k) (let r : Checked Place = Err BadFlow in r) q h in cc
+cut-deep (key_place ws) q k h = let is =
+    follows (new_key ws k) (let r : Checked Place = Err BadFlow in r) q h in cc
 cut-deep (entry_value ws l) q k h = cc
 cut-deep (behind_entry ws) q k h = cc
 
@@ -97,14 +111,17 @@ found-deep : (o : Option Value) (v : Value) → known_alias o ≡ Ok v → depth
 found-deep None v h = cc
 found-deep (Some u) v h = let e : u ≡ v = cc in sym (ap (λ (x : Value). depth x.tree) e)
 
-alias-deep : (known : Anchors) (p q : Place) (name : List ℕ) → with_alias known p name ≡ Ok q → place_depth q ≤ max (place_depth p) (found_depth (lookup name known))
+alias-deep : (known : Anchors) (p q : Place) (name : List ℕ) → with_alias known p name ≡ Ok q
+    → place_depth q ≤ max (place_depth p) (found_depth (lookup name known))
 alias-deep known (member vs) q [] h = cc
 alias-deep known (entry_value ws k) q [] h = cc
 alias-deep known (member vs) q (b ∷ bs) h =
-    let (v, e, i) = bound (known_alias (lookup (b ∷ bs) known)) (λ v. let r : Checked Place = Ok (behind_member (vs ++ v ∷ [])) in r) q h in
+    let (v, e, i) = bound (known_alias (lookup (b ∷ bs) known))
+    (λ v. let r : Checked Place = Ok (behind_member (vs ++ v ∷ [])) in r) q h in
     omega (arith, value-deep (member vs) q v i, found-deep (lookup (b ∷ bs) known) v e)
 alias-deep known (entry_value ws k) q (b ∷ bs) h =
-    let (v, e, i) = bound (known_alias (lookup (b ∷ bs) known)) (λ v. let r : Checked Place = Ok (behind_entry (ws ++ written k v ∷ [])) in r) q h in
+    let (v, e, i) = bound (known_alias (lookup (b ∷ bs) known))
+    (λ v. let r : Checked Place = Ok (behind_entry (ws ++ written k v ∷ [])) in r) q h in
     omega (arith, value-deep (entry_value ws k) q v i, found-deep (lookup (b ∷ bs) known) v e)
 alias-deep known (key_place ws) q [] h = cc
 alias-deep known (key_place ws) q (b ∷ bs) h = cc
@@ -114,65 +131,99 @@ alias-deep known (behind_entry ws) q [] h = cc
 alias-deep known (behind_entry ws) q (b ∷ bs) h = cc
 
 -- a token that is no bracket
-token-deep : (known : Anchors) (line level : ℕ) (p q : Place) (m : Token) (n : ℕ) → with_token known line p m ≡ Ok q → place_depth p + level ≤ n → reach known level m ≤ n → place_depth q + level ≤ n
+token-deep : (known : Anchors) (line level : ℕ) (p q : Place) (m : Token) (n : ℕ)
+    → with_token known line p m ≡ Ok q → place_depth p + level ≤ n → reach known level m ≤ n
+    → place_depth q + level ≤ n
 token-deep known line level p q (opening b) n h d r = cc
 token-deep known line level p q (closing b) n h d r = cc
 token-deep known line level p q comma n h d r = omega (arith, comma-deep p q h, d)
 token-deep known line level p q colon n h d r = absurd (fault-deep p q BadScalar h)
-token-deep known line level p q (scalar_token k) n h d r = omega (arith, value-deep p q (scalar_value k.name line) h, d, r)
+token-deep known line level p q (scalar_token k) n h d r =
+    omega (arith, value-deep p q (scalar_value k.name line) h, d, r)
 token-deep known line level p q (key_token k) n h d r = omega (arith, key-deep p q k h, d)
 token-deep known line level p q (cut_key k) n h d r = absurd (cut-deep p q k h)
 token-deep known line level p q (colon_scalar b) n h d r = absurd (colon-deep p q b h)
-token-deep known line level p q (alias_token name) n h d r = omega (arith, alias-deep known p q name h, d, r)
+token-deep known line level p q (alias_token name) n h d r =
+    omega (arith, alias-deep known p q name h, d, r)
 token-deep known line level p q late_colon n h d r = cc
 token-deep known line level p q (fault kind) n h d r = absurd (fault-deep p q kind h)
 
-closes-deep : (line : ℕ) (p : Place) (v : Value) → closes line p ≡ Ok v → depth v.tree ≤ suc (place_depth p)
-closes-deep line (member vs) v h = let e : list_value line vs ≡ v = cc in omega (arith, ap (λ (x : Value). depth x.tree) e, list-depth vs)
-closes-deep line (behind_member vs) v h = let e : list_value line vs ≡ v = cc in omega (arith, ap (λ (x : Value). depth x.tree) e, list-depth vs)
-closes-deep line (key_place ws) v h = let e : map_value line ws ≡ v = cc in omega (arith, ap (λ (x : Value). depth x.tree) e, map-depth ws)
+closes-deep : (line : ℕ) (p : Place) (v : Value) → closes line p ≡ Ok v
+    → depth v.tree ≤ suc (place_depth p)
+closes-deep line (member vs) v h = let e : list_value line vs ≡ v = cc in
+    omega (arith, ap (λ (x : Value). depth x.tree) e, list-depth vs)
+closes-deep line (behind_member vs) v h = let e : list_value line vs ≡ v = cc in
+    omega (arith, ap (λ (x : Value). depth x.tree) e, list-depth vs)
+closes-deep line (key_place ws) v h = let e : map_value line ws ≡ v = cc in
+    omega (arith, ap (λ (x : Value). depth x.tree) e, map-depth ws)
 closes-deep line (entry_value ws k) v h = cc
-closes-deep line (behind_entry ws) v h = let e : map_value line ws ≡ v = cc in omega (arith, ap (λ (x : Value). depth x.tree) e, map-depth ws)
+closes-deep line (behind_entry ws) v h = let e : map_value line ws ≡ v = cc in
+    omega (arith, ap (λ (x : Value). depth x.tree) e, map-depth ws)
 
 first-deep : (b : Bracket) → place_depth (first_place b) ≡ 0
 first-deep square = refl
 first-deep curly = refl
 
-whole-reading : (v : Value) (good : Bool) (s : Reading) (n : ℕ) → (let r : Checked Reading = Ok (whole (v, good)) in r) ≡ Ok s → depth v.tree ≤ n → Within s n
+whole-reading : (v : Value) (good : Bool) (s : Reading) (n : ℕ)
+    → (let r : Checked Reading = Ok (whole (v, good)) in r) ≡ Ok s → depth v.tree ≤ n → Within s n
 whole-reading v good s n h d = let e : whole (v, good) ≡ s = cc in subst (λ x. Within x n) e d
 
-open-reading : (good : Bool) (b : Bracket) (p : Place) (outer : List (Bracket × Place)) (s : Reading) (n : ℕ) → (let r : Checked Reading = Ok (open_in good b p outer) in r) ≡ Ok s → Within (open_in good b p outer) n → Within s n
-open-reading good b p outer s n h d = let e : open_in good b p outer ≡ s = cc in subst (λ x. Within x n) e d
+open-reading : (good : Bool) (b : Bracket) (p : Place) (outer : List (Bracket × Place))
+    (s : Reading) (n : ℕ) → (let r : Checked Reading = Ok (open_in good b p outer) in r) ≡ Ok s
+    → Within (open_in good b p outer) n → Within s n
+open-reading good b p outer s n h d = let e : open_in good b p outer ≡ s = cc in
+    subst (λ x. Within x n) e d
 
-into-deep : (v : Value) (good : Bool) (outer : List (Bracket × Place)) (s : Reading) (n : ℕ) → into (v, good) outer ≡ Ok s → depth v.tree + length outer ≤ n → Levels outer n → Within s n
+into-deep : (v : Value) (good : Bool) (outer : List (Bracket × Place)) (s : Reading) (n : ℕ)
+    → into (v, good) outer ≡ Ok s → depth v.tree + length outer ≤ n → Levels outer n → Within s n
 into-deep v good [] s n h d l = whole-reading v good s n h (omega (arith, d))
 into-deep v good (o ∷ outer) s n h d l =
-    let (q, e, i) = bound (with_value o.1 v) (λ next. let r : Checked Reading = Ok (open_in (good && fits next) o.0 next outer) in r) s h in
-    open-reading (good && fits q) o.0 q outer s n i (omega (arith, value-deep o.1 q v e, d, l.0), l.1)
+    let (q, e, i) = bound (with_value o.1 v)
+    (λ next. let r : Checked Reading = Ok (open_in (good && fits next) o.0 next outer) in r) s
+    h in
+    open-reading (good && fits q) o.0 q outer s n i
+    (omega (arith, value-deep o.1 q v e, d, l.0), l.1)
 
-moved-deep : (known : Anchors) (line : ℕ) (good : Bool) (b : Bracket) (p : Place) (outer : List (Bracket × Place)) (m : Token) (s : Reading) (n : ℕ) →
-    moved good b outer (with_token known line p m) ≡ Ok s → Within (open_in good b p outer) n → reach known (suc (length outer)) m ≤ n → Within s n
+moved-deep : (known : Anchors) (line : ℕ) (good : Bool) (b : Bracket) (p : Place)
+    (outer : List (Bracket × Place)) (m : Token) (s : Reading) (n : ℕ) →
+    moved good b outer (with_token known line p m) ≡ Ok s → Within (open_in good b p outer) n
+    → reach known (suc (length outer)) m ≤ n → Within s n
 moved-deep known line good b p outer m s n h d r =
-    let (q, e, i) = bound (with_token known line p m) (λ next. let r : Checked Reading = Ok (open_in (good && fits next) b next outer) in r) s h in
-    open-reading (good && fits q) b q outer s n i (token-deep known line (suc (length outer)) p q m n e d.0 r, d.1)
+    let (q, e, i) = bound (with_token known line p m)
+    (λ next. let r : Checked Reading = Ok (open_in (good && fits next) b next outer) in r) s
+    h in
+    open-reading (good && fits q) b q outer s n i
+    (token-deep known line (suc (length outer)) p q m n e d.0 r, d.1)
 
-step-deep : (known : Anchors) (line : ℕ) (r s : Reading) (m : Token) (n : ℕ) → flow_step false known line r m ≡ Ok s → Within r n → reach known (level_of r) m ≤ n → Within s n
+step-deep : (known : Anchors) (line : ℕ) (r s : Reading) (m : Token) (n : ℕ)
+    → flow_step false known line r m ≡ Ok s → Within r n → reach known (level_of r) m ≤ n
+    → Within s n
 step-deep known line (open_in good b p outer) s (opening c) n h d r =
     let is = follows (may_open p) (Ok (open_in good c (first_place c) ((b, p) ∷ outer))) s h in
-    open-reading good c (first_place c) ((b, p) ∷ outer) s n is (omega (arith, first-deep c, r), (d.0, d.1))
+    open-reading good c (first_place c) ((b, p) ∷ outer) s n is
+    (omega (arith, first-deep c, r), (d.0, d.1))
 step-deep known line (open_in good b p outer) s (closing c) n h d r =
     let (v, e, i) = bound (closes line p) (λ v. ends_with b (Some c) >> into (v, good) outer) s h in
     let j = follows (ends_with b (Some c)) (into (v, good) outer) s i in
     into-deep v good outer s n j (omega (arith, closes-deep line p v e, d.0)) d.1
-step-deep known line (open_in good b p outer) s comma n h d r = moved-deep known line good b p outer comma s n h d r
-step-deep known line (open_in good b p outer) s colon n h d r = moved-deep known line good b p outer colon s n h d r
-step-deep known line (open_in good b p outer) s (scalar_token k) n h d r = moved-deep known line good b p outer (scalar_token k) s n h d r
-step-deep known line (open_in good b p outer) s (key_token k) n h d r = moved-deep known line good b p outer (key_token k) s n h d r
-step-deep known line (open_in good b p outer) s (cut_key k) n h d r = moved-deep known line good b p outer (cut_key k) s n h d r
-step-deep known line (open_in good b p outer) s (colon_scalar k) n h d r = moved-deep known line good b p outer (colon_scalar k) s n h d r
-step-deep known line (open_in good b p outer) s (alias_token k) n h d r = moved-deep known line good b p outer (alias_token k) s n h d r
-step-deep known line (open_in good b p outer) s late_colon n h d r = moved-deep known line good b p outer late_colon s n h d r
-step-deep known line (open_in good b p outer) s (fault k) n h d r = moved-deep known line good b p outer (fault k) s n h d r
+step-deep known line (open_in good b p outer) s comma n h d r =
+    moved-deep known line good b p outer comma s n h d r
+step-deep known line (open_in good b p outer) s colon n h d r =
+    moved-deep known line good b p outer colon s n h d r
+step-deep known line (open_in good b p outer) s (scalar_token k) n h d r =
+    moved-deep known line good b p outer (scalar_token k) s n h d r
+step-deep known line (open_in good b p outer) s (key_token k) n h d r =
+    moved-deep known line good b p outer (key_token k) s n h d r
+step-deep known line (open_in good b p outer) s (cut_key k) n h d r =
+    moved-deep known line good b p outer (cut_key k) s n h d r
+step-deep known line (open_in good b p outer) s (colon_scalar k) n h d r =
+    moved-deep known line good b p outer (colon_scalar k) s n h d r
+step-deep known line (open_in good b p outer) s (alias_token k) n h d r =
+    moved-deep known line good b p outer (alias_token k) s n h d r
+step-deep known line (open_in good b p outer) s late_colon n h d r =
+    moved-deep known line good b p outer late_colon s n h d r
+step-deep known line (open_in good b p outer) s (fault k) n h d r =
+    moved-deep known line good b p outer (fault k) s n h d r
 step-deep known line (whole v) s (opening c) n h d r = cc
 step-deep known line (whole v) s (closing c) n h d r = cc
 step-deep known line (whole v) s comma n h d r = cc
@@ -186,18 +237,26 @@ step-deep known line (whole v) s late_colon n h d r = cc
 step-deep known line (whole v) s (fault k) n h d r = cc
 
 -- the level behind a token that was read
-into-level : (v : Value) (good : Bool) (outer : List (Bracket × Place)) (s : Reading) → into (v, good) outer ≡ Ok s → level_of s ≡ length outer
+into-level : (v : Value) (good : Bool) (outer : List (Bracket × Place)) (s : Reading)
+    → into (v, good) outer ≡ Ok s → level_of s ≡ length outer
 into-level v good [] s h = let e : whole (v, good) ≡ s = cc in sym (ap level_of e)
 into-level v good (o ∷ outer) s h =
-    let (q, e, i) = bound (with_value o.1 v) (λ next. let r : Checked Reading = Ok (open_in (good && fits next) o.0 next outer) in r) s h in
+    let (q, e, i) = bound (with_value o.1 v)
+    (λ next. let r : Checked Reading = Ok (open_in (good && fits next) o.0 next outer) in r) s
+    h in
     let e : open_in (good && fits q) o.0 q outer ≡ s = cc in sym (ap level_of e)
 
-moved-level : (known : Anchors) (line : ℕ) (good : Bool) (b : Bracket) (outer : List (Bracket × Place)) (m : Checked Place) (s : Reading) → moved good b outer m ≡ Ok s → level_of s ≡ suc (length outer)
+moved-level : (known : Anchors) (line : ℕ) (good : Bool) (b : Bracket)
+    (outer : List (Bracket × Place)) (m : Checked Place) (s : Reading) → moved good b outer m ≡ Ok s
+    → level_of s ≡ suc (length outer)
 moved-level known line good b outer m s h =
-    let (q, e, i) = bound m (λ next. let r : Checked Reading = Ok (open_in (good && fits next) b next outer) in r) s h in
+    let (q, e, i) = bound m
+    (λ next. let r : Checked Reading = Ok (open_in (good && fits next) b next outer) in r) s
+    h in
     let e : open_in (good && fits q) b q outer ≡ s = cc in sym (ap level_of e)
 
-step-level : (known : Anchors) (line : ℕ) (r s : Reading) (m : Token) → flow_step false known line r m ≡ Ok s → level_of s ≡ level_behind (level_of r) m
+step-level : (known : Anchors) (line : ℕ) (r s : Reading) (m : Token)
+    → flow_step false known line r m ≡ Ok s → level_of s ≡ level_behind (level_of r) m
 step-level known line (open_in good b p outer) s (opening c) h =
     let is = follows (may_open p) (Ok (open_in good c (first_place c) ((b, p) ∷ outer))) s h in
     let e : open_in good c (first_place c) ((b, p) ∷ outer) ≡ s = cc in sym (ap level_of e)
@@ -206,13 +265,19 @@ step-level known line (open_in good b p outer) s (closing c) h =
     omega (arith, into-level v good outer s (follows (ends_with b (Some c)) (into (v, good) outer) s i))
 step-level known line (open_in good b p outer) s comma h = moved-level known line good b outer _ s h
 step-level known line (open_in good b p outer) s colon h = moved-level known line good b outer _ s h
-step-level known line (open_in good b p outer) s (scalar_token k) h = moved-level known line good b outer _ s h
-step-level known line (open_in good b p outer) s (key_token k) h = moved-level known line good b outer _ s h
-step-level known line (open_in good b p outer) s (cut_key k) h = moved-level known line good b outer _ s h
-step-level known line (open_in good b p outer) s (colon_scalar k) h = moved-level known line good b outer _ s h
-step-level known line (open_in good b p outer) s (alias_token k) h = moved-level known line good b outer _ s h
+step-level known line (open_in good b p outer) s (scalar_token k) h =
+    moved-level known line good b outer _ s h
+step-level known line (open_in good b p outer) s (key_token k) h =
+    moved-level known line good b outer _ s h
+step-level known line (open_in good b p outer) s (cut_key k) h =
+    moved-level known line good b outer _ s h
+step-level known line (open_in good b p outer) s (colon_scalar k) h =
+    moved-level known line good b outer _ s h
+step-level known line (open_in good b p outer) s (alias_token k) h =
+    moved-level known line good b outer _ s h
 step-level known line (open_in good b p outer) s late_colon h = cc
-step-level known line (open_in good b p outer) s (fault k) h = moved-level known line good b outer _ s h
+step-level known line (open_in good b p outer) s (fault k) h =
+    moved-level known line good b outer _ s h
 step-level known line (whole v) s (opening c) h = cc
 step-level known line (whole v) s (closing c) h = cc
 step-level known line (whole v) s comma h = cc
@@ -225,11 +290,15 @@ step-level known line (whole v) s (alias_token k) h = cc
 step-level known line (whole v) s late_colon h = cc
 step-level known line (whole v) s (fault k) h = cc
 
-steps-deep : (known : Anchors) (line : ℕ) (ms : List Token) (r s : Reading) (n : ℕ) → flow_steps false known line r ms ≡ Ok s → Within r n → height known (level_of r) ms ≤ n → Within s n
+steps-deep : (known : Anchors) (line : ℕ) (ms : List Token) (r s : Reading) (n : ℕ)
+    → flow_steps false known line r ms ≡ Ok s → Within r n → height known (level_of r) ms ≤ n
+    → Within s n
 steps-deep known line [] r s n h d k = let e : r ≡ s = cc in subst (λ x. Within x n) e d
 steps-deep known line (m ∷ ms) r s n h d k =
-    let (q, e, i) = bound (flow_step false known line r m) (λ x. flow_steps false known line x ms) s h in
-    steps-deep known line ms q s n i (step-deep known line r q m n e d (omega (arith, k))) (omega (arith, k, ap (λ l. height known l ms) (step-level known line r q m e)))
+    let (q, e, i) =
+    bound (flow_step false known line r m) (λ x. flow_steps false known line x ms) s h in
+    steps-deep known line ms q s n i (step-deep known line r q m n e d (omega (arith, k)))
+    (omega (arith, k, ap (λ l. height known l ms) (step-level known line r q m e)))
 
 ended-deep : (r : Reading) (v : Value) (n : ℕ) → ended r ≡ Ok v → Within r n → depth v.tree ≤ n
 ended-deep (open_in good b p outer) v n h d = cc
@@ -244,8 +313,11 @@ first-within curly n h = (omega (arith, h), tt)
 first-level : (b : Bracket) → level_of (first_reading b) ≡ 1
 first-level b = refl
 
-pub flow-height : (known : Anchors) (line : ℕ) (b : Bracket) (ms : List Token) (v : Value) → flow_value known line b ms ≡ Ok v → depth v.tree ≤ max 1 (height known 1 ms)
+pub flow-height : (known : Anchors) (line : ℕ) (b : Bracket) (ms : List Token) (v : Value)
+    → flow_value known line b ms ≡ Ok v → depth v.tree ≤ max 1 (height known 1 ms)
 flow-height known line b ms v h =
-    let (r, e, i) = bound (flow_steps false known line (first_reading b) ms) ended v (sym (flow-ended known line b ms) ∙ h) in
+    let (r, e, i) = bound (flow_steps false known line (first_reading b) ms) ended v
+    (sym (flow-ended known line b ms) ∙ h) in
     let n = max 1 (height known 1 ms) in
-    ended-deep r v n i (steps-deep known line ms (first_reading b) r n e (first-within b n (omega arith)) (omega arith))
+    ended-deep r v n i (steps-deep known line ms (first_reading b) r n e
+    (first-within b n (omega arith)) (omega arith))

@@ -1,5 +1,6 @@
 -- Refusing a line for its front before the value of its flow collection is made.
-use Rattle.std.proofs.Common.{◌≡◌, ◌<◌, ◌≤◌, Bool, true, false, List, [], ◌∷◌, ◌++◌, Some, Result, Ok, Err, refl, sym, ap, ◌∙◌, arith}
+use Rattle.std.proofs.Common.{◌≡◌, ◌<◌, ◌≤◌, Bool, true, false, List, [], ◌∷◌, ◌++◌, Some, Result}
+use Rattle.std.proofs.Common.{Ok, Err, refl, sym, ap, ◌∙◌, arith}
 use Rattle.std.specs.Prelude.{if◌then◌else◌, not, nat_lt}
 use Rattle.rvs_tree.specs.Data.{depth}
 use Rattle.rvs_tree.specs.Value.{Value, scalar_value}
@@ -21,7 +22,8 @@ use Rattle.rvs_yaml.proofs.Giving.{fails_to}
 use Rattle.rvs_yaml.proofs.Sketching.{lt_test, ge_test}
 
 -- a value is there where what stands for it is
-pub stood-for : (m : Checked Value) (thin : Value) → mapped standin m ≡ Ok thin → (v : Value) × (m ≡ Ok v) × (thin ≡ standin v)
+pub stood-for : (m : Checked Value) (thin : Value) → mapped standin m ≡ Ok thin
+    → (v : Value) × (m ≡ Ok v) × (thin ≡ standin v)
 stood-for (Ok v) thin h = let e : standin v ≡ thin = cc in (v, refl, sym e)
 stood-for (Err k) thin h = cc
 
@@ -31,17 +33,22 @@ stood-err (Err k) kind h = let e : k ≡ kind = cc in ap Err e
 
 over : (v : Value) → depth v.tree ≤ 32 → 500000 < v.nodes → within_limits v ≡ Err TooManyNodes
 over v d n =
-    ap (λ b. check (not b) TooDeep >> check (not (nat_lt 500000 v.nodes)) TooManyNodes) (sym (ge_test 32 (depth v.tree) d))
+    ap (λ b. check (not b) TooDeep >> check (not (nat_lt 500000 v.nodes)) TooManyNodes)
+    (sym (ge_test 32 (depth v.tree) d))
     ∙ ap (λ b. check (not b) TooManyNodes) (sym (lt_test 500000 v.nodes n))
 
 -- the front has too many nodes, and isn't too deep
-pub over-nodes : (m : Checked Value) (sk : Sketch) → SketchedAs (Ok sk) m → sk.depth ≤ 32 → 500000 < sk.nodes → (m >>= within_limits) ≡ Err TooManyNodes
-over-nodes m sk (w, e, s) d n = ap (λ r. r >>= within_limits) e ∙ over w (omega (arith, s.bounded)) (omega (arith, s.counted))
+pub over-nodes : (m : Checked Value) (sk : Sketch) → SketchedAs (Ok sk) m → sk.depth ≤ 32
+    → 500000 < sk.nodes → (m >>= within_limits) ≡ Err TooManyNodes
+over-nodes m sk (w, e, s) d n =
+    ap (λ r. r >>= within_limits) e ∙ over w (omega (arith, s.bounded)) (omega (arith, s.counted))
 
-pub front-err : (m : Checked Value) (kind : YamlKind) → m ≡ Err kind → (m >>= within_limits) ≡ Err kind
+pub front-err : (m : Checked Value) (kind : YamlKind) → m ≡ Err kind
+    → (m >>= within_limits) ≡ Err kind
 front-err m kind e = ap (λ r. r >>= within_limits) e
 
-then_kept : (m : Checked (Unit {0})) (kind : YamlKind) (cs : List Open) → m ≡ Err kind → (m >> (let r : Checked (List Open) = Ok cs in r)) ≡ Err kind
+then_kept : (m : Checked (Unit {0})) (kind : YamlKind) (cs : List Open) → m ≡ Err kind
+    → (m >> (let r : Checked (List Open) = Ok cs in r)) ≡ Err kind
 then_kept m kind cs e = ap (λ r. r >> (let q : Checked (List Open) = Ok cs in q)) e
 
 own-by : (t : Bool) (empty v : Value) → t ≡ false → (if t then empty else v) ≡ v
@@ -49,29 +56,47 @@ own-by true empty v e = cc
 own-by false empty v e = refl
 
 -- the front with the value that is filled in
-filled-front : (o : Open) (bs : List Open) (b : Bracket) (ts : List Token) (v : Value) → opens_block o.head.sort ≡ false → flow_value (o.anchors ++ known_of bs) o.head.line b ts ≡ Ok v →
-    (filled (Some (b, ts)) (o ∷ bs) >>= kept) ≡ ((ends v (o ∷ bs) >>= within_limits) >> Ok (with_own o v ∷ bs))
+filled-front : (o : Open) (bs : List Open) (b : Bracket) (ts : List Token) (v : Value)
+    → opens_block o.head.sort ≡ false
+    → flow_value (o.anchors ++ known_of bs) o.head.line b ts ≡ Ok v →
+    (filled (Some (b, ts)) (o ∷ bs) >>= kept)
+    ≡ ((ends v (o ∷ bs) >>= within_limits) >> Ok (with_own o v ∷ bs))
 filled-front o bs b ts v leaf e =
     ap (λ m. (m >>= λ own. let r : Checked (List Open) = Ok (with_own o own ∷ bs) in r) >>= kept) e
-    ∙ ap (λ x. (ends x (o ∷ bs) >>= within_limits) >> (let r : Checked (List Open) = Ok (with_own o v ∷ bs) in r)) (own-by (opens_block o.head.sort) (scalar_value [] o.head.line) v leaf)
+    ∙ ap (λ x. (ends x (o ∷ bs) >>= within_limits) >>
+    (let r : Checked (List Open) = Ok (with_own o v ∷ bs) in r)) (own-by
+    (opens_block o.head.sort) (scalar_value [] o.head.line) v leaf)
 
-pub denied-flow : (o : Open) (bs : List Open) (b : Bracket) (ts : List Token) (kind : YamlKind) → Fails kind (mapped standin (flow_value (o.anchors ++ known_of bs) o.head.line b ts)) → Fails kind (filled (Some (b, ts)) (o ∷ bs) >>= kept)
+pub denied-flow : (o : Open) (bs : List Open) (b : Bracket) (ts : List Token) (kind : YamlKind)
+    → Fails kind (mapped standin (flow_value (o.anchors ++ known_of bs) o.head.line b ts))
+    → Fails kind (filled (Some (b, ts)) (o ∷ bs) >>= kept)
 denied-flow o bs b ts kind h =
     fails_to kind (mapped standin (flow_value (o.anchors ++ known_of bs) o.head.line b ts)) _
-    (λ e. ap (λ m. (m >>= λ own. let r : Checked (List Open) = Ok (with_own o own ∷ bs) in r) >>= kept) (stood-err (flow_value (o.anchors ++ known_of bs) o.head.line b ts) kind e)) h
+    (λ e. ap
+    (λ m. (m >>= λ own. let r : Checked (List Open) = Ok (with_own o own ∷ bs) in r) >>= kept)
+    (stood-err (flow_value (o.anchors ++ known_of bs) o.head.line b ts) kind e)) h
 
-denied-by : (r : Result (Unit {0}) YamlKind) (o : Open) (bs : List Open) (b : Bracket) (ts : List Token) (v : Value) → opens_block o.head.sort ≡ false → flow_value (o.anchors ++ known_of bs) o.head.line b ts ≡ Ok v →
+denied-by : (r : Result (Unit {0}) YamlKind) (o : Open) (bs : List Open) (b : Bracket)
+    (ts : List Token) (v : Value) → opens_block o.head.sort ≡ false → flow_value
+    (o.anchors ++ known_of bs) o.head.line b ts ≡ Ok v →
     DeniesFront r (ends v (o ∷ bs)) → Denies r (filled (Some (b, ts)) (o ∷ bs))
 denied-by (Ok u) o bs b ts v leaf e h = tt
 denied-by (Err kind) o bs b ts v leaf e h =
-    fails_to kind (ends v (o ∷ bs) >>= within_limits) _ (λ is. filled-front o bs b ts v leaf e ∙ then_kept (ends v (o ∷ bs) >>= within_limits) kind (with_own o v ∷ bs) is) h
+    fails_to kind (ends v (o ∷ bs) >>= within_limits) _ (λ is. filled-front o bs b ts v leaf e
+    ∙ then_kept (ends v (o ∷ bs) >>= within_limits) kind (with_own o v ∷ bs) is) h
 
-denied-one : (r : Result (Unit {0}) YamlKind) (o : Open) (bs : List Open) (b : Bracket) (ts : List Token) (thin : Value) → opens_block o.head.sort ≡ false →
-    ((v : Value) → flow_value (o.anchors ++ known_of bs) o.head.line b ts ≡ Ok v → thin ≡ standin v → DeniesFront r (ends v (o ∷ bs))) →
-    ((v : Value) × (flow_value (o.anchors ++ known_of bs) o.head.line b ts ≡ Ok v) × (thin ≡ standin v)) → Denies r (filled (Some (b, ts)) (o ∷ bs))
+denied-one : (r : Result (Unit {0}) YamlKind) (o : Open) (bs : List Open) (b : Bracket)
+    (ts : List Token) (thin : Value) → opens_block o.head.sort ≡ false →
+    ((v : Value) → flow_value (o.anchors ++ known_of bs) o.head.line b ts ≡ Ok v → thin ≡ standin v
+    → DeniesFront r (ends v (o ∷ bs))) →
+    ((v : Value) × (flow_value (o.anchors ++ known_of bs) o.head.line b ts ≡ Ok v)
+    × (thin ≡ standin v)) → Denies r (filled (Some (b, ts)) (o ∷ bs))
 denied-one r o bs b ts thin leaf f (v, e, s) = denied-by r o bs b ts v leaf e (f v e s)
 
-pub denied-front : (r : Result (Unit {0}) YamlKind) (o : Open) (bs : List Open) (b : Bracket) (ts : List Token) (thin : Value) → opens_block o.head.sort ≡ false →
+pub denied-front : (r : Result (Unit {0}) YamlKind) (o : Open) (bs : List Open) (b : Bracket)
+    (ts : List Token) (thin : Value) → opens_block o.head.sort ≡ false →
     mapped standin (flow_value (o.anchors ++ known_of bs) o.head.line b ts) ≡ Ok thin →
-    ((v : Value) → flow_value (o.anchors ++ known_of bs) o.head.line b ts ≡ Ok v → thin ≡ standin v → DeniesFront r (ends v (o ∷ bs))) → Denies r (filled (Some (b, ts)) (o ∷ bs))
-denied-front r o bs b ts thin leaf e f = denied-one r o bs b ts thin leaf f (stood-for (flow_value (o.anchors ++ known_of bs) o.head.line b ts) thin e)
+    ((v : Value) → flow_value (o.anchors ++ known_of bs) o.head.line b ts ≡ Ok v → thin ≡ standin v
+    → DeniesFront r (ends v (o ∷ bs))) → Denies r (filled (Some (b, ts)) (o ∷ bs))
+denied-front r o bs b ts thin leaf e f = denied-one r o bs b ts thin leaf f
+    (stood-for (flow_value (o.anchors ++ known_of bs) o.head.line b ts) thin e)

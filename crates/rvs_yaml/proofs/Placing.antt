@@ -1,5 +1,7 @@
 -- Finding anchors by the places of their names.
-use Rattle.std.proofs.Common.{◌≡◌, ℕ, suc, ◌+◌, ◌<◌, Bool, true, false, cond, List, [], ◌∷◌, ◌++◌, map, reverse, length, get_or, Option, Some, None, refl, sym, ap, subst, ◌∙◌, arith, append_assoc, append-nil, add-zero, length-append}
+use Rattle.std.proofs.Common.{◌≡◌, ℕ, suc, ◌+◌, ◌<◌, Bool, true, false, cond, List, [], ◌∷◌, ◌++◌}
+use Rattle.std.proofs.Common.{map, reverse, length, get_or, Option, Some, None, refl, sym, ap}
+use Rattle.std.proofs.Common.{subst, ◌∙◌, arith, append_assoc, append-nil, add-zero, length-append}
 use Rattle.std.specs.Prelude.{bytes_eq, if◌then◌else◌}
 use Rattle.std.proofs.lemmas.List.{reverse-append, length-map, map-append}
 use Rattle.std.proofs.Math.Seq.{get_or-append_seam}
@@ -13,42 +15,52 @@ use Rattle.rvs_yaml.specs.declared.open.Anchor.{Anchor}
 abbrev pub names_of : List Anchor → List (List ℕ)
 names_of list = map (λ a. a.name.now) list
 
-pub place-push : (k : List ℕ) (i : ℕ) (before : Option ℕ) (ns : List (List ℕ)) (n : List ℕ) → place_from k i before (ns ++ n ∷ []) ≡ (if bytes_eq n k then Some (i + length ns) else place_from k i before ns)
+pub place-push : (k : List ℕ) (i : ℕ) (before : Option ℕ) (ns : List (List ℕ)) (n : List ℕ)
+    → place_from k i before (ns ++ n ∷ [])
+    ≡ (if bytes_eq n k then Some (i + length ns) else place_from k i before ns)
 place-push k i before [] n = rw add-zero refl
 place-push k i before (m ∷ ns) n =
     let next : suc i + length ns ≡ i + suc (length ns) = omega arith in
     place-push k (suc i) (if bytes_eq m k then Some i else before) ns n
-    ∙ ap (λ p. if bytes_eq n k then Some p else place_from k (suc i) (if bytes_eq m k then Some i else before) ns) next
+    ∙ ap (λ p. if bytes_eq n k then Some p else place_from k (suc i)
+    (if bytes_eq m k then Some i else before) ns) next
 
 abbrev IsBelow : ℕ → Option ℕ → Type 0
 IsBelow n None = Unit {0}
 IsBelow n (Some p) = p < n
 
-here-below : (t : Bool) (i : ℕ) (before : Option ℕ) → IsBelow i before → IsBelow (suc i) (cond t (Some i) before)
+here-below : (t : Bool) (i : ℕ) (before : Option ℕ) → IsBelow i before
+    → IsBelow (suc i) (cond t (Some i) before)
 here-below true i before h = omega arith
 here-below false i None h = tt
 here-below false i (Some p) h = omega (arith, h)
 
-place-below : (k : List ℕ) (i : ℕ) (before : Option ℕ) (ns : List (List ℕ)) → IsBelow i before → IsBelow (i + length ns) (place_from k i before ns)
+place-below : (k : List ℕ) (i : ℕ) (before : Option ℕ) (ns : List (List ℕ)) → IsBelow i before
+    → IsBelow (i + length ns) (place_from k i before ns)
 place-below k i before [] h = rw add-zero h
 place-below k i before (n ∷ ns) h =
     let next : suc i + length ns ≡ i + suc (length ns) = omega arith in
     subst (λ m. IsBelow m (place_from k (suc i) (if bytes_eq n k then Some i else before) ns)) next
-    (place-below k (suc i) (if bytes_eq n k then Some i else before) ns (here-below (bytes_eq n k) i before h))
+    (place-below k (suc i) (if bytes_eq n k then Some i else before) ns
+    (here-below (bytes_eq n k) i before h))
 
 last-below : (k : List ℕ) (ns : List (List ℕ)) (p : ℕ) → last_place k ns ≡ Some p → p < length ns
 last-below k ns p e =
     let h : p < 0 + length ns = subst (IsBelow (0 + length ns)) e (place-below k 0 None ns tt) in
     omega (arith, h)
 
-pub place-inside : (k : List ℕ) (list : List Anchor) (p : ℕ) → last_place k (names_of list) ≡ Some p → p < length list
-place-inside k list p e = omega (arith, last-below k (names_of list) p e, length-map list (λ (a : Anchor). a.name.now))
+pub place-inside : (k : List ℕ) (list : List Anchor) (p : ℕ) → last_place k (names_of list) ≡ Some p
+    → p < length list
+place-inside k list p e =
+    omega (arith, last-below k (names_of list) p e, length-map list (λ (a : Anchor). a.name.now))
 
 -- the last places, once there is one anchor more
-pub last_place-push : (k : List ℕ) (list : List Anchor) (a : Anchor) (n : ℕ) (o : Option ℕ) → n ≡ length list → o ≡ last_place k (names_of list) →
+pub last_place-push : (k : List ℕ) (list : List Anchor) (a : Anchor) (n : ℕ) (o : Option ℕ)
+    → n ≡ length list → o ≡ last_place k (names_of list) →
     (if bytes_eq a.name.now k then Some n else o) ≡ last_place k (names_of (list ++ a ∷ []))
 last_place-push k list a n o e h =
-    let here : n ≡ 0 + length (names_of list) = omega (arith, e, length-map list (λ (b : Anchor). b.name.now)) in
+    let here : n ≡ 0 + length (names_of list) =
+    omega (arith, e, length-map list (λ (b : Anchor). b.name.now)) in
     ap (λ p. if bytes_eq a.name.now k then Some p else o) here
     ∙ ap (λ q. if bytes_eq a.name.now k then Some (0 + length (names_of list)) else q) h
     ∙ sym (place-push k 0 None (names_of list) a.name.now)
@@ -58,32 +70,44 @@ abbrev value_at : Anchor → List Anchor → Option ℕ → Option Value
 value_at d all None = None
 value_at d all (Some p) = Some (value_view (get_or all p d).value)
 
-found-here : (t : Bool) (d a : Anchor) (front list : List Anchor) (before : Option ℕ) (o : Option Value) → o ≡ value_at d (front ++ a ∷ list) before →
-    cond t (Some (value_view a.value)) o ≡ value_at d (front ++ a ∷ list) (cond t (Some (length front)) before)
-found-here true d a front list before o h = ap (λ (x : Anchor). Some (value_view x.value)) (sym (get_or-append_seam front a list d))
+found-here : (t : Bool) (d a : Anchor) (front list : List Anchor) (before : Option ℕ)
+    (o : Option Value) → o ≡ value_at d (front ++ a ∷ list) before →
+    cond t (Some (value_view a.value)) o
+    ≡ value_at d (front ++ a ∷ list) (cond t (Some (length front)) before)
+found-here true d a front list before o h =
+    ap (λ (x : Anchor). Some (value_view x.value)) (sym (get_or-append_seam front a list d))
 found-here false d a front list before o h = h
 
-found-from : (k : List ℕ) (d : Anchor) (front list : List Anchor) (before : Option ℕ) (rest : Anchors) → lookup k rest ≡ value_at d (front ++ list) before →
-    lookup k (anchors_view list ++ rest) ≡ value_at d (front ++ list) (place_from k (length front) before (names_of list))
+found-from : (k : List ℕ) (d : Anchor) (front list : List Anchor) (before : Option ℕ)
+    (rest : Anchors) → lookup k rest ≡ value_at d (front ++ list) before →
+    lookup k (anchors_view list ++ rest)
+    ≡ value_at d (front ++ list) (place_from k (length front) before (names_of list))
 found-from k d front [] before rest h = h
 found-from k d front (a ∷ list) before rest h =
     let after = front ++ a ∷ [] in
     let all : after ++ list ≡ front ++ a ∷ list = append_assoc front (a ∷ []) list in
     let n : length after ≡ suc (length front) = omega (arith, length-append front (a ∷ [])) in
     let now = if bytes_eq a.name.now k then Some (length front) else before in
-    let found : lookup k (anchor_view a ∷ rest) ≡ value_at d (after ++ list) now = found-here (bytes_eq a.name.now k) d a front list before (lookup k rest) h ∙ ap (λ xs. value_at d xs now) (sym all) in
+    let found : lookup k (anchor_view a ∷ rest) ≡ value_at d (after ++ list) now =
+    found-here (bytes_eq a.name.now k) d a front list before (lookup k rest) h
+    ∙ ap (λ xs. value_at d xs now) (sym all) in
     ap (λ xs. lookup k (xs ++ rest)) (reverse-append (anchor_view a ∷ []) (map anchor_view list))
     ∙ ap (lookup k) (append_assoc (reverse (map anchor_view list)) (anchor_view a ∷ []) rest)
     ∙ found-from k d after list now (anchor_view a ∷ rest) found
     ∙ ap (λ m. value_at d (after ++ list) (place_from k m now (names_of list))) n
     ∙ ap (λ xs. value_at d xs (place_from k (suc (length front)) now (names_of list))) all
 
-found-by : (k : List ℕ) (d : Anchor) (list : List Anchor) → lookup k (anchors_view list) ≡ value_at d list (last_place k (names_of list))
-found-by k d list = ap (lookup k) (sym (append-nil (anchors_view list))) ∙ found-from k d [] list None [] refl
+found-by : (k : List ℕ) (d : Anchor) (list : List Anchor)
+    → lookup k (anchors_view list) ≡ value_at d list (last_place k (names_of list))
+found-by k d list =
+    ap (lookup k) (sym (append-nil (anchors_view list))) ∙ found-from k d [] list None [] refl
 
-pub found-place : (k : List ℕ) (d : Anchor) (list : List Anchor) (p : ℕ) → last_place k (names_of list) ≡ Some p → lookup k (anchors_view list) ≡ Some (value_view (get_or list p d).value)
+pub found-place : (k : List ℕ) (d : Anchor) (list : List Anchor) (p : ℕ)
+    → last_place k (names_of list) ≡ Some p
+    → lookup k (anchors_view list) ≡ Some (value_view (get_or list p d).value)
 found-place k d list p e = found-by k d list ∙ ap (value_at d list) e
 
-pub missed-place : (k : List ℕ) (list : List Anchor) → last_place k (names_of list) ≡ None → lookup k (anchors_view list) ≡ None
+pub missed-place : (k : List ℕ) (list : List Anchor) → last_place k (names_of list) ≡ None
+    → lookup k (anchors_view list) ≡ None
 missed-place k [] e = refl
 missed-place k (a ∷ list) e = found-by k a (a ∷ list) ∙ ap (value_at a (a ∷ list)) e

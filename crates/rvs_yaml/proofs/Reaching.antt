@@ -1,32 +1,42 @@
--- What was not too deep before a line is not too deep behind it, save for what the line's last word has brought.
-use Rattle.std.proofs.Common.{◌≡◌, ℕ, suc, ◌+◌, ◌-◌, ◌≤◌, max, Bool, true, false, cond, List, [], ◌∷◌, ◌++◌, Ok, Err, refl, sym, ap, ◌∙◌, subst, arith}
+-- What was not too deep before a line is not too deep behind it, save for what the line's last word
+-- has brought.
+use Rattle.std.proofs.Common.{◌≡◌, ℕ, suc, ◌+◌, ◌-◌, ◌≤◌, max, Bool, true, false, cond, List, []}
+use Rattle.std.proofs.Common.{◌∷◌, ◌++◌, Ok, Err, refl, sym, ap, ◌∙◌, subst, arith}
 use Rattle.std.specs.Prelude.{◌||◌, ◌==◌, not, nat_lt}
 use Rattle.rvs_tree.specs.Data.{Data, depth}
-use Rattle.rvs_tree.specs.Value.{Value, Written, scalar_value, list_value, map_value, has_key, explicit_keys}
+use Rattle.rvs_tree.specs.Value.{Value, Written, scalar_value, list_value, map_value, has_key}
+use Rattle.rvs_tree.specs.Value.{explicit_keys}
 use Rattle.rvs_tree.proofs.Depths.{some-depth}
-use Rattle.rvs_tree.proofs.Within.{Within, within-new, within-list, within-item, within-entry, within-merge, within-merge-more, within-own-more}
-use Rattle.rvs_yaml_text.specs.Word.{Key, Name, Shape, dash, key, leaf, refused, Word, Head, head_of, is_below, opens_block}
+use Rattle.rvs_tree.proofs.Within.{Within, within-new, within-list, within-item, within-entry}
+use Rattle.rvs_tree.proofs.Within.{within-merge, within-merge-more, within-own-more}
+use Rattle.rvs_yaml_text.specs.Word.{Key, Name, Shape, dash, key, leaf, refused, Word, Head}
+use Rattle.rvs_yaml_text.specs.Word.{head_of, is_below, opens_block}
 use Rattle.rvs_yaml.specs.Checks.{Checked, ◌>>=◌, ◌>>◌, check}
 use Rattle.rvs_yaml.specs.Anchors.{Anchors}
 use Rattle.rvs_yaml.specs.Entry.{written}
 use Rattle.rvs_yaml.specs.Answer.{within_limits}
 use Rattle.rvs_yaml.specs.Block.{Found, named, no_place, item_at, key_at, check_merge}
 use Rattle.rvs_yaml.specs.Block as block_spec
-use Rattle.rvs_yaml.specs.Stack.{Done, done_items, done_entries, alone, Open, begun_done, begun, begins, own_found, closed, closed_into, advanced_as, put, advanced, settled, step, steps, known_of}
+use Rattle.rvs_yaml.specs.Stack.{Done, done_items, done_entries, alone, Open, begun_done, begun}
+use Rattle.rvs_yaml.specs.Stack.{begins, own_found, closed, closed_into, advanced_as, put, advanced}
+use Rattle.rvs_yaml.specs.Stack.{settled, step, steps, known_of}
 use Rattle.rvs_yaml.specs.StepParts.{closed_value}
 use Rattle.rvs_yaml.specs.Front.{own_value, ends, front_value, checked_front}
 use Rattle.rvs_yaml.specs.Reach.{level, levels, reach, KeepsDepth}
 use Rattle.rvs_yaml.proofs.Fronts.{closed-value, named-value, own-value, value_of}
 use Rattle.rvs_yaml.proofs.Sketching.{ge_fact}
 use Rattle.rvs_yaml_text.specs.declared.kind.YamlKind.{YamlKind}
-use Rattle.rvs_yaml_text.specs.declared.kind.YamlKind.TheVariants.{TooDeep, Unsupported, BadIndent, DuplicateKey}
+use Rattle.rvs_yaml_text.specs.declared.kind.YamlKind.TheVariants.{TooDeep, Unsupported, BadIndent}
+use Rattle.rvs_yaml_text.specs.declared.kind.YamlKind.TheVariants.{DuplicateKey}
 
 -- checks that hold
-gone : {A B : Type 0} (c : Checked (Unit {0})) (r : Checked A) (f : A → Checked B) (y : B) → ((c >> r) >>= f) ≡ Ok y → (c ≡ Ok tt) × ((r >>= f) ≡ Ok y)
+gone : {A B : Type 0} (c : Checked (Unit {0})) (r : Checked A) (f : A → Checked B) (y : B)
+    → ((c >> r) >>= f) ≡ Ok y → (c ≡ Ok tt) × ((r >>= f) ≡ Ok y)
 gone (Ok u) r f y h = (refl, h)
 gone (Err k) r f y h = cc
 
-pub then-ok : {B : Type 0} (c : Checked (Unit {0})) (r : Checked B) (y : B) → (c >> r) ≡ Ok y → (c ≡ Ok tt) × (r ≡ Ok y)
+pub then-ok : {B : Type 0} (c : Checked (Unit {0})) (r : Checked B) (y : B) → (c >> r) ≡ Ok y
+    → (c ≡ Ok tt) × (r ≡ Ok y)
 then-ok (Ok u) r y h = (refl, h)
 then-ok (Err k) r y h = cc
 
@@ -35,7 +45,8 @@ pub record Has {A B : Type 0} (m : Checked A) (f : A → Checked B) (y : B) : Ty
   pub is : m ≡ Ok value
   pub rest : f value ≡ Ok y
 
-pub bind-ok : {A B : Type 0} (m : Checked A) (f : A → Checked B) (y : B) → (m >>= f) ≡ Ok y → Has m f y
+pub bind-ok : {A B : Type 0} (m : Checked A) (f : A → Checked B) (y : B) → (m >>= f) ≡ Ok y
+    → Has m f y
 bind-ok (Ok x) f y h = record { value = x; is = refl; rest = h }
 bind-ok (Err k) f y h = cc
 
@@ -47,38 +58,62 @@ within-same : (m n : ℕ) (d e : Data) → m ≡ n → Within m d e → Within n
 within-same m n d e h w = subst (λ k. Within k d e) h w
 
 -- IN AN OPEN BLOCK
-entry-by : (m : Bool) (n line : ℕ) (ws : List Written) (k : Key) (u v : Value) → k.merges ≡ m → Within n u.tree v.tree →
-    Within (cond m 0 1 + n) (map_value line (ws ++ written k u ∷ [])).tree (map_value line (ws ++ written k v ∷ [])).tree
-entry-by true n line ws k u v e h = within-same n (0 + n) _ _ (omega arith) (within-merge n line ws (written k u) (written k v) e e h)
-entry-by false n line ws k u v e h = within-same (suc n) (1 + n) _ _ (omega arith) (within-entry n line ws (written k u) (written k v) e e refl h)
+entry-by : (m : Bool) (n line : ℕ) (ws : List Written) (k : Key) (u v : Value) → k.merges ≡ m
+    → Within n u.tree v.tree →
+    Within (cond m 0 1 + n) (map_value line (ws ++ written k u ∷ [])).tree
+    (map_value line (ws ++ written k v ∷ [])).tree
+entry-by true n line ws k u v e h = within-same n (0 + n) _ _ (omega arith)
+    (within-merge n line ws (written k u) (written k v) e e h)
+entry-by false n line ws k u v e h = within-same (suc n) (1 + n) _ _ (omega arith)
+    (within-entry n line ws (written k u) (written k v) e e refl h)
 
 abbrev Next : List Open → Value → Value → Type 0
-Next bs a b = (m : ℕ) (x y : Value) → Within m x.tree y.tree → ends x bs ≡ Ok a → ends y bs ≡ Ok b → Within (m + levels bs) a.tree b.tree
+Next bs a b = (m : ℕ) (x y : Value) → Within m x.tree y.tree → ends x bs ≡ Ok a → ends y bs ≡ Ok b
+    → Within (m + levels bs) a.tree b.tree
 
-closed-within : (d : Done) (line n : ℕ) (u v : Value) (bs : List Open) (a b : Value) → Within n u.tree v.tree → (closed_value d line u >>= λ w. ends w bs) ≡ Ok a → (closed_value d line v >>= λ w. ends w bs) ≡ Ok b →
+closed-within : (d : Done) (line n : ℕ) (u v : Value) (bs : List Open) (a b : Value)
+    → Within n u.tree v.tree → (closed_value d line u >>= λ w. ends w bs) ≡ Ok a
+    → (closed_value d line v >>= λ w. ends w bs) ≡ Ok b →
     Next bs a b → Within (n + (level d + levels bs)) a.tree b.tree
 closed-within (done_items vs) line n u v bs a b h e f next =
-    within-same _ _ _ _ (omega arith) (next (suc n) (list_value line (vs ++ u ∷ [])) (list_value line (vs ++ v ∷ [])) (within-list n line vs u v h) e f)
+    within-same _ _ _ _ (omega arith) (next (suc n) (list_value line (vs ++ u ∷ []))
+    (list_value line (vs ++ v ∷ [])) (within-list n line vs u v h) e f)
 closed-within (done_entries ws k) line n u v bs a b h e f next =
-    let first = gone (check_merge k u) (Ok (map_value line (ws ++ written k u ∷ []))) (λ w. ends w bs) a e in
-    let second = gone (check_merge k v) (Ok (map_value line (ws ++ written k v ∷ []))) (λ w. ends w bs) b f in
-    within-same _ _ _ _ (omega arith) (next (cond k.merges 0 1 + n) (map_value line (ws ++ written k u ∷ [])) (map_value line (ws ++ written k v ∷ [])) (entry-by k.merges n line ws k u v refl h) first.1 second.1)
-closed-within alone line n u v bs a b h e f next = within-same _ _ _ _ (omega arith) (next n u v h e f)
+    let first = gone (check_merge k u) (Ok (map_value line (ws ++ written k u ∷ [])))
+    (λ w. ends w bs) a e in
+    let second = gone (check_merge k v) (Ok (map_value line (ws ++ written k v ∷ [])))
+    (λ w. ends w bs) b f in
+    within-same _ _ _ _ (omega arith) (next (cond k.merges 0 1 + n)
+    (map_value line (ws ++ written k u ∷ [])) (map_value line (ws ++ written k v ∷ []))
+    (entry-by k.merges n line ws k u v refl h) first.1 second.1)
+closed-within alone line n u v bs a b h e f next =
+    within-same _ _ _ _ (omega arith) (next n u v h e f)
 
 same-ok : (u a : Value) → (let r : Checked Value = Ok u in r) ≡ Ok a → u ≡ a
 same-ok u a e = cc
 
-ends-within : (bs : List Open) (n : ℕ) (u v a b : Value) → Within n u.tree v.tree → ends u bs ≡ Ok a → ends v bs ≡ Ok b → Within (n + levels bs) a.tree b.tree
+ends-within : (bs : List Open) (n : ℕ) (u v a b : Value) → Within n u.tree v.tree → ends u bs ≡ Ok a
+    → ends v bs ≡ Ok b → Within (n + levels bs) a.tree b.tree
 ends-within [] n u v a b h e f =
-    within-same n (n + 0) _ _ (omega arith) (subst (λ x. Within n x.tree b.tree) (same-ok u a e) (subst (λ x. Within n u.tree x.tree) (same-ok v b f) h))
-ends-within (o ∷ bs) n u v a b h e f = closed-within o.done o.line n u v bs a b h e f (λ m x y g i j. ends-within bs m x y a b g i j)
+    within-same n (n + 0) _ _ (omega arith) (subst (λ x. Within n x.tree b.tree) (same-ok u a e)
+    (subst (λ x. Within n u.tree x.tree) (same-ok v b f) h))
+ends-within (o ∷ bs) n u v a b h e f =
+    closed-within o.done o.line n u v bs a b h e f (λ m x y g i j. ends-within bs m x y a b g i j)
 
 -- Whatever stands in the open member of the block on top: nothing else is deeper than it was.
 abbrev pub Grown : Value → List Open → Type 0
-Grown v cs = (x : Value) (n : ℕ) (u : Value) → depth x.tree ≤ n → ends x cs ≡ Ok u → depth u.tree ≤ max (depth v.tree) (n + levels cs)
+Grown v cs = (x : Value) (n : ℕ) (u : Value) → depth x.tree ≤ n → ends x cs ≡ Ok u
+    → depth u.tree ≤ max (depth v.tree) (n + levels cs)
 
 abbrev opened : ℕ → ℕ → Done → Anchors → Word → Value → Open
-opened line column d anchors w own = record { line = line; column = column; done = d; anchors = anchors; head = head_of w; own = own }
+opened line column d anchors w own = record {
+  line = line;
+  column = column;
+  done = d;
+  anchors = anchors;
+  head = head_of w;
+  own = own;
+}
 
 -- what a step gives
 pub record Stepped (v : Value) (w : Word) (cs : List Open) : Type 0 where
@@ -88,17 +123,23 @@ pub record Stepped (v : Value) (w : Word) (cs : List Open) : Type 0 where
   pub head : top.head ≡ head_of w
   pub grown : Grown v (top ∷ rest)
 
-deep-by : (n l : ℕ) (a u : Value) → Within (n + l) a.tree u.tree → depth u.tree ≤ max (depth a.tree) (suc (n + l))
+deep-by : (n l : ℕ) (a u : Value) → Within (n + l) a.tree u.tree
+    → depth u.tree ≤ max (depth a.tree) (suc (n + l))
 deep-by n l a u h = h.deep
 
 -- A BLOCK THAT GOES ON
-item-grown : (line n : ℕ) (vs : List Value) (g v x u : Value) (rest : List Open) → ends (list_value line (vs ++ g ∷ [])) rest ≡ Ok v → depth x.tree ≤ n → ends (list_value line ((vs ++ g ∷ []) ++ x ∷ [])) rest ≡ Ok u →
+item-grown : (line n : ℕ) (vs : List Value) (g v x u : Value) (rest : List Open)
+    → ends (list_value line (vs ++ g ∷ [])) rest ≡ Ok v → depth x.tree ≤ n
+    → ends (list_value line ((vs ++ g ∷ []) ++ x ∷ [])) rest ≡ Ok u →
     depth u.tree ≤ max (depth v.tree) (n + (1 + levels rest))
 item-grown line n vs g v x u rest e small f =
     omega (arith, deep-by n (levels rest) v u (ends-within rest n (list_value line (vs ++ g ∷ [])) (list_value line ((vs ++ g ∷ []) ++ x ∷ [])) v u (within-item n line (vs ++ g ∷ []) x small) e f))
 
-more-by : (m : Bool) (line n : ℕ) (ws : List Written) (l : Key) (v x u : Value) (rest : List Open) → l.merges ≡ m → (m ≡ false → has_key l.name (explicit_keys ws) ≡ false) → depth x.tree ≤ n →
-    ends (map_value line ws) rest ≡ Ok v → ends (map_value line (ws ++ written l x ∷ [])) rest ≡ Ok u → depth u.tree ≤ max (depth v.tree) (n + (cond m 0 1 + levels rest))
+more-by : (m : Bool) (line n : ℕ) (ws : List Written) (l : Key) (v x u : Value) (rest : List Open)
+    → l.merges ≡ m → (m ≡ false → has_key l.name (explicit_keys ws) ≡ false) → depth x.tree ≤ n →
+    ends (map_value line ws) rest ≡ Ok v
+    → ends (map_value line (ws ++ written l x ∷ [])) rest ≡ Ok u
+    → depth u.tree ≤ max (depth v.tree) (n + (cond m 0 1 + levels rest))
 more-by true line n ws l v x u rest e new small f g =
     let less : depth x.tree ≤ suc (n - 1) = omega (arith, small, some-depth x.tree) in
     omega (arith, small, some-depth x.tree, deep-by (n - 1) (levels rest) v u (ends-within rest (n - 1) (map_value line ws) (map_value line (ws ++ written l x ∷ [])) v u (within-merge-more (n - 1) line ws (written l x) e less) f g))
@@ -123,24 +164,29 @@ same-found : (g h : Found Value) → (let r : Checked (Found Value) = Ok g in r)
 same-found g h e = cc
 
 -- the key of a word that is the next entry is new, or merges
-next-key : (column : ℕ) (seen : List (List ℕ)) (at : ℕ) (s : Shape) (l : Key) → key_at column seen at s ≡ Ok l → l.merges ≡ false → has_key l.name seen ≡ false
+next-key : (column : ℕ) (seen : List (List ℕ)) (at : ℕ) (s : Shape) (l : Key)
+    → key_at column seen at s ≡ Ok l → l.merges ≡ false → has_key l.name seen ≡ false
 next-key column seen at (dash a) l h e = cc
 next-key column seen at (key k a content) l h e =
     let first = then-ok (check (at == column) BadIndent) _ l h in
     let second = then-ok (check (k.merges || not (has_key k.name seen)) DuplicateKey) _ l first.1 in
     let same : k ≡ l = same-key k l second.1 in
-    subst (λ j. has_key j.name seen ≡ false) same (new-by k.merges (has_key k.name seen) (check-true _ DuplicateKey second.0) (ap (λ j. j.merges) same ∙ e))
+    subst (λ j. has_key j.name seen ≡ false) same (new-by k.merges (has_key k.name seen)
+    (check-true _ DuplicateKey second.0) (ap (λ j. j.merges) same ∙ e))
 next-key column seen at (leaf content) l h e = cc
 next-key column seen at (refused kind) l h e = cc
 
-done-grown : (d : Done) (line column : ℕ) (g v : Value) (w : Word) (e : Done) (top : Open) (rest : List Open) → top.done ≡ e → top.line ≡ line →
-    (closed_value d line g >>= λ y. ends y rest) ≡ Ok v → advanced_as d column g w ≡ Ok e → Grown v (top ∷ rest)
+done-grown : (d : Done) (line column : ℕ) (g v : Value) (w : Word) (e : Done) (top : Open)
+    (rest : List Open) → top.done ≡ e → top.line ≡ line →
+    (closed_value d line g >>= λ y. ends y rest) ≡ Ok v → advanced_as d column g w ≡ Ok e
+    → Grown v (top ∷ rest)
 done-grown (done_items vs) line column g v w e top rest is at f h x n u small k =
     let parts = then-ok (item_at column w) _ e h in
     let same : done_items (vs ++ g ∷ []) ≡ e = same-done _ _ parts.1 in
     let here : top.done ≡ done_items (vs ++ g ∷ []) = is ∙ sym same in
     let there = subst (λ dn. (closed_value dn top.line x >>= λ y. ends y rest) ≡ Ok u) here k in
-    let line-there = subst (λ m. ends (list_value m ((vs ++ g ∷ []) ++ x ∷ [])) rest ≡ Ok u) at there in
+    let line-there =
+    subst (λ m. ends (list_value m ((vs ++ g ∷ []) ++ x ∷ [])) rest ≡ Ok u) at there in
     let bound = item-grown line n vs g v x u rest f small line-there in
     omega (arith, bound, ap level here)
 done-grown (done_entries ws j) line column g v w e top rest is at f h x n u small k =
@@ -151,85 +197,129 @@ done-grown (done_entries ws j) line column g v w e top rest is at f h x n u smal
     let same : done_entries us l ≡ e = same-done _ _ next.rest in
     let here : top.done ≡ done_entries us l = is ∙ sym same in
     let there = subst (λ dn. (closed_value dn top.line x >>= λ y. ends y rest) ≡ Ok u) here k in
-    let line-there = subst (λ m. (closed_value (done_entries us l) m x >>= λ y. ends y rest) ≡ Ok u) at there in
-    let good = gone (check_merge l x) (Ok (map_value line (us ++ written l x ∷ []))) (λ y. ends y rest) u line-there in
+    let line-there =
+    subst (λ m. (closed_value (done_entries us l) m x >>= λ y. ends y rest) ≡ Ok u) at there in
+    let good = gone (check_merge l x) (Ok (map_value line (us ++ written l x ∷ [])))
+    (λ y. ends y rest) u line-there in
     let before = gone (check_merge j g) (Ok (map_value line us)) (λ y. ends y rest) v f in
-    let bound = more-by l.merges line n us l v x u rest refl (next-key column (explicit_keys us) w.column w.shape l next.is) small before.1 good.1 in
+    let bound = more-by l.merges line n us l v x u rest refl
+    (next-key column (explicit_keys us) w.column w.shape l next.is) small before.1 good.1 in
     omega (arith, bound, ap level here)
 done-grown alone line column g v w e top rest is at f h x n u small k = cc
 
-advanced-stepped : (b : Open) (g : Found Value) (v : Value) (bs : List Open) (w : Word) (cs : List Open) → ends g.value (b ∷ bs) ≡ Ok v → advanced b g bs w ≡ Ok cs → Stepped v w cs
+advanced-stepped : (b : Open) (g : Found Value) (v : Value) (bs : List Open) (w : Word)
+    (cs : List Open) → ends g.value (b ∷ bs) ≡ Ok v → advanced b g bs w ≡ Ok cs → Stepped v w cs
 advanced-stepped b g v bs w cs e h =
     let anchors = g.anchors ++ b.anchors in
-    let a = bind-ok (advanced_as b.done b.column g.value w) (λ d. put b.line b.column d anchors bs w) cs h in
-    let o = bind-ok (block_spec.own_value (anchors ++ known_of bs) w.line w.shape) (λ own. let r : Checked (List Open) = Ok (opened b.line b.column a.value anchors w own ∷ bs) in r) cs a.rest in
+    let a = bind-ok (advanced_as b.done b.column g.value w)
+    (λ d. put b.line b.column d anchors bs w) cs h in
+    let o = bind-ok (block_spec.own_value (anchors ++ known_of bs) w.line w.shape) (λ own.
+    let r : Checked (List Open) = Ok (opened b.line b.column a.value anchors w own ∷ bs) in r)
+    cs a.rest in
     let top = opened b.line b.column a.value anchors w o.value in
-    record { top = top; rest = bs; is = sym (same-stack _ _ o.rest); head = refl; grown = done-grown b.done b.line b.column g.value v w a.value top bs refl refl e a.is }
+    record {
+      top = top;
+      rest = bs;
+      is = sym (same-stack _ _ o.rest);
+      head = refl;
+      grown = done-grown b.done b.line b.column g.value v w a.value top bs refl refl e a.is;
+    }
 
 -- the value of a block that closes is the open member of the block around it
-closes-same : (b : Open) (g : Found Value) (name : Name) (k : Found Value) (v : Value) (bs : List Open) → closed_into b g name ≡ Ok k → ends g.value (b ∷ bs) ≡ Ok v → ends k.value bs ≡ Ok v
+closes-same : (b : Open) (g : Found Value) (name : Name) (k : Found Value) (v : Value)
+    (bs : List Open) → closed_into b g name ≡ Ok k → ends g.value (b ∷ bs) ≡ Ok v → ends k.value bs
+    ≡ Ok v
 closes-same b g name k v bs c e =
-    let d = bind-ok (closed b g) (λ j. let r : Checked (Found Value) = Ok (named name j) in r) k c in
-    let whole : closed_value b.done b.line g.value ≡ Ok d.value.value = sym (closed-value b.done b.line b.anchors g) ∙ ap (λ m. m >>= value_of) d.is in
-    let same : d.value.value ≡ k.value = sym (named-value name d.value) ∙ ap (λ j. j.value) (same-found _ _ d.rest) in
+    let d =
+    bind-ok (closed b g) (λ j. let r : Checked (Found Value) = Ok (named name j) in r) k c in
+    let whole : closed_value b.done b.line g.value ≡ Ok d.value.value =
+    sym (closed-value b.done b.line b.anchors g) ∙ ap (λ m. m >>= value_of) d.is in
+    let same : d.value.value ≡ k.value =
+    sym (named-value name d.value) ∙ ap (λ j. j.value) (same-found _ _ d.rest) in
     subst (λ x. ends x bs ≡ Ok v) same (sym (ap (λ m. m >>= λ y. ends y bs) whole) ∙ e)
 
-settled-by : (t : Bool) (b outer : Open) (g : Found Value) (v : Value) (bs : List Open) (w : Word) (cs : List Open) → ends g.value (b ∷ outer ∷ bs) ≡ Ok v →
-    cond t (advanced b g (outer ∷ bs) w) (closed_into b g outer.head.anchor >>= λ k. settled k outer bs w) ≡ Ok cs →
-    ((k : Found Value) → ends k.value (outer ∷ bs) ≡ Ok v → settled k outer bs w ≡ Ok cs → Stepped v w cs) → Stepped v w cs
+settled-by : (t : Bool) (b outer : Open) (g : Found Value) (v : Value) (bs : List Open) (w : Word)
+    (cs : List Open) → ends g.value (b ∷ outer ∷ bs) ≡ Ok v →
+    cond t (advanced b g (outer ∷ bs) w)
+    (closed_into b g outer.head.anchor >>= λ k. settled k outer bs w) ≡ Ok cs →
+    ((k : Found Value) → ends k.value (outer ∷ bs) ≡ Ok v → settled k outer bs w ≡ Ok cs
+    → Stepped v w cs) → Stepped v w cs
 settled-by true b outer g v bs w cs e h next = advanced-stepped b g v (outer ∷ bs) w cs e h
 settled-by false b outer g v bs w cs e h next =
     let c = bind-ok (closed_into b g outer.head.anchor) (λ k. settled k outer bs w) cs h in
     next c.value (closes-same b g outer.head.anchor c.value v (outer ∷ bs) c.is e) c.rest
 
-settled-stepped : (bs : List Open) (b : Open) (g : Found Value) (v : Value) (w : Word) (cs : List Open) → ends g.value (b ∷ bs) ≡ Ok v → settled g b bs w ≡ Ok cs → Stepped v w cs
+settled-stepped : (bs : List Open) (b : Open) (g : Found Value) (v : Value) (w : Word)
+    (cs : List Open) → ends g.value (b ∷ bs) ≡ Ok v → settled g b bs w ≡ Ok cs → Stepped v w cs
 settled-stepped [] b g v w cs e h = advanced-stepped b g v [] w cs e h
-settled-stepped (outer ∷ bs) b g v w cs e h = settled-by (is_below outer.head w) b outer g v bs w cs e h (λ k i j. settled-stepped bs outer k v w cs i j)
+settled-stepped (outer ∷ bs) b g v w cs e h = settled-by (is_below outer.head w) b outer g v bs w cs
+    e h (λ k i j. settled-stepped bs outer k v w cs i j)
 
 -- A BLOCK THAT BEGINS
 same-value : (x y : Value) → (let r : Checked Value = Ok x in r) ≡ Ok y → x ≡ y
 same-value x y h = cc
 
-begun-map : (m : Bool) (line n : ℕ) (k : Key) (x : Value) → k.merges ≡ m → depth x.tree ≤ n → depth (map_value line (written k x ∷ [])).tree ≤ cond m 0 1 + n
+begun-map : (m : Bool) (line n : ℕ) (k : Key) (x : Value) → k.merges ≡ m → depth x.tree ≤ n
+    → depth (map_value line (written k x ∷ [])).tree ≤ cond m 0 1 + n
 begun-map true line n k x e small =
     let less : depth x.tree ≤ suc (n - 1) = omega (arith, small, some-depth x.tree) in
     omega (arith, small, some-depth x.tree, (within-merge-more (n - 1) line [] (written k x) e less).deep)
-begun-map false line n k x e small = omega (arith, small, some-depth x.tree, (within-own-more n line [] (written k x) e refl small).deep)
+begun-map false line n k x e small = omega
+    (arith, small, some-depth x.tree, (within-own-more n line [] (written k x) e refl small).deep)
 
-begun-deep : (s : Shape) (line n : ℕ) (x y : Value) → closed_value (begun_done s) line x ≡ Ok y → depth x.tree ≤ n → depth y.tree ≤ level (begun_done s) + n
+begun-deep : (s : Shape) (line n : ℕ) (x y : Value) → closed_value (begun_done s) line x ≡ Ok y
+    → depth x.tree ≤ n → depth y.tree ≤ level (begun_done s) + n
 begun-deep (dash a) line n x y h small = omega (arith, small, some-depth x.tree, (within-item n line [] x small).deep, ap (λ z. depth z.tree) (same-value _ y h))
 begun-deep (key k a content) line n x y h small =
     let parts = then-ok (check_merge k x) _ y h in
     omega (arith, begun-map k.merges line n k x refl small, ap (λ z. depth z.tree) (same-value _ y parts.1))
-begun-deep (leaf content) line n x y h small = omega (arith, small, ap (λ z. depth z.tree) (same-value x y h))
-begun-deep (refused kind) line n x y h small = omega (arith, small, ap (λ z. depth z.tree) (same-value x y h))
+begun-deep (leaf content) line n x y h small =
+    omega (arith, small, ap (λ z. depth z.tree) (same-value x y h))
+begun-deep (refused kind) line n x y h small =
+    omega (arith, small, ap (λ z. depth z.tree) (same-value x y h))
 
-below-grown : (w : Word) (own v z : Value) (bs : List Open) → ends z bs ≡ Ok v → Grown v (begun w own ∷ bs)
+below-grown : (w : Word) (own v z : Value) (bs : List Open) → ends z bs ≡ Ok v
+    → Grown v (begun w own ∷ bs)
 below-grown w own v z bs e x n u small k =
     let y = bind-ok (closed_value (begun_done w.shape) w.line x) (λ q. ends q bs) u k in
     let l = level (begun_done w.shape) in
     let deep = begun-deep w.shape w.line n x y.value y.is small in
-    let less : depth y.value.tree ≤ suc ((l + n) - 1) = omega (arith, deep, small, some-depth x.tree) in
+    let less : depth y.value.tree ≤ suc ((l + n) - 1) =
+    omega (arith, deep, small, some-depth x.tree) in
     omega (arith, small, some-depth x.tree, deep-by ((l + n) - 1) (levels bs) v u (ends-within bs ((l + n) - 1) z y.value v u (within-new ((l + n) - 1) z.tree y.value.tree less) e y.rest))
 
-below-stepped : (bs : List Open) (v z : Value) (w : Word) (cs : List Open) → ends z bs ≡ Ok v → begins bs w ≡ Ok cs → Stepped v w cs
+below-stepped : (bs : List Open) (v z : Value) (w : Word) (cs : List Open) → ends z bs ≡ Ok v
+    → begins bs w ≡ Ok cs → Stepped v w cs
 below-stepped bs v z w cs e h =
-    let o = bind-ok (block_spec.own_value (known_of bs) w.line w.shape) (λ own. let r : Checked (List Open) = Ok (begun w own ∷ bs) in r) cs h in
-    record { top = begun w o.value; rest = bs; is = sym (same-stack _ _ o.rest); head = refl; grown = below-grown w o.value v z bs e }
+    let o = bind-ok (block_spec.own_value (known_of bs) w.line w.shape)
+    (λ own. let r : Checked (List Open) = Ok (begun w own ∷ bs) in r) cs h in
+    record {
+      top = begun w o.value;
+      rest = bs;
+      is = sym (same-stack _ _ o.rest);
+      head = refl;
+      grown = below-grown w o.value v z bs e;
+    }
 
-step-by : (t : Bool) (b : Open) (bs : List Open) (v : Value) (w : Word) (cs : List Open) → front_value (b ∷ bs) ≡ Ok v →
-    cond t (check (opens_block b.head.sort) Unsupported >> begins (b ∷ bs) w) (settled (own_found b) b bs w) ≡ Ok cs → Stepped v w cs
-step-by true b bs v w cs e h = below-stepped (b ∷ bs) v (own_value b) w cs e (then-ok (check (opens_block b.head.sort) Unsupported) _ cs h).1
-step-by false b bs v w cs e h = settled-stepped bs b (own_found b) v w cs (ap (λ x. ends x (b ∷ bs)) (own-value b) ∙ e) h
+step-by : (t : Bool) (b : Open) (bs : List Open) (v : Value) (w : Word) (cs : List Open)
+    → front_value (b ∷ bs) ≡ Ok v →
+    cond t (check (opens_block b.head.sort) Unsupported >> begins (b ∷ bs) w)
+    (settled (own_found b) b bs w) ≡ Ok cs → Stepped v w cs
+step-by true b bs v w cs e h = below-stepped (b ∷ bs) v (own_value b) w cs e
+    (then-ok (check (opens_block b.head.sort) Unsupported) _ cs h).1
+step-by false b bs v w cs e h =
+    settled-stepped bs b (own_found b) v w cs (ap (λ x. ends x (b ∷ bs)) (own-value b) ∙ e) h
 
-step-stepped : (bs : List Open) (v : Value) (w : Word) (cs : List Open) → front_value bs ≡ Ok v → step bs w ≡ Ok cs → Stepped v w cs
+step-stepped : (bs : List Open) (v : Value) (w : Word) (cs : List Open) → front_value bs ≡ Ok v
+    → step bs w ≡ Ok cs → Stepped v w cs
 step-stepped [] v w cs e h = below-stepped [] v (scalar_value [] 1) w cs e h
 step-stepped (b ∷ bs) v w cs e h = step-by (is_below b.head w) b bs v w cs e h
 
 -- LATER WORDS OF A LINE
 -- each word, where it is read, is below the one before it
 abbrev pub Below : Head → Word → Type 0
-Below h w = (bs : List Open) (b : Open) (cs : List Open) → b.head ≡ h → step (b ∷ bs) w ≡ Ok cs → is_below h w ≡ true
+Below h w = (bs : List Open) (b : Open) (cs : List Open) → b.head ≡ h → step (b ∷ bs) w ≡ Ok cs
+    → is_below h w ≡ true
 
 abbrev pub Follows : Head → List Word → Type 0
 Follows h [] = Unit {0}
@@ -247,13 +337,17 @@ record Ended (cs : List Open) (u : Value) (b : Open) (bs : List Open) : Type 0 w
   reached : bound + levels (b ∷ bs) ≤ reach cs
 
 step-below : (t : Bool) (b : Open) (bs : List Open) (w : Word) (cs : List Open) → t ≡ true →
-    cond t (check (opens_block b.head.sort) Unsupported >> begins (b ∷ bs) w) (settled (own_found b) b bs w) ≡ Ok cs → begins (b ∷ bs) w ≡ Ok cs
+    cond t (check (opens_block b.head.sort) Unsupported >> begins (b ∷ bs) w)
+    (settled (own_found b) b bs w) ≡ Ok cs → begins (b ∷ bs) w ≡ Ok cs
 step-below true b bs w cs e h = (then-ok (check (opens_block b.head.sort) Unsupported) _ cs h).1
 step-below false b bs w cs e h = cc
 
-ended-over : (cs : List Open) (u own : Value) (w : Word) (b : Open) (bs : List Open) → Ended cs u (begun w own) (b ∷ bs) → Ended cs u b bs
+ended-over : (cs : List Open) (u own : Value) (w : Word) (b : Open) (bs : List Open)
+    → Ended cs u (begun w own) (b ∷ bs) → Ended cs u b bs
 ended-over cs u own w b bs r =
-    let y = bind-ok (closed_value (begun_done w.shape) w.line r.value) (λ q. ends q (b ∷ bs)) u r.is in record {
+    let y =
+    bind-ok (closed_value (begun_done w.shape) w.line r.value) (λ q. ends q (b ∷ bs)) u r.is in
+    record {
       value = y.value;
       bound = level (begun_done w.shape) + r.bound;
       small = begun-deep w.shape w.line r.bound r.value y.value y.is r.small;
@@ -261,14 +355,23 @@ ended-over cs u own w b bs r =
       reached = omega (arith, r.reached);
     }
 
-ended : (ws : List Word) (b : Open) (bs cs : List Open) (u : Value) → Follows b.head ws → steps (b ∷ bs) ws ≡ Ok cs → front_value cs ≡ Ok u → Ended cs u b bs
+ended : (ws : List Word) (b : Open) (bs cs : List Open) (u : Value) → Follows b.head ws
+    → steps (b ∷ bs) ws ≡ Ok cs → front_value cs ≡ Ok u → Ended cs u b bs
 ended [] b bs cs u f h e =
     let same = same-stack (b ∷ bs) cs h in
-    record { value = own_value b; bound = depth (own_value b).tree; small = omega arith; is = ap front_value same ∙ e; reached = omega (arith, ap reach same) }
+    record {
+      value = own_value b;
+      bound = depth (own_value b).tree;
+      small = omega arith;
+      is = ap front_value same ∙ e;
+      reached = omega (arith, ap reach same);
+    }
 ended (w ∷ ws) b bs cs u f h e =
     let s = bind-ok (step (b ∷ bs) w) (λ ds. steps ds ws) cs h in
-    let begun-here = step-below (is_below b.head w) b bs w s.value (f.0 bs b s.value refl s.is) s.is in
-    let o = bind-ok (block_spec.own_value (known_of (b ∷ bs)) w.line w.shape) (λ own. let r : Checked (List Open) = Ok (begun w own ∷ b ∷ bs) in r) s.value begun-here in
+    let begun-here =
+    step-below (is_below b.head w) b bs w s.value (f.0 bs b s.value refl s.is) s.is in
+    let o = bind-ok (block_spec.own_value (known_of (b ∷ bs)) w.line w.shape)
+    (λ own. let r : Checked (List Open) = Ok (begun w own ∷ b ∷ bs) in r) s.value begun-here in
     let next = ap (λ ds. steps ds ws) (same-stack _ _ o.rest) ∙ s.rest in
     ended-over cs u o.value w b bs (ended ws (begun w o.value) (b ∷ bs) cs u f.1 next e)
 
@@ -283,16 +386,24 @@ checked-not false kind h = refl
 
 shallow : (m : Checked Value) → (m >>= within_limits) ≡ Ok tt → Shallow m
 shallow (Err k) h = cc
-shallow (Ok v) h = record { value = v; is = refl; small = ge_fact 32 (depth v.tree) (checked-not (nat_lt 32 (depth v.tree)) TooDeep (then-ok (check (not (nat_lt 32 (depth v.tree))) TooDeep) _ tt h).0) }
+shallow (Ok v) h = record {
+  value = v;
+  is = refl;
+  small = ge_fact 32 (depth v.tree) (checked-not (nat_lt 32 (depth v.tree)) TooDeep
+      (then-ok (check (not (nat_lt 32 (depth v.tree))) TooDeep) _ tt h).0);
+}
 
-pub words-kept : (ws : List Word) (bs cs : List Open) → Lined ws → checked_front bs ≡ Ok tt → steps bs ws ≡ Ok cs → KeepsDepth cs
+pub words-kept : (ws : List Word) (bs cs : List Open) → Lined ws → checked_front bs ≡ Ok tt
+    → steps bs ws ≡ Ok cs → KeepsDepth cs
 words-kept [] bs cs f k h u e =
     let v = shallow (front_value bs) k in
-    let same : v.value ≡ u = same-value v.value u (sym v.is ∙ ap front_value (same-stack bs cs h) ∙ e) in
+    let same : v.value ≡ u =
+    same-value v.value u (sym v.is ∙ ap front_value (same-stack bs cs h) ∙ e) in
     omega (arith, v.small, ap (λ x. depth x.tree) same)
 words-kept (w ∷ ws) bs cs f k h u e =
     let v = shallow (front_value bs) k in
     let s = bind-ok (step bs w) (λ ds. steps ds ws) cs h in
     let t = step-stepped bs v.value w s.value v.is s.is in
-    let r = ended ws t.top t.rest cs u (subst (λ x. Follows x ws) (sym t.head) f) (ap (λ ds. steps ds ws) (sym t.is) ∙ s.rest) e in
+    let r = ended ws t.top t.rest cs u (subst (λ x. Follows x ws) (sym t.head) f)
+    (ap (λ ds. steps ds ws) (sym t.is) ∙ s.rest) e in
     omega (arith, v.small, t.grown r.value r.bound u r.small r.is, r.reached)

@@ -4,10 +4,14 @@ use Rattle.std.specs.Str.{is_utf8, chars}
 use lib.Utf8.{encode}
 use Rattle.rvs_yaml.specs.Answer.{answer}
 use Rattle.rvs_tree.specs.Data.{scalar, sequence, mapping, no_items, item, no_entries, entry}
-use Rattle.rvs_yaml_text.specs.declared.kind.YamlKind.TheVariants.{TabIndent, BadIndent, BadScalar, BadFlow, DuplicateKey, UnknownAlias, BadMerge, Unsupported}
+use Rattle.rvs_yaml_text.specs.declared.kind.YamlKind.TheVariants.{TabIndent, BadIndent, BadScalar}
+use Rattle.rvs_yaml_text.specs.declared.kind.YamlKind.TheVariants.{BadFlow, DuplicateKey}
+use Rattle.rvs_yaml_text.specs.declared.kind.YamlKind.TheVariants.{UnknownAlias, BadMerge}
+use Rattle.rvs_yaml_text.specs.declared.kind.YamlKind.TheVariants.{Unsupported}
 
 -- 'x: 1\n"a\\q": 2\n'
-row1 : answer (120 ∷ 58 ∷ 32 ∷ 49 ∷ 10 ∷ 34 ∷ 97 ∷ 92 ∷ 113 ∷ 34 ∷ 58 ∷ 32 ∷ 50 ∷ 10 ∷ []) ≡ Err (2, BadIndent)
+row1 : answer (120 ∷ 58 ∷ 32 ∷ 49 ∷ 10 ∷ 34 ∷ 97 ∷ 92 ∷ 113 ∷ 34 ∷ 58 ∷ 32 ∷ 50 ∷ 10 ∷ [])
+    ≡ Err (2, BadIndent)
 unfolding is_utf8 chars encode
 row1 = refl
 
@@ -42,7 +46,8 @@ unfolding is_utf8 chars encode
 row7 = refl
 
 -- '- &x a\n   b\n'
-row8 : answer (45 ∷ 32 ∷ 38 ∷ 120 ∷ 32 ∷ 97 ∷ 10 ∷ 32 ∷ 32 ∷ 32 ∷ 98 ∷ 10 ∷ []) ≡ Err (2, Unsupported)
+row8 : answer (45 ∷ 32 ∷ 38 ∷ 120 ∷ 32 ∷ 97 ∷ 10 ∷ 32 ∷ 32 ∷ 32 ∷ 98 ∷ 10 ∷ [])
+    ≡ Err (2, Unsupported)
 unfolding is_utf8 chars encode
 row8 = refl
 
@@ -77,7 +82,9 @@ unfolding is_utf8 chars encode
 row14 = refl
 
 -- '---\na: 1\n---\nb: 2\n'
-row15 : answer (45 ∷ 45 ∷ 45 ∷ 10 ∷ 97 ∷ 58 ∷ 32 ∷ 49 ∷ 10 ∷ 45 ∷ 45 ∷ 45 ∷ 10 ∷ 98 ∷ 58 ∷ 32 ∷ 50 ∷ 10 ∷ []) ≡ Err (3, Unsupported)
+row15 : answer
+    (45 ∷ 45 ∷ 45 ∷ 10 ∷ 97 ∷ 58 ∷ 32 ∷ 49 ∷ 10 ∷ 45 ∷ 45 ∷ 45 ∷ 10 ∷ 98 ∷ 58 ∷ 32 ∷ 50 ∷ 10 ∷ [])
+    ≡ Err (3, Unsupported)
 unfolding is_utf8 chars encode
 row15 = refl
 
@@ -202,7 +209,8 @@ unfolding is_utf8 chars encode
 row39 = refl
 
 -- 'a: 0\nb: 0\na: 1\n'
-row40 : answer (97 ∷ 58 ∷ 32 ∷ 48 ∷ 10 ∷ 98 ∷ 58 ∷ 32 ∷ 48 ∷ 10 ∷ 97 ∷ 58 ∷ 32 ∷ 49 ∷ 10 ∷ []) ≡ Err (3, DuplicateKey)
+row40 : answer (97 ∷ 58 ∷ 32 ∷ 48 ∷ 10 ∷ 98 ∷ 58 ∷ 32 ∷ 48 ∷ 10 ∷ 97 ∷ 58 ∷ 32 ∷ 49 ∷ 10 ∷ [])
+    ≡ Err (3, DuplicateKey)
 unfolding is_utf8 chars encode
 row40 = refl
 
@@ -217,7 +225,8 @@ unfolding is_utf8 chars encode
 row42 = refl
 
 -- '{<<: x, b: [}\n'
-row43 : answer (123 ∷ 60 ∷ 60 ∷ 58 ∷ 32 ∷ 120 ∷ 44 ∷ 32 ∷ 98 ∷ 58 ∷ 32 ∷ 91 ∷ 125 ∷ 10 ∷ []) ≡ Err (1, BadFlow)
+row43 : answer (123 ∷ 60 ∷ 60 ∷ 58 ∷ 32 ∷ 120 ∷ 44 ∷ 32 ∷ 98 ∷ 58 ∷ 32 ∷ 91 ∷ 125 ∷ 10 ∷ [])
+    ≡ Err (1, BadFlow)
 unfolding is_utf8 chars encode
 row43 = refl
 
@@ -272,12 +281,15 @@ unfolding is_utf8 chars encode
 row53 = refl
 
 -- '- - a\n   - b\n'
-row54 : answer (45 ∷ 32 ∷ 45 ∷ 32 ∷ 97 ∷ 10 ∷ 32 ∷ 32 ∷ 32 ∷ 45 ∷ 32 ∷ 98 ∷ 10 ∷ []) ≡ Err (2, BadIndent)
+row54 : answer (45 ∷ 32 ∷ 45 ∷ 32 ∷ 97 ∷ 10 ∷ 32 ∷ 32 ∷ 32 ∷ 45 ∷ 32 ∷ 98 ∷ 10 ∷ [])
+    ≡ Err (2, BadIndent)
 unfolding is_utf8 chars encode
 row54 = refl
 
 -- 'a:\n   b: 1\n  c: 2\n'
-row55 : answer (97 ∷ 58 ∷ 10 ∷ 32 ∷ 32 ∷ 32 ∷ 98 ∷ 58 ∷ 32 ∷ 49 ∷ 10 ∷ 32 ∷ 32 ∷ 99 ∷ 58 ∷ 32 ∷ 50 ∷ 10 ∷ []) ≡ Err (3, BadIndent)
+row55 : answer
+    (97 ∷ 58 ∷ 10 ∷ 32 ∷ 32 ∷ 32 ∷ 98 ∷ 58 ∷ 32 ∷ 49 ∷ 10 ∷ 32 ∷ 32 ∷ 99 ∷ 58 ∷ 32 ∷ 50 ∷ 10 ∷ [])
+    ≡ Err (3, BadIndent)
 unfolding is_utf8 chars encode
 row55 = refl
 
@@ -302,7 +314,8 @@ unfolding is_utf8 chars encode
 row59 = refl
 
 -- '{a: 1, a: 2}\n'
-row60 : answer (123 ∷ 97 ∷ 58 ∷ 32 ∷ 49 ∷ 44 ∷ 32 ∷ 97 ∷ 58 ∷ 32 ∷ 50 ∷ 125 ∷ 10 ∷ []) ≡ Err (1, DuplicateKey)
+row60 : answer (123 ∷ 97 ∷ 58 ∷ 32 ∷ 49 ∷ 44 ∷ 32 ∷ 97 ∷ 58 ∷ 32 ∷ 50 ∷ 125 ∷ 10 ∷ [])
+    ≡ Err (1, DuplicateKey)
 unfolding is_utf8 chars encode
 row60 = refl
 
@@ -322,7 +335,8 @@ unfolding is_utf8 chars encode
 row63 = refl
 
 -- '- a: &x [1, 2]\n- *x\n- *y\n'
-row64 : answer (45 ∷ 32 ∷ 97 ∷ 58 ∷ 32 ∷ 38 ∷ 120 ∷ 32 ∷ 91 ∷ 49 ∷ 44 ∷ 32 ∷ 50 ∷ 93 ∷ 10 ∷ 45 ∷ 32 ∷ 42 ∷ 120 ∷ 10 ∷ 45 ∷ 32 ∷ 42 ∷ 121 ∷ 10 ∷ []) ≡ Err (3, UnknownAlias)
+row64 : answer (45 ∷ 32 ∷ 97 ∷ 58 ∷ 32 ∷ 38 ∷ 120 ∷ 32 ∷ 91 ∷ 49 ∷ 44 ∷ 32 ∷ 50 ∷ 93 ∷ 10 ∷ 45 ∷ 32
+    ∷ 42 ∷ 120 ∷ 10 ∷ 45 ∷ 32 ∷ 42 ∷ 121 ∷ 10 ∷ []) ≡ Err (3, UnknownAlias)
 unfolding is_utf8 chars encode
 row64 = refl
 
@@ -332,27 +346,35 @@ unfolding is_utf8 chars encode
 row65 = refl
 
 -- 'a : b\n'
-row66 : answer (97 ∷ 32 ∷ 58 ∷ 32 ∷ 98 ∷ 10 ∷ []) ≡ Ok (mapping (entry (97 ∷ []) (scalar (98 ∷ []) 1) (no_entries)) 1)
+row66 : answer (97 ∷ 32 ∷ 58 ∷ 32 ∷ 98 ∷ 10 ∷ [])
+    ≡ Ok (mapping (entry (97 ∷ []) (scalar (98 ∷ []) 1) (no_entries)) 1)
 unfolding is_utf8 chars encode
 row66 = refl
 
 -- "'a' : b\n"
-row67 : answer (39 ∷ 97 ∷ 39 ∷ 32 ∷ 58 ∷ 32 ∷ 98 ∷ 10 ∷ []) ≡ Ok (mapping (entry (97 ∷ []) (scalar (98 ∷ []) 1) (no_entries)) 1)
+row67 : answer (39 ∷ 97 ∷ 39 ∷ 32 ∷ 58 ∷ 32 ∷ 98 ∷ 10 ∷ [])
+    ≡ Ok (mapping (entry (97 ∷ []) (scalar (98 ∷ []) 1) (no_entries)) 1)
 unfolding is_utf8 chars encode
 row67 = refl
 
 -- "{a : b, 'c' : d}\n"
-row68 : answer (123 ∷ 97 ∷ 32 ∷ 58 ∷ 32 ∷ 98 ∷ 44 ∷ 32 ∷ 39 ∷ 99 ∷ 39 ∷ 32 ∷ 58 ∷ 32 ∷ 100 ∷ 125 ∷ 10 ∷ []) ≡ Ok (mapping (entry (97 ∷ []) (scalar (98 ∷ []) 1) (entry (99 ∷ []) (scalar (100 ∷ []) 1) (no_entries))) 1)
+row68 : answer (123 ∷ 97 ∷ 32 ∷ 58 ∷ 32 ∷ 98 ∷ 44 ∷ 32 ∷ 39 ∷ 99 ∷ 39 ∷ 32 ∷ 58 ∷ 32 ∷ 100 ∷ 125
+    ∷ 10 ∷ []) ≡ Ok (mapping
+    (entry (97 ∷ []) (scalar (98 ∷ []) 1) (entry (99 ∷ []) (scalar (100 ∷ []) 1) (no_entries))) 1)
 unfolding is_utf8 chars encode
 row68 = refl
 
 -- 'a: &x 1\nb: &y *x\n'
-row69 : answer (97 ∷ 58 ∷ 32 ∷ 38 ∷ 120 ∷ 32 ∷ 49 ∷ 10 ∷ 98 ∷ 58 ∷ 32 ∷ 38 ∷ 121 ∷ 32 ∷ 42 ∷ 120 ∷ 10 ∷ []) ≡ Ok (mapping (entry (97 ∷ []) (scalar (49 ∷ []) 1) (entry (98 ∷ []) (scalar (49 ∷ []) 1) (no_entries))) 1)
+row69 : answer (97 ∷ 58 ∷ 32 ∷ 38 ∷ 120 ∷ 32 ∷ 49 ∷ 10 ∷ 98 ∷ 58 ∷ 32 ∷ 38 ∷ 121 ∷ 32 ∷ 42 ∷ 120
+    ∷ 10 ∷ []) ≡ Ok (mapping
+    (entry (97 ∷ []) (scalar (49 ∷ []) 1) (entry (98 ∷ []) (scalar (49 ∷ []) 1) (no_entries))) 1)
 unfolding is_utf8 chars encode
 row69 = refl
 
 -- '- &x\n  - &x 2\n- *x\n'
-row70 : answer (45 ∷ 32 ∷ 38 ∷ 120 ∷ 10 ∷ 32 ∷ 32 ∷ 45 ∷ 32 ∷ 38 ∷ 120 ∷ 32 ∷ 50 ∷ 10 ∷ 45 ∷ 32 ∷ 42 ∷ 120 ∷ 10 ∷ []) ≡ Ok (sequence (item (sequence (item (scalar (50 ∷ []) 2) (no_items)) 2) (item (scalar (50 ∷ []) 2) (no_items))) 1)
+row70 : answer (45 ∷ 32 ∷ 38 ∷ 120 ∷ 10 ∷ 32 ∷ 32 ∷ 45 ∷ 32 ∷ 38 ∷ 120 ∷ 32 ∷ 50 ∷ 10 ∷ 45 ∷ 32 ∷ 42
+    ∷ 120 ∷ 10 ∷ []) ≡ Ok (sequence (item (sequence (item (scalar (50 ∷ []) 2) (no_items)) 2)
+    (item (scalar (50 ∷ []) 2) (no_items))) 1)
 unfolding is_utf8 chars encode
 row70 = refl
 
@@ -367,7 +389,8 @@ unfolding is_utf8 chars encode
 row72 = refl
 
 -- 'a: \tb\n'
-row73 : answer (97 ∷ 58 ∷ 32 ∷ 9 ∷ 98 ∷ 10 ∷ []) ≡ Ok (mapping (entry (97 ∷ []) (scalar (9 ∷ 98 ∷ []) 1) (no_entries)) 1)
+row73 : answer (97 ∷ 58 ∷ 32 ∷ 9 ∷ 98 ∷ 10 ∷ [])
+    ≡ Ok (mapping (entry (97 ∷ []) (scalar (9 ∷ 98 ∷ []) 1) (no_entries)) 1)
 unfolding is_utf8 chars encode
 row73 = refl
 
@@ -387,7 +410,8 @@ unfolding is_utf8 chars encode
 row76 = refl
 
 -- '---\na: 1\n'
-row77 : answer (45 ∷ 45 ∷ 45 ∷ 10 ∷ 97 ∷ 58 ∷ 32 ∷ 49 ∷ 10 ∷ []) ≡ Ok (mapping (entry (97 ∷ []) (scalar (49 ∷ []) 2) (no_entries)) 2)
+row77 : answer (45 ∷ 45 ∷ 45 ∷ 10 ∷ 97 ∷ 58 ∷ 32 ∷ 49 ∷ 10 ∷ [])
+    ≡ Ok (mapping (entry (97 ∷ []) (scalar (49 ∷ []) 2) (no_entries)) 2)
 unfolding is_utf8 chars encode
 row77 = refl
 
@@ -407,31 +431,53 @@ unfolding is_utf8 chars encode
 row80 = refl
 
 -- '- a\n-\n- b: 1\n  c: 2\n'
-row81 : answer (45 ∷ 32 ∷ 97 ∷ 10 ∷ 45 ∷ 10 ∷ 45 ∷ 32 ∷ 98 ∷ 58 ∷ 32 ∷ 49 ∷ 10 ∷ 32 ∷ 32 ∷ 99 ∷ 58 ∷ 32 ∷ 50 ∷ 10 ∷ []) ≡ Ok (sequence (item (scalar (97 ∷ []) 1) (item (scalar ([]) 2) (item (mapping (entry (98 ∷ []) (scalar (49 ∷ []) 3) (entry (99 ∷ []) (scalar (50 ∷ []) 4) (no_entries))) 3) (no_items)))) 1)
+row81 : answer (45 ∷ 32 ∷ 97 ∷ 10 ∷ 45 ∷ 10 ∷ 45 ∷ 32 ∷ 98 ∷ 58 ∷ 32 ∷ 49 ∷ 10 ∷ 32 ∷ 32 ∷ 99 ∷ 58
+    ∷ 32 ∷ 50 ∷ 10 ∷ []) ≡ Ok (sequence (item (scalar (97 ∷ []) 1) (item (scalar ([]) 2) (item
+    (mapping
+    (entry (98 ∷ []) (scalar (49 ∷ []) 3) (entry (99 ∷ []) (scalar (50 ∷ []) 4) (no_entries))) 3)
+    (no_items)))) 1)
 unfolding is_utf8 chars encode
 row81 = refl
 
 -- 'a:\n- x\n- y\nb: \'it\'\'s\'\r\nc: "q\\"\\n"\r\n'
-row82 : answer (97 ∷ 58 ∷ 10 ∷ 45 ∷ 32 ∷ 120 ∷ 10 ∷ 45 ∷ 32 ∷ 121 ∷ 10 ∷ 98 ∷ 58 ∷ 32 ∷ 39 ∷ 105 ∷ 116 ∷ 39 ∷ 39 ∷ 115 ∷ 39 ∷ 13 ∷ 10 ∷ 99 ∷ 58 ∷ 32 ∷ 34 ∷ 113 ∷ 92 ∷ 34 ∷ 92 ∷ 110 ∷ 34 ∷ 13 ∷ 10 ∷ []) ≡ Ok (mapping (entry (97 ∷ []) (sequence (item (scalar (120 ∷ []) 2) (item (scalar (121 ∷ []) 3) (no_items))) 2) (entry (98 ∷ []) (scalar (105 ∷ 116 ∷ 39 ∷ 115 ∷ []) 4) (entry (99 ∷ []) (scalar (113 ∷ 34 ∷ 10 ∷ []) 5) (no_entries)))) 1)
+row82 : answer (97 ∷ 58 ∷ 10 ∷ 45 ∷ 32 ∷ 120 ∷ 10 ∷ 45 ∷ 32 ∷ 121 ∷ 10 ∷ 98 ∷ 58 ∷ 32 ∷ 39 ∷ 105
+    ∷ 116 ∷ 39 ∷ 39 ∷ 115 ∷ 39 ∷ 13 ∷ 10 ∷ 99 ∷ 58 ∷ 32 ∷ 34 ∷ 113 ∷ 92 ∷ 34 ∷ 92 ∷ 110 ∷ 34 ∷ 13
+    ∷ 10 ∷ []) ≡ Ok (mapping (entry (97 ∷ []) (sequence
+    (item (scalar (120 ∷ []) 2) (item (scalar (121 ∷ []) 3) (no_items))) 2) (entry (98 ∷ [])
+    (scalar (105 ∷ 116 ∷ 39 ∷ 115 ∷ []) 4)
+    (entry (99 ∷ []) (scalar (113 ∷ 34 ∷ 10 ∷ []) 5) (no_entries)))) 1)
 unfolding is_utf8 chars encode
 row82 = refl
 
 -- '[a, b, ] # c\n'
-row83 : answer (91 ∷ 97 ∷ 44 ∷ 32 ∷ 98 ∷ 44 ∷ 32 ∷ 93 ∷ 32 ∷ 35 ∷ 32 ∷ 99 ∷ 10 ∷ []) ≡ Ok (sequence (item (scalar (97 ∷ []) 1) (item (scalar (98 ∷ []) 1) (no_items))) 1)
+row83 : answer (91 ∷ 97 ∷ 44 ∷ 32 ∷ 98 ∷ 44 ∷ 32 ∷ 93 ∷ 32 ∷ 35 ∷ 32 ∷ 99 ∷ 10 ∷ [])
+    ≡ Ok (sequence (item (scalar (97 ∷ []) 1) (item (scalar (98 ∷ []) 1) (no_items))) 1)
 unfolding is_utf8 chars encode
 row83 = refl
 
 -- '{<<: {<<: {}}}\n'
-row84 : answer (123 ∷ 60 ∷ 60 ∷ 58 ∷ 32 ∷ 123 ∷ 60 ∷ 60 ∷ 58 ∷ 32 ∷ 123 ∷ 125 ∷ 125 ∷ 125 ∷ 10 ∷ []) ≡ Ok (mapping (no_entries) 1)
+row84 : answer (123 ∷ 60 ∷ 60 ∷ 58 ∷ 32 ∷ 123 ∷ 60 ∷ 60 ∷ 58 ∷ 32 ∷ 123 ∷ 125 ∷ 125 ∷ 125 ∷ 10 ∷ [])
+    ≡ Ok (mapping (no_entries) 1)
 unfolding is_utf8 chars encode
 row84 = refl
 
 -- '{<<: {k: 1, j: 2}, k: 3}\n'
-row85 : answer (123 ∷ 60 ∷ 60 ∷ 58 ∷ 32 ∷ 123 ∷ 107 ∷ 58 ∷ 32 ∷ 49 ∷ 44 ∷ 32 ∷ 106 ∷ 58 ∷ 32 ∷ 50 ∷ 125 ∷ 44 ∷ 32 ∷ 107 ∷ 58 ∷ 32 ∷ 51 ∷ 125 ∷ 10 ∷ []) ≡ Ok (mapping (entry (106 ∷ []) (scalar (50 ∷ []) 1) (entry (107 ∷ []) (scalar (51 ∷ []) 1) (no_entries))) 1)
+row85 : answer (123 ∷ 60 ∷ 60 ∷ 58 ∷ 32 ∷ 123 ∷ 107 ∷ 58 ∷ 32 ∷ 49 ∷ 44 ∷ 32 ∷ 106 ∷ 58 ∷ 32 ∷ 50
+    ∷ 125 ∷ 44 ∷ 32 ∷ 107 ∷ 58 ∷ 32 ∷ 51 ∷ 125 ∷ 10 ∷ []) ≡ Ok (mapping
+    (entry (106 ∷ []) (scalar (50 ∷ []) 1) (entry (107 ∷ []) (scalar (51 ∷ []) 1) (no_entries))) 1)
 unfolding is_utf8 chars encode
 row85 = refl
 
 -- 'a: &a\n  x1: 0\n  x2: 1\nb: &b\n  x2: 2\n  x3: 3\nc:\n  x9: 9\n  <<: [*a, *b]\n  x3: 7\n'
-row86 : answer (97 ∷ 58 ∷ 32 ∷ 38 ∷ 97 ∷ 10 ∷ 32 ∷ 32 ∷ 120 ∷ 49 ∷ 58 ∷ 32 ∷ 48 ∷ 10 ∷ 32 ∷ 32 ∷ 120 ∷ 50 ∷ 58 ∷ 32 ∷ 49 ∷ 10 ∷ 98 ∷ 58 ∷ 32 ∷ 38 ∷ 98 ∷ 10 ∷ 32 ∷ 32 ∷ 120 ∷ 50 ∷ 58 ∷ 32 ∷ 50 ∷ 10 ∷ 32 ∷ 32 ∷ 120 ∷ 51 ∷ 58 ∷ 32 ∷ 51 ∷ 10 ∷ 99 ∷ 58 ∷ 10 ∷ 32 ∷ 32 ∷ 120 ∷ 57 ∷ 58 ∷ 32 ∷ 57 ∷ 10 ∷ 32 ∷ 32 ∷ 60 ∷ 60 ∷ 58 ∷ 32 ∷ 91 ∷ 42 ∷ 97 ∷ 44 ∷ 32 ∷ 42 ∷ 98 ∷ 93 ∷ 10 ∷ 32 ∷ 32 ∷ 120 ∷ 51 ∷ 58 ∷ 32 ∷ 55 ∷ 10 ∷ []) ≡ Ok (mapping (entry (97 ∷ []) (mapping (entry (120 ∷ 49 ∷ []) (scalar (48 ∷ []) 2) (entry (120 ∷ 50 ∷ []) (scalar (49 ∷ []) 3) (no_entries))) 2) (entry (98 ∷ []) (mapping (entry (120 ∷ 50 ∷ []) (scalar (50 ∷ []) 5) (entry (120 ∷ 51 ∷ []) (scalar (51 ∷ []) 6) (no_entries))) 5) (entry (99 ∷ []) (mapping (entry (120 ∷ 57 ∷ []) (scalar (57 ∷ []) 8) (entry (120 ∷ 49 ∷ []) (scalar (48 ∷ []) 2) (entry (120 ∷ 50 ∷ []) (scalar (49 ∷ []) 3) (entry (120 ∷ 51 ∷ []) (scalar (55 ∷ []) 10) (no_entries))))) 8) (no_entries)))) 1)
+row86 : answer (97 ∷ 58 ∷ 32 ∷ 38 ∷ 97 ∷ 10 ∷ 32 ∷ 32 ∷ 120 ∷ 49 ∷ 58 ∷ 32 ∷ 48 ∷ 10 ∷ 32 ∷ 32 ∷ 120
+    ∷ 50 ∷ 58 ∷ 32 ∷ 49 ∷ 10 ∷ 98 ∷ 58 ∷ 32 ∷ 38 ∷ 98 ∷ 10 ∷ 32 ∷ 32 ∷ 120 ∷ 50 ∷ 58 ∷ 32 ∷ 50 ∷ 10
+    ∷ 32 ∷ 32 ∷ 120 ∷ 51 ∷ 58 ∷ 32 ∷ 51 ∷ 10 ∷ 99 ∷ 58 ∷ 10 ∷ 32 ∷ 32 ∷ 120 ∷ 57 ∷ 58 ∷ 32 ∷ 57 ∷ 10
+    ∷ 32 ∷ 32 ∷ 60 ∷ 60 ∷ 58 ∷ 32 ∷ 91 ∷ 42 ∷ 97 ∷ 44 ∷ 32 ∷ 42 ∷ 98 ∷ 93 ∷ 10 ∷ 32 ∷ 32 ∷ 120 ∷ 51
+    ∷ 58 ∷ 32 ∷ 55 ∷ 10 ∷ []) ≡ Ok (mapping (entry (97 ∷ []) (mapping (entry (120 ∷ 49 ∷ []) (scalar
+    (48 ∷ []) 2) (entry (120 ∷ 50 ∷ []) (scalar (49 ∷ []) 3) (no_entries))) 2) (entry (98 ∷ [])
+    (mapping (entry (120 ∷ 50 ∷ []) (scalar (50 ∷ []) 5) (entry (120 ∷ 51 ∷ []) (scalar (51 ∷ []) 6)
+    (no_entries))) 5) (entry (99 ∷ []) (mapping (entry (120 ∷ 57 ∷ []) (scalar (57 ∷ []) 8) (entry
+    (120 ∷ 49 ∷ []) (scalar (48 ∷ []) 2) (entry (120 ∷ 50 ∷ []) (scalar (49 ∷ []) 3)
+    (entry (120 ∷ 51 ∷ []) (scalar (55 ∷ []) 10) (no_entries))))) 8) (no_entries)))) 1)
 unfolding is_utf8 chars encode
 row86 = refl

@@ -2,62 +2,92 @@
 use Rattle.std.proofs.Common.{◌≡◌, ℕ, false, List, [], ◌∷◌, ◌++◌, Ok, refl, sym, ap, ◌∙◌}
 use Rattle.rvs_yaml.specs.Checks.{Checked, ◌>>=◌}
 use Rattle.rvs_tree.specs.Value.{Value}
-use Rattle.rvs_yaml_text.specs.Word.{Content, Shape, dash, key, leaf, refused, Word, Head, head_of, is_below}
+use Rattle.rvs_yaml_text.specs.Word.{Content, Shape, dash, key, leaf, refused, Word, Head, head_of}
+use Rattle.rvs_yaml_text.specs.Word.{is_below}
 use Rattle.rvs_yaml.specs.Anchors.{Anchors}
 use Rattle.rvs_yaml.specs.Block.{Found, own_value, content_value}
-use Rattle.rvs_yaml.specs.Stack.{Done, Open, begun_done, known_of, begins, put, advanced_as, advanced, closed_into, settled, own_found, step}
-use Rattle.rvs_yaml.specs.StepParts.{Block, own_content, put_content, advanced_content, opened, own_of, bare}
+use Rattle.rvs_yaml.specs.Stack.{Done, Open, begun_done, known_of, begins, put, advanced_as}
+use Rattle.rvs_yaml.specs.Stack.{advanced, closed_into, settled, own_found, step}
+use Rattle.rvs_yaml.specs.StepParts.{Block, own_content, put_content, advanced_content, opened}
+use Rattle.rvs_yaml.specs.StepParts.{own_of, bare}
 use Rattle.rvs_yaml.proofs.Outlined.{bind_assoc, bind_same}
 
-own-content : (known : Anchors) (line : ℕ) (s : Shape) → content_value known line (own_content s) ≡ own_value known line s
+own-content : (known : Anchors) (line : ℕ) (s : Shape)
+    → content_value known line (own_content s) ≡ own_value known line s
 own-content known line (dash a) = refl
 own-content known line (key k a content) = refl
 own-content known line (leaf content) = refl
 own-content known line (refused kind) = refl
 
 abbrev pub block_with : ℕ → ℕ → Done → Anchors → Block
-block_with line column done anchors = record { line = line; column = column; done = done; anchors = anchors }
+block_with line column done anchors =
+    record { line = line; column = column; done = done; anchors = anchors }
 
-put-own : (b : Block) (bs : List Open) (w : Word) → put_content b bs (head_of w) (own_content w.shape) ≡ put b.line b.column b.done b.anchors bs w
-put-own b bs w = ap (λ m. m >>= λ own. Ok (record { line = b.line; column = b.column; done = b.done; anchors = b.anchors; head = head_of w; own = own } ∷ bs)) (own-content (b.anchors ++ known_of bs) w.line w.shape)
+put-own : (b : Block) (bs : List Open) (w : Word)
+    → put_content b bs (head_of w) (own_content w.shape) ≡ put b.line b.column b.done b.anchors bs w
+put-own b bs w = ap (λ m. m >>= λ own. Ok (record {
+  line = b.line;
+  column = b.column;
+  done = b.done;
+  anchors = b.anchors;
+  head = head_of w;
+  own = own;
+} ∷ bs)) (own-content (b.anchors ++ known_of bs) w.line w.shape)
 
-pub begins-put : (bs : List Open) (w : Word) (h : Head) (p : Done × Content) → h ≡ head_of w → p ≡ (begun_done w.shape, own_content w.shape) → put_content (block_with h.line h.column p.0 []) bs h p.1 ≡ begins bs w
+pub begins-put : (bs : List Open) (w : Word) (h : Head) (p : Done × Content) → h ≡ head_of w
+    → p ≡ (begun_done w.shape, own_content w.shape)
+    → put_content (block_with h.line h.column p.0 []) bs h p.1 ≡ begins bs w
 begins-put bs w h p e q =
     ap (λ k. put_content (block_with k.line k.column p.0 []) bs k p.1) e
     ∙ ap (λ r. put_content (block_with w.line w.column r.0 []) bs (head_of w) r.1) q
     ∙ put-own (block_with w.line w.column (begun_done w.shape) []) bs w
 
 -- the block goes on with a word whose parts are p
-pub advanced-put : (b : Block) (g : Found Value) (bs : List Open) (w : Word) (h : Head) (anchors : Anchors) → h ≡ head_of w → anchors ≡ g.anchors ++ b.anchors →
-    (advanced_content b.done b.column g.value w >>= λ p. put_content (block_with b.line b.column p.0 anchors) bs h p.1) ≡ advanced (bare b) g bs w
+pub advanced-put : (b : Block) (g : Found Value) (bs : List Open) (w : Word) (h : Head)
+    (anchors : Anchors) → h ≡ head_of w → anchors ≡ g.anchors ++ b.anchors →
+    (advanced_content b.done b.column g.value w
+    >>= λ p. put_content (block_with b.line b.column p.0 anchors) bs h p.1) ≡ advanced (bare b)
+    g bs w
 advanced-put b g bs w h anchors e a =
     bind_assoc (advanced_as b.done b.column g.value w) _ _
     ∙ bind_same (advanced_as b.done b.column g.value w) _ _ (λ d.
     ap (λ k. put_content (block_with b.line b.column d anchors) bs k (own_content w.shape)) e
-    ∙ ap (λ xs. put_content (block_with b.line b.column d xs) bs (head_of w) (own_content w.shape)) a
+    ∙ ap (λ xs. put_content (block_with b.line b.column d xs) bs (head_of w) (own_content w.shape))
+    a
     ∙ put-own (block_with b.line b.column d (g.anchors ++ b.anchors)) bs w)
 
 -- what the next steps are, once the parts are there
-pub then-parts : {A B : Type 0} (m : Checked A) (p : A) (f : A → Checked B) (t : Checked B) → (m >>= f) ≡ t → m ≡ Ok p → f p ≡ t
+pub then-parts : {A B : Type 0} (m : Checked A) (p : A) (f : A → Checked B) (t : Checked B)
+    → (m >>= f) ≡ t → m ≡ Ok p → f p ≡ t
 then-parts m p f t e is = sym (ap (λ n. n >>= f) is) ∙ e
 
 -- of the block on top only what it has so far counts
-pub settled-bare : (g : Found Value) (b : Block) (h : Head) (own : Value) (bs : List Open) (w : Word) → settled g (opened b h own) bs w ≡ settled g (bare b) bs w
+pub settled-bare : (g : Found Value) (b : Block) (h : Head) (own : Value) (bs : List Open)
+    (w : Word) → settled g (opened b h own) bs w ≡ settled g (bare b) bs w
 settled-bare g b h own [] w = refl
 settled-bare g b h own (o ∷ bs) w = refl
 
-pub settled-over : (g : Found Value) (b o : Open) (bs : List Open) (w : Word) → is_below o.head w ≡ false → settled g b (o ∷ bs) w ≡ (closed_into b g o.head.anchor >>= λ h. settled h o bs w)
+pub settled-over : (g : Found Value) (b o : Open) (bs : List Open) (w : Word)
+    → is_below o.head w ≡ false
+    → settled g b (o ∷ bs) w ≡ (closed_into b g o.head.anchor >>= λ h. settled h o bs w)
 settled-over g b o bs w e = rw e refl
 
 -- a block that the word isn't in is closed
-pub settled-next : (g h : Found Value) (b : Open) (around : Block) (hd : Head) (own : Value) (bs : List Open) (w : Word) → is_below hd w ≡ false → closed_into b g hd.anchor ≡ Ok h →
+pub settled-next : (g h : Found Value) (b : Open) (around : Block) (hd : Head) (own : Value)
+    (bs : List Open) (w : Word) → is_below hd w ≡ false → closed_into b g hd.anchor ≡ Ok h →
     settled g b (opened around hd own ∷ bs) w ≡ settled h (bare around) bs w
 settled-next g h b around hd own bs w e c =
-    settled-over g b (opened around hd own) bs w e ∙ ap (λ m. m >>= λ k. settled k (opened around hd own) bs w) c ∙ settled-bare h around hd own bs w
+    settled-over g b (opened around hd own) bs w e
+    ∙ ap (λ m. m >>= λ k. settled k (opened around hd own) bs w) c
+    ∙ settled-bare h around hd own bs w
 
-step-over : (b : Open) (bs : List Open) (w : Word) → is_below b.head w ≡ false → step (b ∷ bs) w ≡ settled (own_found b) b bs w
+step-over : (b : Open) (bs : List Open) (w : Word) → is_below b.head w ≡ false
+    → step (b ∷ bs) w ≡ settled (own_found b) b bs w
 step-over b bs w e = rw e refl
 
-pub step-settled : (g : Found Value) (b : Block) (h : Head) (own : Value) (bs : List Open) (w : Word) → is_below h w ≡ false → g ≡ own_of h own → settled g (bare b) bs w ≡ step (opened b h own ∷ bs) w
+pub step-settled : (g : Found Value) (b : Block) (h : Head) (own : Value) (bs : List Open)
+    (w : Word) → is_below h w ≡ false → g ≡ own_of h own → settled g (bare b) bs w ≡ step
+    (opened b h own ∷ bs) w
 step-settled g b h own bs w e is =
-    ap (λ k. settled k (bare b) bs w) is ∙ sym (settled-bare (own_of h own) b h own bs w) ∙ sym (step-over (opened b h own) bs w e)
+    ap (λ k. settled k (bare b) bs w) is ∙ sym (settled-bare (own_of h own) b h own bs w)
+    ∙ sym (step-over (opened b h own) bs w e)

@@ -1,5 +1,6 @@
 -- The words of whole lines.
-use Rattle.std.proofs.Common.{◌≡◌, ℕ, Bool, true, false, List, [], ◌∷◌, Ok, Err, refl, sym, ap, ◌∙◌, IsUtf8}
+use Rattle.std.proofs.Common.{◌≡◌, ℕ, Bool, true, false, List, [], ◌∷◌, Ok, Err, refl, sym, ap, ◌∙◌}
+use Rattle.std.proofs.Common.{IsUtf8}
 use Rattle.std.specs.Prelude.{◌==◌, ◌&&◌}
 use Rattle.std.specs.Str.{is_utf8}
 use Rattle.std.proofs.Common.{arith}
@@ -24,27 +25,43 @@ one-more (Err kind) = refl
 pub steps-one : (bs : List Open) (w : Word) → step bs w ≡ steps bs (w ∷ [])
 steps-one bs w = one-more (step bs w)
 
-pub steps-next : (bs after : List Open) (w : Word) (ws : List Word) → step bs w ≡ Ok after → steps after ws ≡ steps bs (w ∷ ws)
+pub steps-next : (bs after : List Open) (w : Word) (ws : List Word) → step bs w ≡ Ok after
+    → steps after ws ≡ steps bs (w ∷ ws)
 steps-next bs after w ws e = sym (ap (λ m. m >>= λ cs. steps cs ws) e)
 
 pub not_text : (bytes : List ℕ) → (IsUtf8 bytes → ⊥) → is_utf8 bytes ≡ false
 not_text bytes h =
-    elim (is_utf8 bytes) as (λ t. is_utf8 bytes ≡ t → t ≡ false) [ true ↦ λ e. absurd (h (IsUtf8-from_is_utf8 bytes e)) | false ↦ λ e. refl ] refl
+    elim (is_utf8 bytes) as (λ t. is_utf8 bytes ≡ t → t ≡ false) [
+      | true ↦ λ e. absurd (h (IsUtf8-from_is_utf8 bytes e))
+      | false ↦ λ e. refl
+    ] refl
 
-pub line-bad : (line : ℕ) (started : Bool) (bytes : List ℕ) → (IsUtf8 bytes → ⊥) → line_words line started bytes ≡ word_at line 0 (refused NotUtf8) ∷ []
+pub line-bad : (line : ℕ) (started : Bool) (bytes : List ℕ) → (IsUtf8 bytes → ⊥)
+    → line_words line started bytes ≡ word_at line 0 (refused NotUtf8) ∷ []
 line-bad line started bytes h = rw (not_text bytes h, line_words) refl
 
-pub line-again : (line : ℕ) (started : Bool) (bytes : List ℕ) → IsUtf8 bytes → is_mark 45 bytes ≡ true → started ≡ true → line_words line started bytes ≡ word_at line 0 (refused Unsupported) ∷ []
-line-again line started bytes t m s = rw (is_utf8-from_IsUtf8 bytes t, line_words) (rw (m, line_words) (rw s refl))
+pub line-again : (line : ℕ) (started : Bool) (bytes : List ℕ) → IsUtf8 bytes
+    → is_mark 45 bytes ≡ true → started ≡ true
+    → line_words line started bytes ≡ word_at line 0 (refused Unsupported) ∷ []
+line-again line started bytes t m s =
+    rw (is_utf8-from_IsUtf8 bytes t, line_words) (rw (m, line_words) (rw s refl))
 
-pub line-start : (line : ℕ) (started : Bool) (bytes : List ℕ) → IsUtf8 bytes → is_mark 45 bytes ≡ true → started ≡ false → line_words line started bytes ≡ []
-line-start line started bytes t m s = rw (is_utf8-from_IsUtf8 bytes t, line_words) (rw (m, line_words) (rw s refl))
+pub line-start : (line : ℕ) (started : Bool) (bytes : List ℕ) → IsUtf8 bytes
+    → is_mark 45 bytes ≡ true → started ≡ false → line_words line started bytes ≡ []
+line-start line started bytes t m s =
+    rw (is_utf8-from_IsUtf8 bytes t, line_words) (rw (m, line_words) (rw s refl))
 
-pub line-dots : (line : ℕ) (started : Bool) (bytes : List ℕ) → IsUtf8 bytes → is_mark 45 bytes ≡ false → is_mark 46 bytes ≡ true → line_words line started bytes ≡ word_at line 0 (refused Unsupported) ∷ []
-line-dots line started bytes t m d = rw (is_utf8-from_IsUtf8 bytes t, line_words) (rw (m, line_words) (rw (d, line_words) refl))
+pub line-dots : (line : ℕ) (started : Bool) (bytes : List ℕ) → IsUtf8 bytes
+    → is_mark 45 bytes ≡ false → is_mark 46 bytes ≡ true
+    → line_words line started bytes ≡ word_at line 0 (refused Unsupported) ∷ []
+line-dots line started bytes t m d =
+    rw (is_utf8-from_IsUtf8 bytes t, line_words) (rw (m, line_words) (rw (d, line_words) refl))
 
-pub line-plain : (line : ℕ) (started : Bool) (bytes : List ℕ) → IsUtf8 bytes → is_mark 45 bytes ≡ false → is_mark 46 bytes ≡ false → line_words line started bytes ≡ words_at line false 0 bytes
-line-plain line started bytes t m d = rw (is_utf8-from_IsUtf8 bytes t, line_words) (rw (m, line_words) (rw (d, line_words) refl))
+pub line-plain : (line : ℕ) (started : Bool) (bytes : List ℕ) → IsUtf8 bytes
+    → is_mark 45 bytes ≡ false → is_mark 46 bytes ≡ false
+    → line_words line started bytes ≡ words_at line false 0 bytes
+line-plain line started bytes t m d =
+    rw (is_utf8-from_IsUtf8 bytes t, line_words) (rw (m, line_words) (rw (d, line_words) refl))
 
 not_mark : (m b : ℕ) (bs : List ℕ) → (b == m) ≡ false → is_mark m (b ∷ bs) ≡ false
 not_mark m b bs e = rw e refl
@@ -56,29 +73,43 @@ dots_not_blank b bs e =
     let t : (b == 9) ≡ false = grind (arith, nat_tests) in
     rw (k, is_blank) (rw (s, is_blank) (rw (t, is_blank) refl))
 
-never : (m b : ℕ) (bs : List ℕ) → ((b == m) ≡ true → is_blank true (b ∷ bs) ≡ false) → is_blank true (b ∷ bs) ≡ true → (b == m) ≡ false
-never m b bs f h = elim (b == m) as (λ t. (b == m) ≡ t → t ≡ false) [ true ↦ λ e. let bad : false ≡ true = sym (f e) ∙ h in cc | false ↦ λ e. refl ] refl
+never : (m b : ℕ) (bs : List ℕ) → ((b == m) ≡ true → is_blank true (b ∷ bs) ≡ false)
+    → is_blank true (b ∷ bs) ≡ true → (b == m) ≡ false
+never m b bs f h = elim (b == m) as (λ t. (b == m) ≡ t → t ≡ false) [
+  | true ↦ λ e. let bad : false ≡ true = sym (f e) ∙ h in cc
+  | false ↦ λ e. refl
+] refl
 
-blank_no_mark : (m : ℕ) (bytes : List ℕ) → ((b : ℕ) (bs : List ℕ) → (b == m) ≡ true → is_blank true (b ∷ bs) ≡ false) → is_blank true bytes ≡ true → is_mark m bytes ≡ false
+blank_no_mark : (m : ℕ) (bytes : List ℕ)
+    → ((b : ℕ) (bs : List ℕ) → (b == m) ≡ true → is_blank true (b ∷ bs) ≡ false)
+    → is_blank true bytes ≡ true → is_mark m bytes ≡ false
 blank_no_mark m [] f h = refl
 blank_no_mark m (b ∷ bs) f h = not_mark m b bs (never m b bs (f b bs) h)
 
 -- a blank line has no words
-pub line-blank : (line : ℕ) (started : Bool) (bytes : List ℕ) → is_utf8 bytes ≡ true → is_blank true bytes ≡ true → line_words line started bytes ≡ []
+pub line-blank : (line : ℕ) (started : Bool) (bytes : List ℕ) → is_utf8 bytes ≡ true
+    → is_blank true bytes ≡ true → line_words line started bytes ≡ []
 line-blank line started bytes t h =
-    line-plain line started bytes (IsUtf8-from_is_utf8 bytes t) (blank_no_mark 45 bytes dash_not_blank h) (blank_no_mark 46 bytes dots_not_blank h)
+    line-plain line started bytes (IsUtf8-from_is_utf8 bytes t)
+    (blank_no_mark 45 bytes dash_not_blank h) (blank_no_mark 46 bytes dots_not_blank h)
     ∙ words-blank line 0 bytes h
 
 -- a line without words changes nothing
-pub checked-nothing : (bs after : List Open) (line : ℕ) (started : Bool) (bytes : List ℕ) → line_words line started bytes ≡ [] → checked_front bs ≡ Ok tt → steps bs (line_words line started bytes) ≡ Ok after → checked_line bs line started bytes ≡ Ok after
+pub checked-nothing : (bs after : List Open) (line : ℕ) (started : Bool) (bytes : List ℕ)
+    → line_words line started bytes ≡ [] → checked_front bs ≡ Ok tt
+    → steps bs (line_words line started bytes) ≡ Ok after
+    → checked_line bs line started bytes ≡ Ok after
 checked-nothing bs after line started bytes none kept e =
-    ap (λ ws. steps bs ws >>= λ cs. checked_front cs >> Ok cs) none ∙ ap (λ m. m >> Ok bs) kept ∙ sym (ap (steps bs) none) ∙ e
+    ap (λ ws. steps bs ws >>= λ cs. checked_front cs >> Ok cs) none ∙ ap (λ m. m >> Ok bs) kept
+    ∙ sym (ap (steps bs) none) ∙ e
 
 pub both_true : (x y : Bool) → (x && y) ≡ true → (x ≡ true) × (y ≡ true)
 both_true true y h = (refl, h)
 both_true false y h = cc
 
 -- a word alone, from what it is without its flow collection
-pub word-parts : (bs : List Open) (w u : Word) (f : Flow) (ws : List Word) → ws ≡ w ∷ [] → u ≡ hollow w → f ≡ flow_of w.shape → (step bs u >>= filled f) ≡ steps bs ws
+pub word-parts : (bs : List Open) (w u : Word) (f : Flow) (ws : List Word) → ws ≡ w ∷ []
+    → u ≡ hollow w → f ≡ flow_of w.shape → (step bs u >>= filled f) ≡ steps bs ws
 word-parts bs w u f ws e h k =
-    ap (λ x. step bs x >>= filled f) h ∙ ap (λ g. step bs (hollow w) >>= filled g) k ∙ sym (step-hollow bs w) ∙ steps-one bs w ∙ sym (ap (steps bs) e)
+    ap (λ x. step bs x >>= filled f) h ∙ ap (λ g. step bs (hollow w) >>= filled g) k
+    ∙ sym (step-hollow bs w) ∙ steps-one bs w ∙ sym (ap (steps bs) e)

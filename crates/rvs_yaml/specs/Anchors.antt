@@ -1,5 +1,6 @@
 -- The values that anchors name.
-use Rattle.std.specs.Prelude.{ℕ, Bool, true, false, map, if◌then◌else◌, List, [], ◌∷◌, Option, Some, None, Ok, Err, bytes_eq}
+use Rattle.std.specs.Prelude.{ℕ, Bool, true, false, map, if◌then◌else◌, List, [], ◌∷◌, Option, Some}
+use Rattle.std.specs.Prelude.{None, Ok, Err, bytes_eq}
 use Rattle.rvs_tree.specs.Value.{Value}
 use Rattle.rvs_tree.specs.Standin.{standin}
 use Rattle.rvs_yaml.specs.Checks.{Checked}

@@ -1,5 +1,7 @@
--- The answer for a text: its tree, or the first line at which the lines so far have none, with the kind of the first check that fails there.
-use Rattle.std.specs.Prelude.{◌≡◌, ℕ, ◌<◌, ◌≤◌, false, nat_lt, not, List, [], ◌∷◌, ◌++◌, length, take, Result, Ok, Err}
+-- The answer for a text: its tree, or the first line at which the lines so far have none, with the
+-- kind of the first check that fails there.
+use Rattle.std.specs.Prelude.{◌≡◌, ℕ, ◌<◌, ◌≤◌, false, nat_lt, not, List, [], ◌∷◌, ◌++◌, length}
+use Rattle.std.specs.Prelude.{take, Result, Ok, Err}
 use Rattle.rvs_tree.specs.Data.{Data, depth}
 use Rattle.rvs_tree.specs.Value.{Value}
 use Rattle.rvs_yaml.specs.Checks.{Checked, ◌>>=◌, ◌>>◌, check}
@@ -28,7 +30,10 @@ at_end line (Ok d) = Ok d
 -- The lines in done have a tree: one line more, and then one more.
 abbrev pub answer_after : List (List ℕ) → List (List ℕ) → Answer
 answer_after done [] = at_end (length done) (front done)
-answer_after done (l ∷ ls) = elim (front (done ++ l ∷ [])) [ Err kind ↦ Err (length (done ++ l ∷ []), kind) | Ok d ↦ answer_after (done ++ l ∷ []) ls ]
+answer_after done (l ∷ ls) = elim (front (done ++ l ∷ [])) [
+  | Err kind ↦ Err (length (done ++ l ∷ []), kind)
+  | Ok d ↦ answer_after (done ++ l ∷ []) ls
+]
 
 abbrev pub answer : List ℕ → Answer
 answer bytes = answer_after [] (lines_of bytes)
@@ -57,11 +62,14 @@ RefusesLines lines kind line = IsFirstFault lines line kind
 
 -- the lines have a value with this tree, for which at most 500,000 nodes count
 abbrev pub KeepsNodes : List (List ℕ) → Data → Type 0
-KeepsNodes lines tree = (v : Value) × (tree_of (words_of 1 false lines) ≡ Ok v) × (v.tree ≡ tree) × (v.nodes ≤ 500000)
+KeepsNodes lines tree =
+    (v : Value) × (tree_of (words_of 1 false lines) ≡ Ok v) × (v.tree ≡ tree) × (v.nodes ≤ 500000)
 
--- Where lines have a tree, each front of them has one: a front without a tree has no longer front with one.
+-- Where lines have a tree, each front of them has one: a front without a tree has no longer front
+-- with one.
 abbrev pub FrontsHaveTrees : Type 0
-FrontsHaveTrees = (lines : List (List ℕ)) (tree : Data) → IsTreeOf lines tree → (m : ℕ) → (d : Data) × IsTreeOf (take m lines) d
+FrontsHaveTrees = (lines : List (List ℕ)) (tree : Data) → IsTreeOf lines tree → (m : ℕ)
+    → (d : Data) × IsTreeOf (take m lines) d
 
 -- A text is refused at the least front that has no tree, and has a tree where there is none.
 abbrev pub AnswersAreLeast : Type 0

@@ -1,13 +1,19 @@
 -- The tree of a list of words.
-use Rattle.std.specs.Prelude.{ℕ, Bool, true, false, not, ◌&&◌, ◌||◌, ◌==◌, if◌then◌else◌, List, [], ◌∷◌, ◌++◌, Some, None, Ok, Err}
-use Rattle.rvs_tree.specs.Value.{Value, scalar_value, list_value, map_value, Written, has_key, is_mergeable}
-use Rattle.rvs_yaml_text.specs.Word.{Key, Content, nothing, text, alias, flow, faulty, Name, Shape, dash, key, leaf, refused, Word, Head, head_of, is_below, sort_of, is_dash, opens_block}
+use Rattle.std.specs.Prelude.{ℕ, Bool, true, false, not, ◌&&◌, ◌||◌, ◌==◌, if◌then◌else◌, List, []}
+use Rattle.std.specs.Prelude.{◌∷◌, ◌++◌, Some, None, Ok, Err}
+use Rattle.rvs_tree.specs.Value.{Value, scalar_value, list_value, map_value, Written, has_key}
+use Rattle.rvs_tree.specs.Value.{is_mergeable}
+use Rattle.rvs_yaml_text.specs.Word.{Key, Content, nothing, text, alias, flow, faulty, Name, Shape}
+use Rattle.rvs_yaml_text.specs.Word.{dash, key, leaf, refused, Word, Head, head_of, is_below}
+use Rattle.rvs_yaml_text.specs.Word.{sort_of, is_dash, opens_block}
 use Rattle.rvs_yaml.specs.Anchors.{Anchors, lookup, known_alias}
 use Rattle.rvs_yaml.specs.Entry.{written}
 use Rattle.rvs_yaml.specs.Flow.{flow_value}
 use Rattle.rvs_yaml.specs.Checks.{Checked, ◌>>=◌, ◌>>◌, check}
 use Rattle.rvs_yaml_text.specs.declared.kind.YamlKind.{YamlKind}
-use Rattle.rvs_yaml_text.specs.declared.kind.YamlKind.TheVariants.{BadIndent, BadScalar, DuplicateKey, Unsupported, BadMerge}
+use Rattle.rvs_yaml_text.specs.declared.kind.YamlKind.TheVariants.{BadIndent, BadScalar}
+use Rattle.rvs_yaml_text.specs.declared.kind.YamlKind.TheVariants.{DuplicateKey, Unsupported}
+use Rattle.rvs_yaml_text.specs.declared.kind.YamlKind.TheVariants.{BadMerge}
 
 -- A word, the words below it, and the words after those.
 pub data Outline : Type 0 where
@@ -46,7 +52,8 @@ named (Some name) g = found g.value (g.anchors ++ (name, g.value) ∷ [])
 
 -- the value of an alias, behind which at most a comment may stand
 abbrev pub alias_value : Anchors → List ℕ → Bool → Checked Value
-alias_value known name ended = known_alias (lookup name known) >>= λ v. check ended BadScalar >> Ok v
+alias_value known name ended =
+    known_alias (lookup name known) >>= λ v. check ended BadScalar >> Ok v
 
 abbrev pub content_value : Anchors → ℕ → Content → Checked Value
 content_value known line nothing = Ok (scalar_value [] line)
@@ -69,7 +76,8 @@ value_over own h inner block =
     else check (is_end inner) Unsupported >> Ok (named h.anchor (found own []))
 
 abbrev pub value_of : Anchors → Word → Outline → Checked (Found Value) → Checked (Found Value)
-value_of known w inner block = own_value known w.line w.shape >>= λ own. value_over own (head_of w) inner block
+value_of known w inner block =
+    own_value known w.line w.shape >>= λ own. value_over own (head_of w) inner block
 
 -- the word has no place
 abbrev pub no_place : Shape → YamlKind
@@ -99,15 +107,19 @@ spelled k = if k.merges then [] else k.name ∷ []
 abbrev pub check_merge : Key → Value → Checked (Unit {0})
 check_merge k v = check (not k.merges || is_mergeable v.tree) BadMerge
 
--- The tree of a block. The first word says whether it is a list, a map or a leaf. No word is an empty scalar.
+-- The tree of a block. The first word says whether it is a list, a map or a leaf. No word is an
+-- empty scalar.
 abbrev mutual
   pub block : Anchors → ℕ → Outline → Checked (Found Value)
   block known line end = Ok (found (scalar_value [] line) [])
   block known line (below w inner rest) = do
     first ← value_of known w inner (block known w.line inner)
     elim w.shape [
-      | dash a ↦ items (first.anchors ++ known) w.column rest >>= λ m. Ok (found (list_value w.line (first.value ∷ m.value)) (m.anchors ++ first.anchors))
-      | key k a content ↦ check_merge k first.value >> (entries (first.anchors ++ known) w.column (spelled k) rest >>= λ m. Ok (found (map_value w.line (written k first.value ∷ m.value)) (m.anchors ++ first.anchors)))
+      | dash a ↦ items (first.anchors ++ known) w.column rest >>= λ m. Ok
+          (found (list_value w.line (first.value ∷ m.value)) (m.anchors ++ first.anchors))
+      | key k a content ↦ check_merge k first.value >> (entries (first.anchors ++ known) w.column
+          (spelled k) rest >>= λ m. Ok
+          (found (map_value w.line (written k first.value ∷ m.value)) (m.anchors ++ first.anchors)))
       | _ ↦ only_leaf rest >> Ok first
     ]
 

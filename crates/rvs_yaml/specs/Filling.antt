@@ -33,10 +33,18 @@ abbrev pub hollow : Word → Word
 hollow w = record { line = w.line; column = w.column; shape = hollow_shape w.shape }
 
 abbrev pub with_own : Open → Value → Open
-with_own b own = record { line = b.line; column = b.column; done = b.done; anchors = b.anchors; head = b.head; own = own }
+with_own b own = record {
+  line = b.line;
+  column = b.column;
+  done = b.done;
+  anchors = b.anchors;
+  head = b.head;
+  own = own;
+}
 
 -- the value of a flow collection, as that of the last word of the block on top
 abbrev pub filled : Flow → List Open → Checked (List Open)
 filled None bs = Ok bs
 filled (Some f) [] = Ok []
-filled (Some f) (b ∷ bs) = flow_value (b.anchors ++ known_of bs) b.head.line f.0 f.1 >>= λ own. Ok (with_own b own ∷ bs)
+filled (Some f) (b ∷ bs) =
+    flow_value (b.anchors ++ known_of bs) b.head.line f.0 f.1 >>= λ own. Ok (with_own b own ∷ bs)

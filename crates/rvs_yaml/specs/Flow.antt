@@ -1,20 +1,26 @@
 -- Flow collections: `[a, b]` and `{k: v}`, nested.
-use Rattle.std.specs.Prelude.{ℕ, Bool, true, false, not, ◌&&◌, ◌||◌, ◌==◌, if◌then◌else◌, List, [], ◌∷◌, ◌++◌, Option, Some, None, Ok, Err}
+use Rattle.std.specs.Prelude.{ℕ, Bool, true, false, not, ◌&&◌, ◌||◌, ◌==◌, if◌then◌else◌, List, []}
+use Rattle.std.specs.Prelude.{◌∷◌, ◌++◌, Option, Some, None, Ok, Err}
 use Rattle.rvs_yaml_text.specs.Bytes.{comma_byte, close_square_byte, close_curly_byte}
-use Rattle.rvs_tree.specs.Value.{Value, scalar_value, list_value, map_value, Written, has_key, explicit_keys, is_mergeable}
+use Rattle.rvs_tree.specs.Value.{Value, scalar_value, list_value, map_value, Written, has_key}
+use Rattle.rvs_tree.specs.Value.{explicit_keys, is_mergeable}
 use Rattle.rvs_yaml.specs.Checks.{Checked, ◌>>=◌, ◌>>◌, check}
-use Rattle.rvs_yaml_text.specs.Word.{Key, Bracket, square, curly, Token, opening, closing, comma, colon, scalar_token, key_token, cut_key, colon_scalar, alias_token, late_colon, fault}
+use Rattle.rvs_yaml_text.specs.Word.{Key, Bracket, square, curly, Token, opening, closing, comma}
+use Rattle.rvs_yaml_text.specs.Word.{colon, scalar_token, key_token, cut_key, colon_scalar}
+use Rattle.rvs_yaml_text.specs.Word.{alias_token, late_colon, fault}
 use Rattle.rvs_yaml.specs.Anchors.{Anchors, lookup, known_alias}
 use Rattle.rvs_yaml.specs.Entry.{written}
 use Rattle.rvs_yaml_text.specs.declared.kind.YamlKind.{YamlKind}
-use Rattle.rvs_yaml_text.specs.declared.kind.YamlKind.TheVariants.{BadFlow, BadScalar, DuplicateKey, Unsupported, BadMerge}
+use Rattle.rvs_yaml_text.specs.declared.kind.YamlKind.TheVariants.{BadFlow, BadScalar, DuplicateKey}
+use Rattle.rvs_yaml_text.specs.declared.kind.YamlKind.TheVariants.{Unsupported, BadMerge}
 
 abbrev pub same_bracket : Bracket → Bracket → Bool
 same_bracket square square = true
 same_bracket curly curly = true
 same_bracket _ _ = false
 
--- Tokens with the tokens between two brackets put together. The token that ends them is there, if there is one.
+-- Tokens with the tokens between two brackets put together. The token that ends them is there, if
+-- there is one.
 pub data Nest : Type 0 where
   none : Nest
   one : Token → Nest → Nest
@@ -84,18 +90,23 @@ with_cut_key (member vs) k = Err BadScalar
 with_cut_key (entry_value ws l) k = Err BadScalar
 with_cut_key _ k = Err BadFlow
 
--- a plain scalar that ends in a colon comes next: bad, unless the bracket or comma behind it is worse
+-- a plain scalar that ends in a colon comes next: bad, unless the bracket or comma behind it is
+-- worse
 abbrev pub with_colon_scalar : Place → ℕ → Checked Place
-with_colon_scalar (member vs) b = Err (if b == comma_byte || b == close_square_byte then BadScalar else BadFlow)
-with_colon_scalar (entry_value ws k) b = Err (if b == comma_byte || b == close_curly_byte then BadScalar else BadFlow)
+with_colon_scalar (member vs) b =
+    Err (if b == comma_byte || b == close_square_byte then BadScalar else BadFlow)
+with_colon_scalar (entry_value ws k) b =
+    Err (if b == comma_byte || b == close_curly_byte then BadScalar else BadFlow)
 with_colon_scalar _ b = Err BadFlow
 
 -- an alias comes next; it is no key
 abbrev pub with_alias : Anchors → Place → List ℕ → Checked Place
 with_alias known (member vs) [] = Err BadFlow
 with_alias known (entry_value ws k) [] = Err BadFlow
-with_alias known (member vs) name = known_alias (lookup name known) >>= λ v. Ok (behind_member (vs ++ v ∷ []))
-with_alias known (entry_value ws k) name = known_alias (lookup name known) >>= λ v. Ok (behind_entry (ws ++ written k v ∷ []))
+with_alias known (member vs) name =
+    known_alias (lookup name known) >>= λ v. Ok (behind_member (vs ++ v ∷ []))
+with_alias known (entry_value ws k) name =
+    known_alias (lookup name known) >>= λ v. Ok (behind_entry (ws ++ written k v ∷ []))
 with_alias known (key_place ws) name = Err BadScalar
 with_alias known _ name = Err BadFlow
 
@@ -150,10 +161,12 @@ abbrev pub fits : Place → Bool
 fits (behind_entry ws) = last_fits ws
 fits _ = true
 
--- A collection from this place on, up to its end, and whether all that it merges so far can be merged.
+-- A collection from this place on, up to its end, and whether all that it merges so far can be
+-- merged.
 abbrev pub collection : Anchors → ℕ → Bool → Place → Nest → Checked (Value × Bool)
 collection known line good place none = closes line place >>= λ v. Ok (v, good)
-collection known line good place (one m rest) = with_token known line place m >>= λ next. collection known line (good && fits next) next rest
+collection known line good place (one m rest) =
+    with_token known line place m >>= λ next. collection known line (good && fits next) next rest
 collection known line good place (group b inner end rest) = do
   may_open place
   v ← collection known line good (first_place b) inner
@@ -167,7 +180,8 @@ only_end none = Ok tt
 only_end (one late_colon rest) = Err Unsupported
 only_end _ = Err BadFlow
 
--- The value of a flow collection that stands by itself, from the tokens behind its first bracket. Its merges are looked at when its text is read.
+-- The value of a flow collection that stands by itself, from the tokens behind its first bracket.
+-- Its merges are looked at when its text is read.
 abbrev pub whole_value : Anchors → ℕ → Bracket → Nest → Checked (Value × Bool)
 whole_value known line b n = do
   v ← collection known line true (first_place b) (inside n)

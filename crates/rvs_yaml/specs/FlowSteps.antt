@@ -5,7 +5,8 @@ use Rattle.rvs_tree.specs.Standin.{standin}
 use Rattle.rvs_yaml.specs.Checks.{Checked, ◌>>=◌, ◌>>◌}
 use Rattle.rvs_yaml_text.specs.Word.{Bracket, Token, opening, closing, late_colon}
 use Rattle.rvs_yaml.specs.Anchors.{Anchors}
-use Rattle.rvs_yaml.specs.Flow.{Place, first_place, with_value, with_token, may_open, closes, ends_with, fits}
+use Rattle.rvs_yaml.specs.Flow.{Place, first_place, with_value, with_token, may_open, closes}
+use Rattle.rvs_yaml.specs.Flow.{ends_with, fits}
 use Rattle.rvs_yaml_text.specs.declared.kind.YamlKind.TheVariants.{BadFlow, Unsupported}
 
 pub data Reading : Type 0 where
@@ -25,15 +26,19 @@ abbrev pub moved : Bool → Bracket → List (Bracket × Place) → Checked Plac
 moved good b outer place = place >>= λ next. Ok (open_in (good && fits next) b next outer)
 
 abbrev pub flow_step : Bool → Anchors → ℕ → Reading → Token → Checked Reading
-flow_step poor known line (open_in good b place outer) (opening c) = may_open place >> Ok (open_in good c (first_place c) ((b, place) ∷ outer))
-flow_step poor known line (open_in good b place outer) (closing c) = closed_by poor line place >>= λ v. ends_with b (Some c) >> into (v, good) outer
-flow_step poor known line (open_in good b place outer) m = moved good b outer (with_token known line place m)
+flow_step poor known line (open_in good b place outer) (opening c) =
+    may_open place >> Ok (open_in good c (first_place c) ((b, place) ∷ outer))
+flow_step poor known line (open_in good b place outer) (closing c) =
+    closed_by poor line place >>= λ v. ends_with b (Some c) >> into (v, good) outer
+flow_step poor known line (open_in good b place outer) m =
+    moved good b outer (with_token known line place m)
 flow_step poor known line (whole v) late_colon = Err Unsupported
 flow_step poor known line (whole v) m = Err BadFlow
 
 abbrev pub flow_steps : Bool → Anchors → ℕ → Reading → List Token → Checked Reading
 flow_steps poor known line r [] = Ok r
-flow_steps poor known line r (m ∷ ms) = flow_step poor known line r m >>= λ s. flow_steps poor known line s ms
+flow_steps poor known line r (m ∷ ms) =
+    flow_step poor known line r m >>= λ s. flow_steps poor known line s ms
 
 abbrev pub flow_end : Reading → Checked (Value × Bool)
 flow_end (whole v) = Ok v

@@ -7,7 +7,8 @@ use Rattle.rvs_tree.specs.ValueView.{value_view, values_view, entries_view}
 use Rattle.rvs_yaml_text.specs.KeyView.{key_view}
 use Rattle.rvs_yaml_text.specs.WordView.{bracket_view}
 use Rattle.rvs_yaml.specs.declared.reading.Place.{Place}
-use Rattle.rvs_yaml.specs.declared.reading.Place.TheVariants.{Member, BehindMember, KeyPlace, EntryValue, BehindEntry}
+use Rattle.rvs_yaml.specs.declared.reading.Place.TheVariants.{Member, BehindMember, KeyPlace}
+use Rattle.rvs_yaml.specs.declared.reading.Place.TheVariants.{EntryValue, BehindEntry}
 use Rattle.rvs_yaml.specs.declared.reading.Level.{Level}
 use Rattle.rvs_yaml.specs.TokenParts as token_spec
 use Rattle.rvs_yaml.specs.declared.reading.Flowing.{Flowing}
@@ -18,7 +19,8 @@ abbrev pub place_view : Place → spec.Place
 place_view (Member l) = spec.member (values_view l.values.items)
 place_view (BehindMember l) = spec.behind_member (values_view l.values.items)
 place_view (KeyPlace l) = spec.key_place (entries_view l.entries.items)
-place_view (EntryValue p) = spec.entry_value (entries_view p.value.list.entries.items) (key_view p.value.key)
+place_view (EntryValue p) =
+    spec.entry_value (entries_view p.value.list.entries.items) (key_view p.value.key)
 place_view (BehindEntry l) = spec.behind_entry (entries_view l.entries.items)
 
 abbrev pub level_view : Level → word_spec.Bracket × spec.Place
@@ -29,7 +31,8 @@ abbrev pub levels_view : List Level → List (word_spec.Bracket × spec.Place)
 levels_view ls = reverse (map level_view ls)
 
 abbrev pub reading_view : Reading → steps_spec.Reading
-reading_view (Inside good level outer) = steps_spec.open_in good (bracket_view level.bracket) (place_view level.place) (levels_view outer.items)
+reading_view (Inside good level outer) = steps_spec.open_in good (bracket_view level.bracket)
+    (place_view level.place) (levels_view outer.items)
 reading_view (Whole v good) = steps_spec.whole (value_view v, good)
 
 abbrev pub flowing_view : Flowing → token_spec.Flowing

@@ -14,8 +14,10 @@ use Rattle.rvs_yaml_text.specs.declared.kind.YamlKind.TheVariants.{NoMemory}
 abbrev pub kept : List Open → Checked (List Open)
 kept cs = checked_front cs >> Ok cs
 
--- What a function that puts words on the stack returned: the stack is what the words give, or the line is refused so, if not for a word, for its front.
-abbrev pub Passes : {X : Type 0} → (X → List Open) → Result X YamlKind → Checked (List Open) → Type 0
+-- What a function that puts words on the stack returned: the stack is what the words give, or the
+-- line is refused so, if not for a word, for its front.
+abbrev pub Passes : {X : Type 0} → (X → List Open) → Result X YamlKind → Checked (List Open)
+    → Type 0
 Passes see (Ok x) m = m ≡ Ok (see x)
 Passes see (Err kind) m = Fails kind (m >>= kept)
 

@@ -17,9 +17,11 @@ pub record IsSketch (v : Value) (s : Sketch) : Type 0 where
   pub map : is_map_or_empty v.tree ≡ s.is_map
   pub merging : is_mergeable v.tree ≡ s.mergeable
 
--- An entry with this key and this value brings values of at most this depth into a map that has these entries.
+-- An entry with this key and this value brings values of at most this depth into a map that has
+-- these entries.
 abbrev pub Brings : EntryList → Key → Value → ℕ → Type 0
-Brings entries k v deepest = min (brought (explicit_keys (entries_view entries.entries.items)) k.merges v.tree) 33 ≤ deepest
+Brings entries k v deepest =
+    min (brought (explicit_keys (entries_view entries.entries.items)) k.merges v.tree) 33 ≤ deepest
 
 -- the sketch of the value that is given, or the same refusal
 abbrev pub SketchedAs : Result Sketch YamlKind → Checked Value → Type 0

@@ -2,8 +2,10 @@
 use Rattle.std.specs.Prelude.{ℕ, if◌then◌else◌, List, [], ◌∷◌, ◌++◌, Ok, Err}
 use Rattle.rvs_tree.specs.Value.{Value, scalar_value, list_value, map_value, Written, explicit_keys}
 use Rattle.rvs_yaml.specs.Checks.{Checked, ◌>>=◌, ◌>>◌, check}
-use Rattle.rvs_yaml.specs.Block.{Found, found, named, own_value, no_place, item_at, key_at, check_merge}
-use Rattle.rvs_yaml_text.specs.Word.{Key, Name, Shape, dash, key, leaf, refused, Word, Head, head_of, is_below, opens_block}
+use Rattle.rvs_yaml.specs.Block.{Found, found, named, own_value, no_place, item_at, key_at}
+use Rattle.rvs_yaml.specs.Block.{check_merge}
+use Rattle.rvs_yaml_text.specs.Word.{Key, Name, Shape, dash, key, leaf, refused, Word, Head}
+use Rattle.rvs_yaml_text.specs.Word.{head_of, is_below, opens_block}
 use Rattle.rvs_yaml.specs.Anchors.{Anchors}
 use Rattle.rvs_yaml.specs.Entry.{written}
 use Rattle.rvs_yaml_text.specs.declared.kind.YamlKind.TheVariants.{Unsupported}
@@ -14,7 +16,8 @@ pub data Done : Type 0 where
   done_entries : List Written → Key → Done
   alone : Done
 
--- An open block: its first line and its column, what it has so far, the anchors in that, its last word and what that is by itself.
+-- An open block: its first line and its column, what it has so far, the anchors in that, its last
+-- word and what that is by itself.
 pub record Open : Type 0 where
   pub line : ℕ
   pub column : ℕ
@@ -31,7 +34,14 @@ begun_done (refused kind) = alone
 
 -- a block that begins with a word
 abbrev pub begun : Word → Value → Open
-begun w own = record { line = w.line; column = w.column; done = begun_done w.shape; anchors = []; head = head_of w; own = own }
+begun w own = record {
+  line = w.line;
+  column = w.column;
+  done = begun_done w.shape;
+  anchors = [];
+  head = head_of w;
+  own = own;
+}
 
 -- the anchors that are known above these blocks
 abbrev pub known_of : List Open → Anchors
@@ -43,12 +53,15 @@ begins bs w = own_value (known_of bs) w.line w.shape >>= λ own. Ok (begun w own
 
 -- what a word is with nothing below it
 abbrev pub own_found : Open → Found Value
-own_found b = named b.head.anchor (found (if opens_block b.head.sort then scalar_value [] b.head.line else b.own) [])
+own_found b = named b.head.anchor
+    (found (if opens_block b.head.sort then scalar_value [] b.head.line else b.own) [])
 
 -- the members, with the value of the open one
 abbrev pub closed_as : Done → ℕ → Anchors → Found Value → Checked (Found Value)
-closed_as (done_items vs) line anchors g = Ok (found (list_value line (vs ++ g.value ∷ [])) (g.anchors ++ anchors))
-closed_as (done_entries ws k) line anchors g = check_merge k g.value >> Ok (found (map_value line (ws ++ written k g.value ∷ [])) (g.anchors ++ anchors))
+closed_as (done_items vs) line anchors g =
+    Ok (found (list_value line (vs ++ g.value ∷ [])) (g.anchors ++ anchors))
+closed_as (done_entries ws k) line anchors g = check_merge k g.value >> Ok
+    (found (map_value line (ws ++ written k g.value ∷ [])) (g.anchors ++ anchors))
 closed_as alone line anchors g = Ok g
 
 abbrev pub closed : Open → Found Value → Checked (Found Value)
@@ -57,14 +70,23 @@ closed b g = closed_as b.done b.line b.anchors g
 -- the members, with the value of the open one, and a word that is the next
 abbrev pub advanced_as : Done → ℕ → Value → Word → Checked Done
 advanced_as (done_items vs) column v w = item_at column w >> Ok (done_items (vs ++ v ∷ []))
-advanced_as (done_entries ws k) column v w = check_merge k v >> (key_at column (explicit_keys (ws ++ written k v ∷ [])) w.column w.shape >>= λ l. Ok (done_entries (ws ++ written k v ∷ []) l))
+advanced_as (done_entries ws k) column v w = check_merge k v >>
+    (key_at column (explicit_keys (ws ++ written k v ∷ [])) w.column w.shape
+    >>= λ l. Ok (done_entries (ws ++ written k v ∷ []) l))
 advanced_as alone column v w = Err (no_place w.shape)
 
 -- an open block whose last word is w, over these blocks
 abbrev pub put : ℕ → ℕ → Done → Anchors → List Open → Word → Checked (List Open)
 put line column done anchors bs w = do
   own ← own_value (anchors ++ known_of bs) w.line w.shape
-  Ok (record { line = line; column = column; done = done; anchors = anchors; head = head_of w; own = own } ∷ bs)
+  Ok (record {
+    line = line;
+    column = column;
+    done = done;
+    anchors = anchors;
+    head = head_of w;
+    own = own;
+  } ∷ bs)
 
 abbrev pub advanced : Open → Found Value → List Open → Word → Checked (List Open)
 advanced b g bs w = do

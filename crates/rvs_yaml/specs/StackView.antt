@@ -30,11 +30,17 @@ found_view g = block_spec.found (value_view g.value) (anchors_view g.anchors.anc
 
 abbrev pub done_view : Done → spec.Done
 done_view (Items l) = spec.done_items (values_view l.values.items)
-done_view (Entries p) = spec.done_entries (entries_view p.value.list.entries.items) (key_view p.value.key)
+done_view (Entries p) =
+    spec.done_entries (entries_view p.value.list.entries.items) (key_view p.value.key)
 done_view Alone = spec.alone
 
 abbrev pub block_view : Block → parts.Block
-block_view b = record { line = b.line; column = b.column; done = done_view b.done; anchors = anchors_view b.anchors.anchors.items }
+block_view b = record {
+  line = b.line;
+  column = b.column;
+  done = done_view b.done;
+  anchors = anchors_view b.anchors.anchors.items;
+}
 
 -- What a word on this line is by itself. With nothing behind it, it is an empty scalar.
 abbrev pub own_view : ℕ → Option (Box Value) → value_spec.Value

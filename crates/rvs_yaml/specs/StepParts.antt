@@ -2,7 +2,8 @@
 use Rattle.std.specs.Prelude.{ℕ, not, ◌||◌, if◌then◌else◌, List, [], ◌∷◌, ◌++◌, None, Ok}
 use Rattle.rvs_yaml.specs.Checks.{Checked, ◌>>=◌, ◌>>◌, check}
 use Rattle.rvs_tree.specs.Value.{Value, Written, has_key, scalar_value, list_value, map_value}
-use Rattle.rvs_yaml_text.specs.Word.{Key, Content, nothing, faulty, Shape, dash, key, leaf, refused, Word, Head, no_opener, opens_block}
+use Rattle.rvs_yaml_text.specs.Word.{Key, Content, nothing, faulty, Shape, dash, key, leaf, refused}
+use Rattle.rvs_yaml_text.specs.Word.{Word, Head, no_opener, opens_block}
 use Rattle.rvs_yaml.specs.Anchors.{Anchors}
 use Rattle.rvs_yaml.specs.Entry.{written}
 use Rattle.rvs_yaml.specs.Block.{Found, found, named, content_value, key_at, check_merge}
@@ -20,7 +21,8 @@ abbrev pub check_new : List (List ℕ) → Key → Checked (Unit {0})
 check_new seen k = check (k.merges || not (has_key k.name seen)) DuplicateKey
 
 abbrev pub keyed_content : ℕ → List (List ℕ) → Word → Checked (Key × Content)
-keyed_content column seen w = key_at column seen w.column w.shape >>= λ k. Ok (k, own_content w.shape)
+keyed_content column seen w =
+    key_at column seen w.column w.shape >>= λ k. Ok (k, own_content w.shape)
 
 abbrev pub advanced_content : Done → ℕ → Value → Word → Checked (Done × Content)
 advanced_content d column v w = advanced_as d column v w >>= λ e. Ok (e, own_content w.shape)
@@ -39,19 +41,30 @@ pub record Block : Type 0 where
   pub anchors : Anchors
 
 abbrev pub opened : Block → Head → Value → Open
-opened b h own = record { line = b.line; column = b.column; done = b.done; anchors = b.anchors; head = h; own = own }
+opened b h own = record {
+  line = b.line;
+  column = b.column;
+  done = b.done;
+  anchors = b.anchors;
+  head = h;
+  own = own;
+}
 
 abbrev pub put_content : Block → List Open → Head → Content → Checked (List Open)
-put_content b bs h c = content_value (b.anchors ++ known_of bs) h.line c >>= λ own. Ok (opened b h own ∷ bs)
+put_content b bs h c =
+    content_value (b.anchors ++ known_of bs) h.line c >>= λ own. Ok (opened b h own ∷ bs)
 
 -- the block with some last word
 abbrev pub bare : Block → Open
-bare b = opened b (record { line = 0; column = 0; sort = no_opener; anchor = None }) (scalar_value [] 0)
+bare b =
+    opened b (record { line = 0; column = 0; sort = no_opener; anchor = None }) (scalar_value [] 0)
 
 abbrev pub own_of : Head → Value → Found Value
-own_of h own = named h.anchor (found (if opens_block h.sort then scalar_value [] h.line else own) [])
+own_of h own =
+    named h.anchor (found (if opens_block h.sort then scalar_value [] h.line else own) [])
 
 abbrev pub closed_value : Done → ℕ → Value → Checked Value
 closed_value (done_items vs) line v = Ok (list_value line (vs ++ v ∷ []))
-closed_value (done_entries ws k) line v = check_merge k v >> Ok (map_value line (ws ++ written k v ∷ []))
+closed_value (done_entries ws k) line v =
+    check_merge k v >> Ok (map_value line (ws ++ written k v ∷ []))
 closed_value alone line v = Ok v

@@ -8,7 +8,8 @@ use Rattle.std.specs.Prelude.{◌&&◌, ◌||◌, drop}
 use Rattle.rvs_yaml_text.specs.Tokens.{next_token, closes}
 use Rattle.rvs_yaml.specs.FlowSteps.{Reading, flow_step}
 
--- what is read, whether a closing bracket was read last, whether a space stands before the text that is left, and that text
+-- what is read, whether a closing bracket was read last, whether a space stands before the text
+-- that is left, and that text
 pub record Flowing : Type 0 where
   pub reading : Reading
   pub closed : Bool
@@ -16,7 +17,8 @@ pub record Flowing : Type 0 where
   pub rest : List ℕ
 
 abbrev pub flowing : Reading → Bool → Bool → List ℕ → Flowing
-flowing reading closed spaced rest = record { reading = reading; closed = closed; spaced = spaced; rest = rest }
+flowing reading closed spaced rest =
+    record { reading = reading; closed = closed; spaced = spaced; rest = rest }
 
 -- nothing or a comment comes next
 abbrev pub is_flow_end : Bool → List ℕ → Bool
@@ -27,5 +29,6 @@ abbrev pub next_flowing : Bool → Anchors → ℕ → Flowing → Checked Flowi
 next_flowing poor known line f =
     elim (starts_with space_byte f.rest) [
       | true ↦ Ok (flowing f.reading f.closed true (drop 1 f.rest))
-      | false ↦ flow_step poor known line f.reading (next_token f.closed f.rest).0 >>= λ r. Ok (flowing r (closes (next_token f.closed f.rest).0) false (next_token f.closed f.rest).1)
+      | false ↦ flow_step poor known line f.reading (next_token f.closed f.rest).0 >>= λ r. Ok
+          (flowing r (closes (next_token f.closed f.rest).0) false (next_token f.closed f.rest).1)
     ]

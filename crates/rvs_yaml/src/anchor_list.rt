@@ -12,5 +12,7 @@ use std::collections::BTreeMap;
 pub(crate) struct AnchorList<'a> {
     pub anchors: Vec<Anchor<'a>>,
     pub latest: BTreeMap<String, usize>,
-    ghost known: { (k : List ℕ) → get_by_text latest k ≡ last_place k (map (λ a. a.name.now) anchors.items) } by { Prim.hlevel props },
+    ghost known: { (k : List ℕ)
+        → get_by_text latest k
+        ≡ last_place k (map (λ a. a.name.now) anchors.items) } by { Prim.hlevel props },
 }

@@ -1,5 +1,6 @@
 // Gathering anchors, and finding them by their names.
-ghost use Rattle.std.specs.Prelude.{◌≡◌, ◌∷◌, ◌++◌, [], ℕ, List, Some, bytes_eq, option_map, if◌then◌else◌, IfOk};
+ghost use Rattle.std.specs.Prelude.{◌≡◌, ◌∷◌, ◌++◌, [], ℕ, List, Some, bytes_eq, option_map};
+ghost use Rattle.std.specs.Prelude.{if◌then◌else◌, IfOk};
 ghost use Rattle.std.specs.BTreeMap.{get_by_text};
 ghost use Rattle.rvs_yaml.specs.Anchors.{lookup};
 ghost use Rattle.rvs_yaml.specs.StackView.{anchor_view, anchors_view};
@@ -18,7 +19,8 @@ fn with_place(
     name: &str,
     place: usize,
 ) -> Result<BTreeMap<String, usize>, AllocError>
-    ensures { IfOk result (λ m. (k : List ℕ) → get_by_text m k ≡ (if bytes_eq name.now k then Some place else get_by_text latest k)) }
+    ensures { IfOk result (λ m. (k : List ℕ)
+        → get_by_text m k ≡ (if bytes_eq name.now k then Some place else get_by_text latest k)) }
 {
     latest.insert(String::from_str(alloc, name)?, place)?;
     Ok(latest)
@@ -40,7 +42,8 @@ pub(crate) fn with_anchor<'a>(
     list: AnchorList<'a>,
     anchor: Anchor<'a>,
 ) -> Result<AnchorList<'a>, AllocError>
-    ensures { IfOk result (λ l. anchors_view l.anchors.items ≡ anchor_view anchor.entry ∷ anchors_view list.entry.anchors.items) }
+    ensures { IfOk result (λ l. anchors_view l.anchors.items ≡ anchor_view anchor.entry
+        ∷ anchors_view list.entry.anchors.items) }
 {
     let AnchorList {
         mut anchors,
@@ -57,7 +60,8 @@ pub(crate) fn joined<'a>(
     first: AnchorList<'a>,
     second: AnchorList<'a>,
 ) -> Result<AnchorList<'a>, AllocError>
-    ensures { IfOk result (λ l. anchors_view l.anchors.items ≡ anchors_view second.entry.anchors.items ++ anchors_view first.entry.anchors.items) }
+    ensures { IfOk result (λ l. anchors_view l.anchors.items
+        ≡ anchors_view second.entry.anchors.items ++ anchors_view first.entry.anchors.items) }
 {
     if first.anchors.is_empty() {
         return Ok(second);
@@ -72,7 +76,8 @@ pub(crate) fn joined<'a>(
 
 /// The value of the latest of these anchors with this name.
 pub(crate) fn find_anchor<'b>(name: &str, list: &'b AnchorList<'_>) -> Option<&'b Value>
-    ensures { option_map (λ v. value_view v.now) result ≡ lookup name.now (anchors_view list.now.anchors.items) }
+    ensures { option_map (λ v. value_view v.now) result
+        ≡ lookup name.now (anchors_view list.now.anchors.items) }
 {
     match list.latest.get(name) {
         Some(place) => Some(&list.anchors[*place].value),

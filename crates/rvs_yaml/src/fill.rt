@@ -29,7 +29,8 @@ use std::alloc::Global;
 /// value of its last word, which is at most so deep.
 fn check_nodes(blocks: &[Open<'_>], thin: &Value, height: u64) -> Result<(), YamlKind>
     requires { height ≤ 33 }
-    ensures { (v : value_spec.Value) → value_view thin.now ≡ standin v → min (depth v.tree) 33 ≤ height → DeniesFront result (ends v (stack_view blocks.now)) }
+    ensures { (v : value_spec.Value) → value_view thin.now ≡ standin v
+        → min (depth v.tree) 33 ≤ height → DeniesFront result (ends v (stack_view blocks.now)) }
 {
     let sketch = sketch_with(blocks, thin_sketch(thin, height))?;
     if sketch.nodes > MOST_NODES && sketch.depth <= MOST_DEPTH {
@@ -39,8 +40,8 @@ fn check_nodes(blocks: &[Open<'_>], thin: &Value, height: u64) -> Result<(), Yam
     }
 }
 
-/// Refuses a line that merges what can't be merged, or whose front has too many nodes and can't be too
-/// deep, where this stands for the value of its flow collection.
+/// Refuses a line that merges what can't be merged, or whose front has too many nodes and can't be
+/// too deep, where this stands for the value of its flow collection.
 fn check_thin(
     alloc: Global,
     known: &Known<'_, '_>,
@@ -48,7 +49,9 @@ fn check_thin(
     thin: &Value,
     text: &str,
 ) -> Result<(), YamlKind>
-    ensures { (line : ℕ) → (b : word_spec.Bracket) → (v : value_spec.Value) → flow_value (all_known known.now) line b (tokens_of text.now) ≡ Ok v → value_view thin.now ≡ standin v → DeniesFront result (ends v (stack_view blocks.now)) }
+    ensures { (line : ℕ) → (b : word_spec.Bracket) → (v : value_spec.Value)
+        → flow_value (all_known known.now) line b (tokens_of text.now) ≡ Ok v
+        → value_view thin.now ≡ standin v → DeniesFront result (ends v (stack_view blocks.now)) }
 {
     let sketch = sketch_with(blocks, thin_sketch(thin, DEEP))?;
     if sketch.nodes <= MOST_NODES {
@@ -58,15 +61,16 @@ fn check_thin(
     check_nodes(blocks, thin, height)
 }
 
-/// Refuses a line for its flow collection or its front, as far as small values in the place of those
-/// of aliases tell it.
+/// Refuses a line for its flow collection or its front, as far as small values in the place of
+/// those of aliases tell it.
 fn check_paid(
     alloc: Global,
     blocks: &[Open<'_>],
     bracket: Bracket,
     text: &str,
 ) -> Result<(), YamlKind>
-    ensures { Denies result (spec.filled (Some (bracket_view bracket, tokens_of text.now)) (stack_view blocks.now)) }
+    ensures { Denies result
+        (spec.filled (Some (bracket_view bracket, tokens_of text.now)) (stack_view blocks.now)) }
 {
     let Some(top) = blocks.last() else {
         return Ok(());
@@ -95,7 +99,9 @@ fn value_in(
     bracket: Bracket,
     text: &str,
 ) -> Result<Value, YamlKind>
-    ensures { Gives value_view result (flow_value (anchors_view block.now.anchors.anchors.items ++ known_of (stack_view blocks.now)) line (bracket_view bracket) (tokens_of text.now)) }
+    ensures { Gives value_view result (flow_value
+        (anchors_view block.now.anchors.anchors.items ++ known_of (stack_view blocks.now)) line
+        (bracket_view bracket) (tokens_of text.now)) }
 {
     let places = anchored_places(alloc, blocks)?;
     let known = Known {
@@ -112,15 +118,16 @@ fn has_star(text: &str) -> bool {
     text.as_bytes().contains(&b'*')
 }
 
-/// Fills in the value of a flow collection as that of the last word. An alias is counted before what
-/// it stands for is taken.
+/// Fills in the value of a flow collection as that of the last word. An alias is counted before
+/// what it stands for is taken.
 fn fill<'a>(
     alloc: Global,
     blocks: &mut Vec<Open<'a>>,
     bracket: Bracket,
     text: &str,
 ) -> Result<(), YamlKind>
-    ensures { Passes (λ u. stack_view blocks.new.items) result (spec.filled (Some (bracket_view bracket, tokens_of text.now)) (stack_view blocks.old.items)) }
+    ensures { Passes (λ u. stack_view blocks.new.items) result (spec.filled
+        (Some (bracket_view bracket, tokens_of text.now)) (stack_view blocks.old.items)) }
 {
     if has_star(text) {
         check_paid(alloc, blocks.as_slice(), bracket, text)?;
@@ -160,7 +167,8 @@ pub(crate) fn hollow_shape<'a>(
     alloc: Global,
     shape: Shape<'a>,
 ) -> (Shape<'a>, Option<(Bracket, &'a str)>)
-    ensures { shape_parts result ≡ (spec.hollow_shape (shape_view shape.entry), spec.flow_of (shape_view shape.entry)) }
+    ensures { shape_parts result
+        ≡ (spec.hollow_shape (shape_view shape.entry), spec.flow_of (shape_view shape.entry)) }
 {
     match shape {
         Shape::Key(key, anchor, content) => {
@@ -182,7 +190,8 @@ pub(crate) fn fill_flow<'a>(
     blocks: &mut Vec<Open<'a>>,
     flow: Option<(Bracket, &'a str)>,
 ) -> Result<(), YamlKind>
-    ensures { Passes (λ u. stack_view blocks.new.items) result (spec.filled (flow_view flow.entry) (stack_view blocks.old.items)) }
+    ensures { Passes (λ u. stack_view blocks.new.items) result
+        (spec.filled (flow_view flow.entry) (stack_view blocks.old.items)) }
 {
     match flow {
         Some((bracket, text)) => fill(alloc, blocks, bracket, text),

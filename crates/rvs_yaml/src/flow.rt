@@ -138,7 +138,8 @@ fn alias_here(
     place: &Place,
     name: &str,
 ) -> Result<Value, YamlKind>
-    ensures { Gives value_view result (parts.alias_at (known_view known.now) (place_view place.now) name.now) }
+    ensures { Gives value_view result
+        (parts.alias_at (known_view known.now) (place_view place.now) name.now) }
 {
     match place {
         Place::Member(_) | Place::EntryValue(_) => {
@@ -159,7 +160,8 @@ fn with_alias(
     place: Place,
     name: &str,
 ) -> Result<Place, YamlKind>
-    ensures { Gives place_view result (spec.with_alias (known_view known.now) (place_view place) name.now) }
+    ensures { Gives place_view result
+        (spec.with_alias (known_view known.now) (place_view place) name.now) }
 {
     let value = alias_here(alloc, known, &place, name)?;
     with_value(alloc, place, value)
@@ -167,7 +169,8 @@ fn with_alias(
 
 /// The place behind a scalar.
 fn with_scalar(alloc: Global, line: u64, place: Place, key: Key) -> Result<Place, YamlKind>
-    ensures { Gives place_view result (spec.with_value (place_view place) (value_spec.scalar_value (key_view key).name line)) }
+    ensures { Gives place_view result
+        (spec.with_value (place_view place) (value_spec.scalar_value (key_view key).name line)) }
 {
     let value = scalar_value(alloc, key.name, line)?;
     with_value(alloc, place, value)
@@ -181,7 +184,8 @@ fn with_token(
     place: Place,
     token: Token<'_>,
 ) -> Result<Place, YamlKind>
-    ensures { Gives place_view result (spec.with_token (known_view known.now) line (place_view place) (token_view token.entry)) }
+    ensures { Gives place_view result
+        (spec.with_token (known_view known.now) line (place_view place) (token_view token.entry)) }
 {
     match token {
         Token::Comma => with_comma(place),
@@ -243,7 +247,8 @@ fn closed_by(alloc: Global, poor: bool, line: u64, place: &Place) -> Result<Valu
 
 /// Whether the bracket ends a collection with this one.
 fn ends_with(first: Bracket, last: Bracket) -> Result<(), YamlKind>
-    ensures { Agrees (λ u. u) result (spec.ends_with (bracket_view first) (Some (bracket_view last))) }
+    ensures { Agrees (λ u. u) result
+        (spec.ends_with (bracket_view first) (Some (bracket_view last))) }
 {
     match (first, last) {
         (Bracket::Square, Bracket::Square) | (Bracket::Curly, Bracket::Curly) => Ok(()),
@@ -280,7 +285,8 @@ fn entry_fits(written: &Written) -> bool
 
 /// What is read once a value is whole.
 fn into(alloc: Global, value: Value, good: bool, mut outer: Vec<Level>) -> Result<Reading, YamlKind>
-    ensures { Gives reading_view result (steps_spec.into (value_view value, good) (levels_view outer.items)) }
+    ensures { Gives reading_view result
+        (steps_spec.into (value_view value, good) (levels_view outer.items)) }
 {
     let Some(level) = outer.pop() else {
         return Ok(Reading::Whole(value, good));
@@ -305,7 +311,8 @@ fn opened(
     mut outer: Vec<Level>,
     bracket: Bracket,
 ) -> Result<Reading, YamlKind>
-    ensures { Gives reading_view result (parts.opened good (bracket_view level.bracket) (place_view level.place) (levels_view outer.items) (bracket_view bracket)) }
+    ensures { Gives reading_view result (parts.opened good (bracket_view level.bracket)
+        (place_view level.place) (levels_view outer.items) (bracket_view bracket)) }
 {
     may_open(&level.place)?;
     outer.push(level)?;
@@ -329,7 +336,8 @@ fn closed(
     outer: Vec<Level>,
     bracket: Bracket,
 ) -> Result<Reading, YamlKind>
-    ensures { Gives reading_view result (parts.closed poor line good (bracket_view level.bracket) (place_view level.place) (levels_view outer.items) (bracket_view bracket)) }
+    ensures { Gives reading_view result (parts.closed poor line good (bracket_view level.bracket)
+        (place_view level.place) (levels_view outer.items) (bracket_view bracket)) }
 {
     let value = closed_by(alloc, poor, line, &level.place)?;
     ends_with(level.bracket, bracket)?;
@@ -346,7 +354,9 @@ fn moved(
     outer: Vec<Level>,
     token: Token<'_>,
 ) -> Result<Reading, YamlKind>
-    ensures { Gives reading_view result (steps_spec.moved good (bracket_view level.bracket) (levels_view outer.items) (spec.with_token (known_view known.now) line (place_view level.place) (token_view token.entry))) }
+    ensures { Gives reading_view result (steps_spec.moved good (bracket_view level.bracket)
+        (levels_view outer.items) (spec.with_token (known_view known.now) line
+        (place_view level.place) (token_view token.entry))) }
 {
     let place = with_token(alloc, known, line, level.place, token)?;
     let good = good && fits(&place);
@@ -368,7 +378,8 @@ pub(crate) fn flow_step(
     reading: Reading,
     token: Token<'_>,
 ) -> Result<Reading, YamlKind>
-    ensures { Gives reading_view result (steps_spec.flow_step known.now.poor (known_view known.now) line (reading_view reading) (token_view token.entry)) }
+    ensures { Gives reading_view result (steps_spec.flow_step known.now.poor (known_view known.now)
+        line (reading_view reading) (token_view token.entry)) }
 {
     match reading {
         Reading::Inside(good, level, outer) => match token {

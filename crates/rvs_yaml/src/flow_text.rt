@@ -34,7 +34,8 @@ fn next_flowing<'a>(
     flowing: Flowing<'a>,
 ) -> Result<Flowing<'a>, YamlKind>
     requires { 0 < length flowing.rest.now }
-    ensures { Gives flowing_view result (parts.next_flowing known.now.poor (known_view known.now) line (flowing_view flowing.entry)) }
+    ensures { Gives flowing_view result (parts.next_flowing known.now.poor (known_view known.now)
+        line (flowing_view flowing.entry)) }
 {
     let Flowing {
         reading,
@@ -69,7 +70,8 @@ fn flow_form(
     bracket: Bracket,
     text: &str,
 ) -> Result<Value, YamlKind>
-    ensures { Gives value_view result (flow_parts.formed_flow known.now.poor (known_view known.now) line (bracket_view bracket) (spec.tokens_of text.now)) }
+    ensures { Gives value_view result (flow_parts.formed_flow known.now.poor (known_view known.now)
+        line (bracket_view bracket) (spec.tokens_of text.now)) }
 {
     let mut flowing = Flowing {
         reading: new_reading(alloc, bracket),
@@ -98,7 +100,8 @@ pub(crate) fn flow_value(
     text: &str,
 ) -> Result<Value, YamlKind>
     requires { known.now.poor ≡ false }
-    ensures { Gives value_view result (flow_spec.flow_value (known_view known.now) line (bracket_view bracket) (spec.tokens_of text.now)) }
+    ensures { Gives value_view result (flow_spec.flow_value (known_view known.now) line
+        (bracket_view bracket) (spec.tokens_of text.now)) }
 {
     flow_form(alloc, known, line, bracket, text)
 }
@@ -113,7 +116,8 @@ pub(crate) fn thin_flow_value(
     text: &str,
 ) -> Result<Value, YamlKind>
     requires { known.now.poor ≡ true }
-    ensures { Gives value_view result (mapped standin (flow_spec.flow_value (all_known known.now) line (bracket_view bracket) (spec.tokens_of text.now))) }
+    ensures { Gives value_view result (mapped standin (flow_spec.flow_value (all_known known.now)
+        line (bracket_view bracket) (spec.tokens_of text.now))) }
 {
     flow_form(alloc, known, line, bracket, text)
 }

@@ -1,5 +1,6 @@
 // The limits on the tree of the lines so far.
-ghost use Rattle.std.specs.Prelude.{◌≡◌, ◌≤◌, ◌∷◌, ◌++◌, ◌+◌, ◌&&◌, [], ℕ, List, min, not, nat_lt, if◌then◌else◌, IfOk};
+ghost use Rattle.std.specs.Prelude.{◌≡◌, ◌≤◌, ◌∷◌, ◌++◌, ◌+◌, ◌&&◌, [], ℕ, List, min, not, nat_lt};
+ghost use Rattle.std.specs.Prelude.{if◌then◌else◌, IfOk};
 ghost use Rattle.rvs_tree.specs.Data as data_spec;
 ghost use Rattle.rvs_tree.specs.Value as value_spec;
 ghost use Rattle.rvs_yaml.specs.StepParts as parts;
@@ -51,7 +52,8 @@ fn sketch_of(value: &Value) -> Sketch
 /// What is known of a value for which this one stands, where it is at most so deep.
 pub(crate) fn thin_sketch(thin: &Value, deepest: u64) -> Sketch
     requires { deepest ≤ 33 }
-    ensures { (v : value_spec.Value) → value_view thin.now ≡ standin v → min (data_spec.depth v.tree) 33 ≤ deepest → IsSketch v result }
+    ensures { (v : value_spec.Value) → value_view thin.now ≡ standin v
+        → min (data_spec.depth v.tree) 33 ≤ deepest → IsSketch v result }
 {
     Sketch {
         depth: deepest,
@@ -84,7 +86,8 @@ fn both(left: bool, right: bool) -> bool
 
 /// What is known of a list with one item more.
 fn list_sketch(list: &ValueList, last: &Sketch) -> Sketch
-    ensures { (line : ℕ) → (v : value_spec.Value) → IsSketch v last.now → IsSketch (value_spec.list_value line (values_view list.now.values.items ++ v ∷ [])) result }
+    ensures { (line : ℕ) → (v : value_spec.Value) → IsSketch v last.now → IsSketch
+        (value_spec.list_value line (values_view list.now.values.items ++ v ∷ [])) result }
 {
     Sketch {
         depth: (list.depth.max(last.depth) + 1).min(DEEP),
@@ -98,7 +101,8 @@ fn list_sketch(list: &ValueList, last: &Sketch) -> Sketch
 /// A bound on the depth of what the open entry brings into its map. A map that is merged brings its
 /// values, and a list of maps theirs.
 fn brought_depth(key: &Key, last: &Sketch) -> u64
-    ensures bound { (taken : List (List ℕ)) → (v : value_spec.Value) → IsSketch v last.now → min (brought taken key.now.merges v.tree) 33 ≤ result }
+    ensures bound { (taken : List (List ℕ)) → (v : value_spec.Value) → IsSketch v last.now
+        → min (brought taken key.now.merges v.tree) 33 ≤ result }
     ensures shallow { result ≤ 33 }
 {
     if !key.merges || last.depth >= DEEP {
@@ -122,7 +126,9 @@ fn least_depth(key: &Key, last: &Sketch) -> u64
 /// What is known of a map with one entry more, which brings values of at most this depth.
 fn map_sketch(entries: &EntryList, key: &Key, last: &Sketch, deepest: u64) -> Sketch
     requires { deepest ≤ 33 }
-    ensures { (line : ℕ) → (v : value_spec.Value) → IsSketch v last.now → Brings entries.now (key_view key.now) v deepest → IsSketch (value_spec.map_value line (entries_view entries.now.entries.items ++ written (key_view key.now) v ∷ [])) result }
+    ensures { (line : ℕ) → (v : value_spec.Value) → IsSketch v last.now → Brings entries.now
+        (key_view key.now) v deepest → IsSketch (value_spec.map_value line
+        (entries_view entries.now.entries.items ++ written (key_view key.now) v ∷ [])) result }
 {
     Sketch {
         depth: (entries.depth.max(deepest) + 1).min(DEEP),
@@ -151,7 +157,9 @@ fn entry_sketch(
     deepest: u64,
 ) -> Result<Sketch, YamlKind>
     requires { deepest ≤ 33 }
-    ensures { (line : ℕ) → (v : value_spec.Value) → IsSketch v last.now → Brings entries.now (key_view key.now) v deepest → SketchedAs result (parts.closed_value (done_entries (entries_view entries.now.entries.items) (key_view key.now)) line v) }
+    ensures { (line : ℕ) → (v : value_spec.Value) → IsSketch v last.now → Brings entries.now
+        (key_view key.now) v deepest → SketchedAs result (parts.closed_value
+        (done_entries (entries_view entries.now.entries.items) (key_view key.now)) line v) }
 {
     if is_bad_merge(key, last) {
         return Err(YamlKind::BadMerge);
@@ -161,7 +169,10 @@ fn entry_sketch(
 
 /// What is known of a map with its open entry.
 fn pending_sketch(pending: &Pending, last: &Sketch) -> Result<Sketch, YamlKind>
-    ensures { (line : ℕ) → (v : value_spec.Value) → IsSketch v last.now → SketchedAs result (parts.closed_value (done_entries (entries_view pending.now.list.entries.items) (key_view pending.now.key)) line v) }
+    ensures { (line : ℕ) → (v : value_spec.Value) → IsSketch v last.now → SketchedAs result
+        (parts.closed_value
+        (done_entries (entries_view pending.now.list.entries.items) (key_view pending.now.key)) line
+        v) }
 {
     let Pending { list, key } = pending;
     entry_sketch(list, key, last, brought_depth(key, last))
@@ -169,7 +180,8 @@ fn pending_sketch(pending: &Pending, last: &Sketch) -> Result<Sketch, YamlKind>
 
 /// What is known of a block with its open member.
 fn closed_sketch(block: &Block<'_>, last: Sketch) -> Result<Sketch, YamlKind>
-    ensures { (v : value_spec.Value) → IsSketch v last → SketchedAs result (parts.closed_value (done_view block.now.done) block.now.line v) }
+    ensures { (v : value_spec.Value) → IsSketch v last
+        → SketchedAs result (parts.closed_value (done_view block.now.done) block.now.line v) }
 {
     match &block.done {
         Done::Items(list) => Ok(list_sketch(list, &last)),
@@ -180,7 +192,9 @@ fn closed_sketch(block: &Block<'_>, last: Sketch) -> Result<Sketch, YamlKind>
 
 /// What is known of a map whose open entry has this value.
 fn own_entry_sketch(entries: &EntryList, key: &Key, own: &Value) -> Result<Sketch, YamlKind>
-    ensures { (line : ℕ) → SketchedAs result (parts.closed_value (done_entries (entries_view entries.now.entries.items) (key_view key.now)) line (value_view own.now)) }
+    ensures { (line : ℕ) → SketchedAs result (parts.closed_value
+        (done_entries (entries_view entries.now.entries.items) (key_view key.now)) line
+        (value_view own.now)) }
 {
     let deepest = entries.brought(key.merges, own);
     entry_sketch(entries, key, &sketch_of(own), deepest)
@@ -188,7 +202,8 @@ fn own_entry_sketch(entries: &EntryList, key: &Key, own: &Value) -> Result<Sketc
 
 /// What is known of a block whose open member is this value.
 fn leaf_sketch(block: &Block<'_>, own: &Value) -> Result<Sketch, YamlKind>
-    ensures { SketchedAs result (parts.closed_value (done_view block.now.done) block.now.line (value_view own.now)) }
+    ensures { SketchedAs result
+        (parts.closed_value (done_view block.now.done) block.now.line (value_view own.now)) }
 {
     match &block.done {
         Done::Entries(pending) => own_entry_sketch(&pending.list, &pending.key, own),
@@ -196,10 +211,11 @@ fn leaf_sketch(block: &Block<'_>, own: &Value) -> Result<Sketch, YamlKind>
     }
 }
 
-/// What is known of the block on top with its last word. What that merges is whole, so only what the
-/// keys leave visible counts.
+/// What is known of the block on top with its last word. What that merges is whole, so only what
+/// the keys leave visible counts.
 fn top_sketch(top: &Open<'_>) -> Result<Sketch, YamlKind>
-    ensures { SketchedAs result (parts.closed_value (done_view top.now.block.done) top.now.block.line (spec.own_value (open_view top.now))) }
+    ensures { SketchedAs result (parts.closed_value (done_view top.now.block.done)
+        top.now.block.line (spec.own_value (open_view top.now))) }
 {
     if top.head.sort.opens_block() {
         return closed_sketch(&top.block, empty_sketch());
@@ -229,7 +245,8 @@ fn sketch_front(blocks: &[Open<'_>]) -> Result<Sketch, YamlKind>
 
 /// What is known of the tree of the lines so far, where this is known of the last word.
 pub(crate) fn sketch_with(blocks: &[Open<'_>], own: Sketch) -> Result<Sketch, YamlKind>
-    ensures { (v : value_spec.Value) → IsSketch v own → SketchedAs result (spec.ends v (stack_view blocks.now)) }
+    ensures { (v : value_spec.Value) → IsSketch v own
+        → SketchedAs result (spec.ends v (stack_view blocks.now)) }
 {
     let mut sketch = own;
     let mut i = blocks.len();
@@ -306,7 +323,8 @@ fn copied_entries(alloc: Global, entries: &[Written]) -> Result<EntryList, Alloc
 
 /// The value of a list with one item more.
 fn longer_list(alloc: Global, line: u64, values: &[Value], last: Value) -> Result<Value, AllocError>
-    ensures { IfOk result (λ v. value_view v ≡ value_spec.list_value line (values_view values.now ++ value_view last ∷ [])) }
+    ensures { IfOk result (λ v. value_view v
+        ≡ value_spec.list_value line (values_view values.now ++ value_view last ∷ [])) }
 {
     let list = copied_values(alloc, values)?.with(last)?;
     list_value(alloc, line, &list)
@@ -320,7 +338,8 @@ fn longer_map(
     key: &Key,
     value: Value,
 ) -> Result<Value, AllocError>
-    ensures { IfOk result (λ v. value_view v ≡ value_spec.map_value line (entries_view entries.now ++ written (key_view key.now) (value_view value) ∷ [])) }
+    ensures { IfOk result (λ v. value_view v ≡ value_spec.map_value line
+        (entries_view entries.now ++ written (key_view key.now) (value_view value) ∷ [])) }
 {
     let key = copied_key(alloc, key)?;
     let list = copied_entries(alloc, entries)?.with(alloc, entry_of(key, value))?;
@@ -329,7 +348,8 @@ fn longer_map(
 
 /// The value of a block with its open member.
 fn closed_copy(alloc: Global, block: &Block<'_>, value: Value) -> Result<Value, YamlKind>
-    ensures { Gives value_view result (parts.closed_value (done_view block.now.done) block.now.line (value_view value)) }
+    ensures { Gives value_view result
+        (parts.closed_value (done_view block.now.done) block.now.line (value_view value)) }
 {
     match &block.done {
         Done::Items(list) => Ok(longer_list(alloc, block.line, list.values.as_slice(), value)?),
@@ -376,8 +396,8 @@ fn is_deeper(tree: &Tree, levels: u64) -> bool
     false
 }
 
-/// Whether the tree of the lines so far keeps the limits. Before the last line it was no deeper than
-/// it may be, so it is looked through only where what that line has brought could be too deep.
+/// Whether the tree of the lines so far keeps the limits. Before the last line it was no deeper
+/// than it may be, so it is looked through only where what that line has brought could be too deep.
 pub(crate) fn check_front(alloc: Global, blocks: &[Open<'_>]) -> Result<(), YamlKind>
     requires { KeepsDepth (stack_view blocks.now) }
     ensures { Gives (λ u. u) result (spec.checked_front (stack_view blocks.now)) }

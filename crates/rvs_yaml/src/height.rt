@@ -38,7 +38,8 @@ fn level_behind(level: u128, token: &Token<'_>) -> u128
 
 /// How deep it gets at a token.
 fn reach(known: &Known<'_, '_>, level: u128, token: &Token<'_>) -> u64
-    ensures bound { min (spec.reach (all_known known.now) level (token_view token.now)) 33 ≤ result }
+    ensures bound { min (spec.reach (all_known known.now) level (token_view token.now)) 33
+        ≤ result }
     ensures shallow { result ≤ 33 }
 {
     match token {
@@ -57,7 +58,11 @@ fn next_scan<'a>(
     requires some { 0 < length scan.rest.now }
     requires small { scan.level < 2 ^ 100 }
     requires goes { is_flow_end scan.spaced scan.rest.now ≡ false }
-    ensures height { IfOk result (λ s. (n : ℕ) → min (max scan.entry.reached (spec.height (all_known known.now) scan.entry.level (tokens (suc n) scan.entry.closed scan.entry.spaced scan.entry.rest.now))) 33 ≤ max s.reached (spec.height (all_known known.now) s.level (tokens n s.closed s.spaced s.rest.now))) }
+    ensures height { IfOk result (λ s. (n : ℕ) → min (max scan.entry.reached (spec.height
+        (all_known known.now) scan.entry.level
+        (tokens (suc n) scan.entry.closed scan.entry.spaced scan.entry.rest.now))) 33 ≤ max
+        s.reached (spec.height (all_known known.now) s.level (tokens n s.closed s.spaced
+        s.rest.now))) }
     ensures level { IfOk result (λ s. s.level ≤ scan.entry.level + 1) }
     ensures shallow { scan.entry.reached ≤ 33 → IfOk result (λ s. s.reached ≤ 33) }
 {
@@ -94,7 +99,8 @@ pub(crate) fn flow_height(
     known: &Known<'_, '_>,
     text: &str,
 ) -> Result<u64, AllocError>
-    ensures bound { IfOk result (λ n. min (max 1 (spec.height (all_known known.now) 1 (tokens_of text.now))) 33 ≤ n) }
+    ensures bound { IfOk result
+        (λ n. min (max 1 (spec.height (all_known known.now) 1 (tokens_of text.now))) 33 ≤ n) }
     ensures shallow { IfOk result (λ n. n ≤ 33) }
 {
     let mut scan = Scan {

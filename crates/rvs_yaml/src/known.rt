@@ -5,7 +5,8 @@ ghost use Rattle.rvs_yaml.specs.Stack as stack_spec;
 ghost use Rattle.rvs_yaml.specs.Gives.{Gives};
 ghost use Rattle.rvs_yaml.specs.Heights.{found_depth};
 ghost use Rattle.rvs_yaml.specs.Block.{content_value};
-ghost use Rattle.rvs_yaml.specs.StackView.{stack_view, anchors_at, anchors_in, all_known, known_view};
+ghost use Rattle.rvs_yaml.specs.StackView.{stack_view, anchors_at, anchors_in, all_known};
+ghost use Rattle.rvs_yaml.specs.StackView.{known_view};
 ghost use Rattle.rvs_tree.specs.Standin.{formed_value};
 ghost use Rattle.rvs_tree.specs.ValueView.{value_view};
 ghost use Rattle.rvs_yaml_text.specs.WordView.{content_view};
@@ -29,7 +30,8 @@ pub(crate) struct Known<'a, 'b> {
 
 /// The places of the blocks that have anchors, the innermost first. An alias passes no others.
 pub(crate) fn anchored_places(alloc: Global, blocks: &[Open<'_>]) -> Result<Vec<usize>, AllocError>
-    ensures { IfOk result (λ l. anchors_in blocks.now l.items ≡ stack_spec.known_of (stack_view blocks.now)) }
+    ensures { IfOk result
+        (λ l. anchors_in blocks.now l.items ≡ stack_spec.known_of (stack_view blocks.now)) }
 {
     let mut places = Vec::new(alloc);
     let mut i = blocks.len();
@@ -48,7 +50,9 @@ pub(crate) fn needed_places(
     blocks: &[Open<'_>],
     content: &Content<'_>,
 ) -> Result<Vec<usize>, AllocError>
-    ensures { IfOk result (λ l. (inner : spec.Anchors) → (line : ℕ) → content_value (inner ++ anchors_in blocks.now l.items) line (content_view content.now) ≡ content_value (inner ++ stack_spec.known_of (stack_view blocks.now)) line (content_view content.now)) }
+    ensures { IfOk result (λ l. (inner : spec.Anchors) → (line : ℕ) → content_value
+        (inner ++ anchors_in blocks.now l.items) line (content_view content.now) ≡ content_value
+        (inner ++ stack_spec.known_of (stack_view blocks.now)) line (content_view content.now)) }
 {
     match content {
         Content::Alias(_, _) => anchored_places(alloc, blocks),
@@ -59,7 +63,8 @@ pub(crate) fn needed_places(
 
 /// The value of the latest anchor with this name in the block at a place.
 fn find_at<'b>(name: &str, blocks: &'b [Open<'_>], place: usize) -> Option<&'b Value>
-    ensures { option_map (λ v. value_view v.now) result ≡ spec.lookup name.now (anchors_at blocks.now place) }
+    ensures { option_map (λ v. value_view v.now) result
+        ≡ spec.lookup name.now (anchors_at blocks.now place) }
 {
     match blocks.get(place) {
         Some(open) => find_anchor(name, &open.block.anchors),
@@ -69,7 +74,8 @@ fn find_at<'b>(name: &str, blocks: &'b [Open<'_>], place: usize) -> Option<&'b V
 
 /// The value of the latest anchor with this name in the blocks at these places.
 fn find_around<'b>(name: &str, blocks: &'b [Open<'_>], places: &[usize]) -> Option<&'b Value>
-    ensures { option_map (λ v. value_view v.now) result ≡ spec.lookup name.now (anchors_in blocks.now places.now) }
+    ensures { option_map (λ v. value_view v.now) result
+        ≡ spec.lookup name.now (anchors_in blocks.now places.now) }
 {
     for place in places {
         if let Some(value) = find_at(name, blocks, *place) {
@@ -93,7 +99,8 @@ fn formed(alloc: Global, poor: bool, value: &Value) -> Result<Value, AllocError>
 impl<'a, 'b> Known<'a, 'b> {
     /// The value of the latest anchor with this name.
     fn find(&self, name: &str) -> Option<&'b Value>
-        ensures { option_map (λ v. value_view v.now) result ≡ spec.lookup name.now (all_known self.now) }
+        ensures { option_map (λ v. value_view v.now) result
+            ≡ spec.lookup name.now (all_known self.now) }
     {
         if let Some(value) = find_anchor(name, self.latest) {
             return Some(value);
@@ -101,8 +108,8 @@ impl<'a, 'b> Known<'a, 'b> {
         find_around(name, self.blocks, self.places)
     }
 
-    /// A bound on the depth of what an alias with this name stands for. From 33 on depths are counted
-    /// as 33.
+    /// A bound on the depth of what an alias with this name stands for. From 33 on depths are
+    /// counted as 33.
     pub(crate) fn alias_depth(&self, name: &str) -> u64
         ensures bound { min (found_depth (spec.lookup name.now (all_known self.now))) 33 ≤ result }
         ensures shallow { result ≤ 33 }
@@ -115,7 +122,8 @@ impl<'a, 'b> Known<'a, 'b> {
 
     /// What an alias with this name stands for.
     pub(crate) fn alias_value(&self, alloc: Global, name: &str) -> Result<Value, YamlKind>
-        ensures { Gives value_view result (spec.known_alias (spec.lookup name.now (known_view self.now))) }
+        ensures { Gives value_view result
+            (spec.known_alias (spec.lookup name.now (known_view self.now))) }
     {
         match self.find(name) {
             Some(value) => Ok(formed(alloc, self.poor, value)?),

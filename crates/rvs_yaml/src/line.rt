@@ -33,8 +33,8 @@ fn behind_dash(text: &str) -> Option<&str>
     }
 }
 
-/// The last word of a line, which stands at this column, if there is more than a comment. `item` says
-/// whether a dash stands before it.
+/// The last word of a line, which stands at this column, if there is more than a comment. `item`
+/// says whether a dash stands before it.
 fn last_word<'a>(
     alloc: Global,
     line: u64,
@@ -42,7 +42,8 @@ fn last_word<'a>(
     item: bool,
     text: &'a str,
 ) -> Result<Option<Word<'a>>, AllocError>
-    ensures { IfOk result (λ o. parts.words_in (option_map word_view o) ≡ parts.rest_words line item column text.now) }
+    ensures { IfOk result (λ o. parts.words_in (option_map word_view o)
+        ≡ parts.rest_words line item column text.now) }
 {
     if item && starts_with(b'&', text.as_bytes()) {
         let shape = anchored_item(alloc, behind_first(text))?;
@@ -53,7 +54,8 @@ fn last_word<'a>(
 
 /// A word with this shape, where there is one.
 fn word_with<'a>(line: u64, column: usize, shape: Option<Shape<'a>>) -> Option<Word<'a>>
-    ensures { parts.words_in (option_map word_view result) ≡ text_spec.word_of line column (option_map shape_view shape.entry) }
+    ensures { parts.words_in (option_map word_view result)
+        ≡ text_spec.word_of line column (option_map shape_view shape.entry) }
 {
     let shape = shape?;
     Some(Word {
@@ -70,7 +72,8 @@ fn plain_word<'a>(
     column: usize,
     text: &'a str,
 ) -> Result<Option<Word<'a>>, AllocError>
-    ensures { IfOk result (λ o. parts.words_in (option_map word_view o) ≡ text_spec.last_words line column text.now) }
+    ensures { IfOk result
+        (λ o. parts.words_in (option_map word_view o) ≡ text_spec.last_words line column text.now) }
 {
     if is_blank(true, text.as_bytes()) {
         return Ok(None);
@@ -106,7 +109,8 @@ fn read_last<'a>(
     item: bool,
     text: &'a str,
 ) -> Result<(), YamlKind>
-    ensures { Passes (λ u. stack_view blocks.new.items) result (stack_spec.steps (stack_view blocks.old.items) (parts.rest_words line item column text.now)) }
+    ensures { Passes (λ u. stack_view blocks.new.items) result (stack_spec.steps
+        (stack_view blocks.old.items) (parts.rest_words line item column text.now)) }
 {
     let Some(word) = last_word(alloc, line, column, item, text)? else {
         return Ok(());
@@ -131,7 +135,8 @@ fn read_last<'a>(
 
 /// A dash of an item, behind which this stands.
 fn dash<'a>(line: u64, column: usize, behind: &'a str) -> Word<'a>
-    ensures { word_view result ≡ text_spec.word_at line column (word_spec.dash (text_spec.item_name behind.now)) }
+    ensures { word_view result
+        ≡ text_spec.word_at line column (word_spec.dash (text_spec.item_name behind.now)) }
 {
     Word {
         line,
@@ -147,7 +152,8 @@ fn read_words<'a>(
     line: u64,
     text: &'a str,
 ) -> Result<(), YamlKind>
-    ensures { Passes (λ u. stack_view blocks.new.items) result (stack_spec.steps (stack_view blocks.old.items) (text_spec.words_at line false 0 text.now)) }
+    ensures { Passes (λ u. stack_view blocks.new.items) result (stack_spec.steps
+        (stack_view blocks.old.items) (text_spec.words_at line false 0 text.now)) }
 {
     let mut rest = without_spaces(text);
     let mut item = false;
@@ -180,7 +186,8 @@ pub(crate) fn read_line<'a>(
     started: bool,
     bytes: &'a [u8],
 ) -> Result<(), YamlKind>
-    ensures { Passes (λ u. stack_view blocks.new.items) result (stack_spec.steps (stack_view blocks.old.items) (text_spec.line_words line started bytes.now)) }
+    ensures { Passes (λ u. stack_view blocks.new.items) result (stack_spec.steps
+        (stack_view blocks.old.items) (text_spec.line_words line started bytes.now)) }
 {
     let Ok(text) = str::from_utf8(bytes) else {
         return step(alloc, blocks, refused(line, YamlKind::NotUtf8));

@@ -21,7 +21,8 @@ fn alias_content_value(
     name: &str,
     ended: bool,
 ) -> Result<Value, YamlKind>
-    ensures { Gives value_view result (block_spec.alias_value (known_view known.now) name.now ended) }
+    ensures { Gives value_view result
+        (block_spec.alias_value (known_view known.now) name.now ended) }
 {
     let value = known.alias_value(alloc, name)?;
     if ended {
@@ -39,7 +40,8 @@ pub(crate) fn content_value<'a>(
     content: Content<'a>,
 ) -> Result<Value, YamlKind>
     requires { known.now.poor ≡ false }
-    ensures { Gives value_view result (block_spec.content_value (known_view known.now) line (content_view content.entry)) }
+    ensures { Gives value_view result
+        (block_spec.content_value (known_view known.now) line (content_view content.entry)) }
 {
     match content {
         Content::Nothing => Ok(scalar_value(alloc, String::new(alloc), line)?),

@@ -34,7 +34,8 @@ fn levels(blocks: &[Open<'_>]) -> u64
 
 /// A bound on the depth of what a last word is by itself, from 33 on counted as 33.
 fn own_depth(top: &Open<'_>) -> u64
-    ensures bound { min (data_spec.depth (front_spec.own_value (open_view top.now)).tree) 33 ≤ result }
+    ensures bound { min (data_spec.depth (front_spec.own_value (open_view top.now)).tree) 33
+        ≤ result }
     ensures shallow { result ≤ 33 }
 {
     if top.head.sort.opens_block() {
@@ -48,7 +49,8 @@ fn own_depth(top: &Open<'_>) -> u64
 
 /// The depth of what a last word is by itself, from 33 on counted as 33.
 fn exact_depth(alloc: Global, top: &Open<'_>) -> Result<u64, AllocError>
-    ensures bound { IfOk result (λ n. min (data_spec.depth (front_spec.own_value (open_view top.now)).tree) 33 ≤ n) }
+    ensures bound { IfOk result
+        (λ n. min (data_spec.depth (front_spec.own_value (open_view top.now)).tree) 33 ≤ n) }
     ensures shallow { IfOk result (λ n. n ≤ 33) }
 {
     if top.head.sort.opens_block() {
@@ -63,8 +65,8 @@ fn exact_depth(alloc: Global, top: &Open<'_>) -> Result<u64, AllocError>
     }
 }
 
-/// Whether what the last word has brought may be too deep. Its value is looked through only where the
-/// bound that is kept with it is too great.
+/// Whether what the last word has brought may be too deep. Its value is looked through only where
+/// the bound that is kept with it is too great.
 pub(crate) fn may_be_deep(alloc: Global, blocks: &[Open<'_>]) -> Result<bool, AllocError>
     ensures { IfOk result (λ b. b ≡ false → spec.reach (stack_view blocks.now) ≤ 32) }
 {

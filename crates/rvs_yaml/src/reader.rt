@@ -1,6 +1,7 @@
 // Reading a text line by line.
 ghost use Rattle.std.specs.Prelude.{◌≡◌, ◌≤◌, ◌||◌, ◌&&◌, not, true, Ok, Err, IfOk, IfErr};
-ghost use Rattle.rvs_yaml.specs.Answer.{Answer, answer, IsTreeOf, RefusesLines, KeepsNodes, FrontsHaveTrees, AnswersAreLeast};
+ghost use Rattle.rvs_yaml.specs.Answer.{Answer, answer, IsTreeOf, RefusesLines, KeepsNodes};
+ghost use Rattle.rvs_yaml.specs.Answer.{FrontsHaveTrees, AnswersAreLeast};
 ghost use Rattle.rvs_yaml.specs.Front as front_spec;
 ghost use Rattle.rvs_yaml.specs.Reader as spec;
 ghost use Rattle.rvs_yaml_text.specs.Scalar as scalar_spec;
@@ -48,7 +49,8 @@ fn read_checked_line<'a>(
     bytes: &'a [u8],
 ) -> Result<(), YamlKind>
     requires { front_spec.checked_front (stack_view blocks.old.items) ≡ Ok tt }
-    ensures { Gives (λ u. stack_view blocks.new.items) result (spec.checked_line (stack_view blocks.old.items) line started bytes.now) }
+    ensures { Gives (λ u. stack_view blocks.new.items) result
+        (spec.checked_line (stack_view blocks.old.items) line started bytes.now) }
 {
     read_line(alloc, blocks, line, started, bytes)?;
     if is_blank_text(bytes) {
@@ -74,8 +76,8 @@ fn refusal(line: u64, kind: YamlKind) -> YamlRefusal
 ///
 /// # Errors
 ///
-/// The first line at which the lines so far have no tree, with the kind of the first check that fails
-/// there; line 0 for want of memory.
+/// The first line at which the lines so far have no tree, with the kind of the first check that
+/// fails there; line 0 for want of memory.
 pub fn parse(alloc: Global, bytes: &[u8]) -> Result<Tree, YamlRefusal>
     ensures tree { IfOk result (λ t. answer bytes.now ≡ Ok (view t)) }
     ensures refused { IfErr result (λ e. spec.Refuses e.kind e.line (answer bytes.now)) }
@@ -133,7 +135,8 @@ pub fn fronts_have_trees()
     ensures { FrontsHaveTrees }
 {}
 
-/// A text is refused at the least front of its lines that has no tree, and has one where there is none.
+/// A text is refused at the least front of its lines that has no tree, and has one where there is
+/// none.
 pub fn refusals_are_least()
     ensures { AnswersAreLeast }
 {}

@@ -44,8 +44,8 @@ pub(crate) struct Flowing<'a> {
     pub rest: &'a str,
 }
 
-/// A flow collection that is looked through: how many collections are open, how deep it got, from 33
-/// on counted as 33, and as in `Flowing` what is left.
+/// A flow collection that is looked through: how many collections are open, how deep it got, from
+/// 33 on counted as 33, and as in `Flowing` what is left.
 #[derive(Drop)]
 pub(crate) struct Scan<'a> {
     pub level: u128,

@@ -5,11 +5,13 @@ ghost use Rattle.rvs_yaml.specs.Stack as spec;
 ghost use Rattle.rvs_tree.specs.Value as value_spec;
 ghost use Rattle.rvs_yaml.specs.StepParts as parts;
 ghost use Rattle.rvs_yaml.specs.Gives.{Agrees, Gives};
-ghost use Rattle.rvs_yaml.specs.StackView.{anchors_view, own_view, done_view, found_view, block_view, stack_view};
+ghost use Rattle.rvs_yaml.specs.StackView.{anchors_view, own_view, done_view, found_view};
+ghost use Rattle.rvs_yaml.specs.StackView.{block_view, stack_view};
 ghost use Rattle.rvs_yaml.specs.StepView.{done_content, key_content};
 ghost use Rattle.rvs_tree.specs.ValueView.{value_view, values_view, entries_view};
 ghost use Rattle.rvs_yaml_text.specs.KeyView.{key_view};
-ghost use Rattle.rvs_yaml_text.specs.WordView.{content_view, shape_view, word_view, head_view, name_view};
+ghost use Rattle.rvs_yaml_text.specs.WordView.{content_view, shape_view, word_view, head_view};
+ghost use Rattle.rvs_yaml_text.specs.WordView.{name_view};
 
 use crate::anchoring::{joined, no_anchors, with_anchor};
 use crate::entry::entry_of;
@@ -33,7 +35,8 @@ fn no_place(shape: &Shape<'_>) -> YamlKind
 
 /// Whether the value can be merged, where its key merges.
 pub(crate) fn check_merge(key: &Key, value: &Value) -> Result<(), YamlKind>
-    ensures { Agrees (λ u. u) result (block_spec.check_merge (key_view key.now) (value_view value.now)) }
+    ensures { Agrees (λ u. u) result
+        (block_spec.check_merge (key_view key.now) (value_view value.now)) }
 {
     if key.merges && !value.mergeable {
         Err(YamlKind::BadMerge)
@@ -55,7 +58,8 @@ fn item_at(column: usize, word: &Word<'_>) -> Result<(), YamlKind>
 
 /// Whether the key is new in the map, or merges.
 fn check_new(entries: &EntryList, key: &Key) -> Result<(), YamlKind>
-    ensures { Agrees (λ u. u) result (parts.check_new (value_spec.explicit_keys (entries_view entries.now.entries.items)) (key_view key.now)) }
+    ensures { Agrees (λ u. u) result (parts.check_new
+        (value_spec.explicit_keys (entries_view entries.now.entries.items)) (key_view key.now)) }
 {
     if key.merges {
         return Ok(());
@@ -73,7 +77,9 @@ fn key_at<'a>(
     entries: &EntryList,
     word: Word<'a>,
 ) -> Result<(Key, Content<'a>), YamlKind>
-    ensures { Agrees key_content result (parts.keyed_content column (value_spec.explicit_keys (entries_view entries.now.entries.items)) (word_view word.entry)) }
+    ensures { Agrees key_content result (parts.keyed_content column
+        (value_spec.explicit_keys (entries_view entries.now.entries.items))
+        (word_view word.entry)) }
 {
     let Word {
         line: _,
@@ -102,7 +108,8 @@ fn next_entry<'a>(
     value: Value,
     word: Word<'a>,
 ) -> Result<(Done, Content<'a>), YamlKind>
-    ensures { Gives done_content result (parts.next_entry (entries_view entries.entries.items) (key_view key) column (value_view value) (word_view word.entry)) }
+    ensures { Gives done_content result (parts.next_entry (entries_view entries.entries.items)
+        (key_view key) column (value_view value) (word_view word.entry)) }
 {
     check_merge(&key, &value)?;
     let entries = entries.with(alloc, entry_of(key, value))?;
@@ -120,7 +127,8 @@ fn next_item<'a>(
     value: Value,
     word: &Word<'a>,
 ) -> Result<(Done, Content<'a>), YamlKind>
-    ensures { Gives done_content result (parts.next_item (values_view items.values.items) column (value_view value) (word_view word.now)) }
+    ensures { Gives done_content result (parts.next_item (values_view items.values.items) column
+        (value_view value) (word_view word.now)) }
 {
     item_at(column, word)?;
     let items = items.with(value)?;
@@ -135,7 +143,8 @@ fn advanced<'a>(
     value: Value,
     word: Word<'a>,
 ) -> Result<(Done, Content<'a>), YamlKind>
-    ensures { Gives done_content result (parts.advanced_content (done_view done) column (value_view value) (word_view word.entry)) }
+    ensures { Gives done_content result
+        (parts.advanced_content (done_view done) column (value_view value) (word_view word.entry)) }
 {
     match done {
         Done::Items(items) => next_item(items, column, value, &word),
@@ -149,7 +158,8 @@ fn advanced<'a>(
 
 /// What a block is that begins with such a word, and what is behind that.
 fn begun<'a>(alloc: Global, shape: Shape<'a>) -> Result<(Done, Content<'a>), AllocError>
-    ensures { IfOk result (λ p. done_content p ≡ (spec.begun_done (shape_view shape.entry), parts.own_content (shape_view shape.entry))) }
+    ensures { IfOk result (λ p. done_content p
+        ≡ (spec.begun_done (shape_view shape.entry), parts.own_content (shape_view shape.entry))) }
 {
     match shape {
         Shape::Dash(_) => Ok((Done::Items(ValueList::new(alloc)), Content::Nothing)),
@@ -175,7 +185,9 @@ fn put<'a>(
     head: Head<'a>,
     content: Content<'a>,
 ) -> Result<(), YamlKind>
-    ensures { Gives (λ u. stack_view blocks.new.items) result (parts.put_content (block_view block.entry) (stack_view blocks.old.items) (head_view head.entry) (content_view content.entry)) }
+    ensures { Gives (λ u. stack_view blocks.new.items) result (parts.put_content
+        (block_view block.entry) (stack_view blocks.old.items) (head_view head.entry)
+        (content_view content.entry)) }
 {
     let own = own_of(alloc, blocks.as_slice(), &block, head.line, content)?;
     blocks.push(Open { block, head, own })?;
@@ -190,7 +202,9 @@ fn own_of<'a>(
     line: u64,
     content: Content<'a>,
 ) -> Result<Option<Box<Value>>, YamlKind>
-    ensures { Gives (own_view line) result (block_spec.content_value (anchors_view block.now.anchors.anchors.items ++ spec.known_of (stack_view blocks.now)) line (content_view content.entry)) }
+    ensures { Gives (own_view line) result (block_spec.content_value
+        (anchors_view block.now.anchors.anchors.items ++ spec.known_of (stack_view blocks.now)) line
+        (content_view content.entry)) }
 {
     if matches!(content, Content::Nothing) {
         return Ok(None);
@@ -208,7 +222,8 @@ fn own_of<'a>(
 
 /// Opens the block that begins with a word.
 fn begin<'a>(alloc: Global, blocks: &mut Vec<Open<'a>>, word: Word<'a>) -> Result<(), YamlKind>
-    ensures { Gives (λ u. stack_view blocks.new.items) result (spec.begins (stack_view blocks.old.items) (word_view word.entry)) }
+    ensures { Gives (λ u. stack_view blocks.new.items) result
+        (spec.begins (stack_view blocks.old.items) (word_view word.entry)) }
 {
     let head = word.head();
     let (done, content) = begun(alloc, word.shape)?;
@@ -229,7 +244,9 @@ fn advance<'a>(
     found: Found<'a>,
     word: Word<'a>,
 ) -> Result<(), YamlKind>
-    ensures { Gives (λ u. stack_view blocks.new.items) result (spec.advanced (parts.bare (block_view block.entry)) (found_view found.entry) (stack_view blocks.old.items) (word_view word.entry)) }
+    ensures { Gives (λ u. stack_view blocks.new.items) result (spec.advanced
+        (parts.bare (block_view block.entry)) (found_view found.entry) (stack_view blocks.old.items)
+        (word_view word.entry)) }
 {
     let head = word.head();
     let Block {
@@ -264,7 +281,8 @@ fn named<'a>(
     name: Option<&'a str>,
     found: Found<'a>,
 ) -> Result<Found<'a>, AllocError>
-    ensures { IfOk result (λ g. found_view g ≡ block_spec.named (name_view name.entry) (found_view found.entry)) }
+    ensures { IfOk result
+        (λ g. found_view g ≡ block_spec.named (name_view name.entry) (found_view found.entry)) }
 {
     let Some(name) = name else {
         return Ok(found);
@@ -299,7 +317,8 @@ fn own_found<'a>(
     head: Head<'a>,
     own: Option<Box<Value>>,
 ) -> Result<Found<'a>, AllocError>
-    ensures { IfOk result (λ g. found_view g ≡ parts.own_of (head_view head.entry) (own_view head.entry.line own)) }
+    ensures { IfOk result
+        (λ g. found_view g ≡ parts.own_of (head_view head.entry) (own_view head.entry.line own)) }
 {
     let value = if head.sort.opens_block() {
         scalar_value(alloc, String::new(alloc), head.line)?
@@ -320,7 +339,8 @@ pub(crate) fn closed_value(
     done: Done,
     value: Value,
 ) -> Result<Value, YamlKind>
-    ensures { Gives value_view result (parts.closed_value (done_view done) line (value_view value)) }
+    ensures { Gives value_view result
+        (parts.closed_value (done_view done) line (value_view value)) }
 {
     match done {
         Done::Items(items) => {
@@ -339,7 +359,8 @@ pub(crate) fn closed_value(
 
 /// A block that is complete with the value of its open member.
 fn closed<'a>(alloc: Global, block: Block<'a>, found: Found<'a>) -> Result<Found<'a>, YamlKind>
-    ensures { Gives found_view result (spec.closed (parts.bare (block_view block.entry)) (found_view found.entry)) }
+    ensures { Gives found_view result
+        (spec.closed (parts.bare (block_view block.entry)) (found_view found.entry)) }
 {
     let Block {
         line,
@@ -366,7 +387,8 @@ fn closed_into<'a>(
     found: Found<'a>,
     name: Option<&'a str>,
 ) -> Result<Found<'a>, YamlKind>
-    ensures { Gives found_view result (spec.closed_into (parts.bare (block_view block.entry)) (found_view found.entry) (name_view name.entry)) }
+    ensures { Gives found_view result (spec.closed_into (parts.bare (block_view block.entry))
+        (found_view found.entry) (name_view name.entry)) }
 {
     let found = closed(alloc, block, found)?;
     Ok(named(alloc, name, found)?)
@@ -380,7 +402,9 @@ fn settle<'a>(
     mut found: Found<'a>,
     word: Word<'a>,
 ) -> Result<(), YamlKind>
-    ensures { Gives (λ u. stack_view blocks.new.items) result (spec.settled (found_view found.entry) (parts.bare (block_view block.entry)) (stack_view blocks.old.items) (word_view word.entry)) }
+    ensures { Gives (λ u. stack_view blocks.new.items) result (spec.settled (found_view found.entry)
+        (parts.bare (block_view block.entry)) (stack_view blocks.old.items)
+        (word_view word.entry)) }
 {
     while let Some(outer) = blocks.pop() {
         if is_below(&outer.head, &word) {
@@ -404,7 +428,8 @@ pub(crate) fn step<'a>(
     blocks: &mut Vec<Open<'a>>,
     word: Word<'a>,
 ) -> Result<(), YamlKind>
-    ensures { Gives (λ u. stack_view blocks.new.items) result (spec.step (stack_view blocks.old.items) (word_view word.entry)) }
+    ensures { Gives (λ u. stack_view blocks.new.items) result
+        (spec.step (stack_view blocks.old.items) (word_view word.entry)) }
 {
     let Some(top) = blocks.pop() else {
         return begin(alloc, blocks, word);

@@ -1,11 +1,14 @@
 -- Scanning a text from its front.
-use Rattle.std.proofs.Common.{◌≡◌, ℕ, ◌+◌, ◌<◌, Bool, true, false, List, [], ◌∷◌, ◌++◌, length, take, drop, get_or, Some, None, option_map, refl, sym, ap, ◌∙◌, arith, append_assoc, append-nil}
+use Rattle.std.proofs.Common.{◌≡◌, ℕ, ◌+◌, ◌<◌, Bool, true, false, List, [], ◌∷◌, ◌++◌, length}
+use Rattle.std.proofs.Common.{take, drop, get_or, Some, None, option_map, refl, sym, ap, ◌∙◌, arith}
+use Rattle.std.proofs.Common.{append_assoc, append-nil}
 use Rattle.std.proofs.Math.Seq.{drop-cons}
 use Rattle.std.proofs.lemmas.List.{take_more}
 use Rattle.std.proofs.Common.{add-one, ◌-◌, length-drop}
 use Rattle.std.proofs.lemmas.Bool.Decides.{nat_tests}
 use Rattle.std.specs.Prelude.{◌==◌, ◌&&◌}
-use Rattle.rvs_yaml_text.specs.Scalar.{Split, onto, trimmed, push_front, key_split, ends_indicator, name_split, is_name_byte, without_spaces}
+use Rattle.rvs_yaml_text.specs.Scalar.{Split, onto, trimmed, push_front, key_split, ends_indicator}
+use Rattle.rvs_yaml_text.specs.Scalar.{name_split, is_name_byte, without_spaces}
 
 -- a split with more text at its front
 abbrev pub onto_all : List ℕ → Split → Split
@@ -14,7 +17,8 @@ onto_all xs o = option_map (λ p. (xs ++ p.0, p.1)) o
 abbrev pub front_too : List ℕ → List ℕ × List ℕ → List ℕ × List ℕ
 front_too xs p = (xs ++ p.0, p.1)
 
-pub onto_all-onto : (xs : List ℕ) (b : ℕ) (o : Split) → onto_all xs (onto b o) ≡ onto_all (xs ++ b ∷ []) o
+pub onto_all-onto : (xs : List ℕ) (b : ℕ) (o : Split)
+    → onto_all xs (onto b o) ≡ onto_all (xs ++ b ∷ []) o
 onto_all-onto xs b None = refl
 onto_all-onto xs b (Some p) = ap (λ ys. Some (ys, p.1)) (sym (append_assoc xs (b ∷ []) p.0))
 
@@ -22,7 +26,8 @@ pub trimmed-space : (xs : List ℕ) → trimmed (xs ++ 32 ∷ []) ≡ trimmed xs
 trimmed-space [] = refl
 trimmed-space (x ∷ xs) = ap (push_front x) (trimmed-space xs)
 
-pub trimmed-solid : (xs : List ℕ) (b : ℕ) → (b == 32) ≡ false → trimmed (xs ++ b ∷ []) ≡ xs ++ b ∷ []
+pub trimmed-solid : (xs : List ℕ) (b : ℕ) → (b == 32) ≡ false
+    → trimmed (xs ++ b ∷ []) ≡ xs ++ b ∷ []
 trimmed-solid [] b h = rw h refl
 trimmed-solid (x ∷ []) b h = ap (push_front x) (trimmed-solid [] b h)
 trimmed-solid (x ∷ y ∷ xs) b h = ap (push_front x) (trimmed-solid (y ∷ xs) b h)
@@ -30,31 +35,43 @@ trimmed-solid (x ∷ y ∷ xs) b h = ap (push_front x) (trimmed-solid (y ∷ xs)
 pub drop-at : (bs : List ℕ) (i : ℕ) → i < length bs → drop i bs ≡ get_or bs i 0 ∷ drop (i + 1) bs
 drop-at bs i h = rw add-one (drop-cons bs i 0 h)
 
-found-here : (sp : Bool) (b : ℕ) (bs : List ℕ) → (b == 35 && sp) ≡ false → (b == 58 && ends_indicator bs) ≡ true → key_split sp (b ∷ bs) ≡ Some ([], bs)
+found-here : (sp : Bool) (b : ℕ) (bs : List ℕ) → (b == 35 && sp) ≡ false
+    → (b == 58 && ends_indicator bs) ≡ true → key_split sp (b ∷ bs) ≡ Some ([], bs)
 found-here sp b bs c e = rw (c, key_split) (rw (e, key_split) refl)
 
-more-here : (sp : Bool) (b : ℕ) (bs : List ℕ) → (b == 35 && sp) ≡ false → (b == 58 && ends_indicator bs) ≡ false → key_split sp (b ∷ bs) ≡ onto b (key_split (b == 32) bs)
+more-here : (sp : Bool) (b : ℕ) (bs : List ℕ) → (b == 35 && sp) ≡ false
+    → (b == 58 && ends_indicator bs) ≡ false
+    → key_split sp (b ∷ bs) ≡ onto b (key_split (b == 32) bs)
 more-here sp b bs c e = rw (c, key_split) (rw (e, key_split) refl)
 
-pub key-found : (sp : Bool) (bs : List ℕ) (i : ℕ) → i < length bs → (get_or bs i 0 == 35 && sp) ≡ false → (get_or bs i 0 == 58 && ends_indicator (drop (i + 1) bs)) ≡ true →
+pub key-found : (sp : Bool) (bs : List ℕ) (i : ℕ) → i < length bs
+    → (get_or bs i 0 == 35 && sp) ≡ false
+    → (get_or bs i 0 == 58 && ends_indicator (drop (i + 1) bs)) ≡ true →
     onto_all (take i bs) (key_split sp (drop i bs)) ≡ Some (take i bs, drop (i + 1) bs)
 key-found sp bs i h c e =
     ap (λ ys. onto_all (take i bs) (key_split sp ys)) (drop-at bs i h)
     ∙ ap (onto_all (take i bs)) (found-here sp (get_or bs i 0) (drop (i + 1) bs) c e)
     ∙ ap (λ ys. Some (ys, drop (i + 1) bs)) (append-nil (take i bs))
 
-pub key-more : (sp : Bool) (bs : List ℕ) (i : ℕ) → i < length bs → (get_or bs i 0 == 35 && sp) ≡ false → (get_or bs i 0 == 58 && ends_indicator (drop (i + 1) bs)) ≡ false →
-    onto_all (take (i + 1) bs) (key_split (get_or bs i 0 == 32) (drop (i + 1) bs)) ≡ onto_all (take i bs) (key_split sp (drop i bs))
+pub key-more : (sp : Bool) (bs : List ℕ) (i : ℕ) → i < length bs
+    → (get_or bs i 0 == 35 && sp) ≡ false
+    → (get_or bs i 0 == 58 && ends_indicator (drop (i + 1) bs)) ≡ false →
+    onto_all (take (i + 1) bs) (key_split (get_or bs i 0 == 32) (drop (i + 1) bs))
+    ≡ onto_all (take i bs) (key_split sp (drop i bs))
 key-more sp bs i h c e =
     ap (λ xs. onto_all xs (key_split (get_or bs i 0 == 32) (drop (i + 1) bs))) (take_more bs i 0 h)
-    ∙ sym (onto_all-onto (take i bs) (get_or bs i 0) (key_split (get_or bs i 0 == 32) (drop (i + 1) bs)))
+    ∙ sym (onto_all-onto (take i bs) (get_or bs i 0)
+    (key_split (get_or bs i 0 == 32) (drop (i + 1) bs)))
     ∙ ap (onto_all (take i bs)) (sym (more-here sp (get_or bs i 0) (drop (i + 1) bs) c e))
     ∙ sym (ap (λ ys. onto_all (take i bs) (key_split sp ys)) (drop-at bs i h))
 
-name-here : (b : ℕ) (bs : List ℕ) → is_name_byte b ≡ true → name_split (b ∷ bs) ≡ (b ∷ (name_split bs).0, (name_split bs).1)
+name-here : (b : ℕ) (bs : List ℕ) → is_name_byte b ≡ true
+    → name_split (b ∷ bs) ≡ (b ∷ (name_split bs).0, (name_split bs).1)
 name-here b bs e = rw (e, name_split) refl
 
-pub name-more : (bs : List ℕ) (i : ℕ) → i < length bs → is_name_byte (get_or bs i 0) ≡ true → front_too (take (i + 1) bs) (name_split (drop (i + 1) bs)) ≡ front_too (take i bs) (name_split (drop i bs))
+pub name-more : (bs : List ℕ) (i : ℕ) → i < length bs → is_name_byte (get_or bs i 0) ≡ true
+    → front_too (take (i + 1) bs) (name_split (drop (i + 1) bs))
+    ≡ front_too (take i bs) (name_split (drop i bs))
 name-more bs i h e =
     let rest = name_split (drop (i + 1) bs) in
     ap (λ xs. (xs ++ rest.0, rest.1)) (take_more bs i 0 h)
@@ -65,14 +82,20 @@ name-more bs i h e =
 space-here : (b : ℕ) (bs : List ℕ) → b ≡ 32 → without_spaces (b ∷ bs) ≡ without_spaces bs
 space-here b bs e = rw (e, without_spaces) refl
 
-pub spaces-more : (bs : List ℕ) (i : ℕ) → i < length bs → get_or bs i 0 ≡ 32 → without_spaces (drop (i + 1) bs) ≡ without_spaces (drop i bs)
-spaces-more bs i h e = sym (ap without_spaces (drop-at bs i h) ∙ space-here (get_or bs i 0) (drop (i + 1) bs) e)
+pub spaces-more : (bs : List ℕ) (i : ℕ) → i < length bs → get_or bs i 0 ≡ 32
+    → without_spaces (drop (i + 1) bs) ≡ without_spaces (drop i bs)
+spaces-more bs i h e =
+    sym (ap without_spaces (drop-at bs i h) ∙ space-here (get_or bs i 0) (drop (i + 1) bs) e)
 
-pub solid-more : (bs : List ℕ) (m : ℕ) → m < length bs → get_or bs m 0 ≡ 32 → trimmed (take m bs) ≡ trimmed (take (m + 1) bs)
-solid-more bs m h e = sym (ap trimmed (take_more bs m 0 h) ∙ ap (λ b. trimmed (take m bs ++ b ∷ [])) e ∙ trimmed-space (take m bs))
+pub solid-more : (bs : List ℕ) (m : ℕ) → m < length bs → get_or bs m 0 ≡ 32
+    → trimmed (take m bs) ≡ trimmed (take (m + 1) bs)
+solid-more bs m h e = sym (ap trimmed (take_more bs m 0 h)
+    ∙ ap (λ b. trimmed (take m bs ++ b ∷ [])) e ∙ trimmed-space (take m bs))
 
-pub solid-end : (bs : List ℕ) (m : ℕ) → m < length bs → (get_or bs m 0 == 32) ≡ false → trimmed (take (m + 1) bs) ≡ take (m + 1) bs
-solid-end bs m h e = ap trimmed (take_more bs m 0 h) ∙ trimmed-solid (take m bs) (get_or bs m 0) e ∙ sym (take_more bs m 0 h)
+pub solid-end : (bs : List ℕ) (m : ℕ) → m < length bs → (get_or bs m 0 == 32) ≡ false
+    → trimmed (take (m + 1) bs) ≡ take (m + 1) bs
+solid-end bs m h e = ap trimmed (take_more bs m 0 h) ∙ trimmed-solid (take m bs) (get_or bs m 0) e
+    ∙ sym (take_more bs m 0 h)
 
 pub ne_test : (a b : ℕ) → (a ≡ b → ⊥) → (a == b) ≡ false
 ne_test a b h = grind (arith, nat_tests)

@@ -1,7 +1,11 @@
 -- The numbers under which refusals are printed.
 use Rattle.std.specs.Prelude.{ℕ}
 use Rattle.rvs_yaml_text.specs.declared.kind.YamlKind.{YamlKind}
-use Rattle.rvs_yaml_text.specs.declared.kind.YamlKind.TheVariants.{NotUtf8, TabIndent, BadIndent, BadScalar, BadFlow, DuplicateKey, UnknownAlias, BadMerge, Unsupported, TooDeep, TooManyNodes, NoMemory}
+use Rattle.rvs_yaml_text.specs.declared.kind.YamlKind.TheVariants.{NotUtf8, TabIndent, BadIndent}
+use Rattle.rvs_yaml_text.specs.declared.kind.YamlKind.TheVariants.{BadScalar, BadFlow, DuplicateKey}
+use Rattle.rvs_yaml_text.specs.declared.kind.YamlKind.TheVariants.{UnknownAlias, BadMerge}
+use Rattle.rvs_yaml_text.specs.declared.kind.YamlKind.TheVariants.{Unsupported, TooDeep}
+use Rattle.rvs_yaml_text.specs.declared.kind.YamlKind.TheVariants.{TooManyNodes, NoMemory}
 
 abbrev pub number_of : YamlKind → ℕ
 number_of NotUtf8 = 1

@@ -1,5 +1,6 @@
--- What the text of a line says, in the order in which it is to be read: bytes by their names, the words of a line and the
--- tokens of a flow collection, scalars and comments, tokens in a text, and lines with their words.
+-- What the text of a line says, in the order in which it is to be read: bytes by their names, the
+-- words of a line and the tokens of a flow collection, scalars and comments, tokens in a text, and
+-- lines with their words.
 pub mod Bytes
 pub mod Word
 pub mod Scalar

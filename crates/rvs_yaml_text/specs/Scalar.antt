@@ -1,6 +1,14 @@
 -- Scalars, names and comments in the text of a line.
-use Rattle.std.specs.Prelude.{ℕ, Bool, true, false, ◌&&◌, ◌||◌, ◌==◌, nat_le, if◌then◌else◌, List, [], ◌∷◌, drop, bytes_eq, Option, Some, None, option_map, codes}
-use Rattle.rvs_yaml_text.specs.Bytes.{tab_byte, feed_byte, space_byte, bang_byte, double_quote_byte, hash_byte, percent_byte, ampersand_byte, single_quote_byte, star_byte, comma_byte, dash_byte, zero_byte, nine_byte, colon_byte, greater_byte, question_byte, at_sign_byte, upper_a_byte, upper_z_byte, open_square_byte, backslash_byte, close_square_byte, underscore_byte, backquote_byte, lower_a_byte, lower_n_byte, lower_t_byte, lower_z_byte, open_curly_byte, bar_byte, close_curly_byte}
+use Rattle.std.specs.Prelude.{ℕ, Bool, true, false, ◌&&◌, ◌||◌, ◌==◌, nat_le, if◌then◌else◌, List}
+use Rattle.std.specs.Prelude.{[], ◌∷◌, drop, bytes_eq, Option, Some, None, option_map, codes}
+use Rattle.rvs_yaml_text.specs.Bytes.{tab_byte, feed_byte, space_byte, bang_byte, double_quote_byte}
+use Rattle.rvs_yaml_text.specs.Bytes.{hash_byte, percent_byte, ampersand_byte, single_quote_byte}
+use Rattle.rvs_yaml_text.specs.Bytes.{star_byte, comma_byte, dash_byte, zero_byte, nine_byte}
+use Rattle.rvs_yaml_text.specs.Bytes.{colon_byte, greater_byte, question_byte, at_sign_byte}
+use Rattle.rvs_yaml_text.specs.Bytes.{upper_a_byte, upper_z_byte, open_square_byte, backslash_byte}
+use Rattle.rvs_yaml_text.specs.Bytes.{close_square_byte, underscore_byte, backquote_byte}
+use Rattle.rvs_yaml_text.specs.Bytes.{lower_a_byte, lower_n_byte, lower_t_byte, lower_z_byte}
+use Rattle.rvs_yaml_text.specs.Bytes.{open_curly_byte, bar_byte, close_curly_byte}
 use Rattle.rvs_yaml_text.specs.Word.{Key}
 use Rattle.rvs_yaml_text.specs.declared.kind.YamlKind.{YamlKind}
 use Rattle.rvs_yaml_text.specs.declared.kind.YamlKind.TheVariants.{BadScalar, Unsupported}
@@ -8,17 +16,20 @@ use Rattle.rvs_yaml_text.specs.declared.kind.YamlKind.TheVariants.{BadScalar, Un
 -- only spaces, tabs and a comment, which stands first or after a space
 abbrev pub is_blank : Bool → List ℕ → Bool
 is_blank spaced [] = true
-is_blank spaced (b ∷ bs) = (b == hash_byte && spaced) || ((b == space_byte || b == tab_byte) && is_blank (b == space_byte) bs)
+is_blank spaced (b ∷ bs) = (b == hash_byte && spaced)
+    || ((b == space_byte || b == tab_byte) && is_blank (b == space_byte) bs)
 
 -- only spaces and a comment
 abbrev pub only_comment : Bool → List ℕ → Bool
 only_comment spaced [] = true
-only_comment spaced (b ∷ bs) = (b == hash_byte && spaced) || (b == space_byte && only_comment true bs)
+only_comment spaced (b ∷ bs) =
+    (b == hash_byte && spaced) || (b == space_byte && only_comment true bs)
 
 -- the text, up to a comment
 abbrev pub uncommented : Bool → List ℕ → List ℕ
 uncommented spaced [] = []
-uncommented spaced (b ∷ bs) = if b == hash_byte && spaced then [] else b ∷ uncommented (b == space_byte) bs
+uncommented spaced (b ∷ bs) = if b == hash_byte && spaced then []
+    else b ∷ uncommented (b == space_byte) bs
 
 -- the text without the spaces at its end
 abbrev pub push_front : ℕ → List ℕ → List ℕ
@@ -60,28 +71,41 @@ key_split spaced (b ∷ bs) =
     elim (b == hash_byte && spaced) [
       | true ↦ None
       | false ↦
-          elim (b == colon_byte && ends_indicator bs) [ true ↦ Some ([], bs) | false ↦ onto b (key_split (b == space_byte) bs) ]
+          elim (b == colon_byte && ends_indicator bs) [
+            | true ↦ Some ([], bs)
+            | false ↦ onto b (key_split (b == space_byte) bs)
+          ]
     ]
 
--- The text of a scalar in single quotes, behind the first one, and what is behind the last. Two quotes are one.
+-- The text of a scalar in single quotes, behind the first one, and what is behind the last. Two
+-- quotes are one.
 abbrev mutual
   pub single : List ℕ → Split
   single [] = None
-  single (b ∷ bs) = elim (b == single_quote_byte) [ true ↦ behind_quote bs | false ↦ onto b (single bs) ]
+  single (b ∷ bs) =
+      elim (b == single_quote_byte) [ true ↦ behind_quote bs | false ↦ onto b (single bs) ]
 
   pub behind_quote : List ℕ → Split
   behind_quote [] = Some ([], [])
-  behind_quote (b ∷ bs) = elim (b == single_quote_byte) [ true ↦ onto single_quote_byte (single bs) | false ↦ Some ([], b ∷ bs) ]
+  behind_quote (b ∷ bs) = elim (b == single_quote_byte) [
+    | true ↦ onto single_quote_byte (single bs)
+    | false ↦ Some ([], b ∷ bs)
+  ]
 
 -- what a character behind a backslash stands for
 abbrev pub escaped : ℕ → Option ℕ
-escaped b = if b == backslash_byte || b == double_quote_byte then Some b else if b == lower_n_byte then Some feed_byte else if b == lower_t_byte then Some tab_byte else None
+escaped b = if b == backslash_byte || b == double_quote_byte then Some b
+    else if b == lower_n_byte then Some feed_byte else if b == lower_t_byte then Some tab_byte
+    else None
 
 -- the text of a scalar in double quotes, behind the first one, and what is behind the last
 abbrev mutual
   pub double : List ℕ → Split
   double [] = None
-  double (b ∷ bs) = elim (b == double_quote_byte) [ true ↦ Some ([], bs) | false ↦ elim (b == backslash_byte) [ true ↦ behind_backslash bs | false ↦ onto b (double bs) ] ]
+  double (b ∷ bs) = elim (b == double_quote_byte) [
+    | true ↦ Some ([], bs)
+    | false ↦ elim (b == backslash_byte) [ true ↦ behind_backslash bs | false ↦ onto b (double bs) ]
+  ]
 
   pub behind_backslash : List ℕ → Split
   behind_backslash [] = None
@@ -92,23 +116,36 @@ starts_quoted bytes = starts_with single_quote_byte bytes || starts_with double_
 
 -- the text of a quoted scalar, and what is behind it
 abbrev pub quoted : List ℕ → Split
-quoted bytes = elim (starts_with single_quote_byte bytes) [ true ↦ single (drop 1 bytes) | false ↦ double (drop 1 bytes) ]
+quoted bytes = elim (starts_with single_quote_byte bytes) [
+  | true ↦ single (drop 1 bytes)
+  | false ↦ double (drop 1 bytes)
+]
 
 -- letters, digits, `_` and `-`
 abbrev pub is_name_byte : ℕ → Bool
-is_name_byte b = ((nat_le zero_byte b && nat_le b nine_byte) || (nat_le upper_a_byte b && nat_le b upper_z_byte)) || ((nat_le lower_a_byte b && nat_le b lower_z_byte) || (b == underscore_byte || b == dash_byte))
+is_name_byte b = ((nat_le zero_byte b && nat_le b nine_byte)
+    || (nat_le upper_a_byte b && nat_le b upper_z_byte))
+    || ((nat_le lower_a_byte b && nat_le b lower_z_byte)
+    || (b == underscore_byte || b == dash_byte))
 
 abbrev pub name_split : List ℕ → List ℕ × List ℕ
 name_split [] = ([], [])
-name_split (b ∷ bs) = elim (is_name_byte b) [ true ↦ (b ∷ (name_split bs).0, (name_split bs).1) | false ↦ ([], b ∷ bs) ]
+name_split (b ∷ bs) = elim (is_name_byte b) [
+  | true ↦ (b ∷ (name_split bs).0, (name_split bs).1)
+  | false ↦ ([], b ∷ bs)
+]
 
 -- `! | > %`
 abbrev pub is_unsupported_start : ℕ → Bool
-is_unsupported_start b = b == bang_byte || (b == bar_byte || (b == greater_byte || b == percent_byte))
+is_unsupported_start b =
+    b == bang_byte || (b == bar_byte || (b == greater_byte || b == percent_byte))
 
 -- `& * ' " [ { , ] } @` and the backquote, and `#`
 abbrev pub is_reserved_start : ℕ → Bool
-is_reserved_start b = ((b == ampersand_byte || b == star_byte) || (b == single_quote_byte || b == double_quote_byte)) || (((b == open_square_byte || b == open_curly_byte) || (b == comma_byte || b == close_square_byte)) || ((b == close_curly_byte || b == at_sign_byte) || (b == backquote_byte || b == hash_byte)))
+is_reserved_start b = ((b == ampersand_byte || b == star_byte) || (b == single_quote_byte
+    || b == double_quote_byte)) || (((b == open_square_byte || b == open_curly_byte)
+    || (b == comma_byte || b == close_square_byte)) || ((b == close_curly_byte || b == at_sign_byte)
+    || (b == backquote_byte || b == hash_byte)))
 
 -- `? - :`
 abbrev pub is_indicator_byte : ℕ → Bool

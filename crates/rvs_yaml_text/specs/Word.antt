@@ -1,4 +1,5 @@
--- The words of a line: each dash of an item is a word of its own, and the last word is a key with what is behind it, or a leaf.
+-- The words of a line: each dash of an item is a word of its own, and the last word is a key with
+-- what is behind it, or a leaf.
 use Rattle.std.specs.Prelude.{ℕ, Bool, true, false, ◌&&◌, ◌||◌, ◌==◌, nat_lt, List, Option, None}
 use Rattle.rvs_yaml_text.specs.declared.kind.YamlKind.{YamlKind}
 
@@ -31,7 +32,8 @@ pub data Token : Type 0 where
   late_colon : Token
   fault : YamlKind → Token
 
--- What stands behind a key on its line, or in a line by itself; of an alias, whether at most a comment is behind it.
+-- What stands behind a key on its line, or in a line by itself; of an alias, whether at most a
+-- comment is behind it.
 pub data Content : Type 0 where
   nothing : Content
   text : List ℕ → Content
@@ -96,8 +98,10 @@ pub record Head : Type 0 where
   pub anchor : Name
 
 abbrev pub head_of : Word → Head
-head_of w = record { line = w.line; column = w.column; sort = sort_of w.shape; anchor = anchor_of w.shape }
+head_of w =
+    record { line = w.line; column = w.column; sort = sort_of w.shape; anchor = anchor_of w.shape }
 
 -- The words below a word are deeper. The dashes below a bare key may also stand right under it.
 abbrev pub is_below : Head → Word → Bool
-is_below h u = nat_lt h.column u.column || (is_bare_key h.sort && is_dash (sort_of u.shape) && h.column == u.column)
+is_below h u = nat_lt h.column u.column
+    || (is_bare_key h.sort && is_dash (sort_of u.shape) && h.column == u.column)

@@ -7,7 +7,8 @@ use Rattle.rvs_yaml_text.specs.KeyView.{key_view}
 use Rattle.rvs_yaml_text.specs.declared.word.Bracket.{Bracket}
 use Rattle.rvs_yaml_text.specs.declared.word.Bracket.TheVariants.{Square, Curly}
 use Rattle.rvs_yaml_text.specs.declared.word.Content.{Content}
-use Rattle.rvs_yaml_text.specs.declared.word.Content.TheVariants.{Nothing, Text, Alias, Flow, Faulty}
+use Rattle.rvs_yaml_text.specs.declared.word.Content.TheVariants.{Nothing, Text, Alias, Flow}
+use Rattle.rvs_yaml_text.specs.declared.word.Content.TheVariants.{Faulty}
 use Rattle.rvs_yaml_text.specs.declared.word.Shape.{Shape}
 use Rattle.rvs_yaml_text.specs.declared.word.Shape.TheVariants.{Dash, Key, Leaf, Refused}
 use Rattle.rvs_yaml_text.specs.declared.word.Word.{Word}
@@ -44,4 +45,9 @@ sort_view sort.BareKey = spec.a_bare_key
 sort_view sort.Other = spec.no_opener
 
 abbrev pub head_view : Head → spec.Head
-head_view h = record { line = h.line; column = h.column; sort = sort_view h.sort; anchor = name_view h.anchor }
+head_view h = record {
+  line = h.line;
+  column = h.column;
+  sort = sort_view h.sort;
+  anchor = name_view h.anchor;
+}

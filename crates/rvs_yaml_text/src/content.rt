@@ -45,7 +45,8 @@ fn alias_content<'a>(text: &'a str) -> Content<'a>
 
 /// The content of a plain scalar by itself.
 fn plain_content<'a>(alloc: Global, text: &'a str) -> Result<Content<'a>, AllocError>
-    ensures { IfOk result (λ c. content_view c ≡ spec.plain (scalar_spec.start_fault text.now) text.now) }
+    ensures { IfOk result
+        (λ c. content_view c ≡ spec.plain (scalar_spec.start_fault text.now) text.now) }
 {
     if let Some(kind) = start_fault(text.as_bytes()) {
         return Ok(Content::Faulty(kind));
@@ -214,7 +215,8 @@ pub fn item_name(text: &str) -> Option<&str>
 
 /// The word behind the `&` of an item, where there is more than the anchor.
 pub fn anchored_item<'a>(alloc: Global, text: &'a str) -> Result<Option<Shape<'a>>, AllocError>
-    ensures { IfOk result (λ o. option_map shape_view o ≡ spec.anchored_shape (spec.anchor_split text.now)) }
+    ensures { IfOk result
+        (λ o. option_map shape_view o ≡ spec.anchored_shape (spec.anchor_split text.now)) }
 {
     let Some((_, behind)) = anchor_split(text) else {
         return Ok(Some(Shape::Leaf(Content::Faulty(YamlKind::BadScalar))));
@@ -252,7 +254,8 @@ fn begins_entry(alloc: Global, text: &str) -> Result<bool, AllocError>
 
 /// The content of an item with an anchor, which is no entry of a map.
 fn unkeyed_content<'a>(alloc: Global, text: &'a str) -> Result<Content<'a>, AllocError>
-    ensures { IfOk result (λ c. content_view c ≡ spec.unkeyed (spec.begins_entry text.now) (spec.content text.now)) }
+    ensures { IfOk result
+        (λ c. content_view c ≡ spec.unkeyed (spec.begins_entry text.now) (spec.content text.now)) }
 {
     if begins_entry(alloc, text)? {
         return Ok(Content::Faulty(YamlKind::Unsupported));

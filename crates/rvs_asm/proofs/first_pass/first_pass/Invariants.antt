@@ -8,8 +8,10 @@ abbrev pub invariant-loop-line : goal.invariant-loop-line
 invariant-loop-line l = record {
   here : IsPlace l.place;
   count : l.number + length l.rest ≤ length l.text;
-  faults : first_fault l.spec [] start 1 (readings true (lines_of l.text)) ≡ first_fault l.spec l.symbols l.place (l.number + 1) (readings l.place.in_text (lines_of l.rest));
-  symbols : labels (readings true (lines_of l.text)) start ≡ l.symbols ++ labels (readings l.place.in_text (lines_of l.rest)) l.place;
+  faults : first_fault l.spec [] start 1 (readings true (lines_of l.text)) ≡ first_fault l.spec
+      l.symbols l.place (l.number + 1) (readings l.place.in_text (lines_of l.rest));
+  symbols : labels (readings true (lines_of l.text)) start
+      ≡ l.symbols ++ labels (readings l.place.in_text (lines_of l.rest)) l.place;
 }
 
 abbrev pub decreases-loop-line : goal.decreases-loop-line

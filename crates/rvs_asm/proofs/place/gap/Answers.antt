@@ -6,7 +6,8 @@ use Rattle.rvs_asm.proofs.place.gap.Goals as goal
 below_unit : (at unit : ℕ) → 0 < unit → unit ≤ 4096 → (unit - at % unit) % unit < 4096
 below_unit at unit p h = omega arith
 
-unit_is : (power : ℕ) → power ≤ 12 → (0 < 1 * 2 ^ power % 4294967296) × (1 * 2 ^ power % 4294967296 ≤ 4096)
+unit_is : (power : ℕ) → power ≤ 12
+    → (0 < 1 * 2 ^ power % 4294967296) × (1 * 2 ^ power % 4294967296 ≤ 4096)
 unit_is power h =
     let high : 2 ^ power ≤ 2 ^ 12 = pow_mono h in
     let low : 0 < 2 ^ power = pow_pos power in

@@ -19,10 +19,17 @@ loop-line-preserved c =
     let shorter = c.in-Some.ensures.shorter in
     let env = address_of c.args.symbols.now in
     record {
-      here = subst IsPlace (sym after) (short_there p q line ls ls' body lines is_body after c.loop-line.invariant.short);
+      here = subst IsPlace (sym after)
+          (short_there p q line ls ls' body lines is_body after c.loop-line.invariant.short);
       count = omega (arith, c.loop-line.invariant.count, shorter);
       short = short_step p q line ls ls' body lines is_body after c.loop-line.invariant.short;
-      faults = second_step p q line ls ls' body lines is_body after c.args.symbols.now (c.loop-line.number + 1) _ (sym c.in_ok-kind.ensures.fault ∙ c.in-None.is) c.loop-line.invariant.faults;
-      text_bytes = section_step p q line ls ls' body lines is_body after true env _ c.loop-line.sections.text.items _ c.loop-line.invariant.text_bytes (c.in_ok-kind.ensures.text c.in-None.is);
-      ram_bytes = section_step p q line ls ls' body lines is_body after false env _ c.loop-line.sections.ram.items _ c.loop-line.invariant.ram_bytes (c.in_ok-kind.ensures.ram c.in-None.is);
+      faults = second_step p q line ls ls' body lines is_body after c.args.symbols.now
+          (c.loop-line.number + 1) _ (sym c.in_ok-kind.ensures.fault ∙ c.in-None.is)
+          c.loop-line.invariant.faults;
+      text_bytes = section_step p q line ls ls' body lines is_body after true env _
+          c.loop-line.sections.text.items _ c.loop-line.invariant.text_bytes
+          (c.in_ok-kind.ensures.text c.in-None.is);
+      ram_bytes = section_step p q line ls ls' body lines is_body after false env _
+          c.loop-line.sections.ram.items _ c.loop-line.invariant.ram_bytes
+          (c.in_ok-kind.ensures.ram c.in-None.is);
     }

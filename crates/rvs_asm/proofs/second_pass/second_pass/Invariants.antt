@@ -11,9 +11,14 @@ invariant-loop-line l = record {
   here : IsPlace l.place;
   count : l.number + length l.rest ≤ length l.text;
   short : AreShort l.place (readings l.place.in_text (lines_of l.rest));
-  faults : second_fault l.symbols start 1 (readings true (lines_of l.text)) ≡ second_fault l.symbols l.place (l.number + 1) (readings l.place.in_text (lines_of l.rest));
-  text_bytes : section true (address_of l.symbols) (readings true (lines_of l.text)) start ≡ l.sections.text.items ++ section true (address_of l.symbols) (readings l.place.in_text (lines_of l.rest)) l.place;
-  ram_bytes : section false (address_of l.symbols) (readings true (lines_of l.text)) start ≡ l.sections.ram.items ++ section false (address_of l.symbols) (readings l.place.in_text (lines_of l.rest)) l.place;
+  faults : second_fault l.symbols start 1 (readings true (lines_of l.text))
+      ≡ second_fault l.symbols l.place (l.number + 1) (readings l.place.in_text (lines_of l.rest));
+  text_bytes : section true (address_of l.symbols) (readings true (lines_of l.text)) start
+      ≡ l.sections.text.items
+      ++ section true (address_of l.symbols) (readings l.place.in_text (lines_of l.rest)) l.place;
+  ram_bytes : section false (address_of l.symbols) (readings true (lines_of l.text)) start
+      ≡ l.sections.ram.items
+      ++ section false (address_of l.symbols) (readings l.place.in_text (lines_of l.rest)) l.place;
 }
 
 abbrev pub decreases-loop-line : goal.decreases-loop-line

@@ -4,4 +4,6 @@ use Rattle.rvs_base.specs.Memory.{without}
 use Rattle.rvs_base.proofs.memory_run.remove.Goals as goal
 
 pub returns : goal.returns
-returns c = c.from.ensures ∙ filter_same _ _ _ (λ x b f' k. search rules) _ _ c.retain.ensures.filtered ∙ ap (without c.args.name.now) (c.into_vec-list.ensures ∙ c.replace.ensures.value)
+returns c = c.from.ensures
+    ∙ filter_same _ _ _ (λ x b f' k. search rules) _ _ c.retain.ensures.filtered
+    ∙ ap (without c.args.name.now) (c.into_vec-list.ensures ∙ c.replace.ensures.value)

@@ -6,4 +6,5 @@ use Rattle.rvs_cgf.specs.GroupView.{listed_view}
 use Rattle.rvs_cgf.proofs.listing.list_labels.Given as goal
 
 abbrev pub invariant-loop-i : goal.invariant-loop-i
-invariant-loop-i l = each_label l.isa (drop l.i (own_pairs (view l.root))) (listed_view l.listed) ≡ each_label l.isa (own_pairs (view l.root)) nothing_listed
+invariant-loop-i l = each_label l.isa (drop l.i (own_pairs (view l.root))) (listed_view l.listed)
+    ≡ each_label l.isa (own_pairs (view l.root)) nothing_listed

@@ -1,11 +1,13 @@
-use Rattle.std.proofs.Common.{◌<◌, ◌++◌, ◌∷◌, [], ◌∙◌, List, length, take, ap, sym, subst, arith, append-nil}
+use Rattle.std.proofs.Common.{◌<◌, ◌++◌, ◌∷◌, [], ◌∙◌, List, length, take, ap, sym, subst, arith}
+use Rattle.std.proofs.Common.{append-nil}
 use Rattle.rvs_cgf.specs.PointKeys.{AreKeysOf}
 use Rattle.rvs_cgf.specs.declared.group.Point.{Point}
 use Rattle.rvs_cgf.proofs.PointSets.{next, whole}
 use Rattle.rvs_cgf.proofs.points.with_points.Goals as goal
 
 pub loop-point-init : goal.loop-point-init
-loop-point-init c = λ ps h. subst (λ (qs : List Point). AreKeysOf c.args.known qs) (sym (append-nil ps)) h
+loop-point-init c =
+    λ ps h. subst (λ (qs : List Point). AreKeysOf c.args.known qs) (sym (append-nil ps)) h
 
 pub loop-point-preserved : goal.loop-point-preserved
 loop-point-preserved c = λ ps h.
@@ -20,4 +22,5 @@ loop-point-preserved c = λ ps h.
 pub returns : goal.returns
 returns c = λ ps h.
     subst (λ (qs : List Point). AreKeysOf c.loop-point.known qs)
-    (whole ps c.args.more.now c.loop-point.point-index c.loop-point-test.false c.loop-point.auto.point-index-end) (c.loop-point.invariant ps h)
+    (whole ps c.args.more.now c.loop-point.point-index c.loop-point-test.false
+    c.loop-point.auto.point-index-end) (c.loop-point.invariant ps h)

@@ -12,5 +12,6 @@ or_cond false false = refl
 
 pub returns : goal.returns
 returns c = λ k.
-    btree_set_updates_text (string_bytes c.args.text) c.args.known c.insert.new.self true c.in_ok-insert.ensures.updates k
+    btree_set_updates_text (string_bytes c.args.text) c.args.known c.insert.new.self true
+    c.in_ok-insert.ensures.updates k
     ∙ or_cond (bytes_eq (string_bytes c.args.text) k) (contains_text c.args.known k)

@@ -11,6 +11,7 @@ loop-one-preserved c =
     let one = c.one-item.result in
     let below : i < length ss = omega (arith, c.loop-one-test.true) in
     ap (λ t. t ++ flat_map skipped_line (map skipped_view (drop (i + 1) ss)))
-    (c.in_ok-push_skipped_line.ensures ∙ ap (λ s. c.loop-one.text ++ skipped_line (skipped_view s)) c.one-item.is)
+    (c.in_ok-push_skipped_line.ensures
+    ∙ ap (λ s. c.loop-one.text ++ skipped_line (skipped_view s)) c.one-item.is)
     ∙ skipped_more c.loop-one.text ss i one below
     ∙ c.loop-one.invariant

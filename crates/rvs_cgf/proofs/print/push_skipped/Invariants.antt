@@ -4,4 +4,6 @@ use Rattle.rvs_cgf.specs.Print.{skipped_line}
 use Rattle.rvs_cgf.proofs.print.push_skipped.Given as goal
 
 abbrev pub invariant-loop-one : goal.invariant-loop-one
-invariant-loop-one l = l.text ++ flat_map skipped_line (map skipped_view (drop l.one-index l.skipped)) ≡ l.fn.text ++ flat_map skipped_line (map skipped_view l.skipped)
+invariant-loop-one l =
+    l.text ++ flat_map skipped_line (map skipped_view (drop l.one-index l.skipped))
+    ≡ l.fn.text ++ flat_map skipped_line (map skipped_view l.skipped)

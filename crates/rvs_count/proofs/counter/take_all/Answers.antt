@@ -19,7 +19,8 @@ pub returns-in-None-clause-low : goal.returns-in-None-clause-low
 returns-in-None-clause-low c =
     omega (
       arith,
-      rest_low c.lines.follow c.next-cut.follows.lender-at-none c.lines.rest.now c.next-cut.result.used c.next-cut.follows.holds-at-none,
+      rest_low c.lines.follow c.next-cut.follows.lender-at-none c.lines.rest.now
+          c.next-cut.result.used c.next-cut.follows.holds-at-none,
       c.lines.invariant.low,
     )
 
@@ -46,13 +47,18 @@ lines-preserved c =
     c.next-cut.ensures.line ∙ ap (λ o. one_or_none (option_copied o)) c.in-Some.is in
     record {
       low =
-          line_low c.lines.tally c.take_line.new.self c.lines.follow c.next-cut.follows.lender-at-none
+          line_low c.lines.tally c.take_line.new.self c.lines.follow
+          c.next-cut.follows.lender-at-none
           c.lines.rest.now c.back_of-rest.result.now c.in-Some.line.now c.next-cut.result.used _
-          line c.next-cut.follows.holds-at-none c.take_line.ensures c.back_of-rest.ensures c.lines.invariant.low;
+          line c.next-cut.follows.holds-at-none c.take_line.ensures c.back_of-rest.ensures
+          c.lines.invariant.low;
       state = λ fed.
           c.lines.invariant.state fed
           ∙ all_line c.lines.tally c.lines.follow c.next-cut.follows.lender-at-none c.lines.rest.now
           c.in-Some.line.now c.next-cut.result.used line c.next-cut.follows.holds-at-none fed
-          ∙ ap (λ t. with_all (state_with t c.next-cut.follows.lender-at-none fed) (drop c.next-cut.result.used c.lines.rest.now)) (sym c.take_line.ensures)
-          ∙ ap (λ l. with_all (state_with c.take_line.new.self c.next-cut.follows.lender-at-none fed) l) (sym c.back_of-rest.ensures);
+          ∙ ap (λ t. with_all (state_with t c.next-cut.follows.lender-at-none fed)
+          (drop c.next-cut.result.used c.lines.rest.now)) (sym c.take_line.ensures)
+          ∙ ap (λ l. with_all
+          (state_with c.take_line.new.self c.next-cut.follows.lender-at-none fed) l) (sym
+          c.back_of-rest.ensures);
     }

@@ -6,7 +6,8 @@ use Rattle.rvs_count.proofs.counter.take_last.Goals as goal
 
 pub returns-in-None-clause-tally : goal.returns-in-None-clause-tally
 returns-in-None-clause-tally c =
-    last_none c.args.tally.now c.args.follow.now (sym c.last.ensures.line ∙ ap (λ o. option_copied o) c.in-None.is)
+    last_none c.args.tally.now c.args.follow.now
+    (sym c.last.ensures.line ∙ ap (λ o. option_copied o) c.in-None.is)
 
 pub returns-in-Some-clause-tally : goal.returns-in-Some-clause-tally
 returns-in-Some-clause-tally c =

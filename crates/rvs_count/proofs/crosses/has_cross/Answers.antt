@@ -3,5 +3,6 @@ use Rattle.rvs_count.proofs.crosses.has_cross.Goals as goal
 
 pub returns-then-label : goal.returns-then-label
 returns-then-label c =
-    selected_label c.args.label.now c.as_slice.result.now c.any_cross.result c.if-label.true c.as_slice.ensures
+    selected_label c.args.label.now c.as_slice.result.now c.any_cross.result c.if-label.true
+    c.as_slice.ensures
     c.any_cross.ensures

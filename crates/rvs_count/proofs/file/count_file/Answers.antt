@@ -1,9 +1,11 @@
-use Rattle.std.proofs.Common.{List, ℕ, Result, Ok, Err, ◌+◌, ◌^◌, ◌<◌, ◌∙◌, refl, sym, subst, length}
+use Rattle.std.proofs.Common.{List, ℕ, Result, Ok, Err, ◌+◌, ◌^◌, ◌<◌, ◌∙◌, refl, sym, subst}
+use Rattle.std.proofs.Common.{length}
 use Rattle.std.proofs.lemmas.Result.{err_from_is_err_and}
 use Rattle.std.specs.Prelude.{OnErr}
 use Rattle.rvs_count.specs.Feeds.{Fed, FeedsFront}
 use Rattle.rvs_count.specs.State.{CountState}
-use Rattle.rvs_count.proofs.Feeding.{HasFed-start, HasFed-more, HasFed-whole, HasFed-front, HasFed-long}
+use Rattle.rvs_count.proofs.Feeding.{HasFed-start, HasFed-more, HasFed-whole, HasFed-front}
+use Rattle.rvs_count.proofs.Feeding.{HasFed-long}
 use Rattle.rvs_count.proofs.file.count_file.Goals as goal
 
 on_err : {T E : Type 0} (r : Result T E) (P : Type 0) → P → OnErr r P
@@ -12,13 +14,15 @@ on_err (Err e) P p = p
 
 pub pieces-init : goal.pieces-init
 pieces-init g c =
-    HasFed-start c.args.counter.now c.open_read.ensures.reads_only c.in_ok-open_read.ensures.unfaulted
+    HasFed-start c.args.counter.now c.open_read.ensures.reads_only
+    c.in_ok-open_read.ensures.unfaulted
     c.in_ok-open_read.ensures.opened
 
 pub returns-in_err-count-clause-front : goal.returns-in_err-count-clause-front
 returns-in_err-count-clause-front g c =
     on_err c.from_residual-in_err-count.result
-    (FeedsFront c.args.name.now (g.H.Host.state c.args.host.now) c.args.counter.now c.pieces.counter)
+    (FeedsFront c.args.name.now (g.H.Host.state c.args.host.now) c.args.counter.now
+    c.pieces.counter)
     (HasFed-front c.pieces.invariant)
 
 pub returns-then-count-eq0-clause-whole : goal.returns-then-count-eq0-clause-whole
@@ -30,7 +34,8 @@ pieces-preserved g c =
     let P : List ℕ → Type 0 = λ l. Fed c.pieces.counter c.feed.new.self l in
     let fed : Fed c.pieces.counter c.feed.new.self c.front_of.result.now =
     record { state = c.in_ok-feed.ensures.state; fed = c.in_ok-feed.ensures.fed } in
-    HasFed-more c.feed.new.self c.pieces.invariant c.take.ensures.reads_only c.in_ok-count.ensures.unfaulted
+    HasFed-more c.feed.new.self c.pieces.invariant c.take.ensures.reads_only
+    c.in_ok-count.ensures.unfaulted
     c.in_ok-count.ensures.taken (subst P c.front_of.ensures fed)
 
 pub returns-in_err-feed-clause-front : goal.returns-in_err-feed-clause-front
@@ -42,7 +47,8 @@ returns-in_err-feed-clause-front g c =
 
 pub returns-in_err-feed-clause-cause : goal.returns-in_err-feed-clause-cause
 returns-in_err-feed-clause-cause g c =
-    let p = err_from_is_err_and c.from_residual-in_err-feed.result c.from_residual-in_err-feed.ensures.1 in
+    let p = err_from_is_err_and c.from_residual-in_err-feed.result
+    c.from_residual-in_err-feed.ensures.1 in
     let P : List ℕ → Type 0 = λ l. 2 ^ 40 < c.pieces.counter.fed + length l in
     let long = HasFed-long c.pieces.invariant c.take.ensures.reads_only c.in_ok-count.ensures.taken
     (subst P c.front_of.ensures (c.in_err-feed.ensures.too_long.0 refl)) in

@@ -5,8 +5,10 @@ use Rattle.rvs_count.proofs.hits.add_hits.Given as goal
 
 abbrev pub invariant-loop-slot : goal.invariant-loop-slot
 invariant-loop-slot g l = record {
-  same : raised_all (λ p. holds p l.op (g.F.Facts.table l.facts)) (places l.slots) l.initial.counts.items
-      ≡ raised_all (λ p. holds p l.op (g.F.Facts.table l.facts)) (places (drop l.slot-index l.slots)) l.counts.items;
+  same : raised_all (λ p. holds p l.op (g.F.Facts.table l.facts)) (places l.slots)
+      l.initial.counts.items
+      ≡ raised_all (λ p. holds p l.op (g.F.Facts.table l.facts))
+      (places (drop l.slot-index l.slots)) l.counts.items;
   len : vec_len l.counts ≡ vec_len l.initial.counts;
   low : All (λ (n : ℕ). n ≤ 2 ^ 41 + l.slot-index) l.counts.items;
 }

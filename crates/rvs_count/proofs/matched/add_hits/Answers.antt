@@ -1,4 +1,5 @@
-use Rattle.std.proofs.Common.{◌≡◌, ◌≤◌, ◌+◌, ◌^◌, ℕ, List, All, sym, ap, subst, ◌∙◌, ◌∷◌, arith, drop}
+use Rattle.std.proofs.Common.{◌≡◌, ◌≤◌, ◌+◌, ◌^◌, ℕ, List, All, sym, ap, subst, ◌∙◌, ◌∷◌, arith}
+use Rattle.std.proofs.Common.{drop}
 use Rattle.rvs_cgf.specs.GroupView.{meaning_view}
 use Rattle.rvs_cgf.specs.Groups.{Point}
 use Rattle.rvs_count.specs.Index.{Place, is_matched, place_of, places, raised, raised_all}
@@ -19,13 +20,15 @@ loop-slot-preserved g c =
     c.raise.ensures.items ∙ ap (λ h. raised h s.at c.loop-slot.counts.items) c.is_hit-hit.ensures in
     let P : List ℕ → Type 0 = λ l. All (λ (n : ℕ). n ≤ 2 ^ 42 + c.loop-slot.slot-index + 1) l in
     let low : P c.raise.new.counts.items =
-    subst P (sym e) (raised_low hit c.loop-slot.counts.items s.at (2 ^ 42 + c.loop-slot.slot-index) c.loop-slot.invariant.low) in
+    subst P (sym e) (raised_low hit c.loop-slot.counts.items s.at (2 ^ 42 + c.loop-slot.slot-index)
+    c.loop-slot.invariant.low) in
     record {
       same =
           c.loop-slot.invariant.same
           ∙ ap (λ (ps : List Place). raised_all matched ps c.loop-slot.counts.items)
           (slots_next c.args.slots.now c.loop-slot.slot-index s c.loop-slot-test.true)
-          ∙ ap (λ (s : Slot). raised_all matched (place_of s ∷ rest) c.loop-slot.counts.items) (sym c.slot-item.is)
+          ∙ ap (λ (s : Slot). raised_all matched (place_of s ∷ rest) c.loop-slot.counts.items)
+          (sym c.slot-item.is)
           ∙ ap (λ cs. raised_all matched rest cs) (sym e);
       len = c.raise.ensures.len ∙ c.loop-slot.invariant.len;
       low = λ k d l. omega (arith, low k d l);

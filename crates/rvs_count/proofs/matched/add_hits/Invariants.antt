@@ -5,7 +5,8 @@ use Rattle.rvs_count.proofs.matched.add_hits.Given as goal
 abbrev pub invariant-loop-slot : goal.invariant-loop-slot
 invariant-loop-slot g l = record {
   same : raised_all (λ p. is_matched p.meaning l.window) (places l.slots) l.initial.counts.items
-      ≡ raised_all (λ p. is_matched p.meaning l.window) (places (drop l.slot-index l.slots)) l.counts.items;
+      ≡ raised_all (λ p. is_matched p.meaning l.window) (places (drop l.slot-index l.slots))
+      l.counts.items;
   len : vec_len l.counts ≡ vec_len l.initial.counts;
   low : All (λ (n : ℕ). n ≤ 2 ^ 42 + l.slot-index) l.counts.items;
 }

@@ -7,5 +7,6 @@ pub unwrap-requires : goal.unwrap-requires
 unwrap-requires c =
     let t = c.args.text.now in
     let n = c.name_length.result in
-    let u : IsUtf8 (take n t) = subst (λ (m : ℕ). IsUtf8 (take m t)) (sym c.name_length.ensures.length) (name_utf8 t) in
+    let u : IsUtf8 (take n t) =
+    subst (λ (m : ℕ). IsUtf8 (take m t)) (sym c.name_length.ensures.length) (name_utf8 t) in
     is_read (take n t) _ _ c.from_utf8.result c.from_utf8.ensures.cases u

@@ -12,16 +12,22 @@ loop-i-preserved c =
     let b = c.args.assignments.now in
     let d = c.args.conditions.now in
     let i = c.loop-i.i in
-    let rest = places vars (texts (drop (i + 1) a)) (texts (drop (i + 1) b)) (texts (drop (i + 1) d)) in
+    let rest =
+    places vars (texts (drop (i + 1) a)) (texts (drop (i + 1) b)) (texts (drop (i + 1) d)) in
     record {
-      long = ap length c.in_ok-push-in-Ok.ensures.added ∙ length-append c.loop-i.list (c.in-Ok.place ∷ []) ∙ ap (λ n. n + 1) c.loop-i.invariant.long;
+      long = ap length c.in_ok-push-in-Ok.ensures.added
+          ∙ length-append c.loop-i.list (c.in-Ok.place ∷ [])
+          ∙ ap (λ n. n + 1) c.loop-i.invariant.long;
       same = ap (λ ps. with_front (map place_view ps) rest) c.in_ok-push-in-Ok.ensures.added
           ∙ ap (λ ps. with_front ps rest) (map-append place_view c.loop-i.list (c.in-Ok.place ∷ []))
-          ∙ places_more vars a b d i _ (map place_view c.loop-i.list) (place_view c.in-Ok.place) c.loop-i-test.true c.requires.sets c.requires.conditions c.in-Ok.ensures
+          ∙ places_more vars a b d i _ (map place_view c.loop-i.list) (place_view c.in-Ok.place)
+          c.loop-i-test.true c.requires.sets c.requires.conditions c.in-Ok.ensures
           ∙ c.loop-i.invariant.same;
     }
 
 pub returns-in-Err-clause-places : goal.returns-in-Err-clause-places
 returns-in-Err-clause-places c = λ k.
     sym c.loop-i.invariant.same
-    ∙ places_fail c.args.variables.now c.args.mnemonics.now c.args.assignments.now c.args.conditions.now c.loop-i.i _ (map place_view c.loop-i.list) c.in-Err.why c.loop-i-test.true c.requires.sets c.requires.conditions (c.in-Err.ensures k)
+    ∙ places_fail c.args.variables.now c.args.mnemonics.now c.args.assignments.now
+    c.args.conditions.now c.loop-i.i _ (map place_view c.loop-i.list) c.in-Err.why
+    c.loop-i-test.true c.requires.sets c.requires.conditions (c.in-Err.ensures k)

@@ -9,7 +9,8 @@ use Rattle.rvs_cross.proofs.choosing.first_of_op.Goals as goal
 
 pub returns-in-R-clause-first : goal.returns-in-R-clause-first
 returns-in-R-clause-first g c =
-    found_of_op c.args.values.now (place_view c.args.place.now) c.args.op R c.first_with_sources.result
+    found_of_op c.args.values.now (place_view c.args.place.now) c.args.op R
+    c.first_with_sources.result
     (sym c.in-R.is ∙ c.format.ensures) c.first_with_sources.ensures.first
 
 pub returns-in-R-clause-cost : goal.returns-in-R-clause-cost
@@ -19,7 +20,8 @@ returns-in-R-clause-cost g c =
 
 pub returns-in-I-clause-first : goal.returns-in-I-clause-first
 returns-in-I-clause-first g c =
-    found_of_op c.args.values.now (place_view c.args.place.now) c.args.op I c.first_with_immediate.result
+    found_of_op c.args.values.now (place_view c.args.place.now) c.args.op I
+    c.first_with_immediate.result
     (sym c.in-I.is ∙ c.format.ensures) c.first_with_immediate.ensures.first
 
 pub returns-in-I-clause-cost : goal.returns-in-I-clause-cost
@@ -29,7 +31,8 @@ returns-in-I-clause-cost g c =
 
 pub returns-in-Shift-clause-first : goal.returns-in-Shift-clause-first
 returns-in-Shift-clause-first g c =
-    found_of_op c.args.values.now (place_view c.args.place.now) c.args.op Shift c.first_with_immediate-in-Shift.result
+    found_of_op c.args.values.now (place_view c.args.place.now) c.args.op Shift
+    c.first_with_immediate-in-Shift.result
     (sym c.in-Shift.is ∙ c.format.ensures) c.first_with_immediate-in-Shift.ensures.first
 
 pub returns-in-Shift-clause-cost : goal.returns-in-Shift-clause-cost

@@ -7,5 +7,6 @@ pub returns-clause-cost : goal.returns-clause-cost
 returns-clause-cost g c =
     let count : length (over_registers c.args.op None middle middle middle) ≡ 512 =
     over_length c.args.op None middle middle middle in
-    let cost : c.first_over_rds.new.steps ≤ c.args.steps.now + 512 = c.first_over_rds.ensures.cost in
+    let cost : c.first_over_rds.new.steps ≤ c.args.steps.now + 512 =
+    c.first_over_rds.ensures.cost in
     omega arith

@@ -10,7 +10,8 @@ loop-length-preserved c =
     let here : m < length c.args.bytes.now = omega (arith, c.loop-length.invariant.inside) in
     record {
       inside = omega (arith, c.loop-length.invariant.inside);
-      same = solid-more c.args.bytes.now m here c.if-bytes-length-eq32.true ∙ ap (λ n. without_end (take n c.args.bytes.now)) one ∙ c.loop-length.invariant.same;
+      same = solid-more c.args.bytes.now m here c.if-bytes-length-eq32.true
+          ∙ ap (λ n. without_end (take n c.args.bytes.now)) one ∙ c.loop-length.invariant.same;
       space = λ h. c.if-bytes-length-eq32.true;
     }
 
@@ -21,5 +22,6 @@ returns-else-bytes-length-eq32-clause-front c =
     let here : m < length c.args.bytes.now = omega (arith, c.loop-length.invariant.inside) in
     sym c.loop-length.invariant.same
     ∙ sym (ap (λ n. without_end (take n c.args.bytes.now)) one)
-    ∙ solid-end c.args.bytes.now m here (ne_test (get_or c.args.bytes.now m 0) 32 c.if-bytes-length-eq32.false)
+    ∙ solid-end c.args.bytes.now m here
+    (ne_test (get_or c.args.bytes.now m 0) 32 c.if-bytes-length-eq32.false)
     ∙ ap (λ n. take n c.args.bytes.now) one

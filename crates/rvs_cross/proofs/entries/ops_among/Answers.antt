@@ -9,5 +9,6 @@ pub returns : goal.returns
 returns c =
     items_from_collect _ c.collect.ensures.ran
     (YieldsList-from_filter_map _ op_named
-    (YieldsList-at c.filter_map.ensures.source (YieldsList-from_str_split 44 c.args.names.now (lit< tt) c.split.ensures.text c.split.ensures.has_more c.split.ensures.pattern))
+    (YieldsList-at c.filter_map.ensures.source (YieldsList-from_str_split 44 c.args.names.now
+    (lit< tt) c.split.ensures.text c.split.ensures.has_more c.split.ensures.pattern))
     c.filter_map.ensures.closure (λ x r q k. search (rules, tests)))

@@ -7,5 +7,6 @@ use Rattle.rvs_cross.proofs.entries.unknown_among.Goals as goal
 pub returns : goal.returns
 returns c =
     find_from_yields_List is_unknown _ _ c.find.result c.find.ensures.ran
-    (YieldsList-from_str_split 44 c.args.names.now (lit< tt) c.split.ensures.text c.split.ensures.has_more c.split.ensures.pattern)
+    (YieldsList-from_str_split 44 c.args.names.now (lit< tt) c.split.ensures.text
+    c.split.ensures.has_more c.split.ensures.pattern)
     (λ x b q k. search (rules, tests))

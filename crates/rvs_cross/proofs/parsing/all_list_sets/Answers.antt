@@ -7,5 +7,6 @@ use Rattle.rvs_cross.proofs.parsing.all_list_sets.Goals as goal
 pub returns : goal.returns
 returns c =
     all_from_yields_List lists_sets _ _ c.all.result c.all.ensures.ran
-    (YieldsList-from_str_split 58 c.args.list.now (lit< tt) c.split.ensures.text c.split.ensures.has_more c.split.ensures.pattern)
+    (YieldsList-from_str_split 58 c.args.list.now (lit< tt) c.split.ensures.text
+    c.split.ensures.has_more c.split.ensures.pattern)
     (λ x b q k. search (rules, tests))

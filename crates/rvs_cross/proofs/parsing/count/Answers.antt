@@ -6,4 +6,5 @@ use Rattle.rvs_cross.proofs.parsing.count.Goals as goal
 pub returns : goal.returns
 returns c =
     count_from_yields_List _ c.count.result c.count.ensures.ran
-    (YieldsList-from_str_split 58 c.args.list.now (lit< tt) c.split.ensures.text c.split.ensures.has_more c.split.ensures.pattern)
+    (YieldsList-from_str_split 58 c.args.list.now (lit< tt) c.split.ensures.text
+    c.split.ensures.has_more c.split.ensures.pattern)

@@ -6,5 +6,6 @@ use Rattle.rvs_cross.proofs.variables.variables.Goals as goal
 
 pub returns-clause-few : goal.returns-clause-few
 returns-clause-few c =
-    let noted : variables (map (λ t. t.now) c.args.entries.now) ≡ Ok c.loop-entry.variables = grind (arith, common_steps) in
+    let noted : variables (map (λ t. t.now) c.args.entries.now) ≡ Ok c.loop-entry.variables =
+    grind (arith, common_steps) in
     at_most_three (map (λ t. t.now) c.args.entries.now) c.loop-entry.variables noted

@@ -6,16 +6,20 @@ use Rattle.rvs_device.proofs.judging.read_back.Goals as goal
 pub returns-in_ok-verdict_on-in-Ok : goal.returns-in_ok-verdict_on-in-Ok
 returns-in_ok-verdict_on-in-Ok g c =
     let same : to_z w32 (of_z w32 c.args.status) ≡ c.args.status = to_z-of_z _ _ c.ranges.status in
-    back-found c.args.signature.now c.args.status c.args.reference.now c.in-Ok.bytes _ _ _ c.in-Ok.ensures.reads_only c.in-Ok.ensures.whole c.in-Ok.ensures.unfaulted
+    back-found c.args.signature.now c.args.status c.args.reference.now c.in-Ok.bytes _ _ _
+    c.in-Ok.ensures.reads_only c.in-Ok.ensures.whole c.in-Ok.ensures.unfaulted
     (rw (c.as_slice.ensures, same) at c.in_ok-verdict_on-in-Ok.ensures)
 
 pub returns-in-Err-NoFile : goal.returns-in-Err-NoFile
 returns-in-Err-NoFile g c =
     let same : to_z w32 (of_z w32 c.args.status) ≡ c.args.status = to_z-of_z _ _ c.ranges.status in
-    rw same (back-absent c.args.signature.now c.args.status c.args.reference.now _ _ c.in-Err-NoFile.ensures.reads_only (rw c.in-Err-NoFile.field-0-is at c.in-Err-NoFile.ensures.refused))
+    rw same (back-absent c.args.signature.now c.args.status c.args.reference.now _ _
+    c.in-Err-NoFile.ensures.reads_only
+    (rw c.in-Err-NoFile.field-0-is at c.in-Err-NoFile.ensures.refused))
 
 pub returns-in-Err-TooLong : goal.returns-in-Err-TooLong
 returns-in-Err-TooLong g c =
     let same : to_z w32 (of_z w32 c.args.status) ≡ c.args.status = to_z-of_z _ _ c.ranges.status in
     let refused = rw c.in-Err-TooLong.field-0-is at c.in-Err-TooLong.ensures.refused in
-    rw same (back-long c.args.signature.now c.args.status c.args.reference.now _ _ c.in-Err-TooLong.ensures.reads_only refused.1 refused.2)
+    rw same (back-long c.args.signature.now c.args.status c.args.reference.now _ _
+    c.in-Err-TooLong.ensures.reads_only refused.1 refused.2)

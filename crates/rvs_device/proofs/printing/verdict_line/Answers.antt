@@ -7,5 +7,6 @@ returns-in_ok-right-in-Differs c =
     let fits : FitsSigned w32 c.in-Differs.status = search rules in
     let same : to_z w32 (of_z w32 c.in-Differs.status) ≡ c.in-Differs.status = to_z-of_z _ _ fits in
     let line = c.differs_line.ensures c.in-Differs.left c.in-Differs.right
-    (c.as_str.ensures ∙ c.in_ok-left-in-Differs.ensures) (c.as_str-in-Differs.ensures ∙ c.in_ok-right-in-Differs.ensures) in
+    (c.as_str.ensures ∙ c.in_ok-left-in-Differs.ensures)
+    (c.as_str-in-Differs.ensures ∙ c.in_ok-right-in-Differs.ensures) in
     rw c.in-Differs.is (rw same at line)

@@ -5,4 +5,7 @@ use Rattle.rvs_tree.specs.TreeView.{view}
 use Rattle.rvs_device.proofs.reading.scalar_texts.Given as goal
 
 abbrev pub invariant-loop-i : goal.invariant-loop-i
-invariant-loop-i l = record { texts : l.texts ≡ map text_of (take l.i (members_of (view l.entry))); scalars : list_all is_scalar (take l.i (members_of (view l.entry))) ≡ true }
+invariant-loop-i l = record {
+  texts : l.texts ≡ map text_of (take l.i (members_of (view l.entry)));
+  scalars : list_all is_scalar (take l.i (members_of (view l.entry))) ≡ true;
+}

@@ -9,5 +9,7 @@ use Rattle.rvs_device.proofs.words.is_known.Goals as goal
 pub returns : goal.returns
 returns c =
     all_from_yields_List is_placeholder _ _ c.all.result c.all.ensures.ran
-    (YieldsList-from_skip 1 (YieldsList-at c.skip.ensures.source (YieldsList-from_str_split 123 c.args.word.now (lit< tt) c.split.ensures.text c.split.ensures.has_more c.split.ensures.pattern)) c.skip.ensures.count)
+    (YieldsList-from_skip 1 (YieldsList-at c.skip.ensures.source (YieldsList-from_str_split 123
+    c.args.word.now (lit< tt) c.split.ensures.text c.split.ensures.has_more
+    c.split.ensures.pattern)) c.skip.ensures.count)
     (λ x b q k. search (rules, tests))

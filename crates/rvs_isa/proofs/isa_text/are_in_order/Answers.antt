@@ -19,5 +19,7 @@ loop-letter-preserved c =
 
 pub returns : goal.returns
 returns c =
-    let at = at_drop_all (are_in_order c.loop-letter.left.now) letter_order c.loop-letter.letter-index (omega arith) in
-    c.is_empty.ensures ∙ sym (nothing_left c.loop-letter.left.now) ∙ sym at ∙ c.loop-letter.invariant
+    let at = at_drop_all (are_in_order c.loop-letter.left.now) letter_order
+    c.loop-letter.letter-index (omega arith) in
+    c.is_empty.ensures ∙ sym (nothing_left c.loop-letter.left.now) ∙ sym at
+    ∙ c.loop-letter.invariant

@@ -7,5 +7,6 @@ use Rattle.rvs_isa.proofs.isa_text.are_names.Goals as goal
 pub returns : goal.returns
 returns c =
     all_from_yields_List is_name _ _ c.all.result c.all.ensures.ran
-    (YieldsList-from_slice_split _ (λ b. b == 95) c.args.list.now c.split.ensures.rest c.split.ensures.done c.split.ensures.closure (λ x b q k. search (rules, tests)))
+    (YieldsList-from_slice_split _ (λ b. b == 95) c.args.list.now c.split.ensures.rest
+    c.split.ensures.done c.split.ensures.closure (λ x b q k. search (rules, tests)))
     (λ x b q k. search (rules, tests))

@@ -11,6 +11,8 @@ loop-i-preserved c =
     let hart = c.args.hart.now in
     let d = view c.args.entries.now in
     let so_far = first_entries (unread_of_hart hart) c.loop-i.i d in
-    let more = first-more (unread_of_hart hart) c.loop-i.i d key value (sym c.is_map.ensures ∙ c.if-is_map.true) c.key.ensures c.item.ensures in
+    let more = first-more (unread_of_hart hart) c.loop-i.i d key value
+    (sym c.is_map.ensures ∙ c.if-is_map.true) c.key.ensures c.item.ensures in
     c.in_ok-add_of_hart.ensures ∙ ap (λ t. t ++ unread_of_hart hart key value) c.loop-i.invariant
-    ∙ append_assoc c.args.paths.now so_far (unread_of_hart hart key value) ∙ ap (λ t. c.args.paths.now ++ t) (sym more)
+    ∙ append_assoc c.args.paths.now so_far (unread_of_hart hart key value)
+    ∙ ap (λ t. c.args.paths.now ++ t) (sym more)

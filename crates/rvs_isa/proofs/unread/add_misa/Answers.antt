@@ -12,4 +12,5 @@ loop-i-preserved c =
     let so_far = first_entries (λ k _. unread_of_misa hart k) c.loop-i.i d in
     let more = first-more_keys (unread_of_misa hart) c.loop-i.i d key c.key.ensures in
     c.in_ok-add_of_misa.ensures ∙ ap (λ t. t ++ unread_of_misa hart key) c.loop-i.invariant
-    ∙ append_assoc c.args.paths.now so_far (unread_of_misa hart key) ∙ ap (λ t. c.args.paths.now ++ t) (sym more)
+    ∙ append_assoc c.args.paths.now so_far (unread_of_misa hart key)
+    ∙ ap (λ t. c.args.paths.now ++ t) (sym more)

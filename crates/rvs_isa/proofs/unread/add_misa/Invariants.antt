@@ -5,4 +5,5 @@ use Rattle.rvs_isa.proofs.Unreads.{first_entries}
 use Rattle.rvs_isa.proofs.unread.add_misa.Given as goal
 
 abbrev pub invariant-loop-i : goal.invariant-loop-i
-invariant-loop-i l = l.paths ≡ l.initial.paths ++ first_entries (λ key _. unread_of_misa l.hart key) l.i (view l.entries)
+invariant-loop-i l = l.paths
+    ≡ l.initial.paths ++ first_entries (λ key _. unread_of_misa l.hart key) l.i (view l.entries)

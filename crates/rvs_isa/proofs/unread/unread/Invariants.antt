@@ -5,4 +5,5 @@ use Rattle.rvs_isa.proofs.Unreads.{first_entries}
 use Rattle.rvs_isa.proofs.unread.unread.Given as goal
 
 abbrev pub invariant-loop-i : goal.invariant-loop-i
-invariant-loop-i l = l.paths ≡ l.initial.paths ++ first_entries (unread_of_root l.hart) l.i (view l.root)
+invariant-loop-i l =
+    l.paths ≡ l.initial.paths ++ first_entries (unread_of_root l.hart) l.i (view l.root)

@@ -5,7 +5,8 @@ use Rattle.rvs_log.proofs.follow.advance.Given as goal
 abbrev pub invariant-lines : goal.invariant-lines
 invariant-lines l = record {
   fits : l.used ≤ length l.piece;
-  waits : waiting l.too_long l.bytes.items ≡ held_after (waiting l.fn.too_long l.fn.bytes.items) (take l.used l.piece);
+  waits : waiting l.too_long l.bytes.items
+      ≡ held_after (waiting l.fn.too_long l.fn.bytes.items) (take l.used l.piece);
   none : lines_after (waiting l.fn.too_long l.fn.bytes.items) (take l.used l.piece) ≡ [];
 }
 

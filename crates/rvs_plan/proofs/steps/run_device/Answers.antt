@@ -10,4 +10,5 @@ returns-in-Ok g c = λ out.
     simp to_z-of_z (runs-done out _ _ _ _ c.in-Ok.ensures.runs_only ran c.in-Ok.ensures.unfaulted)
 
 pub returns-in-Err : goal.returns-in-Err
-returns-in-Err g c = λ out. runs-failed out _ _ _ c.in-Err.ensures.runs_only c.in-Err.ensures.failed c.in-Err.ensures.cause
+returns-in-Err g c = λ out. runs-failed out _ _ _ c.in-Err.ensures.runs_only c.in-Err.ensures.failed
+    c.in-Err.ensures.cause

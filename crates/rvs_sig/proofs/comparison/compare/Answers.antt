@@ -10,7 +10,8 @@ same_length p = cc
 not_same : {at l r d n : ℕ} → Differs at l r d ≡ Same n → ⊥
 not_same p = cc
 
-at_variant : (P : ℕ → ℕ → ℕ → Type 0) {at l r d at' l' r' d' : ℕ} → Differs at l r d ≡ Differs at' l' r' d' → P at l r → P at' l' r'
+at_variant : (P : ℕ → ℕ → ℕ → Type 0) {at l r d at' l' r' d' : ℕ}
+    → Differs at l r d ≡ Differs at' l' r' d' → P at l r → P at' l' r'
 at_variant P {at = at} {l = l} {r = r} {at' = at'} {l' = l'} {r' = r'} p holds =
     let a : at ≡ at' = cc in
     let b : l ≡ l' = cc in
@@ -25,10 +26,12 @@ returns-in-None-clause-same c = λ n. (
 
 pub returns-in-Some-clause-same : goal.returns-in-Some-clause-same
 returns-in-Some-clause-same c =
-    let differs = first_differs c.args.left.now c.args.right.now c.in-Some.at (omega arith) (sym c.in-Some.ensures.first) in
+    let differs = first_differs c.args.left.now c.args.right.now c.in-Some.at (omega arith)
+    (sym c.in-Some.ensures.first) in
     λ n. (λ is. absurd (not_same is), λ both. absurd (differs.differ (ap (λ xs. get_or xs c.in-Some.at 0) both.0)))
 
 pub returns-in-Some-clause-differs : goal.returns-in-Some-clause-differs
 returns-in-Some-clause-differs c =
-    let differs = first_differs c.args.left.now c.args.right.now c.in-Some.at (omega arith) (sym c.in-Some.ensures.first) in
+    let differs = first_differs c.args.left.now c.args.right.now c.in-Some.at (omega arith)
+    (sym c.in-Some.ensures.first) in
     λ at l r d is. at_variant (FirstDiffers c.args.left.now c.args.right.now) is differs

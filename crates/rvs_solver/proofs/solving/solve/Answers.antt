@@ -2,8 +2,10 @@ use Rattle.std.proofs.Common.{◌≡◌, ◌∙◌, ◌≤◌, ◌+◌, List, ge
 use Rattle.std.specs.Prelude.{IfSome, IfNone}
 use Rattle.rvs_insn.specs.declared.op.Op.{Op}
 use Rattle.rvs_cgf.specs.GroupView.{meaning_view, point_view, label_view}
-use Rattle.rvs_solver.specs.Solving.{first_meant, first_at, SolvesAs, IsLeastAt, IsSolvableAs, IsSolvableAt, bound_meant, bound_at}
-use Rattle.rvs_solver.proofs.Labels.{point_there, valid_there, first_there, least_there, none_there, cost_there}
+use Rattle.rvs_solver.specs.Solving.{first_meant, first_at, SolvesAs, IsLeastAt, IsSolvableAs}
+use Rattle.rvs_solver.specs.Solving.{IsSolvableAt, bound_meant, bound_at}
+use Rattle.rvs_solver.proofs.Labels.{point_there, valid_there, first_there, least_there, none_there}
+use Rattle.rvs_solver.proofs.Labels.{cost_there}
 use Rattle.rvs_solver.proofs.Meant.{ok_then}
 use Rattle.rvs_solver.proofs.solving.solve.Goals as goal
 
@@ -41,7 +43,8 @@ returns-clause-least g c =
     ok_then (λ s. IfSome s (SolvesAs isa c.as_slice-2.result.now (point_view p) m))
     (λ s. IfSome s (IsLeastAt isa l c.args.point))
     (λ s h. least_there isa l c.args.point (point_view p) s there
-    (subst (λ (ops : List Op). IfSome s (SolvesAs isa ops (point_view p) m)) c.as_slice-2.ensures h))
+    (subst (λ (ops : List Op). IfSome s (SolvesAs isa ops (point_view p) m)) c.as_slice-2.ensures
+    h))
     c.solve_meant.result c.solve_meant.ensures.least
 
 pub returns-clause-none : goal.returns-clause-none

@@ -5,8 +5,10 @@ use Rattle.rvs_cgf.specs.GroupView.{point_view}
 use Rattle.rvs_solver.specs.declared.solved.Solved.TheVariants.{One}
 use Rattle.rvs_solver.specs.First.{first_choice, Solvable}
 use Rattle.rvs_solver.specs.Bound.{bound}
-use Rattle.rvs_solver.specs.Solving.{first_meant, SolvesAs, IsLeastChoice, IsSolvableAs, bound_meant}
-use Rattle.rvs_solver.proofs.Meant.{first_single, solves_single, solvable_single, bound_single, ok_then}
+use Rattle.rvs_solver.specs.Solving.{first_meant, SolvesAs, IsLeastChoice, IsSolvableAs}
+use Rattle.rvs_solver.specs.Solving.{bound_meant}
+use Rattle.rvs_solver.proofs.Meant.{first_single, solves_single, solvable_single, bound_single}
+use Rattle.rvs_solver.proofs.Meant.{ok_then}
 use Rattle.rvs_solver.proofs.solving.solve_meant.Goals as goal
 
 pub returns-in-Some : goal.returns-in-Some
@@ -42,7 +44,8 @@ returns-in-None g c =
       first = ok_then (λ s. s ≡ option_map One (first_choice isa ops p.kind m))
           (λ s. s ≡ first_meant isa ops p.kind m)
           (λ s h. h ∙ first_single isa ops p.kind m single) r c.solve_choice.ensures.first;
-      least = ok_then (λ s. IfSome s (IsLeastChoice isa ops p)) (λ s. IfSome s (SolvesAs isa ops p m))
+      least =
+          ok_then (λ s. IfSome s (IsLeastChoice isa ops p)) (λ s. IfSome s (SolvesAs isa ops p m))
           (λ s h. solves_single isa ops p m s single h) r c.solve_choice.ensures.least;
       none = ok_then (λ s. IfNone s (Solvable isa ops p.kind m → ⊥))
           (λ s. IfNone s (IsSolvableAs isa ops p.kind m → ⊥))

@@ -6,7 +6,8 @@ use Rattle.rvs_solver.specs.declared.operand.Operand.{Operand}
 use Rattle.rvs_solver.specs.Walk.{is_true_at, at_operand, MayPassOver, inner_cost, sees_first}
 use Rattle.rvs_solver.proofs.Tried.{tried_passes, tried_cost}
 use Rattle.rvs_solver.proofs.Turns.{at_most}
-use Rattle.rvs_solver.proofs.Calls.{not_store, passing_call, product_call, cost_call, tried_call, passing_same_call, store_call, store_cost_call}
+use Rattle.rvs_solver.proofs.Calls.{not_store, passing_call, product_call, cost_call, tried_call}
+use Rattle.rvs_solver.proofs.Calls.{passing_same_call, store_call, store_cost_call}
 use Rattle.rvs_solver.proofs.values.first_in_lists.Goals as goal
 
 pub first_store-requires-clause-words : goal.first_store-requires-clause-words

@@ -14,5 +14,7 @@ returns-in_err-bytes g c = λ out.
 pub returns : goal.returns
 returns g c = λ out.
     let w = world (g.H.Host.state c.read_input.new.host) out in
-    let last = subst (λ (bytes : List ℕ). Meets (words c.args.name.now bytes) w w c.check_words.result) c.as_slice.ensures (c.check_words.ensures w) in
+    let last = subst
+    (λ (bytes : List ℕ). Meets (words c.args.name.now bytes) w w c.check_words.result)
+    c.as_slice.ensures (c.check_words.ensures w) in
     Meets-then (words c.args.name.now) (c.in_ok-bytes.ensures out) last

@@ -6,7 +6,9 @@ use Rattle.rvs_suite.proofs.covering.cover_log.Goals as goal
 pub returns-in_err-report : goal.returns-in_err-report
 returns-in_err-report g c =
     let p = err_from_is_err_and c.from_residual.result c.from_residual.ensures.1 in
-    rw (p.1, p.2) (Meets-stop print_report (c.in_err-report.ensures (g.O.Sink.state c.args.out.now)))
+    rw (p.1, p.2)
+    (Meets-stop print_report (c.in_err-report.ensures (g.O.Sink.state c.args.out.now)))
 
 pub returns : goal.returns
-returns g c = Meets-then print_report (c.in_ok-report.ensures (g.O.Sink.state c.args.out.now)) (c.print_report.ensures (g.H.Host.state c.read_report.new.host))
+returns g c = Meets-then print_report (c.in_ok-report.ensures (g.O.Sink.state c.args.out.now))
+    (c.print_report.ensures (g.H.Host.state c.read_report.new.host))

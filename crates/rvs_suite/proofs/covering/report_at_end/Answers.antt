@@ -14,13 +14,20 @@ use Rattle.rvs_suite.proofs.covering.report_at_end.Goals as goal
 abbrev report_in : CountState → List ℕ
 report_in s = report_of (map label_view s.tally.labels) s.tally.counts s.tally.instructions
 
-reported : (labels : List Label) (windows : List Span) (bytes : List ℕ) (n : ℕ) → report_in (state_of labels windows (ended bytes) n) ≡ report_on (groups_view labels) windows bytes
+reported : (labels : List Label) (windows : List Span) (bytes : List ℕ) (n : ℕ)
+    → report_in (state_of labels windows (ended bytes) n)
+    ≡ report_on (groups_view labels) windows bytes
 unfolding report_on
-reported labels windows bytes n = λ i. report_of (map label_view (counted_labels labels windows (ended bytes) n i)) (counted_all labels windows bytes n i) (counted_instructions labels windows bytes n i)
+reported labels windows bytes n = λ i. report_of
+    (map label_view (counted_labels labels windows (ended bytes) n i))
+    (counted_all labels windows bytes n i) (counted_instructions labels windows bytes n i)
 
-IfOk-map : {A E : Type 0} {P Q : A → Type 0} (r : Result A E) → ((a : A) → P a → Q a) → IfOk r P → IfOk r Q
+IfOk-map : {A E : Type 0} {P Q : A → Type 0} (r : Result A E) → ((a : A) → P a → Q a) → IfOk r P
+    → IfOk r Q
 IfOk-map (Ok a) f p = f a p
 IfOk-map (Err e) f p = tt
 
 pub returns-clause-report : goal.returns-clause-report
-returns-clause-report c = IfOk-map c.report.result (λ text is labels windows bytes n old. is ∙ ap report_in (c.finish.ensures.state labels windows bytes n old) ∙ reported labels windows bytes n) c.report.ensures
+returns-clause-report c = IfOk-map c.report.result (λ text is labels windows bytes n old. is
+    ∙ ap report_in (c.finish.ensures.state labels windows bytes n old)
+    ∙ reported labels windows bytes n) c.report.ensures

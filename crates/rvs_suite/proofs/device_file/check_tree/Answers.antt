@@ -9,4 +9,5 @@ use Rattle.rvs_suite.proofs.device_file.check_tree.Goals as goal
 pub returns-in_err-device_text-in-Err : goal.returns-in_err-device_text-in-Err
 returns-in_err-device_text-in-Err c = λ w.
     let p = err_from_is_err_and c.from_residual.result c.from_residual.ensures.1 in
-    rw (p.1, p.2) (Meets-no_memory (Ends (checked_end c.args.name.now (told_in (view c.args.tree.now)))) w)
+    rw (p.1, p.2)
+    (Meets-no_memory (Ends (checked_end c.args.name.now (told_in (view c.args.tree.now)))) w)

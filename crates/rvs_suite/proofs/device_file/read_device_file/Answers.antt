@@ -16,5 +16,6 @@ returns-in_err-bytes g c = λ out.
 pub returns : goal.returns
 returns g c = λ out.
     let w = world (g.H.Host.state c.read_input.new.host) out in
-    let last = subst (λ (bytes : List ℕ). Meets (checks c.args.name.now bytes) w w (seen told c.check_bytes.result)) c.as_slice.ensures (c.check_bytes.ensures w) in
+    let last = subst (λ (bytes : List ℕ). Meets (checks c.args.name.now bytes) w w
+    (seen told c.check_bytes.result)) c.as_slice.ensures (c.check_bytes.ensures w) in
     Meets-then (checks c.args.name.now) (c.in_ok-bytes.ensures out) last

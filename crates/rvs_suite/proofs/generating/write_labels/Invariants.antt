@@ -13,8 +13,12 @@ use Rattle.rvs_suite.proofs.generating.write_labels.Given as goal
 abbrev pub invariant-loop-label : goal.invariant-loop-label
 invariant-loop-label g l = record {
   met : (out : SinkState) (new : World) (result : Result (Unit {0}) Stop)
-      → Meets (writes_tests l.work l.isa (groups_view (drop l.label-index l.labels))) (world (g.H.Host.state l.host) out) new result
-      → Meets (writes_tests l.work l.isa (groups_view l.labels)) (world (g.H.Host.state l.fn.host) out) new result;
-  text : l.said.text ++ flat_map (label_text l.isa) (groups_view (drop l.label-index l.labels)) ≡ flat_map (label_text l.isa) (groups_view l.labels);
-  totals : with_labels l.isa (totals_view l.said.totals) (groups_view (drop l.label-index l.labels)) ≡ with_labels l.isa none (groups_view l.labels);
+      → Meets (writes_tests l.work l.isa (groups_view (drop l.label-index l.labels)))
+      (world (g.H.Host.state l.host) out) new result
+      → Meets (writes_tests l.work l.isa (groups_view l.labels))
+      (world (g.H.Host.state l.fn.host) out) new result;
+  text : l.said.text ++ flat_map (label_text l.isa) (groups_view (drop l.label-index l.labels))
+      ≡ flat_map (label_text l.isa) (groups_view l.labels);
+  totals : with_labels l.isa (totals_view l.said.totals) (groups_view (drop l.label-index l.labels))
+      ≡ with_labels l.isa none (groups_view l.labels);
 }

@@ -16,7 +16,9 @@ pub returns-then-label-clause-met : goal.returns-then-label-clause-met
 returns-then-label-clause-met g c = λ out.
     let old = world (g.H.Host.state c.args.host.now) out in
     let new = world (g.H.Host.state c.write_selected.new.host) out in
-    subst (λ (b : Bool). Meets (chosen b (path_of c.args.work.now c.args.label.now.name) (text_of_label c.args.isa.now (label_view c.args.label.now))) old new c.write_selected.result) (sym c.if-label.true) (c.write_selected.ensures.met out)
+    subst (λ (b : Bool). Meets (chosen b (path_of c.args.work.now c.args.label.now.name)
+    (text_of_label c.args.isa.now (label_view c.args.label.now))) old new
+    c.write_selected.result) (sym c.if-label.true) (c.write_selected.ensures.met out)
 
 pub returns-in_err-push_unselected-clause-met : goal.returns-in_err-push_unselected-clause-met
 returns-in_err-push_unselected-clause-met g c = λ out.

@@ -21,13 +21,19 @@ returns-in_err-yaml_text-in-Err-clause-met c = λ w.
 
 pub returns-in-Ok-clause-met : goal.returns-in-Ok-clause-met
 returns-in-Ok-clause-met c = λ w.
-    let read : answer c.args.text ≡ Ok (view c.in-Ok.tree) = ap answer (sym c.as_slice.ensures) ∙ c.in-Ok.ensures.tree in
-    subst (λ (a : Answer). Meets (Ends (tree_groups c.args.isa.now a)) w w (seen groups_view c.check_tree.result)) (sym read) (c.check_tree.ensures.met w)
+    let read : answer c.args.text ≡ Ok (view c.in-Ok.tree) =
+    ap answer (sym c.as_slice.ensures) ∙ c.in-Ok.ensures.tree in
+    subst (λ (a : Answer). Meets (Ends (tree_groups c.args.isa.now a)) w w
+    (seen groups_view c.check_tree.result)) (sym read) (c.check_tree.ensures.met w)
 
 pub returns-in_ok-yaml_text-in-Err-clause-met : goal.returns-in_ok-yaml_text-in-Err-clause-met
 returns-in_ok-yaml_text-in-Err-clause-met c = λ w.
     let text = c.in_ok-yaml_text-in-Err.field-0 in
     let refusal = c.in-Err.refusal in
-    let is = refused-is refusal.kind refusal.line (answer c.as_slice.result.now) c.in_ok-yaml_text-in-Err.ensures.fault c.in-Err.ensures.refused in
-    let found : Err (Refused text) ≡ groups_found c.args.isa.now c.args.text = ap (λ t. Err (Refused t)) c.in_ok-yaml_text-in-Err.ensures.text ∙ ap (tree_groups c.args.isa.now) (sym is ∙ ap answer c.as_slice.ensures) in
-    subst (λ (r : Result (List Label) Stop). Meets (Ends r) w w (Err (Refused text))) found (Meets-refused text w)
+    let is = refused-is refusal.kind refusal.line (answer c.as_slice.result.now)
+    c.in_ok-yaml_text-in-Err.ensures.fault c.in-Err.ensures.refused in
+    let found : Err (Refused text) ≡ groups_found c.args.isa.now c.args.text =
+    ap (λ t. Err (Refused t)) c.in_ok-yaml_text-in-Err.ensures.text
+    ∙ ap (tree_groups c.args.isa.now) (sym is ∙ ap answer c.as_slice.ensures) in
+    subst (λ (r : Result (List Label) Stop). Meets (Ends r) w w (Err (Refused text))) found
+    (Meets-refused text w)

@@ -9,4 +9,5 @@ use Rattle.rvs_suite.proofs.group_files.check_tree.Goals as goal
 pub returns-in_err-group_text-in-Err-clause-met : goal.returns-in_err-group_text-in-Err-clause-met
 returns-in_err-group_text-in-Err-clause-met c = λ w.
     let p = err_from_is_err_and c.from_residual.result c.from_residual.ensures.1 in
-    rw (p.1, p.2) (Meets-no_memory (Ends (checked_groups (groups_of c.args.isa.now (view c.args.tree.now)))) w)
+    rw (p.1, p.2) (Meets-no_memory
+    (Ends (checked_groups (groups_of c.args.isa.now (view c.args.tree.now)))) w)

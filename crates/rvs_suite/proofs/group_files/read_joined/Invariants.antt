@@ -10,5 +10,6 @@ use Rattle.rvs_suite.proofs.group_files.read_joined.Given as goal
 abbrev pub invariant-loop-name : goal.invariant-loop-name
 invariant-loop-name g l =
     (out : SinkState) (new : World) (result : Result (List ℕ) Stop)
-    → Meets (joins_all l.front (drop l.name-index l.names)) (world (g.H.Host.state l.host) out) new result
+    → Meets (joins_all l.front (drop l.name-index l.names)) (world (g.H.Host.state l.host) out) new
+    result
     → Meets (joins_all None l.fn.names) (world (g.H.Host.state l.fn.host) out) new result

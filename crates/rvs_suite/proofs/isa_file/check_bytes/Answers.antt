@@ -13,4 +13,6 @@ returns-in_err-yaml_text-in-Err c = λ w.
     rw (p.1, p.2) (Meets-no_memory (checks c.args.name.now c.args.bytes.now) w)
 
 pub returns-in-Ok : goal.returns-in-Ok
-returns-in-Ok c = λ w. subst (λ (a : Answer). Meets (Ends (tree_end c.args.name.now a)) w w c.check_tree.result) (sym c.in-Ok.ensures.tree) (c.check_tree.ensures w)
+returns-in-Ok c = λ w. subst
+    (λ (a : Answer). Meets (Ends (tree_end c.args.name.now a)) w w c.check_tree.result)
+    (sym c.in-Ok.ensures.tree) (c.check_tree.ensures w)

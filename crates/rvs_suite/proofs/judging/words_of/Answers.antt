@@ -9,4 +9,6 @@ returns-in-Halted c =
     let machine : c.new-machine.result ≡ started c.in_ok-image.image isa = c.new-machine.ensures in
     let empty : c.new-trace.result ≡ [] = c.new-trace.ensures in
     let run = rw (machine, empty, c.in-Halted.is) at c.run.ensures in
-    subst (λ (words : List ℕ). IfOk c.signature.result (λ w. w ≡ words)) (words-left isa c.args.test.now c.in_ok-image.image c.run.new.self c.run.new.trace c.in_ok-image.ensures run) c.signature.ensures.words
+    subst (λ (words : List ℕ). IfOk c.signature.result (λ w. w ≡ words)) (words-left isa
+    c.args.test.now c.in_ok-image.image c.run.new.self c.run.new.trace c.in_ok-image.ensures
+    run) c.signature.ensures.words

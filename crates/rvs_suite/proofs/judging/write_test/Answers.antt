@@ -10,13 +10,21 @@ use Rattle.rvs_suite.proofs.judging.write_test.Goals as goal
 pub returns-in_err-path : goal.returns-in_err-path
 returns-in_err-path g c = λ out.
     let p = err_from_is_err_and c.from_residual.result c.from_residual.ensures.1 in
-    rw (p.1, p.2) (Meets-no_memory (writes (path_of c.args.bench.now.work c.args.test.now.name) c.args.test.now.text) (world (g.H.Host.state c.args.host.now) out))
+    rw (p.1, p.2) (Meets-no_memory
+    (writes (path_of c.args.bench.now.work c.args.test.now.name) c.args.test.now.text)
+    (world (g.H.Host.state c.args.host.now) out))
 
 pub returns : goal.returns
 returns g c = λ out.
     let old = world (g.H.Host.state c.args.host.now) out in
     let new = world (g.H.Host.state c.write_output.new.host) out in
-    let path : c.in_ok-path.path ≡ path_of c.args.bench.now.work c.args.test.now.name = rw (c.as_str.ensures, c.as_str-2.ensures) at c.in_ok-path.ensures in
-    let text : c.as_bytes.result.now ≡ c.args.test.now.text = c.as_bytes.ensures.value ∙ c.as_str-3.ensures in
-    let one = subst (λ (name : List ℕ). Meets (writes name c.as_bytes.result.now) old new c.write_output.result) path (c.write_output.ensures out) in
-    subst (λ (bytes : List ℕ). Meets (writes (path_of c.args.bench.now.work c.args.test.now.name) bytes) old new c.write_output.result) text one
+    let path : c.in_ok-path.path ≡ path_of c.args.bench.now.work c.args.test.now.name =
+    rw (c.as_str.ensures, c.as_str-2.ensures) at c.in_ok-path.ensures in
+    let text : c.as_bytes.result.now ≡ c.args.test.now.text =
+    c.as_bytes.ensures.value ∙ c.as_str-3.ensures in
+    let one = subst
+    (λ (name : List ℕ). Meets (writes name c.as_bytes.result.now) old new c.write_output.result)
+    path (c.write_output.ensures out) in
+    subst (λ (bytes : List ℕ). Meets
+    (writes (path_of c.args.bench.now.work c.args.test.now.name) bytes) old new
+    c.write_output.result) text one

@@ -1,5 +1,8 @@
 use Rattle.rvs_suite.proofs.laws.commands_are_read.Goals as goal
-use Rattle.rvs_suite.proofs.CommandWords.{compares_are_read, validates_are_read, normalizes_are_read, generates_are_read, references_are_read, coverages_are_read, runs_are_read, demos_are_read}
+use Rattle.rvs_suite.proofs.CommandWords.{compares_are_read, validates_are_read}
+use Rattle.rvs_suite.proofs.CommandWords.{normalizes_are_read, generates_are_read}
+use Rattle.rvs_suite.proofs.CommandWords.{references_are_read, coverages_are_read, runs_are_read}
+use Rattle.rvs_suite.proofs.CommandWords.{demos_are_read}
 
 pub returns-clause-compare : goal.returns-clause-compare
 returns-clause-compare c = compares_are_read

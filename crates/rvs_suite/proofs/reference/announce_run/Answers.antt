@@ -12,15 +12,28 @@ use Rattle.rvs_suite.proofs.reference.announce_run.Goals as goal
 pub returns-in_err-line : goal.returns-in_err-line
 returns-in_err-line g c = λ host.
     let p = err_from_is_err_and c.from_residual.result c.from_residual.ensures.1 in
-    rw (p.1, p.2) (Meets-no_memory (announces_run c.args.run.now) (world host (g.O.Sink.state c.args.out.now)))
+    rw (p.1, p.2) (Meets-no_memory (announces_run c.args.run.now)
+    (world host (g.O.Sink.state c.args.out.now)))
 
 pub returns-in_err-print : goal.returns-in_err-print
 returns-in_err-print g c = λ host.
-    let p = err_from_is_err_and c.from_residual-in_err-print.result c.from_residual-in_err-print.ensures.1 in
-    let line : c.as_bytes.result.now ≡ ran_line (length c.args.run.now.trace) (length c.args.run.now.words) = c.as_bytes.ensures.value ∙ c.as_str.ensures ∙ c.in_ok-line.ensures ∙ ap (λ (t : List Executed). ran_line (length t) (length c.as_slice-2.result.now)) c.as_slice.ensures ∙ ap (λ (w : List ℕ). ran_line (length c.args.run.now.trace) (length w)) c.as_slice-2.ensures in
+    let p = err_from_is_err_and c.from_residual-in_err-print.result
+    c.from_residual-in_err-print.ensures.1 in
+    let line : c.as_bytes.result.now ≡ ran_line (length c.args.run.now.trace)
+    (length c.args.run.now.words) = c.as_bytes.ensures.value ∙ c.as_str.ensures
+    ∙ c.in_ok-line.ensures ∙ ap
+    (λ (t : List Executed). ran_line (length t) (length c.as_slice-2.result.now))
+    c.as_slice.ensures ∙ ap (λ (w : List ℕ). ran_line (length c.args.run.now.trace) (length w))
+    c.as_slice-2.ensures in
     rw (p.1, p.2) (Meets-stop (λ _. gives Done) (rw line at (c.in_err-print.ensures host)))
 
 pub returns : goal.returns
 returns g c = λ host.
-    let line : c.as_bytes.result.now ≡ ran_line (length c.args.run.now.trace) (length c.args.run.now.words) = c.as_bytes.ensures.value ∙ c.as_str.ensures ∙ c.in_ok-line.ensures ∙ ap (λ (t : List Executed). ran_line (length t) (length c.as_slice-2.result.now)) c.as_slice.ensures ∙ ap (λ (w : List ℕ). ran_line (length c.args.run.now.trace) (length w)) c.as_slice-2.ensures in
-    Meets-then (λ _. gives Done) (rw line at (c.in_ok-print.ensures host)) (Meets-gives Done (world host (g.O.Sink.state c.print.new.out)))
+    let line : c.as_bytes.result.now ≡ ran_line (length c.args.run.now.trace)
+    (length c.args.run.now.words) = c.as_bytes.ensures.value ∙ c.as_str.ensures
+    ∙ c.in_ok-line.ensures ∙ ap
+    (λ (t : List Executed). ran_line (length t) (length c.as_slice-2.result.now))
+    c.as_slice.ensures ∙ ap (λ (w : List ℕ). ran_line (length c.args.run.now.trace) (length w))
+    c.as_slice-2.ensures in
+    Meets-then (λ _. gives Done) (rw line at (c.in_ok-print.ensures host))
+    (Meets-gives Done (world host (g.O.Sink.state c.print.new.out)))

@@ -10,7 +10,9 @@ use Rattle.rvs_suite.proofs.run.judge_all.Given as goal
 abbrev pub invariant-loop-test : goal.invariant-loop-test
 invariant-loop-test g l = record {
   met : (new : World) (result : Result ℕ Stop)
-      → MeetsWith IsAnswer (judges_all (bench_view l.bench) l.passed (drop l.test-index l.tests)) (world (g.H.Host.state l.host) (g.O.Sink.state l.out)) new result
-      → MeetsWith IsAnswer (judges_all (bench_view l.bench) 0 l.tests) (world (g.H.Host.state l.fn.host) (g.O.Sink.state l.fn.out)) new result;
+      → MeetsWith IsAnswer (judges_all (bench_view l.bench) l.passed (drop l.test-index l.tests))
+      (world (g.H.Host.state l.host) (g.O.Sink.state l.out)) new result
+      → MeetsWith IsAnswer (judges_all (bench_view l.bench) 0 l.tests)
+      (world (g.H.Host.state l.fn.host) (g.O.Sink.state l.fn.out)) new result;
   some : l.passed ≤ l.test-index;
 }

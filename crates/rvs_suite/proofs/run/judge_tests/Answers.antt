@@ -10,4 +10,5 @@ returns-in_err-passed g c =
     rw (p.1, p.2) (Meets-stop (tallies (length c.args.tests.now)) c.in_err-passed.ensures.met)
 
 pub returns : goal.returns
-returns g c = Meets-then (tallies (length c.args.tests.now)) c.in_ok-passed.ensures.met (Meets-weaker (c.print_totals.ensures (g.H.Host.state c.judge_all.new.host)))
+returns g c = Meets-then (tallies (length c.args.tests.now)) c.in_ok-passed.ensures.met
+    (Meets-weaker (c.print_totals.ensures (g.H.Host.state c.judge_all.new.host)))

@@ -11,10 +11,13 @@ use Rattle.rvs_suite.proofs.suite.perform.Goals as goal
 pub returns-in_err-command : goal.returns-in_err-command
 returns-in_err-command g c =
     let p = err_from_is_err_and c.from_residual.result c.from_residual.ensures.1 in
-    rw (p.1, p.2) (Performs-no_memory (command_of (texts c.args.words.now)) (world (g.H.Host.state c.args.host.now) (g.O.Sink.state c.args.out.now)))
+    rw (p.1, p.2) (Performs-no_memory (command_of (texts c.args.words.now))
+    (world (g.H.Host.state c.args.host.now) (g.O.Sink.state c.args.out.now)))
 
 pub returns : goal.returns
 returns g c =
     let old = world (g.H.Host.state c.args.host.now) (g.O.Sink.state c.args.out.now) in
-    let new = world (g.H.Host.state c.run_command.new.host) (g.O.Sink.state c.run_command.new.out) in
-    subst (λ (command : Command). Performs command old new c.run_command.result) c.in_ok-command.ensures c.run_command.ensures
+    let new =
+    world (g.H.Host.state c.run_command.new.host) (g.O.Sink.state c.run_command.new.out) in
+    subst (λ (command : Command). Performs command old new c.run_command.result)
+    c.in_ok-command.ensures c.run_command.ensures

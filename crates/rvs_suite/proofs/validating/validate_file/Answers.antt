@@ -9,4 +9,5 @@ returns-in_err-said g c =
     rw (p.1, p.2) (Meets-stop print_said (c.in_err-said.ensures (g.O.Sink.state c.args.out.now)))
 
 pub returns : goal.returns
-returns g c = Meets-then print_said (c.in_ok-said.ensures (g.O.Sink.state c.args.out.now)) (c.print_said.ensures (g.H.Host.state c.read_isa.new.host))
+returns g c = Meets-then print_said (c.in_ok-said.ensures (g.O.Sink.state c.args.out.now))
+    (c.print_said.ensures (g.H.Host.state c.read_isa.new.host))

@@ -4,7 +4,8 @@ use Rattle.rvs_suite.specs.Windows.{all_windows}
 use Rattle.rvs_suite.proofs.windows.read_all.Given as goal
 
 abbrev pub invariant-loop-text : goal.invariant-loop-text
-invariant-loop-text l = option_map (λ (more : List Window). l.windows ++ more) (all_windows l.rest) ≡ all_windows l.fn.texts
+invariant-loop-text l = option_map (λ (more : List Window). l.windows ++ more) (all_windows l.rest)
+    ≡ all_windows l.fn.texts
 
 abbrev pub decreases-loop-text : goal.decreases-loop-text
 decreases-loop-text l = length l.rest

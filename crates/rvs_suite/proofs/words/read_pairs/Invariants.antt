@@ -4,7 +4,8 @@ use Rattle.rvs_suite.specs.declared.words.Pair.{Pair}
 use Rattle.rvs_suite.proofs.words.read_pairs.Given as goal
 
 abbrev pub invariant-loop-word : goal.invariant-loop-word
-invariant-loop-word l = option_map (λ (more : List Pair). l.pairs ++ more) (pairs_of (texts l.rest)) ≡ pairs_of (texts l.fn.words)
+invariant-loop-word l = option_map (λ (more : List Pair). l.pairs ++ more) (pairs_of (texts l.rest))
+    ≡ pairs_of (texts l.fn.words)
 
 abbrev pub decreases-loop-word : goal.decreases-loop-word
 decreases-loop-word l = length l.rest

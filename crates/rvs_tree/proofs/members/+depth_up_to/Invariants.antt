@@ -8,4 +8,5 @@ abbrev pub decreases-depth_up_to : goal.decreases-depth_up_to
 decreases-depth_up_to l = l.most
 
 abbrev pub invariant-loop-i : goal.invariant-loop-i
-invariant-loop-i l = l.deepest ≡ min (members_depth (take l.i (members_of (view l.tree)))) (l.most - 1)
+invariant-loop-i l =
+    l.deepest ≡ min (members_depth (take l.i (members_of (view l.tree)))) (l.most - 1)

@@ -13,7 +13,10 @@ use Rattle.rvs_tree.proofs.parts.map_draft.Goals as goal
 pub returns : goal.returns
 returns c =
     let ws = c.args.entries.now in
-    let all : c.loop-written.written-index ≡ length ws = omega (arith, c.loop-written.auto.written-index-end, c.loop-written-test.false) in
+    let all : c.loop-written.written-index ≡ length ws =
+    omega (arith, c.loop-written.auto.written-index-end, c.loop-written-test.false) in
     ok_more c.new_map.result c.new_map.ensures (λ (d : Rc Draft Global) h.
-    h ∙ ap (λ us. data_of us c.args.line) (c.loop-written.invariant ∙ ap (λ n. bares (entries_view (take n ws))) all ∙ ap (λ us. bares (entries_view us)) (take_whole ws))
+    h ∙ ap (λ us. data_of us c.args.line) (c.loop-written.invariant
+    ∙ ap (λ n. bares (entries_view (take n ws))) all
+    ∙ ap (λ us. bares (entries_view us)) (take_whole ws))
     ∙ bare-map c.args.line (entries_view ws))

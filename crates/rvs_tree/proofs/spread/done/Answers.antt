@@ -10,18 +10,22 @@ use Rattle.rvs_tree.proofs.Drafts.{view-whole}
 use Rattle.rvs_tree.proofs.Sifting.{gathered-sift, gathered-keys, later-same}
 use Rattle.rvs_tree.proofs.spread.done.Goals as goal
 
-after : (out : Pairs) (T : List (List ℕ)) (ps : Pairs) (g : Pairs × List (List ℕ)) (rest : List Written) → g ≡ gathered (out, T) ps →
+after : (out : Pairs) (T : List (List ℕ)) (ps : Pairs) (g : Pairs × List (List ℕ))
+    (rest : List Written) → g ≡ gathered (out, T) ps →
     g.0 ++ later g.1 rest ≡ out ++ (sift T ps ++ later (keys_of ps ++ T) rest)
 after out T ps g rest e =
     ap (λ h. h.0 ++ later h.1 rest) e
     ∙ ap (λ x. x ++ later (gathered (out, T) ps).1 rest) (gathered-sift out T ps)
-    ∙ ap (λ x. (out ++ sift T ps) ++ x) (later-same (gathered (out, T) ps).1 (keys_of ps ++ T) rest (gathered-keys out T ps))
+    ∙ ap (λ x. (out ++ sift T ps) ++ x)
+    (later-same (gathered (out, T) ps).1 (keys_of ps ++ T) rest (gathered-keys out T ps))
     ∙ append_assoc out (sift T ps) (later (keys_of ps ++ T) rest)
 
 pub returns-in_ok-gathered-in-Whole-clause-brought : goal.returns-in_ok-gathered-in-Whole-clause-brought
 returns-in_ok-gathered-in-Whole-clause-brought c =
     let g = c.args.gathered in
     let rest = next_view c.args.work.items in
-    after (pairs_view g.pairs) (taken_view g.taken) (merged_pairs (view c.in-Whole.tree.value)) (gathered_view c.in_ok-gathered-in-Whole.gathered) rest
-    (c.in_ok-gathered-in-Whole.ensures ∙ ap (λ t. gathered (gathered_view g) (merged_pairs (view t))) c.deref.ensures)
+    after (pairs_view g.pairs) (taken_view g.taken) (merged_pairs (view c.in-Whole.tree.value))
+    (gathered_view c.in_ok-gathered-in-Whole.gathered) rest
+    (c.in_ok-gathered-in-Whole.ensures
+    ∙ ap (λ t. gathered (gathered_view g) (merged_pairs (view t))) c.deref.ensures)
     ∙ sym (ap (λ w. brings g (w ∷ rest)) (view-whole c.args.part.now c.in-Whole.tree c.in-Whole.is))

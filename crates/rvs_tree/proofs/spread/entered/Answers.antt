@@ -15,7 +15,8 @@ returns-then-is_list-clause-brought c =
     let T = taken_view c.args.gathered.taken in
     let ws = parts_view c.parts.result.now in
     let rest = next_view c.args.work.items in
-    let listed : is_list (draft_view c.args.draft.now) ≡ true = sym c.is_list.ensures ∙ c.if-is_list.true in
+    let listed : is_list (draft_view c.args.draft.now) ≡ true =
+    sym c.is_list.ensures ∙ c.if-is_list.true in
     ap (λ x. pairs_view c.args.gathered.pairs ++ x)
     (ap (later T) (c.in_ok-work.ensures.next ∙ ap (λ x. x ++ rest) c.in_ok-maps.ensures.maps)
     ∙ sym (enter-list ws T rest)
@@ -23,16 +24,20 @@ returns-then-is_list-clause-brought c =
 
 -- the data of a map's draft, wherever it begins
 mapped : (d : Data) (T : List (List ℕ)) (ws rest : List Written) → ((l : ℕ) × (d ≡ data_of ws l)) →
-    later (takes T ws) (kept T ws ++ rest) ≡ sift T (merged_pairs d) ++ later (keys_of (merged_pairs d) ++ T) rest
-mapped d T ws rest (l, e) = sym (enter-map T ws rest l) ∙ sym (ap (λ x. sift T (merged_pairs x) ++ later (keys_of (merged_pairs x) ++ T) rest) e)
+    later (takes T ws) (kept T ws ++ rest)
+    ≡ sift T (merged_pairs d) ++ later (keys_of (merged_pairs d) ++ T) rest
+mapped d T ws rest (l, e) = sym (enter-map T ws rest l)
+    ∙ sym (ap (λ x. sift T (merged_pairs x) ++ later (keys_of (merged_pairs x) ++ T) rest) e)
 
 pub returns-clause-brought : goal.returns-clause-brought
 returns-clause-brought c =
     let T = taken_view c.args.gathered.taken in
     let ws = parts_view c.parts-2.result.now in
     let rest = next_view c.args.work.items in
-    let map_is : is_list (draft_view c.args.draft.now) ≡ false = sym c.is_list.ensures ∙ c.if-is_list.false in
+    let map_is : is_list (draft_view c.args.draft.now) ≡ false =
+    sym c.is_list.ensures ∙ c.if-is_list.false in
     ap (λ x. pairs_view c.args.gathered.pairs ++ x)
     (ap (λ t. later t (next_view c.in_ok-work-2.work.items)) c.in_ok-taken.ensures.taken
-    ∙ ap (later (takes T ws)) (c.in_ok-work-2.ensures.next ∙ ap (λ x. x ++ rest) c.in_ok-taken.ensures.kept)
+    ∙ ap (later (takes T ws))
+    (c.in_ok-work-2.ensures.next ∙ ap (λ x. x ++ rest) c.in_ok-taken.ensures.kept)
     ∙ mapped (draft_view c.args.draft.now) T ws rest (c.parts-2.ensures.map map_is))

@@ -1,4 +1,5 @@
-use Rattle.std.proofs.Common.{◌≡◌, ◌∙◌, ◌∷◌, ◌++◌, [], suc, ◌+◌, ◌≤◌, sym, ap, drop, add-one, drop-cons, append_assoc, arith}
+use Rattle.std.proofs.Common.{◌≡◌, ◌∙◌, ◌∷◌, ◌++◌, [], suc, ◌+◌, ◌≤◌, sym, ap, drop, add-one}
+use Rattle.std.proofs.Common.{drop-cons, append_assoc, arith}
 use Rattle.rvs_tree.specs.Sifted.{kept}
 use Rattle.rvs_tree.specs.Parts.{takes}
 use Rattle.rvs_tree.specs.DraftView.{part_view}
@@ -14,17 +15,23 @@ loop-part-preserved c =
     let p = c.part-item.result in
     let T = taken_view c.loop-part.taken in
     let rest = parts_view (drop (suc i) ps) in
-    let split : drop i ps ≡ p ∷ drop (suc i) ps = drop-cons ps i p c.loop-part-test.true ∙ ap (λ t. t ∷ drop (suc i) ps) (sym c.part-item.is) in
+    let split : drop i ps ≡ p ∷ drop (suc i) ps = drop-cons ps i p c.loop-part-test.true
+    ∙ ap (λ t. t ∷ drop (suc i) ps) (sym c.part-item.is) in
     let new = taken_view c.in_ok-taken.field-0-0 in
     let old = refs_view c.loop-part.kept.items in
     let after : new ≡ takes T (part_view p ∷ []) = c.in_ok-taken.ensures.taken in
-    let more : refs_view c.in_ok-taken.field-0-1.items ≡ old ++ kept T (part_view p ∷ []) = c.in_ok-taken.ensures.kept in
-    let small : ref_sizes c.in_ok-taken.field-0-1.items ≤ ref_sizes c.loop-part.kept.items + part_size p = c.in_ok-taken.ensures.small in
+    let more : refs_view c.in_ok-taken.field-0-1.items ≡ old ++ kept T (part_view p ∷ []) =
+    c.in_ok-taken.ensures.kept in
+    let small : ref_sizes c.in_ok-taken.field-0-1.items ≤ ref_sizes c.loop-part.kept.items
+    + part_size p = c.in_ok-taken.ensures.small in
     rw add-one (
-      ap (λ t. takes t rest) after ∙ sym (takes-step T (part_view p) rest) ∙ sym (ap (λ us. takes T (parts_view us)) split) ∙ c.loop-part.invariant.0,
-      ap (λ x. x ++ kept new rest) more ∙ ap (λ t. (old ++ kept T (part_view p ∷ [])) ++ kept t rest) after
+      ap (λ t. takes t rest) after ∙ sym (takes-step T (part_view p) rest)
+          ∙ sym (ap (λ us. takes T (parts_view us)) split) ∙ c.loop-part.invariant.0,
+      ap (λ x. x ++ kept new rest) more
+          ∙ ap (λ t. (old ++ kept T (part_view p ∷ [])) ++ kept t rest) after
           ∙ append_assoc old (kept T (part_view p ∷ [])) (kept (takes T (part_view p ∷ [])) rest)
-          ∙ ap (λ x. old ++ x) (sym (kept-step T (part_view p) rest) ∙ sym (ap (λ us. kept T (parts_view us)) split))
+          ∙ ap (λ x. old ++ x)
+          (sym (kept-step T (part_view p) rest) ∙ sym (ap (λ us. kept T (parts_view us)) split))
           ∙ c.loop-part.invariant.1,
       omega (arith, c.loop-part.invariant.2, small, ap sizes split),
     )

@@ -13,5 +13,8 @@ returns c =
     let none : taken_view c.new.result ≡ [] = c.new.ensures in
     let keys : T ≡ takes [] ws = c.in_ok-taken.ensures.taken ∙ ap (λ t. takes t ws) none in
     let work : next_view c.in_ok-work.work.items ≡ ws =
-    c.in_ok-work.ensures.next ∙ ap (λ x. x ++ next_view c.new-2.result.items) c.in_ok-all_of.ensures ∙ ap (λ x. ws ++ next_view x) c.new-2.ensures.items ∙ append-nil ws in
-    c.in_ok-pairs.ensures ∙ ap (λ x. x ++ later T (next_view c.in_ok-work.work.items)) c.new-3.ensures ∙ ap (later T) work ∙ whole-map ws T keys
+    c.in_ok-work.ensures.next ∙ ap (λ x. x ++ next_view c.new-2.result.items) c.in_ok-all_of.ensures
+    ∙ ap (λ x. ws ++ next_view x) c.new-2.ensures.items ∙ append-nil ws in
+    c.in_ok-pairs.ensures
+    ∙ ap (λ x. x ++ later T (next_view c.in_ok-work.work.items)) c.new-3.ensures
+    ∙ ap (later T) work ∙ whole-map ws T keys

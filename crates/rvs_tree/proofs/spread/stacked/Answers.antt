@@ -11,7 +11,8 @@ loop-part-preserved c =
     let work = c.loop-part.work.items in (
       ap (λ x. refs_view rest ++ x) (ap next_view c.in_ok-push.ensures.items ∙ next-push work p)
           ∙ sym (append_assoc (refs_view rest) (part_view p.now ∷ []) (next_view work))
-          ∙ sym (ap (λ x. x ++ next_view work) (ap refs_view c.in-Some.ensures.items ∙ refs-push rest p))
+          ∙ sym (ap (λ x. x ++ next_view work)
+          (ap refs_view c.in-Some.ensures.items ∙ refs-push rest p))
           ∙ c.loop-part.invariant.0,
       omega (arith, ap ref_sizes c.in_ok-push.ensures.items, sizes-push work p, ap ref_sizes c.in-Some.ensures.items, sizes-push rest p, c.loop-part.invariant.1),
     )

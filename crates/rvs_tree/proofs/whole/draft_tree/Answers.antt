@@ -23,7 +23,8 @@ returns-in_ok-items c =
     let q = c.parts.ensures.items listed in
     let ds = merged_trees (parts_view c.parts.result.now) in
     ok_more c.new_list.result c.new_list.ensures (λ (t : Rc Tree Global) h.
-    h ∙ ap (λ xs. sequence (items_of xs) c.line.result) c.in_ok-items.ensures ∙ ap (sequence (items_of ds)) (c.line.ensures ∙ ap line_of q.1) ∙ sym q.1)
+    h ∙ ap (λ xs. sequence (items_of xs) c.line.result) c.in_ok-items.ensures
+    ∙ ap (sequence (items_of ds)) (c.line.ensures ∙ ap line_of q.1) ∙ sym q.1)
 
 pub map_of-requires : goal.map_of-requires
 map_of-requires c = sym c.is_list.ensures ∙ c.if-is_list.false

@@ -11,4 +11,6 @@ use Rattle.rvs_tree.proofs.whole.map_of.Goals as goal
 pub returns : goal.returns
 returns c =
     ok_more c.new_map.result c.new_map.ensures (λ (t : Rc Tree Global) h.
-    h ∙ ap (λ ps. mapping (entries_of ps) c.line.result) c.in_ok-keys.ensures ∙ ap (mapping (entries_of (own_pairs (draft_view c.args.draft.now)))) c.line.ensures ∙ rebuilt c.args.draft.now c.requires)
+    h ∙ ap (λ ps. mapping (entries_of ps) c.line.result) c.in_ok-keys.ensures
+    ∙ ap (mapping (entries_of (own_pairs (draft_view c.args.draft.now)))) c.line.ensures
+    ∙ rebuilt c.args.draft.now c.requires)

@@ -8,6 +8,8 @@ use Rattle.rvs_tree.proofs.whole.trees_of.Given as goal
 
 abbrev pub invariant-loop-part : goal.invariant-loop-part
 invariant-loop-part l = record {
-  ready : are_maps_or_empty (items_of (merged_trees (parts_view (drop l.part-index l.parts)))) ≡ true;
-  same : map rc_view l.items.items ++ merged_trees (parts_view (drop l.part-index l.parts)) ≡ merged_trees (parts_view l.parts);
+  ready : are_maps_or_empty (items_of (merged_trees (parts_view (drop l.part-index l.parts))))
+      ≡ true;
+  same : map rc_view l.items.items ++ merged_trees (parts_view (drop l.part-index l.parts))
+      ≡ merged_trees (parts_view l.parts);
 }

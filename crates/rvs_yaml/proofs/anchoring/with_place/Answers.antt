@@ -6,6 +6,8 @@ use Rattle.rvs_yaml.proofs.anchoring.with_place.Goals as goal
 
 pub returns : goal.returns
 returns c = λ k.
-    let bytes : string_bytes c.in_ok-from_str.field-0 ≡ c.args.name.now = c.in_ok-from_str.ensures.ok in
-    btree_map_updates_text (string_bytes c.in_ok-from_str.field-0) c.args.latest c.insert.new.self (Some c.args.place) c.in_ok-insert.ensures.updates k
+    let bytes : string_bytes c.in_ok-from_str.field-0 ≡ c.args.name.now =
+    c.in_ok-from_str.ensures.ok in
+    btree_map_updates_text (string_bytes c.in_ok-from_str.field-0) c.args.latest c.insert.new.self
+    (Some c.args.place) c.in_ok-insert.ensures.updates k
     ∙ ap (λ bs. if bytes_eq bs k then Some c.args.place else get_by_text c.args.latest k) bytes

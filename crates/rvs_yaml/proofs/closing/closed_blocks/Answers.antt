@@ -14,7 +14,8 @@ loop-outer-preserved c =
     let rest = stack_view c.pop.new.self.items in
     let v = value_view c.loop-outer.value in
     sym (ap (λ m. m >>= λ w. ends w rest) c.in_ok-value.ensures)
-    ∙ sym (ap (ends v) (ap stack_view c.in-Some.ensures.items ∙ stack-push c.pop.new.self.items c.in-Some.outer))
+    ∙ sym (ap (ends v)
+    (ap stack_view c.in-Some.ensures.items ∙ stack-push c.pop.new.self.items c.in-Some.outer))
     ∙ c.loop-outer.invariant
 
 pub returns-in_err-value : goal.returns-in_err-value

@@ -26,12 +26,17 @@ returns-in_err-thin c =
     let outer = take (length bs - 1) bs in
     let inner = anchors_view top.block.anchors.anchors.items in
     let split = stack-top bs top c.in-Some.ensures.value in
-    let known : inner ++ anchors_in outer c.as_slice.result.now ≡ inner ++ known_of (stack_view outer) =
-    ap (λ ps. inner ++ anchors_in outer ps) c.as_slice.ensures.value ∙ ap (λ xs. inner ++ xs) c.in_ok-places.ensures in
-    let p = err_from_is_err_and c.from_residual-in_err-thin.result c.from_residual-in_err-thin.ensures.1 in
-    rw (p.1, p.2) (subst (λ s. Fails c.in_err-thin.field-0.0 (filled (Some (b, ts)) s >>= kept)) (sym split)
+    let known : inner ++ anchors_in outer c.as_slice.result.now
+    ≡ inner ++ known_of (stack_view outer) =
+    ap (λ ps. inner ++ anchors_in outer ps) c.as_slice.ensures.value
+    ∙ ap (λ xs. inner ++ xs) c.in_ok-places.ensures in
+    let p = err_from_is_err_and c.from_residual-in_err-thin.result
+    c.from_residual-in_err-thin.ensures.1 in
+    rw (p.1, p.2)
+    (subst (λ s. Fails c.in_err-thin.field-0.0 (filled (Some (b, ts)) s >>= kept)) (sym split)
     (denied-flow (open_view top) (stack_view outer) b ts _
-    (subst (λ xs. Fails c.in_err-thin.field-0.0 (mapped standin (flow_value xs top.head.line b ts))) known c.in_err-thin.ensures)))
+    (subst (λ xs. Fails c.in_err-thin.field-0.0 (mapped standin (flow_value xs top.head.line b ts)))
+    known c.in_err-thin.ensures)))
 
 pub returns : goal.returns
 returns c =
@@ -43,9 +48,12 @@ returns c =
     let inner = anchors_view top.block.anchors.anchors.items in
     let rest = stack_view outer in
     let known : inner ++ anchors_in outer c.as_slice.result.now ≡ inner ++ known_of rest =
-    ap (λ ps. inner ++ anchors_in outer ps) c.as_slice.ensures.value ∙ ap (λ xs. inner ++ xs) c.in_ok-places.ensures in
+    ap (λ ps. inner ++ anchors_in outer ps) c.as_slice.ensures.value
+    ∙ ap (λ xs. inner ++ xs) c.in_ok-places.ensures in
     let split = stack-top bs top c.in-Some.ensures.value in
-    let leaf : opens_block (sort_view top.head.sort) ≡ false = sym c.opens_block.ensures ∙ c.if-opens_block.false in
+    let leaf : opens_block (sort_view top.head.sort) ≡ false =
+    sym c.opens_block.ensures ∙ c.if-opens_block.false in
     subst (λ s. Denies c.check_thin.result (filled (Some (b, ts)) s)) (sym split)
     (denied-front c.check_thin.result (open_view top) rest b ts (value_view c.in_ok-thin.thin) leaf (sym (ap (λ xs. mapped standin (flow_value xs top.head.line b ts)) known) ∙ c.in_ok-thin.ensures)
-    (λ v e s. subst (λ x. DeniesFront c.check_thin.result (ends v x)) split (c.check_thin.ensures top.head.line b v (ap (λ xs. flow_value xs top.head.line b ts) known ∙ e) s)))
+    (λ v e s. subst (λ x. DeniesFront c.check_thin.result (ends v x)) split (c.check_thin.ensures
+    top.head.line b v (ap (λ xs. flow_value xs top.head.line b ts) known ∙ e) s)))

@@ -13,5 +13,8 @@ returns-in-len1-up c =
     let last = c.last-item.result in
     let one : m + 1 ≡ length es = omega (arith, c.in-len1-up.len_at_least) in
     let here : m < length es = omega (arith, c.in-len1-up.len_at_least) in
-    let cut : es ≡ take m es ++ last ∷ [] = sym (ap (λ n. take n es) one ∙ take_whole es) ∙ take_more es m last here ∙ ap (λ x. take m es ++ x ∷ []) (sym c.last-item.is) in
-    c.entry_fits.ensures ∙ sym (ap (λ xs. last_fits (entries_view xs)) cut ∙ ap last_fits (map-append written_view (take m es) (last ∷ [])) ∙ last_fits-push (entries_view (take m es)) (written_view last))
+    let cut : es ≡ take m es ++ last ∷ [] = sym (ap (λ n. take n es) one ∙ take_whole es)
+    ∙ take_more es m last here ∙ ap (λ x. take m es ++ x ∷ []) (sym c.last-item.is) in
+    c.entry_fits.ensures ∙ sym (ap (λ xs. last_fits (entries_view xs)) cut
+    ∙ ap last_fits (map-append written_view (take m es) (last ∷ []))
+    ∙ last_fits-push (entries_view (take m es)) (written_view last))

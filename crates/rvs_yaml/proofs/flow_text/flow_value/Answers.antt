@@ -11,4 +11,6 @@ pub returns : goal.returns
 returns c =
     let known = known_view c.args.known.now in
     let b = bracket_view c.args.bracket in
-    gives_same _ _ _ _ (ap (λ p. formed_flow p known c.args.line b (tokens_of c.args.text.now)) c.requires ∙ sym (flow-ended known c.args.line b (tokens_of c.args.text.now))) c.flow_form.ensures
+    gives_same _ _ _ _
+    (ap (λ p. formed_flow p known c.args.line b (tokens_of c.args.text.now)) c.requires
+    ∙ sym (flow-ended known c.args.line b (tokens_of c.args.text.now))) c.flow_form.ensures

@@ -12,9 +12,12 @@ returns-clause-bound c = λ taken v s.
     let small : n < 33 = omega (arith, c.if-last-ge-DEEP.false) in
     elim c.if-last.branch [
       | then-last w ↦
-          let less : min (brought taken m v.tree) 33 ≤ n - 1 = brought_less taken m v.tree n 1 c.if-not-key.false s.bounded small (omega (arith, merged_shallower v.tree)) in
+          let less : min (brought taken m v.tree) 33 ≤ n - 1 = brought_less taken m v.tree n 1
+          c.if-not-key.false s.bounded small (omega (arith, merged_shallower v.tree)) in
           omega (arith, less, c.saturating_sub.ensures, w.hidden-is)
       | else-last w ↦
-          let less : min (brought taken m v.tree) 33 ≤ n - 2 = brought_less taken m v.tree n 2 c.if-not-key.false s.bounded small (list-shallower v.tree (s.map ∙ w.if-last.false)) in
+          let less : min (brought taken m v.tree) 33 ≤ n - 2 = brought_less taken m v.tree n 2
+          c.if-not-key.false s.bounded small
+          (list-shallower v.tree (s.map ∙ w.if-last.false)) in
           omega (arith, less, c.saturating_sub.ensures, w.hidden-is)
     ]

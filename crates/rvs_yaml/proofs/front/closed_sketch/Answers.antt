@@ -17,6 +17,10 @@ returns-in-Items c = λ v s.
 pub returns-in-Entries : goal.returns-in-Entries
 returns-in-Entries c = λ v s.
     let line = c.args.block.now.line in
-    let here : done_view c.args.block.now.done ≡ done_entries (entries_view c.deref.result.now.list.entries.items) (key_view c.deref.result.now.key) =
-    ap done_view c.in-Entries.is ∙ sym (ap (λ (p : Pending). done_entries (entries_view p.list.entries.items) (key_view p.key)) c.deref.ensures) in
-    subst (λ d. SketchedAs c.pending_sketch.result (closed_value d line v)) (sym here) (c.pending_sketch.ensures line v s)
+    let here : done_view c.args.block.now.done ≡ done_entries
+    (entries_view c.deref.result.now.list.entries.items) (key_view c.deref.result.now.key) =
+    ap done_view c.in-Entries.is ∙ sym (ap
+    (λ (p : Pending). done_entries (entries_view p.list.entries.items) (key_view p.key))
+    c.deref.ensures) in
+    subst (λ d. SketchedAs c.pending_sketch.result (closed_value d line v)) (sym here)
+    (c.pending_sketch.ensures line v s)

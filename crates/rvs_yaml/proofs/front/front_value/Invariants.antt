@@ -7,7 +7,8 @@ use Rattle.rvs_yaml.proofs.front.front_value.Given as goal
 abbrev pub invariant-loop-i : goal.invariant-loop-i
 invariant-loop-i l = record {
   inside : l.i ≤ length l.blocks;
-  same : ends (value_view l.value) (stack_view (take l.i l.blocks)) ≡ front_value (stack_view l.blocks);
+  same : ends (value_view l.value) (stack_view (take l.i l.blocks))
+      ≡ front_value (stack_view l.blocks);
 }
 
 abbrev pub decreases-loop-i : goal.decreases-loop-i

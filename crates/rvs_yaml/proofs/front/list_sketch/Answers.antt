@@ -12,7 +12,10 @@ returns c = λ line v s.
     record {
       bounded = omega (arith, list-depth (vs ++ v ∷ []), values_depth-push vs v, c.args.list.now.bounded, s.bounded);
       reached = omega (arith, list-depth (vs ++ v ∷ []), values_depth-push vs v, s.reached);
-      counted = nodes_from-push 1 vs v ∙ ap (λ n. plus n v.nodes) (sym c.args.list.now.added_up) ∙ ap (plus c.args.list.now.nodes) s.counted ∙ sym c.plus.ensures;
+      counted = nodes_from-push 1 vs v ∙ ap (λ n. plus n v.nodes) (sym c.args.list.now.added_up)
+          ∙ ap (plus c.args.list.now.nodes) s.counted ∙ sym c.plus.ensures;
       map = refl;
-      merging = are_maps-push vs v ∙ ap (λ b. b && is_map_or_empty v.tree) (sym c.args.list.now.looked_at) ∙ ap (λ b. c.args.list.now.all_maps && b) s.map ∙ sym c.both.ensures;
+      merging = are_maps-push vs v
+          ∙ ap (λ b. b && is_map_or_empty v.tree) (sym c.args.list.now.looked_at)
+          ∙ ap (λ b. c.args.list.now.all_maps && b) s.map ∙ sym c.both.ensures;
     }

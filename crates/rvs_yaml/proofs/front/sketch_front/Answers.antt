@@ -13,14 +13,16 @@ returns-in_default c = (scalar_value [] 1, no_last c.args.blocks.now c.in_defaul
 pub returns-in_err-first : goal.returns-in_err-first
 returns-in_err-first c =
     let p = err_from_is_err_and c.from_residual.result c.from_residual.ensures.1 in
-    rw (p.1, p.2) (top-err c.args.blocks.now c.in-Some.top.now _ c.in-Some.ensures.value c.in_err-first.ensures)
+    rw (p.1, p.2) (top-err c.args.blocks.now c.in-Some.top.now _ c.in-Some.ensures.value
+    c.in_err-first.ensures)
 
 pub loop-i-init : goal.loop-i-init
 loop-i-init c =
     let bs = c.args.blocks.now in
     record {
       inside = omega arith;
-      sketched = top-ok bs c.in-Some.top.now c.in_ok-first.first c.in-Some.ensures.value c.in_ok-first.ensures;
+      sketched = top-ok bs c.in-Some.top.now c.in_ok-first.first c.in-Some.ensures.value
+          c.in_ok-first.ensures;
     }
 
 pub returns-in_err-sketch : goal.returns-in_err-sketch
@@ -29,9 +31,13 @@ returns-in_err-sketch c =
     let m = c.loop-i.i - 1 in
     let one : c.loop-i.i ≡ m + 1 = omega arith in
     let here : m < length bs = omega (arith, c.loop-i.invariant.inside) in
-    let sketched = subst (λ n. (v : Value) × IsSketch v c.loop-i.sketch × (ends v (stack_view (take n bs)) ≡ front_value (stack_view bs))) one c.loop-i.invariant.sketched in
-    let p = err_from_is_err_and c.from_residual-in_err-sketch.result c.from_residual-in_err-sketch.ensures.1 in
-    rw (p.1, p.2) (sketch-err bs m c.index-blocks-i.result c.loop-i.sketch (front_value (stack_view bs)) _ here sketched c.in_err-sketch.ensures)
+    let sketched = subst (λ n. (v : Value) × IsSketch v c.loop-i.sketch
+    × (ends v (stack_view (take n bs)) ≡ front_value (stack_view bs))) one
+    c.loop-i.invariant.sketched in
+    let p = err_from_is_err_and c.from_residual-in_err-sketch.result
+    c.from_residual-in_err-sketch.ensures.1 in
+    rw (p.1, p.2) (sketch-err bs m c.index-blocks-i.result c.loop-i.sketch
+    (front_value (stack_view bs)) _ here sketched c.in_err-sketch.ensures)
 
 pub loop-i-preserved : goal.loop-i-preserved
 loop-i-preserved c =
@@ -39,8 +45,11 @@ loop-i-preserved c =
     let m = c.loop-i.i - 1 in
     let one : c.loop-i.i ≡ m + 1 = omega arith in
     let here : m < length bs = omega (arith, c.loop-i.invariant.inside) in
-    let sketched = subst (λ n. (v : Value) × IsSketch v c.loop-i.sketch × (ends v (stack_view (take n bs)) ≡ front_value (stack_view bs))) one c.loop-i.invariant.sketched in
+    let sketched = subst (λ n. (v : Value) × IsSketch v c.loop-i.sketch
+    × (ends v (stack_view (take n bs)) ≡ front_value (stack_view bs))) one
+    c.loop-i.invariant.sketched in
     record {
       inside = omega (arith, c.loop-i.invariant.inside);
-      sketched = sketch-ok bs m c.index-blocks-i.result c.loop-i.sketch c.in_ok-sketch.sketch (front_value (stack_view bs)) here sketched c.in_ok-sketch.ensures;
+      sketched = sketch-ok bs m c.index-blocks-i.result c.loop-i.sketch c.in_ok-sketch.sketch
+          (front_value (stack_view bs)) here sketched c.in_ok-sketch.ensures;
     }

@@ -8,7 +8,8 @@ use Rattle.rvs_yaml.proofs.front.sketch_front.Given as goal
 abbrev pub invariant-loop-i : goal.invariant-loop-i
 invariant-loop-i l = record {
   inside : l.i ≤ length l.blocks;
-  sketched : (v : Value) × IsSketch v l.sketch × (ends v (stack_view (take l.i l.blocks)) ≡ front_value (stack_view l.blocks));
+  sketched : (v : Value) × IsSketch v l.sketch
+      × (ends v (stack_view (take l.i l.blocks)) ≡ front_value (stack_view l.blocks));
 }
 
 abbrev pub decreases-loop-i : goal.decreases-loop-i

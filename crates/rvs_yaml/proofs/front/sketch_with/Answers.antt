@@ -20,9 +20,12 @@ returns-in_err-sketch c = λ v s.
     let m = c.loop-i.i - 1 in
     let one : c.loop-i.i ≡ m + 1 = omega arith in
     let here : m < length bs = omega (arith, c.loop-i.invariant.inside) in
-    let sketched = subst (λ n. (w : Value) × IsSketch w c.loop-i.sketch × (ends w (stack_view (take n bs)) ≡ ends v (stack_view bs))) one (c.loop-i.invariant.sketched v s) in
+    let sketched = subst (λ n. (w : Value) × IsSketch w c.loop-i.sketch
+    × (ends w (stack_view (take n bs)) ≡ ends v (stack_view bs))) one
+    (c.loop-i.invariant.sketched v s) in
     let p = err_from_is_err_and c.from_residual.result c.from_residual.ensures.1 in
-    rw (p.1, p.2) (sketch-err bs m c.index-blocks-i.result c.loop-i.sketch (ends v (stack_view bs)) _ here sketched c.in_err-sketch.ensures)
+    rw (p.1, p.2) (sketch-err bs m c.index-blocks-i.result c.loop-i.sketch (ends v (stack_view bs))
+    _ here sketched c.in_err-sketch.ensures)
 
 pub loop-i-preserved : goal.loop-i-preserved
 loop-i-preserved c =
@@ -33,9 +36,13 @@ loop-i-preserved c =
     record {
       inside = omega (arith, c.loop-i.invariant.inside);
       sketched = λ v s.
-          let sketched = subst (λ n. (w : Value) × IsSketch w c.loop-i.sketch × (ends w (stack_view (take n bs)) ≡ ends v (stack_view bs))) one (c.loop-i.invariant.sketched v s) in
-          sketch-ok bs m c.index-blocks-i.result c.loop-i.sketch c.in_ok-sketch.sketch (ends v (stack_view bs)) here sketched c.in_ok-sketch.ensures;
+          let sketched = subst (λ n. (w : Value) × IsSketch w c.loop-i.sketch
+          × (ends w (stack_view (take n bs)) ≡ ends v (stack_view bs))) one
+          (c.loop-i.invariant.sketched v s) in
+          sketch-ok bs m c.index-blocks-i.result c.loop-i.sketch c.in_ok-sketch.sketch
+          (ends v (stack_view bs)) here sketched c.in_ok-sketch.ensures;
     }
 
 pub returns : goal.returns
-returns c = λ v s. ended-sketch c.args.blocks.now c.loop-i.i c.loop-i.sketch (ends v (stack_view c.args.blocks.now)) (omega arith) (c.loop-i.invariant.sketched v s)
+returns c = λ v s. ended-sketch c.args.blocks.now c.loop-i.i c.loop-i.sketch
+    (ends v (stack_view c.args.blocks.now)) (omega arith) (c.loop-i.invariant.sketched v s)

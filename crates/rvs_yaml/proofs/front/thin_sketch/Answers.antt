@@ -9,6 +9,8 @@ returns c = λ v same small. record {
   bounded = small;
   reached = some-depth v.tree;
   counted = sym (ap (λ (x : Value). x.nodes) same);
-  map = sym (thin-map v.tree) ∙ sym (ap (λ (x : Value). is_map_or_empty x.tree) same) ∙ sym c.is_map_or_empty.ensures;
-  merging = sym (thin-mergeable v.tree) ∙ sym (ap (λ (x : Value). is_mergeable x.tree) same) ∙ sym c.args.thin.now.merging;
+  map = sym (thin-map v.tree) ∙ sym (ap (λ (x : Value). is_map_or_empty x.tree) same)
+      ∙ sym c.is_map_or_empty.ensures;
+  merging = sym (thin-mergeable v.tree) ∙ sym (ap (λ (x : Value). is_mergeable x.tree) same)
+      ∙ sym c.args.thin.now.merging;
 }

@@ -10,7 +10,9 @@ loop-left-preserved c =
     let s = c.loop-left.scan in
     let n = c.loop-left.left - 1 in
     let one : c.loop-left.left ≡ suc n = omega arith in
-    let same : height known s.level (tokens c.loop-left.left s.closed s.spaced s.rest.now) ≡ height known s.level (tokens (suc n) s.closed s.spaced s.rest.now) = ap (λ k. height known s.level (tokens k s.closed s.spaced s.rest.now)) one in
+    let same : height known s.level (tokens c.loop-left.left s.closed s.spaced s.rest.now)
+    ≡ height known s.level (tokens (suc n) s.closed s.spaced s.rest.now) =
+    ap (λ k. height known s.level (tokens k s.closed s.spaced s.rest.now)) one in
     record {
       reaches = omega (arith, c.loop-left.invariant.reaches, c.in_ok-scan.ensures.height n, same);
       low = omega (arith, c.loop-left.invariant.low, c.in_ok-scan.ensures.level);

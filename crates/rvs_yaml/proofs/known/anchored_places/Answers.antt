@@ -1,4 +1,5 @@
-use Rattle.std.proofs.Common.{◌≡◌, ◌+◌, ◌-◌, ◌<◌, ◌++◌, ◌∙◌, refl, sym, ap, arith, length, take, get_or, append_assoc}
+use Rattle.std.proofs.Common.{◌≡◌, ◌+◌, ◌-◌, ◌<◌, ◌++◌, ◌∙◌, refl, sym, ap, arith, length, take}
+use Rattle.std.proofs.Common.{get_or, append_assoc}
 use Rattle.std.proofs.lemmas.Option.{slice_get_read}
 use Rattle.rvs_yaml.specs.Stack.{known_of}
 use Rattle.rvs_yaml.specs.StackView.{anchors_view, anchors_of, anchors_at, anchors_in, stack_view}
@@ -15,7 +16,8 @@ loop-i-preserved-in-Continue-1 c =
     let one : m + 1 ≡ c.loop-i.i = omega (arith, c.loop-i-test.true) in
     let here : m < length bs = omega (arith, c.loop-i.invariant.inside, c.loop-i-test.true) in
     let there : anchors_at bs m ≡ anchors_view (get_or bs m top).block.anchors.anchors.items =
-    ap anchors_of (slice_get_read bs (length bs) m top refl here c.index-blocks-i.is) ∙ ap (λ (b : Open). anchors_view b.block.anchors.anchors.items) c.index-blocks-i.is in
+    ap anchors_of (slice_get_read bs (length bs) m top refl here c.index-blocks-i.is)
+    ∙ ap (λ (b : Open). anchors_view b.block.anchors.anchors.items) c.index-blocks-i.is in
     let below = known_of (stack_view (take m bs)) in
     record {
       inside = omega (arith, c.loop-i.invariant.inside);

@@ -20,11 +20,15 @@ returns-in_err-step c =
     let parts = c.hollow_shape-shape.result in
     let f = flow_view parts.1 in
     let u = word_at word.line word.column (shape_view parts.0) in
-    let words : rest_words c.args.line c.args.item c.args.column c.args.text.now ≡ w ∷ [] = sym c.in_ok-word.ensures ∙ ap (λ o. words_in (option_map word_view o)) c.in-Some.is in
-    let hollowed : u ≡ hollow w = ap (λ p. word_at word.line word.column p.0) c.hollow_shape-shape.ensures in
+    let words : rest_words c.args.line c.args.item c.args.column c.args.text.now ≡ w ∷ [] =
+    sym c.in_ok-word.ensures ∙ ap (λ o. words_in (option_map word_view o)) c.in-Some.is in
+    let hollowed : u ≡ hollow w =
+    ap (λ p. word_at word.line word.column p.0) c.hollow_shape-shape.ensures in
     let flow : f ≡ flow_of w.shape = ap (λ p. p.1) c.hollow_shape-shape.ensures in
-    let p = err_from_is_err_and c.from_residual-in_err-step.result c.from_residual-in_err-step.ensures.1 in
-    rw (p.1, p.2) (fails_kept _ (step bs u) _ (filled f) (word-parts bs w u f _ words hollowed flow) c.in_err-step.ensures)
+    let p = err_from_is_err_and c.from_residual-in_err-step.result
+    c.from_residual-in_err-step.ensures.1 in
+    rw (p.1, p.2) (fails_kept _ (step bs u) _ (filled f) (word-parts bs w u f _ words hollowed flow)
+    c.in_err-step.ensures)
 
 pub returns : goal.returns
 returns c =
@@ -34,7 +38,10 @@ returns c =
     let parts = c.hollow_shape-shape.result in
     let f = flow_view parts.1 in
     let u = word_at word.line word.column (shape_view parts.0) in
-    let words : rest_words c.args.line c.args.item c.args.column c.args.text.now ≡ w ∷ [] = sym c.in_ok-word.ensures ∙ ap (λ o. words_in (option_map word_view o)) c.in-Some.is in
-    let hollowed : u ≡ hollow w = ap (λ p. word_at word.line word.column p.0) c.hollow_shape-shape.ensures in
+    let words : rest_words c.args.line c.args.item c.args.column c.args.text.now ≡ w ∷ [] =
+    sym c.in_ok-word.ensures ∙ ap (λ o. words_in (option_map word_view o)) c.in-Some.is in
+    let hollowed : u ≡ hollow w =
+    ap (λ p. word_at word.line word.column p.0) c.hollow_shape-shape.ensures in
     let flow : f ≡ flow_of w.shape = ap (λ p. p.1) c.hollow_shape-shape.ensures in
-    passes_same _ _ _ _ (sym (ap (λ m. m >>= filled f) c.in_ok-step.ensures) ∙ word-parts bs w u f _ words hollowed flow) c.fill_flow.ensures
+    passes_same _ _ _ _ (sym (ap (λ m. m >>= filled f) c.in_ok-step.ensures)
+    ∙ word-parts bs w u f _ words hollowed flow) c.fill_flow.ensures

@@ -14,7 +14,8 @@ loop-behind-init c =
     let text = c.args.text.now in
     let bs = stack_view c.args.blocks.now.items in
     let is = c.without_spaces-rest.ensures in (
-      ap (λ r. steps bs (words_at c.args.line false (length text - length r) r)) is ∙ ap (steps bs) (sym (words-first c.args.line text)),
+      ap (λ r. steps bs (words_at c.args.line false (length text - length r) r)) is
+          ∙ ap (steps bs) (sym (words-first c.args.line text)),
       ap without_spaces is ∙ spaces-twice text ∙ sym is,
       omega (arith, ap length is, spaces-length text),
       c.without_spaces-rest.utf8,
@@ -32,10 +33,12 @@ loop-behind-preserved c =
     let behind = c.in-Some.behind.now in
     let is = c.without_spaces-rest-in-Some.ensures in
     let w = word_at c.args.line (n - length rest) (dash (item_name behind)) in
-    let stepped : step here w ≡ Ok after = ap (step here) (sym c.dash.ensures) ∙ c.in_ok-step.ensures in (
+    let stepped : step here w ≡ Ok after =
+    ap (step here) (sym c.dash.ensures) ∙ c.in_ok-step.ensures in (
       ap (λ r. steps after (words_at c.args.line true (n - length r) r)) is
           ∙ steps-next here after w _ stepped
-          ∙ sym (ap (steps here) (words-next c.args.line c.loop-behind.item n rest behind c.in-Some.ensures.split c.loop-behind.invariant.2))
+          ∙ sym (ap (steps here) (words-next c.args.line c.loop-behind.item n rest behind
+          c.in-Some.ensures.split c.loop-behind.invariant.2))
           ∙ c.loop-behind.invariant.0,
       ap without_spaces is ∙ spaces-twice behind ∙ sym is,
       omega (arith, ap length is, spaces-length behind, c.in-Some.ensures.shorter, c.loop-behind.invariant.2),
@@ -47,4 +50,6 @@ returns c =
     let n = length c.args.text.now in
     let here = stack_view c.loop-behind.blocks.items in
     let rest = c.loop-behind.rest.now in
-    passes_same _ _ _ _ (sym (ap (steps here) (words-rest c.args.line c.loop-behind.item (n - length rest) rest c.in_default.ensures.split c.loop-behind.invariant.1)) ∙ c.loop-behind.invariant.0) c.read_last.ensures
+    passes_same _ _ _ _ (sym (ap (steps here) (words-rest c.args.line c.loop-behind.item
+    (n - length rest) rest c.in_default.ensures.split c.loop-behind.invariant.1))
+    ∙ c.loop-behind.invariant.0) c.read_last.ensures

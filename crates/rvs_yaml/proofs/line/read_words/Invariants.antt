@@ -9,7 +9,9 @@ use Rattle.rvs_yaml.proofs.line.read_words.Given as goal
 
 abbrev pub invariant-loop-behind : goal.invariant-loop-behind
 invariant-loop-behind l =
-    (steps (stack_view l.blocks.items) (words_at l.line l.item (length l.text - length l.rest) l.rest) ≡ steps (stack_view l.initial.blocks.items) (words_at l.line false 0 l.text))
+    (steps (stack_view l.blocks.items)
+    (words_at l.line l.item (length l.text - length l.rest) l.rest) ≡ steps
+    (stack_view l.initial.blocks.items) (words_at l.line false 0 l.text))
     × (without_spaces l.rest ≡ l.rest) × (length l.rest ≤ length l.text) × shadow (Utf8 l.rest)
 
 abbrev pub decreases-loop-behind : goal.decreases-loop-behind

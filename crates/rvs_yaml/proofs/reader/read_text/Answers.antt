@@ -9,7 +9,8 @@ use Rattle.rvs_yaml.proofs.reader.read_text.Goals as goal
 pub returns-in-Err-clause-refused : goal.returns-in-Err-clause-refused
 returns-in-Err-clause-refused c =
     let l = c.loop-rest in
-    refused-line c.refusal.result.kind c.in-Err.kind c.refusal.result.line (l.number + 1) (answer c.args.bytes.now) _ c.refusal.ensures.kind
+    refused-line c.refusal.result.kind c.in-Err.kind c.refusal.result.line (l.number + 1)
+    (answer c.args.bytes.now) _ c.refusal.ensures.kind
     (Reads-refused c.args.bytes.now l.number l.started (stack_view l.blocks.items) l.rest c.first_line.result.1 c.in-Some.text c.first_line.result.0.now c.without_return-line.result.now c.in-Err.kind
     l.invariant c.in-Some.is c.first_line.ensures.cut c.without_return-line.ensures)
     c.in-Err.ensures c.refusal.ensures.line c.refusal.ensures.memory
@@ -18,11 +19,16 @@ pub loop-rest-preserved : goal.loop-rest-preserved
 loop-rest-preserved c =
     let l = c.loop-rest in
     let after = stack_view c.read_checked_line.new.blocks.items in
-    let next = Reads-line c.args.bytes.now l.number l.started (stack_view l.blocks.items) after l.rest c.first_line.result.1 c.in-Some.text c.first_line.result.0.now c.without_return-line.result.now
-    l.invariant c.in-Some.is c.first_line.ensures.cut c.first_line.ensures.shorter c.without_return-line.ensures c.in_default-read_checked_line.ensures in
-    subst (λ s. Reads c.args.bytes.now (l.number + 1) s after c.first_line.result.1) (sym c.started_by-started.ensures) next
+    let next = Reads-line c.args.bytes.now l.number l.started (stack_view l.blocks.items) after
+    l.rest c.first_line.result.1 c.in-Some.text c.first_line.result.0.now
+    c.without_return-line.result.now
+    l.invariant c.in-Some.is c.first_line.ensures.cut c.first_line.ensures.shorter
+    c.without_return-line.ensures c.in_default-read_checked_line.ensures in
+    subst (λ s. Reads c.args.bytes.now (l.number + 1) s after c.first_line.result.1)
+    (sym c.started_by-started.ensures) next
 
 pub returns-in-Ok-clause-tree : goal.returns-in-Ok-clause-tree
 returns-in-Ok-clause-tree c =
     let l = c.loop-rest in
-    Reads-whole c.args.bytes.now l.number l.started (stack_view l.blocks.items) l.rest (view c.in-Ok.tree) l.invariant c.in_default.is c.in-Ok.ensures
+    Reads-whole c.args.bytes.now l.number l.started (stack_view l.blocks.items) l.rest
+    (view c.in-Ok.tree) l.invariant c.in_default.is c.in-Ok.ensures

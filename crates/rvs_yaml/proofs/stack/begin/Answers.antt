@@ -12,4 +12,6 @@ returns c =
     let bs = stack_view c.args.blocks.now.items in
     let h = head_view c.head-head.result in
     let p = done_content (c.in_ok-done.done, c.in_ok-done.content) in
-    gives_same _ _ _ _ (ap (λ known. put_content (block_with h.line h.column p.0 known) bs h p.1) c.no_anchors.ensures ∙ begins-put bs (word_view c.args.word) h p c.head-head.ensures c.in_ok-done.ensures) c.put.ensures
+    gives_same _ _ _ _ (ap (λ known. put_content (block_with h.line h.column p.0 known) bs h p.1)
+    c.no_anchors.ensures ∙ begins-put bs (word_view c.args.word) h p c.head-head.ensures
+    c.in_ok-done.ensures) c.put.ensures

@@ -17,9 +17,13 @@ loop-outer-preserved c =
     let g = found_view c.loop-outer.found in
     let b = bare (block_view c.loop-outer.block) in
     let rest = stack_view c.pop.new.self.items in
-    let above : is_below (head_view outer.head) w ≡ false = sym c.is_below.ensures ∙ c.if-is_below.false in
-    sym (settled-next g (found_view c.in_ok-found.found) b (block_view outer.block) (head_view outer.head) (own_view outer.head.line outer.own) rest w above c.in_ok-found.ensures)
-    ∙ sym (ap (λ s. settled g b s w) (ap stack_view c.in-Some.ensures.items ∙ stack-push c.pop.new.self.items outer))
+    let above : is_below (head_view outer.head) w ≡ false =
+    sym c.is_below.ensures ∙ c.if-is_below.false in
+    sym (settled-next g (found_view c.in_ok-found.found) b (block_view outer.block)
+    (head_view outer.head) (own_view outer.head.line outer.own) rest w above
+    c.in_ok-found.ensures)
+    ∙ sym (ap (λ s. settled g b s w)
+    (ap stack_view c.in-Some.ensures.items ∙ stack-push c.pop.new.self.items outer))
     ∙ c.loop-outer.invariant
 
 pub loop-outer-preserved-in_ok-found : goal.loop-outer-preserved-in_ok-found
@@ -29,9 +33,13 @@ loop-outer-preserved-in_ok-found c =
     let g = found_view c.loop-outer.found in
     let b = bare (block_view c.loop-outer.block) in
     let rest = stack_view c.pop.new.self.items in
-    let above : is_below (head_view outer.head) w ≡ false = sym c.is_below.ensures ∙ c.if-is_below.false in
-    sym (settled-next g (found_view c.in_ok-found.found) b (block_view outer.block) (head_view outer.head) (own_view outer.head.line outer.own) rest w above c.in_ok-found.ensures)
-    ∙ sym (ap (λ s. settled g b s w) (ap stack_view c.in-Some.ensures.items ∙ stack-push c.pop.new.self.items outer))
+    let above : is_below (head_view outer.head) w ≡ false =
+    sym c.is_below.ensures ∙ c.if-is_below.false in
+    sym (settled-next g (found_view c.in_ok-found.found) b (block_view outer.block)
+    (head_view outer.head) (own_view outer.head.line outer.own) rest w above
+    c.in_ok-found.ensures)
+    ∙ sym (ap (λ s. settled g b s w)
+    (ap stack_view c.in-Some.ensures.items ∙ stack-push c.pop.new.self.items outer))
     ∙ c.loop-outer.invariant
 
 pub returns-in_err-found : goal.returns-in_err-found
@@ -41,11 +49,15 @@ returns-in_err-found c =
     let g = found_view c.loop-outer.found in
     let b = bare (block_view c.loop-outer.block) in
     let rest = stack_view c.pop.new.self.items in
-    let above : is_below (head_view outer.head) w ≡ false = sym c.is_below.ensures ∙ c.if-is_below.false in
-    let p = err_from_is_err_and c.from_residual-in_err-found.result c.from_residual-in_err-found.ensures.1 in
-    let around = opened (block_view outer.block) (head_view outer.head) (own_view outer.head.line outer.own) in
+    let above : is_below (head_view outer.head) w ≡ false =
+    sym c.is_below.ensures ∙ c.if-is_below.false in
+    let p = err_from_is_err_and c.from_residual-in_err-found.result
+    c.from_residual-in_err-found.ensures.1 in
+    let around = opened (block_view outer.block) (head_view outer.head)
+    (own_view outer.head.line outer.own) in
     rw (p.1, p.2) (fails_first _ (closed_into b g (head_view outer.head).anchor) (λ h. settled h around rest w) _
     (sym (settled-over g b around rest w above)
-    ∙ sym (ap (λ s. settled g b s w) (ap stack_view c.in-Some.ensures.items ∙ stack-push c.pop.new.self.items outer))
+    ∙ sym (ap (λ s. settled g b s w)
+    (ap stack_view c.in-Some.ensures.items ∙ stack-push c.pop.new.self.items outer))
     ∙ c.loop-outer.invariant)
     c.in_err-found.ensures)

@@ -13,6 +13,9 @@ returns c =
     let w = word_view c.args.word in
     let top = c.in-Some.top in
     let rest = stack_view c.pop.new.self.items in
-    let above : is_below (head_view top.head) w ≡ false = sym c.is_below.ensures ∙ c.if-is_below.false in
+    let above : is_below (head_view top.head) w ≡ false =
+    sym c.is_below.ensures ∙ c.if-is_below.false in
     gives_same _ _ _ _ (step-settled (found_view c.in_ok-found.found) (block_view top.block) (head_view top.head) (own_view top.head.line top.own) rest w above c.in_ok-found.ensures
-    ∙ sym (ap (λ s. step s w) (ap stack_view c.in-Some.ensures.items ∙ stack-push c.pop.new.self.items top))) c.settle.ensures
+    ∙ sym (ap (λ s. step s w)
+    (ap stack_view c.in-Some.ensures.items ∙ stack-push c.pop.new.self.items top)))
+    c.settle.ensures

@@ -4,4 +4,5 @@ use Rattle.rvs_yaml_text.proofs.Scans.{onto_all}
 use Rattle.rvs_yaml_text.proofs.scan.key_end.Given as goal
 
 abbrev pub invariant-loop-i : goal.invariant-loop-i
-invariant-loop-i l = onto_all (take l.i l.bytes) (key_split l.spaced (drop l.i l.bytes)) ≡ key_split false l.bytes
+invariant-loop-i l =
+    onto_all (take l.i l.bytes) (key_split l.spaced (drop l.i l.bytes)) ≡ key_split false l.bytes

@@ -10,7 +10,8 @@ returns-clause-added c =
     let key = c.in_ok-name.name in
     let same = c.in_ok-name.ensures.ok in
     let new : find_mark (views old) (string_bytes key) ≡ None =
-    ap (λ t. find_mark t (string_bytes key)) c.self.view_is ∙ ap (find_mark c.args.self.now) same ∙ c.requires in
+    ap (λ t. find_mark t (string_bytes key)) c.self.view_is ∙ ap (find_mark c.args.self.now) same
+    ∙ c.requires in
     ap views c.in_ok-insert.ensures.entries
     ∙ inserted old key c.args.mark new
     ∙ ap (λ t. t ++ (string_bytes key, c.args.mark) ∷ []) c.self.view_is

@@ -12,7 +12,9 @@ returns-in_ok-push-in-Some c =
     let rest = symbols_of (drop (c.args.index + 1) c.args.self.now) in
     ap (λ l. old ++ l) (symbols-drop c.args.self.now c.args.index s c.in-Some.ensures)
     ∙ sym (append_assoc old (symbol s ∷ []) rest)
-    ∙ ap (λ l. l ++ rest) (sym (c.in_ok-push-in-Some.ensures.added ∙ ap (λ x. old ++ x ∷ []) c.in_ok-image_symbol-in-Some.ensures))
+    ∙ ap (λ l. l ++ rest) (sym (c.in_ok-push-in-Some.ensures.added
+    ∙ ap (λ x. old ++ x ∷ []) c.in_ok-image_symbol-in-Some.ensures))
 
 pub returns-in-None : goal.returns-in-None
-returns-in-None c = ap (λ l. c.args.items.now ++ l) (symbols_past c.args.self.now c.args.index c.in-None.ensures)
+returns-in-None c =
+    ap (λ l. c.args.items.now ++ l) (symbols_past c.args.self.now c.args.index c.in-None.ensures)

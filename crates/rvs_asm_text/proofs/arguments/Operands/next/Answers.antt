@@ -10,5 +10,6 @@ returns c =
     sym c.self.view_is
     ∙ ap (λ o. operands_left (option_copied o)) c.in_ok-rest.was
     ∙ operands_left-cut c.in_ok-rest.rest.now
-    ∙ ap (λ x. x ∷ operands_left (after 44 c.in_ok-rest.rest.now)) (sym (c.trimmed.ensures ∙ ap trim c.cut.ensures.front))
+    ∙ ap (λ x. x ∷ operands_left (after 44 c.in_ok-rest.rest.now))
+    (sym (c.trimmed.ensures ∙ ap trim c.cut.ensures.front))
     ∙ ap (λ o. c.trimmed.result.now ∷ operands_left o) (sym c.cut.ensures.back)

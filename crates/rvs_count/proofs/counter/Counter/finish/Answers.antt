@@ -17,15 +17,18 @@ invariant_of-self c =
 pub returns-clause-state : goal.returns-clause-state
 returns-clause-state c = λ labels windows bytes n e.
     ap (λ t. state_with t c.take_last.new.follow c.self.inside.fed) c.take_last.ensures.tally
-    ∙ ap (λ w. state_with (with_reading c.self.inside.tally (held_says c.self.inside.follow)) w c.self.inside.fed)
+    ∙ ap (λ w. state_with (with_reading c.self.inside.tally (held_says c.self.inside.follow)) w
+    c.self.inside.fed)
     c.take_last.ensures.follow
-    ∙ finished labels windows bytes n (state_with c.self.inside.tally c.self.inside.follow c.self.inside.fed)
+    ∙ finished labels windows bytes n
+    (state_with c.self.inside.tally c.self.inside.follow c.self.inside.fed)
     (c.self.view_is ∙ e)
 
 pub returns-clause-again : goal.returns-clause-again
 returns-clause-again c = λ e.
     ap (λ t. state_with t c.take_last.new.follow c.self.inside.fed) c.take_last.ensures.tally
-    ∙ ap (λ w. state_with (with_reading c.self.inside.tally (held_says c.self.inside.follow)) w c.self.inside.fed)
+    ∙ ap (λ w. state_with (with_reading c.self.inside.tally (held_says c.self.inside.follow)) w
+    c.self.inside.fed)
     c.take_last.ensures.follow
     ∙ ended_again (state_with c.self.inside.tally c.self.inside.follow c.self.inside.fed)
     (ap (λ (s : CountState). s.waiting) c.self.view_is ∙ e)

@@ -16,12 +16,14 @@ loop-start-preserved c =
     let aims = aims_in c.args.self.now in
     let cs = c.loop-start.counts.items in
     let e = c.add_window.ensures
-    ∙ ap (λ (is : List Fields). added (λ a. is_matched a.point.meaning is) aims cs) c.back_of.ensures in
+    ∙ ap (λ (is : List Fields). added (λ a. is_matched a.point.meaning is) aims cs)
+    c.back_of.ensures in
     let P : List ℕ → Type 0 = λ l. All (λ (n : ℕ). n ≤ 2 ^ 41 + (c.loop-start.start + 1)) l in
     let low = added_low _ aims cs (2 ^ 41 + c.loop-start.start) c.loop-start.invariant.low in
     record {
       same =
-          ends_more c.args.run.now aims cs c.add_window.new.counts.items c.loop-start.start c.loop-start-test.true e
+          ends_more c.args.run.now aims cs c.add_window.new.counts.items c.loop-start.start
+          c.loop-start-test.true e
           ∙ c.loop-start.invariant.same;
       count = ap (λ l. length l) c.add_window.ensures
           ∙ added_length _ aims cs c.loop-start.invariant.count;
@@ -31,6 +33,7 @@ loop-start-preserved c =
 pub returns : goal.returns
 returns c =
     let aims = aims_in c.args.self.now in
-    sym (ends_done c.args.run.now aims c.loop-start.counts.items c.loop-start.start c.loop-start-test.false)
+    sym (ends_done c.args.run.now aims c.loop-start.counts.items c.loop-start.start
+    c.loop-start-test.false)
     ∙ c.loop-start.invariant.same
     ∙ ends_added c.args.run.now aims c.args.counts.now.items (aims_sized c.args.self.now)

@@ -9,21 +9,28 @@ use Rattle.rvs_count.proofs.crosses.Crosses.add_window.Goals as goal
 pub add_matched-requires-clause-within : goal.add_matched-requires-clause-within
 add_matched-requires-clause-within c =
     let key = (length c.args.window.now - 1) * 48 + c.number.result in
-    let mine = slots_at windows_key c.self.inside.labels.now c.self.inside.lists c.as_slice.result.now key
+    let mine =
+    slots_at windows_key c.self.inside.labels.now c.self.inside.lists c.as_slice.result.now key
     c.index-as_slice-key.result c.as_slice-slots.result.now c.self.invariant.index
-    (omega (arith, c.requires.some, c.requires.few, c.number.ensures.low, c.self.invariant.count)) c.as_slice.ensures c.as_slice-slots.ensures c.index-as_slice-key.is in
-    slots_low (is_for (windows_key key)) (aims_in c.self.inside.labels.now) c.as_slice-slots.result.now (vec_len c.args.counts.now) mine
-    (ap (λ ls. length (aims_in ls)) c.self.view_is ∙ sym c.requires.count ∙ sym c.args.counts.now.ok.0)
+    (omega (arith, c.requires.some, c.requires.few, c.number.ensures.low, c.self.invariant.count))
+    c.as_slice.ensures c.as_slice-slots.ensures c.index-as_slice-key.is in
+    slots_low (is_for (windows_key key)) (aims_in c.self.inside.labels.now)
+    c.as_slice-slots.result.now (vec_len c.args.counts.now) mine
+    (ap (λ ls. length (aims_in ls)) c.self.view_is ∙ sym c.requires.count
+    ∙ sym c.args.counts.now.ok.0)
 
 pub add_matched-requires-clause-few : goal.add_matched-requires-clause-few
 add_matched-requires-clause-few c =
     let key = (length c.args.window.now - 1) * 48 + c.number.result in
-    let mine = slots_at windows_key c.self.inside.labels.now c.self.inside.lists c.as_slice.result.now key
+    let mine =
+    slots_at windows_key c.self.inside.labels.now c.self.inside.lists c.as_slice.result.now key
     c.index-as_slice-key.result c.as_slice-slots.result.now c.self.invariant.index
-    (omega (arith, c.requires.some, c.requires.few, c.number.ensures.low, c.self.invariant.count)) c.as_slice.ensures c.as_slice-slots.ensures c.index-as_slice-key.is in
+    (omega (arith, c.requires.some, c.requires.few, c.number.ensures.low, c.self.invariant.count))
+    c.as_slice.ensures c.as_slice-slots.ensures c.index-as_slice-key.is in
     omega (
       arith,
-      slots_few (is_for (windows_key key)) (aims_in c.self.inside.labels.now) c.as_slice-slots.result.now mine,
+      slots_few (is_for (windows_key key)) (aims_in c.self.inside.labels.now)
+          c.as_slice-slots.result.now mine,
       ap (λ ls. length (aims_in ls)) c.self.view_is,
       c.requires.count,
       c.args.counts.now.ok,
@@ -33,9 +40,11 @@ pub returns : goal.returns
 returns c =
     let window = c.args.window.now in
     let key = (length window - 1) * 48 + c.number.result in
-    let mine = slots_at windows_key c.self.inside.labels.now c.self.inside.lists c.as_slice.result.now key
+    let mine =
+    slots_at windows_key c.self.inside.labels.now c.self.inside.lists c.as_slice.result.now key
     c.index-as_slice-key.result c.as_slice-slots.result.now c.self.invariant.index
-    (omega (arith, c.requires.some, c.requires.few, c.number.ensures.low, c.self.invariant.count)) c.as_slice.ensures c.as_slice-slots.ensures c.index-as_slice-key.is in
+    (omega (arith, c.requires.some, c.requires.few, c.number.ensures.low, c.self.invariant.count))
+    c.as_slice.ensures c.as_slice-slots.ensures c.index-as_slice-key.is in
     let first = c.index-window-0.result in
     let same : c.number.result ≡ number first.op =
     c.number.ensures.place ∙ ap (λ (i : Fields). number i.op) c.first.view_is in

@@ -13,8 +13,13 @@ returns c =
     let aims = aims_in c.args.self.now in
     let r = c.take_facts-facts.result in
     c.add_buckets.ensures
-    ∙ ap (λ (os : List (Option ℕ)). added_all (λ a. hits_insn a (Some r.insn.now) r.first r.second) os aims cs) c.visited-buckets.ensures.lists
+    ∙ ap (λ (os : List (Option ℕ)). added_all (λ a. hits_insn a (Some r.insn.now) r.first r.second)
+    os aims cs) c.visited-buckets.ensures.lists
     ∙ all_added r.insn.now r.first r.second aims cs
-    ∙ ap (λ (i : Fields). added (λ a. hits_insn a (Some i) r.first r.second) aims cs) (c.take_facts-facts.ensures.insn ∙ c.facts_of.ensures.insn)
-    ∙ ap (λ v. added (λ a. hits_insn a (Some c.args.insn.now) v r.second) aims cs) (c.take_facts-facts.ensures.first ∙ c.facts_of.ensures.first)
-    ∙ ap (λ v. added (λ a. hits_insn a (Some c.args.insn.now) (word_of c.args.before.now c.args.insn.now.rs1) v) aims cs) (c.take_facts-facts.ensures.second ∙ c.facts_of.ensures.second)
+    ∙ ap (λ (i : Fields). added (λ a. hits_insn a (Some i) r.first r.second) aims cs)
+    (c.take_facts-facts.ensures.insn ∙ c.facts_of.ensures.insn)
+    ∙ ap (λ v. added (λ a. hits_insn a (Some c.args.insn.now) v r.second) aims cs)
+    (c.take_facts-facts.ensures.first ∙ c.facts_of.ensures.first)
+    ∙ ap (λ v. added
+    (λ a. hits_insn a (Some c.args.insn.now) (word_of c.args.before.now c.args.insn.now.rs1) v)
+    aims cs) (c.take_facts-facts.ensures.second ∙ c.facts_of.ensures.second)

@@ -8,12 +8,14 @@ use Rattle.rvs_expr.proofs.expr.Expr.eval.Goals as goal
 pub returns-in-None-clause-value : goal.returns-in-None-clause-value
 returns-in-None-clause-value g c =
     let t = g.F.Facts.table c.args.facts.now in
-    holds_by t (typed.view c.self.inside.top) c.self.inside.names None c.self.invariant.2 c.in-None.ensures
+    holds_by t (typed.view c.self.inside.top) c.self.inside.names None c.self.invariant.2
+    c.in-None.ensures
     ∙ ap (λ top. holds t (typed.view top)) c.self.view_is
 
 pub returns-in-Some-clause-value : goal.returns-in-Some-clause-value
 returns-in-Some-clause-value g c =
     let t = g.F.Facts.table c.args.facts.now in
     c.is_true.ensures
-    ∙ holds_by t (typed.view c.self.inside.top) c.self.inside.names (Some (c.in-Some.values.nums, c.in-Some.values.regs)) c.self.invariant.2 c.in-Some.ensures
+    ∙ holds_by t (typed.view c.self.inside.top) c.self.inside.names
+    (Some (c.in-Some.values.nums, c.in-Some.values.regs)) c.self.invariant.2 c.in-Some.ensures
     ∙ ap (λ top. holds t (typed.view top)) c.self.view_is

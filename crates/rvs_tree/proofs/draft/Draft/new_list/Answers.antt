@@ -12,4 +12,6 @@ use Rattle.rvs_tree.proofs.draft.Draft.new_list.Goals as goal
 pub returns : goal.returns
 returns c =
     ok_more c.shared.result c.shared.ensures (λ (d : Rc Draft Global) h.
-    view-list d.value h.1 ∙ ap (λ v. sequence (items_of (merged_trees (parts_view v.items))) d.value.line) h.0 ∙ ap (sequence (items_of (merged_trees (parts_view c.args.parts.items)))) h.2)
+    view-list d.value h.1
+    ∙ ap (λ v. sequence (items_of (merged_trees (parts_view v.items))) d.value.line) h.0
+    ∙ ap (sequence (items_of (merged_trees (parts_view c.args.parts.items)))) h.2)

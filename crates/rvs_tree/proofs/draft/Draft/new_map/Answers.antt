@@ -11,4 +11,5 @@ use Rattle.rvs_tree.proofs.draft.Draft.new_map.Goals as goal
 pub returns : goal.returns
 returns c =
     ok_more c.shared.result c.shared.ensures (λ (d : Rc Draft Global) h.
-    view-map d.value h.1 ∙ ap (λ v. data_of (parts_view v.items) d.value.line) h.0 ∙ ap (data_of (parts_view c.args.parts.items)) h.2)
+    view-map d.value h.1 ∙ ap (λ v. data_of (parts_view v.items) d.value.line) h.0
+    ∙ ap (data_of (parts_view c.args.parts.items)) h.2)

@@ -11,7 +11,8 @@ pub returns-clause-map : goal.returns-clause-map
 returns-clause-map c = λ h. (c.args.self.now.line, draft-map c.args.self.now h ∙ ap (λ ps. data_of (parts_view ps) c.args.self.now.line) (sym c.as_slice.ensures.value))
 
 pub returns-clause-list : goal.returns-clause-list
-returns-clause-list c = λ h. draft-list c.args.self.now h ∙ ap (λ ps. pairs_in (merged_trees (parts_view ps))) (sym c.as_slice.ensures.value)
+returns-clause-list c = λ h. draft-list c.args.self.now h
+    ∙ ap (λ ps. pairs_in (merged_trees (parts_view ps))) (sym c.as_slice.ensures.value)
 
 pub returns-clause-size : goal.returns-clause-size
 returns-clause-size c = size-draft c.args.self.now ∙ ap sizes (sym c.as_slice.ensures.value)

@@ -14,5 +14,9 @@ returns-in-Merging-clause-bound c =
     let E = explicit_keys (entries_view c.args.self.now.entries.items) in
     let d = held_view c.args.value.now.held in
     let n = c.args.value.now.depth in
-    let listed : c.is_list.result ≡ is_list d = c.is_list.ensures ∙ ap (λ x. is_list (draft_view x)) c.deref-in-Merging.ensures ∙ sym (ap (λ h. is_list (held_view h)) c.in-Merging.is) in
-    subst (λ m. min (visible_depth E (merged_pairs d)) 33 ≤ m) (sym (c.inside.ensures ∙ ap (λ b. if nat_lt n 33 then n - (if b then 2 else 1) else n) listed)) (inside-bound E d n c.args.value.now.bounded)
+    let listed : c.is_list.result ≡ is_list d = c.is_list.ensures
+    ∙ ap (λ x. is_list (draft_view x)) c.deref-in-Merging.ensures
+    ∙ sym (ap (λ h. is_list (held_view h)) c.in-Merging.is) in
+    subst (λ m. min (visible_depth E (merged_pairs d)) 33 ≤ m) (sym
+    (c.inside.ensures ∙ ap (λ b. if nat_lt n 33 then n - (if b then 2 else 1) else n) listed))
+    (inside-bound E d n c.args.value.now.bounded)

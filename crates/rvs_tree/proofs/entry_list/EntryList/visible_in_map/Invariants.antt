@@ -8,5 +8,7 @@ use Rattle.rvs_tree.proofs.entry_list.EntryList.visible_in_map.Given as goal
 
 abbrev pub invariant-loop-i : goal.invariant-loop-i
 invariant-loop-i l =
-    max l.deepest (min (visible_depth (explicit_keys (entries_view l.self.entries.items)) (zip (map string_bytes (drop l.i l.keys)) (map rc_view (drop l.i l.values)))) 33)
-    ≡ min (visible_depth (explicit_keys (entries_view l.self.entries.items)) (zip (map string_bytes l.keys) (map rc_view l.values))) 33
+    max l.deepest (min (visible_depth (explicit_keys (entries_view l.self.entries.items))
+    (zip (map string_bytes (drop l.i l.keys)) (map rc_view (drop l.i l.values)))) 33)
+    ≡ min (visible_depth (explicit_keys (entries_view l.self.entries.items))
+    (zip (map string_bytes l.keys) (map rc_view l.values))) 33

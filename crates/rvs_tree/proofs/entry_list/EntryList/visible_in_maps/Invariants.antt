@@ -7,5 +7,7 @@ use Rattle.rvs_tree.proofs.entry_list.EntryList.visible_in_maps.Given as goal
 
 abbrev pub invariant-loop-tree : goal.invariant-loop-tree
 invariant-loop-tree l =
-    max l.deepest (min (visible_depth (explicit_keys (entries_view l.self.entries.items)) (pairs_in (map rc_view (drop l.tree-index l.trees)))) 33)
-    ≡ min (visible_depth (explicit_keys (entries_view l.self.entries.items)) (pairs_in (map rc_view l.trees))) 33
+    max l.deepest (min (visible_depth (explicit_keys (entries_view l.self.entries.items))
+    (pairs_in (map rc_view (drop l.tree-index l.trees)))) 33)
+    ≡ min (visible_depth (explicit_keys (entries_view l.self.entries.items))
+    (pairs_in (map rc_view l.trees))) 33

@@ -13,9 +13,12 @@ good v = Ok v
 pub returns-in_ok-formed-in-Some : goal.returns-in_ok-formed-in-Some
 returns-in_ok-formed-in-Some c =
     let poor = c.args.self.now.poor in
-    formed-alias poor c.args.name.now (all_known c.args.self.now) ∙ ap (λ o. mapped (formed_value poor) (known_alias o)) (sym c.in-Some.ensures) ∙ ap good (sym c.in_ok-formed-in-Some.ensures)
+    formed-alias poor c.args.name.now (all_known c.args.self.now)
+    ∙ ap (λ o. mapped (formed_value poor) (known_alias o)) (sym c.in-Some.ensures)
+    ∙ ap good (sym c.in_ok-formed-in-Some.ensures)
 
 pub returns-in-None : goal.returns-in-None
 returns-in-None c =
     let poor = c.args.self.now.poor in
-    formed-alias poor c.args.name.now (all_known c.args.self.now) ∙ ap (λ o. mapped (formed_value poor) (known_alias o)) (sym c.in-None.ensures)
+    formed-alias poor c.args.name.now (all_known c.args.self.now)
+    ∙ ap (λ o. mapped (formed_value poor) (known_alias o)) (sym c.in-None.ensures)

@@ -6,4 +6,5 @@ pub returns-in-Some : goal.returns-in-Some
 returns-in-Some c = sym (lookup-found c.args.name.now _ _ _ (sym c.in-Some.ensures))
 
 pub returns : goal.returns
-returns c = c.find_around.ensures ∙ sym (lookup-missed c.args.name.now _ _ (sym c.in_default.ensures))
+returns c =
+    c.find_around.ensures ∙ sym (lookup-missed c.args.name.now _ _ (sym c.in_default.ensures))
