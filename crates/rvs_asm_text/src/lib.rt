@@ -10,6 +10,7 @@ mod instructions;
 mod names;
 mod numbers;
 mod reading;
+mod reading_again;
 mod registers;
 
 pub use arguments::{Bracketed, Operands};
@@ -21,4 +22,5 @@ pub use instructions::fits_field;
 pub use names::Name;
 pub use numbers::number;
 pub use reading::read_line;
+pub use reading_again::body_again;
 pub use registers::register;

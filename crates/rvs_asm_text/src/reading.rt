@@ -1,5 +1,5 @@
 // Lines.
-ghost use Rattle.std.specs.Prelude.{◌≡◌, IfOk};
+ghost use Rattle.std.specs.Prelude.{◌≡◌, IfOk, None};
 ghost use Rattle.std.specs.List.{list_all, list_any};
 ghost use Rattle.rvs_asm_text.specs.Text.{is_text_byte, trim};
 ghost use Rattle.rvs_asm_text.specs.Operands.{is_empty};
@@ -34,28 +34,40 @@ fn has_empty(mut operands: Operands<'_>) -> bool
     false
 }
 
-/// A statement by what its first word is.
-fn read_by_word<'t>(
+/// The instruction of a statement whose first word is no directive.
+pub(crate) fn read_by_mnemonic<'t>(
     in_text: bool,
     operands: Operands<'t>,
-    directive: Option<Directive>,
     mnemonic: Option<Mnemonic>,
 ) -> Result<Body<'t>, LineFault>
-    ensures body { result ≡ by_word in_text operands.entry directive mnemonic }
+    ensures body { result ≡ by_word in_text operands.entry None mnemonic }
     ensures ready { IfOk result IsReady }
 {
-    match directive {
-        Some(directive) => read_directed(directive, operands),
-        None => match mnemonic {
-            Some(mnemonic) => {
-                if in_text {
-                    read_instruction(mnemonic, operands)
-                } else {
-                    Err(LineFault::BadLine)
-                }
-            },
-            None => Err(LineFault::UnknownInstruction),
+    match mnemonic {
+        Some(mnemonic) => {
+            if in_text {
+                read_instruction(mnemonic, operands)
+            } else {
+                Err(LineFault::BadLine)
+            }
         },
+        None => Err(LineFault::UnknownInstruction),
+    }
+}
+
+/// A statement by its first word.
+fn read_by_word<'t>(
+    in_text: bool,
+    word: &'t [u8],
+    operands: Operands<'t>,
+) -> Result<Body<'t>, LineFault>
+    ensures body { result
+        ≡ by_word in_text operands.entry (directive_of word.now) (mnemonic_of word.now) }
+    ensures ready { IfOk result IsReady }
+{
+    match read_directive(word) {
+        Some(directive) => read_directed(directive, operands),
+        None => read_by_mnemonic(in_text, operands, read_mnemonic(word)),
     }
 }
 
@@ -77,7 +89,7 @@ fn read_statement<'t>(
     if has_empty(operands.again()) {
         return Err(LineFault::BadLine);
     }
-    read_by_word(in_text, operands, read_directive(word), read_mnemonic(word))
+    read_by_word(in_text, word, operands)
 }
 
 /// The statement in what follows a line's label.
