@@ -6,7 +6,7 @@ use Rattle.std.proofs.lemmas.List.{nil_from_length}
 use Rattle.rvs_asm_text.specs.declared.bodies.Body.TheVariants.{Nothing}
 use Rattle.rvs_asm_text.specs.Text.{tokens}
 use Rattle.rvs_asm_text.specs.Lines.{read_line}
-use Rattle.rvs_asm.specs.Places.{body_of}
+use Rattle.rvs_asm.specs.Locations.{body_of}
 
 read_empty : (in_text : Bool) → body_of (read_line in_text []) ≡ Nothing
 unfolding read_line tokens

@@ -11,3 +11,4 @@ pub mod Firsts
 pub mod Valued
 pub mod Sizes
 pub mod Offsets
+pub mod Read

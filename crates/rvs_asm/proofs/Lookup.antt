@@ -35,7 +35,7 @@ inserted (e ∷ es) k v h =
     ap (λ t. views (cond t ((e.0, v) ∷ es) (e ∷ insert_entry string_eq es k v))) n.0
     ∙ ap (λ l. (string_bytes e.0, e.1) ∷ l) (inserted es k v n.1)
 
--- the symbol at a place, and those after it
+-- the symbol at a location, and those after it
 drop_get : (ss : Table) (i : ℕ) (s : List ℕ × Mark) → slice_get ss i ≡ Some s
     → drop i ss ≡ s ∷ drop (suc i) ss
 drop_get [] i s e = cc

@@ -13,12 +13,12 @@ use Rattle.rvs_asm_text.specs.Lines.{read_line}
 use Rattle.rvs_asm_text.specs.Text.{lines_of}
 use Rattle.rvs_machine.specs.Image.{ImageValue}
 use Rattle.rvs_asm.specs.declared.mark.Mark.{Mark}
-use Rattle.rvs_asm.specs.declared.place.Place.{Place}
+use Rattle.rvs_asm.specs.declared.location.Location.{Location}
 use Rattle.rvs_asm.specs.declared.refusal.AsmKind.TheVariants.{DoubleSymbol, MisalignedCode}
 use Rattle.rvs_machine.specs.declared.symbol.Symbol.{Symbol}
 use Rattle.rvs_asm.specs.Symbols.{Table, address_of, find_mark, has_mark, symbol, symbols_of}
-use Rattle.rvs_asm.specs.Places.{Reading, readings, goes_on, body_of, label_of, size_of, offset}
-use Rattle.rvs_asm.specs.Places.{address, next, start, place_after, own_label, labels}
+use Rattle.rvs_asm.specs.Locations.{Reading, readings, goes_on, body_of, label_of, size_of, offset}
+use Rattle.rvs_asm.specs.Locations.{address, next, start, location_after, own_label, labels}
 use Rattle.rvs_asm.specs.Bytes.{bytes_of, section}
 use Rattle.rvs_asm.specs.Faults.{is_misaligned, is_double, body_fault, fault, first_fault}
 use Rattle.rvs_asm.specs.Answer.{text_readings, image_of}
@@ -37,38 +37,38 @@ sized_readings in_text (l ∷ ls) =
     (sized_line in_text l, sized_readings (goes_on in_text (body_of (read_line in_text l))) ls)
 
 -- ---- a line without a fault
-good_body : (isa : Isa) (p : Place) (body : Body) → body_fault isa p body ≡ None
+good_body : (isa : Isa) (p : Location) (body : Body) → body_fault isa p body ≡ None
     → is_misaligned p body ≡ false
 good_body isa p body h = (unpicked (is_misaligned p body) MisalignedCode _ h).0
 
-good_line : (isa : Isa) (ss : Table) (p : Place) (r : Reading) → fault isa ss p r ≡ None
+good_line : (isa : Isa) (ss : Table) (p : Location) (r : Reading) → fault isa ss p r ≡ None
     → is_misaligned p (body_of r) ≡ false
 good_line isa ss p (Err f) h = cc
 good_line isa ss p (Ok line) h = good_body isa p line.body
     (unpicked (is_double ss line.label) DoubleSymbol (body_fault isa p line.body) h).1
 
-new_label : (isa : Isa) (ss : Table) (p : Place) (r : Reading) → fault isa ss p r ≡ None
+new_label : (isa : Isa) (ss : Table) (p : Location) (r : Reading) → fault isa ss p r ≡ None
     → is_double ss (label_of r) ≡ false
 new_label isa ss p (Err f) h = cc
 new_label isa ss p (Ok line) h =
     (unpicked (is_double ss line.label) DoubleSymbol (body_fault isa p line.body) h).0
 
 -- ---- how far a section is
-abbrev is_in : Bool → Place → Bool
+abbrev is_in : Bool → Location → Bool
 is_in text p = cond text p.in_text (not p.in_text)
 
-abbrev made : Bool → (List ℕ → ℕ) → Place → Body → List ℕ
+abbrev made : Bool → (List ℕ → ℕ) → Location → Body → List ℕ
 made text env p body = cond (is_in text p) (bytes_of env p body) []
 
-abbrev length_in : Bool → Place → ℕ
-length_in text p = cond text p.text p.ram
+abbrev length_in : Bool → Location → ℕ
+length_in text p = cond text p.text p.data_bytes
 
 -- a statement's bytes move its own section alone
 moves : (text b : Bool) (x r : ℕ) (body : Body) (bytes : List ℕ)
-    → length bytes ≡ size_of (offset (record { in_text = b; text = x; ram = r })) body
-    → length_in text (record { in_text = b; text = x; ram = r })
-    + length (cond (is_in text (record { in_text = b; text = x; ram = r })) bytes [])
-    ≡ length_in text (next (record { in_text = b; text = x; ram = r }) body)
+    → length bytes ≡ size_of (offset (record { in_text = b; text = x; data_bytes = r })) body
+    → length_in text (record { in_text = b; text = x; data_bytes = r })
+    + length (cond (is_in text (record { in_text = b; text = x; data_bytes = r })) bytes [])
+    ≡ length_in text (next (record { in_text = b; text = x; data_bytes = r }) body)
 moves true true x r ToText bytes h = omega (arith, h)
 moves true true x r ToData bytes h = omega (arith, h)
 moves true true x r body bytes h = ap (λ n. x + n) h
@@ -82,21 +82,21 @@ moves false false x r ToText bytes h = omega (arith, h)
 moves false false x r ToData bytes h = omega (arith, h)
 moves false false x r body bytes h = ap (λ n. r + n) h
 
-moved_by : (text : Bool) (env : List ℕ → ℕ) (isa : Isa) (ss : Table) (p : Place) (r : Reading)
+moved_by : (text : Bool) (env : List ℕ → ℕ) (isa : Isa) (ss : Table) (p : Location) (r : Reading)
     → IsSizedLine r → fault isa ss p r ≡ None
     → length_in text p + length (made text env p (body_of r)) ≡ length_in text (next p (body_of r))
 moved_by text env isa ss p r h good =
-    moves text p.in_text p.text p.ram (body_of r) (bytes_of env p (body_of r))
+    moves text p.in_text p.text p.data_bytes (body_of r) (bytes_of env p (body_of r))
     (bytes_length env p (body_of r) (sized_body r h) (good_line isa ss p r good))
 
 -- ---- a line behind others
-record IsBehind (isa : Isa) (ss : Table) (p : Place) (text : Bool) (env : List ℕ → ℕ)
+record IsBehind (isa : Isa) (ss : Table) (p : Location) (text : Bool) (env : List ℕ → ℕ)
     (before : List Reading) (line : Reading) : Type 0 where
   length_before : length_in text p + length (section text env before p)
-      ≡ length_in text (place_after before p)
-  good : fault isa (ss ++ labels before p) (place_after before p) line ≡ None
+      ≡ length_in text (location_after before p)
+  good : fault isa (ss ++ labels before p) (location_after before p) line ≡ None
 
-is_behind : (isa : Isa) (ss : Table) (p : Place) (n : ℕ) (text : Bool) (env : List ℕ → ℕ)
+is_behind : (isa : Isa) (ss : Table) (p : Location) (n : ℕ) (text : Bool) (env : List ℕ → ℕ)
     (before : List Reading) (line : Reading) (behind : List Reading)
     → AreSizedLines (before ++ line ∷ behind)
     → first_fault isa ss p n (before ++ line ∷ behind) ≡ None
@@ -119,26 +119,26 @@ is_behind isa ss p n text env (r ∷ rs) line behind sized h =
     length-append (made text env p (body_of r)) (section text env rs (next p (body_of r))) in
     record {
       length_before = omega (arith, own, whole, later.length_before);
-      good = ap (λ (t : Table). fault isa t (place_after rs (next p (body_of r))) line)
+      good = ap (λ (t : Table). fault isa t (location_after rs (next p (body_of r))) line)
           (sym (append_assoc ss (own_label (label_of r) p) (labels rs (next p (body_of r)))))
           ∙ later.good;
     }
 
 section-split : (text : Bool) (env : List ℕ → ℕ) (before : List Reading) (line : Reading)
-    (behind : List Reading) (p : Place)
+    (behind : List Reading) (p : Location)
     → section text env (before ++ line ∷ behind) p
-    ≡ section text env before p ++ (made text env (place_after before p) (body_of line)
-    ++ section text env behind (next (place_after before p) (body_of line)))
+    ≡ section text env before p ++ (made text env (location_after before p) (body_of line)
+    ++ section text env behind (next (location_after before p) (body_of line)))
 section-split text env [] line behind p = refl
 section-split text env (r ∷ rs) line behind p =
     ap (λ bytes. made text env p (body_of r) ++ bytes)
     (section-split text env rs line behind (next p (body_of r)))
     ∙ sym (append_assoc (made text env p (body_of r)) (section text env rs (next p (body_of r))) _)
 
-labels-split : (before : List Reading) (line : Reading) (behind : List Reading) (p : Place)
+labels-split : (before : List Reading) (line : Reading) (behind : List Reading) (p : Location)
     → labels (before ++ line ∷ behind) p ≡ labels before p
-    ++ (own_label (label_of line) (place_after before p)
-    ++ labels behind (next (place_after before p) (body_of line)))
+    ++ (own_label (label_of line) (location_after before p)
+    ++ labels behind (next (location_after before p) (body_of line)))
 labels-split [] line behind p = refl
 labels-split (r ∷ rs) line behind p =
     ap (λ ss. own_label (label_of r) p ++ ss) (labels-split rs line behind (next p (body_of r)))
@@ -157,7 +157,7 @@ found_behind (s ∷ ss) name m more h = past (bytes_eq name s.0) s.1 (find_mark 
     past true n o w e f = cc
     past false n o w e f = f e
 
-marked : (ss : Table) (label : Option (List ℕ)) (p : Place) (more : Table) (name : List ℕ)
+marked : (ss : Table) (label : Option (List ℕ)) (p : Location) (more : Table) (name : List ℕ)
     → is_double ss label ≡ false → label ≡ Some name
     → find_mark (ss ++ (own_label label p ++ more)) name
     ≡ Some (record { at = address p; in_text = p.in_text })
@@ -176,7 +176,7 @@ marked ss (Some own) p more name h e =
     })) same
     (found_behind ss own (record { at = address p; in_text = p.in_text }) more h)
 
-symbol_there : (ss : Table) (label : Option (List ℕ)) (p : Place) (more : Table) (name : List ℕ)
+symbol_there : (ss : Table) (label : Option (List ℕ)) (p : Location) (more : Table) (name : List ℕ)
     → label ≡ Some name
     → Contains (symbols_of (ss ++ (own_label label p ++ more)))
     (record { name = name; at = address p })
@@ -208,9 +208,9 @@ length_before_start false = refl
 stands_in : (isa : Isa) (image : ImageValue) (before : List Reading) (line : Reading)
     (behind rs : List Reading) → rs ≡ before ++ line ∷ behind → AreSizedLines rs
     → first_fault isa [] start 1 rs ≡ None → image ≡ image_of (labels rs start) rs
-    → Stands image (labels rs start) (place_after before start) line
+    → Stands image (labels rs start) (location_after before start) line
 stands_in isa image before line behind rs split sized good is =
-    let p = place_after before start in
+    let p = location_after before start in
     let ss = labels rs start in
     let env = address_of ss in
     let b = is_behind isa [] start 1 p.in_text env before line behind

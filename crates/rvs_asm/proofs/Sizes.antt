@@ -41,8 +41,8 @@ use Rattle.rvs_asm_text.specs.Directives.{filled_by, number_of_one, directed, se
 use Rattle.rvs_asm_text.specs.Lines.{by_word, statement_of, line_with, is_label, tokens_line}
 use Rattle.rvs_asm_text.specs.Lines.{read_line}
 use Rattle.rvs_asm_text.specs.Text.{Tokens, tokens, before_comment, is_text_byte, is_blank}
-use Rattle.rvs_asm.specs.declared.place.Place.{Place}
-use Rattle.rvs_asm.specs.Places.{Reading, body_of, size_of, offset, padding}
+use Rattle.rvs_asm.specs.declared.location.Location.{Location}
+use Rattle.rvs_asm.specs.Locations.{Reading, body_of, size_of, offset, padding}
 use Rattle.rvs_asm.specs.Bytes.{number_bytes, value_bytes, repeated, filler, bytes_of}
 use Rattle.rvs_asm.specs.Faults.{is_misaligned}
 use Rattle.rvs_asm.specs.Standing.{LinesHaveTheirSizes}
@@ -262,7 +262,7 @@ in_words : (b : Bool) (n : ℕ) → (b && not (n % 4 == 0)) ≡ false → b ≡ 
 in_words true n h e = grind (arith, nat_tests)
 in_words false n h e = cc
 
-pub bytes_length : (env : List ℕ → ℕ) (p : Place) (body : Body) → IsSized body
+pub bytes_length : (env : List ℕ → ℕ) (p : Location) (body : Body) → IsSized body
     → is_misaligned p body ≡ false → length (bytes_of env p body) ≡ size_of (offset p) body
 bytes_length env p Nothing h m = refl
 bytes_length env p ToText h m = refl

@@ -5,7 +5,7 @@ use Rattle.std.specs.Prelude.{nat_le, ◌==◌}
 use Rattle.std.proofs.lemmas.Int.{ints}
 use Rattle.std.proofs.lemmas.Bool.Decides.{nat_tests}
 use Rattle.rvs_machine.specs.Image.{ImageValue, IsImage, is_image, if_image}
-use Rattle.rvs_asm.specs.Places.{start, labels}
+use Rattle.rvs_asm.specs.Locations.{start, labels}
 use Rattle.rvs_asm.specs.Answer.{answer, text_readings, image_of, region_checked, if_all_there}
 use Rattle.rvs_asm.specs.Answer.{if_linked, if_placed}
 use Rattle.rvs_asm.specs.Laws.{PartsMakeAddress, OneImageEach, ImagesAreAnswered}

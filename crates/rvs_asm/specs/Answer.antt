@@ -8,7 +8,7 @@ use Rattle.rvs_asm.specs.declared.refusal.AsmKind.TheVariants.{MissingSymbol, Ba
 use Rattle.rvs_asm.specs.declared.refusal.AsmRefusal.{AsmRefusal}
 use Rattle.rvs_asm.specs.Refusals.{no_memory}
 use Rattle.rvs_asm.specs.Symbols.{Table, address_of, symbols_of}
-use Rattle.rvs_asm.specs.Places.{Reading, readings, start, labels}
+use Rattle.rvs_asm.specs.Locations.{Reading, readings, start, labels}
 use Rattle.rvs_asm.specs.Bytes.{section}
 use Rattle.rvs_asm.specs.Faults.{first_fault, second_fault, first_missing, needed}
 
@@ -18,9 +18,9 @@ text_readings text = readings true (lines_of text)
 
 -- the image of these symbols, with these bytes of text and of data
 abbrev pub parts_of : Table → List ℕ → List ℕ → ImageValue
-parts_of ss text_bytes ram_bytes = record {
+parts_of ss text_bytes data_bytes = record {
   text = text_bytes;
-  data_bytes = ram_bytes;
+  data_bytes = data_bytes;
   tohost = address_of ss (codes "tohost");
   sig_begin = address_of ss (codes "begin_signature");
   sig_end = address_of ss (codes "end_signature");

@@ -11,8 +11,8 @@ use Rattle.rvs_asm_text.specs.declared.bodies.Value.{Value}
 use Rattle.rvs_asm_text.specs.declared.bodies.Body.{Body}
 use Rattle.rvs_asm_text.specs.declared.bodies.Body.TheVariants.{Insn, Values, Align, Fill}
 use Rattle.rvs_asm_text.specs.Directives.{data_value}
-use Rattle.rvs_asm.specs.declared.place.Place.{Place}
-use Rattle.rvs_asm.specs.Places.{Reading, body_of, padding, offset, address, next}
+use Rattle.rvs_asm.specs.declared.location.Location.{Location}
+use Rattle.rvs_asm.specs.Locations.{Reading, body_of, padding, offset, address, next}
 
 -- %hi(s): what lui has to give so that the signed %lo(s) makes up the rest
 abbrev pub high : ℕ → ℕ
@@ -63,7 +63,7 @@ abbrev pub filler : Bool → ℕ → List ℕ
 filler in_text n = if in_text then repeated (n / 4) (to_le_bytes w32 nop_word)
     else repeated n (0 ∷ [])
 
-abbrev pub bytes_of : (List ℕ → ℕ) → Place → Body → List ℕ
+abbrev pub bytes_of : (List ℕ → ℕ) → Location → Body → List ℕ
 bytes_of env p (Insn i link) = to_le_bytes w32 (word_of (linked env (address p) i link))
 bytes_of env p (Values size args) =
     flat_map (λ text. value_bytes env size (data_value size text)) args
@@ -71,8 +71,8 @@ bytes_of env p (Align power) = filler p.in_text (padding (offset p) (2 ^ power))
 bytes_of env p (Fill n size z) = repeated n (number_bytes size z)
 bytes_of env p _ = []
 
--- the bytes of one section, text or data, from lines that begin in a place
-abbrev pub section : Bool → (List ℕ → ℕ) → List Reading → Place → List ℕ
+-- the bytes of one section, text or data, from lines that begin in a location
+abbrev pub section : Bool → (List ℕ → ℕ) → List Reading → Location → List ℕ
 section text env [] p = []
 section text env (r ∷ rs) p =
     (if (if text then p.in_text else not p.in_text) then bytes_of env p (body_of r) else [])

@@ -22,7 +22,7 @@ use Rattle.rvs_asm_text.specs.Instructions.{in_field}
 use Rattle.rvs_asm_text.specs.Directives.{data_value}
 use Rattle.rvs_machine.specs.Image.{text_limit, data_limit}
 use Rattle.rvs_asm.specs.declared.mark.Mark.{Mark}
-use Rattle.rvs_asm.specs.declared.place.Place.{Place}
+use Rattle.rvs_asm.specs.declared.location.Location.{Location}
 use Rattle.rvs_asm.specs.declared.refusal.AsmKind.{AsmKind}
 use Rattle.rvs_asm.specs.declared.refusal.AsmKind.TheVariants.{BadLine, UnknownInstruction}
 use Rattle.rvs_asm.specs.declared.refusal.AsmKind.TheVariants.{BadOperand, OutOfRange}
@@ -31,8 +31,8 @@ use Rattle.rvs_asm.specs.declared.refusal.AsmKind.TheVariants.{MisalignedCode, T
 use Rattle.rvs_asm.specs.declared.refusal.AsmKind.TheVariants.{NotInIsa}
 use Rattle.rvs_asm.specs.declared.refusal.AsmRefusal.{AsmRefusal}
 use Rattle.rvs_asm.specs.Symbols.{Table, find_mark, has_mark}
-use Rattle.rvs_asm.specs.Places.{Reading, body_of, label_of, size_of, offset, address, next}
-use Rattle.rvs_asm.specs.Places.{own_label}
+use Rattle.rvs_asm.specs.Locations.{Reading, body_of, label_of, size_of, offset, address, next}
+use Rattle.rvs_asm.specs.Locations.{own_label}
 use Rattle.rvs_asm.specs.Bytes.{high, low, distance}
 
 -- ---- a line under the lines before it
@@ -46,7 +46,7 @@ abbrev pub is_double : Table → Option (List ℕ) → Bool
 is_double ss None = false
 is_double ss (Some name) = has_mark ss name
 
-abbrev pub is_misaligned : Place → Body → Bool
+abbrev pub is_misaligned : Location → Body → Bool
 is_misaligned p body = p.in_text && not (size_of (offset p) body % 4 == 0)
 
 abbrev pub is_refused : Isa → Body → Bool
@@ -54,14 +54,14 @@ is_refused isa (Insn i link) = not (is_admitted isa i)
 is_refused isa _ = false
 
 -- the fault of a statement, the least kind first
-abbrev pub body_fault : Isa → Place → Body → Option AsmKind
+abbrev pub body_fault : Isa → Location → Body → Option AsmKind
 body_fault isa p body =
     if is_misaligned p body then Some MisalignedCode
     else (if not (nat_le (next p body).text text_limit) then Some TextFull
-    else (if not (nat_le (next p body).ram data_limit) then Some DataFull
+    else (if not (nat_le (next p body).data_bytes data_limit) then Some DataFull
     else (if is_refused isa body then Some NotInIsa else None)))
 
-abbrev pub fault : Isa → Table → Place → Reading → Option AsmKind
+abbrev pub fault : Isa → Table → Location → Reading → Option AsmKind
 fault isa ss p (Err f) = Some (kind_of f)
 fault isa ss p (Ok line) = if is_double ss line.label then Some DoubleSymbol
     else body_fault isa p line.body
@@ -71,7 +71,7 @@ at_line n kind = option_map (λ k. record { line = n; kind = k }) kind
 
 -- the first fault of lines, with its number: the first line is number n, and these are the symbols
 -- before it
-abbrev pub first_fault : Isa → Table → Place → ℕ → List Reading → Option AsmRefusal
+abbrev pub first_fault : Isa → Table → Location → ℕ → List Reading → Option AsmRefusal
 first_fault isa ss p n [] = None
 first_fault isa ss p n (r ∷ rs) = option_or (at_line n (fault isa ss p r))
     (first_fault isa (ss ++ own_label (label_of r) p) (next p (body_of r)) (n + 1) rs)
@@ -108,7 +108,7 @@ symbol_fault ss pc (Insn i link) = link_fault ss (row i.op).form pc link
 symbol_fault ss pc (Values size args) = values_fault ss size args
 symbol_fault ss pc _ = None
 
-abbrev pub second_fault : Table → Place → ℕ → List Reading → Option AsmRefusal
+abbrev pub second_fault : Table → Location → ℕ → List Reading → Option AsmRefusal
 second_fault ss p n [] = None
 second_fault ss p n (r ∷ rs) = option_or (at_line n (symbol_fault ss (address p) (body_of r)))
     (second_fault ss (next p (body_of r)) (n + 1) rs)

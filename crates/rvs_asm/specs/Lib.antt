@@ -1,5 +1,5 @@
 pub mod Symbols
-pub mod Places
+pub mod Locations
 pub mod Bytes
 pub mod Faults
 pub mod Answer

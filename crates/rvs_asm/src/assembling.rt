@@ -4,7 +4,7 @@ ghost use Rattle.std.specs.Option.{option_copied};
 ghost use Rattle.rvs_machine.specs.Image.{if_image};
 ghost use Rattle.rvs_asm.specs.Refusals.{no_memory};
 ghost use Rattle.rvs_asm.specs.Symbols.{address_of, find_mark, symbols_of};
-ghost use Rattle.rvs_asm.specs.Places.{labels, start};
+ghost use Rattle.rvs_asm.specs.Locations.{labels, start};
 ghost use Rattle.rvs_asm.specs.Faults.{is_missing, needed, first_missing, first_fault};
 ghost use Rattle.rvs_asm.specs.Faults.{second_fault};
 ghost use Rattle.rvs_asm.specs.Answer.{answer, Assembles, IsAnswer, parts_of, if_all_there};
@@ -69,16 +69,16 @@ fn text_of(alloc: Global, name: &str) -> Result<Text, NoMemory>
 fn make_image(
     symbols: &Symbols,
     text: Bytes,
-    ram: Bytes,
+    data_bytes: Bytes,
     items: Items<Symbol>,
 ) -> Result<Image, AsmRefusal>
     requires { items ≡ symbols_of symbols.now }
-    ensures { result ≡ region_checked (if_image (parts_of symbols.now text ram)) }
+    ensures { result ≡ region_checked (if_image (parts_of symbols.now text data_bytes)) }
 {
     let tohost = address_named(symbols, "tohost");
     let sig_begin = address_named(symbols, "begin_signature");
     let sig_end = address_named(symbols, "end_signature");
-    match Image::new(text, ram, tohost, sig_begin, sig_end, items) {
+    match Image::new(text, data_bytes, tohost, sig_begin, sig_end, items) {
         Some(image) => Ok(image),
         None => Err(AsmRefusal {
             line: 0,
@@ -94,7 +94,7 @@ fn make_image(
 /// `MissingSymbol`, `BadRegion` and `NoMemory`.
 fn finish(alloc: Global, symbols: &Symbols, sections: Sections) -> Result<Image, AsmRefusal>
     ensures { IsAnswer (if_all_there (first_missing symbols.now needed)
-        (parts_of symbols.now sections.text.items sections.ram.items)) result }
+        (parts_of symbols.now sections.text.items sections.data_bytes.items)) result }
 {
     match missing_name(symbols) {
         Some(name) => {
@@ -106,8 +106,8 @@ fn finish(alloc: Global, symbols: &Symbols, sections: Sections) -> Result<Image,
         },
         None => {
             let items = symbols.to_items(alloc)?;
-            let Sections { text, ram } = sections;
-            make_image(symbols, Bytes::from(text), Bytes::from(ram), items)
+            let Sections { text, data_bytes } = sections;
+            make_image(symbols, Bytes::from(text), Bytes::from(data_bytes), items)
         },
     }
 }

@@ -8,7 +8,7 @@ ghost use Rattle.rvs_insn.specs.Word.{IsEncodable, low_bits, word_of};
 ghost use Rattle.rvs_asm_text.specs.Instructions.{IsReady};
 ghost use Rattle.rvs_asm_text.specs.Directives.{data_value};
 ghost use Rattle.rvs_asm.specs.Symbols.{address_of};
-ghost use Rattle.rvs_asm.specs.Places.{IsPlace, address};
+ghost use Rattle.rvs_asm.specs.Locations.{IsLocation, address};
 ghost use Rattle.rvs_asm.specs.Bytes.{number_bytes, repeated, filler, value_in, value_bytes};
 ghost use Rattle.rvs_asm.specs.Bytes.{linked, bytes_of};
 ghost use Rattle.rvs_asm.specs.declared.refusal.AsmKind.TheVariants.{UnknownSymbol};
@@ -16,7 +16,7 @@ ghost use Rattle.rvs_asm.specs.Faults.{symbol_fault, link_fault, values_fault, l
 ghost use Rattle.rvs_asm.specs.Faults.{lacks_link};
 
 use crate::linking::link_insn;
-use crate::place::{Place, gap, mark_at, offset_in};
+use crate::location::{Location, gap, mark_at, offset_in};
 use crate::refusal::AsmKind;
 use crate::symbols::Symbols;
 use rvs_asm_text::{Body, Link, Operands, Value, read_value};
@@ -170,26 +170,26 @@ fn push_insn(
     }
 }
 
-/// Adds the bytes of a statement in a place under all symbols, or gives its fault.
+/// Adds the bytes of a statement in a location under all symbols, or gives its fault.
 pub fn push_body(
     out: &mut Vec<u8>,
     symbols: &Symbols,
-    place: Place,
+    location: Location,
     body: &Body<'_>,
 ) -> Result<Option<AsmKind>, NoMemory>
     requires ready { IsReady body.now }
-    requires here { IsPlace place }
+    requires here { IsLocation location }
     ensures fault { IfOk result
-        (λ fault. fault ≡ symbol_fault symbols.now (address place) body.now) }
+        (λ fault. fault ≡ symbol_fault symbols.now (address location) body.now) }
     ensures bytes { IfOk result (λ fault. fault ≡ None
-        → out.new.items ≡ out.old.items ++ bytes_of (address_of symbols.now) place body.now) }
+        → out.new.items ≡ out.old.items ++ bytes_of (address_of symbols.now) location body.now) }
 {
     match body {
         Body::Nothing | Body::ToText | Body::ToData => Ok(None),
-        Body::Insn(insn, link) => push_insn(out, symbols, mark_at(place).at, insn, link),
+        Body::Insn(insn, link) => push_insn(out, symbols, mark_at(location).at, insn, link),
         Body::Values(size, operands) => push_values(out, symbols, *size, operands.again()),
         Body::Align(power) => {
-            push_padding(out, place.in_text, gap(offset_in(place), *power))?;
+            push_padding(out, location.in_text, gap(offset_in(location), *power))?;
             Ok(None)
         },
         Body::Fill(count, size, number) => {

@@ -1,13 +1,14 @@
-// The first pass: each line's place, and what each symbol marks.
+// The first pass: each line's location, and what each symbol marks.
 ghost use Rattle.std.specs.Prelude.{◌≡◌, ◌⊎◌, false, [], ◌++◌, Some, None, true, OnOk, OnErr, IfOk};
 ghost use Rattle.std.specs.Prelude.{IfErr};
 ghost use Rattle.rvs_asm_text.specs.Lines.{read_line};
 ghost use Rattle.rvs_asm.specs.Refusals.{no_memory};
-ghost use Rattle.rvs_asm.specs.Places.{IsPlace, start, next, own_label, labels, body_of, label_of};
+ghost use Rattle.rvs_asm.specs.Locations.{IsLocation, start, next, own_label, labels, body_of};
+ghost use Rattle.rvs_asm.specs.Locations.{label_of};
 ghost use Rattle.rvs_asm.specs.Faults.{is_double, fault, first_fault};
 ghost use Rattle.rvs_asm.specs.Answer.{text_readings};
 
-use crate::place::{Place, enter_body, first_place, mark_at};
+use crate::location::{Location, enter_body, first_location, mark_at};
 use crate::refusal::{AsmKind, AsmRefusal, kind_of_fault};
 use crate::symbols::Symbols;
 use rvs_asm_text::{Name, first_line, read_line};
@@ -15,11 +16,11 @@ use rvs_base::NoMemory;
 use rvs_insn::IsaSpec;
 use std::alloc::Global;
 
-/// A line that has its place: its label, and the place of the next line.
+/// A line that has its location: its label, and the location of the next line.
 #[derive(Debug, Drop)]
 struct Entered<'t> {
     label: Option<Name<'t>>,
-    next: Place,
+    next: Location,
 }
 
 /// Whether an earlier line has this label.
@@ -32,7 +33,7 @@ fn is_double_label(symbols: &Symbols, label: &Option<Name<'_>>) -> bool
     }
 }
 
-/// A line in its place, after lines with these symbols.
+/// A line in its location, after lines with these symbols.
 ///
 /// # Errors
 ///
@@ -40,28 +41,29 @@ fn is_double_label(symbols: &Symbols, label: &Option<Name<'_>>) -> bool
 fn enter_line<'t>(
     spec: &IsaSpec,
     symbols: &Symbols,
-    place: Place,
+    location: Location,
     line: &'t [u8],
 ) -> Result<Entered<'t>, AsmKind>
-    requires { IsPlace place }
+    requires { IsLocation location }
     ensures good { OnOk result
-        (fault spec.now symbols.now place (read_line place.in_text line.now) ≡ None) }
-    ensures label { IfOk result (λ e. e.label ≡ label_of (read_line place.in_text line.now)) }
+        (fault spec.now symbols.now location (read_line location.in_text line.now) ≡ None) }
+    ensures label { IfOk result (λ e. e.label ≡ label_of (read_line location.in_text line.now)) }
     ensures new { IfOk result (λ e. is_double symbols.now e.label ≡ false) }
     ensures next { IfOk result
-        (λ e. e.next ≡ next place (body_of (read_line place.in_text line.now))) }
-    ensures short { IfOk result (λ e. IsPlace e.next) }
+        (λ e. e.next ≡ next location (body_of (read_line location.in_text line.now))) }
+    ensures short { IfOk result (λ e. IsLocation e.next) }
     ensures fault { IfErr result
-        (λ kind. fault spec.now symbols.now place (read_line place.in_text line.now) ≡ Some kind) }
+        (λ kind. fault spec.now symbols.now location (read_line location.in_text line.now)
+        ≡ Some kind) }
 {
-    let line = match read_line(place.in_text, line) {
+    let line = match read_line(location.in_text, line) {
         Ok(line) => line,
         Err(fault) => return Err(kind_of_fault(fault)),
     };
     if is_double_label(symbols, &line.label) {
         return Err(AsmKind::DoubleSymbol);
     }
-    let next = enter_body(spec, place, &line.body)?;
+    let next = enter_body(spec, location, &line.body)?;
     Ok(Entered {
         label: line.label,
         next,
@@ -73,14 +75,14 @@ fn add_label(
     alloc: Global,
     symbols: &mut Symbols,
     label: &Option<Name<'_>>,
-    place: Place,
+    location: Location,
 ) -> Result<(), NoMemory>
-    requires here { IsPlace place }
+    requires here { IsLocation location }
     requires new { is_double symbols.old label.now ≡ false }
-    ensures { OnOk result (symbols.new ≡ symbols.old ++ own_label label.now place) }
+    ensures { OnOk result (symbols.new ≡ symbols.old ++ own_label label.now location) }
 {
     match label {
-        Some(name) => symbols.add(alloc, name.as_str(), mark_at(place)),
+        Some(name) => symbols.add(alloc, name.as_str(), mark_at(location)),
         None => Ok(()),
     }
 }
@@ -97,18 +99,18 @@ pub fn first_pass(alloc: Global, text: &[u8], spec: &IsaSpec) -> Result<Symbols,
         (first_fault spec.now [] start 1 (text_readings text.now) ≡ Some r)) }
 {
     let mut symbols = Symbols::new(alloc);
-    let mut place = first_place();
+    let mut location = first_location();
     let mut number: u64 = 0;
     let mut rest = text;
     let _length = text.len();
     while let Some((line, after)) = first_line(rest) {
         number += 1;
-        let entered = match enter_line(spec, &symbols, place, line) {
+        let entered = match enter_line(spec, &symbols, location, line) {
             Ok(entered) => entered,
             Err(kind) => return Err(AsmRefusal { line: number, kind }),
         };
-        add_label(alloc, &mut symbols, &entered.label, place)?;
-        place = entered.next;
+        add_label(alloc, &mut symbols, &entered.label, location)?;
+        location = entered.next;
         rest = after;
     }
     Ok(symbols)

@@ -25,8 +25,9 @@ pub fn refusals_are_first()
     ensures second { SecondFaultsAreFirst }
 {}
 
-/// A line that is read makes as many bytes as its size says, and in an image they lie in the place
-/// of the line, behind those of the lines before it, with the address that its label marks.
+/// A line that is read makes as many bytes as its size says, and in an image they lie in the
+/// location of the line, behind those of the lines before it, with the address that its label
+/// marks.
 #[tactic(auto, using(crate::proofs::Sizes::lines_have_their_sizes, crate::proofs::Offsets::lines_stand))]
 pub fn lines_stand_in_their_places()
     ensures sizes { LinesHaveTheirSizes }

@@ -16,10 +16,10 @@ use Rattle.rvs_asm_text.specs.declared.bodies.Body.{Body}
 use Rattle.rvs_asm_text.specs.declared.bodies.Body.TheVariants.{Nothing, ToText, ToData, Insn}
 use Rattle.rvs_asm_text.specs.declared.bodies.Body.TheVariants.{Values, Align, Fill}
 use Rattle.rvs_asm_text.specs.Directives.{data_value}
-use Rattle.rvs_asm.specs.declared.place.Place.{Place}
+use Rattle.rvs_asm.specs.declared.location.Location.{Location}
 use Rattle.rvs_asm.specs.declared.refusal.AsmRefusal.{AsmRefusal}
 use Rattle.rvs_asm.specs.Symbols.{Table, address_of}
-use Rattle.rvs_asm.specs.Places.{Reading, body_of, padding, offset, address, next, start, labels}
+use Rattle.rvs_asm.specs.Locations.{Reading, body_of, padding, offset, address, next, start, labels}
 use Rattle.rvs_asm.specs.Bytes.{linked, value_in, number_bytes, value_bytes, repeated, nop_word}
 use Rattle.rvs_asm.specs.Bytes.{filler, bytes_of, section}
 use Rattle.rvs_asm.specs.Faults.{first_fault, second_fault, first_missing, needed}
@@ -161,7 +161,7 @@ filler_below in_text n =
     either in_text (repeated (n / 4) nop) (repeated n (0 ∷ []))
     (repeated_below (n / 4) nop (word_bytes nop_word)) (repeated_below n (0 ∷ []) (omega arith, tt))
 
-body_below : (env : List ℕ → ℕ) (p : Place) (body : Body) → AreBytes (bytes_of env p body)
+body_below : (env : List ℕ → ℕ) (p : Location) (body : Body) → AreBytes (bytes_of env p body)
 body_below env p (Insn i link) = word_bytes (word_of (linked env (address p) i link))
 body_below env p (Values size args) = values_below env size args
 body_below env p (Align power) = filler_below p.in_text (padding (offset p) (2 ^ power))
@@ -170,7 +170,7 @@ body_below env p Nothing = tt
 body_below env p ToText = tt
 body_below env p ToData = tt
 
-lines_below : (text : Bool) (env : List ℕ → ℕ) (rs : List Reading) (p : Place)
+lines_below : (text : Bool) (env : List ℕ → ℕ) (rs : List Reading) (p : Location)
     → AreBytes (section text env rs p)
 lines_below text env [] p = tt
 lines_below text env (r ∷ rs) p =

@@ -20,8 +20,8 @@ use Rattle.rvs_machine.specs.Machine.{Setup, imm_word, word_at, commit_of}
 use Rattle.rvs_machine.proofs.Loads.{IsAligned}
 use Rattle.rvs_machine.proofs.Stores.{store_size}
 use Rattle.rvs_asm.specs.declared.mark.Mark.{Mark}
-use Rattle.rvs_asm.specs.declared.place.Place.{Place}
-use Rattle.rvs_asm.specs.Places.{next}
+use Rattle.rvs_asm.specs.declared.location.Location.{Location}
+use Rattle.rvs_asm.specs.Locations.{next}
 use Rattle.rvs_asm.specs.Bytes.{high, low}
 use Rattle.rvs_solver.specs.Choices.{ChoiceValue, fields_of, base_value, seen, without_base}
 use Rattle.rvs_expr_text.specs.declared.lexeme.NumName.{NumName}
@@ -603,7 +603,7 @@ case_marks_is isa k c a m is = marks_by (row c.op).form k c a m refl is.sound.en
 nil_below : (n l : ℕ) (t : Marks) → AllBelow n l t → AllBelow n l (t ++ [])
 nil_below n l t h = below_join n l t [] h tt
 
-store_distinct : (n k : ℕ) (c : ChoiceValue) (t : Marks) (p : Place) → k < 2 ^ 32
+store_distinct : (n k : ℕ) (c : ChoiceValue) (t : Marks) (p : Location) → k < 2 ^ 32
     → AllBelow n (k + 1) t → Distinct t (store_case k c) p
 store_distinct n k c t p small below =
     let tail = store_tail k c in
@@ -612,12 +612,12 @@ store_distinct n k c t p small below =
     nil_below n (k + 1) (((t ++ []) ++ []) ++ [])
     (nil_below n (k + 1) ((t ++ []) ++ [])
     (nil_below n (k + 1) (t ++ []) (nil_below n (k + 1) t below))) in
-    let here : (q : Place) → Distinct t4 tail q =
+    let here : (q : Location) → Distinct t4 tail q =
     λ q. (
       (small, lacks_later n (k + 1) t4 (CaseName k) (omega arith) b4),
       (tt, (tt, (tt, (tt, (tt, (tt, (tt, (tt, (tt, (tt, (tt, (tt, (tt, tt))))))))))))),
     ) in
-    let rest : (q : Place) → Distinct t4 (source c.rs1 c.w1 ++ (source c.rs2 c.w2 ++ tail)) q =
+    let rest : (q : Location) → Distinct t4 (source c.rs1 c.w1 ++ (source c.rs2 c.w2 ++ tail)) q =
     λ q. source_distinct t4 c.rs1 c.w1 (source c.rs2 c.w2 ++ tail) q
     (λ r. source_distinct t4 c.rs2 c.w2 tail r here) in
     let cleared =
@@ -629,7 +629,7 @@ store_distinct n k c t p small below =
     (line_of (Plain (sw 0 (pointer c) (pos 4)))).body) in
     (tt, (tt, (tt, (tt, cleared))))
 
-jalr_distinct : (n k : ℕ) (c : ChoiceValue) (t : Marks) (p : Place) → k < 2 ^ 32
+jalr_distinct : (n k : ℕ) (c : ChoiceValue) (t : Marks) (p : Location) → k < 2 ^ 32
     → AllBelow n (k + 1) t → Distinct t (jalr_case k c) p
 jalr_distinct n k c t p small below =
     let t5 = ((((t ++ []) ++ []) ++ []) ++ []) ++ [] in
@@ -673,7 +673,7 @@ jalr_distinct n k c t p small below =
       ),
     )
 
-jump_distinct : (n k : ℕ) (c : ChoiceValue) (t : Marks) (p : Place) → k < 2 ^ 32
+jump_distinct : (n k : ℕ) (c : ChoiceValue) (t : Marks) (p : Location) → k < 2 ^ 32
     → AllBelow n (k + 1) t → Distinct t (jump_case k c) p
 jump_distinct n k c t p small below =
     let tail =
@@ -686,7 +686,7 @@ jump_distinct n k c t p small below =
     small (l (CaseName k) (omega arith)) (l (Target k) (omega arith))
     (l (Done k) (omega arith))))
 
-distinct_by : (f : Format) (n k : ℕ) (c : ChoiceValue) (t : Marks) (p : Place) → k < 2 ^ 32
+distinct_by : (f : Format) (n k : ℕ) (c : ChoiceValue) (t : Marks) (p : Location) → k < 2 ^ 32
     → AllBelow n (k + 1) t → Distinct t (case_by f k c) p
 distinct_by Store n k c t p small below = store_distinct n k c t p small below
 distinct_by JumpReg n k c t p small below = jalr_distinct n k c t p small below
@@ -695,7 +695,7 @@ distinct_by Jump n k c t p small below = jump_distinct n k c t p small below
 distinct_by R n k c t p small below = plain_distinct n k c t p small below
 distinct_by _ n k c t p small below = plain_distinct n k c t p small below
 
-pub case_distinct : (n k : ℕ) (c : ChoiceValue) (t : Marks) (p : Place) → k < 2 ^ 32
+pub case_distinct : (n k : ℕ) (c : ChoiceValue) (t : Marks) (p : Location) → k < 2 ^ 32
     → AllBelow n (k + 1) t → Distinct t (choice_statements k c) p
 case_distinct n k c t p small below = distinct_by (row c.op).form n k c t p small below
 
@@ -847,7 +847,7 @@ pub case_fine : (isa : Isa) (k : ℕ) (c : ChoiceValue) → k < 2 ^ 32 → IsMad
     → AllFine isa (choice_statements k c)
 case_fine isa k c small is = fine_by (row c.op).form isa k c small refl is.made is
 
-store_linked : (t : Marks) (k : ℕ) (c : ChoiceValue) (p : Place) → IsThere t (Slot k)
+store_linked : (t : Marks) (k : ℕ) (c : ChoiceValue) (p : Location) → IsThere t (Slot k)
     → IsThere t Scratch → AllLinked t (store_case k c) p
 store_linked t k c p slot scratch = (
   scratch,

@@ -12,8 +12,8 @@ use Rattle.rvs_insn.specs.Fields.{Fields}
 use Rattle.rvs_insn.proofs.RoundTrip.{round_trip}
 use Rattle.rvs_machine.specs.Image.{text_base, data_base}
 use Rattle.rvs_machine.specs.Machine.{Setup}
-use Rattle.rvs_asm.specs.declared.place.Place.{Place}
-use Rattle.rvs_asm.specs.Places.{next}
+use Rattle.rvs_asm.specs.declared.location.Location.{Location}
+use Rattle.rvs_asm.specs.Locations.{next}
 use Rattle.rvs_test.specs.declared.statement.Name.{Name}
 use Rattle.rvs_test.specs.declared.statement.Name.TheVariants.{Case as CaseName, Slot}
 use Rattle.rvs_test.specs.declared.statement.Statement.{Statement}
@@ -66,8 +66,8 @@ words_marks r (suc n) ss a m =
     ∙ words_marks (r + 1) n ss (a + 8) m
     ∙ ap (λ x. marks ss (text_at x m)) (let e : a + 8 + 8 * n ≡ a + 8 * suc n = omega arith in e)
 
-plains_marks : (is : List Fields) (ss : List Statement) (p : Place)
-    → ((q : Place) → marks ss q ≡ []) → marks (plains is ++ ss) p ≡ []
+plains_marks : (is : List Fields) (ss : List Statement) (p : Location)
+    → ((q : Location) → marks ss q ≡ []) → marks (plains is ++ ss) p ≡ []
 plains_marks [] ss p h = h p
 plains_marks (i ∷ is) ss p h = plains_marks is ss (next p (line_of (Plain i)).body) h
 
@@ -82,15 +82,15 @@ cross_marks k is a m =
     (λ q. refl))
 
 -- ---- no label twice
-words_distinct : (t : Marks) (r n : ℕ) (ss : List Statement) (p : Place)
-    → ((q : Place) → Distinct t ss q) → Distinct t (load_words r n ++ ss) p
+words_distinct : (t : Marks) (r n : ℕ) (ss : List Statement) (p : Location)
+    → ((q : Location) → Distinct t ss q) → Distinct t (load_words r n ++ ss) p
 words_distinct t r zero ss p h = h p
 words_distinct t r (suc n) ss p h =
     source_distinct t (Some r) (start_word r) (load_words (r + 1) n ++ ss) p
     (λ q. words_distinct t (r + 1) n ss q h)
 
-plains_distinct : (t : Marks) (is : List Fields) (ss : List Statement) (p : Place)
-    → ((q : Place) → Distinct t ss q) → Distinct t (plains is ++ ss) p
+plains_distinct : (t : Marks) (is : List Fields) (ss : List Statement) (p : Location)
+    → ((q : Location) → Distinct t ss q) → Distinct t (plains is ++ ss) p
 plains_distinct t [] ss p h = h p
 plains_distinct t (i ∷ is) ss p h = (
   tt,
@@ -98,7 +98,7 @@ plains_distinct t (i ∷ is) ss p h = (
       (λ q. subst (λ x. Distinct x ss q) (sym (append-nil t)) (h q)),
 )
 
-pub cross_distinct : (n k : ℕ) (is : List Fields) (t : Marks) (p : Place) → k < 2 ^ 32
+pub cross_distinct : (n k : ℕ) (is : List Fields) (t : Marks) (p : Location) → k < 2 ^ 32
     → AllBelow n (k + 1) t → Distinct t (cross_case k is) p
 cross_distinct n k is t p small below =
     let end = save 5 k (first_rd is) (last_rd is) in
@@ -149,19 +149,19 @@ cross_fine isa k is small e sequence =
     )
 
 -- ---- each symbol is there
-words_linked : (t : Marks) (r n : ℕ) (ss : List Statement) (p : Place)
-    → ((q : Place) → AllLinked t ss q) → AllLinked t (load_words r n ++ ss) p
+words_linked : (t : Marks) (r n : ℕ) (ss : List Statement) (p : Location)
+    → ((q : Location) → AllLinked t ss q) → AllLinked t (load_words r n ++ ss) p
 words_linked t r zero ss p h = h p
 words_linked t r (suc n) ss p h =
     source_linked t (Some r) (start_word r) (load_words (r + 1) n ++ ss) p
     (λ q. words_linked t (r + 1) n ss q h)
 
-plains_linked : (t : Marks) (is : List Fields) (ss : List Statement) (p : Place)
-    → ((q : Place) → AllLinked t ss q) → AllLinked t (plains is ++ ss) p
+plains_linked : (t : Marks) (is : List Fields) (ss : List Statement) (p : Location)
+    → ((q : Location) → AllLinked t ss q) → AllLinked t (plains is ++ ss) p
 plains_linked t [] ss p h = h p
 plains_linked t (i ∷ is) ss p h = (tt, plains_linked t is ss (next p (line_of (Plain i)).body) h)
 
-pub cross_linked : (t : Marks) (k : ℕ) (is : List Fields) (p : Place) → IsThere t (Slot k)
+pub cross_linked : (t : Marks) (k : ℕ) (is : List Fields) (p : Location) → IsThere t (Slot k)
     → AllLinked t (cross_case k is) p
 cross_linked t k is p slot =
     let end = save 5 k (first_rd is) (last_rd is) in

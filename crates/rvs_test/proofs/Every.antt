@@ -11,7 +11,7 @@ use Rattle.rvs_insn.specs.Fields.{Fields, insn_of_word}
 use Rattle.rvs_insn.proofs.RoundTrip.{round_trip}
 use Rattle.rvs_machine.specs.Image.{text_base, data_base}
 use Rattle.rvs_machine.specs.Machine.{Setup}
-use Rattle.rvs_asm.specs.declared.place.Place.{Place}
+use Rattle.rvs_asm.specs.declared.location.Location.{Location}
 use Rattle.rvs_solver.specs.Choices.{ChoiceValue, fields_of}
 use Rattle.rvs_test.specs.declared.statement.Name.{Name}
 use Rattle.rvs_test.specs.declared.statement.Name.TheVariants.{Case as CaseName, Slot, Scratch}
@@ -92,7 +92,7 @@ pub case_marks_is : (isa : Isa) (k : ℕ) (c : Solved) (a m : ℕ) → IsMade is
 case_marks_is isa k (One c) a m is = one_marks isa k c a m is
 case_marks_is isa k (Many ps) a m is = cross_marks k ps a m
 
-pub case_distinct : (n k : ℕ) (c : Solved) (t : Marks) (p : Place) → k < 2 ^ 32
+pub case_distinct : (n k : ℕ) (c : Solved) (t : Marks) (p : Location) → k < 2 ^ 32
     → AllBelow n (k + 1) t → Distinct t (case_statements k c) p
 case_distinct n k (One c) t p small below = one_distinct n k c t p small below
 case_distinct n k (Many ps) t p small below = cross_distinct n k ps t p small below

@@ -14,8 +14,8 @@ use Rattle.rvs_insn.specs.Names.{is_admitted}
 use Rattle.rvs_asm_text.specs.Instructions.{in_field}
 use Rattle.rvs_machine.specs.Image.{text_base}
 use Rattle.rvs_asm.specs.declared.mark.Mark.{Mark}
-use Rattle.rvs_asm.specs.declared.place.Place.{Place}
-use Rattle.rvs_asm.specs.Places.{next}
+use Rattle.rvs_asm.specs.declared.location.Location.{Location}
+use Rattle.rvs_asm.specs.Locations.{next}
 use Rattle.rvs_asm.specs.Bytes.{distance, with_imm}
 use Rattle.rvs_test.specs.declared.statement.Name.{Name}
 use Rattle.rvs_test.specs.declared.statement.Name.TheVariants.{Case as CaseName, Target, Done, Slot}
@@ -83,30 +83,30 @@ back_after k m zero a r = ap (λ x. text_at x r) (omega arith)
 back_after k m (suc n) a r = filler_after n (a + 4 + 4) r ∙ ap (λ x. text_at x r) (omega arith)
 
 -- ---- lines without a label
-filler_marks : (n : ℕ) (p : Place) → marks (filler n) p ≡ []
+filler_marks : (n : ℕ) (p : Location) → marks (filler n) p ≡ []
 filler_marks zero p = refl
 filler_marks (suc n) p = refl
 
-skip_marks : (m q : ℕ) (p : Place) → marks (skip m q) p ≡ []
+skip_marks : (m q : ℕ) (p : Location) → marks (skip m q) p ≡ []
 skip_marks m zero p = refl
 skip_marks m (suc n) p = filler_marks n (next p (line_of (Plain (addi m m (pos 2)))).body)
 
-back_marks : (k m q : ℕ) (p : Place) → marks (back_body k m q) p ≡ []
+back_marks : (k m q : ℕ) (p : Location) → marks (back_body k m q) p ≡ []
 back_marks k m zero p = refl
 back_marks k m (suc n) p =
     filler_marks n
     (next (next p (line_of (Plain (addi m m (pos 2)))).body) (line_of (To (jal 0) (Done k))).body)
 
-filler_distinct : (t : Marks) (n : ℕ) (p : Place) → Distinct t (filler n) p
+filler_distinct : (t : Marks) (n : ℕ) (p : Location) → Distinct t (filler n) p
 filler_distinct t zero p = tt
 filler_distinct t (suc n) p = (tt, tt)
 
-skip_distinct : (t : Marks) (m q : ℕ) (p : Place) → Distinct t (skip m q) p
+skip_distinct : (t : Marks) (m q : ℕ) (p : Location) → Distinct t (skip m q) p
 skip_distinct t m zero p = tt
 skip_distinct t m (suc n) p =
     (tt, filler_distinct (t ++ []) n (next p (line_of (Plain (addi m m (pos 2)))).body))
 
-back_distinct : (t : Marks) (k m q : ℕ) (p : Place) → Distinct t (back_body k m q) p
+back_distinct : (t : Marks) (k m q : ℕ) (p : Location) → Distinct t (back_body k m q) p
 back_distinct t k m zero p = (tt, tt)
 back_distinct t k m (suc n) p = (
   tt,
@@ -242,7 +242,7 @@ lacks_more t own name e a =
     let e' : t ≡ t ++ own = sym (append-nil t) ∙ ap (λ l. t ++ l) (sym e) in
     subst (λ l. Lacks l name) e' a
 
-pub frame_distinct : (z : ℤ) (k m p d : ℕ) (j : Fields) (t : Marks) (at : Place) → k < 2 ^ 32
+pub frame_distinct : (z : ℤ) (k m p d : ℕ) (j : Fields) (t : Marks) (at : Location) → k < 2 ^ 32
     → Lacks t (CaseName k) → Lacks t (Target k) → Lacks t (Done k)
     → Distinct t (frame z k m j (save p k m d)) at
 frame_distinct (pos n) k m p d j t at small lc lt ld =
@@ -406,11 +406,11 @@ near_back Jump a b d l e h w =
     fits d h w = grind (arith, nat_tests)
 near_back _ a b d l e h w = absurd l
 
-filler_linked : (t : Marks) (n : ℕ) (p : Place) → AllLinked t (filler n) p
+filler_linked : (t : Marks) (n : ℕ) (p : Location) → AllLinked t (filler n) p
 filler_linked t zero p = tt
 filler_linked t (suc n) p = (tt, tt)
 
-skip_linked : (t : Marks) (m q : ℕ) (p : Place) → AllLinked t (skip m q) p
+skip_linked : (t : Marks) (m q : ℕ) (p : Location) → AllLinked t (skip m q) p
 skip_linked t m zero p = tt
 skip_linked t m (suc n) p =
     (tt, filler_linked t n (next p (line_of (Plain (addi m m (pos 2)))).body))
@@ -426,7 +426,7 @@ FrameThere (negsuc n) t k s =
     × (find_name t (CaseName k) ≡ Some (mark_at (s + 12 + 4 * between (negsuc n))))
     × (find_name t (Done k) ≡ Some (mark_at (s + 16 + 4 * between (negsuc n))))
 
-save_linked : (t : Marks) (p k a b : ℕ) (at : Place) → IsThere t (Slot k)
+save_linked : (t : Marks) (p k a b : ℕ) (at : Location) → IsThere t (Slot k)
     → AllLinked t (save p k a b) at
 save_linked t p k a b at slot = (slot, (slot, (tt, (tt, tt))))
 

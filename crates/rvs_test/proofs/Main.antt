@@ -16,7 +16,7 @@ use Rattle.rvs_base.specs.Digits.{digits_of}
 use Rattle.rvs_base.proofs.Readings.{digits_of-decimal}
 use Rattle.rvs_asm_text.specs.Header.{allowed, steps_number, first_steps, header_steps}
 use Rattle.rvs_asm.specs.Symbols.{Table, find_mark}
-use Rattle.rvs_asm.specs.Places.{Reading, readings, start, labels}
+use Rattle.rvs_asm.specs.Locations.{Reading, readings, start, labels}
 use Rattle.rvs_asm.specs.Bytes.{section}
 use Rattle.rvs_asm.specs.Faults.{first_fault, second_fault, first_missing, needed, is_missing}
 use Rattle.rvs_asm.specs.Answer.{text_readings, image_of, parts_of, Assembles}

@@ -11,8 +11,8 @@ use Rattle.rvs_asm_text.specs.Instructions.{in_field}
 use Rattle.rvs_asm_text.specs.Lines.{read_line}
 use Rattle.rvs_machine.specs.Image.{text_base, data_base}
 use Rattle.rvs_asm.specs.declared.mark.Mark.{Mark}
-use Rattle.rvs_asm.specs.declared.place.Place.{Place}
-use Rattle.rvs_asm.specs.Places.{start}
+use Rattle.rvs_asm.specs.declared.location.Location.{Location}
+use Rattle.rvs_asm.specs.Locations.{start}
 use Rattle.rvs_asm.specs.Bytes.{distance, section}
 use Rattle.rvs_solver.specs.declared.solved.Solved.{Solved}
 use Rattle.rvs_test.specs.declared.statement.Name.{Name}
@@ -59,15 +59,15 @@ clear_fine isa first (suc n) e h =
       clear_fine isa (first + 1) n e (omega arith),
     )
 
-clear_marks : (first n : ℕ) (p : Place) → marks (clear first n) p ≡ []
+clear_marks : (first n : ℕ) (p : Location) → marks (clear first n) p ≡ []
 clear_marks first zero p = refl
 clear_marks first (suc n) p = clear_marks (first + 1) n _
 
-clear_distinct : (t : Marks) (first n : ℕ) (p : Place) → Distinct t (clear first n) p
+clear_distinct : (t : Marks) (first n : ℕ) (p : Location) → Distinct t (clear first n) p
 clear_distinct t first zero p = tt
 clear_distinct t first (suc n) p = (tt, clear_distinct (t ++ []) (first + 1) n _)
 
-clear_linked : (t : Marks) (first n : ℕ) (p : Place) → AllLinked t (clear first n) p
+clear_linked : (t : Marks) (first n : ℕ) (p : Location) → AllLinked t (clear first n) p
 clear_linked t first zero p = tt
 clear_linked t first (suc n) p = (tt, clear_linked t (first + 1) n _)
 
@@ -307,7 +307,7 @@ whole_distinct isa cs e small is =
     below_join n (n + 1) (((t2 ++ []) ++ []) ++ []) []
     (below_join n (n + 1) ((t2 ++ []) ++ []) []
     (below_join n (n + 1) (t2 ++ []) [] (below_join n (n + 1) t2 [] below2 tt) tt) tt) tt in
-    let ends : (q : Place) → Distinct t2 (halt ++ loop) q =
+    let ends : (q : Location) → Distinct t2 (halt ++ loop) q =
     λ q. (
       tt,
       (

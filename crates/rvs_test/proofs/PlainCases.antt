@@ -21,8 +21,8 @@ use Rattle.rvs_machine.proofs.Steps.{Acts, only_writes, written_by, writing_acts
 use Rattle.rvs_machine.proofs.Loads.{same_little, load_size, load_signed, load_value, load_acts}
 use Rattle.rvs_machine.proofs.Loads.{load_is_word, AreBytes, IsAligned}
 use Rattle.rvs_machine.proofs.Results.{HasValue, value_is_word}
-use Rattle.rvs_asm.specs.declared.place.Place.{Place}
-use Rattle.rvs_asm.specs.Places.{next}
+use Rattle.rvs_asm.specs.declared.location.Location.{Location}
+use Rattle.rvs_asm.specs.Locations.{next}
 use Rattle.rvs_asm.specs.Bytes.{high, low}
 use Rattle.rvs_solver.specs.Choices.{ChoiceValue, fields_of}
 use Rattle.rvs_test.specs.declared.statement.Name.{Name}
@@ -87,11 +87,11 @@ plain_marks k c a m =
     (let e : a + source_size c.rs1 + source_size c.rs2 ≡ a + lead (fields_of c) = omega arith in
     e)
 
-pub source_distinct : (t : Marks) (r : Option ℕ) (w : ℕ) (ss : List Statement) (p : Place)
-    → ((q : Place) → Distinct t ss q) → Distinct t (source r w ++ ss) p
+pub source_distinct : (t : Marks) (r : Option ℕ) (w : ℕ) (ss : List Statement) (p : Location)
+    → ((q : Location) → Distinct t ss q) → Distinct t (source r w ++ ss) p
 source_distinct t None w ss p h = h p
 source_distinct t (Some r) w ss p h =
-    let q : Place =
+    let q : Location =
     next (next p (line_of (Plain (lui r (pos (high w))))).body)
     (line_of (Plain (addi r r (low w)))).body in
     (tt, (tt, subst (λ x. Distinct x ss q) (two_nil t) (h q)))
@@ -100,11 +100,11 @@ source_distinct t (Some r) w ss p h =
     two_nil [] = refl
     two_nil (m ∷ ms) = ap (λ l. m ∷ l) (two_nil ms)
 
-pub plain_distinct : (n k : ℕ) (c : ChoiceValue) (t : Marks) (p : Place) → k < 2 ^ 32
+pub plain_distinct : (n k : ℕ) (c : ChoiceValue) (t : Marks) (p : Location) → k < 2 ^ 32
     → AllBelow n (k + 1) t → Distinct t (plain_case k c) p
 plain_distinct n k c t p small below =
     let tail = Label (CaseName k) ∷ Plain (fields_of c) ∷ save (pointer c) k (unwrap_or c.rd 0) 0 in
-    let here : (q : Place) → Distinct t tail q =
+    let here : (q : Location) → Distinct t tail q =
     λ q. (
       (small, lacks_later n (k + 1) t (CaseName k) (omega arith) below),
       (tt, (tt, (tt, (tt, (tt, tt))))),
@@ -212,12 +212,12 @@ plain_fine isa k c small is =
     (fine_word isa c.rs1 c.w1 is.base are.rs1)
     (fine_join isa (source c.rs2 c.w2) tail (fine_word isa c.rs2 c.w2 is.base are.rs2) last)
 
-pub source_linked : (t : Marks) (r : Option ℕ) (w : ℕ) (ss : List Statement) (p : Place)
-    → ((q : Place) → AllLinked t ss q) → AllLinked t (source r w ++ ss) p
+pub source_linked : (t : Marks) (r : Option ℕ) (w : ℕ) (ss : List Statement) (p : Location)
+    → ((q : Location) → AllLinked t ss q) → AllLinked t (source r w ++ ss) p
 source_linked t None w ss p h = h p
 source_linked t (Some r) w ss p h = (tt, (tt, h _))
 
-pub plain_linked : (t : Marks) (k : ℕ) (c : ChoiceValue) (p : Place) → IsThere t (Slot k)
+pub plain_linked : (t : Marks) (k : ℕ) (c : ChoiceValue) (p : Location) → IsThere t (Slot k)
     → AllLinked t (plain_case k c) p
 plain_linked t k c p slot =
     let tail = Label (CaseName k) ∷ Plain (fields_of c) ∷ save (pointer c) k (unwrap_or c.rd 0) 0 in

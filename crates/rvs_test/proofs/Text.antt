@@ -16,7 +16,7 @@ use Rattle.rvs_insn.specs.Word.{AreOf}
 use Rattle.rvs_asm_text.specs.declared.bodies.Body.TheVariants.{Nothing}
 use Rattle.rvs_base.specs.Lines.{onto_first, cut_lines, without_return}
 use Rattle.rvs_asm_text.specs.Text.{lines_of, is_text_byte}
-use Rattle.rvs_asm.specs.Places.{Reading}
+use Rattle.rvs_asm.specs.Locations.{Reading}
 use Rattle.rvs_solver.specs.declared.solved.Solved.{Solved}
 use Rattle.rvs_test.specs.declared.statement.Name.{Name}
 use Rattle.rvs_test.specs.declared.statement.Name.TheVariants.{Start, Scratch, Pattern, ToHost}

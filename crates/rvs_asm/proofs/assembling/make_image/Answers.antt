@@ -8,34 +8,34 @@ use Rattle.rvs_asm.proofs.assembling.make_image.Goals as goal
 use Rattle.rvs_asm.proofs.assembling.make_image.Goals.{After-new}
 
 whole : List ℕ → List ℕ → ℕ → ℕ → ℕ → List Symbol → ImageValue
-whole text ram a b c items = record {
+whole text data_bytes a b c items = record {
   text = text;
-  data_bytes = ram;
+  data_bytes = data_bytes;
   tohost = a;
   sig_begin = b;
   sig_end = c;
   symbols = items;
 }
 
-same_parts : (ss : Table) (text ram : List ℕ) (a b c : ℕ) (items : List Symbol)
+same_parts : (ss : Table) (text data_bytes : List ℕ) (a b c : ℕ) (items : List Symbol)
     → a ≡ address_of ss (codes "tohost") → b ≡ address_of ss (codes "begin_signature")
     → c ≡ address_of ss (codes "end_signature") → items ≡ symbols_of ss
-    → whole text ram a b c items ≡ parts_of ss text ram
+    → whole text data_bytes a b c items ≡ parts_of ss text data_bytes
 unfolding whole
-same_parts ss text ram a b c items p q r s =
-    ap (λ x. whole text ram x b c items) p
-    ∙ ap (λ x. whole text ram (address_of ss (codes "tohost")) x c items) q
-    ∙ ap (λ x. whole text ram (address_of ss (codes "tohost"))
+same_parts ss text data_bytes a b c items p q r s =
+    ap (λ x. whole text data_bytes x b c items) p
+    ∙ ap (λ x. whole text data_bytes (address_of ss (codes "tohost")) x c items) q
+    ∙ ap (λ x. whole text data_bytes (address_of ss (codes "tohost"))
     (address_of ss (codes "begin_signature")) x items) r
-    ∙ ap (λ x. whole text ram (address_of ss (codes "tohost"))
+    ∙ ap (λ x. whole text data_bytes (address_of ss (codes "tohost"))
     (address_of ss (codes "begin_signature")) (address_of ss (codes "end_signature")) x) s
 
 made : (c : After-new)
-    → c.new.result ≡ if_image (parts_of c.args.symbols.now c.args.text c.args.ram)
+    → c.new.result ≡ if_image (parts_of c.args.symbols.now c.args.text c.args.data_bytes)
 unfolding whole
 made c =
     c.new.ensures
-    ∙ ap if_image (same_parts c.args.symbols.now c.args.text c.args.ram
+    ∙ ap if_image (same_parts c.args.symbols.now c.args.text c.args.data_bytes
     c.address_named-tohost.result c.address_named-sig_begin.result
     c.address_named-sig_end.result c.args.items c.address_named-tohost.ensures
     c.address_named-sig_begin.ensures c.address_named-sig_end.ensures c.requires)

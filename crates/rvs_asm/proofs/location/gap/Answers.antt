@@ -1,7 +1,7 @@
 use Rattle.std.proofs.Common.{ℕ, ◌*◌, ◌-◌, ◌%◌, ◌^◌, ◌<◌, ◌≤◌, arith}
 use Rattle.std.proofs.Math.Pow.{pow_mono}
 use Rattle.std.proofs.lemmas.Nat.{pow_pos}
-use Rattle.rvs_asm.proofs.place.gap.Goals as goal
+use Rattle.rvs_asm.proofs.location.gap.Goals as goal
 
 below_unit : (at unit : ℕ) → 0 < unit → unit ≤ 4096 → (unit - at % unit) % unit < 4096
 below_unit at unit p h = omega arith

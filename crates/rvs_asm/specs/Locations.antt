@@ -1,5 +1,6 @@
 -- Where each line stands, and what each symbol marks.
-use Rattle.std.specs.Prelude.{◌≡◌, ◌≤◌, nat_le, ◌&&◌, ℕ, ◌+◌, ◌-◌, ◌*◌, ◌%◌, ◌^◌, Bool, true, false}
+use Rattle.std.specs.Prelude.{◌≡◌, ◌≤◌, nat_le, is_ok, ◌&&◌, ℕ, ◌+◌, ◌-◌, ◌*◌, ◌%◌, ◌^◌, Bool, true}
+use Rattle.std.specs.Prelude.{false}
 use Rattle.std.specs.Prelude.{Option, Some, None, Result, Ok, Err, List, [], ◌∷◌, ◌++◌, length}
 use Rattle.std.specs.Prelude.{if◌then◌else◌}
 use Rattle.rvs_asm_text.specs.declared.bodies.Body.{Body}
@@ -9,7 +10,7 @@ use Rattle.rvs_asm_text.specs.declared.bodies.Line.{Line}
 use Rattle.rvs_asm_text.specs.declared.bodies.LineFault.{LineFault}
 use Rattle.rvs_asm_text.specs.Lines.{read_line}
 use Rattle.rvs_machine.specs.Image.{text_base, data_base, text_limit, data_limit}
-use Rattle.rvs_asm.specs.declared.place.Place.{Place}
+use Rattle.rvs_asm.specs.declared.location.Location.{Location}
 use Rattle.rvs_asm.specs.Symbols.{Table}
 
 -- a line as it was read, or its fault
@@ -51,49 +52,55 @@ size_of at (Values size args) = length args * size
 size_of at (Align power) = padding at (2 ^ power)
 size_of at (Fill n size z) = n * size
 
-abbrev pub start : Place
-start = record { in_text = true; text = 0; ram = 0 }
+abbrev pub start : Location
+start = record { in_text = true; text = 0; data_bytes = 0 }
 
-abbrev pub offset : Place → ℕ
-offset p = if p.in_text then p.text else p.ram
+abbrev pub offset : Location → ℕ
+offset p = if p.in_text then p.text else p.data_bytes
 
-abbrev pub address : Place → ℕ
-address p = if p.in_text then text_base + p.text else data_base + p.ram
+abbrev pub address : Location → ℕ
+address p = if p.in_text then text_base + p.text else data_base + p.data_bytes
 
-abbrev pub moved : Place → ℕ → Place
-moved p n = if p.in_text then record { in_text = true; text = p.text + n; ram = p.ram }
-    else record { in_text = false; text = p.text; ram = p.ram + n }
+abbrev pub moved : Location → ℕ → Location
+moved p n =
+    if p.in_text then record { in_text = true; text = p.text + n; data_bytes = p.data_bytes }
+    else record { in_text = false; text = p.text; data_bytes = p.data_bytes + n }
 
--- the place after a statement
-abbrev pub next : Place → Body → Place
-next p ToText = record { in_text = true; text = p.text; ram = p.ram }
-next p ToData = record { in_text = false; text = p.text; ram = p.ram }
+-- the location after a statement
+abbrev pub next : Location → Body → Location
+next p ToText = record { in_text = true; text = p.text; data_bytes = p.data_bytes }
+next p ToData = record { in_text = false; text = p.text; data_bytes = p.data_bytes }
 next p body = moved p (size_of (offset p) body)
 
-abbrev pub place_after : List Reading → Place → Place
-place_after [] p = p
-place_after (r ∷ rs) p = place_after rs (next p (body_of r))
+abbrev pub location_after : List Reading → Location → Location
+location_after [] p = p
+location_after (r ∷ rs) p = location_after rs (next p (body_of r))
 
 -- what a line's label marks
-abbrev pub own_label : Option (List ℕ) → Place → Table
+abbrev pub own_label : Option (List ℕ) → Location → Table
 own_label None p = []
 own_label (Some name) p = (name, record { at = address p; in_text = p.in_text }) ∷ []
 
--- the symbols of lines from a place on
-abbrev pub labels : List Reading → Place → Table
+-- the symbols of lines from a location on
+abbrev pub labels : List Reading → Location → Table
 labels [] p = []
 labels (r ∷ rs) p = own_label (label_of r) p ++ labels rs (next p (body_of r))
 
 -- the sections keep their lengths
-abbrev pub is_short : Place → Bool
-is_short p = nat_le p.text text_limit && nat_le p.ram data_limit
+abbrev pub is_short : Location → Bool
+is_short p = nat_le p.text text_limit && nat_le p.data_bytes data_limit
 
-pub record IsPlace (p : Place) : Type 0 where
+pub record IsLocation (p : Location) : Type 0 where
   pub text_short : p.text ≤ text_limit
-  pub data_short : p.ram ≤ data_limit
+  pub data_short : p.data_bytes ≤ data_limit
   pub words : p.text % 4 ≡ 0
 
 -- each line leaves its section within its length
-abbrev pub AreShort : Place → List Reading → Type 0
+abbrev pub AreShort : Location → List Reading → Type 0
 AreShort p [] = Unit {0}
-AreShort p (r ∷ rs) = IsPlace (next p (body_of r)) × AreShort (next p (body_of r)) rs
+AreShort p (r ∷ rs) = IsLocation (next p (body_of r)) × AreShort (next p (body_of r)) rs
+
+-- each line can be read
+abbrev pub AreRead : List Reading → Type 0
+AreRead [] = Unit {0}
+AreRead (r ∷ rs) = (is_ok r ≡ true) × AreRead rs
