@@ -5,8 +5,9 @@ use Rattle.rvs_base.specs.Sink.{SinkState}
 use Rattle.rvs_plan.specs.World.{World}
 use Rattle.rvs_plan.specs.Performed.{NeverStops}
 use Rattle.rvs_plan.specs.Meets.{MeetsWith}
-use Rattle.rvs_plan.specs.Account.{Accounts, Concludes, HostRose, NoneRose, Means, Answers}
-use Rattle.rvs_plan.proofs.Answering.{Answers-of, Accounts-means, Means-never_stops, Obeys-meets}
+use Rattle.rvs_plan.specs.Account.{Accounts, Concludes, HostRose, NoneRose, Means}
+use Rattle.rvs_plan.proofs.Answering.{Answers, Answers-of, Accounts-means, Means-never_stops}
+use Rattle.rvs_plan.proofs.Answering.{Obeys-meets}
 use Rattle.rvs_plan.proofs.Answering.{Obeys-usage, Obeys-no_memory, Meets-not_usage, usage-status}
 use Rattle.rvs_plan.proofs.Answering.{memory-status, status-usage}
 use Rattle.rvs_plan.specs.declared.stop.Stop.{Stop}
