@@ -29,8 +29,9 @@ use Rattle.rvs_cgf.specs.declared.group.Kind.TheVariants as kind
 use Rattle.rvs_cgf.specs.declared.refusal.CgfKind.TheVariants as fault
 use Rattle.rvs_cgf.proofs.Distinct.{and-left, and-right}
 use Rattle.rvs_cgf.proofs.Validity.{front-distinct}
-use Rattle.rvs_cgf.proofs.BlocksRead.{if-yes, if-no, holds-yes, bind-yes, sort_of, ReadsAll}
-use Rattle.rvs_cgf.proofs.BlocksRead.{taken-at, block-read, entries-read, points_in, AllRead}
+use Rattle.rvs_cgf.proofs.PointsRead.{if-yes, if-no, holds-yes, bind-yes, sort_of, ReadsAll}
+use Rattle.rvs_cgf.proofs.PointsRead.{taken-at, block-read, entries-read}
+use Rattle.rvs_cgf.proofs.BlocksRead.{points_in, AllRead}
 use Rattle.rvs_cgf.proofs.BlocksRead.{blocks-points, blocks-meant, blocks-read, main_in, under-yes}
 use Rattle.rvs_cgf.proofs.BlocksRead.{under-no, under-none, cases, under-short, reads-under}
 use Rattle.rvs_cgf.proofs.BlocksRead.{under-distinct, others-apart, rest-apart, ops_under}

@@ -39,7 +39,8 @@ use Rattle.rvs_cgf.proofs.Validity.{good_role, role-good, mnemonic-kept, Mains, 
 use Rattle.rvs_cgf.proofs.Validity.{same-bytes, ops-append, label-valid}
 use Rattle.rvs_cgf.proofs.Adding.{ok-is, err-not, if-ok, bind-ok, holds-then, Kept, IsOf, kind_of}
 use Rattle.rvs_cgf.proofs.Adding.{entry-kept, entries-kept, passed-kept}
-use Rattle.rvs_cgf.proofs.BlocksRead.{op-none, kind-is, cases, not-is}
+use Rattle.rvs_cgf.proofs.BlocksRead.{op-none, kind-is, cases}
+use Rattle.rvs_cgf.proofs.PointsRead.{not-is}
 use Rattle.rvs_cgf.proofs.Together.{has_kind, all_of, together, same-self, turned, or-cases}
 use Rattle.rvs_cgf.proofs.Together.{both-ways, others-none, together-append, together-apart}
 

@@ -9,7 +9,8 @@ use Rattle.rvs_cgf.specs.Spelled.{Block, block, joined, blocks, kinds_are_apart}
 use Rattle.rvs_cgf.specs.declared.group.Kind.{Kind}
 use Rattle.rvs_cgf.specs.declared.group.Kind.TheVariants as kind
 use Rattle.rvs_cgf.proofs.Distinct.{and-left, and-right, and-is, or-left, or-right, or-fails}
-use Rattle.rvs_cgf.proofs.BlocksRead.{kind-is, not-is}
+use Rattle.rvs_cgf.proofs.BlocksRead.{kind-is}
+use Rattle.rvs_cgf.proofs.PointsRead.{not-is}
 
 -- ---- points of a kind
 abbrev pub has_kind : Kind → List Point → Bool

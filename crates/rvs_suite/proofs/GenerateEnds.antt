@@ -18,9 +18,9 @@ use Rattle.rvs_cgf.specs.Valid.{IsValid, IsValidIfSelected}
 use Rattle.rvs_cgf.proofs.Validity.{groups_good}
 use Rattle.rvs_solver.specs.Solving.{IsSolvableAt}
 use Rattle.rvs_solver.specs.declared.solved.Solved.{Solved}
-use Rattle.rvs_test.specs.declared.made.Claim.{Claim}
+use Rattle.rvs_test_text.specs.declared.claim.Claim.{Claim}
 use Rattle.rvs_test.specs.Made.{claims_of, cases_of, named_at, text_for, text_of_label}
-use Rattle.rvs_test.specs.TestText.{step_limit, test_text}
+use Rattle.rvs_test_text.specs.TestText.{step_limit, test_text}
 use Rattle.rvs_test.specs.Claimed.{TestRuns}
 use Rattle.rvs_test.specs.Named.{claims_read, named_claim}
 use Rattle.rvs_test.proofs.ReadBack.{back_there}

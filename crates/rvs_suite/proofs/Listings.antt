@@ -5,7 +5,7 @@ use Rattle.rvs_cgf.specs.GroupView.{point_view, skipped_view}
 use Rattle.rvs_cgf.specs.declared.group.Point.{Point}
 use Rattle.rvs_cgf.specs.declared.group.Skipped.{Skipped}
 use Rattle.rvs_count.specs.Report.{skipped_line}
-use Rattle.rvs_test.specs.declared.made.Claim.{Claim}
+use Rattle.rvs_test_text.specs.declared.claim.Claim.{Claim}
 use Rattle.rvs_suite.specs.GenerateTexts.{point_line, case_at, claims_after, point_lines}
 
 drop-at : {A : Type 0} (xs : List A) (i : ℕ) (d : A) → i < length xs

@@ -6,7 +6,7 @@ use Rattle.rvs_base.specs.declared.memory_refusal.NoMemory.{NoMemory}
 use Rattle.rvs_insn.specs.Isa.{Isa}
 use Rattle.rvs_asm.proofs.Stands.{image_answered}
 use Rattle.rvs_cgf.specs.Groups.{Label}
-use Rattle.rvs_test.specs.declared.made.Claim.{Claim}
+use Rattle.rvs_test_text.specs.declared.claim.Claim.{Claim}
 use Rattle.rvs_test.specs.Claimed.{TestRuns}
 use Rattle.rvs_machine.specs.Image.{ImageValue}
 use Rattle.rvs_machine.specs.Machine.{Setup, Whole, started, signature_of}
@@ -14,7 +14,7 @@ use Rattle.rvs_machine.specs.Run.{Outcome, run_of, HasRun}
 use Rattle.rvs_machine.specs.declared.event.Executed.{Executed}
 use Rattle.rvs_machine.specs.declared.event.End.TheVariants.{Halted}
 use Rattle.rvs_asm.specs.Answer.{answer}
-use Rattle.rvs_test.specs.Claim.{words_after}
+use Rattle.rvs_test_text.specs.Claim.{words_after}
 use Rattle.rvs_suite.specs.Tests.{IsRunnable, test_with, run_on, words_of_image, reference_words}
 use Rattle.rvs_suite.specs.declared.gathering.Test.{Test}
 

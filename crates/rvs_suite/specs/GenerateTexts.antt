@@ -7,9 +7,9 @@ use Rattle.rvs_insn.specs.Isa.{Isa}
 use Rattle.rvs_cgf.specs.Groups.{Label, Point}
 use Rattle.rvs_cgf.specs.Print.{kind_name}
 use Rattle.rvs_count.specs.Report.{skipped_line}
-use Rattle.rvs_test.specs.declared.made.Claim.{Claim}
+use Rattle.rvs_test_text.specs.declared.claim.Claim.{Claim}
 use Rattle.rvs_test.specs.Made.{claims_of, unsolved_of, cases_of, text_of_label}
-use Rattle.rvs_test.specs.TestText.{step_limit}
+use Rattle.rvs_test_text.specs.TestText.{step_limit}
 
 -- a point that a case hits
 abbrev pub case_line : ℕ → Point → List ℕ

@@ -4,7 +4,7 @@ use Rattle.rvs_insn.specs.Isa.{Isa}
 use Rattle.rvs_cgf.specs.Groups.{Label}
 use Rattle.rvs_test.specs.declared.made.Made.{Made}
 use Rattle.rvs_test.specs.Made.{claims_of, unsolved_of, cases_of, text_of_label}
-use Rattle.rvs_test.specs.TestText.{step_limit}
+use Rattle.rvs_test_text.specs.TestText.{step_limit}
 use Rattle.rvs_suite.specs.GenerateTexts.{Totals}
 use Rattle.rvs_suite.specs.declared.listing.Totals.{Totals as Code}
 

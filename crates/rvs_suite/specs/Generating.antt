@@ -8,7 +8,7 @@ use Rattle.rvs_insn.specs.Isa.{Isa}
 use Rattle.rvs_cgf.specs.Groups.{Label, Point}
 use Rattle.rvs_solver.specs.Solving.{IsSolvableAt}
 use Rattle.rvs_test.specs.Made.{claims_of, unsolved_of, cases_of, text_of_label}
-use Rattle.rvs_test.specs.TestText.{step_limit}
+use Rattle.rvs_test_text.specs.TestText.{step_limit}
 use Rattle.rvs_test.specs.Named.{claims_read, named_claim}
 use Rattle.rvs_test.specs.Claimed.{TestRuns, IsAccounted}
 use Rattle.rvs_suite.specs.Answered.{Answered}

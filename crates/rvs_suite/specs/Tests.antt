@@ -10,9 +10,9 @@ use Rattle.rvs_machine.specs.declared.event.End.TheVariants.{Halted}
 use Rattle.rvs_asm.specs.Answer.{answer}
 use Rattle.rvs_asm.specs.declared.refusal.AsmRefusal.{AsmRefusal}
 use Rattle.rvs_cgf.specs.Groups.{Label}
-use Rattle.rvs_test.specs.Claim.{words_after}
+use Rattle.rvs_test_text.specs.Claim.{words_after}
 use Rattle.rvs_test.specs.Made.{cases_of, text_of_label}
-use Rattle.rvs_test.specs.TestText.{step_limit}
+use Rattle.rvs_test_text.specs.TestText.{step_limit}
 use Rattle.rvs_suite.specs.declared.gathering.Test.{Test}
 
 abbrev pub test_with : List ℕ → ℕ → Option (List ℕ) → List Test

@@ -17,20 +17,21 @@ use Rattle.rvs_solver.specs.declared.solved.Solved.{Solved}
 use Rattle.rvs_solver.specs.declared.solved.Solved.TheVariants.{One, Many}
 use Rattle.rvs_solver.proofs.Search.{Each}
 use Rattle.rvs_solver.proofs.Operands.{all_from_each}
-use Rattle.rvs_test.specs.declared.statement.Statement.{Statement}
-use Rattle.rvs_test.specs.declared.statement.Statement.TheVariants.{Label, Plain, To}
-use Rattle.rvs_test.specs.Statements.{printed, IsLinked, IsPrinted}
-use Rattle.rvs_test.specs.TestText.{Point as Named, claim_lines, front, header, step_limit}
-use Rattle.rvs_test.specs.TestText.{test_text, ended, text_of, case_statements, begin, clear}
-use Rattle.rvs_test.specs.TestText.{last_register, cases, halt, loop, code_part, fixed_data, slots}
-use Rattle.rvs_test.specs.TestText.{data_part, claim_line, line_of_claim, last_rd}
-use Rattle.rvs_test.specs.declared.statement.Name.TheVariants.{EndSignature}
-use Rattle.rvs_test.specs.declared.made.Claim.{Claim}
+use Rattle.rvs_test_text.specs.declared.statement.Statement.{Statement}
+use Rattle.rvs_test_text.specs.declared.statement.Statement.TheVariants.{Label, Plain, To}
+use Rattle.rvs_test_text.specs.Statements.{printed, IsLinked, IsPrinted}
+use Rattle.rvs_test_text.specs.TestText.{Point as Named, claim_lines, front, header, step_limit}
+use Rattle.rvs_test_text.specs.TestText.{test_text, ended, text_of, case_statements, begin, clear}
+use Rattle.rvs_test_text.specs.TestText.{last_register, cases, halt, loop, code_part, fixed_data}
+use Rattle.rvs_test_text.specs.TestText.{slots}
+use Rattle.rvs_test_text.specs.TestText.{data_part, claim_line, line_of_claim, last_rd}
+use Rattle.rvs_test_text.specs.declared.statement.Name.TheVariants.{EndSignature}
+use Rattle.rvs_test_text.specs.declared.claim.Claim.{Claim}
 use Rattle.rvs_test.specs.Made.{named, named_or_none, named_at}
-use Rattle.rvs_test.specs.Claim.{IsReady, AreReady}
-use Rattle.rvs_test.proofs.KindLaws.{LinkedFormat}
-use Rattle.rvs_test.proofs.Assembled.{IsFine, AllFine}
-use Rattle.rvs_test.proofs.Every.{IsMade, case_fine}
+use Rattle.rvs_test_text.specs.Claim.{IsReady, AreReady}
+use Rattle.rvs_test_text.proofs.KindLaws.{LinkedFormat}
+use Rattle.rvs_test_text.proofs.Passes.{IsFine, AllFine}
+use Rattle.rvs_test_text.proofs.Every.{IsMade, case_fine}
 use Rattle.rvs_test.proofs.Printed.{ended_join, text_none, text_join}
 use Rattle.rvs_test.proofs.Loops.{last_is, lines_more}
 

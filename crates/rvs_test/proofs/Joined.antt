@@ -46,16 +46,16 @@ use Rattle.rvs_solver.proofs.Product.{each_append, each_flat, each_map, each_any
 use Rattle.rvs_solver.proofs.Operands.{all_from_each}
 use Rattle.rvs_solver.proofs.OneWord.{found_hits, found_each}
 use Rattle.rvs_solver.proofs.Answer.{nothing_hits}
-use Rattle.rvs_test.specs.declared.made.Claim.{Claim}
-use Rattle.rvs_test.specs.TestText.{step_limit, test_text}
-use Rattle.rvs_test.specs.Claim.{IsOnly, insns_of, IsHit, AreHit, IsTest}
+use Rattle.rvs_test_text.specs.declared.claim.Claim.{Claim}
+use Rattle.rvs_test_text.specs.TestText.{step_limit, test_text}
+use Rattle.rvs_test_text.specs.Claim.{IsOnly, insns_of, IsHit, AreHit, IsTest}
 use Rattle.rvs_test.specs.Made.{places, is_solved, solved_among, cases_among, numbered, claims_of}
 use Rattle.rvs_test.specs.Made.{unsolved_of, cases_of, named_at}
 use Rattle.rvs_test.specs.Claimed.{HitsAlone, HitsTogether, HitsAs, words_of_case, IsClaimed}
 use Rattle.rvs_test.specs.Claimed.{TestRuns, IsAccounted}
 use Rattle.rvs_test.proofs.Solvings.{IsFirst, IsFirstWindow, first_is, cases_ready, cases_few}
 use Rattle.rvs_test.proofs.Solvings.{claims_same, name_text, points_text}
-use Rattle.rvs_test.proofs.Main.{tests_run, steps_high}
+use Rattle.rvs_test_text.proofs.Main.{tests_run, steps_high}
 
 -- ---- a choice has a mnemonic of the label
 

@@ -12,18 +12,18 @@ use Rattle.rvs_insn.specs.Isa.{Isa}
 use Rattle.rvs_cgf.specs.Groups.{Label}
 use Rattle.rvs_solver.specs.declared.solved.Solved.{Solved}
 use Rattle.rvs_solver.specs.Solving.{first_at}
-use Rattle.rvs_test.specs.declared.made.Claim.{Claim}
-use Rattle.rvs_test.specs.declared.statement.Statement.{Statement}
-use Rattle.rvs_test.specs.Statements.{printed, addi}
-use Rattle.rvs_test.specs.TestText.{helpers, load_word, load_words, start_word, clear, cases}
-use Rattle.rvs_test.specs.TestText.{case_statements, slots, last_rd, ended, text_of, all_steps}
-use Rattle.rvs_test.specs.TestText.{case_steps}
+use Rattle.rvs_test_text.specs.declared.claim.Claim.{Claim}
+use Rattle.rvs_test_text.specs.declared.statement.Statement.{Statement}
+use Rattle.rvs_test_text.specs.Statements.{printed, addi}
+use Rattle.rvs_test_text.specs.TestText.{helpers, load_word, load_words, start_word, clear, cases}
+use Rattle.rvs_test_text.specs.TestText.{case_statements, slots, last_rd, ended, text_of, all_steps}
+use Rattle.rvs_test_text.specs.TestText.{case_steps}
 use Rattle.rvs_test.specs.Made.{is_solved, solved_among, unsolved_among, cases_among, numbered}
 use Rattle.rvs_test.specs.Found.{FoundValue, found_before, nothing_found, with_one}
-use Rattle.rvs_test.specs.declared.statement.Name.TheVariants.{Slot}
-use Rattle.rvs_test.specs.declared.statement.Fixed.TheVariants.{Unset}
-use Rattle.rvs_test.specs.declared.statement.Statement.TheVariants.{Label as LabelLine, Plain}
-use Rattle.rvs_test.specs.declared.statement.Statement.TheVariants.{Fixed as FixedLine}
+use Rattle.rvs_test_text.specs.declared.statement.Name.TheVariants.{Slot}
+use Rattle.rvs_test_text.specs.declared.statement.Fixed.TheVariants.{Unset}
+use Rattle.rvs_test_text.specs.declared.statement.Statement.TheVariants.{Label as LabelLine, Plain}
+use Rattle.rvs_test_text.specs.declared.statement.Statement.TheVariants.{Fixed as FixedLine}
 use Rattle.rvs_test.proofs.Printed.{ended_join, text_join, text_one}
 
 -- ---- what was found, by its parts

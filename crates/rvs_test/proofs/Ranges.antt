@@ -21,8 +21,8 @@ use Rattle.rvs_solver.specs.Datasets.{upper_numbers, shifts, aligned, address}
 use Rattle.rvs_solver.specs.Choices.{Registers, registers, is_zero}
 use Rattle.rvs_solver.proofs.Search.{Each}
 use Rattle.rvs_solver.proofs.Product.{all_of, each_of, each_append, each_flat, each_map, each_any}
-use Rattle.rvs_test.specs.Sound.{access_size, IsNearby}
-use Rattle.rvs_test.proofs.Chars.{both}
+use Rattle.rvs_test_text.specs.Sound.{access_size, IsNearby}
+use Rattle.rvs_test_text.proofs.Chars.{both}
 
 -- ---- registers
 

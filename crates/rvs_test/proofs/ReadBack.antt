@@ -18,27 +18,28 @@ use Rattle.rvs_cgf.specs.Valid.{IsValid}
 use Rattle.rvs_cgf.specs.declared.group.Kind.{Kind}
 use Rattle.rvs_cgf.specs.declared.group.Kind.TheVariants.{Mnemonic}
 use Rattle.rvs_solver.specs.declared.solved.Solved.{Solved}
-use Rattle.rvs_test.specs.declared.made.Claim.{Claim}
-use Rattle.rvs_test.specs.declared.statement.Name.{Name}
-use Rattle.rvs_test.specs.declared.statement.Name.TheVariants.{Start}
-use Rattle.rvs_test.specs.declared.statement.Fixed.{Fixed}
-use Rattle.rvs_test.specs.declared.statement.Fixed.TheVariants.{NoRvc}
-use Rattle.rvs_test.specs.declared.statement.Statement.{Statement}
-use Rattle.rvs_test.specs.declared.statement.Statement.TheVariants.{Label as LabelLine, Plain, High}
-use Rattle.rvs_test.specs.declared.statement.Statement.TheVariants.{Low, To, Nops}
-use Rattle.rvs_test.specs.declared.statement.Statement.TheVariants.{Fixed as FixedLine}
-use Rattle.rvs_test.specs.Statements.{name_of, written, operands_of, fixed_text, printed}
-use Rattle.rvs_test.specs.TestText.{Point, claim_lines, header, step_limit, test_text}
+use Rattle.rvs_test_text.specs.declared.claim.Claim.{Claim}
+use Rattle.rvs_test_text.specs.declared.statement.Name.{Name}
+use Rattle.rvs_test_text.specs.declared.statement.Name.TheVariants.{Start}
+use Rattle.rvs_test_text.specs.declared.statement.Fixed.{Fixed}
+use Rattle.rvs_test_text.specs.declared.statement.Fixed.TheVariants.{NoRvc}
+use Rattle.rvs_test_text.specs.declared.statement.Statement.{Statement}
+use Rattle.rvs_test_text.specs.declared.statement.Statement.TheVariants.{Label as LabelLine, Plain}
+use Rattle.rvs_test_text.specs.declared.statement.Statement.TheVariants.{High}
+use Rattle.rvs_test_text.specs.declared.statement.Statement.TheVariants.{Low, To, Nops}
+use Rattle.rvs_test_text.specs.declared.statement.Statement.TheVariants.{Fixed as FixedLine}
+use Rattle.rvs_test_text.specs.Statements.{name_of, written, operands_of, fixed_text, printed}
+use Rattle.rvs_test_text.specs.TestText.{Point, claim_lines, header, step_limit, test_text}
 use Rattle.rvs_test.specs.Made.{places, solved_among, numbered, claims_of, cases_of, named_or_none}
 use Rattle.rvs_test.specs.Made.{named_at}
 use Rattle.rvs_test.specs.Named.{Named, point_read, claim_read, behind_front, all_read, claims_read}
 use Rattle.rvs_test.specs.Named.{named_claim}
-use Rattle.rvs_test.proofs.Chars.{All, tested, is_clean}
-use Rattle.rvs_test.proofs.Digits.{decimal_spells, digit_words}
+use Rattle.rvs_test_text.proofs.Chars.{All, tested, is_clean}
+use Rattle.rvs_test_text.proofs.Digits.{decimal_spells, digit_words}
 use Rattle.rvs_test.proofs.Loops.{numbered_length}
 use Rattle.rvs_test.proofs.Solvings.{cases_few, claims_same}
-use Rattle.rvs_test.proofs.Parts.{whole}
-use Rattle.rvs_test.proofs.Main.{text_cut}
+use Rattle.rvs_test_text.proofs.TestNames.{whole}
+use Rattle.rvs_test_text.proofs.Main.{text_cut}
 use Rattle.rvs_test.proofs.Joined.{label_test}
 
 -- ---- a line of a claim

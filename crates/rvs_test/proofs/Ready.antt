@@ -26,9 +26,10 @@ use Rattle.rvs_solver.specs.First.{all_choices, first_choice}
 use Rattle.rvs_solver.proofs.Search.{Each}
 use Rattle.rvs_solver.proofs.Product.{each_append, each_flat, each_map}
 use Rattle.rvs_solver.proofs.OneWord.{found_each, one_word_each}
-use Rattle.rvs_test.specs.Sound.{IsWordOf, AreSame, has_case, ReadsPattern, WritesScratch, IsNearby}
-use Rattle.rvs_test.specs.Sound.{Accesses, IsSound}
-use Rattle.rvs_test.proofs.Chars.{both}
+use Rattle.rvs_test_text.specs.Sound.{IsWordOf, AreSame, has_case, ReadsPattern, WritesScratch}
+use Rattle.rvs_test_text.specs.Sound.{IsNearby}
+use Rattle.rvs_test_text.specs.Sound.{Accesses, IsSound}
+use Rattle.rvs_test_text.proofs.Chars.{both}
 use Rattle.rvs_test.proofs.Ranges.{has_rd, has_rs1, has_rs2, is_base, IsField, AreRegisters}
 use Rattle.rvs_test.proofs.Ranges.{registers_are, words_are, short_are, upper_are, shifts_are}
 use Rattle.rvs_test.proofs.Ranges.{IsDistance, distances_are, IsAlignment, alignments_are}

@@ -24,7 +24,7 @@ use Rattle.rvs_cgf.specs.declared.group.Kind.TheVariants as kind
 use Rattle.rvs_solver.proofs.Search.{Each}
 use Rattle.rvs_solver.proofs.Product.{each_flat, each_map}
 use Rattle.rvs_solver.proofs.Operands.{each_then}
-use Rattle.rvs_test.specs.Sound.{computes, IsMiddle, IsComputing, AllComputing, IsSequence}
+use Rattle.rvs_test_text.specs.Sound.{computes, IsMiddle, IsComputing, AllComputing, IsSequence}
 
 -- ---- the instructions of a mnemonic
 

@@ -27,12 +27,12 @@ use Rattle.rvs_solver.specs.First.{first_choice}
 use Rattle.rvs_solver.specs.Solving.{IsSingle, first_meant, first_of_point, first_at}
 use Rattle.rvs_solver.specs.declared.solved.Solved.{Solved}
 use Rattle.rvs_solver.specs.declared.solved.Solved.TheVariants.{One, Many}
-use Rattle.rvs_test.specs.declared.made.Claim.{Claim}
-use Rattle.rvs_test.specs.TestText.{Point, claim_lines, line_of_claim}
-use Rattle.rvs_test.specs.Claim.{IsReady, AreReady, ArePrintable}
+use Rattle.rvs_test_text.specs.declared.claim.Claim.{Claim}
+use Rattle.rvs_test_text.specs.TestText.{Point, claim_lines, line_of_claim}
+use Rattle.rvs_test_text.specs.Claim.{IsReady, AreReady, ArePrintable}
 use Rattle.rvs_test.specs.Made.{places, is_solved, solved_among, cases_among, numbered, claims_of}
 use Rattle.rvs_test.specs.Made.{cases_of, named_or_none, named_at}
-use Rattle.rvs_test.proofs.Chars.{all_map, both, tested, untested}
+use Rattle.rvs_test_text.proofs.Chars.{all_map, both, tested, untested}
 use Rattle.rvs_test.proofs.Ready.{first_ready}
 use Rattle.rvs_test.proofs.Sequences.{places_few, sequence_ready}
 use Rattle.rvs_solver.proofs.Search.{Each}

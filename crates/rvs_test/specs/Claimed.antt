@@ -16,12 +16,12 @@ use Rattle.rvs_cross.specs.Windows.{matches}
 use Rattle.rvs_cgf.specs.Groups.{Meaning, window, Point, Label}
 use Rattle.rvs_cgf.specs.Hits.{hits}
 use Rattle.rvs_solver.specs.Solving.{IsSolvableAt}
-use Rattle.rvs_test.specs.declared.made.Claim.{Claim}
-use Rattle.rvs_test.specs.declared.statement.Name.TheVariants.{Case}
-use Rattle.rvs_test.specs.Statements.{name_of}
-use Rattle.rvs_test.specs.TestText.{first_rd, last_rd}
-use Rattle.rvs_test.specs.Claim.{symbol_address, IsOnly, outcome_at, last_word, words_after}
-use Rattle.rvs_test.specs.Claim.{insns_of}
+use Rattle.rvs_test_text.specs.declared.claim.Claim.{Claim}
+use Rattle.rvs_test_text.specs.declared.statement.Name.TheVariants.{Case}
+use Rattle.rvs_test_text.specs.Statements.{name_of}
+use Rattle.rvs_test_text.specs.TestText.{first_rd, last_rd}
+use Rattle.rvs_test_text.specs.Claim.{symbol_address, IsOnly, outcome_at, last_word, words_after}
+use Rattle.rvs_test_text.specs.Claim.{insns_of}
 
 -- one instruction alone hits the point, and the outcome is that of its format
 pub record HitsAlone (l : Label) (p : Point) (e : Executed) (more : List Executed)

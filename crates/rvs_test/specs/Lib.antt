@@ -1,7 +1,3 @@
-pub mod Sound
-pub mod Statements
-pub mod TestText
-pub mod Claim
 pub mod Made
 pub mod Found
 pub mod Claimed

@@ -8,8 +8,8 @@ use Rattle.rvs_cgf.specs.Groups as groups
 use Rattle.rvs_cgf.specs.Groups.{Label}
 use Rattle.rvs_solver.specs.declared.solved.Solved.{Solved}
 use Rattle.rvs_solver.specs.Solving.{first_at}
-use Rattle.rvs_test.specs.declared.made.Claim.{Claim}
-use Rattle.rvs_test.specs.TestText.{Point, test_text}
+use Rattle.rvs_test_text.specs.declared.claim.Claim.{Claim}
+use Rattle.rvs_test_text.specs.TestText.{Point, test_text}
 
 -- the points of a label, by their places
 abbrev pub places : Label → List ℕ

@@ -7,7 +7,7 @@ use Rattle.rvs_base.specs.Lines.{before, after}
 use Rattle.rvs_asm_text.specs.Text.{lines_of}
 use Rattle.rvs_asm_text.specs.Header.{after_front}
 use Rattle.rvs_cgf.specs.Groups.{Label}
-use Rattle.rvs_test.specs.declared.made.Claim.{Claim}
+use Rattle.rvs_test_text.specs.declared.claim.Claim.{Claim}
 use Rattle.rvs_test.specs.Made.{named_at}
 
 -- a case, and the kind and the key of the point that it is to hit

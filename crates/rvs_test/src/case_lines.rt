@@ -2,16 +2,16 @@
 ghost use Rattle.std.specs.Prelude.{◌≡◌, ◌<◌, ◌≤◌, ◌++◌, ◌∷◌, [], IfOk, OnOk, pos, unwrap_or};
 ghost use Rattle.rvs_insn.specs.Fields.{IsRegister};
 ghost use Rattle.rvs_solver.specs.Choices.{fields_of};
-ghost use Rattle.rvs_test.specs.TestText as spec;
+ghost use Rattle.rvs_test_text.specs.TestText as spec;
 
 use crate::frame_lines::{add_frame, unlinked};
 use crate::shorthands::{
     addi, copy_word, load_address, load_word, marker, number, pointer, save, sw,
 };
-use crate::statement::{Name, Statement};
 use rvs_base::NoMemory;
 use rvs_insn::{Format, Insn, format};
 use rvs_solver::{Choice, Solved};
+use rvs_test_text::{Name, Statement};
 use std::alloc::Global;
 
 /// A source register gets its word.

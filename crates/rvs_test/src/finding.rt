@@ -9,12 +9,12 @@ ghost use Rattle.rvs_test.specs.Made.{places, claims_of, unsolved_of, cases_of};
 ghost use Rattle.rvs_test.specs.Found.{FoundValue, found_view, found_before, nothing_found};
 ghost use Rattle.rvs_test.specs.Found.{with_one};
 
-use crate::made::Claim;
 use rvs_base::{Items, NoMemory};
 use rvs_cgf::Label;
 use rvs_expr::Steps;
 use rvs_insn::IsaSpec;
 use rvs_solver::{Solved, solve};
+use rvs_test_text::Claim;
 use std::alloc::Global;
 use std::sync::ledger::Ledger;
 

@@ -1,12 +1,12 @@
 // The frame of a jump, as statements.
 ghost use Rattle.std.specs.Prelude.{◌≡◌, ◌<◌, ◌++◌, [], OnOk, Some, pos};
-ghost use Rattle.rvs_test.specs.TestText as spec;
+ghost use Rattle.rvs_test_text.specs.TestText as spec;
 
 use crate::shorthands::{addi, jal};
-use crate::statement::{Name, Statement};
 use rvs_base::NoMemory;
 use rvs_insn::Insn;
 use rvs_solver::Choice;
+use rvs_test_text::{Name, Statement};
 
 /// The jump of a case before it is linked.
 pub(crate) fn unlinked(choice: &Choice) -> Insn

@@ -1,14 +1,6 @@
 // What the generator makes of a label.
 use rvs_base::{Items, Text};
-
-/// That a case hits a point.
-#[derive(Debug, Clone, Copy, PartialEq, Eq)]
-pub struct Claim {
-    /// The number of the case, from 0.
-    pub case: usize,
-    /// The place of the point in the label.
-    pub point: usize,
-}
+use rvs_test_text::Claim;
 
 /// The test of a label.
 #[derive(Debug, Drop)]

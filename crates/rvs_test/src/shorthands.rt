@@ -2,12 +2,12 @@
 ghost use Rattle.std.specs.Prelude.{◌≡◌, ◌<◌, ◌+◌, not, find, pos, unwrap_or, Some, None};
 ghost use Rattle.rvs_insn.specs.Fields.{IsRegister};
 ghost use Rattle.rvs_asm.specs.Bytes.{high, low};
-ghost use Rattle.rvs_test.specs.Statements.{lui, addi};
-ghost use Rattle.rvs_test.specs.TestText as spec;
+ghost use Rattle.rvs_test_text.specs.Statements.{lui, addi};
+ghost use Rattle.rvs_test_text.specs.TestText as spec;
 
-use crate::statement::{Name, Statement};
 use rvs_insn::{Insn, Op};
 use rvs_solver::Choice;
+use rvs_test_text::{Name, Statement};
 
 fn lui(rd: u8, imm: i32) -> Insn
     requires { rd < 32 }

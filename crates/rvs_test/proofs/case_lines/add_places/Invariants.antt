@@ -1,5 +1,5 @@
 use Rattle.std.proofs.Common.{◌≡◌, ◌++◌, take}
-use Rattle.rvs_test.specs.TestText.{plains}
+use Rattle.rvs_test_text.specs.TestText.{plains}
 use Rattle.rvs_test.proofs.case_lines.add_places.Given as goal
 
 abbrev pub invariant-loop-place : goal.invariant-loop-place

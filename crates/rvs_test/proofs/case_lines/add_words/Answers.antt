@@ -1,5 +1,5 @@
 use Rattle.std.proofs.Common.{◌++◌, ◌∙◌, sym, ap}
-use Rattle.rvs_test.specs.TestText.{load_words}
+use Rattle.rvs_test_text.specs.TestText.{load_words}
 use Rattle.rvs_test.proofs.Grows.{list_grows}
 use Rattle.rvs_test.proofs.Loops.{words_more}
 use Rattle.rvs_test.proofs.case_lines.add_words.Goals as goal

@@ -1,5 +1,5 @@
 use Rattle.std.proofs.Common.{◌≡◌, ◌++◌}
-use Rattle.rvs_test.specs.TestText.{load_words}
+use Rattle.rvs_test_text.specs.TestText.{load_words}
 use Rattle.rvs_test.proofs.case_lines.add_words.Given as goal
 
 abbrev pub invariant-loop-n : goal.invariant-loop-n

@@ -2,7 +2,7 @@ use Rattle.std.proofs.Common.{◌≤◌, ◌<◌, ◌∙◌, ℕ, List, length, 
 use Rattle.std.specs.Prelude.{Contains}
 use Rattle.rvs_cgf.specs.GroupView.{label_view}
 use Rattle.rvs_solver.specs.declared.solved.Solved.{Solved}
-use Rattle.rvs_test.specs.declared.made.Claim.{Claim}
+use Rattle.rvs_test_text.specs.declared.claim.Claim.{Claim}
 use Rattle.rvs_test.specs.Made.{claims_of}
 use Rattle.rvs_test.specs.Claimed.{IsAccounted}
 use Rattle.rvs_test.proofs.Ends.{same_length}

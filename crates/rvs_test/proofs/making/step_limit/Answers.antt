@@ -1,5 +1,5 @@
 use Rattle.std.proofs.Common.{◌≡◌, ◌+◌, take, ap, arith}
-use Rattle.rvs_test.specs.TestText.{all_steps, case_steps}
+use Rattle.rvs_test_text.specs.TestText.{all_steps, case_steps}
 use Rattle.rvs_test.proofs.Loops.{steps_more}
 use Rattle.rvs_test.proofs.making.step_limit.Goals as goal
 

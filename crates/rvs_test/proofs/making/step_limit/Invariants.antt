@@ -1,5 +1,5 @@
 use Rattle.std.proofs.Common.{◌≡◌, ◌≤◌, ◌+◌, ◌*◌, ◌^◌, take}
-use Rattle.rvs_test.specs.TestText.{all_steps}
+use Rattle.rvs_test_text.specs.TestText.{all_steps}
 use Rattle.rvs_test.proofs.making.step_limit.Given as goal
 
 abbrev pub invariant-loop-solved : goal.invariant-loop-solved

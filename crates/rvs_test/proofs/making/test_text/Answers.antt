@@ -3,9 +3,9 @@ use Rattle.std.specs.Prelude.{All}
 use Rattle.rvs_insn.specs.Isa.{Isa}
 use Rattle.rvs_cgf.specs.GroupView.{label_view}
 use Rattle.rvs_solver.specs.declared.solved.Solved.{Solved}
-use Rattle.rvs_test.specs.declared.made.Claim.{Claim}
-use Rattle.rvs_test.specs.TestText.{ended, front, claim_lines, line_of_claim}
-use Rattle.rvs_test.specs.Claim.{AreReady}
+use Rattle.rvs_test_text.specs.declared.claim.Claim.{Claim}
+use Rattle.rvs_test_text.specs.TestText.{ended, front, claim_lines, line_of_claim}
+use Rattle.rvs_test_text.specs.Claim.{AreReady}
 use Rattle.rvs_test.specs.Made.{named_at, claims_of}
 use Rattle.rvs_test.proofs.Ends.{same_length}
 use Rattle.rvs_test.proofs.Grows.{text_there}

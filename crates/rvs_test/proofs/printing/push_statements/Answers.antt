@@ -1,6 +1,6 @@
 use Rattle.std.proofs.Common.{◌+◌, ◌∷◌, ◌++◌, [], ◌∙◌, take, sym, ap, arith}
-use Rattle.rvs_test.specs.Statements.{printed}
-use Rattle.rvs_test.specs.TestText.{text_of}
+use Rattle.rvs_test_text.specs.Statements.{printed}
+use Rattle.rvs_test_text.specs.TestText.{text_of}
 use Rattle.rvs_test.proofs.Grows.{begins_text, grows}
 use Rattle.rvs_test.proofs.Loops.{text_more}
 use Rattle.rvs_test.proofs.printing.push_statements.Goals as goal

@@ -1,5 +1,5 @@
 use Rattle.std.proofs.Common.{◌≡◌, ◌++◌, take}
-use Rattle.rvs_test.specs.TestText.{text_of}
+use Rattle.rvs_test_text.specs.TestText.{text_of}
 use Rattle.rvs_test.proofs.printing.push_statements.Given as goal
 
 abbrev pub invariant-loop-statement : goal.invariant-loop-statement

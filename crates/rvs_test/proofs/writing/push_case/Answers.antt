@@ -1,7 +1,7 @@
 use Rattle.std.proofs.Common.{◌∙◌, List, sym, subst}
 use Rattle.std.specs.Prelude.{All}
-use Rattle.rvs_test.specs.declared.statement.Statement.{Statement}
-use Rattle.rvs_test.specs.Statements.{IsPrinted}
+use Rattle.rvs_test_text.specs.declared.statement.Statement.{Statement}
+use Rattle.rvs_test_text.specs.Statements.{IsPrinted}
 use Rattle.rvs_test.proofs.Grows.{case_printed}
 use Rattle.rvs_test.proofs.writing.push_case.Goals as goal
 

@@ -1,5 +1,5 @@
 use Rattle.std.proofs.Common.{◌+◌, ◌++◌, ◌∙◌, take, sym, ap}
-use Rattle.rvs_test.specs.TestText.{text_of, cases, case_statements}
+use Rattle.rvs_test_text.specs.TestText.{text_of, cases, case_statements}
 use Rattle.rvs_test.proofs.Grows.{begins_text, grows, ready_at}
 use Rattle.rvs_test.proofs.Loops.{cases_more}
 use Rattle.rvs_test.proofs.writing.push_cases.Goals as goal

@@ -1,5 +1,5 @@
 use Rattle.std.proofs.Common.{◌≡◌, ◌++◌, take}
-use Rattle.rvs_test.specs.TestText.{text_of, cases}
+use Rattle.rvs_test_text.specs.TestText.{text_of, cases}
 use Rattle.rvs_test.proofs.writing.push_cases.Given as goal
 
 abbrev pub invariant-loop-k : goal.invariant-loop-k

@@ -1,6 +1,6 @@
 use Rattle.std.proofs.Common.{◌+◌, ◌++◌, ◌∷◌, [], ◌∙◌, sym, ap}
-use Rattle.rvs_test.specs.declared.statement.Statement.TheVariants.{Plain}
-use Rattle.rvs_test.specs.TestText.{text_of, clear}
+use Rattle.rvs_test_text.specs.declared.statement.Statement.TheVariants.{Plain}
+use Rattle.rvs_test_text.specs.TestText.{text_of, clear}
 use Rattle.rvs_test.proofs.Grows.{begins_text, grows}
 use Rattle.rvs_test.proofs.Loops.{clear_more}
 use Rattle.rvs_test.proofs.writing.push_clear.Goals as goal

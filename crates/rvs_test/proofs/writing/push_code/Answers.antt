@@ -1,5 +1,5 @@
 use Rattle.std.proofs.Common.{◌≡◌, ◌++◌, ◌∙◌, ap}
-use Rattle.rvs_test.specs.TestText.{text_of, clear, begin, code_part}
+use Rattle.rvs_test_text.specs.TestText.{text_of, clear, begin, code_part}
 use Rattle.rvs_test.proofs.Grows.{then_ok, code_there}
 use Rattle.rvs_test.proofs.writing.push_code.Goals as goal
 

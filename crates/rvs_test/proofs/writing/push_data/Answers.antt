@@ -1,7 +1,7 @@
 use Rattle.std.proofs.Common.{◌≡◌, ◌++◌, ◌∷◌, [], ◌∙◌, ap}
-use Rattle.rvs_test.specs.declared.statement.Name.TheVariants.{EndSignature}
-use Rattle.rvs_test.specs.declared.statement.Statement.TheVariants.{Label}
-use Rattle.rvs_test.specs.TestText.{text_of, data_part}
+use Rattle.rvs_test_text.specs.declared.statement.Name.TheVariants.{EndSignature}
+use Rattle.rvs_test_text.specs.declared.statement.Statement.TheVariants.{Label}
+use Rattle.rvs_test_text.specs.TestText.{text_of, data_part}
 use Rattle.rvs_test.proofs.Grows.{then_ok, data_there}
 use Rattle.rvs_test.proofs.writing.push_data.Goals as goal
 

@@ -1,8 +1,8 @@
 use Rattle.std.proofs.Common.{◌≡◌, ◌+◌, ◌++◌, ◌∷◌, [], ◌∙◌, ap, arith}
-use Rattle.rvs_test.specs.declared.statement.Name.TheVariants.{Slot}
-use Rattle.rvs_test.specs.declared.statement.Fixed.TheVariants.{Unset}
-use Rattle.rvs_test.specs.declared.statement.Statement.TheVariants.{Label, Fixed}
-use Rattle.rvs_test.specs.TestText.{text_of, slots}
+use Rattle.rvs_test_text.specs.declared.statement.Name.TheVariants.{Slot}
+use Rattle.rvs_test_text.specs.declared.statement.Fixed.TheVariants.{Unset}
+use Rattle.rvs_test_text.specs.declared.statement.Statement.TheVariants.{Label, Fixed}
+use Rattle.rvs_test_text.specs.TestText.{text_of, slots}
 use Rattle.rvs_test.proofs.Grows.{begins_text, grows}
 use Rattle.rvs_test.proofs.Loops.{slots_more}
 use Rattle.rvs_test.proofs.writing.push_slots.Goals as goal

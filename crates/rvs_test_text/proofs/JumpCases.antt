@@ -1,0 +1,261 @@
+-- The lines of a case with a jump frame.
+use Rattle.std.proofs.Common.{◌≡◌, ℕ, zero, suc, ◌+◌, ◌*◌, ◌%◌, ◌^◌, ◌<◌, ◌≤◌, true, false, List}
+use Rattle.std.proofs.Common.{◌∷◌, Some, refl, sym, ap, ◌∙◌, arith, subst}
+use Rattle.std.proofs.lemmas.Int.{ints}
+use Rattle.std.proofs.lemmas.Bool.Decides.{nat_tests}
+use Rattle.std.specs.Prelude.{ℤ, pos, negsuc, ◌-ℤ◌}
+use Rattle.rvs_insn.specs.declared.op.Format.{Format}
+use Rattle.rvs_insn.specs.declared.op.Format.TheVariants.{Branch, Jump}
+use Rattle.rvs_insn.specs.Isa.{Isa}
+use Rattle.rvs_insn.specs.Table.{row}
+use Rattle.rvs_insn.specs.Fields.{Fields}
+use Rattle.rvs_insn.specs.Word.{IsEncodable}
+use Rattle.rvs_insn.specs.Names.{is_admitted}
+use Rattle.rvs_asm_text.specs.Instructions.{in_field}
+use Rattle.rvs_machine.specs.Image.{text_base}
+use Rattle.rvs_asm.specs.declared.mark.Mark.{Mark}
+use Rattle.rvs_asm.specs.declared.location.Location.{Location}
+use Rattle.rvs_asm.specs.Locations.{next}
+use Rattle.rvs_asm.specs.Bytes.{distance}
+use Rattle.rvs_test_text.specs.declared.statement.Name.{Name}
+use Rattle.rvs_test_text.specs.declared.statement.Name.TheVariants.{Case as CaseName, Target, Done}
+use Rattle.rvs_test_text.specs.declared.statement.Name.TheVariants.{Slot}
+use Rattle.rvs_test_text.specs.declared.statement.Statement.{Statement}
+use Rattle.rvs_test_text.specs.declared.statement.Statement.TheVariants.{Label, Plain, To}
+use Rattle.rvs_test_text.specs.Sound.{IsNearby}
+use Rattle.rvs_test_text.specs.Statements.{line_of, addi}
+use Rattle.rvs_test_text.specs.TestText.{jal, save, between, filler, skip, back_body, frame}
+use Rattle.rvs_test_text.proofs.WordLaws.{IsSmall}
+use Rattle.rvs_test_text.proofs.KindLaws.{LinkedFormat}
+use Rattle.rvs_test_text.proofs.Tables.{Marks, find_name}
+use Rattle.rvs_test_text.proofs.Passes.{IsFine, AllFine, fine_join}
+use Rattle.rvs_test_text.proofs.Passes.{after, AllLinked, linked_join}
+use Rattle.rvs_test_text.proofs.Passes.{IsThere, IsNear}
+use Rattle.rvs_test_text.proofs.Assembled.{text_at}
+use Rattle.rvs_test_text.proofs.PlainCases.{admitted_low}
+use Rattle.rvs_test_text.proofs.JumpNames.{back_after}
+
+-- ---- fine lines
+filler_fine : (isa : Isa) (n : ℕ) → n < 2 ^ 32 → AllFine isa (filler n)
+filler_fine isa zero h = tt
+filler_fine isa (suc n) h = (h, tt)
+
+pub record IsLinkable (isa : Isa) (j : Fields) : Type 0 where
+  pub form : LinkedFormat (row j.op).form
+  pub imm : j.imm ≡ Some (pos 0)
+  pub encodable : IsEncodable j
+  pub admitted : is_admitted isa j ≡ true
+
+pub frame_fine : (z : ℤ) (isa : Isa) (k m : ℕ) (j : Fields) (rest : List Statement) → isa.e ≡ false
+    → m < 32 → k < 2 ^ 32 → IsLinkable isa j → IsNearby z → AllFine isa rest
+    → AllFine isa (frame z k m j rest)
+frame_fine (pos n) isa k m j rest e hm small is near hr =
+    let x0 : 0 < 32 = omega arith in
+    let z1 : 1 < 2 ^ 11 = omega arith in
+    let b : between (pos n) < 2 ^ 32 = omega (arith, near.most) in (
+      (tt, (hm, x0, z1), admitted_low isa (addi m 0 (pos 1)) e refl),
+      (
+        small,
+        (
+          (is.form, is.imm, is.encodable, is.admitted, small),
+          fine_join isa (skip m (between (pos n))) (Label (Target k) ∷ rest)
+              (skips m (between (pos n)) hm b) (small, hr),
+        ),
+      ),
+    )
+  where
+    skips : (m q : ℕ) → m < 32 → q < 2 ^ 32 → AllFine isa (skip m q)
+    skips m zero hm b = tt
+    skips m (suc q) hm b =
+        let z2 : 2 < 2 ^ 11 = omega arith in (
+          (tt, (hm, hm, z2), admitted_low isa (addi m m (pos 2)) e refl),
+          filler_fine isa q (omega arith),
+        )
+frame_fine (negsuc n) isa k m j rest e hm small is near hr =
+    let x0 : 0 < 32 = omega arith in
+    let z1 : 1 < 2 ^ 11 = omega arith in
+    let b : between (negsuc n) < 2 ^ 32 = omega (arith, near.most) in (
+      (tt, (hm, x0, z1), admitted_low isa (addi m 0 (pos 1)) e refl),
+      (
+        jump (CaseName k) small,
+        (
+          small,
+          fine_join isa (back_body k m (between (negsuc n)))
+              (Label (CaseName k) ∷ To j (Target k) ∷ Label (Done k) ∷ rest)
+              (backs m (between (negsuc n)) hm b)
+              (small, ((is.form, is.imm, is.encodable, is.admitted, small), (small, hr))),
+        ),
+      ),
+    )
+  where
+    jump : (x : Name) → IsSmall x → IsFine isa (To (jal 0) x)
+    jump x h =
+        let a : 0 < 32 = omega arith in let w : 0 < 2 ^ 20 = omega arith in
+        (tt, refl, (a, (w, refl)), admitted_low isa (jal 0) e refl, h)
+
+    backs : (m q : ℕ) → m < 32 → q < 2 ^ 32 → AllFine isa (back_body k m q)
+    backs m zero hm b = (jump (Done k) small, tt)
+    backs m (suc q) hm b =
+        let z2 : 2 < 2 ^ 11 = omega arith in (
+          (tt, (hm, hm, z2), admitted_low isa (addi m m (pos 2)) e refl),
+          (jump (Done k) small, filler_fine isa q (omega arith)),
+        )
+
+-- ---- linked lines
+-- formats with a label
+abbrev pub IsLabelled : Format → Type 0
+IsLabelled Branch = Unit {0}
+IsLabelled Jump = Unit {0}
+IsLabelled _ = ⊥
+
+near_forward : (f : Format) (a b d : ℕ) → IsLabelled f → a ≡ b + d → d ≤ 4000 → d % 2 ≡ 0
+    → in_field f (distance a b) ≡ true
+near_forward Branch a b d l e h w =
+    let z : pos a -ℤ pos b ≡ pos d = grind (arith, ints) in ap (in_field Branch) z ∙ fits d h w
+  where
+    fits : (d : ℕ) → d ≤ 4000 → d % 2 ≡ 0 → in_field Branch (pos d) ≡ true
+    fits d h w = grind (arith, nat_tests)
+near_forward Jump a b d l e h w =
+    let z : pos a -ℤ pos b ≡ pos d = grind (arith, ints) in ap (in_field Jump) z ∙ fits d h w
+  where
+    fits : (d : ℕ) → d ≤ 4000 → d % 2 ≡ 0 → in_field Jump (pos d) ≡ true
+    fits d h w = grind (arith, nat_tests)
+near_forward _ a b d l e h w = absurd l
+
+near_back : (f : Format) (a b d : ℕ) → IsLabelled f → b ≡ a + suc d → d < 4000 → d % 2 ≡ 1
+    → in_field f (distance a b) ≡ true
+near_back Branch a b d l e h w =
+    let z : pos a -ℤ pos b ≡ negsuc d = grind (arith, ints) in ap (in_field Branch) z ∙ fits d h w
+  where
+    fits : (d : ℕ) → d < 4000 → d % 2 ≡ 1 → in_field Branch (negsuc d) ≡ true
+    fits d h w = grind (arith, nat_tests)
+near_back Jump a b d l e h w =
+    let z : pos a -ℤ pos b ≡ negsuc d = grind (arith, ints) in ap (in_field Jump) z ∙ fits d h w
+  where
+    fits : (d : ℕ) → d < 4000 → d % 2 ≡ 1 → in_field Jump (negsuc d) ≡ true
+    fits d h w = grind (arith, nat_tests)
+near_back _ a b d l e h w = absurd l
+
+filler_linked : (t : Marks) (n : ℕ) (p : Location) → AllLinked t (filler n) p
+filler_linked t zero p = tt
+filler_linked t (suc n) p = (tt, tt)
+
+skip_linked : (t : Marks) (m q : ℕ) (p : Location) → AllLinked t (skip m q) p
+skip_linked t m zero p = tt
+skip_linked t m (suc n) p =
+    (tt, filler_linked t n (next p (line_of (Plain (addi m m (pos 2)))).body))
+
+abbrev pub mark_at : ℕ → Mark
+mark_at x = record { at = text_base + x; in_text = true }
+
+-- where the names of a frame are
+abbrev pub FrameThere : ℤ → Marks → ℕ → ℕ → Type 0
+FrameThere (pos n) t k s = find_name t (Target k) ≡ Some (mark_at (s + 8 + 4 * between (pos n)))
+FrameThere (negsuc n) t k s =
+    (find_name t (Target k) ≡ Some (mark_at (s + 8)))
+    × (find_name t (CaseName k) ≡ Some (mark_at (s + 12 + 4 * between (negsuc n))))
+    × (find_name t (Done k) ≡ Some (mark_at (s + 16 + 4 * between (negsuc n))))
+
+save_linked : (t : Marks) (p k a b : ℕ) (at : Location) → IsThere t (Slot k)
+    → AllLinked t (save p k a b) at
+save_linked t p k a b at slot = (slot, (slot, (tt, (tt, tt))))
+
+back_linked : (t : Marks) (k m q a r done : ℕ) → k < 2 ^ 32 → done ≡ a + 8 + 4 * q → q ≤ 512
+    → find_name t (Done k) ≡ Some (mark_at done) → AllLinked t (back_body k m q) (text_at a r)
+back_linked t k m zero a r done small e most there = (
+  record {
+    mark = mark_at done;
+    there = there;
+    small = small;
+    near =
+        near_forward Jump (text_base + done) (text_base + a) 8 tt (omega (arith, e)) (omega arith)
+        refl;
+  },
+  tt,
+)
+back_linked t k m (suc n) a r done small e most there = (
+  tt,
+  (
+    record {
+      mark = mark_at done;
+      there = there;
+      small = small;
+      near =
+          near_forward Jump (text_base + done) (text_base + (a + 4)) (8 + 4 * n) tt
+          (omega (arith, e))
+          (omega arith) (omega arith);
+    },
+    filler_linked t n (text_at (a + 4 + 4) r),
+  ),
+)
+
+pub frame_linked : (z : ℤ) (t : Marks) (k m p d : ℕ) (j : Fields) (s r : ℕ) → k < 2 ^ 32
+    → IsLabelled (row j.op).form → IsNearby z → FrameThere z t k s → IsThere t (Slot k)
+    → AllLinked t (frame z k m j (save p k m d)) (text_at s r)
+frame_linked (pos n) t k m p d j s r small l near there slot =
+    let q = between (pos n) in
+    let rest = save p k m d in
+    let p3 = text_at (s + 4 + 0 + 4) r in
+    let jump : IsNear t (text_base + (s + 4 + 0)) j (Target k) =
+    record {
+      mark = mark_at (s + 8 + 4 * q);
+      there = there;
+      small = small;
+      near =
+          near_forward (row j.op).form (text_base + (s + 8 + 4 * q)) (text_base + (s + 4 + 0))
+          (4 + 4 * q) l (omega arith) (omega (arith, near.most)) (omega arith);
+    } in (
+      tt,
+      (
+        tt,
+        (
+          jump,
+          linked_join t (skip m q) (Label (Target k) ∷ rest) p3 (skip_linked t m q p3) (
+            tt,
+            save_linked t p k m d (next (after (skip m q) p3) (line_of (Label (Target k))).body)
+                slot,
+          ),
+        ),
+      ),
+    )
+frame_linked (negsuc n) t k m p d j s r small l near there slot =
+    let q = between (negsuc n) in
+    let rest = save p k m d in
+    let tail = Label (CaseName k) ∷ To j (Target k) ∷ Label (Done k) ∷ rest in
+    let at8 = s + 4 + 4 + 0 in
+    let p3 = text_at at8 r in
+    let go : IsNear t (text_base + (s + 4)) (jal 0) (CaseName k) =
+    record {
+      mark = mark_at (s + 12 + 4 * q);
+      there = there.1;
+      small = small;
+      near =
+          near_forward Jump (text_base + (s + 12 + 4 * q)) (text_base + (s + 4)) (8 + 4 * q) tt
+          (omega arith) (omega (arith, near.most)) (omega arith);
+    } in
+    let last : AllLinked t tail (text_at (at8 + 4 + 4 * q) r) = (
+      tt,
+      (
+        record {
+          mark = mark_at (s + 8);
+          there = there.0;
+          small = small;
+          near =
+              near_back (row j.op).form (text_base + (s + 8)) (text_base + (at8 + 4 + 4 * q + 0))
+              (3 + 4 * q) l (omega arith) (omega (arith, near.most)) (omega arith);
+        },
+        (tt, save_linked t p k m d (text_at (at8 + 4 + 4 * q + 0 + 4 + 0) r) slot),
+      ),
+    ) in (
+      tt,
+      (
+        go,
+        (
+          tt,
+          linked_join t (back_body k m q) tail p3
+              (back_linked t k m q at8 r (s + 16 + 4 * q) small (omega arith)
+              (omega (arith, near.most))
+              there.2) (subst (AllLinked t tail) (sym (back_after k m q at8 r)) last),
+        ),
+      ),
+    )

@@ -1,0 +1,260 @@
+-- A test text, assembled and run.
+use Rattle.std.proofs.Common.{◌≡◌, ℕ, zero, suc, ◌+◌, ◌*◌, ◌/◌, ◌%◌, ◌^◌, ◌<◌, ◌≤◌, true, false}
+use Rattle.std.proofs.Common.{cond, List, [], ◌∷◌, ◌++◌, length, Some, None, refl, sym, ap, ◌∙◌}
+use Rattle.std.proofs.Common.{arith, append-nil}
+use Rattle.std.proofs.lemmas.Bool.Decides.{nat_tests}
+use Rattle.std.specs.Prelude.{◌&&◌, nat_le, pos, map, codes, unwrap_or, option_and_then}
+use Rattle.std.specs.Option.{option_or}
+use Rattle.std.specs.Fmt.{decimal}
+use Rattle.std.proofs.lemmas.Fmt.{decimal_by_steps}
+use Rattle.rvs_insn.specs.declared.op.Format.{Format}
+use Rattle.rvs_insn.specs.declared.op.Format.TheVariants.{Branch, Jump}
+use Rattle.rvs_insn.specs.Isa.{Isa}
+use Rattle.rvs_insn.specs.Table.{row}
+use Rattle.rvs_asm_text.specs.Text.{lines_of, is_text_byte}
+use Rattle.rvs_base.specs.Digits.{digits_of}
+use Rattle.rvs_base.proofs.Readings.{digits_of-decimal}
+use Rattle.rvs_asm_text.specs.Header.{allowed, steps_number, first_steps, header_steps}
+use Rattle.rvs_asm.specs.Symbols.{Table, find_mark}
+use Rattle.rvs_asm.specs.Locations.{Reading, readings, start, labels}
+use Rattle.rvs_asm.specs.Bytes.{section}
+use Rattle.rvs_asm.specs.Faults.{first_fault, second_fault, first_missing, needed, is_missing}
+use Rattle.rvs_asm.specs.Answer.{text_readings, image_of, parts_of, Assembles}
+use Rattle.rvs_asm.specs.Symbols.{address_of}
+use Rattle.rvs_solver.specs.Choices.{ChoiceValue}
+use Rattle.rvs_solver.specs.declared.solved.Solved.{Solved}
+use Rattle.rvs_solver.specs.declared.solved.Solved.TheVariants.{One, Many}
+use Rattle.rvs_test_text.specs.declared.statement.Name.TheVariants.{ToHost, BeginSignature}
+use Rattle.rvs_test_text.specs.declared.statement.Name.TheVariants.{EndSignature}
+use Rattle.rvs_test_text.specs.Sound.{Accesses}
+use Rattle.rvs_test_text.specs.Statements.{printed}
+use Rattle.rvs_test_text.specs.TestText.{begin, clear, cases, halt, loop, data_part, Point, header}
+use Rattle.rvs_test_text.specs.TestText.{claim_lines, ended, statements, test_text, step_limit}
+use Rattle.rvs_test_text.specs.TestText.{all_steps, jump_steps}
+use Rattle.rvs_test_text.specs.Claim.{AreReady, ArePrintable, IsTest, TestsRun}
+use Rattle.rvs_test_text.proofs.Chars.{tested}
+use Rattle.rvs_test_text.proofs.Tables.{named, find_name, found}
+use Rattle.rvs_test_text.proofs.Passes.{also, read_as, labelled, first_free, second_free}
+use Rattle.rvs_test_text.proofs.CaseList.{AllMade}
+use Rattle.rvs_test_text.proofs.TestNames.{code_fine, whole}
+use Rattle.rvs_test_text.proofs.Parts.{whole_read, whole_distinct, whole_stands}
+use Rattle.rvs_test_text.proofs.Parts.{whole_linked, table_small}
+use Rattle.rvs_test_text.proofs.TestNames.{table, tohost_there, begin_there}
+use Rattle.rvs_test_text.proofs.TestNames.{end_there}
+use Rattle.rvs_test_text.proofs.Ran.{AreChoices, image_for, image_fine, test_runs}
+use Rattle.rvs_test_text.proofs.Text.{ArePoints, lines_back, blanks, header_read, text_are_lines}
+
+-- ---- comments make nothing
+blank_labels : (ts : List (List ℕ)) (rs : List Reading)
+    → labels (blanks ts ++ rs) start ≡ labels rs start
+blank_labels [] rs = refl
+blank_labels (t ∷ ts) rs = blank_labels ts rs
+
+blank_first : (isa : Isa) (n : ℕ) (ts : List (List ℕ)) (rs : List Reading)
+    → ((k : ℕ) → first_fault isa [] start k rs ≡ None)
+    → first_fault isa [] start n (blanks ts ++ rs) ≡ None
+blank_first isa n [] rs h = h n
+blank_first isa n (t ∷ ts) rs h = blank_first isa (n + 1) ts rs h
+
+blank_second : (tbl : Table) (n : ℕ) (ts : List (List ℕ)) (rs : List Reading)
+    → ((k : ℕ) → second_fault tbl start k rs ≡ None)
+    → second_fault tbl start n (blanks ts ++ rs) ≡ None
+blank_second tbl n [] rs h = h n
+blank_second tbl n (t ∷ ts) rs h = blank_second tbl (n + 1) ts rs h
+
+blank_text : (env : List ℕ → ℕ) (ts : List (List ℕ)) (rs : List Reading)
+    → section true env (blanks ts ++ rs) start ≡ section true env rs start
+blank_text env [] rs = refl
+blank_text env (t ∷ ts) rs = blank_text env ts rs
+
+blank_ram : (env : List ℕ → ℕ) (ts : List (List ℕ)) (rs : List Reading)
+    → section false env (blanks ts ++ rs) start ≡ section false env rs start
+blank_ram env [] rs = refl
+blank_ram env (t ∷ ts) rs = blank_ram env ts rs
+
+-- ---- the image of a list of read lines
+image_blank : (tbl : Table) (ts : List (List ℕ)) (rs : List Reading)
+    → image_of tbl (blanks ts ++ rs) ≡ image_of tbl rs
+image_blank tbl ts rs =
+    ap (λ x. parts_of tbl x (section false (address_of tbl) (blanks ts ++ rs) start))
+    (blank_text (address_of tbl) ts rs)
+    ∙ ap (parts_of tbl (section true (address_of tbl) rs start)) (blank_ram (address_of tbl) ts rs)
+
+-- ---- what is asked of the choices
+all_plain : (isa : Isa) (cs : List Solved) → isa.e ≡ false → AreReady isa cs → AllMade isa cs
+all_plain isa [] e h = tt
+all_plain isa (One c ∷ cs) e h =
+    (record { sound = h.0.0; made = h.0.1; base = e }, all_plain isa cs e h.1)
+all_plain isa (Many is ∷ cs) e h = ((h.0, e), all_plain isa cs e h.1)
+
+points_fine : (ps : List Point) → ArePrintable ps → ArePoints ps
+points_fine [] h = tt
+points_fine (p ∷ ps) h =
+    ((tested is_text_byte p.kind h.0, tested is_text_byte p.key h.1), points_fine ps h.2)
+
+-- ---- the steps of the header
+-- so many digits for numbers so large
+pub record IsShort (n : ℕ) (ds : List ℕ) : Type 0 where
+  pub d1 : n < 10 → length ds ≤ 1
+  pub d2 : n < 100 → length ds ≤ 2
+  pub d3 : n < 1000 → length ds ≤ 3
+  pub d4 : n < 10000 → length ds ≤ 4
+  pub d5 : n < 100000 → length ds ≤ 5
+  pub d6 : n < 1000000 → length ds ≤ 6
+  pub d7 : n < 10000000 → length ds ≤ 7
+
+one_more : (ds : List ℕ) (c k : ℕ) → length ds ≤ k → length (ds ++ c ∷ []) ≤ k + 1
+one_more [] c k h = omega arith
+one_more (d ∷ ds) c zero h = absurd (omega arith)
+one_more (d ∷ ds) c (suc k) h =
+    let g : length (ds ++ c ∷ []) ≤ k + 1 = one_more ds c k (omega arith) in omega arith
+
+short : (n : ℕ) → n < 2 ^ 64 → IsShort n (decimal n)
+short n h = decimal_by_steps IsShort first next n h
+  where
+    first : (n : ℕ) → n < 10 → IsShort n ((48 + n) ∷ [])
+    first n h =
+        record {
+          d1 = λ l. omega arith;
+          d2 = λ l. omega arith;
+          d3 = λ l. omega arith;
+          d4 = λ l. omega arith;
+          d5 = λ l. omega arith;
+          d6 = λ l. omega arith;
+          d7 = λ l. omega arith;
+        }
+
+    next : (n : ℕ) (ds : List ℕ) → 10 ≤ n → IsShort (n / 10) ds
+        → IsShort n (ds ++ (48 + n % 10) ∷ [])
+    next n ds h s = record {
+      d1 = λ l. absurd (omega arith);
+      d2 = λ l. one_more ds (48 + n % 10) 1 (s.d1 (omega arith));
+      d3 = λ l. one_more ds (48 + n % 10) 2 (s.d2 (omega arith));
+      d4 = λ l. one_more ds (48 + n % 10) 3 (s.d3 (omega arith));
+      d5 = λ l. one_more ds (48 + n % 10) 4 (s.d4 (omega arith));
+      d6 = λ l. one_more ds (48 + n % 10) 5 (s.d5 (omega arith));
+      d7 = λ l. one_more ds (48 + n % 10) 6 (s.d6 (omega arith));
+    }
+
+number_read : (n : ℕ) → 1 ≤ n → n ≤ 2000000 → steps_number (decimal n) ≡ Some n
+number_read n low high =
+    let d = short n (omega arith) in
+    let l : length (decimal n) ≤ 7 = d.d7 (omega arith) in
+    let a : nat_le (length (decimal n)) 7 ≡ true = grind (arith, nat_tests) in
+    let b : (nat_le 1 n && nat_le n 2000000) ≡ true = grind (arith, nat_tests) in
+    ap (λ t. option_and_then allowed (cond t (digits_of 10 (decimal n)) None)) a
+    ∙ ap (option_and_then allowed) (digits_of-decimal n (omega arith))
+    ∙ ap (λ t. cond t (Some n) None) b
+
+header_first : (label : List ℕ) (isa : Isa) (n : ℕ) (ps : List Point) (ls : List (List ℕ)) → 1 ≤ n
+    → n ≤ 2000000 → first_steps (header label isa n ps ++ ls) ≡ Some n
+header_first label isa n ps ls low high =
+    ap (λ o. option_or o (first_steps (claim_lines 0 ps ++ ls))) (number_read n low high)
+
+-- ---- all of it
+whole_is : (isa : Isa) (cs : List Solved) → isa.e ≡ false → statements isa cs ≡ whole cs
+whole_is isa cs e =
+    ap
+    (λ b. begin
+    ++ ((clear 1 (cond b 15 31) ++ (cases 0 cs ++ (halt ++ loop))) ++ data_part (length cs))) e
+
+pub steps_high : (isa : Isa) (cs : List Solved) → AreReady isa cs → all_steps cs ≤ 544 * length cs
+steps_high isa [] h = omega arith
+steps_high isa (Many is ∷ cs) h = omega (arith, steps_high isa cs h.1)
+steps_high isa (One c ∷ cs) h =
+    omega (arith, one (row c.op).form c h.0.0.memory, steps_high isa cs h.1)
+  where
+    one : (f : Format) (c : ChoiceValue) → Accesses isa c f
+        → jump_steps f (unwrap_or c.imm (pos 0)) ≤ 544
+    one Branch c a = omega (arith, a.most)
+    one Jump c a = omega (arith, a.most)
+    one _ c a = omega arith
+
+-- the text is cut into the lines of its header and of its statements
+pub text_cut : (isa : Isa) (label : List ℕ) (points : List Point) (cs : List Solved)
+    → IsTest isa label points cs
+    → lines_of (test_text label isa points cs)
+    ≡ header label isa (step_limit cs) points ++ map printed (whole cs)
+unfolding test_text
+text_cut isa label points cs is =
+    let few = is.few in
+    let small : length cs < 2 ^ 32 = omega arith in
+    let n = step_limit cs in
+    let bound : n ≤ 2000000 = omega (arith, steps_high isa cs is.choices) in
+    let fine = code_fine isa cs is.base small (all_plain isa cs is.base is.choices) in
+    let lines =
+    text_are_lines label isa n points cs (tested is_text_byte label is.label_text)
+    (points_fine points is.points_text) (omega arith) (omega (arith, is.same)) fine small in
+    ap (λ s. lines_of (ended (header label isa n points ++ map printed s)))
+    (whole_is isa cs is.base)
+    ∙ lines_back (header label isa n points ++ map printed (whole cs)) lines
+
+pub tests_run : TestsRun
+unfolding header_steps
+tests_run isa label points cs is =
+    let e = is.base in
+    let few = is.few in
+    let small : length cs < 2 ^ 32 = omega arith in
+    let plain = all_plain isa cs e is.choices in
+    let are : AreChoices isa cs = record { base = e; few = few; plain = plain } in
+    let n = step_limit cs in
+    let bound : n ≤ 2000000 = omega (arith, steps_high isa cs is.choices) in
+    let head = header label isa n points in
+    let body = map printed (whole cs) in
+    let text = test_text label isa points cs in
+    let cut : lines_of text ≡ head ++ body = text_cut isa label points cs is in
+    let rs = blanks head ++ read_as (whole cs) in
+    let read_all : readings true ((head ++ body) ++ []) ≡ (blanks head ++ read_as (whole cs))
+    ++ [] =
+    (also (header_read label isa n points) (whole_read isa cs e small plain)).reads [] in
+    let read : text_readings text ≡ rs =
+    ap (readings true) cut ∙ ap (readings true) (sym (append-nil (head ++ body))) ∙ read_all
+    ∙ append-nil rs in
+    let tbl = named (table cs) in
+    let hs = table_small isa cs e small plain in
+    let names : labels rs start ≡ tbl =
+    blank_labels head (read_as (whole cs)) ∙ labelled (whole cs) start in
+    let placed : first_fault isa [] start 1 rs ≡ None =
+    blank_first isa 1 head (read_as (whole cs))
+    (λ k. first_free isa [] start k (whole cs) tt (whole_distinct isa cs e small plain)
+    (whole_stands isa cs e few plain)) in
+    let linked : second_fault tbl start 1 rs ≡ None =
+    blank_second tbl 1 head (read_as (whole cs))
+    (λ k. second_free (table cs) start k (whole cs) hs (whole_linked isa cs e small plain)) in
+    let host : find_mark tbl (codes "tohost") ≡ find_name (table cs) ToHost =
+    found (table cs) ToHost tt hs in
+    let first : find_mark tbl (codes "begin_signature") ≡ find_name (table cs) BeginSignature =
+    found (table cs) BeginSignature tt hs in
+    let last : find_mark tbl (codes "end_signature") ≡ find_name (table cs) EndSignature =
+    found (table cs) EndSignature tt hs in
+    let marked : first_missing tbl needed ≡ None =
+    ap
+    (λ o. cond (is_missing o) (Some (codes "tohost"))
+    (first_missing tbl (codes "begin_signature" ∷ codes "end_signature" ∷ [])))
+    (host ∙ tohost_there isa cs e small plain)
+    ∙ ap
+    (λ o. cond (is_missing o) (Some (codes "begin_signature"))
+    (first_missing tbl (codes "end_signature" ∷ []))) (first ∙ begin_there isa cs e small plain)
+    ∙ ap (λ o. cond (is_missing o) (Some (codes "end_signature")) None)
+    (last ∙ end_there isa cs e small plain) in
+    let image = image_for cs in
+    let made : image ≡ image_of tbl rs = sym (image_blank tbl head (read_as (whole cs))) in
+    let assembled : Assembles text isa image = record {
+      placed = ap (first_fault isa [] start 1) read ∙ placed;
+      linked =
+          ap (λ r. second_fault (labels r start) start 1 r) read
+          ∙ ap (λ x. second_fault x start 1 rs) names ∙ linked;
+      marked =
+          ap (λ r. first_missing (labels r start) needed) read
+          ∙ ap (λ x. first_missing x needed) names ∙ marked;
+      made =
+          made ∙ ap (λ x. image_of x rs) (sym names)
+          ∙ ap (λ r. image_of (labels r start) r) (sym read);
+      regions = image_fine isa cs are;
+    } in
+    record {
+      image = image;
+      assembles = assembled;
+      limit = ap first_steps cut ∙ header_first label isa n points body (omega arith) bound;
+      runs = λ k h. test_runs isa cs k are h;
+    }

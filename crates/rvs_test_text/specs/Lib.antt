@@ -1,0 +1,4 @@
+pub mod Statements
+pub mod TestText
+pub mod Sound
+pub mod Claim
