@@ -9,13 +9,21 @@ mod asm_text;
 #[cfg(test)]
 mod base;
 #[cfg(test)]
+mod condition;
+#[cfg(test)]
 mod count;
+#[cfg(test)]
+mod demo;
 #[cfg(test)]
 mod device;
 #[cfg(test)]
 mod expr;
 #[cfg(test)]
 mod expr_text;
+#[cfg(test)]
+mod facts;
+#[cfg(test)]
+mod families;
 #[cfg(test)]
 mod insn;
 #[cfg(test)]
@@ -26,5 +34,9 @@ mod log;
 mod machine;
 #[cfg(test)]
 mod making;
+#[cfg(test)]
+mod sig;
+#[cfg(test)]
+mod solver;
 #[cfg(test)]
 mod yaml;

@@ -7,8 +7,6 @@ mod label;
 mod laws;
 mod program;
 mod size;
-#[cfg(test)]
-mod tests;
 
 pub use demo::demo_text;
 pub use laws::each_key_is_a_point;

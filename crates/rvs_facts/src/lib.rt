@@ -4,8 +4,6 @@
 
 mod facts;
 mod mnemonics;
-#[cfg(test)]
-mod tests;
 
 pub use facts::InsnFacts;
 pub use mnemonics::{is_same, number};

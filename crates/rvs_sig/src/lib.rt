@@ -2,8 +2,6 @@
 #![tactic(auto)]
 
 mod comparison;
-#[cfg(test)]
-mod tests;
 mod words;
 
 pub use comparison::{Verdict, compare};

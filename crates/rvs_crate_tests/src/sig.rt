@@ -1,5 +1,5 @@
 // Files as people write them, and that calls which have memory succeed.
-use crate::{SigRefusal, Verdict, compare, print_words, read_words};
+use rvs_sig::{SigRefusal, Verdict, compare, print_words, read_words};
 use std::alloc::Global;
 use std::test::Fail;
 

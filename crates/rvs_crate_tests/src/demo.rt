@@ -1,5 +1,5 @@
 // The text of the smallest demonstration.
-use crate::{DemoSize, demo_text};
+use rvs_demo::{DemoSize, demo_text};
 use std::test::Fail;
 
 /// Its points that are hit.

@@ -1,6 +1,6 @@
 // The facts of a load, of a comparison without a sign, and of a jump.
-use crate::{InsnFacts, is_same, number};
 use rvs_expr::{Facts, NumName, RegName};
+use rvs_facts::{InsnFacts, is_same, number};
 use rvs_insn::{Op, decode};
 use std::test::Fail;
 

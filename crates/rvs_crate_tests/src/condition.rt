@@ -1,5 +1,5 @@
 // Entries of `config` on a core with the ISA text `RV32IM` that has no misaligned data.
-use crate::condition;
+use rvs_condition::condition;
 use rvs_insn::IsaSpec;
 use std::test::Fail;
 

@@ -1,5 +1,5 @@
 // Calls of families, each with its values or why it is refused.
-use crate::{Call, Family4, len, read_call, value};
+use rvs_abstract::{Call, Family4, len, read_call, value};
 use std::alloc::{AllocError, Global};
 use std::test::Fail;
 
