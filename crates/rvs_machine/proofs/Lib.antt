@@ -1,4 +1,4 @@
-pub mod Planned
+pub mod NextStepDone
 pub mod Runs
 pub mod WordLines
 pub mod Words

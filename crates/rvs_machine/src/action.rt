@@ -1,7 +1,7 @@
 // What an instruction does once its addresses are checked.
 ghost use Rattle.std.specs.Prelude.{◌≡◌, ◌≤◌, ◌%◌, ◌^◌, length};
 ghost use Rattle.rvs_machine.specs.Machine.{action_of, jump_action, store_action, is_misaligned};
-ghost use Rattle.rvs_machine.specs.Plans.{IsSize, IsSized, CanTake};
+ghost use Rattle.rvs_machine.specs.NextSteps.{IsSize, IsSized, CanTake};
 
 use crate::effect::Effect;
 use crate::event::TrapKind;

@@ -3,7 +3,7 @@ ghost use Rattle.std.specs.Prelude.{◌≡◌, ◌≤◌, ◌^◌, ◌/◌, ◌-
 ghost use Rattle.std.specs.Int.{w32, w64, cast_signed, cast_unsigned, int_shr};
 ghost use Rattle.rvs_machine.specs.Effects.{effect_of, shift_left, shift_right, shift_right_signed};
 ghost use Rattle.rvs_machine.specs.Effects.{div_signed, rem_signed, div_unsigned, rem_unsigned};
-ghost use Rattle.rvs_machine.specs.Plans.{IsSized};
+ghost use Rattle.rvs_machine.specs.NextSteps.{IsSized};
 
 use rvs_insn::Op;
 

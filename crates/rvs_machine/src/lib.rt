@@ -10,7 +10,7 @@ mod laws;
 mod lines;
 mod machine;
 mod memory;
-mod plan;
+mod next_step;
 mod reading;
 mod run;
 mod symbol;

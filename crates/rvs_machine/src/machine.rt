@@ -3,14 +3,14 @@ ghost use Rattle.std.specs.Prelude.{◌≡◌, ◌≤◌, ◌^◌, length, IfOk,
 ghost use Rattle.rvs_insn.specs.Fields.{IsRegister};
 ghost use Rattle.rvs_machine.specs.Machine.{started, step_of, executed, read_reg, commit_of};
 ghost use Rattle.rvs_machine.specs.Machine.{signature_of};
-ghost use Rattle.rvs_machine.specs.Plans.{done_plan, plan_of, CanDo};
+ghost use Rattle.rvs_machine.specs.NextSteps.{done_step, next_step_of, CanDo};
 
 use crate::action::{Action, checked_action};
 use crate::effect::effect_at;
 use crate::event::{Commit, Event, Executed, Trap, TrapKind};
 use crate::image::{DATA_BASE, Image, TEXT_BASE};
 use crate::memory::{fetch_word, store, word_in};
-use crate::plan::Plan;
+use crate::next_step::NextStep;
 use rvs_base::{Bytes, Items, NoMemory};
 use rvs_insn::{Insn, IsaSpec, admits, decode};
 use std::alloc::Global;
@@ -91,37 +91,37 @@ impl Machine {
         ensures state { self.new
             ≡ record self.old { state = (step_of self.old.setup self.old.state).1 } }
     {
-        let plan = self.plan();
-        self.apply(plan)
+        let next_step = self.next_step();
+        self.apply(next_step)
     }
 
     /// What the next step does.
     #[tactic(auto, unfolding(crate::specs::Machine::step_of))]
-    pub(crate) fn plan(&self) -> Plan
+    pub(crate) fn next_step(&self) -> NextStep
         ensures step { step_of self.now.setup self.now.state
-            ≡ done_plan self.now.setup self.now.state result }
+            ≡ done_step self.now.setup self.now.state result }
         ensures can { CanDo self.now.state.ram result }
     {
         match fetch_word(self.text.as_slice(), self.pc) {
             Some(word) => match decode(word) {
                 Some(insn) => {
                     if admits(&self.spec, &insn) {
-                        self.plan_insn(word, &insn)
+                        self.next_step_by(word, &insn)
                     } else {
-                        Plan::Stop(TrapKind::Illegal { word })
+                        NextStep::Stop(TrapKind::Illegal { word })
                     }
                 },
-                None => Plan::Stop(TrapKind::Illegal { word }),
+                None => NextStep::Stop(TrapKind::Illegal { word }),
             },
-            None => Plan::Stop(TrapKind::AccessFault { addr: self.pc }),
+            None => NextStep::Stop(TrapKind::AccessFault { addr: self.pc }),
         }
     }
 
     /// The same for the instruction that its word spells.
-    #[tactic(auto, using(crate::proofs::Planned::planned_does))]
-    fn plan_insn(&self, word: u32, insn: &Insn) -> Plan
+    #[tactic(auto, using(crate::proofs::NextStepDone::next_step_does))]
+    fn next_step_by(&self, word: u32, insn: &Insn) -> NextStep
         ensures step { executed self.now.setup self.now.state word insn.now
-            ≡ done_plan self.now.setup self.now.state result }
+            ≡ done_step self.now.setup self.now.state result }
         ensures can { CanDo self.now.state.ram result }
     {
         let v1 = self.register(insn.rs1);
@@ -142,7 +142,7 @@ impl Machine {
             v2,
             commit: None,
         };
-        planned(executed, insn.rd, action)
+        next_step_for(executed, insn.rd, action)
     }
 
     /// The word of a register, where there is one.
@@ -157,22 +157,22 @@ impl Machine {
     }
 
     /// Does what was planned.
-    pub(crate) fn apply(&mut self, plan: Plan) -> Event
-        requires { CanDo self.old.state.ram plan }
-        ensures event { result ≡ (done_plan self.old.setup self.old.state plan).0 }
+    pub(crate) fn apply(&mut self, next_step: NextStep) -> Event
+        requires { CanDo self.old.state.ram next_step }
+        ensures event { result ≡ (done_step self.old.setup self.old.state next_step).0 }
         ensures state { self.new
-            ≡ record self.old { state = (done_plan self.old.setup self.old.state plan).1 } }
+            ≡ record self.old { state = (done_step self.old.setup self.old.state next_step).1 } }
     {
-        match plan {
-            Plan::Stop(kind) => Event::Trapped(Trap { pc: self.pc, kind }),
-            Plan::Write(executed, next) => {
+        match next_step {
+            NextStep::Stop(kind) => Event::Trapped(Trap { pc: self.pc, kind }),
+            NextStep::Write(executed, next) => {
                 if let Some(commit) = executed.commit {
                     self.registers[usize::from(commit.reg)] = commit.value;
                 }
                 self.pc = next;
                 Event::Ran(executed)
             },
-            Plan::Store(executed, size, addr, value) => {
+            NextStep::Store(executed, size, addr, value) => {
                 store(
                     self.ram.as_mut_slice(),
                     size,
@@ -197,21 +197,21 @@ fn stored(halts: bool, executed: Executed) -> Event
     }
 }
 
-/// The plan of an action: the instruction, with its commit where it has one.
-fn planned(executed: Executed, rd: Option<u8>, action: Action) -> Plan
+/// The next step of an action: the instruction, with its commit where it has one.
+fn next_step_for(executed: Executed, rd: Option<u8>, action: Action) -> NextStep
     requires { IsRegister rd }
-    ensures { result ≡ plan_of executed rd action }
+    ensures { result ≡ next_step_of executed rd action }
 {
     match action {
-        Action::Refuse(kind) => Plan::Stop(kind),
-        Action::Go(value, next) => Plan::Write(
+        Action::Refuse(kind) => NextStep::Stop(kind),
+        Action::Go(value, next) => NextStep::Write(
             Executed {
                 commit: commit(rd, value),
                 ..executed
             },
             next,
         ),
-        Action::Keep(size, addr, value) => Plan::Store(executed, size, addr, value),
+        Action::Keep(size, addr, value) => NextStep::Store(executed, size, addr, value),
     }
 }
 

@@ -2,7 +2,7 @@
 ghost use Rattle.std.specs.Prelude.{◌≡◌, ◌≤◌, ◌<◌, ◌+◌, ◌*◌, ◌%◌, ◌^◌, length};
 ghost use Rattle.rvs_machine.specs.Machine.{byte_at, load_bytes, is_in_data, store_bytes, extended};
 ghost use Rattle.rvs_machine.specs.Machine.{word_at, fetch};
-ghost use Rattle.rvs_machine.specs.Plans.{IsSize};
+ghost use Rattle.rvs_machine.specs.NextSteps.{IsSize};
 
 use crate::image::{DATA_BASE, TEXT_BASE};
 

@@ -28,14 +28,14 @@ impl Machine {
     fn advance(&mut self, trace: &mut Trace) -> Option<End>
         ensures { HasStep self.old self.new trace.old trace.new result }
     {
-        let plan = self.plan();
-        if let Some(executed) = plan.executed() {
+        let next_step = self.next_step();
+        if let Some(executed) = next_step.executed() {
             let _commit: Option<Commit> = executed.commit;
             if trace.push(executed).is_err() {
                 return Some(End::NoMemory);
             }
         }
-        match self.apply(plan) {
+        match self.apply(next_step) {
             Event::Ran(_) => None,
             Event::Halted(_) => Some(End::Halted),
             Event::Trapped(trap) => Some(End::Trapped(trap)),

@@ -8,9 +8,9 @@ use Rattle.rvs_machine.specs.declared.action.Action.TheVariants.{Refuse, Go, Kee
 use Rattle.rvs_machine.specs.declared.event.Executed.{Executed}
 use Rattle.rvs_machine.specs.declared.event.Event.{Event}
 use Rattle.rvs_machine.specs.declared.event.Event.TheVariants.{Ran, Halted}
-use Rattle.rvs_machine.specs.declared.plan.Plan.{Plan}
-use Rattle.rvs_machine.specs.declared.plan.Plan.TheVariants.{Stop, Write as WriteRegister}
-use Rattle.rvs_machine.specs.declared.plan.Plan.TheVariants.{Store as StoreData}
+use Rattle.rvs_machine.specs.declared.next_step.NextStep.{NextStep}
+use Rattle.rvs_machine.specs.declared.next_step.NextStep.TheVariants.{Stop, Write as WriteRegister}
+use Rattle.rvs_machine.specs.declared.next_step.NextStep.TheVariants.{Store as StoreData}
 use Rattle.rvs_machine.specs.Effects.{add32}
 use Rattle.rvs_machine.specs.Image.{data_base}
 use Rattle.rvs_machine.specs.Machine.{Setup, State, store_bytes, refused, commit_of}
@@ -32,23 +32,23 @@ CanTake ram (Go value next) = next % 4 ≡ 0
 CanTake ram (Keep size addr value) =
     IsSize size × (data_base ≤ addr) × (addr + size ≤ data_base + length ram)
 
--- the plan of an action, for an instruction that has no commit yet
-abbrev pub plan_of : Executed → Option ℕ → Action → Plan
-plan_of e rd (Refuse kind) = Stop kind
-plan_of e rd (Go value next) = WriteRegister (record e { commit = commit_of rd value }) next
-plan_of e rd (Keep size addr value) = StoreData e size addr value
+-- the next step of an action, for an instruction that has no commit yet
+abbrev pub next_step_of : Executed → Option ℕ → Action → NextStep
+next_step_of e rd (Refuse kind) = Stop kind
+next_step_of e rd (Go value next) = WriteRegister (record e { commit = commit_of rd value }) next
+next_step_of e rd (Keep size addr value) = StoreData e size addr value
 
 -- the registers after a commit
 abbrev pub committed : List ℕ → Option Write → List ℕ
 committed regs None = regs
 committed regs (Some w) = slice_set regs w.reg w.value
 
--- what a plan does
-abbrev pub done_plan : Setup → State → Plan → Event × State
-done_plan setup s (Stop kind) = refused s kind
-done_plan setup s (WriteRegister e next) =
+-- what a next step does
+abbrev pub done_step : Setup → State → NextStep → Event × State
+done_step setup s (Stop kind) = refused s kind
+done_step setup s (WriteRegister e next) =
     (Ran e, record s { pc = next; regs = committed s.regs e.commit })
-done_plan setup s (StoreData e size addr value) = (
+done_step setup s (StoreData e size addr value) = (
   (if size == 4 && addr == setup.tohost && value == 1 then Halted e else Ran e),
   record s {
     pc = add32 s.pc 4;
@@ -56,15 +56,15 @@ done_plan setup s (StoreData e size addr value) = (
   },
 )
 
--- a plan that can be carried out
-abbrev pub CanDo : List ℕ → Plan → Type 0
+-- a next step that can be carried out
+abbrev pub CanDo : List ℕ → NextStep → Type 0
 CanDo ram (Stop kind) = Unit {0}
 CanDo ram (WriteRegister e next) = next % 4 ≡ 0
 CanDo ram (StoreData e size addr value) =
     IsSize size × (data_base ≤ addr) × (addr + size ≤ data_base + length ram)
 
--- the instruction that a plan executes
-abbrev pub executed_by : Plan → Option Executed
+-- the instruction that a next step executes
+abbrev pub executed_by : NextStep → Option Executed
 executed_by (Stop kind) = None
 executed_by (WriteRegister e next) = Some e
 executed_by (StoreData e size addr value) = Some e

@@ -6,7 +6,7 @@ use crate::event::{Executed, TrapKind};
 /// What the next step does. It is made from a machine that is only read, so that a run can put the
 /// instruction into its trace first.
 #[derive(Debug, Clone, Copy, PartialEq, Eq)]
-pub(crate) enum Plan {
+pub(crate) enum NextStep {
     /// Nothing: a trap.
     Stop(TrapKind),
     /// The instruction's commit, and a new pc.
@@ -15,16 +15,16 @@ pub(crate) enum Plan {
     Store(Executed, u8, u32, u32),
 }
 
-impl Plan {
-    ghost use Rattle.rvs_machine.specs.Plans.{executed_by};
+impl NextStep {
+    ghost use Rattle.rvs_machine.specs.NextSteps.{executed_by};
 
     /// The instruction that is executed.
     pub(crate) fn executed(&self) -> Option<Executed>
         ensures { result ≡ executed_by self.now }
     {
         match *self {
-            Plan::Stop(_) => None,
-            Plan::Write(executed, _) | Plan::Store(executed, _, _, _) => Some(executed),
+            NextStep::Stop(_) => None,
+            NextStep::Write(executed, _) | NextStep::Store(executed, _, _, _) => Some(executed),
         }
     }
 }
