@@ -3,6 +3,7 @@ use Rattle.std.proofs.Common.{◌≡◌, ◌≤◌, ℕ, ◌+◌, ◌%◌, Bool,
 use Rattle.std.proofs.Common.{Option, Some, None, Ok, Err, refl, arith}
 use Rattle.std.specs.Prelude.{not, nat_le, ◌==◌}
 use Rattle.std.specs.Option.{option_or}
+use Rattle.std.proofs.lemmas.Bool.{not-false}
 use Rattle.std.proofs.lemmas.Bool.Decides.{nat_tests}
 use Rattle.rvs_insn.specs.Isa.{Isa}
 use Rattle.rvs_asm_text.specs.declared.bodies.Body.{Body}
@@ -26,16 +27,12 @@ pub unpicked : (t : Bool) (k : AsmKind) (o : Option AsmKind) → cond t (Some k)
 unpicked true k o h = cc
 unpicked false k o h = (refl, h)
 
-negated : (t : Bool) → not t ≡ false → t ≡ true
-negated true h = refl
-negated false h = cc
-
 within : (m n : ℕ) → nat_le m n ≡ true → m ≤ n
 within m n h = grind (arith, nat_tests)
 
 moved_words : (t n : ℕ) → t % 4 ≡ 0 → not (n % 4 == 0) ≡ false → (t + n) % 4 ≡ 0
 moved_words t n h m =
-    let whole : (n % 4 == 0) ≡ true = negated (n % 4 == 0) m in
+    let whole : (n % 4 == 0) ≡ true = not-false (n % 4 == 0) m in
     let e : n % 4 ≡ 0 = grind (arith, nat_tests, whole) in
     omega (arith, e)
 
@@ -62,10 +59,11 @@ entered isa p body here h =
     (cond (is_refused isa body) (Some NotInIsa) None) b.1 in
     record {
       text_short =
-          within (next p body).text text_limit (negated (nat_le (next p body).text text_limit) b.0);
+          within (next p body).text text_limit
+          (not-false (nat_le (next p body).text text_limit) b.0);
       data_short =
           within (next p body).data_bytes data_limit
-          (negated (nat_le (next p body).data_bytes data_limit) c.0);
+          (not-false (nat_le (next p body).data_bytes data_limit) c.0);
       words = words p.in_text p.text p.data_bytes body here.words a.0;
     }
 
@@ -86,8 +84,7 @@ short isa ss p n [] here h = tt
 short isa ss p n (r ∷ rs) here h =
     let parts = no_first n (fault isa ss p r)
     (first_fault isa (ss ++ own_label (label_of r) p) (next p (body_of r)) (n + 1) rs) h in
-    let there = entered_line isa ss p r here parts.0 in
-    (
-        there,
-        short isa (ss ++ own_label (label_of r) p) (next p (body_of r)) (n + 1) rs there parts.1
+    let there = entered_line isa ss p r here parts.0 in (
+      there,
+      short isa (ss ++ own_label (label_of r) p) (next p (body_of r)) (n + 1) rs there parts.1,
     )

@@ -1,8 +1,9 @@
 -- The image that stands to a text.
-use Rattle.std.proofs.Common.{◌≡◌, ℕ, ◌≤◌, Bool, true, false, cond, ◌&&◌, Some, None, sym, ap, ◌∙◌}
+use Rattle.std.proofs.Common.{◌≡◌, ℕ, ◌≤◌, true, cond, Some, None, sym, ap, ◌∙◌}
 use Rattle.std.proofs.Common.{arith}
 use Rattle.std.specs.Prelude.{nat_le, ◌==◌}
 use Rattle.std.proofs.lemmas.Int.{ints}
+use Rattle.std.proofs.lemmas.Bool.{and_from}
 use Rattle.std.proofs.lemmas.Bool.Decides.{nat_tests}
 use Rattle.rvs_machine.specs.Image.{ImageValue, IsImage, is_image, if_image}
 use Rattle.rvs_asm.specs.Locations.{start, labels}
@@ -16,10 +17,6 @@ parts_make_address address h = grind (arith, ints)
 pub one_image : OneImageEach
 one_image text isa a b p q = p.made ∙ sym q.made
 
-both : (s t : Bool) → s ≡ true → t ≡ true → (s && t) ≡ true
-both true t p q = q
-both false t p q = cc
-
 zero_test : (n : ℕ) → n ≡ 0 → (n == 0) ≡ true
 zero_test n h = grind (arith, nat_tests)
 
@@ -28,13 +25,13 @@ le_test m n h = grind (arith, nat_tests)
 
 in_order : (i : ImageValue) → IsImage i → is_image i ≡ true
 in_order i h =
-    both _ _
-    (both _ _
-    (both _ _ (both _ _ (zero_test _ h.text_words) (le_test _ _ h.text_short))
+    and_from _ _
+    (and_from _ _
+    (and_from _ _ (and_from _ _ (zero_test _ h.text_words) (le_test _ _ h.text_short))
     (le_test _ _ h.data_short))
-    (both _ _ (both _ _ (zero_test _ h.tohost_word) (le_test _ _ h.tohost_low))
+    (and_from _ _ (and_from _ _ (zero_test _ h.tohost_word) (le_test _ _ h.tohost_low))
     (le_test _ _ h.tohost_high)))
-    (both _ _ (both _ _ (both _ _ (both _ _ (zero_test _ h.begin_word) (zero_test _ h.end_word))
+    (and_from _ _ (and_from _ _ (and_from _ _ (and_from _ _ (zero_test _ h.begin_word) (zero_test _ h.end_word))
     (le_test _ _ h.begin_low)) (le_test _ _ h.ordered)) (le_test _ _ h.end_high))
 
 pub image_answered : ImagesAreAnswered

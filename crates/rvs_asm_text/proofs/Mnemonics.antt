@@ -1,5 +1,5 @@
 -- Mnemonics are ASCII.
-use Rattle.std.proofs.Common.{◌≡◌, ℕ, ◌<◌, Bool, true, false, ◌&&◌, List, [], ◌∷◌, Some, None, refl}
+use Rattle.std.proofs.Common.{◌≡◌, ℕ, ◌<◌, Bool, true, false, List, [], ◌∷◌, Some, None, refl}
 use Rattle.std.proofs.Common.{ap, ◌∙◌, arith, lit<, zero, suc, cond, subst}
 use Rattle.std.specs.Prelude.{nat_lt}
 use Rattle.std.specs.List.{list_all, find}
@@ -7,6 +7,7 @@ use Rattle.std.specs.Str.{bytes_eq, IsAscii, IsUtf8}
 use Rattle.std.proofs.lemmas.Str.{IsUtf8-from_ascii}
 use Rattle.std.proofs.lemmas.Slice.Eq.{bytes_eq-Decides}
 use Rattle.std.proofs.lemmas.Bool.Decides.{nat_tests}
+use Rattle.std.proofs.lemmas.Bool.{and_parts}
 use Rattle.rvs_insn.specs.declared.op.Op.{Op}
 use Rattle.rvs_insn.specs.declared.op.Op.TheVariants.{Lui}
 use Rattle.rvs_insn.specs.Table.{row, all_ops}
@@ -16,17 +17,14 @@ names_low : (op : Op) → list_all (λ c. nat_lt c 128) (row op).name ≡ true
 names_low Lui = refl
 names_low _ = refl
 
-both : (s t : Bool) → (s && t) ≡ true → (s ≡ true) × (t ≡ true)
-both true t h = (refl, h)
-both false t h = cc
-
 below_128 : (c : ℕ) → nat_lt c 128 ≡ true → c < 128
 below_128 c h = grind (arith, nat_tests)
 
 ascii : (cs : List ℕ) → list_all (λ c. nat_lt c 128) cs ≡ true → IsAscii cs
 ascii [] h i = lit< tt
-ascii (c ∷ cs) h zero = below_128 c (both (nat_lt c 128) (list_all (λ c. nat_lt c 128) cs) h).0
-ascii (c ∷ cs) h (suc i) = ascii cs (both (nat_lt c 128) (list_all (λ c. nat_lt c 128) cs) h).1 i
+ascii (c ∷ cs) h zero = below_128 c (and_parts (nat_lt c 128) (list_all (λ c. nat_lt c 128) cs) h).0
+ascii (c ∷ cs) h (suc i) =
+    ascii cs (and_parts (nat_lt c 128) (list_all (λ c. nat_lt c 128) cs) h).1 i
 
 same : (xs ys : List ℕ) → bytes_eq xs ys ≡ true → xs ≡ ys
 same xs ys h = (bytes_eq-Decides xs ys).0 h

@@ -1,7 +1,8 @@
 -- A drafted instruction whose number stands in its field can be encoded.
-use Rattle.std.proofs.Common.{◌≡◌, ℕ, ◌%◌, Bool, true, false, ◌&&◌, Option, Some, None, refl, arith}
+use Rattle.std.proofs.Common.{◌≡◌, ℕ, ◌%◌, true, ◌&&◌, Option, Some, None, arith}
 use Rattle.std.specs.Prelude.{ℤ, pos, negsuc, ◌==◌}
 use Rattle.std.proofs.lemmas.Bool.Decides.{nat_tests}
+use Rattle.std.proofs.lemmas.Bool.{and_parts}
 use Rattle.rvs_insn.specs.declared.op.Format.{Format}
 use Rattle.rvs_insn.specs.declared.op.Format.TheVariants.{R, I, Shift, Load, JumpReg, Store, Branch}
 use Rattle.rvs_insn.specs.declared.op.Format.TheVariants.{Upper, Jump, Fence, System}
@@ -9,10 +10,6 @@ use Rattle.rvs_insn.specs.Fields.{IsRegister}
 use Rattle.rvs_insn.specs.Word.{AreOf, ImmFits, FitsBits, FitsEven, FitsUnsigned}
 use Rattle.rvs_asm_text.specs.declared.bodies.Value.{Value}
 use Rattle.rvs_asm_text.specs.Instructions.{within, is_even, in_field, HasShape}
-
-both : (s t : Bool) → (s && t) ≡ true → (s ≡ true) × (t ≡ true)
-both true t h = (refl, h)
-both false t h = cc
 
 signed12 : (z : ℤ) → within (negsuc 2047) (pos 2047) z ≡ true → FitsBits 12 z
 signed12 (pos n) h = grind (arith, nat_tests)
@@ -27,16 +24,18 @@ upper20 (pos n) h = grind (arith, nat_tests)
 upper20 (negsuc n) h = cc
 
 even13 : (z : ℤ) → (within (negsuc 4095) (pos 4095) z && is_even z) ≡ true → FitsEven 13 z
-even13 (pos n) h = let b = both (within (negsuc 4095) (pos 4095) (pos n)) (n % 2 == 0) h in
+even13 (pos n) h = let b = and_parts (within (negsuc 4095) (pos 4095) (pos n)) (n % 2 == 0) h in
     (grind (arith, nat_tests, b.0), grind (arith, nat_tests, b.1))
-even13 (negsuc n) h = let b = both (within (negsuc 4095) (pos 4095) (negsuc n)) (n % 2 == 1) h in
+even13 (negsuc n) h = let b =
+    and_parts (within (negsuc 4095) (pos 4095) (negsuc n)) (n % 2 == 1) h in
     (grind (arith, nat_tests, b.0), grind (arith, nat_tests, b.1))
 
 even21 : (z : ℤ) → (within (negsuc 1048575) (pos 1048575) z && is_even z) ≡ true → FitsEven 21 z
-even21 (pos n) h = let b = both (within (negsuc 1048575) (pos 1048575) (pos n)) (n % 2 == 0) h in
+even21 (pos n) h = let b =
+    and_parts (within (negsuc 1048575) (pos 1048575) (pos n)) (n % 2 == 0) h in
     (grind (arith, nat_tests, b.0), grind (arith, nat_tests, b.1))
 even21 (negsuc n) h = let b =
-    both (within (negsuc 1048575) (pos 1048575) (negsuc n)) (n % 2 == 1) h in
+    and_parts (within (negsuc 1048575) (pos 1048575) (negsuc n)) (n % 2 == 1) h in
     (grind (arith, nat_tests, b.0), grind (arith, nat_tests, b.1))
 
 pub field_fits : (form : Format) (z : ℤ) → in_field form z ≡ true → ImmFits form z

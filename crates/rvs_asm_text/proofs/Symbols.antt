@@ -1,10 +1,11 @@
 -- Symbols are ASCII.
-use Rattle.std.proofs.Common.{◌≡◌, ℕ, zero, suc, ◌<◌, lit<, Bool, true, false, ◌&&◌, List, [], ◌∷◌}
-use Rattle.std.proofs.Common.{refl, arith}
+use Rattle.std.proofs.Common.{◌≡◌, ℕ, zero, suc, ◌<◌, lit<, true, List, [], ◌∷◌}
+use Rattle.std.proofs.Common.{arith}
 use Rattle.std.specs.List.{list_all}
 use Rattle.std.specs.Str.{IsAscii, IsUtf8}
 use Rattle.std.proofs.lemmas.Str.{IsUtf8-from_ascii}
 use Rattle.std.proofs.lemmas.Bool.Decides.{nat_tests}
+use Rattle.std.proofs.lemmas.Bool.{and_parts}
 use Rattle.rvs_asm_text.specs.Operands.{begins_symbol, continues_symbol, is_symbol}
 
 begins_low : (c : ℕ) → begins_symbol c ≡ true → c < 128
@@ -13,23 +14,19 @@ begins_low c h = grind (arith, nat_tests)
 continues_low : (c : ℕ) → continues_symbol c ≡ true → c < 128
 continues_low c h = grind (arith, nat_tests)
 
-both : (s t : Bool) → (s && t) ≡ true → (s ≡ true) × (t ≡ true)
-both true t h = (refl, h)
-both false t h = cc
-
 rest_ascii : (cs : List ℕ) → list_all continues_symbol cs ≡ true → IsAscii cs
 rest_ascii [] h i = lit< tt
 rest_ascii (c ∷ cs) h zero =
-    continues_low c (both (continues_symbol c) (list_all continues_symbol cs) h).0
+    continues_low c (and_parts (continues_symbol c) (list_all continues_symbol cs) h).0
 rest_ascii (c ∷ cs) h (suc i) =
-    rest_ascii cs (both (continues_symbol c) (list_all continues_symbol cs) h).1 i
+    rest_ascii cs (and_parts (continues_symbol c) (list_all continues_symbol cs) h).1 i
 
 symbol_ascii : (cs : List ℕ) → is_symbol cs ≡ true → IsAscii cs
 symbol_ascii [] h i = lit< tt
 symbol_ascii (c ∷ cs) h zero =
-    begins_low c (both (begins_symbol c) (list_all continues_symbol cs) h).0
+    begins_low c (and_parts (begins_symbol c) (list_all continues_symbol cs) h).0
 symbol_ascii (c ∷ cs) h (suc i) =
-    rest_ascii cs (both (begins_symbol c) (list_all continues_symbol cs) h).1 i
+    rest_ascii cs (and_parts (begins_symbol c) (list_all continues_symbol cs) h).1 i
 
 pub symbol_utf8 : (cs : List ℕ) → is_symbol cs ≡ true → IsUtf8 cs
 symbol_utf8 cs h = IsUtf8-from_ascii cs (symbol_ascii cs h)

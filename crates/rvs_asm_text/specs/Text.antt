@@ -3,8 +3,9 @@ use Rattle.std.specs.Prelude.{ℕ, ◌==◌, ◌||◌, ◌&&◌, nat_le, Bool, O
 use Rattle.std.specs.Prelude.{if◌then◌else◌, map}
 use Rattle.rvs_base.specs.Lines.{before, after, onto_first, cut_lines, without_return}
 
--- ---- lines the lines of a text, each without one carriage return at its end, also the last
--- without a line feed
+-- ---- lines
+-- the lines of a text, each without one carriage return at its end, also the last without a line
+-- feed
 abbrev pub lines_of : List ℕ → List (List ℕ)
 lines_of text = map without_return (cut_lines text)
 

@@ -16,7 +16,7 @@ use Rattle.rvs_cross.specs.Windows.{values_among}
 use Rattle.rvs_cross.specs.Sequences.{middle_registers, assignments, bound, count_of}
 use Rattle.rvs_cross.specs.Sequences.{first_solutions, first_sequence}
 use Rattle.rvs_cross.proofs.Choices.{sum_same}
-use Rattle.rvs_cross.proofs.Solved.{Answer}
+use Rattle.rvs_cross.proofs.Solved.{SolveResult}
 
 used_map : (x : Variable) (ps : List code.Place)
     → list_any (λ p. says_of x (place_view p)) ps ≡ is_used (map place_view ps) x
@@ -42,7 +42,7 @@ assignments_are ps a b c one two three =
     ∙ ap (λ l. flat_map (with_second (choices_for middle_registers (is_used ps Second)) l)
     (choices_for middle_registers (is_used ps First))) three
 
-pub sequence_is : (s : Isa) (ps : List Place) (a b c : List (Option ℕ)) (r : Answer)
+pub sequence_is : (s : Isa) (ps : List Place) (a b c : List (Option ℕ)) (r : SolveResult)
     → flat_map (with_second b c) a ≡ assignments ps
     → IfOk r (λ found. found ≡ first_solutions s ps (flat_map (with_second b c) a))
     → IfOk r (λ found. found ≡ first_sequence s ps)

@@ -3,7 +3,7 @@ use Rattle.std.proofs.Common.{◌≡◌, ℕ, Bool, true, false, ◌&&◌, ◌||
 use Rattle.std.proofs.Common.{Option, Some, None, refl, sym, ap, ◌∙◌, subst, arith}
 use Rattle.std.specs.Prelude.{find, option_map}
 use Rattle.std.specs.List.{list_any, list_all, range_with_len}
-use Rattle.std.proofs.lemmas.Bool.{eqb-true}
+use Rattle.std.proofs.lemmas.Bool.{eqb-true, and_parts}
 use Rattle.rvs_insn.specs.Fields.{Fields, IsRegister}
 use Rattle.rvs_cross.specs.declared.cross.Variable.{Variable}
 use Rattle.rvs_cross.specs.declared.cross.Variable.TheVariants.{First, Second, Third}
@@ -16,10 +16,6 @@ use Rattle.rvs_cross.specs.Assigned.{register_by, assigned_in, assigned}
 use Rattle.rvs_cross.proofs.Members.{In, by_test, or_rest, in_any, any_in, in_map, map_in, in_flat}
 use Rattle.rvs_cross.proofs.Members.{flat_in, in_range}
 use Rattle.rvs_cross.proofs.Turns.{some_of}
-
-pub both : (a b : Bool) → (a && b) ≡ true → (a ≡ true) × (b ≡ true)
-both true b h = (refl, h)
-both false b h = cc
 
 pub same_is : (x y : Variable) → same_variable x y ≡ true → y ≡ x
 same_is First First h = refl
@@ -56,7 +52,7 @@ bound_in : (v : Values) (i : Fields) (x : Variable) (sets : List Assignment)
     → Bound (value_of v x) (assigned_in x sets i)
 bound_in v i x [] a h = cc
 bound_in v i x (s ∷ sets) a h =
-    let parts = both (is_set v i s) (list_all (is_set v i) sets) a in
+    let parts = and_parts (is_set v i s) (list_all (is_set v i) sets) a in
     let others : Option Assignment = find (λ (t : Assignment). same_variable x t.variable) sets in
     let found = λ (o : Option Assignment).
     register_by i (option_map (λ (t : Assignment). t.field) o) in
@@ -83,10 +79,11 @@ pub bound_where_used : (v : Values) (x : Variable) (ps : List Place) (is : List 
 bound_where_used v x [] is a h = cc
 bound_where_used v x (p ∷ ps) [] a h = cc
 bound_where_used v x (p ∷ ps) (i ∷ is) a h =
-    let parts = both (fits v p i) (all_fit v ps (some_of is)) a in
-    let inner = both (is_listed p.ops i.op) (list_all (is_set v i) p.sets && meets v i p.condition)
+    let parts = and_parts (fits v p i) (all_fit v ps (some_of is)) a in
+    let inner =
+    and_parts (is_listed p.ops i.op) (list_all (is_set v i) p.sets && meets v i p.condition)
     parts.0 in
-    let sets = both (list_all (is_set v i) p.sets) (meets v i p.condition) inner.1 in
+    let sets = and_parts (list_all (is_set v i) p.sets) (meets v i p.condition) inner.1 in
     by_test (says_of x p)
     (λ t. let b = bound_in v i x p.sets sets.0 t in record {
       register = b.register;

@@ -3,6 +3,7 @@ use Rattle.std.proofs.Common.{◌≡◌, ℕ, Bool, true, false, not, ◌&&◌, 
 use Rattle.std.proofs.Common.{refl, sym, ap, ◌∙◌}
 use Rattle.std.specs.Prelude.{ℤ, find}
 use Rattle.std.specs.List.{list_all}
+use Rattle.std.proofs.lemmas.Bool.{and_parts, and_from, or_left, or_right}
 use Rattle.rvs_insn.specs.declared.op.Op.{Op}
 use Rattle.rvs_insn.specs.Fields.{Fields}
 use Rattle.rvs_cross.specs.declared.cross.Field.{Field}
@@ -13,8 +14,7 @@ use Rattle.rvs_cross.specs.Windows.{Values, value_of, register_in, same_register
 use Rattle.rvs_cross.specs.Windows.{meets, fits}
 use Rattle.rvs_cross.specs.Sequences.{at_rs1, at_rd}
 use Rattle.rvs_cross.specs.Choosing.{same_field, allows_one, allows}
-use Rattle.rvs_cross.proofs.Members.{by_test, or_left, or_right, map_in, flat_in}
-use Rattle.rvs_cross.proofs.Binding.{both}
+use Rattle.rvs_cross.proofs.Members.{by_test, map_in, flat_in}
 use Rattle.rvs_cross.proofs.Searching.{find_none}
 
 field_is : (f g : Field) → same_field f g ≡ true → g ≡ f
@@ -38,25 +38,21 @@ one_allowed v i f r s e h =
     (λ t. or_left (not (same_field f s.field)) (same_register (value_of v s.variable) r)
     (ap not t))
 
-and_true : (a b : Bool) → a ≡ true → b ≡ true → (a && b) ≡ true
-and_true true b h k = k
-and_true false b h k = cc
-
 allowed : (v : Values) (i : Fields) (f : Field) (r : Option ℕ) (sets : List Assignment)
     → register_in i f ≡ r → list_all (is_set v i) sets ≡ true → allows v sets f r ≡ true
 allowed v i f r [] e h = refl
 allowed v i f r (s ∷ sets) e h =
-    let parts = both (is_set v i s) (list_all (is_set v i) sets) h in
-    and_true (allows_one v f r s) (allows v sets f r) (one_allowed v i f r s e parts.0)
+    let parts = and_parts (is_set v i s) (list_all (is_set v i) sets) h in
+    and_from (allows_one v f r s) (allows v sets f r) (one_allowed v i f r s e parts.0)
     (allowed v i f r sets e parts.1)
 
 excluded : (v : Values) (p : Place) (i : Fields) (f : Field) (r : Option ℕ) → register_in i f ≡ r
     → allows v p.sets f r ≡ false → fits v p i ≡ false
 excluded v p i f r e h =
     by_test (fits v p i)
-    (λ t. let parts = both (is_listed p.ops i.op)
+    (λ t. let parts = and_parts (is_listed p.ops i.op)
     (list_all (is_set v i) p.sets && meets v i p.condition) t in
-    let sets = both (list_all (is_set v i) p.sets) (meets v i p.condition) parts.1 in
+    let sets = and_parts (list_all (is_set v i) p.sets) (meets v i p.condition) parts.1 in
     let yes = allowed v i f r p.sets e sets.0 in cc)
     (λ t. t)
 

@@ -1,7 +1,7 @@
 -- A cross point that is read has one to six places.
-use Rattle.std.proofs.Common.{◌≡◌, ℕ, suc, ◌+◌, ◌<◌, ◌≤◌, Bool, true, false, not, ◌==◌, ◌&&◌}
+use Rattle.std.proofs.Common.{◌≡◌, ℕ, suc, ◌≤◌, Bool, true, false, not, ◌==◌, ◌&&◌}
 use Rattle.std.proofs.Common.{nat_lt, if◌then◌else◌, List, [], ◌∷◌, length, Option, Some, None}
-use Rattle.std.proofs.Common.{Result, Ok, Err, refl, sym, ap, subst, ◌∙◌, arith}
+use Rattle.std.proofs.Common.{Ok, Err, refl, sym, ap, subst, arith}
 use Rattle.std.specs.List.{list_any}
 use Rattle.std.proofs.lemmas.Bool.Decides.{nat_tests}
 use Rattle.std.proofs.lemmas.List.Splits.{length-slice_split}
@@ -12,9 +12,9 @@ use Rattle.rvs_cross.specs.Outcomes.{Outcome, ◌>>=◌}
 use Rattle.rvs_cross.specs.Lists.{Lists, lists, entries}
 use Rattle.rvs_cross.specs.Entries.{has_class, first_unknown}
 use Rattle.rvs_cross.specs.Variables.{variables}
-use Rattle.rvs_cross.specs.Parse.{Answer, read, skipped, Found, place, places, is_shaped}
-use Rattle.rvs_cross.specs.Parse.{same_lengths, with_variables, with_known, with_unknown}
-use Rattle.rvs_cross.specs.Parse.{with_names, checked, with_lists, parse}
+use Rattle.rvs_cross.specs.Parse.{read, skipped, place, places, is_shaped}
+use Rattle.rvs_cross.specs.Parse.{same_lengths, with_variables, with_unknown}
+use Rattle.rvs_cross.specs.Parse.{with_names, with_lists, parse}
 
 -- a step that was read, and what followed from it
 bound : {A B : Type 0} (r : Outcome A) (f : A → Outcome B) (b : B) → (r >>= f) ≡ Ok b

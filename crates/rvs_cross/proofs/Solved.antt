@@ -1,13 +1,13 @@
 -- What the first instructions are, and that there are some wherever instructions that compute
 -- match.
-use Rattle.std.proofs.Common.{◌≡◌, ℕ, zero, suc, ◌<◌, Bool, true, false, ◌&&◌, cond, List, [], ◌∷◌}
+use Rattle.std.proofs.Common.{◌≡◌, ℕ, zero, suc, ◌<◌, Bool, true, false, cond, List, [], ◌∷◌}
 use Rattle.std.proofs.Common.{length, get_or, ◌⊎◌, inl, inr, Option, Some, None, refl, sym, ap, ◌∙◌}
 use Rattle.std.proofs.Common.{subst, arith}
 use Rattle.std.specs.Prelude.{ℤ, pos, find, filter, All, Contains, Result, Ok, Err, IfOk, IfSome}
 use Rattle.std.specs.Prelude.{IfNone}
 use Rattle.rvs_base.specs.declared.memory_refusal.NoMemory.{NoMemory}
 use Rattle.std.specs.List.{list_any, range_with_len}
-use Rattle.std.proofs.lemmas.Bool.{eqb-true}
+use Rattle.std.proofs.lemmas.Bool.{eqb-true, and_parts, and_from}
 use Rattle.rvs_insn.specs.declared.op.Op.{Op}
 use Rattle.rvs_insn.specs.declared.op.Op.TheVariants.{Lui}
 use Rattle.rvs_insn.specs.declared.op.Format.{Format}
@@ -33,7 +33,7 @@ use Rattle.rvs_cross.specs.Sequences.{first_sequence, IsComputing, Solvable}
 use Rattle.rvs_cross.proofs.Members.{In, in_any, any_in, in_map, map_in, in_flat, flat_in, in_range}
 use Rattle.rvs_cross.proofs.Members.{range_in}
 use Rattle.rvs_cross.proofs.Turns.{some_of}
-use Rattle.rvs_cross.proofs.Binding.{both, next, bound_where_used, in_values, values_in}
+use Rattle.rvs_cross.proofs.Binding.{next, bound_where_used, in_values, values_in}
 
 -- ---- lists
 
@@ -200,7 +200,7 @@ has_solution s v p i c h e =
     not_found (fits v p) i (candidates s p)
     (in_flat insns_of i.op i (filter (is_admitted_op s) (listed p.ops))
     (in_filter (is_admitted_op s) i.op (listed p.ops) c.admitted
-    (in_listed p.ops i.op (both (is_listed p.ops i.op) _ h).0))
+    (in_listed p.ops i.op (and_parts (is_listed p.ops i.op) _ h).0))
     (computing_in s i c)) h e
 
 -- ---- instructions of all places
@@ -239,10 +239,6 @@ onto_some (Some i) None is e = cc
 onto_some None (Some js) is e = cc
 onto_some None None is e = cc
 
-and_true : (a b : Bool) → a ≡ true → b ≡ true → (a && b) ≡ true
-and_true true b h k = k
-and_true false b h k = cc
-
 pub solved : (s : Isa) (v : Values) (ps : List Place) (is : List Fields)
     → solutions s v ps ≡ Some is → Solves s v ps is
 solved s v [] is e =
@@ -257,7 +253,7 @@ solved s v (p ∷ ps) is e =
     subst P parts.whole_is (record {
       count = ap (λ n. suc n) others.count;
       computing = (candidate_computes s p parts.head one.1, others.computing);
-      fit = and_true (fits v p parts.head) (all_fit v ps (some_of parts.tail)) one.0 others.fit;
+      fit = and_from (fits v p parts.head) (all_fit v ps (some_of parts.tail)) one.0 others.fit;
     })
 
 onto_none : (o : Option Fields) (r : Option (List Fields)) → onto o r ≡ None
@@ -271,7 +267,7 @@ pub have_solutions : (s : Isa) (v : Values) (ps : List Place) (is : List Fields)
 have_solutions s v [] is c h e = cc
 have_solutions s v (p ∷ ps) [] c h e = cc
 have_solutions s v (p ∷ ps) (i ∷ is) c h e =
-    let parts = both (fits v p i) (all_fit v ps (some_of is)) h in
+    let parts = and_parts (fits v p i) (all_fit v ps (some_of is)) h in
     elim (onto_none (solution s v p) (solutions s v ps) e) [
       | inl o ↦ has_solution s v p i c.0 parts.0 o
       | inr r ↦ have_solutions s v ps is c.1 parts.1 r
@@ -403,11 +399,11 @@ nothing_solves s ps e m =
 
 -- ---- the same of an answer
 
-abbrev pub Answer : Type 0
-Answer = Result (Option (List Fields)) NoMemory
+abbrev pub SolveResult : Type 0
+SolveResult = Result (Option (List Fields)) NoMemory
 
 ok_then : (P Q : Option (List Fields) → Type 0) → ((o : Option (List Fields)) → P o → Q o)
-    → (r : Answer) → IfOk r P → IfOk r Q
+    → (r : SolveResult) → IfOk r P → IfOk r Q
 ok_then P Q h (Ok o) p = h o p
 ok_then P Q h (Err e) p = tt
 
@@ -422,13 +418,13 @@ none_then N whole None h e = h (sym e)
 none_then N whole (Some is) h e = tt
 
 pub answer_some : (s : Isa) (ps : List Place) (Q : List Fields → Type 0)
-    → ((is : List Fields) → Whole s ps is → Q is) → (r : Answer)
+    → ((is : List Fields) → Whole s ps is → Q is) → (r : SolveResult)
     → IfOk r (λ o. o ≡ first_sequence s ps) → IfOk r (λ o. IfSome o Q)
 answer_some s ps Q h r a =
     ok_then (λ o. o ≡ first_sequence s ps) (λ o. IfSome o Q)
     (λ o e. some_then Q (first_sequence s ps) o (λ is w. h is (sequence_solves s ps is w)) e) r a
 
-pub answer_none : (s : Isa) (ps : List Place) (r : Answer)
+pub answer_none : (s : Isa) (ps : List Place) (r : SolveResult)
     → IfOk r (λ o. o ≡ first_sequence s ps) → IfOk r (λ o. IfNone o (Solvable s ps → ⊥))
 answer_none s ps r a =
     ok_then (λ o. o ≡ first_sequence s ps) (λ o. IfNone o (Solvable s ps → ⊥))

@@ -25,15 +25,15 @@ use Rattle.rvs_cross.specs.Lists.{Lists, lists, entries}
 use Rattle.rvs_cross.specs.Entries.{lists_ops, lists_sets, has_class, first_unknown, ops}
 use Rattle.rvs_cross.specs.Variables.{variables, sets}
 
-pub data Answer : Type 0 where
-  read : List Place → Answer
+pub data CrossText : Type 0 where
+  read : List Place → CrossText
   -- it names a class of instructions
-  skipped : Answer
+  skipped : CrossText
 
 abbrev pub Found : Type 0
-Found = Result Answer CrossRefusal
+Found = Result CrossText CrossRefusal
 
-abbrev pub answer_view : CrossRead → Answer
+abbrev pub answer_view : CrossRead → CrossText
 answer_view (code.Read c) = read (cross_view c)
 answer_view code.Skipped = skipped
 

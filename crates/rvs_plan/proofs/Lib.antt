@@ -6,3 +6,4 @@ pub mod Putting
 pub mod Stepping
 pub mod Answering
 pub mod Progress
+pub mod FoundInputs
