@@ -81,7 +81,7 @@ settled-next g h b around hd own bs w e c =
     ∙ ap (λ m. m >>= λ k. settled k (opened around hd own) bs w) c
     ∙ settled-bare h around hd own bs w
 
-step-over : (b : Open) (bs : List Open) (w : Word) → is_below b.head w ≡ false
+pub step-over : (b : Open) (bs : List Open) (w : Word) → is_below b.head w ≡ false
     → step (b ∷ bs) w ≡ settled (own_found b) b bs w
 step-over b bs w e = rw e refl
 
