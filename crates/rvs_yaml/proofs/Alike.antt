@@ -5,7 +5,8 @@ use Rattle.std.specs.Prelude.{◌&&◌, ◌||◌, bytes_eq, if◌then◌else◌}
 use Rattle.std.proofs.lemmas.Slice.Eq.{bytes_eq-Decides}
 use Rattle.rvs_tree.specs.Value.{Value}
 use Rattle.rvs_yaml_text.specs.Word.{Bracket, Token, opening, closing, comma, colon, scalar_token}
-use Rattle.rvs_yaml_text.specs.Word.{key_token, cut_key, colon_scalar, alias_token, late_colon, fault}
+use Rattle.rvs_yaml_text.specs.Word.{key_token, cut_key, colon_scalar, alias_token, late_colon}
+use Rattle.rvs_yaml_text.specs.Word.{fault}
 use Rattle.rvs_yaml_text.specs.Word.{Content, nothing, text, alias, flow, faulty, Shape, dash, key}
 use Rattle.rvs_yaml_text.specs.Word.{leaf, refused}
 use Rattle.rvs_yaml.specs.Checks.{Checked, ◌>>=◌, ◌>>◌, check}
@@ -35,7 +36,8 @@ first-by false v m n o h = h
 lookup-append : (k : List ℕ) (a b : Anchors) → lookup k (a ++ b) ≡ first (lookup k a) (lookup k b)
 lookup-append k [] b = refl
 lookup-append k (x ∷ a) b =
-    first-by (bytes_eq x.0 k) x.1 (lookup k a) (lookup k (a ++ b)) (lookup k b) (lookup-append k a b)
+    first-by (bytes_eq x.0 k) x.1 (lookup k a) (lookup k (a ++ b)) (lookup k b)
+    (lookup-append k a b)
 
 pub alike-append : (a b c d : Anchors) → Alike a c → Alike b d → Alike (a ++ b) (c ++ d)
 alike-append a b c d h i = λ k.
@@ -81,7 +83,8 @@ alike-kept : (n : List ℕ) (v : Value) (a b : Anchors) → Alike a b → has_an
 alike-kept n v a b h e = λ k.
     lookup-append k a ((n, v) ∷ [])
     ∙ behind-by (bytes_eq n k) v (lookup k a) (lookup k b)
-    (λ t. let there : has_anchor k b ≡ true = subst (λ m. has_anchor m b ≡ true) (same-name n k t) e in
+    (λ t. let there : has_anchor k b ≡ true =
+    subst (λ m. has_anchor m b ≡ true) (same-name n k t) e in
     ap (λ o. first o (Some v)) (h k) ∙ kept k b (Some v) there)
     (λ t. h k)
 

@@ -1,5 +1,6 @@
 -- Of two anchors with one name the later one serves, whether the earlier one is kept or not.
-use Rattle.std.proofs.Common.{◌≡◌, ℕ, Bool, true, false, List, [], ◌∷◌, ◌++◌, Some, None, Ok, Err, refl}
+use Rattle.std.proofs.Common.{◌≡◌, ℕ, Bool, true, false, List, [], ◌∷◌, ◌++◌, Some, None, Ok, Err}
+use Rattle.std.proofs.Common.{refl}
 use Rattle.std.proofs.Common.{sym, ap, ◌∙◌, subst, append-nil}
 use Rattle.std.specs.Prelude.{if◌then◌else◌}
 use Rattle.rvs_tree.specs.Value.{Value, scalar_value, map_value, explicit_keys}
@@ -88,7 +89,8 @@ begins-related bs more w m =
     opened-related (own_value (known_of bs) w.line w.shape)
     (own_value (known_of (redone bs more)) w.line w.shape) (λ own. begun w own ∷ bs)
     (λ own. begun w own ∷ redone bs more)
-    (sym (own-alike (known_of bs) (known_of (redone bs more)) (known-alike bs more m) w.line w.shape))
+    (sym (own-alike (known_of bs) (known_of (redone bs more)) (known-alike bs more m) w.line
+    w.shape))
     (λ own. ([] ∷ more, refl, (alike-same [], bare-none (begun_done w.shape), m)))
 
 abbrev opened : ℕ → ℕ → Done → Anchors → Word → Value → Open
@@ -168,9 +170,11 @@ noted-value false n v a = refl
 noted-related : (name : Name) (g : Found Value) (a : Anchors) → Alike g.anchors a
     → RelatedFound (Ok (named name g)) (Ok (noted name (found g.value a)))
 noted-related None g a h = (a, refl, h)
-noted-related (Some n) g a h =
-    ((noted (Some n) (found g.value a)).anchors, ap Ok (noted-value (has_anchor n a) n g.value a),
-    alike-noted n g.value g.anchors a h)
+noted-related (Some n) g a h = (
+  (noted (Some n) (found g.value a)).anchors,
+  ap Ok (noted-value (has_anchor n a) n g.value a),
+  alike-noted n g.value g.anchors a h,
+)
 
 named-related : (name : Name) (m n : Checked (Found Value)) → RelatedFound m n
     → RelatedFound (m >>= λ h. Ok (named name h)) (n >>= λ h. Ok (noted name h))

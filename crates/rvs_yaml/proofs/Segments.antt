@@ -75,10 +75,6 @@ known-put all n bs h =
     ap (λ xs. anchors_view (drop n all) ++ xs) (known-over (take n all) (reverse bs) below)
     ∙ whole all n
 
-pub known-all : (all : List Anchor) (bs : List Open) → Rises (length all) (befores bs)
-    → known_of (anchored all bs) ≡ anchors_view all
-known-all all bs h = known-over all (reverse bs) h
-
 segment : (m n : ℕ) (all : List Anchor) → m ≤ n → n ≤ length all
     → drop m all ≡ drop m (take n all) ++ drop n all
 segment m n all h k =
@@ -122,7 +118,8 @@ pub next-over : (name : Name) (v : Value) (n : ℕ) (all after : List Anchor) (o
     (bs : List Open) (w : Word) → Names name v n all after → o.block.before ≤ n → n ≤ length all
     → settled (noted name (found v (anchors_view (drop n all)))) (open_at (take n all) o)
     (anchored (take o.block.before (take n all)) bs) w
-    ≡ settled (found v []) (bare (block_at after o.block)) (anchored (take o.block.before after) bs) w
+    ≡ settled (found v []) (bare (block_at after o.block)) (anchored (take o.block.before after) bs)
+    w
 next-over name v n all after o bs w named h k =
     let m = o.block.before in
     let g = noted name (found v (anchors_view (drop n all))) in
@@ -160,7 +157,8 @@ pub step-own : (v : Value) (n : ℕ) (all after : List Anchor) (o : Open) (bs : 
     → n ≡ length all → o.block.before ≤ n → is_below (head_view o.head) w ≡ false
     → v ≡ own_value (open_view o) → Names (head_view o.head).anchor v n all after
     → step (open_at all o ∷ anchored (take o.block.before all) bs) w
-    ≡ settled (found v []) (bare (block_at after o.block)) (anchored (take o.block.before after) bs) w
+    ≡ settled (found v []) (bare (block_at after o.block)) (anchored (take o.block.before after) bs)
+    w
 step-own v n all after o bs w e h below is named =
     let m = o.block.before in
     let name = (head_view o.head).anchor in
@@ -182,7 +180,8 @@ pub put-all : (all : List Anchor) (n : ℕ) (b : Block) (bs : List Open) (h : He
     >>= λ own. Ok (opened b h own ∷ anchored (take n all) bs))
 put-all all n b bs h c e r =
     ap (λ xs. content_value xs h.line c
-    >>= λ own. let q : Checked (List spec.Open) = Ok (opened b h own ∷ anchored (take n all) bs) in q)
+    >>= λ own. let q : Checked (List spec.Open) = Ok (opened b h own ∷ anchored (take n all) bs) in
+    q)
     (ap (λ xs. xs ++ known_of (anchored (take n all) bs)) e ∙ known-put all n bs r)
 
 pub filled-all : (all : List Anchor) (o : Open) (bs : List Open) (b : Bracket) (ts : List Token)

@@ -79,12 +79,13 @@ abbrev pub open_blocks : OpenBlocks → List spec.Open
 open_blocks s = anchored s.anchors.anchors.items s.blocks.items
 
 -- What naming a node that has this value made of the anchors: those behind so many are in the node.
-pub record Names (name : Name) (v : value_spec.Value) (before : ℕ) (all after : List Anchor) : Type 0
+pub record Names (name : Name) (v : value_spec.Value) (before : ℕ) (all after : List Anchor) : Type
+    0
   where
-  pub inner : anchors_view (drop before after)
-      ≡ (spec.noted name (block_spec.found v (anchors_view (drop before all)))).anchors
-  pub outer : take before after ≡ take before all
-  pub more : length all ≤ length after
+    pub inner : anchors_view (drop before after)
+        ≡ (spec.noted name (block_spec.found v (anchors_view (drop before all)))).anchors
+    pub outer : take before after ≡ take before all
+    pub more : length all ≤ length after
 
 -- the anchors that are complete
 abbrev pub all_known : Known → anchors_spec.Anchors

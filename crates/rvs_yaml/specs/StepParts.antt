@@ -60,10 +60,6 @@ abbrev pub bare : Block → Open
 bare b =
     opened b (record { line = 0; column = 0; sort = no_opener; anchor = None }) (scalar_value [] 0)
 
-abbrev pub own_of : Head → Value → Found Value
-own_of h own =
-    noted h.anchor (found (if opens_block h.sort then scalar_value [] h.line else own) [])
-
 abbrev pub closed_value : Done → ℕ → Value → Checked Value
 closed_value (done_items vs) line v = Ok (list_value line (vs ++ v ∷ []))
 closed_value (done_entries ws k) line v =

@@ -76,7 +76,8 @@ pub(crate) fn named<'a>(
 ) -> Result<AnchorList<'a>, AllocError>
     requires { before ≤ length list.anchors.items }
     ensures { IfOk result
-        (λ l. Names (name_view name.entry) (value_view value.now) before list.entry.anchors.items l.anchors.items) }
+        (λ l. Names (name_view name.entry) (value_view value.now) before list.entry.anchors.items
+        l.anchors.items) }
 {
     let Some(name) = name else {
         return Ok(list);

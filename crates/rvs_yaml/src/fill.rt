@@ -15,10 +15,10 @@ ghost use Rattle.rvs_yaml.specs.Gives.{Gives};
 ghost use Rattle.rvs_yaml.specs.Reader.{Passes, Denies, DeniesFront};
 ghost use Rattle.rvs_yaml.specs.StackView.{all_known, anchors_view, stack_view, open_blocks};
 
+use crate::anchor_list::AnchorList;
 use crate::flow_text::{flow_value, thin_flow_value};
 use crate::front::{MOST_DEPTH, MOST_NODES, sketch_with, thin_sketch};
 use crate::height::flow_height;
-use crate::anchor_list::AnchorList;
 use crate::known::Known;
 use crate::open::Open;
 use crate::open_blocks::OpenBlocks;
@@ -62,8 +62,8 @@ fn check_thin(
     check_nodes(blocks, thin, height)
 }
 
-/// Refuses a line for its flow collection or its front, as far as small values in the place of those
-/// of aliases tell it.
+/// Refuses a line for its flow collection or its front, as far as small values in the place of
+/// those of aliases tell it.
 fn check_paid(
     alloc: Global,
     stack: &OpenBlocks<'_>,
@@ -111,8 +111,8 @@ fn has_star(text: &str) -> bool {
     text.as_bytes().contains(&b'*')
 }
 
-/// Fills in the value of a flow collection as that of the last word. An alias is counted before what
-/// it stands for is taken.
+/// Fills in the value of a flow collection as that of the last word. An alias is counted before
+/// what it stands for is taken.
 fn fill<'a>(
     alloc: Global,
     stack: OpenBlocks<'a>,
@@ -148,7 +148,8 @@ fn hollow_content<'a>(
     alloc: Global,
     content: Content<'a>,
 ) -> (Content<'a>, Option<(Bracket, &'a str)>)
-    ensures { content_parts result ≡ (spec.hollow_content (content_view content.entry), spec.flow_in (content_view content.entry)) }
+    ensures { content_parts result
+        ≡ (spec.hollow_content (content_view content.entry), spec.flow_in (content_view content.entry)) }
 {
     match content {
         Content::Flow(bracket, text) => (Content::Text(String::new(alloc)), Some((bracket, text))),

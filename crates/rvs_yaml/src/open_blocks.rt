@@ -11,5 +11,7 @@ use crate::open::Open;
 pub(crate) struct OpenBlocks<'a> {
     pub blocks: Vec<Open<'a>>,
     pub anchors: AnchorList<'a>,
-    ghost rising: { Rises (length anchors.anchors.items) (befores blocks.items) } by { Rises-prop (length anchors.anchors.items) (befores blocks.items) },
+    ghost rising: { Rises (length anchors.anchors.items)
+        (befores blocks.items) } by { Rises-prop (length anchors.anchors.items)
+            (befores blocks.items) },
 }

@@ -247,7 +247,8 @@ fn begin<'a>(
 ) -> Result<OpenBlocks<'a>, YamlKind>
     requires { Rises (length anchors.anchors.items) (befores blocks.items) }
     ensures { Gives open_blocks result
-        (spec.begins (anchored anchors.entry.anchors.items blocks.entry.items) (word_view word.entry)) }
+        (spec.begins (anchored anchors.entry.anchors.items blocks.entry.items)
+        (word_view word.entry)) }
 {
     let head = word.head();
     let (done, content) = begun(alloc, word.shape)?;
@@ -392,7 +393,8 @@ pub(crate) fn step<'a>(
     stack: OpenBlocks<'a>,
     word: Word<'a>,
 ) -> Result<OpenBlocks<'a>, YamlKind>
-    ensures { Gives open_blocks result (spec.step (open_blocks stack.entry) (word_view word.entry)) }
+    ensures { Gives open_blocks result
+        (spec.step (open_blocks stack.entry) (word_view word.entry)) }
 {
     let OpenBlocks {
         mut blocks,

@@ -65,10 +65,12 @@ returns c =
     sym c.opens_block.ensures ∙ c.if-opens_block.false in
     let front : (v : Value) → ends v (stack_view c.as_slice-blocks.result.now)
     ≡ ends v (open_at all top ∷ rest) =
-    λ v. ap (λ xs. ends v (stack_view xs)) c.as_slice-blocks.ensures.value ∙ sym (ends-anchored v all bs)
+    λ v. ap (λ xs. ends v (stack_view xs)) c.as_slice-blocks.ensures.value
+    ∙ sym (ends-anchored v all bs)
     ∙ ap (ends v) split in
     subst (λ x. Denies c.check_thin.result (filled (Some (b, ts)) x)) (sym split)
     (denied-front c.check_thin.result (open_at all top) rest b ts (value_view c.in_ok-thin.thin)
-    leaf (ap (λ xs. mapped standin (flow_value xs top.head.line b ts)) known ∙ c.in_ok-thin.ensures)
+    leaf
+    (ap (λ xs. mapped standin (flow_value xs top.head.line b ts)) known ∙ c.in_ok-thin.ensures)
     (λ v e t. subst (DeniesFront c.check_thin.result) (front v) (c.check_thin.ensures top.head.line b
     v (sym (ap (λ xs. flow_value xs top.head.line b ts) known) ∙ e) t)))

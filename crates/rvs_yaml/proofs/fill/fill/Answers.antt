@@ -24,13 +24,15 @@ returns-in_err-own c =
     let b = bracket_view c.args.bracket in
     let ts = tokens_of c.args.text.now in
     let risen : Rises (length all) (top.block.before ∷ befores rest) =
-    subst (Rises (length all)) (ap befores c.in-Some.ensures.items ∙ befores-push rest top) s.rising in
+    subst (Rises (length all)) (ap befores c.in-Some.ensures.items ∙ befores-push rest top)
+    s.rising in
     let split = ap (anchored all) c.in-Some.ensures.items ∙ anchored-push all rest top in
     let p = err_from_is_err_and c.from_residual-in_err-own.result
     c.from_residual-in_err-own.ensures.1 in
     rw (p.1, p.2) (fails_first _ (flow_value (anchors_view all) top.head.line b ts)
     (λ own. kept (with_own (open_at all top) own ∷ anchored (take top.block.before all) rest)) _
-    (sym (ap (λ m. m >>= kept) (ap (filled (Some (b, ts))) split ∙ filled-all all top rest b ts risen)
+    (sym (ap (λ m. m >>= kept)
+    (ap (filled (Some (b, ts))) split ∙ filled-all all top rest b ts risen)
     ∙ bind_assoc (flow_value (anchors_view all) top.head.line b ts) _ kept))
     c.in_err-own.ensures)
 
@@ -41,7 +43,8 @@ invariant_of-result-2 c =
     let top = c.in-Some.top in
     let rest = c.pop.new.self.items in
     let risen : Rises (length all) (top.block.before ∷ befores rest) =
-    subst (Rises (length all)) (ap befores c.in-Some.ensures.items ∙ befores-push rest top) s.rising in
+    subst (Rises (length all)) (ap befores c.in-Some.ensures.items ∙ befores-push rest top)
+    s.rising in
     record {
       rising = subst (Rises (length all)) (sym (ap befores c.in_ok-push.ensures.items
           ∙ befores-push rest _)) risen;
@@ -56,11 +59,14 @@ returns c =
     let b = bracket_view c.args.bracket in
     let ts = tokens_of c.args.text.now in
     let risen : Rises (length all) (top.block.before ∷ befores rest) =
-    subst (Rises (length all)) (ap befores c.in-Some.ensures.items ∙ befores-push rest top) s.rising in
-    ap (filled (Some (b, ts))) (ap (anchored all) c.in-Some.ensures.items ∙ anchored-push all rest top)
+    subst (Rises (length all)) (ap befores c.in-Some.ensures.items ∙ befores-push rest top)
+    s.rising in
+    ap (filled (Some (b, ts)))
+    (ap (anchored all) c.in-Some.ensures.items ∙ anchored-push all rest top)
     ∙ filled-all all top rest b ts risen
     ∙ ap (λ m. m >>= λ own. let r : Checked (List Open) =
     Ok (with_own (open_at all top) own ∷ anchored (take top.block.before all) rest) in r)
     c.in_ok-own.ensures
-    ∙ ap (λ v. Ok (with_own (open_at all top) v ∷ anchored (take top.block.before all) rest)) (sym (ap value_view c.in_ok-new.ensures.ok))
+    ∙ ap (λ v. Ok (with_own (open_at all top) v ∷ anchored (take top.block.before all) rest))
+    (sym (ap value_view c.in_ok-new.ensures.ok))
     ∙ ap Ok (sym (ap (anchored all) c.in_ok-push.ensures.items ∙ anchored-push all rest _))

@@ -12,7 +12,8 @@ use Rattle.rvs_yaml.proofs.stack.begin.Goals as goal
 pub put-requires : goal.put-requires
 put-requires c =
     let all = c.args.anchors.anchors.items in
-    let same : length all ≡ c.len.result = omega (arith, c.len.ensures, c.args.anchors.anchors.ok.0) in
+    let same : length all ≡ c.len.result =
+    omega (arith, c.len.ensures, c.args.anchors.anchors.ok.0) in
     (omega (arith, same), subst (λ m. Rises m (befores c.args.blocks.items)) same c.requires)
 
 pub returns : goal.returns

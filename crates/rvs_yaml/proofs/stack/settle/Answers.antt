@@ -36,7 +36,7 @@ loop-outer-preserved c =
     l.invariant.rising.1 in
     record {
       rising =
-        (omega (arith, risen.0, l.invariant.rising.0, c.in_ok-anchors.ensures.more), risen.1);
+          (omega (arith, risen.0, l.invariant.rising.0, c.in_ok-anchors.ensures.more), risen.1);
       same =
           sym (next-over name u n all after outer rest w c.in_ok-anchors.ensures risen.0
           l.invariant.rising.0)
@@ -44,7 +44,8 @@ loop-outer-preserved c =
           c.in_ok-value.ensures)
           ∙ sym (settled-closing b v around below w above)
           ∙ sym (ap (λ s. settled (found v []) (bare b) s w)
-          (ap (anchored (take n all)) c.in-Some.ensures.items ∙ anchored-push (take n all) rest outer))
+          (ap (anchored (take n all)) c.in-Some.ensures.items
+          ∙ anchored-push (take n all) rest outer))
           ∙ l.invariant.same;
     }
 
@@ -71,7 +72,7 @@ loop-outer-preserved-in_ok-anchors c =
     l.invariant.rising.1 in
     record {
       rising =
-        (omega (arith, risen.0, l.invariant.rising.0, c.in_ok-anchors.ensures.more), risen.1);
+          (omega (arith, risen.0, l.invariant.rising.0, c.in_ok-anchors.ensures.more), risen.1);
       same =
           sym (next-over name u n all after outer rest w c.in_ok-anchors.ensures risen.0
           l.invariant.rising.0)
@@ -79,7 +80,8 @@ loop-outer-preserved-in_ok-anchors c =
           c.in_ok-value.ensures)
           ∙ sym (settled-closing b v around below w above)
           ∙ sym (ap (λ s. settled (found v []) (bare b) s w)
-          (ap (anchored (take n all)) c.in-Some.ensures.items ∙ anchored-push (take n all) rest outer))
+          (ap (anchored (take n all)) c.in-Some.ensures.items
+          ∙ anchored-push (take n all) rest outer))
           ∙ l.invariant.same;
     }
 

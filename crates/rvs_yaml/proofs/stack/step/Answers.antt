@@ -28,7 +28,8 @@ returns c =
     let top = c.in-Some.top in
     let rest = c.pop.new.self.items in
     let risen : Rises (length all) (top.block.before ∷ befores rest) =
-    subst (Rises (length all)) (ap befores c.in-Some.ensures.items ∙ befores-push rest top) s.rising in
+    subst (Rises (length all)) (ap befores c.in-Some.ensures.items ∙ befores-push rest top)
+    s.rising in
     let above : is_below (head_view top.head) w ≡ false =
     sym c.is_below.ensures ∙ c.if-is_below.false in
     let same : c.len-known.result ≡ length all =
@@ -36,4 +37,5 @@ returns c =
     gives_same _ _ _ _ (sym (ap (λ x. step x w)
     (ap (anchored all) c.in-Some.ensures.items ∙ anchored-push all rest top)
     ∙ step-own (value_view c.in_ok-value.value) c.len-known.result all after top rest w same
-    (omega (arith, same, risen.0)) above c.in_ok-value.ensures c.in_ok-anchors.ensures)) c.settle.ensures
+    (omega (arith, same, risen.0)) above c.in_ok-value.ensures c.in_ok-anchors.ensures))
+    c.settle.ensures
