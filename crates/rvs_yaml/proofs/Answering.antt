@@ -8,7 +8,6 @@ use Rattle.rvs_tree.specs.Data.{Data}
 use Rattle.rvs_tree.specs.Value.{Value}
 use Rattle.rvs_yaml.specs.Checks.{Checked, ◌>>=◌, ◌>>◌}
 use Rattle.rvs_yaml_text.specs.Word.{Word}
-use Rattle.rvs_yaml.specs.Block.{tree_of}
 use Rattle.rvs_yaml.specs.Stack.{Open, step, steps}
 use Rattle.rvs_yaml.specs.Front.{front_value, checked_front}
 use Rattle.rvs_yaml_text.specs.Scalar.{is_blank}
@@ -17,8 +16,8 @@ use Rattle.rvs_yaml_text.specs.Text.{without_return}
 use Rattle.rvs_yaml.specs.Answer.{Answer, within_limits, front, at_end, answer_after, answer}
 use Rattle.rvs_yaml.specs.Reader.{checked_line}
 use Rattle.rvs_yaml_text.specs.declared.kind.YamlKind.{YamlKind}
-use Rattle.rvs_yaml.proofs.Outlined.{bind_assoc, bind_same, tree_of-steps}
-use Rattle.rvs_yaml.proofs.Fronts.{finished-front}
+use Rattle.rvs_yaml.proofs.Outlined.{bind_assoc, bind_same}
+use Rattle.rvs_yaml.proofs.Latest.{tree-front}
 
 pub steps-append : (ws vs : List Word) (bs : List Open)
     → steps bs (ws ++ vs) ≡ (steps bs ws >>= λ cs. steps cs vs)
@@ -86,9 +85,6 @@ HasRead-line lines number started blocks after l h e = record {
 -- what the tree of a front is, from what was read
 abbrev kept : Checked Value → Checked Data
 kept m = m >>= λ v. within_limits v >> Ok v.tree
-
-tree-front : (ws : List Word) → tree_of ws ≡ (steps [] ws >>= front_value)
-tree-front ws = tree_of-steps ws ∙ bind_same (steps [] ws) _ _ finished-front
 
 pub front-read : (lines : List (List ℕ)) (number : ℕ) (started : Bool) (blocks : List Open)
     → HasRead lines number started blocks → front lines ≡ kept (front_value blocks)

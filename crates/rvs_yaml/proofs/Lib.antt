@@ -1,3 +1,4 @@
+pub mod Alike
 pub mod Answering
 pub mod Ending
 pub mod Filling
@@ -6,6 +7,8 @@ pub mod FlowRuns
 pub mod Fronts
 pub mod Giving
 pub mod Heights
+pub mod InOrder
+pub mod Latest
 pub mod Least
 pub mod Lining
 pub mod Lookups
@@ -15,6 +18,7 @@ pub mod Paying
 pub mod Placing
 pub mod Reaching
 pub mod Rows
+pub mod Segments
 pub mod Sketching
 pub mod Stepping
 pub mod Telling

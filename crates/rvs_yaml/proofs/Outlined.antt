@@ -12,8 +12,9 @@ use Rattle.rvs_yaml.specs.Block.{children, after, outline, block, items, entries
 use Rattle.rvs_yaml.specs.Anchors.{Anchors}
 use Rattle.rvs_yaml.specs.Entry.{written}
 use Rattle.rvs_yaml.specs.Stack.{Done, done_items, done_entries, alone, Open, begun_done, known_of}
-use Rattle.rvs_yaml.specs.Stack.{begins, own_found, closed_as, closed, closed_into, advanced_as}
-use Rattle.rvs_yaml.specs.Stack.{advanced, settled, step, unwound, finished, steps}
+use Rattle.rvs_yaml.specs.Stack.{begins, advanced_as, advanced}
+use Rattle.rvs_yaml.proofs.InOrder.{own_found, closed_as, closed, closed_into, settled, step}
+use Rattle.rvs_yaml.proofs.InOrder.{unwound, finished, steps}
 use Rattle.rvs_yaml_text.specs.declared.kind.YamlKind.TheVariants.{Unsupported}
 
 pub bind_assoc : {A B C : Type 0} (m : Checked A) (f : A → Checked B) (g : B → Checked C)

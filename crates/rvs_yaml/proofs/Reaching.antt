@@ -15,15 +15,16 @@ use Rattle.rvs_yaml.specs.Checks.{Checked, ◌>>=◌, ◌>>◌, check}
 use Rattle.rvs_yaml.specs.Anchors.{Anchors}
 use Rattle.rvs_yaml.specs.Entry.{written}
 use Rattle.rvs_yaml.specs.Answer.{within_limits}
-use Rattle.rvs_yaml.specs.Block.{Found, named, no_place, item_at, key_at, check_merge}
+use Rattle.rvs_yaml.specs.Block.{Found, no_place, item_at, key_at, check_merge}
 use Rattle.rvs_yaml.specs.Block as block_spec
+use Rattle.rvs_yaml.specs.Stack.{noted}
 use Rattle.rvs_yaml.specs.Stack.{Done, done_items, done_entries, alone, Open, begun_done, begun}
 use Rattle.rvs_yaml.specs.Stack.{begins, own_found, closed, closed_into, advanced_as, put, advanced}
 use Rattle.rvs_yaml.specs.Stack.{settled, step, steps, known_of}
 use Rattle.rvs_yaml.specs.StepParts.{closed_value}
 use Rattle.rvs_yaml.specs.Front.{own_value, ends, front_value, checked_front}
 use Rattle.rvs_yaml.specs.Reach.{level, levels, reach, KeepsDepth}
-use Rattle.rvs_yaml.proofs.Fronts.{closed-value, named-value, own-value, value_of}
+use Rattle.rvs_yaml.proofs.Fronts.{closed-value, noted-value, own-value, value_of}
 use Rattle.rvs_yaml.proofs.Sketching.{ge_fact}
 use Rattle.rvs_yaml_text.specs.declared.kind.YamlKind.{YamlKind}
 use Rattle.rvs_yaml_text.specs.declared.kind.YamlKind.TheVariants.{TooDeep, Unsupported, BadIndent}
@@ -231,11 +232,11 @@ closes-same : (b : Open) (g : Found Value) (name : Name) (k : Found Value) (v : 
     ≡ Ok v
 closes-same b g name k v bs c e =
     let d =
-    bind-ok (closed b g) (λ j. let r : Checked (Found Value) = Ok (named name j) in r) k c in
+    bind-ok (closed b g) (λ j. let r : Checked (Found Value) = Ok (noted name j) in r) k c in
     let whole : closed_value b.done b.line g.value ≡ Ok d.value.value =
     sym (closed-value b.done b.line b.anchors g) ∙ ap (λ m. m >>= value_of) d.is in
     let same : d.value.value ≡ k.value =
-    sym (named-value name d.value) ∙ ap (λ j. j.value) (same-found _ _ d.rest) in
+    sym (noted-value name d.value) ∙ ap (λ j. j.value) (same-found _ _ d.rest) in
     subst (λ x. ends x bs ≡ Ok v) same (sym (ap (λ m. m >>= λ y. ends y bs) whole) ∙ e)
 
 settled-by : (t : Bool) (b outer : Open) (g : Found Value) (v : Value) (bs : List Open) (w : Word)

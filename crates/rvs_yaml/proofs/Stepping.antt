@@ -72,22 +72,6 @@ pub settled-over : (g : Found Value) (b o : Open) (bs : List Open) (w : Word)
     → settled g b (o ∷ bs) w ≡ (closed_into b g o.head.anchor >>= λ h. settled h o bs w)
 settled-over g b o bs w e = rw e refl
 
--- a block that the word isn't in is closed
-pub settled-next : (g h : Found Value) (b : Open) (around : Block) (hd : Head) (own : Value)
-    (bs : List Open) (w : Word) → is_below hd w ≡ false → closed_into b g hd.anchor ≡ Ok h →
-    settled g b (opened around hd own ∷ bs) w ≡ settled h (bare around) bs w
-settled-next g h b around hd own bs w e c =
-    settled-over g b (opened around hd own) bs w e
-    ∙ ap (λ m. m >>= λ k. settled k (opened around hd own) bs w) c
-    ∙ settled-bare h around hd own bs w
-
-step-over : (b : Open) (bs : List Open) (w : Word) → is_below b.head w ≡ false
+pub step-over : (b : Open) (bs : List Open) (w : Word) → is_below b.head w ≡ false
     → step (b ∷ bs) w ≡ settled (own_found b) b bs w
 step-over b bs w e = rw e refl
-
-pub step-settled : (g : Found Value) (b : Block) (h : Head) (own : Value) (bs : List Open)
-    (w : Word) → is_below h w ≡ false → g ≡ own_of h own → settled g (bare b) bs w ≡ step
-    (opened b h own ∷ bs) w
-step-settled g b h own bs w e is =
-    ap (λ k. settled k (bare b) bs w) is ∙ sym (settled-bare (own_of h own) b h own bs w)
-    ∙ sym (step-over (opened b h own) bs w e)

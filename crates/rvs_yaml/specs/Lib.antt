@@ -24,6 +24,7 @@ pub mod Reader
 -- What the values of the code stand for.
 pub mod Gives
 pub mod Places
+pub mod Rising
 pub mod Sketched
 pub mod StackView
 pub mod StepView

@@ -1,12 +1,12 @@
 -- Reading a list of words from its front, with a stack of open blocks.
-use Rattle.std.specs.Prelude.{ℕ, if◌then◌else◌, List, [], ◌∷◌, ◌++◌, Ok, Err}
+use Rattle.std.specs.Prelude.{ℕ, if◌then◌else◌, List, [], ◌∷◌, ◌++◌, Some, None, Ok, Err}
 use Rattle.rvs_tree.specs.Value.{Value, scalar_value, list_value, map_value, Written, explicit_keys}
 use Rattle.rvs_yaml.specs.Checks.{Checked, ◌>>=◌, ◌>>◌, check}
-use Rattle.rvs_yaml.specs.Block.{Found, found, named, own_value, no_place, item_at, key_at}
+use Rattle.rvs_yaml.specs.Block.{Found, found, own_value, no_place, item_at, key_at}
 use Rattle.rvs_yaml.specs.Block.{check_merge}
 use Rattle.rvs_yaml_text.specs.Word.{Key, Name, Shape, dash, key, leaf, refused, Word, Head}
 use Rattle.rvs_yaml_text.specs.Word.{head_of, is_below, opens_block}
-use Rattle.rvs_yaml.specs.Anchors.{Anchors}
+use Rattle.rvs_yaml.specs.Anchors.{Anchors, has_anchor}
 use Rattle.rvs_yaml.specs.Entry.{written}
 use Rattle.rvs_yaml_text.specs.declared.kind.YamlKind.TheVariants.{Unsupported}
 
@@ -51,9 +51,16 @@ known_of (b ∷ bs) = b.anchors ++ known_of bs
 abbrev pub begins : List Open → Word → Checked (List Open)
 begins bs w = own_value (known_of bs) w.line w.shape >>= λ own. Ok (begun w own ∷ bs)
 
+-- A node with its own anchor, which is before those in it. One of those that has its name stays the
+-- latest.
+abbrev pub noted : Name → Found Value → Found Value
+noted None g = g
+noted (Some name) g =
+    if has_anchor name g.anchors then g else found g.value ((name, g.value) ∷ g.anchors)
+
 -- what a word is with nothing below it
 abbrev pub own_found : Open → Found Value
-own_found b = named b.head.anchor
+own_found b = noted b.head.anchor
     (found (if opens_block b.head.sort then scalar_value [] b.head.line else b.own) [])
 
 -- the members, with the value of the open one
@@ -62,7 +69,7 @@ closed_as (done_items vs) line anchors g =
     Ok (found (list_value line (vs ++ g.value ∷ [])) (g.anchors ++ anchors))
 closed_as (done_entries ws k) line anchors g = check_merge k g.value >> Ok
     (found (map_value line (ws ++ written k g.value ∷ [])) (g.anchors ++ anchors))
-closed_as alone line anchors g = Ok g
+closed_as alone line anchors g = Ok (found g.value (g.anchors ++ anchors))
 
 abbrev pub closed : Open → Found Value → Checked (Found Value)
 closed b g = closed_as b.done b.line b.anchors g
@@ -95,7 +102,7 @@ advanced b g bs w = do
 
 -- a block as the value of a word with this anchor
 abbrev pub closed_into : Open → Found Value → Name → Checked (Found Value)
-closed_into b g name = closed b g >>= λ h. Ok (named name h)
+closed_into b g name = closed b g >>= λ h. Ok (noted name h)
 
 -- The block b, whose open member is g, and the stack below it take the next word.
 abbrev pub settled : Found Value → Open → List Open → Word → Checked (List Open)
@@ -110,15 +117,6 @@ step [] w = begins [] w
 step (b ∷ bs) w =
     if is_below b.head w then (check (opens_block b.head.sort) Unsupported >> begins (b ∷ bs) w)
     else settled (own_found b) b bs w
-
--- the tree, where nothing more comes
-abbrev pub unwound : Found Value → Open → List Open → Checked (Found Value)
-unwound g b [] = closed b g
-unwound g b (outer ∷ bs) = closed_into b g outer.head.anchor >>= λ h. unwound h outer bs
-
-abbrev pub finished : List Open → Checked (Found Value)
-finished [] = Ok (found (scalar_value [] 1) [])
-finished (b ∷ bs) = unwound (own_found b) b bs
 
 abbrev pub steps : List Open → List Word → Checked (List Open)
 steps bs [] = Ok bs

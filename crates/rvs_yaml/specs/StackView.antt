@@ -1,5 +1,6 @@
 -- What the open blocks of the code stand for.
-use Rattle.std.specs.Prelude.{ℕ, ◌++◌, List, [], ◌∷◌, map, reverse, Option, Some, None, slice_get}
+use Rattle.std.specs.Prelude.{◌≡◌, ◌≤◌, ℕ, List, [], ◌∷◌, map, reverse, take, drop, length, Option}
+use Rattle.std.specs.Prelude.{Some, None}
 use Rattle.rvs_yaml.specs.Anchors as anchors_spec
 use Rattle.rvs_tree.specs.Value as value_spec
 use Rattle.rvs_yaml.specs.Block as block_spec
@@ -13,7 +14,8 @@ use Rattle.rvs_yaml.specs.declared.open.Done.{Done}
 use Rattle.rvs_yaml.specs.declared.open.Done.TheVariants.{Items, Entries, Alone}
 use Rattle.rvs_yaml.specs.declared.open.Block.{Block}
 use Rattle.rvs_yaml.specs.declared.open.Open.{Open}
-use Rattle.rvs_yaml.specs.declared.open.Found.{Found}
+use Rattle.rvs_yaml.specs.declared.open_blocks.OpenBlocks.{OpenBlocks}
+use Rattle.rvs_yaml_text.specs.Word.{Name}
 use Rattle.rvs_yaml.specs.declared.known.Known.{Known}
 use Rattle.std.specs.Global.{Box}
 use Rattle.rvs_tree.specs.declared.counted.Value.{Value}
@@ -25,21 +27,19 @@ anchor_view a = (a.name.now, value_view a.value)
 abbrev pub anchors_view : List Anchor → anchors_spec.Anchors
 anchors_view anchors = reverse (map anchor_view anchors)
 
-abbrev pub found_view : Found → block_spec.Found value_spec.Value
-found_view g = block_spec.found (value_view g.value) (anchors_view g.anchors.anchors.items)
-
 abbrev pub done_view : Done → spec.Done
 done_view (Items l) = spec.done_items (values_view l.values.items)
 done_view (Entries p) =
     spec.done_entries (entries_view p.value.list.entries.items) (key_view p.value.key)
 done_view Alone = spec.alone
 
+-- a block without the anchors in it
 abbrev pub block_view : Block → parts.Block
 block_view b = record {
   line = b.line;
   column = b.column;
   done = done_view b.done;
-  anchors = anchors_view b.anchors.anchors.items;
+  anchors = [];
 }
 
 -- What a word on this line is by itself. With nothing behind it, it is an empty scalar.
@@ -54,23 +54,43 @@ open_view b = parts.opened (block_view b.block) (head_view b.head) (own_view b.h
 abbrev pub stack_view : List Open → List spec.Open
 stack_view bs = reverse (map open_view bs)
 
-abbrev pub anchors_of : Option Open → anchors_spec.Anchors
-anchors_of None = []
-anchors_of (Some b) = anchors_view b.block.anchors.anchors.items
+-- a block with the anchors in it, where these are complete
+abbrev pub block_at : List Anchor → Block → parts.Block
+block_at all b = record {
+  line = b.line;
+  column = b.column;
+  done = done_view b.done;
+  anchors = anchors_view (drop b.before all);
+}
 
--- the anchors in the block at a place
-abbrev pub anchors_at : List Open → ℕ → anchors_spec.Anchors
-anchors_at bs place = anchors_of (slice_get bs place)
+abbrev pub open_at : List Anchor → Open → spec.Open
+open_at all b =
+    parts.opened (block_at all b.block) (head_view b.head) (own_view b.head.line b.own)
 
--- the anchors in the blocks at these places
-abbrev pub anchors_in : List Open → List ℕ → anchors_spec.Anchors
-anchors_in bs [] = []
-anchors_in bs (place ∷ places) = anchors_at bs place ++ anchors_in bs places
+-- blocks with the anchors in them, the innermost first
+abbrev pub over : List Anchor → List Open → List spec.Open
+over all [] = []
+over all (b ∷ bs) = open_at all b ∷ over (take b.block.before all) bs
 
--- the anchors in a block and around it
+abbrev pub anchored : List Anchor → List Open → List spec.Open
+anchored all bs = over all (reverse bs)
+
+abbrev pub open_blocks : OpenBlocks → List spec.Open
+open_blocks s = anchored s.anchors.anchors.items s.blocks.items
+
+-- What naming a node that has this value made of the anchors: those behind so many are in the node.
+pub record Names (name : Name) (v : value_spec.Value) (before : ℕ) (all after : List Anchor) : Type
+    0
+  where
+    pub inner : anchors_view (drop before after)
+        ≡ (spec.noted name (block_spec.found v (anchors_view (drop before all)))).anchors
+    pub outer : take before after ≡ take before all
+    pub more : length all ≤ length after
+
+-- the anchors that are complete
 abbrev pub all_known : Known → anchors_spec.Anchors
-all_known k = anchors_view k.latest.now.anchors.items ++ anchors_in k.blocks.now k.places.now
+all_known k = anchors_view k.anchors.now.anchors.items
 
--- the anchors that are known at a place, or what stands for their values
+-- the anchors that are complete, or what stands for their values
 abbrev pub known_view : Known → anchors_spec.Anchors
 known_view k = anchors_spec.formed k.poor (all_known k)

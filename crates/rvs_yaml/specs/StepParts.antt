@@ -6,8 +6,9 @@ use Rattle.rvs_yaml_text.specs.Word.{Key, Content, nothing, faulty, Shape, dash,
 use Rattle.rvs_yaml_text.specs.Word.{Word, Head, no_opener, opens_block}
 use Rattle.rvs_yaml.specs.Anchors.{Anchors}
 use Rattle.rvs_yaml.specs.Entry.{written}
-use Rattle.rvs_yaml.specs.Block.{Found, found, named, content_value, key_at, check_merge}
-use Rattle.rvs_yaml.specs.Stack.{Done, done_items, done_entries, alone, Open, known_of, advanced_as}
+use Rattle.rvs_yaml.specs.Block.{Found, found, content_value, key_at, check_merge}
+use Rattle.rvs_yaml.specs.Stack.{Done, done_items, done_entries, alone, Open, known_of, noted}
+use Rattle.rvs_yaml.specs.Stack.{advanced_as}
 use Rattle.rvs_yaml_text.specs.declared.kind.YamlKind.TheVariants.{DuplicateKey}
 
 -- what is behind a word
@@ -58,10 +59,6 @@ put_content b bs h c =
 abbrev pub bare : Block → Open
 bare b =
     opened b (record { line = 0; column = 0; sort = no_opener; anchor = None }) (scalar_value [] 0)
-
-abbrev pub own_of : Head → Value → Found Value
-own_of h own =
-    named h.anchor (found (if opens_block h.sort then scalar_value [] h.line else own) [])
 
 abbrev pub closed_value : Done → ℕ → Value → Checked Value
 closed_value (done_items vs) line v = Ok (list_value line (vs ++ v ∷ []))

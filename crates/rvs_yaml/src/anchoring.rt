@@ -1,14 +1,15 @@
 // Gathering anchors, and finding them by their names.
-ghost use Rattle.std.specs.Prelude.{◌≡◌, ◌∷◌, ◌++◌, [], ℕ, List, Some, bytes_eq, option_map};
-ghost use Rattle.std.specs.Prelude.{if◌then◌else◌, IfOk};
+ghost use Rattle.std.specs.Prelude.{◌≡◌, ◌≤◌, ◌∷◌, ◌++◌, [], ℕ, List, Some, bytes_eq, drop, length};
+ghost use Rattle.std.specs.Prelude.{option_map, if◌then◌else◌, IfOk};
 ghost use Rattle.std.specs.BTreeMap.{get_by_text};
-ghost use Rattle.rvs_yaml.specs.Anchors.{lookup};
-ghost use Rattle.rvs_yaml.specs.StackView.{anchor_view, anchors_view};
+ghost use Rattle.rvs_yaml.specs.Anchors.{lookup, has_anchor};
+ghost use Rattle.rvs_yaml.specs.StackView.{anchors_view, Names};
+ghost use Rattle.rvs_yaml_text.specs.WordView.{name_view};
 ghost use Rattle.rvs_tree.specs.ValueView.{value_view};
 
 use crate::anchor_list::AnchorList;
 use crate::open::Anchor;
-use rvs_tree::Value;
+use rvs_tree::{Value, shared_value};
 use std::alloc::{AllocError, Global};
 use std::collections::BTreeMap;
 
@@ -37,13 +38,13 @@ pub(crate) fn no_anchors<'a>(alloc: Global) -> AnchorList<'a>
 }
 
 /// These anchors and a later one.
-pub(crate) fn with_anchor<'a>(
+fn with_anchor<'a>(
     alloc: Global,
     list: AnchorList<'a>,
     anchor: Anchor<'a>,
 ) -> Result<AnchorList<'a>, AllocError>
-    ensures { IfOk result (λ l. anchors_view l.anchors.items ≡ anchor_view anchor.entry
-        ∷ anchors_view list.entry.anchors.items) }
+    ensures { IfOk result
+        (λ l. l.anchors.items ≡ list.entry.anchors.items ++ anchor.entry ∷ []) }
 {
     let AnchorList {
         mut anchors,
@@ -54,24 +55,38 @@ pub(crate) fn with_anchor<'a>(
     Ok(AnchorList { anchors, latest })
 }
 
-/// The anchors of both, one after another.
-pub(crate) fn joined<'a>(
-    alloc: Global,
-    first: AnchorList<'a>,
-    second: AnchorList<'a>,
-) -> Result<AnchorList<'a>, AllocError>
-    ensures { IfOk result (λ l. anchors_view l.anchors.items
-        ≡ anchors_view second.entry.anchors.items ++ anchors_view first.entry.anchors.items) }
+/// Whether one of these anchors has this name, of those behind so many.
+fn is_behind(name: &str, list: &AnchorList<'_>, before: usize) -> bool
+    ensures { result ≡ has_anchor name.now (anchors_view (drop before list.now.anchors.items)) }
 {
-    if first.anchors.is_empty() {
-        return Ok(second);
+    match list.latest.get(name) {
+        Some(place) => *place >= before,
+        None => false,
     }
-    let AnchorList { anchors, latest: _ } = second;
-    let mut all = first;
-    for anchor in anchors {
-        all = with_anchor(alloc, all, anchor)?;
+}
+
+/// These anchors and that of a node with this value, whose name stands before all that is behind so
+/// many of them. So one of those that has the name stays the latest.
+pub(crate) fn named<'a>(
+    alloc: Global,
+    list: AnchorList<'a>,
+    before: usize,
+    name: Option<&'a str>,
+    value: &Value,
+) -> Result<AnchorList<'a>, AllocError>
+    requires { before ≤ length list.anchors.items }
+    ensures { IfOk result
+        (λ l. Names (name_view name.entry) (value_view value.now) before list.entry.anchors.items
+        l.anchors.items) }
+{
+    let Some(name) = name else {
+        return Ok(list);
+    };
+    if is_behind(name, &list, before) {
+        return Ok(list);
     }
-    Ok(all)
+    let value = shared_value(value)?;
+    with_anchor(alloc, list, Anchor { name, value })
 }
 
 /// The value of the latest of these anchors with this name.

@@ -1,30 +1,19 @@
 // The value of a text, made of the blocks that are open at its end.
-ghost use Rattle.std.specs.Prelude.{◌≡◌, [], IfOk, if◌then◌else◌};
+ghost use Rattle.std.specs.Prelude.{◌≡◌, IfOk};
 ghost use Rattle.rvs_tree.specs.Value as value_spec;
 ghost use Rattle.rvs_tree.specs.ValueView.{value_view};
 ghost use Rattle.rvs_yaml_text.specs.Word.{opens_block};
 ghost use Rattle.rvs_yaml_text.specs.WordView.{head_view};
 ghost use Rattle.rvs_yaml.specs.Front as spec;
 ghost use Rattle.rvs_yaml.specs.Gives.{Gives};
-ghost use Rattle.rvs_yaml.specs.StackView.{own_view, stack_view};
+ghost use Rattle.rvs_yaml.specs.StackView.{own_view, stack_view, open_blocks};
 
 use crate::open::{Block, Open};
-use crate::stack::{closed_value, taken_own};
+use crate::open_blocks::OpenBlocks;
+use crate::stack::{closed_value, into_blocks, own_value};
 use rvs_tree::{Value, scalar_value};
-use rvs_yaml_text::{Head, YamlKind};
-use std::alloc::{AllocError, Global};
-
-/// The value of the last word of a block with nothing below it.
-fn own_value(alloc: Global, head: &Head<'_>, own: Option<Box<Value>>) -> Result<Value, AllocError>
-    ensures { IfOk result (λ v. value_view v ≡ (if opens_block (head_view head.now).sort
-        then value_spec.scalar_value [] head.now.line else own_view head.now.line own)) }
-{
-    if head.sort.opens_block() {
-        scalar_value(alloc, String::new(alloc), head.line)
-    } else {
-        taken_own(alloc, head.line, own)
-    }
-}
+use rvs_yaml_text::YamlKind;
+use std::alloc::Global;
 
 /// The value of these blocks, of which the innermost has this value as its open member.
 fn closed_blocks(
@@ -44,7 +33,14 @@ fn closed_blocks(
 }
 
 /// The value of the lines so far. It takes the blocks, so that nothing is held twice.
-pub(crate) fn into_value(alloc: Global, mut blocks: Vec<Open<'_>>) -> Result<Value, YamlKind>
+pub(crate) fn into_value(alloc: Global, stack: OpenBlocks<'_>) -> Result<Value, YamlKind>
+    ensures { Gives value_view result (spec.front_value (open_blocks stack.entry)) }
+{
+    closed_stack(alloc, into_blocks(stack))
+}
+
+/// The value of these blocks.
+fn closed_stack(alloc: Global, mut blocks: Vec<Open<'_>>) -> Result<Value, YamlKind>
     ensures { Gives value_view result (spec.front_value (stack_view blocks.entry.items)) }
 {
     let Some(top) = blocks.pop() else {

@@ -1,5 +1,5 @@
 // Filling in the value of a flow collection once its line is known to keep the number of nodes.
-ghost use Rattle.std.specs.Prelude.{◌≡◌, ◌≤◌, ◌++◌, ℕ, min, Some, Ok};
+ghost use Rattle.std.specs.Prelude.{◌≡◌, ◌≤◌, ℕ, min, Some, Ok};
 ghost use Rattle.rvs_tree.specs.Data.{depth};
 ghost use Rattle.rvs_tree.specs.Standin.{standin};
 ghost use Rattle.rvs_tree.specs.Value as value_spec;
@@ -13,14 +13,15 @@ ghost use Rattle.rvs_yaml.specs.Flow.{flow_value};
 ghost use Rattle.rvs_yaml.specs.Front.{ends};
 ghost use Rattle.rvs_yaml.specs.Gives.{Gives};
 ghost use Rattle.rvs_yaml.specs.Reader.{Passes, Denies, DeniesFront};
-ghost use Rattle.rvs_yaml.specs.Stack.{known_of};
-ghost use Rattle.rvs_yaml.specs.StackView.{all_known, anchors_view, stack_view};
+ghost use Rattle.rvs_yaml.specs.StackView.{all_known, anchors_view, stack_view, open_blocks};
 
+use crate::anchor_list::AnchorList;
 use crate::flow_text::{flow_value, thin_flow_value};
 use crate::front::{MOST_DEPTH, MOST_NODES, sketch_with, thin_sketch};
 use crate::height::flow_height;
-use crate::known::{Known, anchored_places};
-use crate::open::{Block, Open};
+use crate::known::Known;
+use crate::open::Open;
+use crate::open_blocks::OpenBlocks;
 use rvs_tree::{DEEP, Value};
 use rvs_yaml_text::{Bracket, Content, Shape, YamlKind};
 use std::alloc::Global;
@@ -65,50 +66,42 @@ fn check_thin(
 /// those of aliases tell it.
 fn check_paid(
     alloc: Global,
-    blocks: &[Open<'_>],
+    stack: &OpenBlocks<'_>,
     bracket: Bracket,
     text: &str,
 ) -> Result<(), YamlKind>
     ensures { Denies result
-        (spec.filled (Some (bracket_view bracket, tokens_of text.now)) (stack_view blocks.now)) }
+        (spec.filled (Some (bracket_view bracket, tokens_of text.now)) (open_blocks stack.now)) }
 {
+    let blocks = stack.blocks.as_slice();
     let Some(top) = blocks.last() else {
         return Ok(());
     };
     if top.head.sort.opens_block() {
         return Ok(());
     }
-    let outer = &blocks[..blocks.len() - 1];
-    let places = anchored_places(alloc, outer)?;
     let known = Known {
         poor: true,
-        latest: &top.block.anchors,
-        blocks: outer,
-        places: places.as_slice(),
+        anchors: &stack.anchors,
     };
     let thin = thin_flow_value(alloc, &known, top.head.line, bracket, text)?;
     check_thin(alloc, &known, blocks, &thin, text)
 }
 
-/// The value of a flow collection, where these blocks are open below this one.
-fn value_in(
+/// The value of a flow collection, where these anchors are complete.
+fn value_with(
     alloc: Global,
-    blocks: &[Open<'_>],
-    block: &Block<'_>,
+    anchors: &AnchorList<'_>,
     line: u64,
     bracket: Bracket,
     text: &str,
 ) -> Result<Value, YamlKind>
-    ensures { Gives value_view result (flow_value
-        (anchors_view block.now.anchors.anchors.items ++ known_of (stack_view blocks.now)) line
+    ensures { Gives value_view result (flow_value (anchors_view anchors.now.anchors.items) line
         (bracket_view bracket) (tokens_of text.now)) }
 {
-    let places = anchored_places(alloc, blocks)?;
     let known = Known {
         poor: false,
-        latest: &block.anchors,
-        blocks,
-        places: places.as_slice(),
+        anchors,
     };
     flow_value(alloc, &known, line, bracket, text)
 }
@@ -122,28 +115,32 @@ fn has_star(text: &str) -> bool {
 /// what it stands for is taken.
 fn fill<'a>(
     alloc: Global,
-    blocks: &mut Vec<Open<'a>>,
+    stack: OpenBlocks<'a>,
     bracket: Bracket,
     text: &str,
-) -> Result<(), YamlKind>
-    ensures { Passes (λ u. stack_view blocks.new.items) result (spec.filled
-        (Some (bracket_view bracket, tokens_of text.now)) (stack_view blocks.old.items)) }
+) -> Result<OpenBlocks<'a>, YamlKind>
+    ensures { Passes open_blocks result
+        (spec.filled (Some (bracket_view bracket, tokens_of text.now)) (open_blocks stack.entry)) }
 {
     if has_star(text) {
-        check_paid(alloc, blocks.as_slice(), bracket, text)?;
+        check_paid(alloc, &stack, bracket, text)?;
     }
+    let OpenBlocks {
+        mut blocks,
+        anchors,
+    } = stack;
     let Some(top) = blocks.pop() else {
-        return Ok(());
+        return Ok(OpenBlocks { blocks, anchors });
     };
     let Open {
         block,
         head,
         own: _,
     } = top;
-    let own = value_in(alloc, blocks.as_slice(), &block, head.line, bracket, text)?;
+    let own = value_with(alloc, &anchors, head.line, bracket, text)?;
     let own = Some(Box::new(alloc, own)?);
     blocks.push(Open { block, head, own })?;
-    Ok(())
+    Ok(OpenBlocks { blocks, anchors })
 }
 
 /// What stands on a line without its flow collection, and that.
@@ -151,7 +148,8 @@ fn hollow_content<'a>(
     alloc: Global,
     content: Content<'a>,
 ) -> (Content<'a>, Option<(Bracket, &'a str)>)
-    ensures { content_parts result ≡ (spec.hollow_content (content_view content.entry), spec.flow_in (content_view content.entry)) }
+    ensures { content_parts result
+        ≡ (spec.hollow_content (content_view content.entry), spec.flow_in (content_view content.entry)) }
 {
     match content {
         Content::Flow(bracket, text) => (Content::Text(String::new(alloc)), Some((bracket, text))),
@@ -187,14 +185,14 @@ pub(crate) fn hollow_shape<'a>(
 /// Fills in the value of a flow collection, where there is one.
 pub(crate) fn fill_flow<'a>(
     alloc: Global,
-    blocks: &mut Vec<Open<'a>>,
+    stack: OpenBlocks<'a>,
     flow: Option<(Bracket, &'a str)>,
-) -> Result<(), YamlKind>
-    ensures { Passes (λ u. stack_view blocks.new.items) result
-        (spec.filled (flow_view flow.entry) (stack_view blocks.old.items)) }
+) -> Result<OpenBlocks<'a>, YamlKind>
+    ensures { Passes open_blocks result
+        (spec.filled (flow_view flow.entry) (open_blocks stack.entry)) }
 {
     match flow {
-        Some((bracket, text)) => fill(alloc, blocks, bracket, text),
-        None => Ok(()),
+        Some((bracket, text)) => fill(alloc, stack, bracket, text),
+        None => Ok(stack),
     }
 }

@@ -179,7 +179,7 @@ fn pending_sketch(pending: &Pending, last: &Sketch) -> Result<Sketch, YamlKind>
 }
 
 /// What is known of a block with its open member.
-fn closed_sketch(block: &Block<'_>, last: Sketch) -> Result<Sketch, YamlKind>
+fn closed_sketch(block: &Block, last: Sketch) -> Result<Sketch, YamlKind>
     ensures { (v : value_spec.Value) → IsSketch v last
         → SketchedAs result (parts.closed_value (done_view block.now.done) block.now.line v) }
 {
@@ -201,7 +201,7 @@ fn own_entry_sketch(entries: &EntryList, key: &Key, own: &Value) -> Result<Sketc
 }
 
 /// What is known of a block whose open member is this value.
-fn leaf_sketch(block: &Block<'_>, own: &Value) -> Result<Sketch, YamlKind>
+fn leaf_sketch(block: &Block, own: &Value) -> Result<Sketch, YamlKind>
     ensures { SketchedAs result
         (parts.closed_value (done_view block.now.done) block.now.line (value_view own.now)) }
 {
@@ -347,7 +347,7 @@ fn longer_map(
 }
 
 /// The value of a block with its open member.
-fn closed_copy(alloc: Global, block: &Block<'_>, value: Value) -> Result<Value, YamlKind>
+fn closed_copy(alloc: Global, block: &Block, value: Value) -> Result<Value, YamlKind>
     ensures { Gives value_view result
         (parts.closed_value (done_view block.now.done) block.now.line (value_view value)) }
 {

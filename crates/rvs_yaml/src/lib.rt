@@ -14,6 +14,7 @@ mod height;
 mod known;
 mod line;
 mod open;
+mod open_blocks;
 mod own;
 mod reach;
 mod reader;

@@ -4,12 +4,12 @@ ghost use Rattle.rvs_yaml_text.specs.Text as text_spec;
 ghost use Rattle.rvs_yaml.specs.Stack as stack_spec;
 ghost use Rattle.rvs_yaml.specs.LineParts as parts;
 ghost use Rattle.rvs_yaml.specs.Reader.{Passes};
-ghost use Rattle.rvs_yaml.specs.StackView.{stack_view};
+ghost use Rattle.rvs_yaml.specs.StackView.{open_blocks};
 ghost use Rattle.rvs_yaml_text.specs.Word as word_spec;
 ghost use Rattle.rvs_yaml_text.specs.WordView.{word_view, shape_view};
 
 use crate::fill::{fill_flow, hollow_shape};
-use crate::open::Open;
+use crate::open_blocks::OpenBlocks;
 use crate::stack::step;
 use rvs_yaml_text::{
     Shape, Word, YamlKind, anchored_item, behind_first, ends_indicator, is_blank, item_name,
@@ -103,17 +103,17 @@ fn refused<'a>(line: u64, kind: YamlKind) -> Word<'a>
 /// Reads the last word of a line, if there is more than a comment.
 fn read_last<'a>(
     alloc: Global,
-    blocks: &mut Vec<Open<'a>>,
+    stack: OpenBlocks<'a>,
     line: u64,
     column: usize,
     item: bool,
     text: &'a str,
-) -> Result<(), YamlKind>
-    ensures { Passes (λ u. stack_view blocks.new.items) result (stack_spec.steps
-        (stack_view blocks.old.items) (parts.rest_words line item column text.now)) }
+) -> Result<OpenBlocks<'a>, YamlKind>
+    ensures { Passes open_blocks result (stack_spec.steps
+        (open_blocks stack.entry) (parts.rest_words line item column text.now)) }
 {
     let Some(word) = last_word(alloc, line, column, item, text)? else {
-        return Ok(());
+        return Ok(stack);
     };
     let Word {
         line: at,
@@ -121,16 +121,16 @@ fn read_last<'a>(
         shape,
     } = word;
     let (shape, flow) = hollow_shape(alloc, shape);
-    step(
+    let stack = step(
         alloc,
-        blocks,
+        stack,
         Word {
             line: at,
             column,
             shape,
         },
     )?;
-    fill_flow(alloc, blocks, flow)
+    fill_flow(alloc, stack, flow)
 }
 
 /// A dash of an item, behind which this stands.
@@ -148,21 +148,21 @@ fn dash<'a>(line: u64, column: usize, behind: &'a str) -> Word<'a>
 /// Reads the words of a line.
 fn read_words<'a>(
     alloc: Global,
-    blocks: &mut Vec<Open<'a>>,
+    mut stack: OpenBlocks<'a>,
     line: u64,
     text: &'a str,
-) -> Result<(), YamlKind>
-    ensures { Passes (λ u. stack_view blocks.new.items) result (stack_spec.steps
-        (stack_view blocks.old.items) (text_spec.words_at line false 0 text.now)) }
+) -> Result<OpenBlocks<'a>, YamlKind>
+    ensures { Passes open_blocks result (stack_spec.steps
+        (open_blocks stack.entry) (text_spec.words_at line false 0 text.now)) }
 {
     let mut rest = without_spaces(text);
     let mut item = false;
     while let Some(behind) = behind_dash(rest) {
-        step(alloc, blocks, dash(line, text.len() - rest.len(), behind))?;
+        stack = step(alloc, stack, dash(line, text.len() - rest.len(), behind))?;
         rest = without_spaces(behind);
         item = true;
     }
-    read_last(alloc, blocks, line, text.len() - rest.len(), item, rest)
+    read_last(alloc, stack, line, text.len() - rest.len(), item, rest)
 }
 
 /// Whether the line is three of these bytes, with at most a comment behind them.
@@ -181,26 +181,26 @@ fn is_mark(byte: u8, line: &[u8]) -> bool
 /// Reads a line. `started` says whether a line before it isn't blank.
 pub(crate) fn read_line<'a>(
     alloc: Global,
-    blocks: &mut Vec<Open<'a>>,
+    stack: OpenBlocks<'a>,
     line: u64,
     started: bool,
     bytes: &'a [u8],
-) -> Result<(), YamlKind>
-    ensures { Passes (λ u. stack_view blocks.new.items) result (stack_spec.steps
-        (stack_view blocks.old.items) (text_spec.line_words line started bytes.now)) }
+) -> Result<OpenBlocks<'a>, YamlKind>
+    ensures { Passes open_blocks result (stack_spec.steps
+        (open_blocks stack.entry) (text_spec.line_words line started bytes.now)) }
 {
     let Ok(text) = str::from_utf8(bytes) else {
-        return step(alloc, blocks, refused(line, YamlKind::NotUtf8));
+        return step(alloc, stack, refused(line, YamlKind::NotUtf8));
     };
     if is_mark(b'-', bytes) {
         return if started {
-            step(alloc, blocks, refused(line, YamlKind::Unsupported))
+            step(alloc, stack, refused(line, YamlKind::Unsupported))
         } else {
-            Ok(())
+            Ok(stack)
         };
     }
     if is_mark(b'.', bytes) {
-        return step(alloc, blocks, refused(line, YamlKind::Unsupported));
+        return step(alloc, stack, refused(line, YamlKind::Unsupported));
     }
-    read_words(alloc, blocks, line, text)
+    read_words(alloc, stack, line, text)
 }

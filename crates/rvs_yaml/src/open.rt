@@ -1,5 +1,4 @@
 // Blocks that aren't complete.
-use crate::anchor_list::AnchorList;
 use crate::reading::Pending;
 use rvs_tree::{Value, ValueList};
 use rvs_yaml_text::Head;
@@ -20,27 +19,21 @@ pub(crate) enum Done {
     Alone,
 }
 
-/// A value, and the anchors in it, the earliest first.
+/// What a block has so far: its first line and its column, its members, and how many anchors were
+/// complete when it began. Those behind them are in it.
 #[derive(Drop)]
-pub(crate) struct Found<'a> {
-    pub value: Value,
-    pub anchors: AnchorList<'a>,
-}
-
-/// What a block has so far: its first line and its column, its members, and the anchors in them.
-#[derive(Drop)]
-pub(crate) struct Block<'a> {
+pub(crate) struct Block {
     pub line: u64,
     pub column: usize,
     pub done: Done,
-    pub anchors: AnchorList<'a>,
+    pub before: usize,
 }
 
 /// A block that isn't complete, its last word, and what that word is by itself, where something is
 /// behind it. It is kept small, since a line may open millions.
 #[derive(Drop)]
 pub(crate) struct Open<'a> {
-    pub block: Block<'a>,
+    pub block: Block,
     pub head: Head<'a>,
     pub own: Option<Box<Value>>,
 }

@@ -8,7 +8,7 @@ ghost use Rattle.rvs_yaml_text.specs.Scalar as scalar_spec;
 ghost use Rattle.std.specs.Str.{is_utf8};
 ghost use Rattle.rvs_yaml_text.specs.declared.kind.YamlKind.TheVariants.{NoMemory};
 ghost use Rattle.rvs_yaml.specs.Gives.{Gives};
-ghost use Rattle.rvs_yaml.specs.StackView.{stack_view};
+ghost use Rattle.rvs_yaml.specs.StackView.{open_blocks};
 ghost use Rattle.rvs_tree.specs.TreeView.{view};
 ghost use Rattle.rvs_tree.specs.Data.{depth};
 ghost use Rattle.rvs_yaml_text.specs.Text.{lines_of};
@@ -16,8 +16,9 @@ ghost use Rattle.rvs_yaml_text.specs.Text.{lines_of};
 use crate::closing::into_value;
 use crate::front::check_front;
 use crate::line::read_line;
-use crate::open::Open;
+use crate::open_blocks::OpenBlocks;
 use crate::refusal::YamlRefusal;
+use crate::stack::new_blocks;
 use rvs_tree::{Tree, into_tree};
 use rvs_yaml_text::{YamlKind, first_line, is_blank, without_return};
 use std::alloc::Global;
@@ -43,20 +44,21 @@ fn is_text(bytes: &[u8]) -> bool
 /// Reads a line, and checks the limits on the tree of the lines so far.
 fn read_checked_line<'a>(
     alloc: Global,
-    blocks: &mut Vec<Open<'a>>,
+    stack: OpenBlocks<'a>,
     line: u64,
     started: bool,
     bytes: &'a [u8],
-) -> Result<(), YamlKind>
-    requires { front_spec.checked_front (stack_view blocks.old.items) ≡ Ok tt }
-    ensures { Gives (λ u. stack_view blocks.new.items) result
-        (spec.checked_line (stack_view blocks.old.items) line started bytes.now) }
+) -> Result<OpenBlocks<'a>, YamlKind>
+    requires { front_spec.checked_front (open_blocks stack) ≡ Ok tt }
+    ensures { Gives open_blocks result
+        (spec.checked_line (open_blocks stack.entry) line started bytes.now) }
 {
-    read_line(alloc, blocks, line, started, bytes)?;
+    let stack = read_line(alloc, stack, line, started, bytes)?;
     if is_blank_text(bytes) {
-        return Ok(());
+        return Ok(stack);
     }
-    check_front(alloc, blocks.as_slice())
+    check_front(alloc, stack.blocks.as_slice())?;
+    Ok(stack)
 }
 
 /// The refusal of a line.
@@ -94,7 +96,7 @@ fn read_text(alloc: Global, bytes: &[u8]) -> Result<Tree, YamlRefusal>
     ensures tree { IfOk result (λ t. answer bytes.now ≡ Ok (view t)) }
     ensures refused { IfErr result (λ e. spec.Refuses e.kind e.line (answer bytes.now)) }
 {
-    let mut blocks = Vec::new(alloc);
+    let mut stack = new_blocks(alloc);
     let mut number: u64 = 0;
     let mut started = false;
     let mut rest = Some(bytes);
@@ -102,13 +104,14 @@ fn read_text(alloc: Global, bytes: &[u8]) -> Result<Tree, YamlRefusal>
         let (raw, behind) = first_line(text);
         let line = without_return(raw);
         number += 1;
-        if let Err(kind) = read_checked_line(alloc, &mut blocks, number, started, line) {
-            return Err(refusal(number, kind));
-        }
+        stack = match read_checked_line(alloc, stack, number, started, line) {
+            Ok(stack) => stack,
+            Err(kind) => return Err(refusal(number, kind)),
+        };
         started = started_by(started, line);
         rest = behind;
     }
-    match whole_tree(alloc, blocks) {
+    match whole_tree(alloc, stack) {
         Ok(tree) => Ok(tree),
         Err(kind) => Err(refusal(number, kind)),
     }
@@ -122,10 +125,10 @@ fn started_by(started: bool, line: &[u8]) -> bool
 }
 
 /// The tree of all lines.
-fn whole_tree(alloc: Global, blocks: Vec<Open<'_>>) -> Result<Tree, YamlKind>
-    ensures { Gives view result (spec.whole (stack_view blocks.entry.items)) }
+fn whole_tree(alloc: Global, stack: OpenBlocks<'_>) -> Result<Tree, YamlKind>
+    ensures { Gives view result (spec.whole (open_blocks stack.entry)) }
 {
-    let value = into_value(alloc, blocks)?;
+    let value = into_value(alloc, stack)?;
     // Nothing else holds the root now.
     Rc::into_inner(into_tree(alloc, value)?).ok_or(YamlKind::NoMemory)
 }

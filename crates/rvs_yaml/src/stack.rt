@@ -1,27 +1,47 @@
 // Reading words with a stack of open blocks.
-ghost use Rattle.std.specs.Prelude.{◌≡◌, ◌++◌, [], IfOk};
+ghost use Rattle.std.specs.Prelude.{◌≡◌, ◌∷◌, [], length, take, if◌then◌else◌, IfOk};
 ghost use Rattle.rvs_yaml.specs.Block as block_spec;
 ghost use Rattle.rvs_yaml.specs.Stack as spec;
 ghost use Rattle.rvs_tree.specs.Value as value_spec;
 ghost use Rattle.rvs_yaml.specs.StepParts as parts;
 ghost use Rattle.rvs_yaml.specs.Gives.{Agrees, Gives};
-ghost use Rattle.rvs_yaml.specs.StackView.{anchors_view, own_view, done_view, found_view};
-ghost use Rattle.rvs_yaml.specs.StackView.{block_view, stack_view};
+ghost use Rattle.rvs_yaml.specs.StackView.{anchors_view, own_view, done_view};
+ghost use Rattle.rvs_yaml.specs.StackView.{block_at, anchored, open_blocks};
+ghost use Rattle.rvs_yaml.specs.Rising.{Rises, befores};
 ghost use Rattle.rvs_yaml.specs.StepView.{done_content, key_content};
 ghost use Rattle.rvs_tree.specs.ValueView.{value_view, values_view, entries_view};
 ghost use Rattle.rvs_yaml_text.specs.KeyView.{key_view};
 ghost use Rattle.rvs_yaml_text.specs.WordView.{content_view, shape_view, word_view, head_view};
-ghost use Rattle.rvs_yaml_text.specs.WordView.{name_view};
+ghost use Rattle.rvs_yaml_text.specs.Word.{opens_block};
 
-use crate::anchoring::{joined, no_anchors, with_anchor};
+use crate::anchor_list::AnchorList;
+use crate::anchoring::{named, no_anchors};
 use crate::entry::entry_of;
-use crate::known::{Known, needed_places};
-use crate::open::{Anchor, Block, Done, Found, Open};
+use crate::known::Known;
+use crate::open::{Block, Done, Open};
+use crate::open_blocks::OpenBlocks;
 use crate::own::content_value;
 use crate::reading::Pending;
-use rvs_tree::{EntryList, Value, ValueList, list_value, map_value, scalar_value, shared_value};
+use rvs_tree::{EntryList, Value, ValueList, list_value, map_value, scalar_value};
 use rvs_yaml_text::{Content, Head, Key, Shape, Word, YamlKind, is_below};
 use std::alloc::{AllocError, Global};
+
+/// No blocks, before the first word.
+pub(crate) fn new_blocks<'a>(alloc: Global) -> OpenBlocks<'a>
+    ensures { open_blocks result ≡ [] }
+{
+    OpenBlocks {
+        blocks: Vec::new(alloc),
+        anchors: no_anchors(alloc),
+    }
+}
+
+/// The blocks alone. The anchors are let go.
+pub(crate) fn into_blocks<'a>(stack: OpenBlocks<'a>) -> Vec<Open<'a>>
+    ensures { result.items ≡ stack.entry.blocks.items }
+{
+    stack.blocks
+}
 
 /// Why a word that has no place is refused.
 fn no_place(shape: &Shape<'_>) -> YamlKind
@@ -180,50 +200,55 @@ fn begun_map(alloc: Global, key: Key) -> Result<Done, AllocError>
 /// Opens a block whose last word has this behind it.
 fn put<'a>(
     alloc: Global,
-    blocks: &mut Vec<Open<'a>>,
-    block: Block<'a>,
+    mut blocks: Vec<Open<'a>>,
+    anchors: AnchorList<'a>,
+    block: Block,
     head: Head<'a>,
     content: Content<'a>,
-) -> Result<(), YamlKind>
-    ensures { Gives (λ u. stack_view blocks.new.items) result (parts.put_content
-        (block_view block.entry) (stack_view blocks.old.items) (head_view head.entry)
-        (content_view content.entry)) }
+) -> Result<OpenBlocks<'a>, YamlKind>
+    requires { Rises (length anchors.anchors.items) (block.before ∷ befores blocks.items) }
+    ensures { Gives open_blocks result (parts.put_content
+        (block_at anchors.entry.anchors.items block)
+        (anchored (take block.before anchors.entry.anchors.items) blocks.entry.items)
+        (head_view head.entry) (content_view content.entry)) }
 {
-    let own = own_of(alloc, blocks.as_slice(), &block, head.line, content)?;
+    let own = own_of(alloc, &anchors, head.line, content)?;
     blocks.push(Open { block, head, own })?;
-    Ok(())
+    Ok(OpenBlocks { blocks, anchors })
 }
 
 /// What the last word of a block is by itself, where something is behind it.
 fn own_of<'a>(
     alloc: Global,
-    blocks: &[Open<'a>],
-    block: &Block<'a>,
+    anchors: &AnchorList<'a>,
     line: u64,
     content: Content<'a>,
 ) -> Result<Option<Box<Value>>, YamlKind>
     ensures { Gives (own_view line) result (block_spec.content_value
-        (anchors_view block.now.anchors.anchors.items ++ spec.known_of (stack_view blocks.now)) line
-        (content_view content.entry)) }
+        (anchors_view anchors.now.anchors.items) line (content_view content.entry)) }
 {
     if matches!(content, Content::Nothing) {
         return Ok(None);
     }
-    let places = needed_places(alloc, blocks, &content)?;
     let known = Known {
         poor: false,
-        latest: &block.anchors,
-        blocks,
-        places: places.as_slice(),
+        anchors,
     };
     let own = content_value(alloc, &known, line, content)?;
     Ok(Some(Box::new(alloc, own)?))
 }
 
 /// Opens the block that begins with a word.
-fn begin<'a>(alloc: Global, blocks: &mut Vec<Open<'a>>, word: Word<'a>) -> Result<(), YamlKind>
-    ensures { Gives (λ u. stack_view blocks.new.items) result
-        (spec.begins (stack_view blocks.old.items) (word_view word.entry)) }
+fn begin<'a>(
+    alloc: Global,
+    blocks: Vec<Open<'a>>,
+    anchors: AnchorList<'a>,
+    word: Word<'a>,
+) -> Result<OpenBlocks<'a>, YamlKind>
+    requires { Rises (length anchors.anchors.items) (befores blocks.items) }
+    ensures { Gives open_blocks result
+        (spec.begins (anchored anchors.entry.anchors.items blocks.entry.items)
+        (word_view word.entry)) }
 {
     let head = word.head();
     let (done, content) = begun(alloc, word.shape)?;
@@ -231,21 +256,25 @@ fn begin<'a>(alloc: Global, blocks: &mut Vec<Open<'a>>, word: Word<'a>) -> Resul
         line: head.line,
         column: head.column,
         done,
-        anchors: no_anchors(alloc),
+        before: anchors.anchors.len(),
     };
-    put(alloc, blocks, block, head, content)
+    put(alloc, blocks, anchors, block, head, content)
 }
 
 /// Goes on with a block whose open member is complete.
 fn advance<'a>(
     alloc: Global,
-    blocks: &mut Vec<Open<'a>>,
-    block: Block<'a>,
-    found: Found<'a>,
+    blocks: Vec<Open<'a>>,
+    anchors: AnchorList<'a>,
+    block: Block,
+    value: Value,
     word: Word<'a>,
-) -> Result<(), YamlKind>
-    ensures { Gives (λ u. stack_view blocks.new.items) result (spec.advanced
-        (parts.bare (block_view block.entry)) (found_view found.entry) (stack_view blocks.old.items)
+) -> Result<OpenBlocks<'a>, YamlKind>
+    requires { Rises (length anchors.anchors.items) (block.before ∷ befores blocks.items) }
+    ensures { Gives open_blocks result (spec.advanced
+        (parts.bare (block_at anchors.entry.anchors.items block))
+        (block_spec.found (value_view value) [])
+        (anchored (take block.before anchors.entry.anchors.items) blocks.entry.items)
         (word_view word.entry)) }
 {
     let head = word.head();
@@ -253,48 +282,16 @@ fn advance<'a>(
         line,
         column,
         done,
-        anchors,
+        before,
     } = block;
-    let Found {
-        value,
-        anchors: inner,
-    } = found;
-    let anchors = joined(alloc, anchors, inner)?;
     let (done, content) = advanced(alloc, done, column, value, word)?;
-    put(
-        alloc,
-        blocks,
-        Block {
-            line,
-            column,
-            done,
-            anchors,
-        },
-        head,
-        content,
-    )
-}
-
-/// What is found, with the anchor that names it.
-fn named<'a>(
-    alloc: Global,
-    name: Option<&'a str>,
-    found: Found<'a>,
-) -> Result<Found<'a>, AllocError>
-    ensures { IfOk result
-        (λ g. found_view g ≡ block_spec.named (name_view name.entry) (found_view found.entry)) }
-{
-    let Some(name) = name else {
-        return Ok(found);
+    let block = Block {
+        line,
+        column,
+        done,
+        before,
     };
-    let Found { value, anchors } = found;
-    let own = Anchor {
-        name,
-        value: shared_value(&value)?,
-    };
-    let own = with_anchor(alloc, no_anchors(alloc), own)?;
-    let anchors = joined(alloc, own, anchors)?;
-    Ok(Found { value, anchors })
+    put(alloc, blocks, anchors, block, head, content)
 }
 
 /// What a word on this line is by itself.
@@ -312,24 +309,19 @@ pub(crate) fn taken_own(
 }
 
 /// What the last word of a block is with nothing below it.
-fn own_found<'a>(
+pub(crate) fn own_value(
     alloc: Global,
-    head: Head<'a>,
+    head: &Head<'_>,
     own: Option<Box<Value>>,
-) -> Result<Found<'a>, AllocError>
-    ensures { IfOk result
-        (λ g. found_view g ≡ parts.own_of (head_view head.entry) (own_view head.entry.line own)) }
+) -> Result<Value, AllocError>
+    ensures { IfOk result (λ v. value_view v ≡ (if opens_block (head_view head.now).sort
+        then value_spec.scalar_value [] head.now.line else own_view head.now.line own)) }
 {
-    let value = if head.sort.opens_block() {
-        scalar_value(alloc, String::new(alloc), head.line)?
+    if head.sort.opens_block() {
+        scalar_value(alloc, String::new(alloc), head.line)
     } else {
-        taken_own(alloc, head.line, own)?
-    };
-    let found = Found {
-        value,
-        anchors: no_anchors(alloc),
-    };
-    named(alloc, head.anchor, found)
+        taken_own(alloc, head.line, own)
+    }
 }
 
 /// The value of a block with the value of its open member.
@@ -357,91 +349,70 @@ pub(crate) fn closed_value(
     }
 }
 
-/// A block that is complete with the value of its open member.
-fn closed<'a>(alloc: Global, block: Block<'a>, found: Found<'a>) -> Result<Found<'a>, YamlKind>
-    ensures { Gives found_view result
-        (spec.closed (parts.bare (block_view block.entry)) (found_view found.entry)) }
-{
-    let Block {
-        line,
-        column: _,
-        done,
-        anchors,
-    } = block;
-    if matches!(done, Done::Alone) {
-        return Ok(found);
-    }
-    let Found {
-        value,
-        anchors: inner,
-    } = found;
-    let value = closed_value(alloc, line, done, value)?;
-    let anchors = joined(alloc, anchors, inner)?;
-    Ok(Found { value, anchors })
-}
-
-/// A block that is complete, as the value of a word with this anchor.
-fn closed_into<'a>(
-    alloc: Global,
-    block: Block<'a>,
-    found: Found<'a>,
-    name: Option<&'a str>,
-) -> Result<Found<'a>, YamlKind>
-    ensures { Gives found_view result (spec.closed_into (parts.bare (block_view block.entry))
-        (found_view found.entry) (name_view name.entry)) }
-{
-    let found = closed(alloc, block, found)?;
-    Ok(named(alloc, name, found)?)
-}
-
 /// Closes the blocks that the word isn't in, and goes on with the one that it is in.
 fn settle<'a>(
     alloc: Global,
-    blocks: &mut Vec<Open<'a>>,
-    mut block: Block<'a>,
-    mut found: Found<'a>,
+    mut blocks: Vec<Open<'a>>,
+    mut anchors: AnchorList<'a>,
+    mut block: Block,
+    mut value: Value,
     word: Word<'a>,
-) -> Result<(), YamlKind>
-    ensures { Gives (λ u. stack_view blocks.new.items) result (spec.settled (found_view found.entry)
-        (parts.bare (block_view block.entry)) (stack_view blocks.old.items)
+) -> Result<OpenBlocks<'a>, YamlKind>
+    requires { Rises (length anchors.anchors.items) (block.before ∷ befores blocks.items) }
+    ensures { Gives open_blocks result (spec.settled (block_spec.found (value_view value) [])
+        (parts.bare (block_at anchors.entry.anchors.items block))
+        (anchored (take block.before anchors.entry.anchors.items) blocks.entry.items)
         (word_view word.entry)) }
 {
     while let Some(outer) = blocks.pop() {
         if is_below(&outer.head, &word) {
             blocks.push(outer)?;
-            return advance(alloc, blocks, block, found, word);
+            return advance(alloc, blocks, anchors, block, value, word);
         }
         let Open {
             block: around,
             head,
             own: _,
         } = outer;
-        found = closed_into(alloc, block, found, head.anchor)?;
+        let Block {
+            line,
+            column: _,
+            done,
+            before,
+        } = block;
+        value = closed_value(alloc, line, done, value)?;
+        anchors = named(alloc, anchors, before, head.anchor, &value)?;
         block = around;
     }
-    advance(alloc, blocks, block, found, word)
+    advance(alloc, blocks, anchors, block, value, word)
 }
 
 /// Reads a word.
 pub(crate) fn step<'a>(
     alloc: Global,
-    blocks: &mut Vec<Open<'a>>,
+    stack: OpenBlocks<'a>,
     word: Word<'a>,
-) -> Result<(), YamlKind>
-    ensures { Gives (λ u. stack_view blocks.new.items) result
-        (spec.step (stack_view blocks.old.items) (word_view word.entry)) }
+) -> Result<OpenBlocks<'a>, YamlKind>
+    ensures { Gives open_blocks result
+        (spec.step (open_blocks stack.entry) (word_view word.entry)) }
 {
+    let OpenBlocks {
+        mut blocks,
+        anchors,
+    } = stack;
     let Some(top) = blocks.pop() else {
-        return begin(alloc, blocks, word);
+        return begin(alloc, blocks, anchors, word);
     };
     if is_below(&top.head, &word) {
         if !top.head.sort.opens_block() {
             return Err(YamlKind::Unsupported);
         }
         blocks.push(top)?;
-        return begin(alloc, blocks, word);
+        return begin(alloc, blocks, anchors, word);
     }
     let Open { block, head, own } = top;
-    let found = own_found(alloc, head, own)?;
-    settle(alloc, blocks, block, found, word)
+    let value = own_value(alloc, &head, own)?;
+    let known = anchors.anchors.len();
+    let anchors = named(alloc, anchors, known, head.anchor, &value)?;
+    settle(alloc, blocks, anchors, block, value, word)
 }

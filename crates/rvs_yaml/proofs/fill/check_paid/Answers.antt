@@ -1,4 +1,4 @@
-use Rattle.std.proofs.Common.{◌≡◌, ◌-◌, ◌++◌, ◌∙◌, sym, ap, subst, length, take, Some, false}
+use Rattle.std.proofs.Common.{◌≡◌, ◌∷◌, ◌-◌, ◌∙◌, sym, ap, subst, length, take, Some, false}
 use Rattle.std.proofs.lemmas.Result.{err_from_is_err_and}
 use Rattle.rvs_tree.specs.ValueView.{value_view}
 use Rattle.rvs_yaml_text.specs.Tokens.{tokens_of}
@@ -8,52 +8,69 @@ use Rattle.rvs_yaml.specs.Filling.{filled}
 use Rattle.rvs_tree.specs.Standin.{standin}
 use Rattle.rvs_yaml.specs.Checks.{◌>>=◌, mapped}
 use Rattle.rvs_yaml.specs.Flow.{flow_value}
-use Rattle.rvs_yaml.specs.Stack.{known_of}
 use Rattle.rvs_yaml.specs.Gives.{Fails}
 use Rattle.rvs_yaml.specs.Reader.{kept, Denies, DeniesFront}
+use Rattle.rvs_yaml.specs.Rising.{Rises, befores}
 use Rattle.rvs_yaml.specs.Front.{ends}
-use Rattle.rvs_yaml.specs.StackView.{anchors_view, anchors_in, open_view, stack_view}
-use Rattle.rvs_yaml.proofs.Sketching.{stack-top}
+use Rattle.rvs_yaml.specs.StackView.{stack_view, open_at, anchored}
+use Rattle.rvs_tree.specs.Value.{Value}
+use Rattle.std.specs.Prelude.{slice_get}
+use Rattle.rvs_yaml.proofs.Segments.{anchored-push, befores-push, known-put, ends-anchored}
+use Rattle.rvs_yaml.proofs.Segments.{last-whole}
 use Rattle.rvs_yaml.proofs.Paying.{denied-flow, denied-front}
 use Rattle.rvs_yaml.proofs.fill.check_paid.Goals as goal
 
 pub returns-in_err-thin : goal.returns-in_err-thin
 returns-in_err-thin c =
-    let bs = c.args.blocks.now in
+    let s = c.args.stack.now in
+    let bs = s.blocks.items in
+    let all = s.anchors.anchors.items in
     let top = c.in-Some.top.now in
     let b = bracket_view c.args.bracket in
     let ts = tokens_of c.args.text.now in
     let outer = take (length bs - 1) bs in
-    let inner = anchors_view top.block.anchors.anchors.items in
-    let split = stack-top bs top c.in-Some.ensures.value in
-    let known : inner ++ anchors_in outer c.as_slice.result.now
-    ≡ inner ++ known_of (stack_view outer) =
-    ap (λ ps. inner ++ anchors_in outer ps) c.as_slice.ensures.value
-    ∙ ap (λ xs. inner ++ xs) c.in_ok-places.ensures in
-    let p = err_from_is_err_and c.from_residual-in_err-thin.result
-    c.from_residual-in_err-thin.ensures.1 in
+    let is = last-whole bs top
+    (subst (λ xs. Some top ≡ slice_get xs (length xs - 1)) c.as_slice-blocks.ensures.value
+    c.in-Some.ensures.value) in
+    let split = ap (anchored all) is ∙ anchored-push all outer top in
+    let risen : Rises (length all) (top.block.before ∷ befores outer) =
+    subst (Rises (length all)) (ap befores is ∙ befores-push outer top) s.rising in
+    let known = known-put all top.block.before outer risen in
+    let p = err_from_is_err_and c.from_residual.result
+    c.from_residual.ensures.1 in
     rw (p.1, p.2)
-    (subst (λ s. Fails c.in_err-thin.field-0.0 (filled (Some (b, ts)) s >>= kept)) (sym split)
-    (denied-flow (open_view top) (stack_view outer) b ts _
+    (subst (λ x. Fails c.in_err-thin.field-0.0 (filled (Some (b, ts)) x >>= kept)) (sym split)
+    (denied-flow (open_at all top) (anchored (take top.block.before all) outer) b ts _
     (subst (λ xs. Fails c.in_err-thin.field-0.0 (mapped standin (flow_value xs top.head.line b ts)))
-    known c.in_err-thin.ensures)))
+    (sym known) c.in_err-thin.ensures)))
 
 pub returns : goal.returns
 returns c =
-    let bs = c.args.blocks.now in
+    let s = c.args.stack.now in
+    let bs = s.blocks.items in
+    let all = s.anchors.anchors.items in
     let top = c.in-Some.top.now in
     let b = bracket_view c.args.bracket in
     let ts = tokens_of c.args.text.now in
     let outer = take (length bs - 1) bs in
-    let inner = anchors_view top.block.anchors.anchors.items in
-    let rest = stack_view outer in
-    let known : inner ++ anchors_in outer c.as_slice.result.now ≡ inner ++ known_of rest =
-    ap (λ ps. inner ++ anchors_in outer ps) c.as_slice.ensures.value
-    ∙ ap (λ xs. inner ++ xs) c.in_ok-places.ensures in
-    let split = stack-top bs top c.in-Some.ensures.value in
+    let is = last-whole bs top
+    (subst (λ xs. Some top ≡ slice_get xs (length xs - 1)) c.as_slice-blocks.ensures.value
+    c.in-Some.ensures.value) in
+    let rest = anchored (take top.block.before all) outer in
+    let split = ap (anchored all) is ∙ anchored-push all outer top in
+    let risen : Rises (length all) (top.block.before ∷ befores outer) =
+    subst (Rises (length all)) (ap befores is ∙ befores-push outer top) s.rising in
+    let known = known-put all top.block.before outer risen in
     let leaf : opens_block (sort_view top.head.sort) ≡ false =
     sym c.opens_block.ensures ∙ c.if-opens_block.false in
-    subst (λ s. Denies c.check_thin.result (filled (Some (b, ts)) s)) (sym split)
-    (denied-front c.check_thin.result (open_view top) rest b ts (value_view c.in_ok-thin.thin) leaf (sym (ap (λ xs. mapped standin (flow_value xs top.head.line b ts)) known) ∙ c.in_ok-thin.ensures)
-    (λ v e s. subst (λ x. DeniesFront c.check_thin.result (ends v x)) split (c.check_thin.ensures
-    top.head.line b v (ap (λ xs. flow_value xs top.head.line b ts) known ∙ e) s)))
+    let front : (v : Value) → ends v (stack_view c.as_slice-blocks.result.now)
+    ≡ ends v (open_at all top ∷ rest) =
+    λ v. ap (λ xs. ends v (stack_view xs)) c.as_slice-blocks.ensures.value
+    ∙ sym (ends-anchored v all bs)
+    ∙ ap (ends v) split in
+    subst (λ x. Denies c.check_thin.result (filled (Some (b, ts)) x)) (sym split)
+    (denied-front c.check_thin.result (open_at all top) rest b ts (value_view c.in_ok-thin.thin)
+    leaf
+    (ap (λ xs. mapped standin (flow_value xs top.head.line b ts)) known ∙ c.in_ok-thin.ensures)
+    (λ v e t. subst (DeniesFront c.check_thin.result) (front v) (c.check_thin.ensures top.head.line b
+    v (sym (ap (λ xs. flow_value xs top.head.line b ts) known) ∙ e) t)))

@@ -7,14 +7,14 @@ use Rattle.rvs_yaml.specs.Filling.{hollow, flow_of, filled}
 use Rattle.rvs_yaml.specs.FillView.{flow_view}
 use Rattle.rvs_yaml.specs.LineParts.{words_in, rest_words}
 use Rattle.rvs_yaml.specs.Stack.{step}
-use Rattle.rvs_yaml.specs.StackView.{stack_view}
+use Rattle.rvs_yaml.specs.StackView.{open_blocks}
 use Rattle.rvs_yaml.proofs.Giving.{passes_same, fails_kept}
 use Rattle.rvs_yaml.proofs.WholeLines.{word-parts}
 use Rattle.rvs_yaml.proofs.line.read_last.Goals as goal
 
-pub returns-in_err-step : goal.returns-in_err-step
-returns-in_err-step c =
-    let bs = stack_view c.args.blocks.now.items in
+pub returns-in_err-stack : goal.returns-in_err-stack
+returns-in_err-stack c =
+    let bs = open_blocks c.args.stack in
     let word = c.in-Some.word in
     let w = word_view word in
     let parts = c.hollow_shape-shape.result in
@@ -25,14 +25,14 @@ returns-in_err-step c =
     let hollowed : u ≡ hollow w =
     ap (λ p. word_at word.line word.column p.0) c.hollow_shape-shape.ensures in
     let flow : f ≡ flow_of w.shape = ap (λ p. p.1) c.hollow_shape-shape.ensures in
-    let p = err_from_is_err_and c.from_residual-in_err-step.result
-    c.from_residual-in_err-step.ensures.1 in
+    let p = err_from_is_err_and c.from_residual-in_err-stack.result
+    c.from_residual-in_err-stack.ensures.1 in
     rw (p.1, p.2) (fails_kept _ (step bs u) _ (filled f) (word-parts bs w u f _ words hollowed flow)
-    c.in_err-step.ensures)
+    c.in_err-stack.ensures)
 
 pub returns : goal.returns
 returns c =
-    let bs = stack_view c.args.blocks.now.items in
+    let bs = open_blocks c.args.stack in
     let word = c.in-Some.word in
     let w = word_view word in
     let parts = c.hollow_shape-shape.result in
@@ -43,5 +43,5 @@ returns c =
     let hollowed : u ≡ hollow w =
     ap (λ p. word_at word.line word.column p.0) c.hollow_shape-shape.ensures in
     let flow : f ≡ flow_of w.shape = ap (λ p. p.1) c.hollow_shape-shape.ensures in
-    passes_same _ _ _ _ (sym (ap (λ m. m >>= filled f) c.in_ok-step.ensures)
+    passes_same _ _ _ _ (sym (ap (λ m. m >>= filled f) c.in_ok-stack.ensures)
     ∙ word-parts bs w u f _ words hollowed flow) c.fill_flow.ensures

@@ -3,7 +3,7 @@ use Rattle.rvs_yaml_text.specs.Scalar.{without_spaces}
 use Rattle.rvs_yaml_text.specs.Word.{dash}
 use Rattle.rvs_yaml.specs.Stack.{step, steps}
 use Rattle.rvs_yaml_text.specs.Text.{word_at, words_at, item_name}
-use Rattle.rvs_yaml.specs.StackView.{stack_view}
+use Rattle.rvs_yaml.specs.StackView.{open_blocks}
 use Rattle.rvs_yaml.proofs.Lining.{spaces-length, spaces-twice, words-first, words-next, words-rest}
 use Rattle.rvs_yaml.proofs.Giving.{passes_same}
 use Rattle.rvs_yaml.proofs.WholeLines.{steps-next}
@@ -12,7 +12,7 @@ use Rattle.rvs_yaml.proofs.line.read_words.Goals as goal
 pub loop-behind-init : goal.loop-behind-init
 loop-behind-init c =
     let text = c.args.text.now in
-    let bs = stack_view c.args.blocks.now.items in
+    let bs = open_blocks c.args.stack in
     let is = c.without_spaces-rest.ensures in (
       ap (λ r. steps bs (words_at c.args.line false (length text - length r) r)) is
           ∙ ap (steps bs) (sym (words-first c.args.line text)),
@@ -27,14 +27,14 @@ loop-behind-smaller c = omega (arith, ap length c.without_spaces-rest-in-Some.en
 pub loop-behind-preserved : goal.loop-behind-preserved
 loop-behind-preserved c =
     let n = length c.args.text.now in
-    let here = stack_view c.loop-behind.blocks.items in
-    let after = stack_view c.step.new.blocks.items in
+    let here = open_blocks c.loop-behind.stack in
+    let after = open_blocks c.in_ok-stack.stack in
     let rest = c.loop-behind.rest.now in
     let behind = c.in-Some.behind.now in
     let is = c.without_spaces-rest-in-Some.ensures in
     let w = word_at c.args.line (n - length rest) (dash (item_name behind)) in
     let stepped : step here w ≡ Ok after =
-    ap (step here) (sym c.dash.ensures) ∙ c.in_ok-step.ensures in (
+    ap (step here) (sym c.dash.ensures) ∙ c.in_ok-stack.ensures in (
       ap (λ r. steps after (words_at c.args.line true (n - length r) r)) is
           ∙ steps-next here after w _ stepped
           ∙ sym (ap (steps here) (words-next c.args.line c.loop-behind.item n rest behind
@@ -48,7 +48,7 @@ loop-behind-preserved c =
 pub returns : goal.returns
 returns c =
     let n = length c.args.text.now in
-    let here = stack_view c.loop-behind.blocks.items in
+    let here = open_blocks c.loop-behind.stack in
     let rest = c.loop-behind.rest.now in
     passes_same _ _ _ _ (sym (ap (steps here) (words-rest c.args.line c.loop-behind.item
     (n - length rest) rest c.in_default.ensures.split c.loop-behind.invariant.1))

@@ -1,6 +1,6 @@
 use Rattle.std.proofs.Common.{◌+◌, sym, subst}
 use Rattle.rvs_yaml.specs.Answer.{answer}
-use Rattle.rvs_yaml.specs.StackView.{stack_view}
+use Rattle.rvs_yaml.specs.StackView.{open_blocks}
 use Rattle.rvs_tree.specs.TreeView.{view}
 use Rattle.rvs_yaml.proofs.Answering.{Reads, Reads-line, Reads-refused}
 use Rattle.rvs_yaml.proofs.Ending.{refused-line, Reads-whole}
@@ -11,24 +11,24 @@ returns-in-Err-clause-refused c =
     let l = c.loop-rest in
     refused-line c.refusal.result.kind c.in-Err.kind c.refusal.result.line (l.number + 1)
     (answer c.args.bytes.now) _ c.refusal.ensures.kind
-    (Reads-refused c.args.bytes.now l.number l.started (stack_view l.blocks.items) l.rest c.first_line.result.1 c.in-Some.text c.first_line.result.0.now c.without_return-line.result.now c.in-Err.kind
+    (Reads-refused c.args.bytes.now l.number l.started (open_blocks l.stack) l.rest c.first_line.result.1 c.in-Some.text c.first_line.result.0.now c.without_return-line.result.now c.in-Err.kind
     l.invariant c.in-Some.is c.first_line.ensures.cut c.without_return-line.ensures)
     c.in-Err.ensures c.refusal.ensures.line c.refusal.ensures.memory
 
 pub loop-rest-preserved : goal.loop-rest-preserved
 loop-rest-preserved c =
     let l = c.loop-rest in
-    let after = stack_view c.read_checked_line.new.blocks.items in
-    let next = Reads-line c.args.bytes.now l.number l.started (stack_view l.blocks.items) after
+    let after = open_blocks c.in-Ok.stack in
+    let next = Reads-line c.args.bytes.now l.number l.started (open_blocks l.stack) after
     l.rest c.first_line.result.1 c.in-Some.text c.first_line.result.0.now
     c.without_return-line.result.now
     l.invariant c.in-Some.is c.first_line.ensures.cut c.first_line.ensures.shorter
-    c.without_return-line.ensures c.in_default-read_checked_line.ensures in
+    c.without_return-line.ensures c.in-Ok.ensures in
     subst (λ s. Reads c.args.bytes.now (l.number + 1) s after c.first_line.result.1)
     (sym c.started_by-started.ensures) next
 
-pub returns-in-Ok-clause-tree : goal.returns-in-Ok-clause-tree
-returns-in-Ok-clause-tree c =
+pub returns-in-Ok-whole_tree-clause-tree : goal.returns-in-Ok-whole_tree-clause-tree
+returns-in-Ok-whole_tree-clause-tree c =
     let l = c.loop-rest in
-    Reads-whole c.args.bytes.now l.number l.started (stack_view l.blocks.items) l.rest
-    (view c.in-Ok.tree) l.invariant c.in_default.is c.in-Ok.ensures
+    Reads-whole c.args.bytes.now l.number l.started (open_blocks l.stack) l.rest
+    (view c.in-Ok-whole_tree.tree) l.invariant c.in_default.is c.in-Ok-whole_tree.ensures

@@ -1,21 +1,41 @@
-use Rattle.std.proofs.Common.{◌≡◌, ◌∙◌, sym, ap, false}
+use Rattle.std.proofs.Common.{◌≡◌, ◌∷◌, ◌∙◌, sym, ap, subst, false, arith, length}
+use Rattle.rvs_tree.specs.ValueView.{value_view}
 use Rattle.rvs_yaml_text.specs.Word.{is_below}
+use Rattle.rvs_yaml.specs.Rising.{Rises, befores}
 use Rattle.rvs_yaml.specs.Stack.{step}
-use Rattle.rvs_yaml.specs.StackView.{own_view, found_view, block_view, stack_view}
+use Rattle.rvs_yaml.specs.StackView.{anchored}
 use Rattle.rvs_yaml_text.specs.WordView.{word_view, head_view}
 use Rattle.rvs_yaml.proofs.Giving.{gives_same}
-use Rattle.rvs_yaml.proofs.Lookups.{stack-push}
-use Rattle.rvs_yaml.proofs.Stepping.{step-settled}
+use Rattle.rvs_yaml.proofs.Segments.{anchored-push, befores-push, step-own}
 use Rattle.rvs_yaml.proofs.stack.step.Goals as goal
+
+pub settle-requires : goal.settle-requires
+settle-requires c =
+    let s = c.args.stack in
+    let top = c.in-Some.top in
+    let rest = c.pop.new.self.items in
+    let risen : Rises (length s.anchors.anchors.items) (top.block.before ∷ befores rest) =
+    subst (Rises (length s.anchors.anchors.items))
+    (ap befores c.in-Some.ensures.items ∙ befores-push rest top) s.rising in
+    (omega (arith, risen.0, c.in_ok-anchors.ensures.more), risen.1)
 
 pub returns : goal.returns
 returns c =
+    let s = c.args.stack in
+    let all = s.anchors.anchors.items in
+    let after = c.in_ok-anchors.anchors.anchors.items in
     let w = word_view c.args.word in
     let top = c.in-Some.top in
-    let rest = stack_view c.pop.new.self.items in
+    let rest = c.pop.new.self.items in
+    let risen : Rises (length all) (top.block.before ∷ befores rest) =
+    subst (Rises (length all)) (ap befores c.in-Some.ensures.items ∙ befores-push rest top)
+    s.rising in
     let above : is_below (head_view top.head) w ≡ false =
     sym c.is_below.ensures ∙ c.if-is_below.false in
-    gives_same _ _ _ _ (step-settled (found_view c.in_ok-found.found) (block_view top.block) (head_view top.head) (own_view top.head.line top.own) rest w above c.in_ok-found.ensures
-    ∙ sym (ap (λ s. step s w)
-    (ap stack_view c.in-Some.ensures.items ∙ stack-push c.pop.new.self.items top)))
+    let same : c.len-known.result ≡ length all =
+    omega (arith, c.len-known.ensures, s.anchors.anchors.ok.0) in
+    gives_same _ _ _ _ (sym (ap (λ x. step x w)
+    (ap (anchored all) c.in-Some.ensures.items ∙ anchored-push all rest top)
+    ∙ step-own (value_view c.in_ok-value.value) c.len-known.result all after top rest w same
+    (omega (arith, same, risen.0)) above c.in_ok-value.ensures c.in_ok-anchors.ensures))
     c.settle.ensures

@@ -1,0 +1,260 @@
+-- The anchors that are complete, as those of one open block after another.
+use Rattle.std.proofs.Common.{◌≡◌, ◌≤◌, ◌+◌, ◌-◌, ℕ, false, List, [], ◌∷◌, ◌++◌, map, reverse}
+use Rattle.std.proofs.Common.{length, take, drop, Some, Ok, refl, sym, ap, subst, ◌∙◌, arith}
+use Rattle.std.proofs.Common.{get_or}
+use Rattle.std.specs.Prelude.{if◌then◌else◌}
+use Rattle.std.proofs.lemmas.List.{reverse-append, map-append, take-append-drop, length-take-le}
+use Rattle.std.proofs.lemmas.List.{take-take, take_all, drop-append-le, drop_all, take_more}
+use Rattle.std.specs.Prelude.{slice_get}
+use Rattle.rvs_yaml.proofs.Sketching.{some-last}
+use Rattle.std.proofs.lemmas.Option.{slice_get-get_or}
+use Rattle.rvs_tree.specs.Data.{depth}
+use Rattle.rvs_tree.specs.Value.{Value}
+use Rattle.rvs_yaml_text.specs.Word.{Name, Word, Head, Content, Bracket, Token, is_below}
+use Rattle.rvs_yaml_text.specs.WordView.{head_view}
+use Rattle.rvs_yaml.specs.Anchors as anchors_spec
+use Rattle.rvs_yaml.specs.Checks.{Checked, ◌>>=◌}
+use Rattle.rvs_yaml.specs.Block.{Found, found, check_merge, content_value}
+use Rattle.rvs_yaml.specs.Stack as spec
+use Rattle.rvs_yaml.specs.Stack.{Done, done_items, done_entries, alone, known_of, noted, closed_as}
+use Rattle.rvs_yaml.specs.Stack.{closed_into, settled, step}
+use Rattle.rvs_yaml.specs.StepParts.{Block, opened, bare, closed_value, put_content}
+use Rattle.rvs_yaml.specs.Filling.{with_own, filled}
+use Rattle.rvs_yaml.specs.Flow.{flow_value}
+use Rattle.rvs_yaml.specs.Front.{own_value, ends, front_value, checked_front}
+use Rattle.rvs_yaml.specs.Reach.{level, levels, reach, KeepsDepth}
+use Rattle.rvs_yaml.specs.Answer.{within_limits}
+use Rattle.rvs_yaml.specs.Rising.{Rises, befores}
+use Rattle.rvs_yaml.specs.StackView.{anchor_view, anchors_view, own_view, open_view, stack_view}
+use Rattle.rvs_yaml.specs.StackView.{block_at, open_at, over, anchored, Names}
+use Rattle.rvs_yaml.specs.declared.open.Anchor.{Anchor}
+use Rattle.rvs_yaml.specs.declared.open.Open.{Open}
+use Rattle.rvs_yaml.proofs.Fronts.{noted-value}
+use Rattle.rvs_yaml.proofs.Lookups.{reverse-push}
+use Rattle.rvs_yaml.proofs.Outlined.{bind_assoc, bind_same, then_assoc}
+use Rattle.rvs_yaml.proofs.Stepping.{settled-bare, settled-over, step-over}
+
+pub anchors-append : (xs ys : List Anchor)
+    → anchors_view (xs ++ ys) ≡ anchors_view ys ++ anchors_view xs
+anchors-append xs ys =
+    ap reverse (map-append anchor_view xs ys)
+    ∙ reverse-append (map anchor_view xs) (map anchor_view ys)
+
+pub befores-push : (bs : List Open) (b : Open)
+    → befores (bs ++ b ∷ []) ≡ b.block.before ∷ befores bs
+befores-push bs b = ap (map (λ (o : Open). o.block.before)) (reverse-push bs b)
+
+pub anchored-push : (all : List Anchor) (bs : List Open) (b : Open)
+    → anchored all (bs ++ b ∷ []) ≡ open_at all b ∷ anchored (take b.block.before all) bs
+anchored-push all bs b = ap (over all) (reverse-push bs b)
+
+none-left : (all : List Anchor) → length all ≤ 0 → anchors_view all ≡ []
+none-left [] h = refl
+none-left (a ∷ all) h = absurd (omega (arith, h))
+
+whole : (all : List Anchor) (n : ℕ)
+    → anchors_view (drop n all) ++ anchors_view (take n all) ≡ anchors_view all
+whole all n =
+    sym (anchors-append (take n all) (drop n all)) ∙ ap anchors_view (take-append-drop n all)
+
+known-over : (all : List Anchor) (bs : List Open)
+    → Rises (length all) (map (λ (b : Open). b.block.before) bs)
+    → known_of (over all bs) ≡ anchors_view all
+known-over all [] h = sym (none-left all h)
+known-over all (b ∷ bs) h =
+    let n = b.block.before in
+    let below = subst (λ m. Rises m (map (λ (o : Open). o.block.before) bs))
+    (sym (length-take-le n all h.0)) h.1 in
+    ap (λ xs. anchors_view (drop n all) ++ xs) (known-over (take n all) bs below) ∙ whole all n
+
+-- the anchors in a block and those around it are all
+pub known-put : (all : List Anchor) (n : ℕ) (bs : List Open) → Rises (length all) (n ∷ befores bs)
+    → anchors_view (drop n all) ++ known_of (anchored (take n all) bs) ≡ anchors_view all
+known-put all n bs h =
+    let below = subst (λ m. Rises m (befores bs)) (sym (length-take-le n all h.0)) h.1 in
+    ap (λ xs. anchors_view (drop n all) ++ xs) (known-over (take n all) (reverse bs) below)
+    ∙ whole all n
+
+segment : (m n : ℕ) (all : List Anchor) → m ≤ n → n ≤ length all
+    → drop m all ≡ drop m (take n all) ++ drop n all
+segment m n all h k =
+    let inside : m ≤ length (take n all) = omega (arith, h, length-take-le n all k) in
+    ap (drop m) (sym (take-append-drop n all)) ∙ drop-append-le m (take n all) (drop n all) inside
+
+-- A BLOCK THAT CLOSES
+closed-joined : (d : Done) (line : ℕ) (xs ys : anchors_spec.Anchors) (v : Value)
+    → closed_as d line ys (found v xs) ≡ closed_as d line (xs ++ ys) (found v [])
+closed-joined (done_items vs) line xs ys v = refl
+closed-joined (done_entries ws k) line xs ys v = refl
+closed-joined alone line xs ys v = refl
+
+abbrev with : Block → anchors_spec.Anchors → Block
+with b anchors = record { line = b.line; column = b.column; done = b.done; anchors = anchors }
+
+settled-joined : (b : Block) (xs ys : anchors_spec.Anchors) (v : Value) (bs : List spec.Open)
+    (w : Word) → settled (found v xs) (bare (with b ys)) bs w
+    ≡ settled (found v []) (bare (with b (xs ++ ys))) bs w
+settled-joined b xs ys v [] w = refl
+settled-joined b xs ys v (o ∷ bs) w =
+    ap (λ m. if is_below o.head w then spec.advanced (bare (with b ys)) (found v xs) (o ∷ bs) w
+    else ((m >>= λ h. Ok (noted o.head.anchor h)) >>= λ h. settled h o bs w))
+    (closed-joined b.done b.line xs ys v)
+
+-- the value of a block and the anchors in it
+pub closed-whole : (d : Done) (line : ℕ) (anchors : anchors_spec.Anchors) (v : Value)
+    → closed_as d line anchors (found v []) ≡ (closed_value d line v >>= λ u. Ok (found u anchors))
+closed-whole (done_items vs) line anchors v = refl
+closed-whole (done_entries ws k) line anchors v = sym (then_assoc (check_merge k v) _ _)
+closed-whole alone line anchors v = refl
+
+noted-found : (name : Name) (v : Value) (xs ys : anchors_spec.Anchors)
+    → ys ≡ (noted name (found v xs)).anchors → noted name (found v xs) ≡ found v ys
+noted-found name v xs ys e =
+    sym (ap (λ zs. found v zs) e ∙ ap (λ u. found u (noted name (found v xs)).anchors)
+    (sym (noted-value name (found v xs))))
+
+-- A node that is complete and has its anchor is the open member of the block around it.
+pub next-over : (name : Name) (v : Value) (n : ℕ) (all after : List Anchor) (o : Open)
+    (bs : List Open) (w : Word) → Names name v n all after → o.block.before ≤ n → n ≤ length all
+    → settled (noted name (found v (anchors_view (drop n all)))) (open_at (take n all) o)
+    (anchored (take o.block.before (take n all)) bs) w
+    ≡ settled (found v []) (bare (block_at after o.block)) (anchored (take o.block.before after) bs)
+    w
+next-over name v n all after o bs w named h k =
+    let m = o.block.before in
+    let g = noted name (found v (anchors_view (drop n all))) in
+    let xs = anchors_view (drop n after) in
+    let ys = anchors_view (drop m (take n all)) in
+    let rest = anchored (take m (take n all)) bs in
+    let joined : xs ++ ys ≡ anchors_view (drop m after) =
+    ap (λ zs. xs ++ anchors_view (drop m zs)) (sym named.outer)
+    ∙ sym (anchors-append (drop m (take n after)) (drop n after))
+    ∙ ap anchors_view (sym (segment m n after h (omega (arith, k, named.more)))) in
+    let below : take m (take n all) ≡ take m after =
+    ap (take m) (sym named.outer) ∙ take-take m n after h in
+    settled-bare g (block_at (take n all) o.block) (head_view o.head) (own_view o.head.line o.own)
+    rest w
+    ∙ ap (λ x. settled x (bare (block_at (take n all) o.block)) rest w)
+    (noted-found name v (anchors_view (drop n all)) xs named.inner)
+    ∙ settled-joined (block_at (take n all) o.block) xs ys v rest w
+    ∙ ap (λ zs. settled (found v []) (bare (with (block_at after o.block) zs)) rest w) joined
+    ∙ ap (λ zs. settled (found v []) (bare (block_at after o.block)) (anchored zs bs) w) below
+
+-- a block that the word isn't in closes
+pub settled-closing : (b : Block) (v : Value) (o : spec.Open) (bs : List spec.Open) (w : Word)
+    → is_below o.head w ≡ false → settled (found v []) (bare b) (o ∷ bs) w
+    ≡ (closed_value b.done b.line v
+    >>= λ u. settled (noted o.head.anchor (found u b.anchors)) o bs w)
+settled-closing b v o bs w e =
+    settled-over (found v []) (bare b) o bs w e
+    ∙ ap (λ m. (m >>= λ h. let r : Checked (Found Value) = Ok (noted o.head.anchor h) in r)
+    >>= λ h. settled h o bs w) (closed-whole b.done b.line b.anchors v)
+    ∙ bind_assoc (closed_value b.done b.line v >>= λ u. Ok (found u b.anchors)) _ _
+    ∙ bind_assoc (closed_value b.done b.line v) _ _
+
+-- the word on top is complete
+pub step-own : (v : Value) (n : ℕ) (all after : List Anchor) (o : Open) (bs : List Open) (w : Word)
+    → n ≡ length all → o.block.before ≤ n → is_below (head_view o.head) w ≡ false
+    → v ≡ own_value (open_view o) → Names (head_view o.head).anchor v n all after
+    → step (open_at all o ∷ anchored (take o.block.before all) bs) w
+    ≡ settled (found v []) (bare (block_at after o.block)) (anchored (take o.block.before after) bs)
+    w
+step-own v n all after o bs w e h below is named =
+    let m = o.block.before in
+    let name = (head_view o.head).anchor in
+    let whole-list : take n all ≡ all = take_all n all (omega (arith, e)) in
+    let none : drop n all ≡ [] = drop_all n all (omega (arith, e)) in
+    step-over (open_at all o) (anchored (take m all) bs) w below
+    ∙ ap (λ u. settled (noted name (found u [])) (open_at all o) (anchored (take m all) bs) w)
+    (sym is)
+    ∙ sym (ap (λ xs. settled (noted name (found v (anchors_view xs))) (open_at all o)
+    (anchored (take m all) bs) w) none)
+    ∙ sym (ap (λ xs. settled (noted name (found v (anchors_view (drop n all)))) (open_at xs o)
+    (anchored (take m xs) bs) w) whole-list)
+    ∙ next-over name v n all after o bs w named h (omega (arith, e))
+
+pub put-all : (all : List Anchor) (n : ℕ) (b : Block) (bs : List Open) (h : Head) (c : Content)
+    → b.anchors ≡ anchors_view (drop n all) → Rises (length all) (n ∷ befores bs)
+    → put_content b (anchored (take n all) bs) h c
+    ≡ (content_value (anchors_view all) h.line c
+    >>= λ own. Ok (opened b h own ∷ anchored (take n all) bs))
+put-all all n b bs h c e r =
+    ap (λ xs. content_value xs h.line c
+    >>= λ own. let q : Checked (List spec.Open) = Ok (opened b h own ∷ anchored (take n all) bs) in
+    q)
+    (ap (λ xs. xs ++ known_of (anchored (take n all) bs)) e ∙ known-put all n bs r)
+
+pub filled-all : (all : List Anchor) (o : Open) (bs : List Open) (b : Bracket) (ts : List Token)
+    → Rises (length all) (o.block.before ∷ befores bs)
+    → filled (Some (b, ts)) (open_at all o ∷ anchored (take o.block.before all) bs)
+    ≡ (flow_value (anchors_view all) o.head.line b ts
+    >>= λ own. Ok (with_own (open_at all o) own ∷ anchored (take o.block.before all) bs))
+filled-all all o bs b ts r =
+    ap (λ xs. flow_value xs o.head.line b ts >>= λ own. let q : Checked (List spec.Open) =
+    Ok (with_own (open_at all o) own ∷ anchored (take o.block.before all) bs) in q)
+    (known-put all o.block.before bs r)
+
+-- the block on top is the last
+pub last-whole : (bs : List Open) (top : Open) → Some top ≡ slice_get bs (length bs - 1)
+    → bs ≡ take (length bs - 1) bs ++ top ∷ []
+last-whole bs top h =
+    let m = length bs - 1 in
+    let inside = some-last bs top h in
+    let one : m + 1 ≡ length bs = omega (arith, inside) in
+    let here : get_or bs m top ≡ top =
+    let there = slice_get-get_or bs m top inside in cc in
+    sym (ap (λ n. take n bs) one ∙ take_all (length bs) bs (omega arith))
+    ∙ take_more bs m top inside
+    ∙ ap (λ b. take m bs ++ b ∷ []) here
+
+-- THE FRONT NEEDS NO ANCHORS
+map-reverse : (bs : List Open) → reverse (map open_view bs) ≡ map open_view (reverse bs)
+map-reverse [] = refl
+map-reverse (b ∷ bs) =
+    reverse-append (open_view b ∷ []) (map open_view bs)
+    ∙ ap (λ xs. xs ++ open_view b ∷ []) (map-reverse bs)
+    ∙ sym (ap (map open_view) (reverse-append (b ∷ []) bs)
+    ∙ map-append open_view (reverse bs) (b ∷ []))
+
+ends-over : (v : Value) (all : List Anchor) (bs : List Open)
+    → ends v (over all bs) ≡ ends v (map open_view bs)
+ends-over v all [] = refl
+ends-over v all (b ∷ bs) =
+    bind_same (closed_value (open_view b).done b.block.line v) _ _
+    (λ u. ends-over u (take b.block.before all) bs)
+
+pub ends-anchored : (v : Value) (all : List Anchor) (bs : List Open)
+    → ends v (anchored all bs) ≡ ends v (stack_view bs)
+ends-anchored v all bs = ends-over v all (reverse bs) ∙ ap (ends v) (sym (map-reverse bs))
+
+front-over : (all : List Anchor) (bs : List Open)
+    → front_value (over all bs) ≡ front_value (map open_view bs)
+front-over all [] = refl
+front-over all (b ∷ bs) = ends-over (own_value (open_view b)) all (b ∷ bs)
+
+pub front-anchored : (all : List Anchor) (bs : List Open)
+    → front_value (anchored all bs) ≡ front_value (stack_view bs)
+front-anchored all bs = front-over all (reverse bs) ∙ ap front_value (sym (map-reverse bs))
+
+pub checked-anchored : (all : List Anchor) (bs : List Open)
+    → checked_front (anchored all bs) ≡ checked_front (stack_view bs)
+checked-anchored all bs = ap (λ m. m >>= within_limits) (front-anchored all bs)
+
+levels-over : (all : List Anchor) (bs : List Open)
+    → levels (over all bs) ≡ levels (map open_view bs)
+levels-over all [] = refl
+levels-over all (b ∷ bs) =
+    ap (λ n. level (open_view b).done + n) (levels-over (take b.block.before all) bs)
+
+reach-over : (all : List Anchor) (bs : List Open) → reach (over all bs) ≡ reach (map open_view bs)
+reach-over all [] = refl
+reach-over all (b ∷ bs) =
+    ap (λ n. depth (own_value (open_view b)).tree + n) (levels-over all (b ∷ bs))
+
+pub keeps-anchored : (all : List Anchor) (bs : List Open) → KeepsDepth (anchored all bs)
+    → KeepsDepth (stack_view bs)
+keeps-anchored all bs k = λ v e.
+    let deep = k v (front-anchored all bs ∙ e) in
+    let same : reach (anchored all bs) ≡ reach (stack_view bs) =
+    reach-over all (reverse bs) ∙ ap reach (sym (map-reverse bs)) in
+    omega (arith, deep, same)

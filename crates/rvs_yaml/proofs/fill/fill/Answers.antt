@@ -1,0 +1,72 @@
+use Rattle.std.proofs.Common.{List, ◌∷◌, ◌∙◌, sym, ap, subst, length, take, Some, Ok}
+use Rattle.std.proofs.lemmas.Result.{err_from_is_err_and}
+use Rattle.rvs_yaml_text.specs.Tokens.{tokens_of}
+use Rattle.rvs_yaml_text.specs.WordView.{bracket_view}
+use Rattle.rvs_yaml.specs.Checks.{Checked, ◌>>=◌}
+use Rattle.rvs_yaml.specs.Filling.{with_own, filled}
+use Rattle.rvs_yaml.specs.Flow.{flow_value}
+use Rattle.rvs_yaml.specs.Stack.{Open}
+use Rattle.rvs_yaml.specs.Rising.{Rises, befores}
+use Rattle.rvs_yaml.specs.StackView.{anchors_view, open_at, anchored}
+use Rattle.rvs_yaml.proofs.Giving.{fails_first}
+use Rattle.rvs_yaml.proofs.Outlined.{bind_assoc}
+use Rattle.rvs_yaml.specs.Reader.{kept}
+use Rattle.rvs_yaml.proofs.Segments.{anchored-push, befores-push, filled-all}
+use Rattle.rvs_tree.specs.ValueView.{value_view}
+use Rattle.rvs_yaml.proofs.fill.fill.Goals as goal
+
+pub returns-in_err-own : goal.returns-in_err-own
+returns-in_err-own c =
+    let s = c.args.stack in
+    let all = s.anchors.anchors.items in
+    let top = c.in-Some.top in
+    let rest = c.pop.new.self.items in
+    let b = bracket_view c.args.bracket in
+    let ts = tokens_of c.args.text.now in
+    let risen : Rises (length all) (top.block.before ∷ befores rest) =
+    subst (Rises (length all)) (ap befores c.in-Some.ensures.items ∙ befores-push rest top)
+    s.rising in
+    let split = ap (anchored all) c.in-Some.ensures.items ∙ anchored-push all rest top in
+    let p = err_from_is_err_and c.from_residual-in_err-own.result
+    c.from_residual-in_err-own.ensures.1 in
+    rw (p.1, p.2) (fails_first _ (flow_value (anchors_view all) top.head.line b ts)
+    (λ own. kept (with_own (open_at all top) own ∷ anchored (take top.block.before all) rest)) _
+    (sym (ap (λ m. m >>= kept)
+    (ap (filled (Some (b, ts))) split ∙ filled-all all top rest b ts risen)
+    ∙ bind_assoc (flow_value (anchors_view all) top.head.line b ts) _ kept))
+    c.in_err-own.ensures)
+
+pub invariant_of-result-2 : goal.invariant_of-result-2
+invariant_of-result-2 c =
+    let s = c.args.stack in
+    let all = s.anchors.anchors.items in
+    let top = c.in-Some.top in
+    let rest = c.pop.new.self.items in
+    let risen : Rises (length all) (top.block.before ∷ befores rest) =
+    subst (Rises (length all)) (ap befores c.in-Some.ensures.items ∙ befores-push rest top)
+    s.rising in
+    record {
+      rising = subst (Rises (length all)) (sym (ap befores c.in_ok-push.ensures.items
+          ∙ befores-push rest _)) risen;
+    }
+
+pub returns : goal.returns
+returns c =
+    let s = c.args.stack in
+    let all = s.anchors.anchors.items in
+    let top = c.in-Some.top in
+    let rest = c.pop.new.self.items in
+    let b = bracket_view c.args.bracket in
+    let ts = tokens_of c.args.text.now in
+    let risen : Rises (length all) (top.block.before ∷ befores rest) =
+    subst (Rises (length all)) (ap befores c.in-Some.ensures.items ∙ befores-push rest top)
+    s.rising in
+    ap (filled (Some (b, ts)))
+    (ap (anchored all) c.in-Some.ensures.items ∙ anchored-push all rest top)
+    ∙ filled-all all top rest b ts risen
+    ∙ ap (λ m. m >>= λ own. let r : Checked (List Open) =
+    Ok (with_own (open_at all top) own ∷ anchored (take top.block.before all) rest) in r)
+    c.in_ok-own.ensures
+    ∙ ap (λ v. Ok (with_own (open_at all top) v ∷ anchored (take top.block.before all) rest))
+    (sym (ap value_view c.in_ok-new.ensures.ok))
+    ∙ ap Ok (sym (ap (anchored all) c.in_ok-push.ensures.items ∙ anchored-push all rest _))
