@@ -15,6 +15,7 @@ pub mod Paying
 pub mod Placing
 pub mod Reaching
 pub mod Rows
+pub mod Seeing
 pub mod Sketching
 pub mod Stepping
 pub mod Telling

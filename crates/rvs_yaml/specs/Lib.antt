@@ -25,6 +25,7 @@ pub mod Reader
 pub mod Gives
 pub mod Places
 pub mod Sketched
+pub mod Seen
 pub mod StackView
 pub mod StepView
 pub mod FlowView

@@ -19,6 +19,8 @@ mod reach;
 mod reader;
 mod reading;
 mod refusal;
+mod seen;
+mod sight;
 mod sketch;
 mod stack;
 
