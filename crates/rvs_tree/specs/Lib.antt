@@ -7,6 +7,8 @@ pub mod OwnKeys
 pub mod Bound
 pub mod Sifted
 pub mod Standin
+pub mod Shown
+pub mod ShownView
 pub mod TreeSize
 pub mod TreeView
 pub mod DraftView

@@ -2,12 +2,14 @@
 //! depth bounded, in lists and maps, with what a map merges resolved.
 #![tactic(auto)]
 
+mod brought;
 mod counted;
 mod draft;
 mod entry_list;
 mod gather;
 mod gathering;
 mod held;
+mod key_depth;
 mod keys;
 mod members;
 mod merged;
@@ -22,10 +24,12 @@ mod value_list;
 mod whole;
 mod written;
 
+pub use brought::{brought_depths, deepest_of};
 pub use counted::Value;
 pub use draft::{Draft, Part};
 pub use entry_list::EntryList;
 pub use held::Held;
+pub use key_depth::KeyDepth;
 pub use members::{DEEP, depth_up_to};
 pub use merged::{list_value, map_value, own_keys_stay};
 pub use thin::{thin_list_value, thin_map_value, thin_value};
