@@ -1,5 +1,5 @@
 -- A point is read again from its key, and the points under a line from their keys.
-use Rattle.std.proofs.Common.{◌≡◌, ℕ, suc, ◌+◌, ◌≤◌, Bool, true, false, not, ◌&&◌, List, ◌∷◌}
+use Rattle.std.proofs.Common.{◌≡◌, ℕ, suc, ◌+◌, ◌≤◌, Bool, true, false, not, ◌&&◌, List, ◌∷◌, []}
 use Rattle.std.proofs.Common.{◌++◌, length, Option, Some, None, Ok, Err, option_map, refl, sym}
 use Rattle.std.proofs.Common.{ap, ◌∙◌, arith, append_assoc, append-nil}
 use Rattle.std.proofs.Common.{bytes_eq, codes}

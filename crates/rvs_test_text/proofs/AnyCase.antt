@@ -1,5 +1,5 @@
 -- A case of any kind that is made.
-use Rattle.std.proofs.Common.{◌≡◌, ℕ, zero, suc, ◌+◌, ◌/◌, ◌%◌, ◌-◌, ◌≤◌, Bool}
+use Rattle.std.proofs.Common.{◌≡◌, ℕ, zero, suc, ◌+◌, ◌/◌, ◌%◌, ◌-◌, ◌≤◌, Bool, []}
 use Rattle.std.proofs.Common.{true, false, cond, Option, Some, None}
 use Rattle.std.proofs.Common.{refl, sym, ap, ◌∙◌, arith, subst}
 use Rattle.std.specs.Prelude.{ℤ, pos, negsuc, unwrap_or, nat_le}

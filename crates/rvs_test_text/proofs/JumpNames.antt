@@ -1,5 +1,5 @@
 -- The sizes, symbols and instructions of a case with a jump frame.
-use Rattle.std.proofs.Common.{◌≡◌, ℕ, zero, suc, ◌+◌, ◌*◌, ◌^◌, ◌<◌, true, List}
+use Rattle.std.proofs.Common.{◌≡◌, ℕ, zero, suc, ◌+◌, ◌*◌, ◌^◌, ◌<◌, true, List, []}
 use Rattle.std.proofs.Common.{◌∷◌, ◌++◌, refl, sym, ap, ◌∙◌, arith, subst, append-nil}
 use Rattle.std.specs.Prelude.{ℤ, pos, negsuc}
 use Rattle.rvs_insn.specs.Fields.{Fields}
