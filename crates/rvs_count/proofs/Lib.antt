@@ -1,9 +1,11 @@
 pub mod Built
+pub mod Cells
 pub mod Counts
 pub mod Crossing
 pub mod Ends
 pub mod Feeding
 pub mod Hitting
+pub mod Marks
 pub mod Matching
 pub mod Places
 pub mod Reports

@@ -1,6 +1,6 @@
 -- What all the lists that are looked at add together.
-use Rattle.std.proofs.Common.{◌≡◌, ℕ, zero, suc, ◌+◌, ◌<◌, ◌≤◌, Bool, true, false, ◌&&◌, List, []}
-use Rattle.std.proofs.Common.{◌∷◌, Option, Some, None, refl, sym, ap, ◌∙◌, length, drop, get_or}
+use Rattle.std.proofs.Common.{◌≡◌, ℕ, ◌+◌, Bool, true, false, ◌&&◌, List, []}
+use Rattle.std.proofs.Common.{◌∷◌, Option, Some, None, refl, sym, ap, ◌∙◌, length}
 use Rattle.std.proofs.Common.{arith}
 use Rattle.std.specs.Prelude.{◌==◌}
 use Rattle.rvs_cgf.specs.Groups.{Point}
@@ -110,34 +110,6 @@ all_added i v1 v2 aims cs =
     all_total (λ a. hits_insn a (Some i) v1 v2) (visited (facts_of i v1 v2)) aims cs
     ∙ plus_is (total (λ a. hits_insn a (Some i) v1 v2) (visited (facts_of i v1 v2)))
     (λ a. hits_insn a (Some i) v1 v2) aims cs (total_one i v1 v2)
-
-drop-at : (os : List (Option ℕ)) (k : ℕ) (d : Option ℕ) → k < length os
-    → drop k os ≡ get_or os k d ∷ drop (k + 1) os
-drop-at [] k d h = absurd (omega arith)
-drop-at (o ∷ os) zero d h = refl
-drop-at (o ∷ os) (suc k) d h =
-    let e : suc k + 1 ≡ suc (k + 1) = omega arith in
-    drop-at os k d (omega arith) ∙ ap (λ n. get_or os k d ∷ drop n (o ∷ os)) (sym e)
-
-drop-all : (os : List (Option ℕ)) (k : ℕ) → length os ≤ k → drop k os ≡ []
-drop-all [] zero h = refl
-drop-all [] (suc k) h = refl
-drop-all (o ∷ os) zero h = absurd (omega arith)
-drop-all (o ∷ os) (suc k) h = drop-all os k (omega arith)
-
--- one list more
-pub all_more : (hit : Aim → Bool) (os : List (Option ℕ)) (aims : List Aim) (cs cs' : List ℕ) (k : ℕ)
-    (d : Option ℕ)
-    → k < length os
-    → cs' ≡ added (λ a. is_seen (get_or os k d) a.point && hit a) aims cs
-    → added_all hit (drop (k + 1) os) aims cs' ≡ added_all hit (drop k os) aims cs
-all_more hit os aims cs cs' k d h e =
-    ap (λ c. added_all hit (drop (k + 1) os) aims c) e
-    ∙ ap (λ l. added_all hit l aims cs) (sym (drop-at os k d h))
-
-pub all_done : (hit : Aim → Bool) (os : List (Option ℕ)) (aims : List Aim) (cs : List ℕ) (k : ℕ)
-    → length os ≤ k → added_all hit (drop k os) aims cs ≡ cs
-all_done hit os aims cs k h = ap (λ l. added_all hit l aims cs) (drop-all os k h)
 
 -- where there are no counts
 pub none_to_add : (passes : Aim → Bool) (aims : List Aim) (cs : List ℕ) → length cs ≡ 0

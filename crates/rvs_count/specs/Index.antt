@@ -92,11 +92,6 @@ pub record IsIndex (key_of : ℕ → ListKey) (labels : List Label) (lists : Lis
   pub each : (n : ℕ) (d : List Slot) → n < length lists
       → places (slice_index_or lists n d) ≡ places_for (is_for (key_of n)) 0 (aims_in labels)
 
--- a list has a point
-abbrev pub is_filled : List Slot → Bool
-is_filled [] = false
-is_filled (s ∷ slots) = true
-
 -- a point of this meaning is a cross point
 abbrev pub is_window : Meaning → Bool
 is_window (window ps) = true

@@ -1,8 +1,10 @@
 pub mod Bounds
 pub mod Buckets
+pub mod Cells
 pub mod Counting
 pub mod Feeds
 pub mod Index
+pub mod Marks
 pub mod Report
 pub mod Runs
 pub mod Shortcuts

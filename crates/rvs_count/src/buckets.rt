@@ -1,12 +1,10 @@
 // Where a point is looked for.
-ghost use Rattle.std.specs.Prelude.{◌≡◌, ◌<◌, All, IfSome, option_map};
+ghost use Rattle.std.specs.Prelude.{◌≡◌, ◌<◌};
 ghost use Rattle.rvs_cgf.specs.GroupView.{point_view};
-ghost use Rattle.rvs_facts.specs.Facts.{facts_of};
 ghost use Rattle.rvs_count.specs.Buckets as spec;
 
-use crate::known_facts::Known;
 use rvs_cgf::{Kind, Meaning, Point};
-use rvs_expr::{Facts, NumName, RegName};
+use rvs_expr::NumName;
 
 /// How many lists there are for a mnemonic.
 pub(crate) const BUCKETS: usize = 365;
@@ -33,7 +31,7 @@ fn register_bucket(kind: Kind, register: u8) -> usize
     }
 }
 
-fn number_bucket(name: NumName, value: i64) -> usize
+pub(crate) fn number_bucket(name: NumName, value: i64) -> usize
     ensures value { result ≡ spec.number_bucket name value }
     ensures low { result < 365 }
 {
@@ -68,42 +66,4 @@ pub(crate) fn bucket_of(point: &Point) -> usize
         Meaning::Nums(expr) => equation_bucket(expr.equation()),
         Meaning::Window(_) => BUCKETS,
     }
-}
-
-fn of_register(kind: Kind, register: Option<u8>) -> Option<usize>
-    ensures value { result ≡ option_map (spec.register_bucket kind) register }
-    ensures low { IfSome result (λ b. b < 365) }
-{
-    match register {
-        None => None,
-        Some(register) => Some(register_bucket(kind, register)),
-    }
-}
-
-fn of_number(name: NumName, value: Option<i64>) -> Option<usize>
-    ensures value { result ≡ option_map (spec.number_bucket name) value }
-    ensures low { IfSome result (λ b. b < 365) }
-{
-    match value {
-        None => None,
-        Some(value) => Some(number_bucket(name, value)),
-    }
-}
-
-/// The lists that an instruction is held against.
-pub(crate) fn visited(facts: &Known<'_>) -> [Option<usize>; 8]
-    ensures lists { result
-        ≡ spec.visited (facts_of facts.now.insn.now facts.now.first facts.now.second) }
-    ensures low { All (λ o. IfSome o (λ b. b < 365)) result }
-{
-    [
-        Some(0),
-        of_register(Kind::Rd, facts.reg(RegName::Rd)),
-        of_register(Kind::Rs1, facts.reg(RegName::Rs1)),
-        of_register(Kind::Rs2, facts.reg(RegName::Rs2)),
-        of_number(NumName::Rs1Val, facts.num(NumName::Rs1Val)),
-        of_number(NumName::Rs2Val, facts.num(NumName::Rs2Val)),
-        of_number(NumName::ImmVal, facts.num(NumName::ImmVal)),
-        of_number(NumName::EaAlign, facts.num(NumName::EaAlign)),
-    ]
 }

@@ -1,16 +1,22 @@
 // The points by mnemonic and by shape.
-ghost use Rattle.std.specs.Prelude.{◌≡◌, ◌≤◌, ◌<◌, ◌^◌, ◌&&◌, All, IfOk, IfSome, Some, length};
+ghost use Rattle.std.specs.Prelude.{◌≡◌, ◌≤◌, ◌<◌, ◌^◌, ◌&&◌, All, IfOk, Some, length};
+ghost use Rattle.std.specs.Prelude.{unsigned_abs};
 ghost use Rattle.rvs_machine.specs.Traces.{word_of};
+ghost use Rattle.rvs_facts.specs.Facts.{facts_of as table_of};
 ghost use Rattle.rvs_count.specs.Buckets.{is_seen};
+ghost use Rattle.rvs_count.specs.Cells as cell;
+ghost use Rattle.rvs_count.specs.Cells.{HasCells, Fits};
 ghost use Rattle.rvs_count.specs.Counting.{aims_in, hits_insn};
-ghost use Rattle.rvs_count.specs.Index.{IsIndex, added_all, insns_key};
+ghost use Rattle.rvs_count.specs.Index.{IsIndex, insns_key};
 ghost use Rattle.rvs_count.specs.State.{added};
 
-use crate::buckets::{BUCKETS, visited};
-use crate::filled::{filled, list_at};
+use crate::asked::{Asked, asked_bucket};
+use crate::buckets::BUCKETS;
+use crate::cell::{Cell, add_cell, cells};
 use crate::hits::add_insn;
 use crate::key::{ListKey, MNEMONICS};
 use crate::known_facts::{Known, take_facts};
+use crate::mark::{Head, add_marks, heads};
 use crate::slot::Slot;
 use crate::slots::slots_of;
 use rvs_base::{Items, NoMemory};
@@ -30,16 +36,20 @@ const LISTS: usize = MNEMONICS * BUCKETS;
 pub(crate) struct Index<'g> {
     labels: &'g [Label],
     lists: Items<Items<Slot<'g>>>,
-    /// Which of the lists have a point.
-    filled: Items<bool>,
+    /// The lists once more, as far as their points say values.
+    cells: Items<Cell>,
+    /// The first lists once more, as far as their points say signs.
+    heads: Items<Head>,
 }
 
 impl<'g> Model for Index<'g> {
-    ghost use Rattle.std.specs.Prelude.{◌≡◌, List, length, map};
+    ghost use Rattle.std.specs.Prelude.{◌≡◌, List, length};
     ghost use Rattle.std.specs.Coded.{codes};
     ghost use Rattle.rvs_expr.specs.contracts.expr.Expr as expr;
     ghost use Rattle.rvs_cgf.specs.declared.group.Label as group;
-    ghost use Rattle.rvs_count.specs.Index.{IsIndex, insns_key, is_filled};
+    ghost use Rattle.rvs_count.specs.Index.{IsIndex, insns_key};
+    ghost use Rattle.rvs_count.specs.Cells.{HasCells};
+    ghost use Rattle.rvs_count.specs.Marks.{HasHeads};
 
     ghost Value = { List group.Label };
 
@@ -48,7 +58,8 @@ impl<'g> Model for Index<'g> {
     ghost view = { λ i. i.labels.now };
 
     ghost invariant = { λ i. IsIndex insns_key i.labels.now i.lists × (length i.lists ≡ 17520)
-        × (i.filled ≡ map is_filled i.lists) };
+        × HasCells i.lists i.cells × (length i.cells ≡ 17520)
+        × HasHeads i.lists i.heads × (length i.heads ≡ 48) };
 }
 
 /// The lists of all mnemonics and buckets.
@@ -71,11 +82,13 @@ impl<'g> Index<'g> {
         ensures { IfOk result (λ i. i ≡ labels.now) }
     {
         let lists = lists(alloc, labels)?;
-        let filled = filled(alloc, lists.as_slice())?;
+        let cells = cells(alloc, lists.as_slice())?;
+        let heads = heads(alloc, lists.as_slice())?;
         Ok(Index {
             labels,
             lists,
-            filled,
+            cells,
+            heads,
         })
     }
 
@@ -86,44 +99,96 @@ impl<'g> Index<'g> {
         self.labels
     }
 
-    /// Adds one to the counts of the points of a bucket that an instruction hits.
-    fn add_bucket(&self, bucket: Option<usize>, facts: &Known<'_>, counts: &mut Vec<u64>)
-        requires bucket { IfSome bucket (λ b. b < 365) }
-        requires count { length counts.old.items ≡ length (aims_in self.now) }
-        requires low { All (λ n. n ≤ 2 ^ 41) counts.old.items }
-        ensures { counts.new.items ≡ added (λ a. is_seen bucket a.point
+    /// Adds one to the counts of the points of a list that an instruction hits.
+    #[inline(never)]
+    fn add_list(&self, bucket: usize, facts: &Known<'_>, counts: &mut Vec<u64>)
+        requires bucket { bucket < 365 }
+        requires fits { Fits (aims_in self.now) (2 ^ 41) counts.old.items }
+        ensures { counts.new.items ≡ added (λ a. is_seen (Some bucket) a.point
             && hits_insn a (Some facts.now.insn.now) facts.now.first facts.now.second)
             (aims_in self.now) counts.old.items }
     {
-        match bucket {
-            None => {},
-            Some(bucket) => {
-                let insn = facts.insn;
-                let key = number(insn.op) * BUCKETS + bucket;
-                let slots = list_at(self.lists.as_slice(), self.filled.as_slice(), key);
-                add_insn(slots, facts, counts);
-            },
+        let insn = facts.insn;
+        let key = number(insn.op) * BUCKETS + bucket;
+        let slots = self.lists.as_slice()[key].as_slice();
+        add_insn(slots, facts, counts);
+    }
+
+    /// The same of the first list.
+    #[inline(always)]
+    fn add_first(&self, facts: &Known<'_>, counts: &mut Vec<u64>)
+        requires fits { Fits (aims_in self.now) (2 ^ 41) counts.old.items }
+        ensures { counts.new.items ≡ added (λ a. is_seen (Some 0) a.point
+            && hits_insn a (Some facts.now.insn.now) facts.now.first facts.now.second)
+            (aims_in self.now) counts.old.items }
+    {
+        let insn = facts.insn;
+        let head = &self.heads.as_slice()[number(insn.op)];
+        if head.more {
+            self.add_list(0, facts, counts);
+        } else {
+            add_marks(head.marks.as_slice(), &facts.signs, counts);
         }
     }
 
-    /// The same for several buckets.
-    fn add_buckets(&self, buckets: &[Option<usize>], facts: &Known<'_>, counts: &mut Vec<u64>)
-        requires buckets { All (λ o. IfSome o (λ b. b < 365)) buckets.now }
-        requires few { length buckets.now ≤ 8 }
-        requires count { length counts.old.items ≡ length (aims_in self.now) }
-        requires low { All (λ n. n ≤ 2 ^ 40) counts.old.items }
-        ensures { counts.new.items ≡ added_all
-            (λ a. hits_insn a (Some facts.now.insn.now) facts.now.first facts.now.second)
-            buckets.now (aims_in self.now) counts.old.items }
+    /// The same of the list of a fact's value.
+    #[inline(always)]
+    fn add_value(&self, asked: Asked, value: i64, facts: &Known<'_>, counts: &mut Vec<u64>)
+        requires fact { cell.fact asked
+            (table_of facts.now.insn.now facts.now.first facts.now.second) ≡ Some value }
+        requires small { unsigned_abs value ≤ 2 ^ 32 }
+        requires fits { Fits (aims_in self.now) (2 ^ 41) counts.old.items }
+        ensures { counts.new.items
+            ≡ added (λ a. is_seen (Some (cell.asked_bucket asked value)) a.point
+            && hits_insn a (Some facts.now.insn.now) facts.now.first facts.now.second)
+            (aims_in self.now) counts.old.items }
     {
-        for bucket in buckets {
-            self.add_bucket(*bucket, facts, counts);
+        let bucket = asked_bucket(asked, value);
+        let insn = facts.insn;
+        let cell = &self.cells.as_slice()[number(insn.op) * BUCKETS + bucket];
+        if cell.more {
+            self.add_list(bucket, facts, counts);
+        } else {
+            add_cell(cell, value, counts);
         }
+    }
+
+    /// The same of a fact, where it is there.
+    #[inline(always)]
+    fn add_asked(&self, asked: Asked, facts: &Known<'_>, counts: &mut Vec<u64>)
+        requires fits { Fits (aims_in self.now) (2 ^ 41) counts.old.items }
+        ensures { counts.new.items ≡ added (λ a. is_seen (cell.sight asked
+            (table_of facts.now.insn.now facts.now.first facts.now.second)) a.point
+            && hits_insn a (Some facts.now.insn.now) facts.now.first facts.now.second)
+            (aims_in self.now) counts.old.items }
+    {
+        match facts.value(asked) {
+            None => {},
+            Some(value) => self.add_value(asked, value, facts, counts),
+        }
+    }
+
+    /// Adds one to the counts of the points that an instruction of these facts hits, list by list.
+    fn add_lists(&self, facts: &Known<'_>, counts: &mut Vec<u64>)
+        requires fits { Fits (aims_in self.now) (2 ^ 40) counts.old.items }
+        ensures { counts.new.items
+            ≡ added (λ a. hits_insn a (Some facts.now.insn.now) facts.now.first facts.now.second)
+            (aims_in self.now) counts.old.items }
+    {
+        self.add_first(facts, counts);
+        self.add_asked(Asked::Rd, facts, counts);
+        self.add_asked(Asked::Rs1, facts, counts);
+        self.add_asked(Asked::Rs2, facts, counts);
+        self.add_asked(Asked::Rs1Val, facts, counts);
+        self.add_asked(Asked::Rs2Val, facts, counts);
+        self.add_asked(Asked::ImmVal, facts, counts);
+        self.add_asked(Asked::EaAlign, facts, counts);
     }
 
     /// Adds one to the counts of the points that an instruction hits whose registers held these
     /// words before it.
     #[tactic(auto, using(crate::proofs::Sums::none_to_add))]
+    #[inline(always)]
     pub(crate) fn add(&self, insn: &Insn, before: &Registers, counts: &mut Vec<u64>)
         requires count { length counts.old.items ≡ length (aims_in self.now) }
         requires low { All (λ n. n ≤ 2 ^ 40) counts.old.items }
@@ -135,7 +200,6 @@ impl<'g> Index<'g> {
             return;
         }
         let facts = take_facts(facts_of(insn, before));
-        let buckets = visited(&facts);
-        self.add_buckets(&buckets, &facts, counts);
+        self.add_lists(&facts, counts);
     }
 }

@@ -1,11 +1,13 @@
 // The facts of an instruction, each taken once.
-ghost use Rattle.std.specs.Prelude.{◌≡◌, ◌≤◌, ◌^◌, IfSome, unsigned_abs};
+ghost use Rattle.std.specs.Prelude.{◌≡◌, ◌≤◌, ◌^◌, IfSome, option_map, pos, unsigned_abs};
 ghost use Rattle.std.proofs.Props.{props};
 ghost use Rattle.rvs_expr_text.specs.declared.lexeme.NumName.TheVariants.{Rs1Val, Rs2Val, ImmVal};
 ghost use Rattle.rvs_expr_text.specs.declared.lexeme.NumName.TheVariants.{EaAlign};
 ghost use Rattle.rvs_facts.specs.Facts.{facts_of, num_of};
+ghost use Rattle.rvs_count.specs.Cells.{fact};
 ghost use Rattle.rvs_count.specs.Signs.{signs_of};
 
+use crate::asked::Asked;
 use crate::taken::{Operands, SIGNS, take_signs};
 use rvs_expr::{Facts, NumName, RegName};
 use rvs_facts::InsnFacts;
@@ -36,6 +38,7 @@ pub(crate) struct Known<'i> {
 
 /// Takes each fact.
 #[tactic(auto, unfolding(crate::specs::Signs::signs_of))]
+#[inline(always)]
 pub(crate) fn take_facts(facts: InsnFacts<'_>) -> Known<'_>
     ensures insn { result.insn.now ≡ facts.entry.insn.now }
     ensures first { result.first ≡ facts.entry.first }
@@ -86,6 +89,38 @@ impl Facts for Known<'_> {
             NumName::Rs2Val => self.rs2_val,
             NumName::ImmVal => self.imm_val,
             NumName::EaAlign => self.ea_align,
+        }
+    }
+}
+
+/// A register as a number.
+#[inline(always)]
+fn number_of(register: Option<u8>) -> Option<i64>
+    ensures value { result ≡ option_map (λ n. pos n) register }
+    ensures small { IfSome result (λ z. unsigned_abs z ≤ 2 ^ 32) }
+{
+    match register {
+        None => None,
+        Some(number) => Some(i64::from(number)),
+    }
+}
+
+impl Known<'_> {
+    /// The value of a fact.
+    #[inline(always)]
+    pub(crate) fn value(&self, asked: Asked) -> Option<i64>
+        ensures value { result
+            ≡ fact asked (facts_of self.now.insn.now self.now.first self.now.second) }
+        ensures small { IfSome result (λ z. unsigned_abs z ≤ 2 ^ 32) }
+    {
+        match asked {
+            Asked::Rd => number_of(self.reg(RegName::Rd)),
+            Asked::Rs1 => number_of(self.reg(RegName::Rs1)),
+            Asked::Rs2 => number_of(self.reg(RegName::Rs2)),
+            Asked::Rs1Val => self.num(NumName::Rs1Val),
+            Asked::Rs2Val => self.num(NumName::Rs2Val),
+            Asked::ImmVal => self.num(NumName::ImmVal),
+            Asked::EaAlign => self.num(NumName::EaAlign),
         }
     }
 }

@@ -1,15 +1,17 @@
 //! Counting how often coverage points are hit by the instructions of a log.
 #![tactic(auto)]
 
+mod asked;
 mod buckets;
+mod cell;
 mod counter;
 mod crosses;
 mod file;
-mod filled;
 mod hits;
 mod index;
 mod key;
 mod known_facts;
+mod mark;
 mod matched;
 mod report;
 mod run;

@@ -141,6 +141,7 @@ fn front_of(bytes: &[u8], end: usize) -> &[u8]
 }
 
 /// Goes on to the end of the next line that isn't too long.
+#[inline(always)]
 fn advance(bytes: &mut ArrayVec<u8, LONGEST>, too_long: &mut bool, piece: &[u8]) -> Place
     ensures { IsPlace (waiting too_long.old bytes.old.items) piece.now
         too_long.new bytes.new.items result }
@@ -189,6 +190,7 @@ impl Follow {
     /// The next whole line of at most 4,096 bytes that ends in the piece, without a carriage return
     /// at its end, and how many bytes of the piece were used, up to and with its line feed. Longer
     /// lines are passed over. Where no line ends, all of the piece is used. It takes no memory.
+    #[inline(always)]
     pub fn next<'f>(&'f mut self, piece: &'f [u8]) -> Cut<'f>
         ensures* leaves { sem 𝓛 (follows_so the_row the_row self.entry.ghost_name none (λ _ _. ⊤)
             (λ v. v ≡ held_after self.old (take result.used piece.now))) }

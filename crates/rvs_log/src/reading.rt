@@ -352,6 +352,7 @@ fn commit_line(line: &[u8]) -> Option<Commit>
 /// written by the instruction before it, `xN <- 0x..`; or nothing that is read here. The line has
 /// no line feed and no carriage return at its end. It takes no memory.
 #[tactic(auto, unfolding(crate::specs::Grammar::reading_of))]
+#[inline(always)]
 pub fn read_line(line: &[u8]) -> Line<'_>
     ensures said { said result ≡ reading_of line.now }
     ensures whole { IsOf line.now result }

@@ -1,10 +1,8 @@
-use Rattle.std.proofs.Common.{ℕ, List, Option, Some, ◌∙◌, ap}
+use Rattle.std.proofs.Common.{Some, ◌∙◌, ap}
 use Rattle.rvs_insn.specs.Fields.{Fields}
 use Rattle.rvs_machine.specs.Traces.{word_of}
 use Rattle.rvs_count.specs.Counting.{aims_in, hits_insn}
-use Rattle.rvs_count.specs.Index.{added_all}
 use Rattle.rvs_count.specs.State.{added}
-use Rattle.rvs_count.proofs.Sums.{all_added}
 use Rattle.rvs_count.proofs.index.Index.add.Goals as goal
 
 pub returns : goal.returns
@@ -12,14 +10,12 @@ returns c =
     let cs = c.args.counts.now.items in
     let aims = aims_in c.args.self.now in
     let r = c.take_facts-facts.result in
-    c.add_buckets.ensures
-    ∙ ap (λ (os : List (Option ℕ)). added_all (λ a. hits_insn a (Some r.insn.now) r.first r.second)
-    os aims cs) c.visited-buckets.ensures.lists
-    ∙ all_added r.insn.now r.first r.second aims cs
+    let words = c.args.before.now in
+    c.add_lists.ensures
     ∙ ap (λ (i : Fields). added (λ a. hits_insn a (Some i) r.first r.second) aims cs)
     (c.take_facts-facts.ensures.insn ∙ c.facts_of.ensures.insn)
     ∙ ap (λ v. added (λ a. hits_insn a (Some c.args.insn.now) v r.second) aims cs)
     (c.take_facts-facts.ensures.first ∙ c.facts_of.ensures.first)
     ∙ ap (λ v. added
-    (λ a. hits_insn a (Some c.args.insn.now) (word_of c.args.before.now c.args.insn.now.rs1) v)
-    aims cs) (c.take_facts-facts.ensures.second ∙ c.facts_of.ensures.second)
+    (λ a. hits_insn a (Some c.args.insn.now) (word_of words c.args.insn.now.rs1) v) aims cs)
+    (c.take_facts-facts.ensures.second ∙ c.facts_of.ensures.second)

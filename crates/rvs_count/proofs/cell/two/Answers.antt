@@ -1,0 +1,15 @@
+use Rattle.std.proofs.Common.{◌≡◌, rules, to_z, of_z, w64}
+use Rattle.std.proofs.lemmas.Int.{to_z-of_z}
+use Rattle.std.specs.Prelude.{FitsSigned}
+use Rattle.rvs_count.proofs.Cells.{two_add}
+use Rattle.rvs_count.proofs.cell.two.Goals as goal
+
+pub returns-in-Some-said : goal.returns-in-Some-said
+returns-in-Some-said c =
+    let first : FitsSigned w64 c.in-Some.value = search rules in
+    let second : FitsSigned w64 c.in-Some-said.other = search rules in
+    let same : to_z w64 (of_z w64 c.in-Some.value) ≡ c.in-Some.value = to_z-of_z _ _ first in
+    let alike : to_z w64 (of_z w64 c.in-Some-said.other) ≡ c.in-Some-said.other =
+    to_z-of_z _ _ second in
+    two_add c.args.asked c.args.first.now c.args.second.now c.in-Some.value c.in-Some-said.other
+    c.pair.result c.in-Some.ensures c.in-Some-said.ensures (rw (same, alike) at c.pair.ensures)

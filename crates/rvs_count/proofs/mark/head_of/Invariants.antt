@@ -1,0 +1,9 @@
+use Rattle.std.proofs.Common.{◌≡◌, length}
+use Rattle.rvs_count.specs.Marks.{HasMarks}
+use Rattle.rvs_count.proofs.mark.head_of.Given as goal
+
+abbrev pub invariant-loop-slot : goal.invariant-loop-slot
+invariant-loop-slot l = record {
+  has : HasMarks l.mnemonic l.slots l.marks;
+  count : length l.marks ≡ l.slot-index;
+}

@@ -1,0 +1,142 @@
+// Lists of at most two points, each by the value that it says.
+ghost use Rattle.std.specs.Prelude.{◌≡◌, ◌<◌, ◌≤◌, ◌%◌, ◌^◌, [], ◌∷◌, All, IfOk, List, length};
+ghost use Rattle.std.specs.Prelude.{slice_index_or, true, vec_len};
+ghost use Rattle.rvs_count.specs.Cells as spec;
+ghost use Rattle.rvs_count.specs.Cells.{HasCells, IsCell, IsCellFor, asked_at};
+ghost use Rattle.rvs_count.specs.declared.slot.Slot.{Slot as Entry};
+
+use crate::asked::{Asked, asked_at, said};
+use crate::buckets::BUCKETS;
+use crate::hits::raise;
+use crate::slot::Slot;
+use rvs_base::{Items, NoMemory};
+use std::alloc::Global;
+
+/// A value that no fact has.
+const NEVER: i64 = -1_099_511_627_776;
+
+/// What the points of a list say, where it has at most two and each says a value of the fact that
+/// the list is for. So an instruction is held against them without a look at the points.
+#[derive(Clone, Copy)]
+pub struct Cell {
+    /// The value that the first says, and its place among the counts.
+    pub first: i64,
+    pub first_at: usize,
+    /// The same of the second.
+    pub second: i64,
+    pub second_at: usize,
+    /// The list has other points, and none of them is here.
+    pub more: bool,
+}
+
+fn pair(first: i64, first_at: usize, second: i64, second_at: usize) -> Cell
+    ensures { result ≡ spec.pair first first_at second second_at }
+{
+    Cell {
+        first,
+        first_at,
+        second,
+        second_at,
+        more: false,
+    }
+}
+
+/// A cell that says to look at the points.
+fn many() -> Cell
+    ensures { result.more ≡ true }
+{
+    Cell {
+        first: NEVER,
+        first_at: 0,
+        second: NEVER,
+        second_at: 0,
+        more: true,
+    }
+}
+
+#[tactic(auto, using(crate::proofs::Cells::many_adds, crate::proofs::Cells::none_adds))]
+fn none(asked: Asked) -> Cell
+    ensures { IsCell asked [] result }
+{
+    let _ = asked;
+    pair(NEVER, 0, NEVER, 0)
+}
+
+#[tactic(auto, using(crate::proofs::Cells::many_adds, crate::proofs::Cells::one_adds))]
+fn one(asked: Asked, slot: &Slot<'_>) -> Cell
+    ensures { IsCell asked (slot.now ∷ []) result }
+{
+    match said(asked, slot) {
+        None => many(),
+        Some(value) => pair(value, slot.at, NEVER, 0),
+    }
+}
+
+#[tactic(auto, using(crate::proofs::Cells::many_adds, crate::proofs::Cells::two_add))]
+fn two(asked: Asked, first: &Slot<'_>, second: &Slot<'_>) -> Cell
+    ensures { IsCell asked (first.now ∷ second.now ∷ []) result }
+{
+    match said(asked, first) {
+        None => many(),
+        Some(value) => match said(asked, second) {
+            None => many(),
+            Some(other) => pair(value, first.at, other, second.at),
+        },
+    }
+}
+
+#[tactic(auto, using(crate::proofs::Cells::many_adds))]
+fn cell_of(asked: Asked, slots: &[Slot<'_>]) -> Cell
+    ensures { IsCell asked slots.now result }
+{
+    match slots {
+        [] => none(asked),
+        [first] => one(asked, first),
+        [first, second] => two(asked, first, second),
+        _ => many(),
+    }
+}
+
+/// The cell of a list for a fact; for none it says to look at the points.
+fn cell_for(asked: Option<Asked>, slots: &[Slot<'_>]) -> Cell
+    ensures { IsCellFor asked slots.now result }
+{
+    match asked {
+        None => many(),
+        Some(asked) => cell_of(asked, slots),
+    }
+}
+
+/// The cell of the list of this number.
+fn cell_at(lists: &[Items<Slot<'_>>], number: usize) -> Cell
+    requires { number < length lists.now }
+    ensures { (d : List Entry) →
+        IsCellFor (asked_at (number % 365)) (slice_index_or lists.now number d) result }
+{
+    let slots = lists[number].as_slice();
+    cell_for(asked_at(number % BUCKETS), slots)
+}
+
+/// The cells of all lists.
+pub(crate) fn cells(alloc: Global, lists: &[Items<Slot<'_>>]) -> Result<Items<Cell>, NoMemory>
+    ensures each { IfOk result (HasCells lists.now) }
+    ensures all { IfOk result (λ cells. length cells ≡ length lists.now) }
+{
+    let mut cells = Items::new(alloc);
+    for number in 0..lists.len() {
+        cells.push(cell_at(lists, number))?;
+    }
+    Ok(cells)
+}
+
+/// Adds one to the counts of the points of a cell that say this value.
+#[inline(always)]
+pub(crate) fn add_cell(cell: &Cell, value: i64, counts: &mut Vec<u64>)
+    requires first { cell.now.first_at < vec_len counts.old }
+    requires second { cell.now.second_at < vec_len counts.old }
+    requires low { All (λ n. n ≤ 2 ^ 41) counts.old.items }
+    ensures { counts.new.items ≡ spec.raised_cell cell.now value counts.old.items }
+{
+    raise(counts, cell.first_at, cell.first == value);
+    raise(counts, cell.second_at, cell.second == value);
+}

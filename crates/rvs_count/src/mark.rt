@@ -1,0 +1,107 @@
+// First lists, by the signs that their points say.
+ghost use Rattle.std.specs.Prelude.{◌≡◌, ◌<◌, ◌≤◌, ◌^◌, All, IfOk, IfSome, length, vec_len};
+ghost use Rattle.rvs_count.specs.Marks as spec;
+ghost use Rattle.rvs_count.specs.Marks.{HasHeads, IsHead, IsMark};
+
+use crate::buckets::BUCKETS;
+use crate::hits::raise;
+use crate::key::MNEMONICS;
+use crate::shortcut::Shortcut;
+use crate::signs::Signs;
+use crate::slot::Slot;
+use crate::taken::{SIGNS, are_so};
+use rvs_base::{Items, NoMemory};
+use rvs_facts::number;
+use rvs_insn::Op;
+use std::alloc::Global;
+
+/// What a point says, where that is signs: its place among the counts, and the signs.
+#[derive(Clone, Copy)]
+pub struct Mark {
+    pub at: usize,
+    pub signs: Signs,
+}
+
+/// The points of a first list, where each says signs or the list's mnemonic.
+#[derive(Drop)]
+pub struct Head {
+    pub marks: Items<Mark>,
+    /// The list has other points, and none of them is here.
+    pub more: bool,
+}
+
+/// The mark of a point that says a mnemonic, in the list of the mnemonic of this number.
+#[tactic(auto, unfolding(crate::specs::Signs::signs_of), using(crate::proofs::Marks::always_so))]
+fn always(mnemonic: usize, op: Op, at: usize) -> Option<Mark>
+    ensures at { IfSome result (λ m. m.at ≡ at) }
+    ensures says { IfSome result (λ m. spec.SaysMnemonic mnemonic op m.signs) }
+{
+    if number(op) == mnemonic {
+        let signs = Signs {
+            first: 0,
+            second: 0,
+            third: 0,
+        };
+        Some(Mark { at, signs })
+    } else {
+        None
+    }
+}
+
+fn mark_of(mnemonic: usize, slot: &Slot<'_>) -> Option<Mark>
+    ensures { IfSome result (IsMark mnemonic slot.now) }
+{
+    match slot.shortcut {
+        Some(Shortcut::Mnemonic(op)) => always(mnemonic, op, slot.at),
+        Some(Shortcut::Three(signs)) => Some(Mark { at: slot.at, signs }),
+        _ => None,
+    }
+}
+
+/// The marks of the points of the first list of the mnemonic of this number.
+fn head_of(alloc: Global, mnemonic: usize, slots: &[Slot<'_>]) -> Result<Head, NoMemory>
+    ensures { IfOk result (IsHead mnemonic slots.now) }
+{
+    let mut marks = Items::new(alloc);
+    for slot in slots {
+        match mark_of(mnemonic, slot) {
+            None => {
+                return Ok(Head {
+                    marks: Items::new(alloc),
+                    more: true,
+                });
+            },
+            Some(mark) => marks.push(mark)?,
+        }
+    }
+    Ok(Head { marks, more: false })
+}
+
+/// The marks of the first lists of all mnemonics.
+pub(crate) fn heads(alloc: Global, lists: &[Items<Slot<'_>>]) -> Result<Items<Head>, NoMemory>
+    requires { length lists.now ≡ 17520 }
+    ensures each { IfOk result (HasHeads lists.now) }
+    ensures all { IfOk result (λ heads. length heads ≡ 48) }
+{
+    let mut heads = Items::new(alloc);
+    for number in 0..MNEMONICS {
+        let slots = lists[number * BUCKETS].as_slice();
+        heads.push(head_of(alloc, number, slots)?)?;
+    }
+    Ok(heads)
+}
+
+/// Adds one to the counts of the marks whose signs are so.
+#[inline(always)]
+pub(crate) fn add_marks(marks: &[Mark], signs: &[bool; SIGNS], counts: &mut Vec<u64>)
+    requires signs { length signs.now ≡ 19 }
+    requires within { All (λ m. m.at < vec_len counts.old) marks.now }
+    requires few { length marks.now ≤ vec_len counts.old }
+    requires low { All (λ n. n ≤ 2 ^ 41) counts.old.items }
+    ensures { counts.new.items ≡ spec.raised_marks signs.now marks.now counts.old.items }
+{
+    for mark in marks {
+        let hit = are_so(signs, mark.signs);
+        raise(counts, mark.at, hit);
+    }
+}
