@@ -18,13 +18,14 @@ use Rattle.rvs_tree.proofs.Sifting.{nested, middle, in-more}
 use Rattle.rvs_tree.proofs.Growing.{sift-less, resolved-append, last-own, merge-more, own-more}
 use Rattle.rvs_tree.proofs.Growing.{or-two, or-end}
 
--- Whatever keys are taken, these pairs are no deeper than those, save for what is new, which is so deep
--- where they are.
+-- Whatever keys are taken, these pairs are no deeper than those, save for what is new, which is so
+-- deep where they are.
 abbrev pub Bounded : Shown → Pairs → Pairs → Type 0
-Bounded f ps qs = (T : List (List ℕ)) → pairs_depth (sift T qs) ≤ max (pairs_depth (sift T ps)) (f T)
+Bounded f ps qs = (T : List (List ℕ))
+    → pairs_depth (sift T qs) ≤ max (pairs_depth (sift T ps)) (f T)
 
--- The second value is no deeper than the first, save for what is new in it and so deep, nor is what it
--- brings where it is merged.
+-- The second value is no deeper than the first, save for what is new in it and so deep, nor is what
+-- it brings where it is merged.
 pub record Within (f : Shown) (n : ℕ) (d e : Data) : Type 0 where
   pub deep : depth e ≤ max (depth d) n
   pub own : Bounded f (own_pairs d) (own_pairs e)
@@ -94,16 +95,24 @@ along f ps qs us vs e g h T =
 -- in a list
 pub within-list : (f : Shown) (n line : ℕ) (vs : List Value) (u v : Value)
     → Within f n u.tree v.tree
-    → Within (λ T. f (keys_of (pairs_in (trees vs)) ++ T)) (suc n) (list_value line (vs ++ u ∷ [])).tree
+    → Within (λ T. f (keys_of (pairs_in (trees vs)) ++ T)) (suc n)
+    (list_value line (vs ++ u ∷ [])).tree
     (list_value line (vs ++ v ∷ [])).tree
 within-list f n line vs u v h =
     let P = pairs_in (trees vs) in
     record {
-      deep = omega (arith, h.deep, list-deep line (vs ++ u ∷ []), list-deep line (vs ++ v ∷ []),
-        values_depth-push vs u, values_depth-push vs v);
+      deep = omega (
+        arith,
+        h.deep,
+        list-deep line (vs ++ u ∷ []),
+        list-deep line (vs ++ v ∷ []),
+        values_depth-push vs u,
+        values_depth-push vs v,
+      );
       own = λ T. omega arith;
-      merged = along (λ T. f (keys_of P ++ T)) _ _ _ _ (list-brings line vs u) (list-brings line vs v)
-        (behind f P (own_pairs u.tree) (own_pairs v.tree) h.own);
+      merged =
+          along (λ T. f (keys_of P ++ T)) _ _ _ _ (list-brings line vs u) (list-brings line vs v)
+          (behind f P (own_pairs u.tree) (own_pairs v.tree) h.own);
     }
 
 -- a list with an item more
@@ -114,18 +123,24 @@ pub within-item : (f : Shown) (n line : ℕ) (vs : List Value) (v : Value)
 within-item f n line vs v h =
     let P = pairs_in (trees vs) in
     record {
-      deep = omega (arith, h.deep, list-deep line vs, list-deep line (vs ++ v ∷ []),
-        values_depth-push vs v);
+      deep = omega (
+        arith,
+        h.deep,
+        list-deep line vs,
+        list-deep line (vs ++ v ∷ []),
+        values_depth-push vs v,
+      );
       own = λ T. omega arith;
       merged = along (λ T. f (keys_of P ++ T)) _ _ _ _ (list-pairs line vs ∙ sym (append-nil P))
-        (list-brings line vs v)
-        (behind f P [] (own_pairs v.tree) (λ T. omega (arith, fits-own f n v.tree h T)));
+          (list-brings line vs v)
+          (behind f P [] (own_pairs v.tree) (λ T. omega (arith, fits-own f n v.tree h T)));
     }
 
 abbrev pairs : List Written → Pairs
 pairs ws = resolved (explicit_keys ws) [] ws
 
-map-deep : (line : ℕ) (ws : List Written) → depth (map_value line ws).tree ≡ suc (pairs_depth (pairs ws))
+map-deep : (line : ℕ) (ws : List Written)
+    → depth (map_value line ws).tree ≡ suc (pairs_depth (pairs ws))
 map-deep line ws = ap suc (map-depth ws)
 
 -- maps by their pairs
@@ -145,7 +160,8 @@ own-keys ws w e =
     explicit_keys-push ws w ∙ ap (λ b. explicit_keys ws ++ cond b [] (w.key ∷ [])) e
 
 own-pairs : (ws : List Written) (w : Written) → w.merges ≡ false
-    → pairs (ws ++ w ∷ []) ≡ resolved (explicit_keys ws ++ w.key ∷ []) [] ws ++ (w.key, w.value.tree) ∷ []
+    → pairs (ws ++ w ∷ [])
+    ≡ resolved (explicit_keys ws ++ w.key ∷ []) [] ws ++ (w.key, w.value.tree) ∷ []
 own-pairs ws w e =
     let F = explicit_keys ws ++ w.key ∷ [] in
     ap (λ ks. resolved ks [] (ws ++ w ∷ [])) (own-keys ws w e) ∙ resolved-append F [] ws (w ∷ [])
@@ -186,13 +202,18 @@ within-entry f n line ws u w e g k h =
     ∙ ap (λ j. resolved (explicit_keys ws ++ j ∷ []) [] ws ++ (j, u.value.tree) ∷ []) k in
     let after = own-pairs ws w g in
     map-within (at_key w.key n) n line (ws ++ u ∷ []) (ws ++ w ∷ [])
-    (omega (arith, h.deep, ap pairs_depth before, ap pairs_depth after,
+    (omega (
+      arith,
+      h.deep,
+      ap pairs_depth before,
+      ap pairs_depth after,
       pairs_depth-append s ((w.key, u.value.tree) ∷ []),
-      pairs_depth-append s ((w.key, w.value.tree) ∷ [])))
+      pairs_depth-append s ((w.key, w.value.tree) ∷ []),
+    ))
     (along (at_key w.key n) _ _ _ _ before after
-      (bounded-less (λ T. at_key w.key n (keys_of s ++ T)) (at_key w.key n) _ _
-        (at-behind w.key n (keys_of s))
-        (behind (at_key w.key n) s _ _ (one n w.key u.value.tree w.value.tree h.deep))))
+    (bounded-less (λ T. at_key w.key n (keys_of s ++ T)) (at_key w.key n) _ _
+    (at-behind w.key n (keys_of s))
+    (behind (at_key w.key n) s _ _ (one n w.key u.value.tree w.value.tree h.deep))))
 
 -- in an entry that is merged
 pub within-merge : (f : Shown) (n line : ℕ) (ws : List Written) (u w : Written)
@@ -212,9 +233,13 @@ within-merge f n line ws u w e g h =
       pairs_depth-append s (sift K (merged_pairs w.value.tree)),
     ))
     (along (left_by ws f) _ _ _ _ (merge-more ws u e) (merge-more ws w g)
-      (behind (λ T. f (T ++ K)) s _ _ (λ T.
-      omega (arith, h.merged (T ++ K), ap pairs_depth (sift-sift T K (merged_pairs u.value.tree)),
-        ap pairs_depth (sift-sift T K (merged_pairs w.value.tree))))))
+    (behind (λ T. f (T ++ K)) s _ _ (λ T.
+    omega (
+      arith,
+      h.merged (T ++ K),
+      ap pairs_depth (sift-sift T K (merged_pairs u.value.tree)),
+      ap pairs_depth (sift-sift T K (merged_pairs w.value.tree)),
+    ))))
 
 -- a map with a merge more
 pub within-merge-more : (f : Shown) (n line : ℕ) (ws : List Written) (w : Written)
@@ -225,11 +250,15 @@ within-merge-more f n line ws w e h =
     let s = pairs ws in
     let K = keys_so_far ws in
     map-within (left_by ws f) (f K) line ws (ws ++ w ∷ [])
-    (omega (arith, h.merged K, ap pairs_depth (merge-more ws w e),
-      pairs_depth-append s (sift K (merged_pairs w.value.tree))))
+    (omega (
+      arith,
+      h.merged K,
+      ap pairs_depth (merge-more ws w e),
+      pairs_depth-append s (sift K (merged_pairs w.value.tree)),
+    ))
     (along (left_by ws f) _ _ _ _ (sym (append-nil s)) (merge-more ws w e)
-      (behind (λ T. f (T ++ K)) s [] _ (λ T.
-      omega (arith, h.merged (T ++ K), ap pairs_depth (sift-sift T K (merged_pairs w.value.tree))))))
+    (behind (λ T. f (T ++ K)) s [] _ (λ T.
+    omega (arith, h.merged (T ++ K), ap pairs_depth (sift-sift T K (merged_pairs w.value.tree))))))
 
 not-true : (b : Bool) → (b ≡ true → ⊥) → b ≡ false
 not-true true n = absurd (n refl)
@@ -284,6 +313,12 @@ within-own-more n line ws w e new h =
     map-within (at_key w.key n) n line ws (ws ++ w ∷ [])
     (omega (arith, (own-more ws w e).1, h))
     (λ T.
-    omega (arith, small (keys_of s ++ T), at-behind w.key n (keys_of s) T, less T,
-      ap (λ x. pairs_depth (sift T x)) (own-pairs ws w e), ap pairs_depth (sift-append T s p),
-      pairs_depth-append (sift T s) (sift (keys_of s ++ T) p)))
+    omega (
+      arith,
+      small (keys_of s ++ T),
+      at-behind w.key n (keys_of s) T,
+      less T,
+      ap (λ x. pairs_depth (sift T x)) (own-pairs ws w e),
+      ap pairs_depth (sift-append T s p),
+      pairs_depth-append (sift T s) (sift (keys_of s ++ T) p),
+    ))

@@ -9,6 +9,7 @@ pub mod Sifted
 pub mod Standin
 pub mod Shown
 pub mod ShownView
+pub mod MergedView
 pub mod TreeSize
 pub mod TreeView
 pub mod DraftView

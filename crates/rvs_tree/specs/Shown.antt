@@ -1,5 +1,5 @@
 -- How deep the values are that are new in one, by their keys, as far as maps around it leave them.
-use Rattle.std.specs.Prelude.{ℕ, max, min, if◌then◌else◌, List, [], ◌∷◌, ◌++◌, map}
+use Rattle.std.specs.Prelude.{ℕ, ◌≡◌, true, max, min, if◌then◌else◌, List, [], ◌∷◌, ◌++◌, map}
 use Rattle.rvs_tree.specs.Data.{Data, Pairs, depth}
 use Rattle.rvs_tree.specs.Value.{Written, has_key, keys_of, explicit_keys, resolved, merged_pairs}
 use Rattle.rvs_tree.specs.Bound.{pairs_depth}
@@ -12,6 +12,10 @@ Shown = List (List ℕ) → ℕ
 -- all that a merged value brings
 abbrev pub shown_by : Data → Shown
 shown_by d T = pairs_depth (sift T (merged_pairs d))
+
+-- each key of the first is one of the second
+abbrev pub Holds : List (List ℕ) → List (List ℕ) → Type 0
+Holds T U = (k : List ℕ) → has_key k T ≡ true → has_key k U ≡ true
 
 -- a value of such a depth at a key
 abbrev pub at_key : List ℕ → ℕ → Shown

@@ -1,9 +1,11 @@
 // How deep the values are that a merged value brings.
-ghost use Rattle.std.specs.Prelude.{◌≡◌, ◌≤◌, ◌∷◌, ◌++◌, [], ℕ, List, map, max, min, string_bytes, IfOk};
+ghost use Rattle.std.specs.Prelude.{◌≡◌, ◌≤◌, ◌∷◌, ◌++◌, [], ℕ, List, map, max, min, true};
+ghost use Rattle.std.specs.Prelude.{string_bytes, IfOk};
 ghost use Rattle.std.specs.List.{zip};
 ghost use Rattle.rvs_tree.specs.Data.{depth};
-ghost use Rattle.rvs_tree.specs.Value.{explicit_keys};
+ghost use Rattle.rvs_tree.specs.Value.{has_key};
 ghost use Rattle.rvs_tree.specs.Shown as spec;
+ghost use Rattle.rvs_tree.specs.Shown.{Holds};
 ghost use Rattle.rvs_tree.specs.GatheredView.{gathered_view};
 ghost use Rattle.rvs_tree.specs.ShownView.{depths_view};
 ghost use Rattle.rvs_tree.specs.TreeView.{view, rc_view};
@@ -59,7 +61,8 @@ fn depths_of(
 /// How deep the values are that this one brings where it is merged, the first of each key.
 pub fn brought_depths(alloc: Global, value: &Value) -> Result<Vec<KeyDepth>, AllocError>
     ensures { IfOk result (λ l. (T : List (List ℕ)) →
-        min (spec.shown_by (value_view value.now).tree T) 33 ≤ spec.visible (depths_view l.items) T) }
+        min (spec.shown_by (value_view value.now).tree T) 33
+        ≤ spec.visible (depths_view l.items) T) }
 {
     let tree = tree_of(alloc, value)?;
     let Gathered { pairs, taken: _ } = none_gathered(alloc).with_merged(alloc, &tree)?;
@@ -89,33 +92,44 @@ fn none_gathered(alloc: Global) -> Gathered
 }
 
 impl EntryList {
-    /// These and one more, unless these entries spell its key.
+    /// Whether these entries are known to have the key.
+    fn is_taken(&self, key: &str) -> bool
+        ensures { result ≡ true
+            → has_key key.now (spec.keys_so_far (entries_view self.now.entries.items)) ≡ true }
+    {
+        if self.has_key(key) {
+            return true;
+        }
+        match &self.merged {
+            Some(merged) => merged.set.contains(key),
+            None => false,
+        }
+    }
+
+    /// These and one more, unless these entries have its key.
     fn with_untaken(
         &self,
         mut kept: Vec<KeyDepth>,
         pair: KeyDepth,
     ) -> Result<Vec<KeyDepth>, AllocError>
-        ensures { IfOk result (λ l. (T : List (List ℕ)) → spec.visible (depths_view l.items) T
-            ≡ max (spec.visible (depths_view kept.items) T)
-            (spec.at_key (string_bytes pair.key) pair.depth
-            (explicit_keys (entries_view self.now.entries.items) ++ T))) }
+        ensures { IfOk result (λ l. (T U : List (List ℕ))
+            → Holds (spec.keys_so_far (entries_view self.now.entries.items)) U → Holds T U
+            → max (spec.visible (depths_view kept.items) T)
+            (spec.at_key (string_bytes pair.key) pair.depth U)
+            ≤ spec.visible (depths_view l.items) T) }
     {
-        if self.has_key(pair.key.as_str()) {
+        if self.is_taken(pair.key.as_str()) {
             return Ok(kept);
         }
         kept.push(pair)?;
         Ok(kept)
     }
 
-    /// Those whose keys these entries don't spell.
-    pub fn untaken(
-        &self,
-        alloc: Global,
-        depths: Vec<KeyDepth>,
-    ) -> Result<Vec<KeyDepth>, AllocError>
-        ensures { IfOk result (λ l. (T : List (List ℕ)) → spec.visible (depths_view l.items) T
-            ≡ spec.visible (depths_view depths.items)
-            (explicit_keys (entries_view self.now.entries.items) ++ T)) }
+    /// Those whose keys these entries aren't known to have.
+    pub fn untaken(&self, alloc: Global, depths: Vec<KeyDepth>) -> Result<Vec<KeyDepth>, AllocError>
+        ensures { IfOk result (λ l. (T U : List (List ℕ))
+            → Holds (spec.keys_so_far (entries_view self.now.entries.items)) U → Holds T U
+            → spec.visible (depths_view depths.items) U ≤ spec.visible (depths_view l.items) T) }
     {
         let mut kept = Vec::new(alloc);
         for pair in depths {

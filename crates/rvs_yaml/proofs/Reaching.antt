@@ -97,7 +97,8 @@ same-ok u a e = cc
 ends-within : (bs : List Open) (f : Shown) (n : ℕ) (u v a b : Value) → Within f n u.tree v.tree
     → ends u bs ≡ Ok a → ends v bs ≡ Ok b → depth b.tree ≤ max (depth a.tree) (seen f n bs)
 ends-within [] f n u v a b h e g =
-    omega (arith, h.deep, ap (λ x. depth x.tree) (same-ok u a e), ap (λ x. depth x.tree) (same-ok v b g))
+    let deep : Value → ℕ = λ x. depth x.tree in
+    omega (arith, h.deep, ap deep (same-ok u a e), ap deep (same-ok v b g))
 ends-within (o ∷ bs) f n u v a b h e g =
     closed-within o.done o.line f n u v bs a b h e g
     (λ i m x y j k l. ends-within bs i m x y a b j k l)
@@ -444,12 +445,18 @@ seen-by : (m : Bool) (f : Shown) (n c : ℕ) (ws : List Written) (k : Key) (bs :
     → seen (λ T. cond m (left_by ws f T) (at_key k.name n T))
     (cond m (suc (f (keys_so_far ws))) (suc n)) bs ≤ suc c + (cond m 0 1 + levels bs)
 seen-by true f n c ws k bs h e next =
-    omega (arith, next (left_by ws f) (suc (f (keys_so_far ws))) c
-      (λ T. h ((keys_of (resolved (explicit_keys ws) [] ws) ++ T) ++ keys_so_far ws))
-      (omega (arith, h (keys_so_far ws))))
+    omega (
+      arith,
+      next (left_by ws f) (suc (f (keys_so_far ws))) c
+          (λ T. h ((keys_of (resolved (explicit_keys ws) [] ws) ++ T) ++ keys_so_far ws))
+          (omega (arith, h (keys_so_far ws))),
+    )
 seen-by false f n c ws k bs h e next =
-    omega (arith, next (at_key k.name n) (suc n) (suc c)
-      (λ T. at-less (has_key k.name T) n (suc c) e) (omega (arith, e)))
+    omega (
+      arith,
+      next (at_key k.name n) (suc n) (suc c)
+          (λ T. at-less (has_key k.name T) n (suc c) e) (omega (arith, e)),
+    )
 
 seen-block : (d : Done) (f : Shown) (n c : ℕ) (bs : List Open) → ((T : List (List ℕ)) → f T ≤ c)
     → n ≤ suc c
@@ -457,8 +464,11 @@ seen-block : (d : Done) (f : Shown) (n c : ℕ) (bs : List Open) → ((T : List 
     → seen g p bs ≤ suc e + levels bs)
     → seen (passed d n f) (deepened d f n) bs ≤ suc c + (level d + levels bs)
 seen-block (done_items vs) f n c bs h e next =
-    omega (arith, next (passed (done_items vs) n f) (suc n) (suc c)
-      (λ T. omega (arith, h (keys_of (pairs_in (trees vs)) ++ T))) (omega (arith, e)))
+    omega (
+      arith,
+      next (passed (done_items vs) n f) (suc n) (suc c)
+          (λ T. omega (arith, h (keys_of (pairs_in (trees vs)) ++ T))) (omega (arith, e)),
+    )
 seen-block (done_entries ws k) f n c bs h e next = seen-by k.merges f n c ws k bs h e next
 seen-block alone f n c bs h e next = omega (arith, next f n c h e)
 
@@ -472,6 +482,10 @@ pub sight-reach : (bs : List Open) → sight bs ≤ reach bs
 sight-reach [] = omega arith
 sight-reach (b ∷ bs) =
     let d = (own_value b).tree in
-    omega (arith, some-depth d, seen-levels (b ∷ bs) (shown_by d) (depth d) (depth d - 1)
-      (λ T. omega (arith, sift-less T (merged_pairs d), merged_shallower d))
-      (omega (arith, some-depth d)))
+    omega (
+      arith,
+      some-depth d,
+      seen-levels (b ∷ bs) (shown_by d) (depth d) (depth d - 1)
+          (λ T. omega (arith, sift-less T (merged_pairs d), merged_shallower d))
+          (omega (arith, some-depth d)),
+    )

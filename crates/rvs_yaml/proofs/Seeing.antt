@@ -6,7 +6,7 @@ use Rattle.std.proofs.lemmas.Option.{slice_get-get_or}
 use Rattle.rvs_tree.specs.Data.{depth}
 use Rattle.std.specs.Prelude.{◌||◌}
 use Rattle.rvs_tree.specs.Value.{Written, has_key, keys_of, explicit_keys, resolved}
-use Rattle.rvs_tree.specs.Shown.{Shown, shown_by, at_key, keys_so_far, left_by, visible}
+use Rattle.rvs_tree.specs.Shown.{Shown, Holds, shown_by, at_key, keys_so_far, left_by, visible}
 use Rattle.rvs_yaml.specs.Front.{own_value}
 use Rattle.rvs_yaml.specs.Reach.{passed, deepened, seen, sight}
 use Rattle.rvs_yaml.specs.Seen.{Tells, TellsOf}
@@ -27,55 +27,39 @@ visible-less [] V U h = omega arith
 visible-less (p ∷ ps) V U h =
     omega (arith, visible-less ps V U h, at-behind-by (has_key p.0 U) (has_key p.0 V) p.1 (h p.0))
 
-pub behind-more : (ps : List (List ℕ × ℕ)) (X T : List (List ℕ)) → visible ps (X ++ T) ≤ visible ps T
+pub behind-more : (ps : List (List ℕ × ℕ)) (X T : List (List ℕ))
+    → visible ps (X ++ T) ≤ visible ps T
 behind-more ps X T = visible-less ps T (X ++ T) (λ k h. in-more k X T h)
 
-either : (e t s : Bool) → (e || t) ≡ true → ((s || t) || (e || s)) ≡ true
-either true true true h = refl
-either true true false h = refl
-either true false true h = refl
-either true false false h = refl
-either false true true h = refl
-either false true false h = refl
-either false false s h = cc
+or-front : (a b : Bool) → a ≡ true → (a || b) ≡ true
+or-front true b h = refl
+or-front false b h = cc
 
-first-of : (e t s : Bool) → (e || t) ≡ true → t ≡ false → (e || s) ≡ true
-first-of true t s h i = refl
-first-of false t s h i = cc
-
-in-left : (E S T : List (List ℕ)) (k : List ℕ) → has_key k (E ++ T) ≡ true
-    → has_key k ((S ++ T) ++ (E ++ S)) ≡ true
-in-left E S T k h =
-    let s = has_key k S in
-    has_key-append k (S ++ T) (E ++ S) ∙ ap (λ b. b || has_key k (E ++ S)) (has_key-append k S T)
-    ∙ ap (λ b. (s || has_key k T) || b) (has_key-append k E S)
-    ∙ either (has_key k E) (has_key k T) s (sym (has_key-append k E T) ∙ h)
-
-in-so-far : (E S : List (List ℕ)) (k : List ℕ) → has_key k (E ++ []) ≡ true
-    → has_key k (E ++ S) ≡ true
-in-so-far E S k h =
-    has_key-append k E S
-    ∙ first-of (has_key k E) false (has_key k S) (sym (has_key-append k E []) ∙ h) refl
+in-front : (k : List ℕ) (A B : List (List ℕ)) → has_key k A ≡ true → has_key k (A ++ B) ≡ true
+in-front k A B h = has_key-append k A B ∙ or-front (has_key k A) (has_key k B) h
 
 -- what a map leaves of what it merges
 pub left-shown : (ws : List Written) (f : Shown) (ds es : List (List ℕ × ℕ))
     → ((T : List (List ℕ)) → min (f T) 33 ≤ visible ds T)
-    → ((T : List (List ℕ)) → visible es T ≡ visible ds (explicit_keys ws ++ T))
+    → ((T U : List (List ℕ)) → Holds (keys_so_far ws) U → Holds T U → visible ds U ≤ visible es T)
     → (T : List (List ℕ)) → min (left_by ws f T) 33 ≤ visible es T
 left-shown ws f ds es h e T =
     let E = explicit_keys ws in
     let S = keys_of (resolved E [] ws) in
     let U = (S ++ T) ++ keys_so_far ws in
-    omega (arith, h U, e T, visible-less ds (E ++ T) U (λ k i. in-left E S T k i))
+    omega (
+      arith,
+      h U,
+      e T U (λ k i. in-more k (S ++ T) (keys_so_far ws) i)
+          (λ k i. in-front k (S ++ T) (keys_so_far ws) (in-more k S T i)),
+    )
 
 pub left-deep : (ws : List Written) (f : Shown) (ds es : List (List ℕ × ℕ))
     → ((T : List (List ℕ)) → min (f T) 33 ≤ visible ds T)
-    → ((T : List (List ℕ)) → visible es T ≡ visible ds (explicit_keys ws ++ T))
+    → ((T U : List (List ℕ)) → Holds (keys_so_far ws) U → Holds T U → visible ds U ≤ visible es T)
     → min (f (keys_so_far ws)) 33 ≤ visible es []
 left-deep ws f ds es h e =
-    let E = explicit_keys ws in
-    let S = keys_of (resolved E [] ws) in
-    omega (arith, h (keys_so_far ws), e [], visible-less ds (E ++ []) (keys_so_far ws) (λ k i. in-so-far E S k i))
+    omega (arith, h (keys_so_far ws), e [] (keys_so_far ws) (λ k i. i) (λ k i. cc))
 
 -- a value at a key
 at-shown-by : (b : Bool) (n d : ℕ) → min n 33 ≤ d → min (cond b 0 n) 33 ≤ max (cond b 0 d) 0
@@ -87,7 +71,8 @@ pub at-shown : (k : List ℕ) (n d : ℕ) (T : List (List ℕ)) → min n 33 ≤
 at-shown k n d T h = at-shown-by (has_key k T) n d h
 
 -- one open block more is passed
-pub tells-next : (bs : List code.Open) (m : ℕ) (b : code.Open) (s new : Seen) (t : ℕ) → m < length bs
+pub tells-next : (bs : List code.Open) (m : ℕ) (b : code.Open) (s new : Seen) (t : ℕ)
+    → m < length bs
     → ((f : Shown) × (n : ℕ) × Tells s f n × (seen f n (stack_view (take (m + 1) bs)) ≡ t))
     → ((f : Shown) (n : ℕ) → Tells s f n
     → Tells new (passed (done_view (get_or bs m b).block.done) n f)
@@ -103,9 +88,14 @@ pub tells-first : (bs : List code.Open) (top : code.Open) (s : Seen)
     → (f : Shown) × (n : ℕ) × Tells s f n
     × (seen f n (stack_view (take (length bs) bs)) ≡ sight (stack_view bs))
 tells-first bs top s h k =
-    let d = (own_value (open_view top)).tree in
-    (shown_by d, depth d, k, ap (λ xs. seen (shown_by d) (depth d) (stack_view xs)) (take_whole bs)
-    ∙ ap (seen (shown_by d) (depth d)) (stack-top bs top h) ∙ sym (ap sight (stack-top bs top h)))
+    let d = (own_value (open_view top)).tree in (
+      shown_by d,
+      depth d,
+      k,
+      ap (λ xs. seen (shown_by d) (depth d) (stack_view xs)) (take_whole bs)
+          ∙ ap (seen (shown_by d) (depth d)) (stack-top bs top h)
+          ∙ sym (ap sight (stack-top bs top h)),
+    )
 
 pub tells-last : (bs : List code.Open) (m : ℕ) (s : Seen) (t : ℕ) → m ≡ 0
     → ((f : Shown) × (n : ℕ) × Tells s f n × (seen f n (stack_view (take m bs)) ≡ t))
@@ -113,7 +103,8 @@ pub tells-last : (bs : List code.Open) (m : ℕ) (s : Seen) (t : ℕ) → m ≡ 
 tells-last bs m s t z (f, n, k, e) =
     omega (arith, k.deep, e, ap (λ i. seen f n (stack_view (take i bs))) z)
 
-pub no-sight : (bs : List code.Open) → None ≡ slice_get bs (length bs - 1) → sight (stack_view bs) ≡ 1
+pub no-sight : (bs : List code.Open) → None ≡ slice_get bs (length bs - 1)
+    → sight (stack_view bs) ≡ 1
 no-sight [] h = refl
 no-sight (x ∷ bs) h = let there : slice_get (x ∷ bs) (length (x ∷ bs) - 1)
     ≡ Some (get_or (x ∷ bs) (length (x ∷ bs) - 1) x) =

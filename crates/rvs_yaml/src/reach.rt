@@ -48,8 +48,8 @@ fn own_depth(top: &Open<'_>) -> u64
     }
 }
 
-/// Whether what the last word has brought may be too deep. Its value is looked through only where the
-/// bound that is kept with it is too great.
+/// Whether what the last word has brought may be too deep. Its value is looked through only where
+/// the bound that is kept with it is too great.
 pub(crate) fn may_be_deep(alloc: Global, blocks: &[Open<'_>]) -> Result<bool, AllocError>
     ensures { IfOk result (λ b. b ≡ false → spec.sight (stack_view blocks.now) ≤ 32) }
 {

@@ -1,5 +1,6 @@
 // How deep what the last word has brought is, as far as the keys around it leave it.
-ghost use Rattle.std.specs.Prelude.{◌≡◌, ◌≤◌, ◌++◌, [], ℕ, List, suc, min, string_bytes, if◌then◌else◌, IfOk};
+ghost use Rattle.std.specs.Prelude.{◌≡◌, ◌≤◌, ◌++◌, [], ℕ, List, suc, min, string_bytes};
+ghost use Rattle.std.specs.Prelude.{if◌then◌else◌, IfOk};
 ghost use Rattle.rvs_tree.specs.Shown as shown;
 ghost use Rattle.rvs_tree.specs.Value.{scalar_value};
 ghost use Rattle.rvs_tree.specs.ValueView.{value_view, entries_view};
@@ -80,7 +81,8 @@ fn merged(alloc: Global, list: &EntryList, seen: Seen) -> Result<Seen, AllocErro
 /// What is new in a map that has at this key a value of such a depth.
 fn keyed(alloc: Global, key: &str, depth: u64) -> Result<Seen, AllocError>
     requires { depth ≤ 33 }
-    ensures { IfOk result (λ s. (n : ℕ) → min n 33 ≤ depth → Tells s (shown.at_key key.now n) (suc n)) }
+    ensures { IfOk result
+        (λ s. (n : ℕ) → min n 33 ≤ depth → Tells s (shown.at_key key.now n) (suc n)) }
 {
     let mut depths = Vec::new(alloc);
     let key = String::from_str(alloc, key)?;
@@ -95,9 +97,9 @@ fn keyed(alloc: Global, key: &str, depth: u64) -> Result<Seen, AllocError>
 fn entered(alloc: Global, list: &EntryList, key: &Key, seen: Seen) -> Result<Seen, AllocError>
     ensures { IfOk result (λ s. (f : shown.Shown) → (n : ℕ) → Tells seen f n → Tells s
         (λ T. if key.now.merges then shown.left_by (entries_view list.now.entries.items) f T
-            else shown.at_key (string_bytes key.now.name) n T)
+        else shown.at_key (string_bytes key.now.name) n T)
         (if key.now.merges then suc (f (shown.keys_so_far (entries_view list.now.entries.items)))
-            else suc n)) }
+        else suc n)) }
 {
     if key.merges {
         merged(alloc, list, seen)

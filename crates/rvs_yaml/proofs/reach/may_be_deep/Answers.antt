@@ -9,5 +9,12 @@ pub returns-then-levels-own_depth-le-MOST_DEPTH : goal.returns-then-levels-own_d
 returns-then-levels-own_depth-le-MOST_DEPTH c = λ e.
     let bs = c.args.blocks.now in
     let same = stack-top bs c.in-Some.top.now c.in-Some.ensures.value in
-    omega (arith, sight-reach (stack_view bs), ap reach same, ap levels same, c.levels.ensures,
-      c.own_depth.ensures.bound, c.if-levels-own_depth-le-MOST_DEPTH.true)
+    omega (
+      arith,
+      sight-reach (stack_view bs),
+      ap reach same,
+      ap levels same,
+      c.levels.ensures,
+      c.own_depth.ensures.bound,
+      c.if-levels-own_depth-le-MOST_DEPTH.true,
+    )

@@ -9,5 +9,6 @@ use Rattle.rvs_yaml.proofs.sight.around.Goals as goal
 pub returns-in-Items : goal.returns-in-Items
 returns-in-Items c = λ f n t.
     let vs = values_view c.in-Items.field-0.values.items in
-    subst (λ d. Tells c.listed.result (passed d n f) (deepened d f n)) (sym (ap done_view c.in-Items.is))
+    subst (λ d. Tells c.listed.result (passed d n f) (deepened d f n))
+    (sym (ap done_view c.in-Items.is))
     (c.listed.ensures f n t (keys_of (pairs_in (trees vs))))

@@ -11,8 +11,13 @@ returns c = λ f n t.
     let ds = depths_view c.args.seen.depths.items in
     let es = depths_view c.in_ok-depths.depths.items in
     record {
-      deep = omega (arith, left-deep ws f ds es t.shown c.in_ok-depths.ensures,
-        c.deepest_of-deepest.ensures.deepest, ap (λ xs. visible (depths_view xs) []) c.as_slice.ensures.value,
-        c.min.ensures);
+      deep = omega (
+        arith,
+        left-deep ws f ds es t.shown c.in_ok-depths.ensures,
+        c.deepest_of-deepest.ensures.deepest,
+        ap (λ xs. visible (depths_view xs) [])
+            c.as_slice.ensures.value,
+        c.min.ensures,
+      );
       shown = left-shown ws f ds es t.shown c.in_ok-depths.ensures;
     }

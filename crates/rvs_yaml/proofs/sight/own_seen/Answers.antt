@@ -15,7 +15,8 @@ returns-then-opens_block c =
     sym c.opens_block.ensures ∙ c.if-opens_block.true in
     let same : own_value (open_view top) ≡ scalar_value [] top.head.line = ap
     (λ t. if t then scalar_value [] top.head.line else own_view top.head.line top.own) opens in
-    subst (λ (v : Value). TellsOf c.empty_seen.result v) (sym same) (c.empty_seen.ensures top.head.line)
+    subst (λ (v : Value). TellsOf c.empty_seen.result v) (sym same)
+    (c.empty_seen.ensures top.head.line)
 
 pub returns-in-None : goal.returns-in-None
 returns-in-None c =
