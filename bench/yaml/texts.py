@@ -115,6 +115,21 @@ def aliases_in_a_chain(size):
     return text + ' ' * levels + 'z: [' + ','.join(aliases) + ']\n'
 
 
+# Many anchors in a chain of open merges that closes, each map with an anchor before it and a name.
+def chain_closed(size):
+    levels = int(size ** (1 / 3) * 1.5)
+    text = ''.join(' ' * i + 'a: &a%x x\n' % i + ' ' * i + '<<: &n%x\n' % i for i in range(levels))
+    count = (size - len(text)) // (levels + 14)
+    return text + ''.join(' ' * levels + 'b%x: &b%x x\n' % (i, i) for i in range(count)) + 'z: 1\n'
+
+
+# The same in lists and maps, two in each column, as deep as may be.
+def lists_closed(size):
+    level = '{0}k: x\n{0}l: &m{1}\n{0}- x\n{0}- &n{1}\n'
+    text = ''.join(level.format(' ' * i, i) for i in range(15))
+    return text + ''.join(' ' * 15 + '- &%x x\n' % i for i in range(size // 25)) + 'z: 1\n'
+
+
 def merges_in_a_map(size):
     return 'a: &m {' + keys(size // 14) + '}\n' + repeated('b: {', '<<: *m,', size // 16, '}\n')
 
@@ -205,6 +220,8 @@ FAMILIES = {
     'dropped_in_list': dropped_in_list,
     'hidden_in_lines': hidden_in_lines,
     'aliases_in_a_chain': aliases_in_a_chain,
+    'chain_closed': chain_closed,
+    'lists_closed': lists_closed,
     'merges_in_a_map': merges_in_a_map,
     'merges_in_a_list': merges_in_a_list,
     'merged_lists': merged_lists,

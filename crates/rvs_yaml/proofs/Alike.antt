@@ -10,7 +10,8 @@ use Rattle.rvs_yaml_text.specs.Word.{fault}
 use Rattle.rvs_yaml_text.specs.Word.{Content, nothing, text, alias, flow, faulty, Shape, dash, key}
 use Rattle.rvs_yaml_text.specs.Word.{leaf, refused}
 use Rattle.rvs_yaml.specs.Checks.{Checked, ◌>>=◌, ◌>>◌, check}
-use Rattle.rvs_yaml.specs.Anchors.{Anchors, lookup, has_anchor, known_alias}
+use Rattle.rvs_yaml.specs.Anchors.{Anchors, lookup, known_alias}
+use Rattle.rvs_yaml.specs.Stack.{has_anchor}
 use Rattle.rvs_yaml.specs.Entry.{written}
 use Rattle.rvs_yaml.specs.Flow.{Place, member, behind_member, key_place, entry_value, behind_entry}
 use Rattle.rvs_yaml.specs.Flow.{Nest, none, one, group, inside, ending, behind, nest, first_place}

@@ -6,7 +6,8 @@ use Rattle.rvs_yaml.specs.Checks.{Checked, ◌>>=◌}
 use Rattle.rvs_tree.specs.Value.{Value, scalar_value}
 use Rattle.rvs_yaml_text.specs.Word.{Name, opens_block}
 use Rattle.rvs_yaml.specs.Block.{Found, found, named, check_merge}
-use Rattle.rvs_yaml.specs.Anchors.{Anchors, has_anchor}
+use Rattle.rvs_yaml.specs.Anchors.{Anchors}
+use Rattle.rvs_yaml.specs.Stack.{has_anchor}
 use Rattle.rvs_yaml.specs.Stack.{Done, done_items, done_entries, alone, Open, own_found, closed_as}
 use Rattle.rvs_yaml.specs.Stack.{noted}
 use Rattle.rvs_yaml.proofs.InOrder as exact

@@ -7,7 +7,8 @@ use Rattle.rvs_tree.specs.Value.{Value, scalar_value, map_value, explicit_keys}
 use Rattle.rvs_yaml_text.specs.Word.{Name, Word, is_below}
 use Rattle.rvs_yaml_text.specs.Word.{opens_block, head_of}
 use Rattle.rvs_yaml.specs.Checks.{Checked, ◌>>=◌, ◌>>◌, check}
-use Rattle.rvs_yaml.specs.Anchors.{Anchors, lookup, has_anchor}
+use Rattle.rvs_yaml.specs.Anchors.{Anchors, lookup}
+use Rattle.rvs_yaml.specs.Stack.{has_anchor}
 use Rattle.rvs_yaml.specs.Entry.{written}
 use Rattle.rvs_yaml.specs.Block.{Found, found, named, own_value, item_at, key_at, check_merge}
 use Rattle.rvs_yaml.specs.Block.{tree_of}

@@ -8,7 +8,8 @@ use Rattle.std.proofs.lemmas.List.{reverse-append, length-map, map-append, take-
 use Rattle.std.proofs.lemmas.List.{length-take}
 use Rattle.std.proofs.Math.Seq.{get_or-append_seam}
 use Rattle.rvs_tree.specs.Value.{Value}
-use Rattle.rvs_yaml.specs.Anchors.{Anchors, lookup, has_anchor}
+use Rattle.rvs_yaml.specs.Anchors.{Anchors, lookup}
+use Rattle.rvs_yaml.specs.Stack.{has_anchor}
 use Rattle.rvs_yaml.specs.Places.{place_from, last_place}
 use Rattle.rvs_yaml.specs.StackView.{anchor_view, anchors_view}
 use Rattle.rvs_tree.specs.ValueView.{value_view}

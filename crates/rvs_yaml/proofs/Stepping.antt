@@ -9,7 +9,7 @@ use Rattle.rvs_yaml.specs.Block.{Found, own_value, content_value}
 use Rattle.rvs_yaml.specs.Stack.{Done, Open, begun_done, known_of, begins, put, advanced_as}
 use Rattle.rvs_yaml.specs.Stack.{advanced, closed_into, settled, own_found, step}
 use Rattle.rvs_yaml.specs.StepParts.{Block, own_content, put_content, advanced_content, opened}
-use Rattle.rvs_yaml.specs.StepParts.{own_of, bare}
+use Rattle.rvs_yaml.specs.StepParts.{bare}
 use Rattle.rvs_yaml.proofs.Outlined.{bind_assoc, bind_same}
 
 own-content : (known : Anchors) (line : ℕ) (s : Shape)

@@ -1,6 +1,6 @@
 -- The values that anchors name.
 use Rattle.std.specs.Prelude.{ℕ, Bool, true, false, map, if◌then◌else◌, List, [], ◌∷◌, Option, Some}
-use Rattle.std.specs.Prelude.{None, Ok, Err, bytes_eq, ◌||◌}
+use Rattle.std.specs.Prelude.{None, Ok, Err, bytes_eq}
 use Rattle.rvs_tree.specs.Value.{Value}
 use Rattle.rvs_tree.specs.Standin.{standin}
 use Rattle.rvs_yaml.specs.Checks.{Checked}
@@ -13,10 +13,6 @@ Anchors = List (List ℕ × Value)
 abbrev pub lookup : List ℕ → Anchors → Option Value
 lookup name [] = None
 lookup name (a ∷ more) = if bytes_eq a.0 name then Some a.1 else lookup name more
-
-abbrev pub has_anchor : List ℕ → Anchors → Bool
-has_anchor name [] = false
-has_anchor name (a ∷ more) = bytes_eq a.0 name || has_anchor name more
 
 -- the same with what stands for the values
 abbrev pub thinned : Anchors → Anchors

@@ -1,12 +1,13 @@
 -- Reading a list of words from its front, with a stack of open blocks.
-use Rattle.std.specs.Prelude.{ℕ, if◌then◌else◌, List, [], ◌∷◌, ◌++◌, Some, None, Ok, Err}
+use Rattle.std.specs.Prelude.{ℕ, Bool, false, ◌||◌, bytes_eq, if◌then◌else◌, List, [], ◌∷◌, ◌++◌}
+use Rattle.std.specs.Prelude.{Some, None, Ok, Err}
 use Rattle.rvs_tree.specs.Value.{Value, scalar_value, list_value, map_value, Written, explicit_keys}
 use Rattle.rvs_yaml.specs.Checks.{Checked, ◌>>=◌, ◌>>◌, check}
 use Rattle.rvs_yaml.specs.Block.{Found, found, own_value, no_place, item_at, key_at}
 use Rattle.rvs_yaml.specs.Block.{check_merge}
 use Rattle.rvs_yaml_text.specs.Word.{Key, Name, Shape, dash, key, leaf, refused, Word, Head}
 use Rattle.rvs_yaml_text.specs.Word.{head_of, is_below, opens_block}
-use Rattle.rvs_yaml.specs.Anchors.{Anchors, has_anchor}
+use Rattle.rvs_yaml.specs.Anchors.{Anchors}
 use Rattle.rvs_yaml.specs.Entry.{written}
 use Rattle.rvs_yaml_text.specs.declared.kind.YamlKind.TheVariants.{Unsupported}
 
@@ -50,6 +51,10 @@ known_of (b ∷ bs) = b.anchors ++ known_of bs
 
 abbrev pub begins : List Open → Word → Checked (List Open)
 begins bs w = own_value (known_of bs) w.line w.shape >>= λ own. Ok (begun w own ∷ bs)
+
+abbrev pub has_anchor : List ℕ → Anchors → Bool
+has_anchor name [] = false
+has_anchor name (a ∷ more) = bytes_eq a.0 name || has_anchor name more
 
 -- A node with its own anchor, which is before those in it. One of those that has its name stays the
 -- latest.

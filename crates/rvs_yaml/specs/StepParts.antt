@@ -1,13 +1,13 @@
 -- Parts of a step of the stack of open blocks.
-use Rattle.std.specs.Prelude.{ℕ, not, ◌||◌, if◌then◌else◌, List, [], ◌∷◌, ◌++◌, None, Ok}
+use Rattle.std.specs.Prelude.{ℕ, not, ◌||◌, List, [], ◌∷◌, ◌++◌, None, Ok}
 use Rattle.rvs_yaml.specs.Checks.{Checked, ◌>>=◌, ◌>>◌, check}
 use Rattle.rvs_tree.specs.Value.{Value, Written, has_key, scalar_value, list_value, map_value}
 use Rattle.rvs_yaml_text.specs.Word.{Key, Content, nothing, faulty, Shape, dash, key, leaf, refused}
-use Rattle.rvs_yaml_text.specs.Word.{Word, Head, no_opener, opens_block}
+use Rattle.rvs_yaml_text.specs.Word.{Word, Head, no_opener}
 use Rattle.rvs_yaml.specs.Anchors.{Anchors}
 use Rattle.rvs_yaml.specs.Entry.{written}
-use Rattle.rvs_yaml.specs.Block.{Found, found, content_value, key_at, check_merge}
-use Rattle.rvs_yaml.specs.Stack.{Done, done_items, done_entries, alone, Open, known_of, noted}
+use Rattle.rvs_yaml.specs.Block.{content_value, key_at, check_merge}
+use Rattle.rvs_yaml.specs.Stack.{Done, done_items, done_entries, alone, Open, known_of}
 use Rattle.rvs_yaml.specs.Stack.{advanced_as}
 use Rattle.rvs_yaml_text.specs.declared.kind.YamlKind.TheVariants.{DuplicateKey}
 

@@ -2,7 +2,8 @@
 ghost use Rattle.std.specs.Prelude.{◌≡◌, ◌≤◌, ◌∷◌, ◌++◌, [], ℕ, List, Some, bytes_eq, drop, length};
 ghost use Rattle.std.specs.Prelude.{option_map, if◌then◌else◌, IfOk};
 ghost use Rattle.std.specs.BTreeMap.{get_by_text};
-ghost use Rattle.rvs_yaml.specs.Anchors.{lookup, has_anchor};
+ghost use Rattle.rvs_yaml.specs.Anchors.{lookup};
+ghost use Rattle.rvs_yaml.specs.Stack.{has_anchor};
 ghost use Rattle.rvs_yaml.specs.StackView.{anchors_view, Names};
 ghost use Rattle.rvs_yaml_text.specs.WordView.{name_view};
 ghost use Rattle.rvs_tree.specs.ValueView.{value_view};

@@ -295,11 +295,7 @@ fn advance<'a>(
 }
 
 /// What a word on this line is by itself.
-pub(crate) fn taken_own(
-    alloc: Global,
-    line: u64,
-    own: Option<Box<Value>>,
-) -> Result<Value, AllocError>
+fn taken_own(alloc: Global, line: u64, own: Option<Box<Value>>) -> Result<Value, AllocError>
     ensures { IfOk result (λ v. value_view v ≡ own_view line own) }
 {
     match own {
