@@ -10,10 +10,11 @@ use Rattle.rvs_isa.specs.declared.checked.Checked.{Checked}
 use Rattle.rvs_isa.specs.declared.refusal.IsaRefusal.{IsaRefusal}
 use Rattle.rvs_suite.specs.Specification.{isa_limit, checked_end, tree_end, checks, specification}
 use Rattle.rvs_suite.specs.Says.{IsRefused}
-use Rattle.rvs_suite.proofs.TestEnds.{found-long, found-whole}
+use Rattle.rvs_plan.proofs.FoundInputs.{found-long, found-whole}
 
 pub performed-refused : {A : Type 0} (files : Files) (answers : List Answer) (name text : List ℕ)
-    (next : Checked → Plan A) → IsRefused files name text → performed (specification name >>= next)
+    (next : Checked → Plan A) → IsRefused files name text
+    → performed (specification name >>= next)
     files answers ≡ Read name (files name) ∷ []
 performed-refused files answers name text next r = elim r.reason [
   | inl long ↦ ap (λ (e : Result (List ℕ) Stop). Read name (files name)

@@ -1,10 +1,9 @@
 -- What the files of `reference` say, and what is left of their run.
-use Rattle.std.specs.Prelude.{◌≡◌, ◌≤◌, ◌<◌, ◌⊎◌, ℕ, List, [], length, Option, Some, None, Ok, Err}
+use Rattle.std.specs.Prelude.{◌≡◌, ◌≤◌, ◌⊎◌, ℕ, List, [], length, Option, Some, None, Ok, Err}
 use Rattle.std.specs.Prelude.{codes}
 use Rattle.rvs_base.specs.Host.{Files, with_file}
 use Rattle.rvs_base.specs.Sink.{SinkState, appended}
 use Rattle.rvs_plan.specs.World.{World}
-use Rattle.rvs_plan.specs.Inputs.{too_long_text}
 use Rattle.rvs_plan.specs.Account.{fault_line}
 use Rattle.rvs_insn.specs.Isa.{Isa}
 use Rattle.rvs_isa.specs.declared.checked.Checked.{Checked}
@@ -15,6 +14,7 @@ use Rattle.rvs_machine.specs.Run.{run_of}
 use Rattle.rvs_machine.specs.declared.event.Executed.{Executed}
 use Rattle.rvs_machine.specs.declared.event.End.TheVariants.{Halted}
 use Rattle.rvs_log.specs.Logs.{log_of}
+use Rattle.rvs_suite.specs.Limits.{PassesLimit}
 use Rattle.rvs_suite.specs.Says.{Says, IsRefused}
 use Rattle.rvs_suite.specs.TestTexts.{ran_line}
 use Rattle.rvs_suite.specs.TestRun.{image_found, limit_of, test_found}
@@ -62,11 +62,6 @@ pub record HasRecorded (files : Files) (isa test signature : List ℕ) (log : Op
   pub printed : new.out.bytes
       ≡ appended old.out.bytes (ran_line (length run.trace) (length run.words))
 
--- the test is longer than its limit
-pub record IsTooLong (test bytes text : List ℕ) : Type 0 where
-  pub longer : test_limit < length bytes
-  pub text_is : text ≡ too_long_text test test_limit
-
 -- the test is within its limit, and has no image, traps, or doesn't halt
 pub record FailsToHalt (isa : Isa) (test bytes : List ℕ) (steps : Option ℕ) (text : List ℕ) : Type
     0 where
@@ -78,7 +73,7 @@ pub record IsTestRefused (files : Files) (isa : Isa) (test : List ℕ) (steps : 
     (text : List ℕ) : Type 0 where
   pub bytes : List ℕ
   pub there : files test ≡ Some bytes
-  pub reason : IsTooLong test bytes text ⊎ FailsToHalt isa test bytes steps text
+  pub reason : PassesLimit test_limit test bytes text ⊎ FailsToHalt isa test bytes steps text
 
 -- the ISA file is refused, or it is accepted and the test is refused
 abbrev pub FirstRefused : Files → List ℕ → List ℕ → Option ℕ → List ℕ → Type 0
