@@ -6,7 +6,7 @@ use Rattle.rvs_base.specs.Sink.{SinkState, appended}
 use Rattle.rvs_plan.specs.World.{World}
 use Rattle.rvs_plan.specs.Account.{fault_line}
 use Rattle.rvs_insn.specs.Isa.{Isa}
-use Rattle.rvs_isa.specs.declared.checked.Checked.{Checked}
+use Rattle.rvs_isa.specs.declared.accepted_spec.AcceptedSpec.{AcceptedSpec}
 use Rattle.rvs_sig.specs.Words.{text_of_words}
 use Rattle.rvs_machine.specs.Image.{ImageValue}
 use Rattle.rvs_machine.specs.Machine.{State, started, signature_of}
@@ -42,7 +42,7 @@ pub record TestHalts (files : Files) (isa : Isa) (test : List ℕ) (steps : Opti
 -- the ISA file is accepted, and the test halts on the core of which it speaks
 pub record BothHalt (files : Files) (isa test : List ℕ) (steps : Option ℕ) (run : Run) : Type
     0 where
-  pub said : Checked
+  pub said : AcceptedSpec
   pub says : Says files isa said
   pub test_halts : TestHalts files said.spec test steps run
 
@@ -78,12 +78,12 @@ pub record IsTestRefused (files : Files) (isa : Isa) (test : List ℕ) (steps : 
 -- the ISA file is refused, or it is accepted and the test is refused
 abbrev pub FirstRefused : Files → List ℕ → List ℕ → Option ℕ → List ℕ → Type 0
 FirstRefused files isa test steps text = IsRefused files isa text ⊎
-    ((said : Checked) × Says files isa said × IsTestRefused files said.spec test steps text)
+    ((said : AcceptedSpec) × Says files isa said × IsTestRefused files said.spec test steps text)
 
 -- the ISA file isn't there, or it is accepted and the test isn't there; this is its name
 abbrev pub FirstMissing : Files → List ℕ → List ℕ → List ℕ → Type 0
 FirstMissing files isa test name = ((name ≡ isa) × (files isa ≡ None)) ⊎
-    ((said : Checked) × Says files isa said × (name ≡ test) × (files test ≡ None))
+    ((said : AcceptedSpec) × Says files isa said × (name ≡ test) × (files test ≡ None))
 
 -- a file is refused: files and output are as before, and the sink for errors has the line that says
 -- why

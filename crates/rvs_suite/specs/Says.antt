@@ -8,13 +8,13 @@ use Rattle.rvs_yaml.specs.Answer.{answer}
 use Rattle.rvs_yaml_text.specs.declared.kind.YamlKind.{YamlKind}
 use Rattle.rvs_isa.specs.Check.{checked}
 use Rattle.rvs_isa.specs.Print.{checked_text}
-use Rattle.rvs_isa.specs.declared.checked.Checked.{Checked}
+use Rattle.rvs_isa.specs.declared.accepted_spec.AcceptedSpec.{AcceptedSpec}
 use Rattle.rvs_isa.specs.declared.refusal.IsaRefusal.{IsaRefusal}
 use Rattle.rvs_suite.specs.Limits.{PassesLimit}
 use Rattle.rvs_suite.specs.Specification.{isa_limit, yaml_text, isa_text}
 
 -- the named file is there, within its limit, and has a tree that the checks accept as saying this
-pub record Says (files : Files) (name : List ℕ) (said : Checked) : Type 0 where
+pub record Says (files : Files) (name : List ℕ) (said : AcceptedSpec) : Type 0 where
   pub bytes : List ℕ
   pub there : files name ≡ Some bytes
   pub within : length bytes ≤ isa_limit
@@ -48,7 +48,7 @@ pub record IsRefused (files : Files) (name text : List ℕ) : Type 0 where
 
 -- the file is accepted, and the output has the text of what it says
 pub record Validates (files : Files) (isa : List ℕ) (out out' : SinkState) : Type 0 where
-  pub said : Checked
+  pub said : AcceptedSpec
   pub says : Says files isa said
   pub printed : out'.bytes ≡ appended out.bytes (checked_text said)
 
