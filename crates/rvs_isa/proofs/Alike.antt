@@ -3,7 +3,7 @@ use Rattle.std.proofs.Common.{◌≡◌, ℕ, ◌<◌, Bool, false, List, [], �
 use Rattle.std.proofs.Common.{option_map, Ok, Err, All, codes, refl, ap, subst, sym, ◌∙◌, lit<}
 use Rattle.rvs_tree.specs.Data.{Data, scalar, sequence, mapping}
 use Rattle.rvs_insn.specs.Isa.{Isa}
-use Rattle.rvs_isa.specs.declared.checked.Checked.{Checked}
+use Rattle.rvs_isa.specs.declared.accepted_spec.AcceptedSpec.{AcceptedSpec}
 use Rattle.rvs_isa.specs.declared.isa_text.Extensions.{Extensions}
 use Rattle.rvs_isa.specs.declared.refusal.IsaKind.TheVariants.{MissingEntry, BadXlen}
 use Rattle.rvs_isa.specs.declared.refusal.IsaKind.TheVariants.{BadAddressSize, HartCount, BadTruth}
@@ -96,12 +96,12 @@ misa_seen path reset (sequence ds line) = refl
 misa_seen path reset (mapping es line) = refl
 
 -- ---- one check after another
-chain : {A : Type 0} (x y : Found A) (f g : A → Found Checked) → x ≡ y
+chain : {A : Type 0} (x y : Found A) (f g : A → Found AcceptedSpec) → x ≡ y
     → ((a : A) → core_in (f a) ≡ core_in (g a)) → core_in (x >>= f) ≡ core_in (y >>= g)
 chain (Ok a) y f g e h = h a ∙ ap (λ z. core_in (z >>= g)) e
 chain (Err r) y f g e h = ap (λ z. core_in (z >>= g)) e
 
-next : (x y : Found (Unit {0})) (f g : Found Checked) → x ≡ y → core_in f ≡ core_in g
+next : (x y : Found (Unit {0})) (f g : Found AcceptedSpec) → x ≡ y → core_in f ≡ core_in g
     → core_in (x >> f) ≡ core_in (y >> g)
 next (Ok a) y f g e h = h ∙ ap (λ z. core_in (z >> g)) e
 next (Err r) y f g e h = ap (λ z. core_in (z >> g)) e

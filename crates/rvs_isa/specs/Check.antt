@@ -4,7 +4,7 @@ use Rattle.std.specs.Prelude.{Ok, Err, codes}
 use Rattle.std.specs.Fmt.{decimal}
 use Rattle.rvs_tree.specs.Data.{Data, is_map}
 use Rattle.rvs_insn.specs.Isa.{Isa}
-use Rattle.rvs_isa.specs.declared.checked.Checked.{Checked}
+use Rattle.rvs_isa.specs.declared.accepted_spec.AcceptedSpec.{AcceptedSpec}
 use Rattle.rvs_isa.specs.declared.isa_text.Extensions.{Extensions}
 use Rattle.rvs_isa.specs.declared.refusal.IsaKind.{IsaKind}
 use Rattle.rvs_isa.specs.declared.refusal.IsaKind.TheVariants.{NotAMapping, MissingEntry, BadXlen}
@@ -109,7 +109,7 @@ core_of extensions bits misaligned = record {
 }
 
 -- what the hart of this key says
-abbrev pub checked_hart : List ℕ → Data → Found Checked
+abbrev pub checked_hart : List ℕ → Data → Found AcceptedSpec
 checked_hart hart root = do
   hart_entries hart root
   extensions ← isa_entry hart root
@@ -120,7 +120,7 @@ checked_hart hart root = do
   Ok (record { spec = core_of extensions bits aligned; unread = unread hart root })
 
 -- what the specification says, or the first check that fails
-abbrev pub checked : Data → Found Checked
+abbrev pub checked : Data → Found AcceptedSpec
 checked root = do
   is_a_map [] root
   number ← hart_number root

@@ -5,7 +5,7 @@ use Rattle.std.specs.List.{flat_map}
 use Rattle.rvs_base.specs.Number.{hex_word_of}
 use Rattle.rvs_insn.specs.Isa.{Isa}
 use Rattle.rvs_insn.specs.IsaName.{isa_name}
-use Rattle.rvs_isa.specs.declared.checked.Checked.{Checked}
+use Rattle.rvs_isa.specs.declared.accepted_spec.AcceptedSpec.{AcceptedSpec}
 use Rattle.rvs_isa.specs.declared.refusal.IsaKind.{IsaKind}
 use Rattle.rvs_isa.specs.declared.refusal.IsaKind.TheVariants.{NotAMapping, MissingEntry}
 use Rattle.rvs_isa.specs.declared.refusal.IsaKind.TheVariants.{BadIsaText, UnsupportedExtension}
@@ -32,7 +32,7 @@ abbrev pub unread_line : List ℕ → List ℕ
 unread_line path = codes "unread " ++ (path ++ codes "\n")
 
 -- what the core has, and a line for each entry that no check reads
-abbrev pub checked_text : Checked → List ℕ
+abbrev pub checked_text : AcceptedSpec → List ℕ
 checked_text c = core_lines c.spec ++ flat_map unread_line c.unread
 
 -- the number of a kind of refusal

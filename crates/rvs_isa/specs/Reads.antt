@@ -9,7 +9,7 @@ use Rattle.rvs_isa.specs.Check.{checked, hart_number, hart_key, misa_path, reset
 use Rattle.rvs_isa.specs.Entries.{entry_at}
 use Rattle.rvs_isa.specs.Refusal.{Path, path_text, Found}
 use Rattle.rvs_isa.specs.Unread.{unread}
-use Rattle.rvs_isa.specs.declared.checked.Checked.{Checked}
+use Rattle.rvs_isa.specs.declared.accepted_spec.AcceptedSpec.{AcceptedSpec}
 
 -- the paths at which the checks look, with the key of the hart
 abbrev pub read_paths : List ℕ → List Path
@@ -51,7 +51,7 @@ abbrev pub AreAlikeAt : Data → Data → Path → Type 0
 AreAlikeAt a b path = option_map seen (entry_at path a) ≡ option_map seen (entry_at path b)
 
 -- the core, or the refusal
-abbrev pub core_in : Found Checked → Found Isa
+abbrev pub core_in : Found AcceptedSpec → Found Isa
 core_in (Ok c) = Ok c.spec
 core_in (Err e) = Err e
 

@@ -6,7 +6,7 @@ ghost use Rattle.rvs_isa.specs.Check.{isa_entry, xlen_entry, address_bits, misal
 ghost use Rattle.rvs_isa.specs.Check.{reset_value};
 ghost use Rattle.rvs_isa.specs.Refusal.{Answers};
 
-use crate::checked::Checked;
+use crate::accepted_spec::AcceptedSpec;
 use crate::entry::{check_map, entry_at, needed, no_memory, refusal};
 use crate::isa_text::Extensions;
 use crate::misa::misa_word;
@@ -25,7 +25,7 @@ use std::alloc::Global;
 /// # Errors
 ///
 /// The first of the eight checks that fails, with its path, or `NoMemory`.
-pub fn check(alloc: Global, tree: &Tree) -> Result<Checked, IsaRefusal>
+pub fn check(alloc: Global, tree: &Tree) -> Result<AcceptedSpec, IsaRefusal>
     ensures accepted { IfOk result (λ c. checked (view tree.now) ≡ Ok c) }
     ensures refused { IfErr result
         (λ e. e.kind ≢ IsaKind.NoMemory → checked (view tree.now) ≡ Err e) }
@@ -36,7 +36,7 @@ pub fn check(alloc: Global, tree: &Tree) -> Result<Checked, IsaRefusal>
     check_hart(alloc, hart.as_str(), tree)
 }
 
-fn check_hart(alloc: Global, hart: &str, root: &Tree) -> Result<Checked, IsaRefusal>
+fn check_hart(alloc: Global, hart: &str, root: &Tree) -> Result<AcceptedSpec, IsaRefusal>
     ensures { Answers result (checked_hart hart.now (view root.now)) }
 {
     hart_entries(alloc, hart, root)?;
@@ -55,7 +55,7 @@ fn check_hart(alloc: Global, hart: &str, root: &Tree) -> Result<Checked, IsaRefu
     };
     misa_entry(alloc, hart, &spec, root)?;
     match unread(alloc, hart, root) {
-        Ok(unread) => Ok(Checked { spec, unread }),
+        Ok(unread) => Ok(AcceptedSpec { spec, unread }),
         Err(NoMemory) => Err(no_memory(alloc)),
     }
 }

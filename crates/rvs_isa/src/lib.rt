@@ -1,7 +1,7 @@
 //! Checks a riscv-config ISA specification, and prints what it says of the core.
 #![tactic(auto)]
 
-mod checked;
+mod accepted_spec;
 mod checks;
 mod entry;
 mod isa_text;
@@ -13,7 +13,7 @@ mod refusal;
 mod unread;
 mod value;
 
-pub use checked::Checked;
+pub use accepted_spec::AcceptedSpec;
 pub use checks::check;
 pub use laws::{
     canonical_texts_are_accepted, isa_texts_are_read_as_spelled,

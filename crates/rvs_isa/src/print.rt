@@ -3,7 +3,7 @@ ghost use Rattle.std.specs.Prelude.{◌≡◌, ◌++◌, IfOk, OnOk};
 ghost use Rattle.rvs_isa.specs.Print.{checked_text, core_lines, refusal_text, unread_line};
 ghost use Rattle.rvs_isa.specs.Print.{word_text, words_text};
 
-use crate::checked::Checked;
+use crate::accepted_spec::AcceptedSpec;
 use crate::misa::misa_word;
 use crate::refusal::{IsaKind, IsaRefusal};
 use rvs_base::{NoMemory, Text, hex_text};
@@ -15,7 +15,7 @@ use std::alloc::Global;
 /// # Errors
 ///
 /// [`NoMemory`].
-pub fn print_checked(alloc: Global, c: &Checked) -> Result<Text, NoMemory>
+pub fn print_checked(alloc: Global, c: &AcceptedSpec) -> Result<Text, NoMemory>
     ensures { IfOk result (λ text. text ≡ checked_text c.now) }
 {
     let mut text = core_lines(alloc, &c.spec)?;

@@ -1,38 +1,13 @@
--- One turn of a loop that searches a list of lists.
-use Rattle.std.proofs.Common.{◌≡◌, ℕ, ◌+◌, ◌*◌, ◌<◌, ◌≤◌, Bool, true, false, cond, List, [], ◌∷◌}
+-- One turn of a loop that searches, what it keeps and what it costs.
+use Rattle.std.proofs.Common.{◌≡◌, ℕ, ◌+◌, ◌<◌, ◌≤◌, Bool, true, false, cond, List, [], ◌∷◌}
 use Rattle.std.proofs.Common.{map, length, get_or, drop, take, Option, Some, None, refl, sym, ap}
-use Rattle.std.proofs.Common.{◌∙◌, arith, add-one, drop-cons}
-use Rattle.std.specs.Prelude.{find, flat_map, sum_by}
+use Rattle.std.proofs.Common.{◌∙◌, arith}
+use Rattle.std.specs.Prelude.{find, sum_by}
 use Rattle.std.specs.Option.{option_or}
 use Rattle.std.proofs.lemmas.List.{map_more}
-use Rattle.std.proofs.Math.Nat.{mul-le-mul_left}
 use Rattle.std.proofs.lemmas.List.Folds.{find-append}
 use Rattle.std.proofs.lemmas.List.Sums.{sum_by_more, sum_by-take-le}
-
--- the list from a place on is its element there and the list after it
-pub rest_is : {X : Type 0} (xs : List X) (i : ℕ) (d : X) → i < length xs
-    → drop i xs ≡ get_or xs i d ∷ drop (i + 1) xs
-rest_is xs i d h = rw (add-one, drop-cons xs i d)
-
-pub find_turn : {X Y : Type 0} (p : Y → Bool) (f : X → List Y) (xs : List X) (i : ℕ) (d : X)
-    → i < length xs → find p (flat_map f (drop i xs))
-    ≡ option_or (find p (f (get_or xs i d))) (find p (flat_map f (drop (i + 1) xs)))
-find_turn p f xs i d h = ap (λ l. find p (flat_map f l)) (rest_is xs i d h)
-    ∙ find-append p (f (get_or xs i d)) (flat_map f (drop (i + 1) xs))
-
-pub turn_found : {X Y : Type 0} (p : Y → Bool) (f : X → List Y) (xs : List X) (i : ℕ) (d : X)
-    (y : Y) (whole : Option Y) → i < length xs → whole ≡ find p (flat_map f (drop i xs))
-    → Some y ≡ find p (f (get_or xs i d)) → Some y ≡ whole
-turn_found p f xs i d y whole h inv e =
-    sym (inv ∙ find_turn p f xs i d h
-    ∙ ap (λ o. option_or o (find p (flat_map f (drop (i + 1) xs)))) (sym e))
-
-pub turn_none : {X Y : Type 0} (p : Y → Bool) (f : X → List Y) (xs : List X) (i : ℕ) (d : X)
-    (whole : Option Y) → i < length xs → whole ≡ find p (flat_map f (drop i xs))
-    → None ≡ find p (f (get_or xs i d)) → whole ≡ find p (flat_map f (drop (i + 1) xs))
-turn_none p f xs i d whole h inv e =
-    inv ∙ find_turn p f xs i d h ∙ ap (λ o. option_or o (find p (flat_map f (drop (i + 1) xs))))
-    (sym e)
+use Rattle.rvs_cross.proofs.Searching.{rest_at}
 
 or_nothing : {X : Type 0} (o : Option X) → option_or o None ≡ o
 or_nothing None = refl
@@ -57,21 +32,11 @@ pub found_before : {Y : Type 0} (y : Y) (o r : Option Y) → Some y ≡ o → So
 found_before y o r e = ap (λ q. option_or q r) e
 
 -- a loop that ends early costs no more than the whole
-pub within_rows : (new before entry i n k : ℕ) → i < n → before ≤ entry + i * k → new ≤ before + k
-    → new ≤ entry + n * k
-within_rows new before entry i n k h a b = let e : k * (i + 1) ≤ k * n =
-    mul-le-mul_left k (omega arith) in omega (arith, e)
-
 pub within_sum : {X : Type 0} (f : X → ℕ) (xs : List X) (i : ℕ) (d : X) (new before entry : ℕ)
     → i < length xs → before ≤ entry + sum_by f (take i xs) → new ≤ before + f (get_or xs i d)
     → new ≤ entry + sum_by f xs
 within_sum f xs i d new before entry h a b =
     omega (arith, sum_by_more f xs i d h, sum_by-take-le f xs (i + 1))
-
-pub sum_turn : {X : Type 0} (f : X → ℕ) (xs : List X) (i : ℕ) (d : X) (new before entry : ℕ)
-    → i < length xs → before ≤ entry + sum_by f (take i xs) → new ≤ before + f (get_or xs i d)
-    → new ≤ entry + sum_by f (take (i + 1) xs)
-sum_turn f xs i d new before entry h a b = omega (arith, sum_by_more f xs i d h)
 
 pub within_counted : {X : Type 0} (f : X → ℕ) (xs : List X) (i : ℕ) (d : X) (new before entry : ℕ)
     → i < length xs → before ≤ entry + (i + sum_by f (take i xs))
@@ -101,12 +66,12 @@ pub map_found : {X Y : Type 0} (p : Y → Bool) (f : X → Y) (xs : List X) (i :
     (whole : Option Y) → i < length xs → whole ≡ find p (map f (drop i xs)) → y ≡ f (get_or xs i d)
     → p y ≡ true → Some y ≡ whole
 map_found p f xs i d y whole h inv is hit =
-    sym (inv ∙ ap (λ l. find p (map f l)) (rest_is xs i d h)
+    sym (inv ∙ ap (λ l. find p (map f l)) (rest_at xs i d h)
     ∙ found_at p y (f (get_or xs i d)) (find p (map f (drop (i + 1) xs))) is hit)
 
 pub map_passed : {X Y : Type 0} (p : Y → Bool) (f : X → Y) (xs : List X) (i : ℕ) (d : X) (y : Y)
     (whole : Option Y) → i < length xs → whole ≡ find p (map f (drop i xs)) → y ≡ f (get_or xs i d)
     → p y ≡ false → whole ≡ find p (map f (drop (i + 1) xs))
 map_passed p f xs i d y whole h inv is miss =
-    inv ∙ ap (λ l. find p (map f l)) (rest_is xs i d h)
+    inv ∙ ap (λ l. find p (map f l)) (rest_at xs i d h)
     ∙ passed_at p y (f (get_or xs i d)) (find p (map f (drop (i + 1) xs))) is miss

@@ -4,7 +4,7 @@ use Rattle.rvs_base.specs.Host.{Files}
 use Rattle.rvs_plan.specs.Inputs.{part_end}
 use Rattle.rvs_plan.specs.declared.stop.Stop.{Stop}
 use Rattle.rvs_tree.specs.Data.{Data}
-use Rattle.rvs_isa.specs.declared.checked.Checked.{Checked}
+use Rattle.rvs_isa.specs.declared.accepted_spec.AcceptedSpec.{AcceptedSpec}
 use Rattle.rvs_isa.specs.declared.isa_text.Extensions.{Extensions}
 use Rattle.rvs_isa.specs.declared.refusal.IsaRefusal.{IsaRefusal}
 use Rattle.rvs_isa.specs.Refusal.{Found, ◌>>=◌, ◌>>◌}
@@ -15,15 +15,16 @@ use Rattle.rvs_isa.specs.Check.{checked_hart, checked}
 use Rattle.rvs_yaml.specs.Answer.{Answer, answer}
 use Rattle.rvs_suite.specs.Specification.{isa_limit, checked_end, tree_end, bytes_said, said_in}
 
-abbrev pub IsBase : Checked → Type 0
+abbrev pub IsBase : AcceptedSpec → Type 0
 IsBase said = said.spec.e ≡ false
 
-ok-then : {A : Type 0} (r : Found A) (next : A → Found Checked) → ((a : A) → IfOk (next a) IsBase)
+ok-then : {A : Type 0} (r : Found A) (next : A → Found AcceptedSpec)
+    → ((a : A) → IfOk (next a) IsBase)
     → IfOk (r >>= next) IsBase
 ok-then (Ok a) next each = each a
 ok-then (Err refusal) next each = tt
 
-ok-behind : {A : Type 0} (r : Found A) (next : Found Checked) → IfOk next IsBase
+ok-behind : {A : Type 0} (r : Found A) (next : Found AcceptedSpec) → IfOk next IsBase
     → IfOk (r >> next) IsBase
 ok-behind (Ok a) next is = is
 ok-behind (Err refusal) next is = tt
@@ -41,7 +42,7 @@ base_checked : (root : Data) → IfOk (checked root) IsBase
 base_checked root = ok-behind (is_a_map [] root) _
     (ok-then (hart_number root) _ (λ number. base_hart (hart_key number) root))
 
-base_end : (name : List ℕ) (r : Result Checked IsaRefusal) → IfOk r IsBase
+base_end : (name : List ℕ) (r : Result AcceptedSpec IsaRefusal) → IfOk r IsBase
     → IfOk (checked_end name r) IsBase
 base_end name (Ok said) is = is
 base_end name (Err refusal) is = tt

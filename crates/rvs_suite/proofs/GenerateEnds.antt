@@ -11,7 +11,7 @@ use Rattle.rvs_plan.specs.declared.stop.Stop.{Stop}
 use Rattle.rvs_plan.specs.declared.status.Finish.TheVariants.{Done}
 use Rattle.rvs_tree.specs.Data.{Data}
 use Rattle.rvs_insn.specs.Isa.{Isa}
-use Rattle.rvs_isa.specs.declared.checked.Checked.{Checked}
+use Rattle.rvs_isa.specs.declared.accepted_spec.AcceptedSpec.{AcceptedSpec}
 use Rattle.rvs_yaml.specs.Answer.{Answer, answer}
 use Rattle.rvs_cgf.specs.Groups.{Label, Point, Refusal, groups_of}
 use Rattle.rvs_cgf.specs.Valid.{IsValid, IsValidIfSelected}
@@ -129,8 +129,8 @@ good-text : (isa : Isa) (r : Result (List ℕ) Stop) → isa.e ≡ false
 good-text isa (Ok text) base = good-tree isa (answer text) base
 good-text isa (Err stop) base = tt
 
-good-said : (files : Files) (names : List (List ℕ)) (r : Result Checked Stop) → IfOk r IsBase → IfOk
-    (and_then r (λ said. and_then (text_in files None names)
+good-said : (files : Files) (names : List (List ℕ)) (r : Result AcceptedSpec Stop) → IfOk r IsBase
+    → IfOk (and_then r (λ said. and_then (text_in files None names)
     (λ text. inputs_of said.spec (groups_found said.spec text)))) IsGood
 good-said files names (Ok said) base = good-text said.spec (text_in files None names) base
 good-said files names (Err stop) base = tt

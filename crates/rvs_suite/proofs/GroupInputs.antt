@@ -9,7 +9,7 @@ use Rattle.rvs_plan.specs.Inputs.{input, part, part_end, too_long_text}
 use Rattle.rvs_plan.specs.declared.stop.Stop.{Stop}
 use Rattle.rvs_plan.specs.declared.stop.Stop.TheVariants.{Refused}
 use Rattle.rvs_insn.specs.Isa.{Isa}
-use Rattle.rvs_isa.specs.declared.checked.Checked.{Checked}
+use Rattle.rvs_isa.specs.declared.accepted_spec.AcceptedSpec.{AcceptedSpec}
 use Rattle.rvs_cgf.specs.Groups.{Label}
 use Rattle.rvs_suite.specs.Specification.{isa_limit, checks, specification, bytes_said, said_in}
 use Rattle.rvs_suite.specs.GroupTexts.{groups_name}

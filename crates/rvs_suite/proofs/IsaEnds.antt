@@ -2,47 +2,27 @@
 use Rattle.std.proofs.Common.{◌≡◌, ◌≤◌, ◌<◌, inl, inr, ℕ, Bool, true, false, List, ◌∷◌, length}
 use Rattle.std.proofs.Common.{nat_lt, Option, Some, None, Result, Ok, Err, if◌then◌else◌, refl, sym}
 use Rattle.std.proofs.Common.{ap, ◌∙◌}
-use Rattle.std.proofs.lemmas.Bool.{lt-ltb, le-ltb, ltb-true, ltb-false}
+use Rattle.std.proofs.lemmas.Bool.{ltb-true, ltb-false}
 use Rattle.rvs_base.specs.Host.{Files}
 use Rattle.rvs_plan.specs.Effect.{Answer, Read}
 use Rattle.rvs_plan.specs.Plan.{Plan, Ends, ◌>>=◌, followed}
 use Rattle.rvs_plan.specs.Performed.{performed, end_of}
-use Rattle.rvs_plan.specs.Inputs.{part_end, too_long_text}
+use Rattle.rvs_plan.specs.Inputs.{too_long_text}
 use Rattle.rvs_plan.specs.declared.stop.Stop.{Stop}
 use Rattle.rvs_plan.specs.declared.stop.Stop.TheVariants.{NoFile, Refused}
+use Rattle.rvs_plan.proofs.FoundInputs.{found-none, found-long, found-whole}
 use Rattle.rvs_tree.specs.Data.{Data}
 use Rattle.rvs_yaml.specs.Answer.{Answer as Tree, answer}
 use Rattle.rvs_isa.specs.Check.{checked}
-use Rattle.rvs_isa.specs.declared.checked.Checked.{Checked}
+use Rattle.rvs_isa.specs.declared.accepted_spec.AcceptedSpec.{AcceptedSpec}
 use Rattle.rvs_isa.specs.declared.refusal.IsaRefusal.{IsaRefusal}
 use Rattle.rvs_suite.specs.Specification.{isa_limit, yaml_text, isa_text, checked_end, tree_end}
 use Rattle.rvs_suite.specs.Specification.{checks, specification}
 use Rattle.rvs_suite.specs.Says.{Says, IsRefused}
 
-if-false : {A : Type 0} (b : Bool) (x y : A) → b ≡ false → (if b then x else y) ≡ y
-if-false b x y e = rw e refl
-
-if-true : {A : Type 0} (b : Bool) (x y : A) → b ≡ true → (if b then x else y) ≡ x
-if-true b x y e = rw e refl
-
-found-none : (limit : ℕ) (files : Files) (name : List ℕ) → files name ≡ None
-    → part_end limit name name limit (files name) ≡ Err (NoFile name)
-found-none limit files name none = ap (part_end limit name name limit) none
-
-found-long : (limit : ℕ) (files : Files) (name bytes : List ℕ) → files name ≡ Some bytes
-    → limit < length bytes
-    → part_end limit name name limit (files name) ≡ Err (Refused (too_long_text name limit))
-found-long limit files name bytes there long = ap (part_end limit name name limit) there
-    ∙ if-true (nat_lt limit (length bytes)) _ _ (lt-ltb limit (length bytes) long)
-
-found-whole : (limit : ℕ) (files : Files) (name bytes : List ℕ) → files name ≡ Some bytes
-    → length bytes ≤ limit → part_end limit name name limit (files name) ≡ Ok bytes
-found-whole limit files name bytes there within = ap (part_end limit name name limit) there
-    ∙ if-false (nat_lt limit (length bytes)) _ _ (le-ltb limit (length bytes) within)
-
 -- where the file isn't there
 pub end-missing : {A : Type 0} (files : Files) (answers : List Answer) (name : List ℕ)
-    (next : Checked → Plan A) → files name ≡ None → end_of (specification name >>= next) files
+    (next : AcceptedSpec → Plan A) → files name ≡ None → end_of (specification name >>= next) files
     answers ≡ Some (Err (NoFile name))
 end-missing files answers name next none = ap
     (λ (r : Result (List ℕ) Stop). end_of (followed r (checks name) >>= next) files answers)
@@ -50,7 +30,8 @@ end-missing files answers name next none = ap
 
 -- where it is refused
 pub end-refused : {A : Type 0} (files : Files) (answers : List Answer) (name text : List ℕ)
-    (next : Checked → Plan A) → IsRefused files name text → end_of (specification name >>= next)
+    (next : AcceptedSpec → Plan A) → IsRefused files name text
+    → end_of (specification name >>= next)
     files answers ≡ Some (Err (Refused text))
 end-refused files answers name text next r = elim r.reason [
   | inl long ↦ ap
@@ -66,24 +47,24 @@ end-refused files answers name text next r = elim r.reason [
     | inr fails ↦ ap (λ (e : Result (List ℕ) Stop). end_of (followed e (checks name) >>= next) files
         answers) (found-whole isa_limit files name r.bytes r.there fails.within) ∙ ap (λ (a : Tree).
         end_of (Ends (tree_end name a) >>= next) files answers) fails.has_tree ∙ ap
-        (λ (e : Result Checked IsaRefusal). end_of (Ends (checked_end name e) >>= next) files
+        (λ (e : Result AcceptedSpec IsaRefusal). end_of (Ends (checked_end name e) >>= next) files
         answers) fails.failed ∙ ap (λ (t : List ℕ). Some (Err (Refused t))) (sym fails.text_is)
   ]
 ]
 
 -- where it is accepted
-pub end-says : {A : Type 0} (files : Files) (answers : List Answer) (name : List ℕ) (said : Checked)
-    (next : Checked → Plan A) → Says files name said → end_of (specification name >>= next) files
-    answers ≡ end_of (next said) files answers
+pub end-says : {A : Type 0} (files : Files) (answers : List Answer) (name : List ℕ)
+    (said : AcceptedSpec) (next : AcceptedSpec → Plan A) → Says files name said
+    → end_of (specification name >>= next) files answers ≡ end_of (next said) files answers
 end-says files answers name said next s =
     ap (λ (e : Result (List ℕ) Stop). end_of (followed e (checks name) >>= next) files answers)
     (found-whole isa_limit files name s.bytes s.there s.within)
     ∙ ap (λ (a : Tree). end_of (Ends (tree_end name a) >>= next) files answers) s.has_tree
-    ∙ ap (λ (e : Result Checked IsaRefusal). end_of (Ends (checked_end name e) >>= next) files
+    ∙ ap (λ (e : Result AcceptedSpec IsaRefusal). end_of (Ends (checked_end name e) >>= next) files
     answers) s.accepted
 
 pub performed-says : {A : Type 0} (files : Files) (answers : List Answer) (name : List ℕ)
-    (said : Checked) (next : Checked → Plan A) → Says files name said → performed
+    (said : AcceptedSpec) (next : AcceptedSpec → Plan A) → Says files name said → performed
     (specification name >>= next) files answers ≡ Read name (files name) ∷ performed (next said)
     files answers
 performed-says files answers name said next s =
@@ -92,13 +73,14 @@ performed-says files answers name said next s =
     (found-whole isa_limit files name s.bytes s.there s.within)
     ∙ ap (λ (a : Tree). Read name (files name)
     ∷ performed (Ends (tree_end name a) >>= next) files answers) s.has_tree
-    ∙ ap (λ (e : Result Checked IsaRefusal). Read name (files name)
+    ∙ ap (λ (e : Result AcceptedSpec IsaRefusal). Read name (files name)
     ∷ performed (Ends (checked_end name e) >>= next) files answers) s.accepted
 
 judged : {G : Type 0} (files : Files) (name bytes : List ℕ) (tree : Data)
-    (end : Result Checked IsaRefusal) → files name ≡ Some bytes → length bytes ≤ isa_limit → answer
+    (end : Result AcceptedSpec IsaRefusal) → files name ≡ Some bytes → length bytes ≤ isa_limit
+    → answer
     bytes ≡ Ok tree → checked tree ≡ end → ((text : List ℕ) → IsRefused files name text → G)
-    → ((said : Checked) → Says files name said → G) → G
+    → ((said : AcceptedSpec) → Says files name said → G) → G
 judged files name bytes tree (Ok said) there within has is refused says = says said (record {
   bytes = bytes;
   there = there;
@@ -124,7 +106,7 @@ judged files name bytes tree (Err refusal) there within has is refused says =
 grown : {G : Type 0} (files : Files) (name bytes : List ℕ) (end : Tree) → files name ≡ Some bytes
     → length bytes ≤ isa_limit → answer bytes ≡ end
     → ((text : List ℕ) → IsRefused files name text → G)
-    → ((said : Checked) → Says files name said → G) → G
+    → ((said : AcceptedSpec) → Says files name said → G) → G
 grown files name bytes (Ok tree) there within is refused says =
     judged files name bytes tree (checked tree) there within is refl refused says
 grown files name bytes (Err (line, kind)) there within is refused says =
@@ -144,7 +126,7 @@ grown files name bytes (Err (line, kind)) there within is refused says =
 measured : {G : Type 0} (files : Files) (name bytes : List ℕ) (long : Bool)
     → files name ≡ Some bytes → nat_lt isa_limit (length bytes) ≡ long
     → ((text : List ℕ) → IsRefused files name text → G)
-    → ((said : Checked) → Says files name said → G) → G
+    → ((said : AcceptedSpec) → Says files name said → G) → G
 measured files name bytes true there is refused says =
     refused (too_long_text name isa_limit) (record {
       bytes = bytes;
@@ -156,7 +138,7 @@ measured files name bytes false there is refused says = grown files name bytes (
 
 opened : {G : Type 0} (files : Files) (name : List ℕ) (end : Option (List ℕ)) → files name ≡ end
     → (files name ≡ None → G) → ((text : List ℕ) → IsRefused files name text → G)
-    → ((said : Checked) → Says files name said → G) → G
+    → ((said : AcceptedSpec) → Says files name said → G) → G
 opened files name None is missing refused says = missing is
 opened files name (Some bytes) is missing refused says =
     measured files name bytes (nat_lt isa_limit (length bytes)) is refl refused says
@@ -164,5 +146,5 @@ opened files name (Some bytes) is missing refused says =
 -- an ISA file isn't there, is refused, or is accepted
 pub isa_by : {G : Type 0} (files : Files) (name : List ℕ) → (files name ≡ None → G)
     → ((text : List ℕ) → IsRefused files name text → G)
-    → ((said : Checked) → Says files name said → G) → G
+    → ((said : AcceptedSpec) → Says files name said → G) → G
 isa_by files name missing refused says = opened files name (files name) refl missing refused says

@@ -15,7 +15,7 @@ use Rattle.rvs_normal.proofs.ReadAgain.{read-again, own-admitted}
 use Rattle.rvs_plan.specs.Inputs.{part_end, too_long_text}
 use Rattle.rvs_plan.specs.declared.stop.Stop.TheVariants.{Refused}
 use Rattle.rvs_suite.specs.GroupTexts.{groups_name}
-use Rattle.rvs_isa.specs.declared.checked.Checked.{Checked}
+use Rattle.rvs_isa.specs.declared.accepted_spec.AcceptedSpec.{AcceptedSpec}
 use Rattle.rvs_suite.specs.Specification.{said_in, bytes_said, isa_limit}
 use Rattle.rvs_suite.specs.GroupFiles.{groups_limit, within_limit, joined, join_found, and_then}
 use Rattle.rvs_suite.specs.GroupFiles.{text_in, checked_groups, tree_groups, groups_found, Inputs}
@@ -73,7 +73,7 @@ pub normal-again : (files after : Files) (isa : List ℕ) (names : List (List �
 normal-again files after isa names name inputs e short same there =
     by-said (said_in files isa) refl e
   where
-    by-text : (said : Checked) (r : Result (List ℕ) Stop) → said_in files isa ≡ Ok said
+    by-text : (said : AcceptedSpec) (r : Result (List ℕ) Stop) → said_in files isa ≡ Ok said
         → and_then r (λ text. inputs_of said.spec (groups_found said.spec text)) ≡ Ok inputs
         → inputs_in after isa (name ∷ [])
         ≡ Ok (record { isa = inputs.isa; groups = map bare (selected inputs.groups) })
@@ -88,7 +88,7 @@ normal-again files after isa names name inputs e short same there =
         ∙ ap (inputs_of said.spec) a.1
         ∙ ap (λ i. Ok (record { isa = i; groups = map bare (selected inputs.groups) })) (sym a.0)
 
-    by-said : (r : Result Checked Stop) → said_in files isa ≡ r → and_then r (λ said. and_then
+    by-said : (r : Result AcceptedSpec Stop) → said_in files isa ≡ r → and_then r (λ said. and_then
         (text_in files None names) (λ text. inputs_of said.spec (groups_found said.spec text))) ≡ Ok
         inputs
         → inputs_in after isa (name ∷ [])

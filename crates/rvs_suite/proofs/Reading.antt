@@ -2,7 +2,7 @@
 use Rattle.std.proofs.Common.{◌≡◌, ◌≤◌, ◌<◌, inl, inr, ℕ, Bool, true, false, List, ◌∷◌, length}
 use Rattle.std.proofs.Common.{nat_lt, Option, Some, None, Result, Ok, Err, if◌then◌else◌, refl, sym}
 use Rattle.std.proofs.Common.{ap, ◌∙◌}
-use Rattle.std.proofs.lemmas.Bool.{lt-ltb, le-ltb, ltb-true, ltb-false}
+use Rattle.std.proofs.lemmas.Bool.{ltb-true, ltb-false}
 use Rattle.rvs_base.specs.Host.{Files}
 use Rattle.rvs_plan.specs.Effect.{Answer, Read}
 use Rattle.rvs_plan.specs.Plan.{Plan, Ends, ◌>>=◌, followed}
@@ -10,6 +10,7 @@ use Rattle.rvs_plan.specs.Performed.{performed, end_of}
 use Rattle.rvs_plan.specs.Inputs.{part_end, too_long_text}
 use Rattle.rvs_plan.specs.declared.stop.Stop.{Stop}
 use Rattle.rvs_plan.specs.declared.stop.Stop.TheVariants.{NoFile, Refused}
+use Rattle.rvs_plan.proofs.FoundInputs.{found-none, found-long, found-whole}
 use Rattle.rvs_sig.specs.Words.{words_of}
 use Rattle.rvs_sig.specs.declared.words.SigRefusal.{SigRefusal}
 use Rattle.rvs_suite.specs.Texts.{refusal_text}
@@ -20,38 +21,13 @@ use Rattle.rvs_suite.specs.Spells.{Spells, IsRefused}
 file_end : List ℕ → Option (List ℕ) → Result (List ℕ) Stop
 file_end name found = part_end signature_limit name name signature_limit found
 
-if-false : {A : Type 0} (b : Bool) (x y : A) → b ≡ false → (if b then x else y) ≡ y
-if-false b x y e = rw e refl
-
-if-true : {A : Type 0} (b : Bool) (x y : A) → b ≡ true → (if b then x else y) ≡ x
-if-true b x y e = rw e refl
-
-found-none : (files : Files) (name : List ℕ) → files name ≡ None
-    → part_end signature_limit name name signature_limit (files name) ≡ Err (NoFile name)
-found-none files name none = ap (part_end signature_limit name name signature_limit) none
-
-found-long : (files : Files) (name bytes : List ℕ) → files name ≡ Some bytes
-    → signature_limit < length bytes
-    → part_end signature_limit name name signature_limit (files name)
-    ≡ Err (Refused (too_long_text name signature_limit))
-found-long files name bytes there long = ap (part_end signature_limit name name signature_limit)
-    there ∙ if-true (nat_lt signature_limit (length bytes)) _ _
-    (lt-ltb signature_limit (length bytes) long)
-
-found-whole : (files : Files) (name bytes : List ℕ) → files name ≡ Some bytes
-    → length bytes ≤ signature_limit
-    → part_end signature_limit name name signature_limit (files name) ≡ Ok bytes
-found-whole files name bytes there within = ap (part_end signature_limit name name signature_limit)
-    there ∙ if-false (nat_lt signature_limit (length bytes)) _ _
-    (le-ltb signature_limit (length bytes) within)
-
 -- where the file isn't there
 pub end-missing : {A : Type 0} (files : Files) (answers : List Answer) (name : List ℕ)
     (next : List ℕ → Plan A) → files name ≡ None → end_of (signature name >>= next) files answers
     ≡ Some (Err (NoFile name))
 end-missing files answers name next none = ap
     (λ (r : Result (List ℕ) Stop). end_of (followed r (words name) >>= next) files answers)
-    (found-none files name none)
+    (found-none signature_limit files name none)
 
 -- where it is refused
 pub end-refused : {A : Type 0} (files : Files) (answers : List Answer) (name text : List ℕ)
@@ -60,11 +36,11 @@ pub end-refused : {A : Type 0} (files : Files) (answers : List Answer) (name tex
 end-refused files answers name text next r = elim r.reason [
   | inl long ↦ ap
       (λ (e : Result (List ℕ) Stop). end_of (followed e (words name) >>= next) files answers)
-      (found-long files name r.bytes r.there long.longer) ∙ ap
+      (found-long signature_limit files name r.bytes r.there long.longer) ∙ ap
       (λ (t : List ℕ). Some (Err (Refused t))) (sym long.text_is)
   | inr none ↦ ap
       (λ (e : Result (List ℕ) Stop). end_of (followed e (words name) >>= next) files answers)
-      (found-whole files name r.bytes r.there none.within) ∙ ap
+      (found-whole signature_limit files name r.bytes r.there none.within) ∙ ap
       (λ (e : Result (List ℕ) SigRefusal). end_of (Ends (words_end name e) >>= next) files answers)
       none.spelt ∙ ap (λ (t : List ℕ). Some (Err (Refused t))) (sym none.text_is)
 ]
@@ -75,7 +51,7 @@ pub end-spells : {A : Type 0} (files : Files) (answers : List Answer) (name spel
     answers ≡ end_of (next spelt) files answers
 end-spells files answers name spelt next s =
     ap (λ (e : Result (List ℕ) Stop). end_of (followed e (words name) >>= next) files answers)
-    (found-whole files name s.bytes s.there s.within)
+    (found-whole signature_limit files name s.bytes s.there s.within)
     ∙ ap (λ (e : Result (List ℕ) SigRefusal). end_of (Ends (words_end name e) >>= next) files
     answers) s.spelt
 
@@ -85,7 +61,7 @@ pub performed-spells : {A : Type 0} (files : Files) (answers : List Answer) (nam
 performed-spells files answers name spelt next s =
     ap (λ (e : Result (List ℕ) Stop). Read name (files name)
     ∷ performed (followed e (words name) >>= next) files answers)
-    (found-whole files name s.bytes s.there s.within)
+    (found-whole signature_limit files name s.bytes s.there s.within)
     ∙ ap (λ (e : Result (List ℕ) SigRefusal). Read name (files name)
     ∷ performed (Ends (words_end name e) >>= next) files answers) s.spelt
 

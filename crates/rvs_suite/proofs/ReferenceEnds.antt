@@ -18,7 +18,7 @@ use Rattle.rvs_plan.specs.declared.status.Status.{Status}
 use Rattle.rvs_plan.specs.declared.status.Status.TheVariants as answer
 use Rattle.rvs_plan.specs.declared.status.Finish.{Finish}
 use Rattle.rvs_plan.specs.declared.status.Finish.TheVariants as finish
-use Rattle.rvs_isa.specs.declared.checked.Checked.{Checked}
+use Rattle.rvs_isa.specs.declared.accepted_spec.AcceptedSpec.{AcceptedSpec}
 use Rattle.rvs_sig.specs.Words.{text_of_words}
 use Rattle.rvs_suite.specs.TestTexts.{ran_line}
 use Rattle.rvs_log.specs.Logs.{log_of}
@@ -42,7 +42,7 @@ pub record Asked : Type 0 where
 abbrev pub plan : Asked → Plan Finish
 plan a = reference a.isa a.test a.signature a.log a.steps
 
-abbrev on_core : Asked → Checked → Plan Finish
+abbrev on_core : Asked → AcceptedSpec → Plan Finish
 on_core a said = reference_on a.test a.signature a.log a.steps said.spec
 
 abbrev recording : Asked → Run → Plan Finish

@@ -2,14 +2,15 @@
 use Rattle.std.proofs.Common.{◌≡◌, ◌≤◌, ◌<◌, inl, inr, ℕ, Bool, true, false, List, [], ◌∷◌, length}
 use Rattle.std.proofs.Common.{nat_lt, Option, Some, None, Result, Ok, Err, if◌then◌else◌, refl, sym}
 use Rattle.std.proofs.Common.{ap, subst, ◌∙◌}
-use Rattle.std.proofs.lemmas.Bool.{lt-ltb, le-ltb, ltb-true, ltb-false}
+use Rattle.std.proofs.lemmas.Bool.{ltb-true, ltb-false}
 use Rattle.rvs_base.specs.Host.{Files}
 use Rattle.rvs_plan.specs.Effect.{Answer, Read}
 use Rattle.rvs_plan.specs.Plan.{Plan, ◌>>=◌, followed}
 use Rattle.rvs_plan.specs.Performed.{performed, end_of}
-use Rattle.rvs_plan.specs.Inputs.{part_end, too_long_text}
+use Rattle.rvs_plan.specs.Inputs.{too_long_text}
 use Rattle.rvs_plan.specs.declared.stop.Stop.{Stop}
 use Rattle.rvs_plan.specs.declared.stop.Stop.TheVariants.{NoFile, Refused}
+use Rattle.rvs_plan.proofs.FoundInputs.{found-none, found-long, found-whole}
 use Rattle.rvs_insn.specs.Isa.{Isa}
 use Rattle.rvs_machine.specs.Image.{ImageValue}
 use Rattle.rvs_machine.specs.Machine.{State, started}
@@ -85,27 +86,6 @@ found-TestHalts files isa test steps run h =
     ap (λ (i : Result ImageValue (List ℕ)). then_found i
     (run_found test (limit_of steps test h.bytes) isa)) h.spelt
     ∙ found-Halts test (limit_of steps test h.bytes) isa h.image run h.halts
-
-if-false : {A : Type 0} (b : Bool) (x y : A) → b ≡ false → (if b then x else y) ≡ y
-if-false b x y e = rw e refl
-
-if-true : {A : Type 0} (b : Bool) (x y : A) → b ≡ true → (if b then x else y) ≡ x
-if-true b x y e = rw e refl
-
-found-none : (limit : ℕ) (files : Files) (name : List ℕ) → files name ≡ None
-    → part_end limit name name limit (files name) ≡ Err (NoFile name)
-found-none limit files name none = ap (part_end limit name name limit) none
-
-pub found-long : (limit : ℕ) (files : Files) (name bytes : List ℕ) → files name ≡ Some bytes
-    → limit < length bytes
-    → part_end limit name name limit (files name) ≡ Err (Refused (too_long_text name limit))
-found-long limit files name bytes there long = ap (part_end limit name name limit) there
-    ∙ if-true (nat_lt limit (length bytes)) _ _ (lt-ltb limit (length bytes) long)
-
-pub found-whole : (limit : ℕ) (files : Files) (name bytes : List ℕ) → files name ≡ Some bytes
-    → length bytes ≤ limit → part_end limit name name limit (files name) ≡ Ok bytes
-found-whole limit files name bytes there within = ap (part_end limit name name limit) there
-    ∙ if-false (nat_lt limit (length bytes)) _ _ (le-ltb limit (length bytes) within)
 
 -- what follows the bytes
 abbrev rest_of : Option ℕ → Isa → List ℕ → List ℕ → Plan Run

@@ -19,7 +19,7 @@ use Rattle.rvs_plan.specs.declared.status.Status.TheVariants as answer
 use Rattle.rvs_plan.specs.declared.status.Finish.{Finish}
 use Rattle.rvs_plan.specs.declared.status.Finish.TheVariants as finish
 use Rattle.rvs_isa.specs.Print.{checked_text}
-use Rattle.rvs_isa.specs.declared.checked.Checked.{Checked}
+use Rattle.rvs_isa.specs.declared.accepted_spec.AcceptedSpec.{AcceptedSpec}
 use Rattle.rvs_suite.specs.Validate.{print_said, validate}
 use Rattle.rvs_suite.specs.Says.{Says, IsRefused, Validates, Rejects, Lacks}
 use Rattle.rvs_suite.proofs.Ends.{same_end, means-end, was_refused, WasMissing, was_missing}
@@ -33,12 +33,12 @@ end-rejected : (files : Files) (answers : List Answer) (isa text : List ℕ)
     → IsRefused files isa text → end_of (validate isa) files answers ≡ Some (Err (why.Refused text))
 end-rejected files answers isa text r = end-refused files answers isa text print_said r
 
-end-accepted : (files : Files) (answers : List Answer) (isa : List ℕ) (said : Checked)
+end-accepted : (files : Files) (answers : List Answer) (isa : List ℕ) (said : AcceptedSpec)
     → Says files isa said → end_of (validate isa) files answers ≡ Some (Ok finish.Done)
 end-accepted files answers isa said s = end-says files answers isa said print_said s
 
 -- the text that is put
-printed : (files : Files) (isa : List ℕ) (said : Checked) (end : Result Finish Stop)
+printed : (files : Files) (isa : List ℕ) (said : AcceptedSpec) (end : Result Finish Stop)
     (old new : World) → Tells old.host files → Says files isa said → Completes (validate isa) end
     (contents old) (contents new) → new.out.bytes ≡ appended old.out.bytes (checked_text said)
 printed files isa said end old new t s r =
@@ -140,7 +140,7 @@ lacks files isa old new err err' t r = elim (was_missing (validate isa) old new 
   | inr rose ↦ inr rose
 ]
 
-pub accepted-status : (files : Files) (isa : List ℕ) (said : Checked) (status : Status)
+pub accepted-status : (files : Files) (isa : List ℕ) (said : AcceptedSpec) (status : Status)
     → Says files isa said → Means (validate isa) files status → status ≡ answer.Done
 accepted-status files isa said status s m =
     means-end (validate isa) files status (Ok finish.Done) m (λ a. end-accepted files a isa said s)

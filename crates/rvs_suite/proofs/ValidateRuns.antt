@@ -6,7 +6,7 @@ use Rattle.rvs_plan.specs.World.{World}
 use Rattle.rvs_plan.specs.Account.{HostRose, NoneRose}
 use Rattle.rvs_plan.specs.declared.status.Status.{Status}
 use Rattle.rvs_plan.specs.declared.status.Status.TheVariants as answer
-use Rattle.rvs_isa.specs.declared.checked.Checked.{Checked}
+use Rattle.rvs_isa.specs.declared.accepted_spec.AcceptedSpec.{AcceptedSpec}
 use Rattle.rvs_suite.specs.Says.{Says, IsRefused, Validates, Rejects, Lacks}
 use Rattle.rvs_suite.proofs.Running.{Ran, at_status, asked_means}
 use Rattle.rvs_suite.proofs.ValidateEnds.{validates, no_verdict, rejects, lacks, accepted-status}
@@ -41,7 +41,7 @@ validate-missed {command} {old} {new} {err} {err'} r files isa t is done =
 
 pub validate-accepts : {command : Command} {old new : World} {err err' : SinkState}
     {status : Status} → Ran command old new err err' status → (files : Files) (isa : List ℕ)
-    (said : Checked) → Tells old.host files → command ≡ Validate isa → Says files isa said
+    (said : AcceptedSpec) → Tells old.host files → command ≡ Validate isa → Says files isa said
     → NoneRose old new err err' → (status ≡ answer.Done) ⊎ (status ≡ answer.NoMemory)
 validate-accepts {status = status} r files isa said t is says none =
     elim (asked_means r files (Validate isa) t is none) [

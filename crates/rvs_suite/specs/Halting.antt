@@ -1,13 +1,12 @@
 -- What the files of `reference` say, and what is left of their run.
-use Rattle.std.specs.Prelude.{◌≡◌, ◌≤◌, ◌<◌, ◌⊎◌, ℕ, List, [], length, Option, Some, None, Ok, Err}
+use Rattle.std.specs.Prelude.{◌≡◌, ◌≤◌, ◌⊎◌, ℕ, List, [], length, Option, Some, None, Ok, Err}
 use Rattle.std.specs.Prelude.{codes}
 use Rattle.rvs_base.specs.Host.{Files, with_file}
 use Rattle.rvs_base.specs.Sink.{SinkState, appended}
 use Rattle.rvs_plan.specs.World.{World}
-use Rattle.rvs_plan.specs.Inputs.{too_long_text}
 use Rattle.rvs_plan.specs.Account.{fault_line}
 use Rattle.rvs_insn.specs.Isa.{Isa}
-use Rattle.rvs_isa.specs.declared.checked.Checked.{Checked}
+use Rattle.rvs_isa.specs.declared.accepted_spec.AcceptedSpec.{AcceptedSpec}
 use Rattle.rvs_sig.specs.Words.{text_of_words}
 use Rattle.rvs_machine.specs.Image.{ImageValue}
 use Rattle.rvs_machine.specs.Machine.{State, started, signature_of}
@@ -15,6 +14,7 @@ use Rattle.rvs_machine.specs.Run.{run_of}
 use Rattle.rvs_machine.specs.declared.event.Executed.{Executed}
 use Rattle.rvs_machine.specs.declared.event.End.TheVariants.{Halted}
 use Rattle.rvs_log.specs.Logs.{log_of}
+use Rattle.rvs_suite.specs.Limits.{PassesLimit}
 use Rattle.rvs_suite.specs.Says.{Says, IsRefused}
 use Rattle.rvs_suite.specs.TestTexts.{ran_line}
 use Rattle.rvs_suite.specs.TestRun.{image_found, limit_of, test_found}
@@ -42,7 +42,7 @@ pub record TestHalts (files : Files) (isa : Isa) (test : List ℕ) (steps : Opti
 -- the ISA file is accepted, and the test halts on the core of which it speaks
 pub record BothHalt (files : Files) (isa test : List ℕ) (steps : Option ℕ) (run : Run) : Type
     0 where
-  pub said : Checked
+  pub said : AcceptedSpec
   pub says : Says files isa said
   pub test_halts : TestHalts files said.spec test steps run
 
@@ -62,11 +62,6 @@ pub record HasRecorded (files : Files) (isa test signature : List ℕ) (log : Op
   pub printed : new.out.bytes
       ≡ appended old.out.bytes (ran_line (length run.trace) (length run.words))
 
--- the test is longer than its limit
-pub record IsTooLong (test bytes text : List ℕ) : Type 0 where
-  pub longer : test_limit < length bytes
-  pub text_is : text ≡ too_long_text test test_limit
-
 -- the test is within its limit, and has no image, traps, or doesn't halt
 pub record FailsToHalt (isa : Isa) (test bytes : List ℕ) (steps : Option ℕ) (text : List ℕ) : Type
     0 where
@@ -78,17 +73,17 @@ pub record IsTestRefused (files : Files) (isa : Isa) (test : List ℕ) (steps : 
     (text : List ℕ) : Type 0 where
   pub bytes : List ℕ
   pub there : files test ≡ Some bytes
-  pub reason : IsTooLong test bytes text ⊎ FailsToHalt isa test bytes steps text
+  pub reason : PassesLimit test_limit test bytes text ⊎ FailsToHalt isa test bytes steps text
 
 -- the ISA file is refused, or it is accepted and the test is refused
 abbrev pub FirstRefused : Files → List ℕ → List ℕ → Option ℕ → List ℕ → Type 0
 FirstRefused files isa test steps text = IsRefused files isa text ⊎
-    ((said : Checked) × Says files isa said × IsTestRefused files said.spec test steps text)
+    ((said : AcceptedSpec) × Says files isa said × IsTestRefused files said.spec test steps text)
 
 -- the ISA file isn't there, or it is accepted and the test isn't there; this is its name
 abbrev pub FirstMissing : Files → List ℕ → List ℕ → List ℕ → Type 0
 FirstMissing files isa test name = ((name ≡ isa) × (files isa ≡ None)) ⊎
-    ((said : Checked) × Says files isa said × (name ≡ test) × (files test ≡ None))
+    ((said : AcceptedSpec) × Says files isa said × (name ≡ test) × (files test ≡ None))
 
 -- a file is refused: files and output are as before, and the sink for errors has the line that says
 -- why

@@ -5,6 +5,7 @@ pub mod Compare
 pub mod Specification
 pub mod Validate
 pub mod Plans
+pub mod Limits
 pub mod Spells
 pub mod TestTexts
 pub mod TestRun

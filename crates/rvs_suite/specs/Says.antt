@@ -1,31 +1,26 @@
 -- What an ISA file says, and when it is refused.
-use Rattle.std.specs.Prelude.{◌≡◌, ◌≤◌, ◌<◌, ◌⊎◌, ℕ, List, [], length, Some, None, Ok, Err, codes}
+use Rattle.std.specs.Prelude.{◌≡◌, ◌≤◌, ◌⊎◌, ℕ, List, [], length, Some, None, Ok, Err, codes}
 use Rattle.rvs_base.specs.Host.{Files}
 use Rattle.rvs_base.specs.Sink.{SinkState, appended}
-use Rattle.rvs_plan.specs.Inputs.{too_long_text}
 use Rattle.rvs_plan.specs.Account.{fault_line}
 use Rattle.rvs_tree.specs.Data.{Data}
 use Rattle.rvs_yaml.specs.Answer.{answer}
 use Rattle.rvs_yaml_text.specs.declared.kind.YamlKind.{YamlKind}
 use Rattle.rvs_isa.specs.Check.{checked}
 use Rattle.rvs_isa.specs.Print.{checked_text}
-use Rattle.rvs_isa.specs.declared.checked.Checked.{Checked}
+use Rattle.rvs_isa.specs.declared.accepted_spec.AcceptedSpec.{AcceptedSpec}
 use Rattle.rvs_isa.specs.declared.refusal.IsaRefusal.{IsaRefusal}
+use Rattle.rvs_suite.specs.Limits.{PassesLimit}
 use Rattle.rvs_suite.specs.Specification.{isa_limit, yaml_text, isa_text}
 
 -- the named file is there, within its limit, and has a tree that the checks accept as saying this
-pub record Says (files : Files) (name : List ℕ) (said : Checked) : Type 0 where
+pub record Says (files : Files) (name : List ℕ) (said : AcceptedSpec) : Type 0 where
   pub bytes : List ℕ
   pub there : files name ≡ Some bytes
   pub within : length bytes ≤ isa_limit
   pub tree : Data
   pub has_tree : answer bytes ≡ Ok tree
   pub accepted : checked tree ≡ Ok said
-
--- the file is longer than its limit
-pub record IsTooLong (name bytes text : List ℕ) : Type 0 where
-  pub longer : isa_limit < length bytes
-  pub text_is : text ≡ too_long_text name isa_limit
 
 -- the file is within its limit and has no tree, for the first fault in it
 pub record HasNoTree (name bytes text : List ℕ) : Type 0 where
@@ -48,11 +43,12 @@ pub record FailsCheck (name bytes text : List ℕ) : Type 0 where
 pub record IsRefused (files : Files) (name text : List ℕ) : Type 0 where
   pub bytes : List ℕ
   pub there : files name ≡ Some bytes
-  pub reason : IsTooLong name bytes text ⊎ HasNoTree name bytes text ⊎ FailsCheck name bytes text
+  pub reason : PassesLimit isa_limit name bytes text ⊎ HasNoTree name bytes text
+      ⊎ FailsCheck name bytes text
 
 -- the file is accepted, and the output has the text of what it says
 pub record Validates (files : Files) (isa : List ℕ) (out out' : SinkState) : Type 0 where
-  pub said : Checked
+  pub said : AcceptedSpec
   pub says : Says files isa said
   pub printed : out'.bytes ≡ appended out.bytes (checked_text said)
 

@@ -10,7 +10,7 @@ use Rattle.rvs_yaml_text.specs.Kinds.{number_of}
 use Rattle.rvs_yaml_text.specs.declared.kind.YamlKind.{YamlKind}
 use Rattle.rvs_isa.specs.Check.{checked}
 use Rattle.rvs_isa.specs.Print.{refusal_text}
-use Rattle.rvs_isa.specs.declared.checked.Checked.{Checked}
+use Rattle.rvs_isa.specs.declared.accepted_spec.AcceptedSpec.{AcceptedSpec}
 use Rattle.rvs_isa.specs.declared.refusal.IsaRefusal.{IsaRefusal}
 
 -- an ISA file has at most this many bytes: 64 KiB
@@ -27,29 +27,29 @@ yaml_text name line kind =
 unfoldable pub isa_text : List ℕ → IsaRefusal → List ℕ
 isa_text name refusal = name ++ (codes ": " ++ refusal_text refusal)
 
-abbrev pub checked_end : List ℕ → Result Checked IsaRefusal → Result Checked Stop
+abbrev pub checked_end : List ℕ → Result AcceptedSpec IsaRefusal → Result AcceptedSpec Stop
 checked_end name (Ok said) = Ok said
 checked_end name (Err refusal) = Err (Refused (isa_text name refusal))
 
 -- what the tree of the named file says, or why the file is refused
-abbrev pub tree_end : List ℕ → Answer → Result Checked Stop
+abbrev pub tree_end : List ℕ → Answer → Result AcceptedSpec Stop
 tree_end name (Ok tree) = checked_end name (checked tree)
 tree_end name (Err fault) = Err (Refused (yaml_text name fault.0 fault.1))
 
-abbrev pub checks : List ℕ → List ℕ → Plan Checked
+abbrev pub checks : List ℕ → List ℕ → Plan AcceptedSpec
 checks name bytes = Ends (tree_end name (answer bytes))
 
 -- an ISA file is read and checked
-abbrev pub specification : List ℕ → Plan Checked
+abbrev pub specification : List ℕ → Plan AcceptedSpec
 specification name = do
   bytes ← input isa_limit name
   checks name bytes
 
 -- what comes of the bytes of a file, or why the command stops there
-abbrev pub bytes_said : List ℕ → Result (List ℕ) Stop → Result Checked Stop
+abbrev pub bytes_said : List ℕ → Result (List ℕ) Stop → Result AcceptedSpec Stop
 bytes_said name (Ok bytes) = tree_end name (answer bytes)
 bytes_said name (Err stop) = Err stop
 
 -- over these files, what the named ISA file says, or why the command stops there
-abbrev pub said_in : Files → List ℕ → Result Checked Stop
+abbrev pub said_in : Files → List ℕ → Result AcceptedSpec Stop
 said_in files name = bytes_said name (part_end isa_limit name name isa_limit (files name))

@@ -1,13 +1,13 @@
 -- What the files of `compare` spell, and when they are refused.
-use Rattle.std.specs.Prelude.{◌≡◌, ◌≢◌, ◌≤◌, ◌<◌, ◌⊎◌, ℕ, List, [], length, Some, None, Ok, Err}
+use Rattle.std.specs.Prelude.{◌≡◌, ◌≢◌, ◌≤◌, ◌⊎◌, ℕ, List, [], length, Some, None, Ok, Err}
 use Rattle.std.specs.Prelude.{codes}
 use Rattle.rvs_base.specs.Host.{Files}
 use Rattle.rvs_base.specs.Sink.{SinkState, appended}
-use Rattle.rvs_plan.specs.Inputs.{too_long_text}
 use Rattle.rvs_plan.specs.Account.{fault_line}
 use Rattle.rvs_sig.specs.Words.{words_of}
 use Rattle.rvs_sig.specs.Verdicts.{verdict_of}
 use Rattle.rvs_sig.specs.declared.words.SigRefusal.{SigRefusal}
+use Rattle.rvs_suite.specs.Limits.{PassesLimit}
 use Rattle.rvs_suite.specs.Texts.{same_line, verdict_line, refusal_text}
 use Rattle.rvs_suite.specs.Compare.{signature_limit}
 
@@ -17,11 +17,6 @@ pub record Spells (files : Files) (name words : List ℕ) : Type 0 where
   pub there : files name ≡ Some bytes
   pub within : length bytes ≤ signature_limit
   pub spelt : words_of bytes ≡ Ok words
-
--- the file is longer than its limit
-pub record IsTooLong (name bytes text : List ℕ) : Type 0 where
-  pub longer : signature_limit < length bytes
-  pub text_is : text ≡ too_long_text name signature_limit
 
 -- the file is within its limit and spells no words
 pub record SpellsNone (name bytes text : List ℕ) : Type 0 where
@@ -34,7 +29,7 @@ pub record SpellsNone (name bytes text : List ℕ) : Type 0 where
 pub record IsRefused (files : Files) (name text : List ℕ) : Type 0 where
   pub bytes : List ℕ
   pub there : files name ≡ Some bytes
-  pub reason : IsTooLong name bytes text ⊎ SpellsNone name bytes text
+  pub reason : PassesLimit signature_limit name bytes text ⊎ SpellsNone name bytes text
 
 -- both files spell words
 pub record BothSpell (files : Files) (left right left_words right_words : List ℕ) : Type 0 where

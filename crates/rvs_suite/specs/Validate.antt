@@ -4,11 +4,11 @@ use Rattle.rvs_plan.specs.Plan.{Plan, gives, prints, ◌>>=◌}
 use Rattle.rvs_plan.specs.declared.status.Finish.{Finish}
 use Rattle.rvs_plan.specs.declared.status.Finish.TheVariants.{Done}
 use Rattle.rvs_isa.specs.Print.{checked_text}
-use Rattle.rvs_isa.specs.declared.checked.Checked.{Checked}
+use Rattle.rvs_isa.specs.declared.accepted_spec.AcceptedSpec.{AcceptedSpec}
 use Rattle.rvs_suite.specs.Specification.{specification}
 
 -- what a specification says is put
-abbrev pub print_said : Checked → Plan Finish
+abbrev pub print_said : AcceptedSpec → Plan Finish
 print_said said = do
   _ ← prints (checked_text said)
   gives Done

@@ -11,7 +11,7 @@ ghost use Rattle.rvs_suite.specs.Specification.{yaml_text, isa_text, checked_end
 ghost use Rattle.rvs_suite.specs.Specification.{specification};
 
 use rvs_base::{Host, NoMemory, Text};
-use rvs_isa::{Checked, IsaKind, IsaRefusal, check, refusal_text};
+use rvs_isa::{AcceptedSpec, IsaKind, IsaRefusal, check, refusal_text};
 use rvs_plan::{Stop, read_input};
 use rvs_yaml::{Tree, YamlKind, YamlRefusal, parse};
 use std::alloc::Global;
@@ -25,7 +25,7 @@ pub const ISA_LIMIT: u64 = 65_536;
 ///
 /// [`Stop`]: the file isn't there, can't be read, is longer than [`ISA_LIMIT`], has no tree, or
 /// fails a check.
-pub fn read_isa<H: Host>(alloc: Global, host: &mut H, name: &str) -> Result<Checked, Stop>
+pub fn read_isa<H: Host>(alloc: Global, host: &mut H, name: &str) -> Result<AcceptedSpec, Stop>
     ensures { (out : SinkState) → Meets (specification name.now) (world (H.state host.old) out)
         (world (H.state host.new) out) result }
 {
@@ -33,7 +33,7 @@ pub fn read_isa<H: Host>(alloc: Global, host: &mut H, name: &str) -> Result<Chec
     check_bytes(alloc, name, bytes.as_slice())
 }
 
-fn check_bytes(alloc: Global, name: &str, bytes: &[u8]) -> Result<Checked, Stop>
+fn check_bytes(alloc: Global, name: &str, bytes: &[u8]) -> Result<AcceptedSpec, Stop>
     ensures { (w : World) → Meets (checks name.now bytes.now) w w result }
 {
     match parse(alloc, bytes) {
@@ -42,7 +42,7 @@ fn check_bytes(alloc: Global, name: &str, bytes: &[u8]) -> Result<Checked, Stop>
     }
 }
 
-fn check_tree(alloc: Global, name: &str, tree: &Tree) -> Result<Checked, Stop>
+fn check_tree(alloc: Global, name: &str, tree: &Tree) -> Result<AcceptedSpec, Stop>
     ensures { (w : World)
         → Meets (Ends (checked_end name.now (checked (view tree.now)))) w w result }
 {

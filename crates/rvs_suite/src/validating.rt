@@ -6,7 +6,7 @@ ghost use Rattle.rvs_suite.specs.Validate.{print_said, validate};
 
 use crate::isa_file::read_isa;
 use rvs_base::{Host, Sink};
-use rvs_isa::{Checked, print_checked};
+use rvs_isa::{AcceptedSpec, print_checked};
 use rvs_plan::{Finish, Stop, print};
 use std::alloc::Global;
 
@@ -28,7 +28,7 @@ pub fn validate_file<H: Host, O: Sink>(
     print_said(alloc, &said, out)
 }
 
-fn print_said<O: Sink>(alloc: Global, said: &Checked, out: &mut O) -> Result<Finish, Stop>
+fn print_said<O: Sink>(alloc: Global, said: &AcceptedSpec, out: &mut O) -> Result<Finish, Stop>
     ensures { (host : HostState) → Meets (print_said said.now) (world host (O.state out.old))
         (world host (O.state out.new)) result }
 {

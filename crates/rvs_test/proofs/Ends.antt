@@ -11,7 +11,7 @@ use Rattle.rvs_cgf.specs.declared.group.Label.{Label as CodeLabel}
 use Rattle.rvs_cgf.specs.GroupView.{point_view, label_view}
 use Rattle.rvs_cgf.specs.Groups.{Point, Label}
 use Rattle.rvs_solver.specs.Solving.{bound_of_point, bound_at, bound_or_none}
-use Rattle.rvs_solver.proofs.Turns.{sum_turn}
+use Rattle.rvs_cross.proofs.Searching.{sum_turn}
 use Rattle.rvs_test.specs.Made.{claims_of, unsolved_of, cases_of}
 use Rattle.rvs_test.specs.Found.{FoundValue, found_before}
 

@@ -4,7 +4,7 @@ use Rattle.rvs_insn.specs.Table.{row}
 use Rattle.rvs_cgf.specs.GroupView.{meaning_view}
 use Rattle.rvs_solver.specs.Point.{hits}
 use Rattle.rvs_solver.specs.Least.{at_rs1}
-use Rattle.rvs_solver.proofs.Turns.{turn_found, turn_none}
+use Rattle.rvs_cross.proofs.Searching.{turn_found, turn_none}
 use Rattle.rvs_solver.proofs.Others.{other_rd}
 use Rattle.rvs_solver.proofs.registers.first_at_rd.Goals as goal
 

@@ -5,7 +5,7 @@ use Rattle.rvs_cgf.specs.GroupView.{meaning_view}
 use Rattle.rvs_cgf.specs.Hits.{steps_of}
 use Rattle.rvs_solver.specs.Point.{hits}
 use Rattle.rvs_solver.specs.Least.{at_rd}
-use Rattle.rvs_solver.proofs.Turns.{turn_found, turn_none, within_rows}
+use Rattle.rvs_cross.proofs.Searching.{turn_found, turn_none, within_rows}
 use Rattle.rvs_solver.proofs.registers.first_over_rds.Goals as goal
 
 pub returns-in-Some-clause-first : goal.returns-in-Some-clause-first

@@ -4,7 +4,8 @@ use Rattle.rvs_cgf.specs.GroupView.{meaning_view}
 use Rattle.rvs_solver.specs.Choices.{choices}
 use Rattle.rvs_solver.specs.Point.{hits, constants_of}
 use Rattle.rvs_solver.specs.Bound.{bound_of}
-use Rattle.rvs_solver.proofs.Turns.{turn_found, turn_none, within_sum, sum_turn}
+use Rattle.rvs_cross.proofs.Searching.{turn_found, turn_none, sum_turn}
+use Rattle.rvs_solver.proofs.Turns.{within_sum}
 use Rattle.rvs_solver.proofs.solving.first_of_ops.Goals as goal
 
 pub returns-in-Some-clause-first : goal.returns-in-Some-clause-first

@@ -4,7 +4,7 @@ use Rattle.std.proofs.lemmas.List.Sums.{sum_by_more, sum_by-take-le}
 use Rattle.rvs_expr.specs.TypedView.{view}
 use Rattle.std.specs.Option.{option_map}
 use Rattle.rvs_solver.specs.Walk.{is_true_at, at_operand, inner_cost}
-use Rattle.rvs_solver.proofs.Turns.{turn_found, turn_none}
+use Rattle.rvs_cross.proofs.Searching.{turn_found, turn_none}
 use Rattle.rvs_solver.proofs.walk.first_in_product.Goals as goal
 
 pub returns-in-Some-clause-first : goal.returns-in-Some-clause-first

@@ -2,7 +2,7 @@ use Rattle.std.proofs.Common.{arith}
 use Rattle.std.specs.Prelude.{find, flat_map}
 use Rattle.rvs_expr.specs.TypedView.{view}
 use Rattle.rvs_solver.specs.Walk.{is_true_at, at_w1}
-use Rattle.rvs_solver.proofs.Turns.{turn_found, turn_none}
+use Rattle.rvs_cross.proofs.Searching.{turn_found, turn_none}
 use Rattle.rvs_solver.proofs.walk.first_over_w1s.Goals as goal
 
 pub returns-in-Some-clause-first : goal.returns-in-Some-clause-first

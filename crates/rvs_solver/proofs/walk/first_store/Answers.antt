@@ -3,7 +3,8 @@ use Rattle.std.specs.Prelude.{find, flat_map}
 use Rattle.rvs_expr.specs.TypedView.{view}
 use Rattle.std.specs.Option.{option_map}
 use Rattle.rvs_solver.specs.Walk.{is_true_at, at_operand, store_cost, storing_address}
-use Rattle.rvs_solver.proofs.Turns.{turn_found, turn_none, kept_turn, found_before, within_counted}
+use Rattle.rvs_cross.proofs.Searching.{turn_found, turn_none}
+use Rattle.rvs_solver.proofs.Turns.{kept_turn, found_before, within_counted}
 use Rattle.rvs_solver.proofs.Turns.{counted_turn}
 use Rattle.rvs_solver.proofs.walk.first_store.Goals as goal
 

@@ -1,7 +1,7 @@
 use Rattle.std.proofs.Common.{◌≡◌, ◌≤◌, ◌<◌, ℕ, ◌+◌, ◌^◌, Bool, true, false, nat_lt, List, [], ◌++◌}
 use Rattle.std.proofs.Common.{length, Option, Some, Result, Ok, Err, if◌then◌else◌, refl, sym, ap}
 use Rattle.std.proofs.Common.{subst, ◌∙◌, arith}
-use Rattle.std.proofs.lemmas.Bool.{lt-ltb, le-ltb}
+use Rattle.std.proofs.lemmas.Bool.{lt-ltb, le-ltb, cond-true, cond-false}
 use Rattle.std.proofs.lemmas.Result.{err_from_is_err_and}
 use Rattle.rvs_base.specs.Host.{Files, Tells}
 use Rattle.rvs_plan.specs.World.{world}
@@ -51,12 +51,6 @@ returns-in_err-too_long-in-Err-TooLong g c = λ out.
     rw (p.1, p.2) (reads-no_memory out _ c.in-Err-TooLong.ensures.reads_only
     (rw c.in-Err-TooLong.field-0-is at c.in-Err-TooLong.ensures.cause).1)
 
-if-false : {A : Type 0} (b : Bool) (x y : A) → b ≡ false → (if b then x else y) ≡ y
-if-false b x y e = rw e refl
-
-if-true : {A : Type 0} (b : Bool) (x y : A) → b ≡ true → (if b then x else y) ≡ x
-if-true b x y e = rw e refl
-
 -- a log that was fed to a new counter isn't too long
 short : (groups : List Label) (windows : List Span) (bytes after : List ℕ) (c : CountState)
     → c ≡ state_of groups windows after (0 + length bytes) → c.fed ≤ 2 ^ 40
@@ -69,7 +63,7 @@ found : (groups : List Label) (windows : List Span) (name bytes text : List ℕ)
     → length bytes ≤ log_limit → text ≡ report_on (groups_view groups) windows bytes
     → report_found (groups_view groups) windows name (Some bytes) ≡ Ok text
 found groups windows name bytes text short is =
-    if-false (nat_lt log_limit (length bytes)) _ _ (le-ltb log_limit (length bytes) short)
+    cond-false (nat_lt log_limit (length bytes)) _ _ (le-ltb log_limit (length bytes) short)
     ∙ ap Ok (sym is)
 
 pub returns-in_ok-report_at_end-in-Ok : goal.returns-in_ok-report_at_end-in-Ok
@@ -115,7 +109,7 @@ refused : (groups : List Label) (windows : List Span) (name bytes text : List �
     → log_limit < length bytes → text ≡ too_long_text name log_limit
     → report_found (groups_view groups) windows name (Some bytes) ≡ Err (Refused text)
 refused groups windows name bytes text long is =
-    if-true (nat_lt log_limit (length bytes)) _ _ (lt-ltb log_limit (length bytes) long)
+    cond-true (nat_lt log_limit (length bytes)) _ _ (lt-ltb log_limit (length bytes) long)
     ∙ ap (λ (t : List ℕ). Err (Refused t)) (sym is)
 
 longer : (c : CountState) (bytes : List ℕ) → c.fed ≡ 0 → 2 ^ 40 < c.fed + length bytes

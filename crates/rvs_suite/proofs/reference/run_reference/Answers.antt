@@ -1,6 +1,6 @@
 use Rattle.std.proofs.lemmas.Result.{err_from_is_err_and}
 use Rattle.rvs_plan.proofs.Sequence.{Meets-then, Meets-stop}
-use Rattle.rvs_isa.specs.declared.checked.Checked.{Checked}
+use Rattle.rvs_isa.specs.declared.accepted_spec.AcceptedSpec.{AcceptedSpec}
 use Rattle.rvs_suite.specs.Reference.{records, reference_on}
 use Rattle.rvs_suite.specs.declared.test_run.Run.{Run}
 use Rattle.rvs_suite.proofs.reference.run_reference.Goals as goal
@@ -9,7 +9,8 @@ pub returns-in_err-said : goal.returns-in_err-said
 returns-in_err-said g c =
     let p = err_from_is_err_and c.from_residual.result c.from_residual.ensures.1 in
     let out = g.O.Sink.state c.args.out.now in
-    rw (p.1, p.2) (Meets-stop (λ (said : Checked). reference_on c.args.test.now c.args.signature.now
+    rw (p.1, p.2)
+    (Meets-stop (λ (said : AcceptedSpec). reference_on c.args.test.now c.args.signature.now
     c.args.log.now c.args.steps said.spec) (c.in_err-said.ensures out))
 
 pub returns-in_err-run : goal.returns-in_err-run
@@ -17,7 +18,8 @@ returns-in_err-run g c =
     let p = err_from_is_err_and c.from_residual-in_err-run.result
     c.from_residual-in_err-run.ensures.1 in
     let out = g.O.Sink.state c.args.out.now in
-    rw (p.1, p.2) (Meets-then (λ (said : Checked). reference_on c.args.test.now c.args.signature.now
+    rw (p.1, p.2)
+    (Meets-then (λ (said : AcceptedSpec). reference_on c.args.test.now c.args.signature.now
     c.args.log.now c.args.steps said.spec) (c.in_ok-said.ensures out) (Meets-stop
     (λ (run : Run). records c.args.signature.now c.args.log.now run)
     (c.in_err-run.ensures out)))
@@ -25,7 +27,8 @@ returns-in_err-run g c =
 pub returns : goal.returns
 returns g c =
     let out = g.O.Sink.state c.args.out.now in
-    Meets-then (λ (said : Checked). reference_on c.args.test.now c.args.signature.now c.args.log.now
+    Meets-then
+    (λ (said : AcceptedSpec). reference_on c.args.test.now c.args.signature.now c.args.log.now
     c.args.steps said.spec) (c.in_ok-said.ensures out) (Meets-then
     (λ (run : Run). records c.args.signature.now c.args.log.now run) (c.in_ok-run.ensures out)
     c.record_run.ensures)

@@ -4,7 +4,7 @@ use rvs_insn::IsaSpec;
 
 /// An accepted ISA specification.
 #[derive(Debug, Drop)]
-pub struct Checked {
+pub struct AcceptedSpec {
     /// What the core has.
     pub spec: IsaSpec,
     /// The paths of the entries that no check reads, in the file's order.
