@@ -99,6 +99,19 @@ def dropped_in_list(size):
     return nested + ' ' * 30 + '<<:\n' + ' ' * 31 + '- {' + names + '}\n' + lines
 
 
+# Aliases of a wide map, each in a map of its own below a chain of open merges whose outermost drops it.
+def dropped_by_chain(size):
+    levels = int(math.sqrt(size) * 0.65)
+    count = min(1000, size // 100)
+    head = 'm: &m {' + ', '.join('%x: [x]' % i for i in range(count)) + '}\nr:\n'
+    nested = ''.join(' ' * (i + 1) + '-\n' for i in range(29))
+    taken = ' ' * 31 + '<<: {' + ', '.join('%x: 1' % i for i in range(count)) + '}\n'
+    chain = ''.join(' ' * (31 + i) + 'k: 1\n' + ' ' * (31 + i) + '<<:\n' for i in range(levels))
+    member = ' ' * (31 + levels) + '<<:\n' + ' ' * (32 + levels) + '<<: *m\n'
+    text = head + nested + taken + chain
+    return text + member * min((size - len(text)) // len(member), 480_000 // (2 * count + 1))
+
+
 # Merges nested in one line bring a deep value that the outer one drops, line by line.
 def hidden_in_lines(size):
     head = 'd: &d\n  k: ' + '[' * 29 + 'x' + ']' * 29 + '\n'
@@ -218,6 +231,7 @@ FAMILIES = {
     'dropped_items': lambda size: dropped_by(size, by_map, '- ' + DEEP_ENTRY),
     'dropped_far_out': lambda size: dropped_by(size, by_map, DEEP_ENTRY, 100),
     'dropped_in_list': dropped_in_list,
+    'dropped_by_chain': dropped_by_chain,
     'hidden_in_lines': hidden_in_lines,
     'aliases_in_a_chain': aliases_in_a_chain,
     'chain_closed': chain_closed,

@@ -1,5 +1,5 @@
 -- What is new in open blocks, from the innermost outwards.
-use Rattle.std.proofs.Common.{◌≡◌, ℕ, suc, ◌≤◌, max, min, Bool, true, false, cond, List, [], ◌∷◌}
+use Rattle.std.proofs.Common.{◌≡◌, ℕ, ◌≤◌, max, min, Bool, true, false, cond, List, [], ◌∷◌}
 use Rattle.std.proofs.Common.{◌++◌, ◌+◌, ◌-◌, ◌<◌, refl, sym, ap, ◌∙◌, arith, length, take, get_or}
 use Rattle.std.proofs.Common.{slice_get, Some, None}
 use Rattle.std.proofs.lemmas.Option.{slice_get-get_or}

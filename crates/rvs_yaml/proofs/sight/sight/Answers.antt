@@ -3,7 +3,7 @@ use Rattle.rvs_tree.specs.Shown.{Shown}
 use Rattle.rvs_yaml.specs.Reach as spec
 use Rattle.rvs_yaml.specs.Seen.{Tells}
 use Rattle.rvs_yaml.specs.StackView.{stack_view}
-use Rattle.rvs_yaml.proofs.Seeing.{tells-next, tells-first, tells-last, no-sight}
+use Rattle.rvs_yaml.proofs.Seeing.{tells-next}
 use Rattle.rvs_yaml.proofs.sight.sight.Goals as goal
 
 pub loop-i-preserved : goal.loop-i-preserved
