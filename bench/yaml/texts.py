@@ -60,6 +60,45 @@ def open_dropped_each(size):
     return nested + keys + ' ' * 30 + '<<:\n' + ''.join(' ' * 31 + '%x: [[[[[]]]]]\n' % i for i in range(count))
 
 
+# The same, where the map around merged the keys before, or one around that, or the lines are items.
+def dropped_by(size, first, member, around=0):
+    count = size // 84
+    nested = 'r:\n' + ''.join(' ' * (i + 1) + '-\n' for i in range(28))
+    names = ', '.join('%x: 1' % i for i in range(count))
+    head, taken = first(names)
+    open_merges = ''.join(' ' * (30 + i) + '<<:\n' for i in range(around + 1))
+    lines = ''.join(' ' * (31 + around) + member % i for i in range(count))
+    return head + nested + ' ' * 30 + '<<: ' + taken + '\n' + open_merges + lines
+
+
+def by_map(names):
+    return '', '{' + names + '}'
+
+
+def by_alias(names):
+    return 'm: &m {' + names + '}\n', '*m'
+
+
+def by_list(names):
+    return '', '[{' + names + '}, {z: 1}]'
+
+
+def by_draft(names):
+    return '', '{<<: {' + names + '}, z: 1}'
+
+
+DEEP_ENTRY = '%x: [[[[[]]]]]\n'
+
+
+# The key of each line was an earlier item's.
+def dropped_in_list(size):
+    count = size // 90
+    nested = 'r:\n' + ''.join(' ' * (i + 1) + '-\n' for i in range(28))
+    names = ', '.join('%x: 1' % i for i in range(count))
+    lines = ''.join(' ' * 31 + '- %x: [[[[[]]]]]\n' % i for i in range(count))
+    return nested + ' ' * 30 + '<<:\n' + ' ' * 31 + '- {' + names + '}\n' + lines
+
+
 # Merges nested in one line bring a deep value that the outer one drops, line by line.
 def hidden_in_lines(size):
     head = 'd: &d\n  k: ' + '[' * 29 + 'x' + ']' * 29 + '\n'
@@ -172,6 +211,13 @@ FAMILIES = {
     'merges_nested_lists': merges_nested_lists,
     'open_dropped': open_dropped,
     'open_dropped_each': open_dropped_each,
+    'dropped_by_map': lambda size: dropped_by(size, by_map, DEEP_ENTRY),
+    'dropped_by_alias': lambda size: dropped_by(size, by_alias, DEEP_ENTRY),
+    'dropped_by_list': lambda size: dropped_by(size, by_list, DEEP_ENTRY),
+    'dropped_by_draft': lambda size: dropped_by(size, by_draft, DEEP_ENTRY),
+    'dropped_items': lambda size: dropped_by(size, by_map, '- ' + DEEP_ENTRY),
+    'dropped_far_out': lambda size: dropped_by(size, by_map, DEEP_ENTRY, 100),
+    'dropped_in_list': dropped_in_list,
     'hidden_in_lines': hidden_in_lines,
     'aliases_in_a_chain': aliases_in_a_chain,
     'chain_closed': chain_closed,

@@ -4,6 +4,7 @@ pub mod Drafts
 pub mod Entering
 pub mod Growing
 pub mod Merging
+pub mod Showing
 pub mod Sifting
 pub mod OwnKeys
 pub mod Sums

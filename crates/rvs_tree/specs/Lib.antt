@@ -7,6 +7,9 @@ pub mod OwnKeys
 pub mod Bound
 pub mod Sifted
 pub mod Standin
+pub mod Shown
+pub mod ShownView
+pub mod MergedView
 pub mod TreeSize
 pub mod TreeView
 pub mod DraftView

@@ -191,7 +191,7 @@ fn held_map(alloc: Global, line: u64, own: &EntryList) -> Result<Held, AllocErro
     ensures { IfOk result
         (λ h. held_view h ≡ (spec.map_value line (entries_view own.now.entries.items)).tree) }
 {
-    if own.merges {
+    if own.merged.is_some() {
         Ok(Held::Merging(map_draft(alloc, line, own.entries.as_slice())?))
     } else {
         Ok(Held::Whole(resolved_tree(alloc, line, own)?))

@@ -18,6 +18,7 @@ pub mod Paying
 pub mod Placing
 pub mod Reaching
 pub mod Rows
+pub mod Seeing
 pub mod Segments
 pub mod Sketching
 pub mod Stepping

@@ -5,9 +5,14 @@ use Rattle.std.proofs.Common.{◌∷◌, ◌++◌, Ok, Err, refl, sym, ap, ◌�
 use Rattle.std.specs.Prelude.{◌||◌, ◌==◌, not, nat_lt}
 use Rattle.rvs_tree.specs.Data.{Data, depth}
 use Rattle.rvs_tree.specs.Value.{Value, Written, scalar_value, list_value, map_value, has_key}
-use Rattle.rvs_tree.specs.Value.{explicit_keys}
+use Rattle.rvs_tree.specs.Value.{explicit_keys, resolved, keys_of, pairs_in, merged_pairs, trees}
+use Rattle.rvs_tree.specs.Bound.{pairs_depth}
+use Rattle.rvs_tree.specs.Sifted.{sift}
+use Rattle.rvs_tree.specs.Shown.{Shown, shown_by, at_key, keys_so_far, left_by}
+use Rattle.rvs_tree.proofs.Sums.{merged_shallower}
+use Rattle.rvs_tree.proofs.Growing.{sift-less}
 use Rattle.rvs_tree.proofs.Depths.{some-depth}
-use Rattle.rvs_tree.proofs.Within.{Within, within-new, within-list, within-item, within-entry}
+use Rattle.rvs_tree.proofs.Within.{Within, Fits, within-new, within-list, within-item, within-entry}
 use Rattle.rvs_tree.proofs.Within.{within-merge, within-merge-more, within-own-more}
 use Rattle.rvs_yaml_text.specs.Word.{Key, Name, Shape, dash, key, leaf, refused, Word, Head}
 use Rattle.rvs_yaml_text.specs.Word.{head_of, is_below, opens_block}
@@ -23,7 +28,7 @@ use Rattle.rvs_yaml.specs.Stack.{begins, own_found, closed, closed_into, advance
 use Rattle.rvs_yaml.specs.Stack.{settled, step, steps, known_of}
 use Rattle.rvs_yaml.specs.StepParts.{closed_value}
 use Rattle.rvs_yaml.specs.Front.{own_value, ends, front_value, checked_front}
-use Rattle.rvs_yaml.specs.Reach.{level, levels, reach, KeepsDepth}
+use Rattle.rvs_yaml.specs.Reach.{level, levels, reach, passed, deepened, seen, sight, KeepsDepth}
 use Rattle.rvs_yaml.proofs.Fronts.{closed-value, noted-value, own-value, value_of}
 use Rattle.rvs_yaml.proofs.Sketching.{ge_fact}
 use Rattle.rvs_yaml_text.specs.declared.kind.YamlKind.{YamlKind}
@@ -55,56 +60,53 @@ check-true : (b : Bool) (kind : YamlKind) → check b kind ≡ Ok tt → b ≡ t
 check-true true kind h = refl
 check-true false kind h = cc
 
-within-same : (m n : ℕ) (d e : Data) → m ≡ n → Within m d e → Within n d e
-within-same m n d e h w = subst (λ k. Within k d e) h w
-
 -- IN AN OPEN BLOCK
-entry-by : (m : Bool) (n line : ℕ) (ws : List Written) (k : Key) (u v : Value) → k.merges ≡ m
-    → Within n u.tree v.tree →
-    Within (cond m 0 1 + n) (map_value line (ws ++ written k u ∷ [])).tree
+entry-by : (m : Bool) (f : Shown) (n line : ℕ) (ws : List Written) (k : Key) (u v : Value)
+    → k.merges ≡ m → Within f n u.tree v.tree →
+    Within (λ T. cond m (left_by ws f T) (at_key k.name n T))
+    (cond m (suc (f (keys_so_far ws))) (suc n)) (map_value line (ws ++ written k u ∷ [])).tree
     (map_value line (ws ++ written k v ∷ [])).tree
-entry-by true n line ws k u v e h = within-same n (0 + n) _ _ (omega arith)
-    (within-merge n line ws (written k u) (written k v) e e h)
-entry-by false n line ws k u v e h = within-same (suc n) (1 + n) _ _ (omega arith)
-    (within-entry n line ws (written k u) (written k v) e e refl h)
+entry-by true f n line ws k u v e h = within-merge f n line ws (written k u) (written k v) e e h
+entry-by false f n line ws k u v e h =
+    within-entry f n line ws (written k u) (written k v) e e refl h
 
 abbrev Next : List Open → Value → Value → Type 0
-Next bs a b = (m : ℕ) (x y : Value) → Within m x.tree y.tree → ends x bs ≡ Ok a → ends y bs ≡ Ok b
-    → Within (m + levels bs) a.tree b.tree
+Next bs a b = (f : Shown) (m : ℕ) (x y : Value) → Within f m x.tree y.tree → ends x bs ≡ Ok a
+    → ends y bs ≡ Ok b → depth b.tree ≤ max (depth a.tree) (seen f m bs)
 
-closed-within : (d : Done) (line n : ℕ) (u v : Value) (bs : List Open) (a b : Value)
-    → Within n u.tree v.tree → (closed_value d line u >>= λ w. ends w bs) ≡ Ok a
-    → (closed_value d line v >>= λ w. ends w bs) ≡ Ok b →
-    Next bs a b → Within (n + (level d + levels bs)) a.tree b.tree
-closed-within (done_items vs) line n u v bs a b h e f next =
-    within-same _ _ _ _ (omega arith) (next (suc n) (list_value line (vs ++ u ∷ []))
-    (list_value line (vs ++ v ∷ [])) (within-list n line vs u v h) e f)
-closed-within (done_entries ws k) line n u v bs a b h e f next =
+closed-within : (d : Done) (line : ℕ) (f : Shown) (n : ℕ) (u v : Value) (bs : List Open)
+    (a b : Value) → Within f n u.tree v.tree → (closed_value d line u >>= λ w. ends w bs) ≡ Ok a
+    → (closed_value d line v >>= λ w. ends w bs) ≡ Ok b → Next bs a b
+    → depth b.tree ≤ max (depth a.tree) (seen (passed d n f) (deepened d f n) bs)
+closed-within (done_items vs) line f n u v bs a b h e g next =
+    next (passed (done_items vs) n f) (suc n) (list_value line (vs ++ u ∷ []))
+    (list_value line (vs ++ v ∷ [])) (within-list f n line vs u v h) e g
+closed-within (done_entries ws k) line f n u v bs a b h e g next =
     let first = gone (check_merge k u) (Ok (map_value line (ws ++ written k u ∷ [])))
     (λ w. ends w bs) a e in
     let second = gone (check_merge k v) (Ok (map_value line (ws ++ written k v ∷ [])))
-    (λ w. ends w bs) b f in
-    within-same _ _ _ _ (omega arith) (next (cond k.merges 0 1 + n)
+    (λ w. ends w bs) b g in
+    next (passed (done_entries ws k) n f) (deepened (done_entries ws k) f n)
     (map_value line (ws ++ written k u ∷ [])) (map_value line (ws ++ written k v ∷ []))
-    (entry-by k.merges n line ws k u v refl h) first.1 second.1)
-closed-within alone line n u v bs a b h e f next =
-    within-same _ _ _ _ (omega arith) (next n u v h e f)
+    (entry-by k.merges f n line ws k u v refl h) first.1 second.1
+closed-within alone line f n u v bs a b h e g next = next f n u v h e g
 
 same-ok : (u a : Value) → (let r : Checked Value = Ok u in r) ≡ Ok a → u ≡ a
 same-ok u a e = cc
 
-ends-within : (bs : List Open) (n : ℕ) (u v a b : Value) → Within n u.tree v.tree → ends u bs ≡ Ok a
-    → ends v bs ≡ Ok b → Within (n + levels bs) a.tree b.tree
-ends-within [] n u v a b h e f =
-    within-same n (n + 0) _ _ (omega arith) (subst (λ x. Within n x.tree b.tree) (same-ok u a e)
-    (subst (λ x. Within n u.tree x.tree) (same-ok v b f) h))
-ends-within (o ∷ bs) n u v a b h e f =
-    closed-within o.done o.line n u v bs a b h e f (λ m x y g i j. ends-within bs m x y a b g i j)
+ends-within : (bs : List Open) (f : Shown) (n : ℕ) (u v a b : Value) → Within f n u.tree v.tree
+    → ends u bs ≡ Ok a → ends v bs ≡ Ok b → depth b.tree ≤ max (depth a.tree) (seen f n bs)
+ends-within [] f n u v a b h e g =
+    let deep : Value → ℕ = λ x. depth x.tree in
+    omega (arith, h.deep, ap deep (same-ok u a e), ap deep (same-ok v b g))
+ends-within (o ∷ bs) f n u v a b h e g =
+    closed-within o.done o.line f n u v bs a b h e g
+    (λ i m x y j k l. ends-within bs i m x y a b j k l)
 
 -- Whatever stands in the open member of the block on top: nothing else is deeper than it was.
 abbrev pub Grown : Value → List Open → Type 0
-Grown v cs = (x : Value) (n : ℕ) (u : Value) → depth x.tree ≤ n → ends x cs ≡ Ok u
-    → depth u.tree ≤ max (depth v.tree) (n + levels cs)
+Grown v cs = (x : Value) (f : Shown) (n : ℕ) (u : Value) → Fits f n x.tree → ends x cs ≡ Ok u
+    → depth u.tree ≤ max (depth v.tree) (seen f n cs)
 
 abbrev opened : ℕ → ℕ → Done → Anchors → Word → Value → Open
 opened line column d anchors w own = record {
@@ -124,28 +126,31 @@ pub record Stepped (v : Value) (w : Word) (cs : List Open) : Type 0 where
   pub head : top.head ≡ head_of w
   pub grown : Grown v (top ∷ rest)
 
-deep-by : (n l : ℕ) (a u : Value) → Within (n + l) a.tree u.tree
-    → depth u.tree ≤ max (depth a.tree) (suc (n + l))
-deep-by n l a u h = h.deep
-
 -- A BLOCK THAT GOES ON
-item-grown : (line n : ℕ) (vs : List Value) (g v x u : Value) (rest : List Open)
-    → ends (list_value line (vs ++ g ∷ [])) rest ≡ Ok v → depth x.tree ≤ n
+item-grown : (line : ℕ) (f : Shown) (n : ℕ) (vs : List Value) (g v x u : Value) (rest : List Open)
+    → ends (list_value line (vs ++ g ∷ [])) rest ≡ Ok v → Fits f n x.tree
     → ends (list_value line ((vs ++ g ∷ []) ++ x ∷ [])) rest ≡ Ok u →
-    depth u.tree ≤ max (depth v.tree) (n + (1 + levels rest))
-item-grown line n vs g v x u rest e small f =
-    omega (arith, deep-by n (levels rest) v u (ends-within rest n (list_value line (vs ++ g ∷ [])) (list_value line ((vs ++ g ∷ []) ++ x ∷ [])) v u (within-item n line (vs ++ g ∷ []) x small) e f))
+    depth u.tree ≤ max (depth v.tree) (seen (passed (done_items (vs ++ g ∷ [])) n f) (suc n) rest)
+item-grown line f n vs g v x u rest e small h =
+    ends-within rest (passed (done_items (vs ++ g ∷ [])) n f) (suc n)
+    (list_value line (vs ++ g ∷ [])) (list_value line ((vs ++ g ∷ []) ++ x ∷ [])) v u
+    (within-item f n line (vs ++ g ∷ []) x small) e h
 
-more-by : (m : Bool) (line n : ℕ) (ws : List Written) (l : Key) (v x u : Value) (rest : List Open)
-    → l.merges ≡ m → (m ≡ false → has_key l.name (explicit_keys ws) ≡ false) → depth x.tree ≤ n →
-    ends (map_value line ws) rest ≡ Ok v
+more-by : (m : Bool) (line : ℕ) (f : Shown) (n : ℕ) (ws : List Written) (l : Key) (v x u : Value)
+    (rest : List Open) → l.merges ≡ m → (m ≡ false → has_key l.name (explicit_keys ws) ≡ false)
+    → Fits f n x.tree → ends (map_value line ws) rest ≡ Ok v
     → ends (map_value line (ws ++ written l x ∷ [])) rest ≡ Ok u
-    → depth u.tree ≤ max (depth v.tree) (n + (cond m 0 1 + levels rest))
-more-by true line n ws l v x u rest e new small f g =
-    let less : depth x.tree ≤ suc (n - 1) = omega (arith, small, some-depth x.tree) in
-    omega (arith, small, some-depth x.tree, deep-by (n - 1) (levels rest) v u (ends-within rest (n - 1) (map_value line ws) (map_value line (ws ++ written l x ∷ [])) v u (within-merge-more (n - 1) line ws (written l x) e less) f g))
-more-by false line n ws l v x u rest e new small f g =
-    omega (arith, deep-by n (levels rest) v u (ends-within rest n (map_value line ws) (map_value line (ws ++ written l x ∷ [])) v u (within-own-more n line ws (written l x) e (new refl) small) f g))
+    → depth u.tree ≤ max (depth v.tree)
+    (seen (λ T. cond m (left_by ws f T) (at_key l.name n T))
+    (cond m (suc (f (keys_so_far ws))) (suc n)) rest)
+more-by true line f n ws l v x u rest e new small g h =
+    ends-within rest (left_by ws f) (suc (f (keys_so_far ws))) (map_value line ws)
+    (map_value line (ws ++ written l x ∷ [])) v u
+    (within-merge-more f n line ws (written l x) e small) g h
+more-by false line f n ws l v x u rest e new small g h =
+    ends-within rest (at_key l.name n) (suc n) (map_value line ws)
+    (map_value line (ws ++ written l x ∷ [])) v u
+    (within-own-more n line ws (written l x) e (new refl) small.deep) g h
 
 new-by : (m h : Bool) → (m || not h) ≡ true → m ≡ false → h ≡ false
 new-by true h e f = cc
@@ -181,16 +186,16 @@ done-grown : (d : Done) (line column : ℕ) (g v : Value) (w : Word) (e : Done) 
     (rest : List Open) → top.done ≡ e → top.line ≡ line →
     (closed_value d line g >>= λ y. ends y rest) ≡ Ok v → advanced_as d column g w ≡ Ok e
     → Grown v (top ∷ rest)
-done-grown (done_items vs) line column g v w e top rest is at f h x n u small k =
+done-grown (done_items vs) line column g v w e top rest is at f h x q n u small k =
     let parts = then-ok (item_at column w) _ e h in
     let same : done_items (vs ++ g ∷ []) ≡ e = same-done _ _ parts.1 in
     let here : top.done ≡ done_items (vs ++ g ∷ []) = is ∙ sym same in
     let there = subst (λ dn. (closed_value dn top.line x >>= λ y. ends y rest) ≡ Ok u) here k in
     let line-there =
     subst (λ m. ends (list_value m ((vs ++ g ∷ []) ++ x ∷ [])) rest ≡ Ok u) at there in
-    let bound = item-grown line n vs g v x u rest f small line-there in
-    omega (arith, bound, ap level here)
-done-grown (done_entries ws j) line column g v w e top rest is at f h x n u small k =
+    let bound = item-grown line q n vs g v x u rest f small line-there in
+    omega (arith, bound, ap (λ d. seen (passed d n q) (deepened d q n) rest) here)
+done-grown (done_entries ws j) line column g v w e top rest is at f h x q n u small k =
     let parts = then-ok (check_merge j g) _ e h in
     let us = ws ++ written j g ∷ [] in
     let next = bind-ok (key_at column (explicit_keys us) w.column w.shape) _ e parts.1 in
@@ -203,10 +208,10 @@ done-grown (done_entries ws j) line column g v w e top rest is at f h x n u smal
     let good = gone (check_merge l x) (Ok (map_value line (us ++ written l x ∷ [])))
     (λ y. ends y rest) u line-there in
     let before = gone (check_merge j g) (Ok (map_value line us)) (λ y. ends y rest) v f in
-    let bound = more-by l.merges line n us l v x u rest refl
+    let bound = more-by l.merges line q n us l v x u rest refl
     (next-key column (explicit_keys us) w.column w.shape l next.is) small before.1 good.1 in
-    omega (arith, bound, ap level here)
-done-grown alone line column g v w e top rest is at f h x n u small k = cc
+    omega (arith, bound, ap (λ d. seen (passed d n q) (deepened d q n) rest) here)
+done-grown alone line column g v w e top rest is at f h x q n u small k = cc
 
 advanced-stepped : (b : Open) (g : Found Value) (v : Value) (bs : List Open) (w : Word)
     (cs : List Open) → ends g.value (b ∷ bs) ≡ Ok v → advanced b g bs w ≡ Ok cs → Stepped v w cs
@@ -260,34 +265,50 @@ settled-stepped (outer ∷ bs) b g v w cs e h = settled-by (is_below outer.head 
 same-value : (x y : Value) → (let r : Checked Value = Ok x in r) ≡ Ok y → x ≡ y
 same-value x y h = cc
 
-begun-map : (m : Bool) (line n : ℕ) (k : Key) (x : Value) → k.merges ≡ m → depth x.tree ≤ n
-    → depth (map_value line (written k x ∷ [])).tree ≤ cond m 0 1 + n
-begun-map true line n k x e small =
-    let less : depth x.tree ≤ suc (n - 1) = omega (arith, small, some-depth x.tree) in
-    omega (arith, small, some-depth x.tree, (within-merge-more (n - 1) line [] (written k x) e less).deep)
-begun-map false line n k x e small = omega
-    (arith, small, some-depth x.tree, (within-own-more n line [] (written k x) e refl small).deep)
+fits-over : (f : Shown) (n : ℕ) (d e : Data) → depth d ≤ 1 → merged_pairs d ≡ []
+    → Within f (suc n) d e → Fits f (suc n) e
+fits-over f n d e small none h = record {
+  deep = omega (arith, h.deep, small);
+  merged = λ T. omega (arith, h.merged T, ap (λ ps. pairs_depth (sift T ps)) none);
+}
 
-begun-deep : (s : Shape) (line n : ℕ) (x y : Value) → closed_value (begun_done s) line x ≡ Ok y
-    → depth x.tree ≤ n → depth y.tree ≤ level (begun_done s) + n
-begun-deep (dash a) line n x y h small = omega (arith, small, some-depth x.tree, (within-item n line [] x small).deep, ap (λ z. depth z.tree) (same-value _ y h))
-begun-deep (key k a content) line n x y h small =
+begun-map : (m : Bool) (line : ℕ) (f : Shown) (n : ℕ) (k : Key) (x : Value) → k.merges ≡ m
+    → Fits f n x.tree → Fits (λ T. cond m (left_by [] f T) (at_key k.name n T))
+    (cond m (suc (f (keys_so_far []))) (suc n)) (map_value line (written k x ∷ [])).tree
+begun-map true line f n k x e small =
+    fits-over (left_by [] f) (f (keys_so_far [])) (map_value line []).tree _ (omega arith) refl
+    (within-merge-more f n line [] (written k x) e small)
+begun-map false line f n k x e small =
+    fits-over (at_key k.name n) n (map_value line []).tree _ (omega arith) refl
+    (within-own-more n line [] (written k x) e refl small.deep)
+
+fits-same : (f : Shown) (n : ℕ) (x y : Value) → x ≡ y → Fits f n x.tree → Fits f n y.tree
+fits-same f n x y e h = subst (λ (z : Value). Fits f n z.tree) e h
+
+begun-fits : (s : Shape) (line : ℕ) (f : Shown) (n : ℕ) (x y : Value)
+    → closed_value (begun_done s) line x ≡ Ok y → Fits f n x.tree
+    → Fits (passed (begun_done s) n f) (deepened (begun_done s) f n) y.tree
+begun-fits (dash a) line f n x y h small =
+    fits-same (passed (done_items []) n f) (suc n) (list_value line (x ∷ [])) y (same-value _ y h)
+    (fits-over (passed (done_items []) n f) n (list_value line []).tree _ (omega arith) refl
+    (within-item f n line [] x small))
+begun-fits (key k a content) line f n x y h small =
     let parts = then-ok (check_merge k x) _ y h in
-    omega (arith, begun-map k.merges line n k x refl small, ap (λ z. depth z.tree) (same-value _ y parts.1))
-begun-deep (leaf content) line n x y h small =
-    omega (arith, small, ap (λ z. depth z.tree) (same-value x y h))
-begun-deep (refused kind) line n x y h small =
-    omega (arith, small, ap (λ z. depth z.tree) (same-value x y h))
+    fits-same (passed (done_entries [] k) n f) (deepened (done_entries [] k) f n)
+    (map_value line (written k x ∷ [])) y (same-value _ y parts.1)
+    (begun-map k.merges line f n k x refl small)
+begun-fits (leaf content) line f n x y h small = fits-same f n x y (same-value x y h) small
+begun-fits (refused kind) line f n x y h small = fits-same f n x y (same-value x y h) small
 
 below-grown : (w : Word) (own v z : Value) (bs : List Open) → ends z bs ≡ Ok v
     → Grown v (begun w own ∷ bs)
-below-grown w own v z bs e x n u small k =
+below-grown w own v z bs e x f n u small k =
     let y = bind-ok (closed_value (begun_done w.shape) w.line x) (λ q. ends q bs) u k in
-    let l = level (begun_done w.shape) in
-    let deep = begun-deep w.shape w.line n x y.value y.is small in
-    let less : depth y.value.tree ≤ suc ((l + n) - 1) =
-    omega (arith, deep, small, some-depth x.tree) in
-    omega (arith, small, some-depth x.tree, deep-by ((l + n) - 1) (levels bs) v u (ends-within bs ((l + n) - 1) z y.value v u (within-new ((l + n) - 1) z.tree y.value.tree less) e y.rest))
+    let g = passed (begun_done w.shape) n f in
+    let m = deepened (begun_done w.shape) f n in
+    ends-within bs g m z y.value v u
+    (within-new g m z.tree y.value.tree (begun-fits w.shape w.line f n x y.value y.is small))
+    e y.rest
 
 below-stepped : (bs : List Open) (v z : Value) (w : Word) (cs : List Open) → ends z bs ≡ Ok v
     → begins bs w ≡ Ok cs → Stepped v w cs
@@ -332,10 +353,11 @@ Lined (w ∷ ws) = Follows (head_of w) ws
 
 record Ended (cs : List Open) (u : Value) (b : Open) (bs : List Open) : Type 0 where
   value : Value
+  shown : Shown
   bound : ℕ
-  small : depth value.tree ≤ bound
+  fits : Fits shown bound value.tree
   is : ends value (b ∷ bs) ≡ Ok u
-  reached : bound + levels (b ∷ bs) ≤ reach cs
+  reached : seen shown bound (b ∷ bs) ≤ sight cs
 
 step-below : (t : Bool) (b : Open) (bs : List Open) (w : Word) (cs : List Open) → t ≡ true →
     cond t (check (opens_block b.head.sort) Unsupported >> begins (b ∷ bs) w)
@@ -350,8 +372,9 @@ ended-over cs u own w b bs r =
     bind-ok (closed_value (begun_done w.shape) w.line r.value) (λ q. ends q (b ∷ bs)) u r.is in
     record {
       value = y.value;
-      bound = level (begun_done w.shape) + r.bound;
-      small = begun-deep w.shape w.line r.bound r.value y.value y.is r.small;
+      shown = passed (begun_done w.shape) r.bound r.shown;
+      bound = deepened (begun_done w.shape) r.shown r.bound;
+      fits = begun-fits w.shape w.line r.shown r.bound r.value y.value y.is r.fits;
       is = y.rest;
       reached = omega (arith, r.reached);
     }
@@ -362,10 +385,11 @@ ended [] b bs cs u f h e =
     let same = same-stack (b ∷ bs) cs h in
     record {
       value = own_value b;
+      shown = shown_by (own_value b).tree;
       bound = depth (own_value b).tree;
-      small = omega arith;
+      fits = record { deep = omega arith; merged = λ T. omega arith };
       is = ap front_value same ∙ e;
-      reached = omega (arith, ap reach same);
+      reached = omega (arith, ap sight same);
     }
 ended (w ∷ ws) b bs cs u f h e =
     let s = bind-ok (step (b ∷ bs) w) (λ ds. steps ds ws) cs h in
@@ -407,4 +431,61 @@ words-kept (w ∷ ws) bs cs f k h u e =
     let t = step-stepped bs v.value w s.value v.is s.is in
     let r = ended ws t.top t.rest cs u (subst (λ x. Follows x ws) (sym t.head) f)
     (ap (λ ds. steps ds ws) (sym t.is) ∙ s.rest) e in
-    omega (arith, v.small, t.grown r.value r.bound u r.small r.is, r.reached)
+    omega (arith, v.small, t.grown r.value r.shown r.bound u r.fits r.is, r.reached)
+
+-- THE BOUND WITHOUT A LOOK AT KEYS
+at-less : (b : Bool) (n c : ℕ) → n ≤ c → cond b 0 n ≤ c
+at-less true n c h = omega arith
+at-less false n c h = h
+
+seen-by : (m : Bool) (f : Shown) (n c : ℕ) (ws : List Written) (k : Key) (bs : List Open)
+    → ((T : List (List ℕ)) → f T ≤ c) → n ≤ suc c
+    → ((g : Shown) (p d : ℕ) → ((T : List (List ℕ)) → g T ≤ d) → p ≤ suc d
+    → seen g p bs ≤ suc d + levels bs)
+    → seen (λ T. cond m (left_by ws f T) (at_key k.name n T))
+    (cond m (suc (f (keys_so_far ws))) (suc n)) bs ≤ suc c + (cond m 0 1 + levels bs)
+seen-by true f n c ws k bs h e next =
+    omega (
+      arith,
+      next (left_by ws f) (suc (f (keys_so_far ws))) c
+          (λ T. h ((keys_of (resolved (explicit_keys ws) [] ws) ++ T) ++ keys_so_far ws))
+          (omega (arith, h (keys_so_far ws))),
+    )
+seen-by false f n c ws k bs h e next =
+    omega (
+      arith,
+      next (at_key k.name n) (suc n) (suc c)
+          (λ T. at-less (has_key k.name T) n (suc c) e) (omega (arith, e)),
+    )
+
+seen-block : (d : Done) (f : Shown) (n c : ℕ) (bs : List Open) → ((T : List (List ℕ)) → f T ≤ c)
+    → n ≤ suc c
+    → ((g : Shown) (p e : ℕ) → ((T : List (List ℕ)) → g T ≤ e) → p ≤ suc e
+    → seen g p bs ≤ suc e + levels bs)
+    → seen (passed d n f) (deepened d f n) bs ≤ suc c + (level d + levels bs)
+seen-block (done_items vs) f n c bs h e next =
+    omega (
+      arith,
+      next (passed (done_items vs) n f) (suc n) (suc c)
+          (λ T. omega (arith, h (keys_of (pairs_in (trees vs)) ++ T))) (omega (arith, e)),
+    )
+seen-block (done_entries ws k) f n c bs h e next = seen-by k.merges f n c ws k bs h e next
+seen-block alone f n c bs h e next = omega (arith, next f n c h e)
+
+seen-levels : (bs : List Open) (f : Shown) (n c : ℕ) → ((T : List (List ℕ)) → f T ≤ c) → n ≤ suc c
+    → seen f n bs ≤ suc c + levels bs
+seen-levels [] f n c h e = omega (arith, e)
+seen-levels (b ∷ bs) f n c h e =
+    seen-block b.done f n c bs h e (λ g p d i j. seen-levels bs g p d i j)
+
+pub sight-reach : (bs : List Open) → sight bs ≤ reach bs
+sight-reach [] = omega arith
+sight-reach (b ∷ bs) =
+    let d = (own_value b).tree in
+    omega (
+      arith,
+      some-depth d,
+      seen-levels (b ∷ bs) (shown_by d) (depth d) (depth d - 1)
+          (λ T. omega (arith, sift-less T (merged_pairs d), merged_shallower d))
+          (omega (arith, some-depth d)),
+    )

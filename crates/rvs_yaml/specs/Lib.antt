@@ -26,6 +26,7 @@ pub mod Gives
 pub mod Places
 pub mod Rising
 pub mod Sketched
+pub mod Seen
 pub mod StackView
 pub mod StepView
 pub mod FlowView

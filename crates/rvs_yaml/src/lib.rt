@@ -20,6 +20,8 @@ mod reach;
 mod reader;
 mod reading;
 mod refusal;
+mod seen;
+mod sight;
 mod sketch;
 mod stack;
 

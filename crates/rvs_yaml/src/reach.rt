@@ -7,7 +7,8 @@ ghost use Rattle.rvs_yaml.specs.StackView.{done_view, open_view, stack_view};
 
 use crate::front::MOST_DEPTH;
 use crate::open::{Done, Open};
-use rvs_tree::{DEEP, depth_up_to, tree_of};
+use crate::sight::sight;
+use rvs_tree::DEEP;
 use std::alloc::{AllocError, Global};
 
 /// How much deeper the open member of a block makes the block. What is merged makes it no deeper.
@@ -47,36 +48,16 @@ fn own_depth(top: &Open<'_>) -> u64
     }
 }
 
-/// The depth of what a last word is by itself, from 33 on counted as 33.
-fn exact_depth(alloc: Global, top: &Open<'_>) -> Result<u64, AllocError>
-    ensures bound { IfOk result
-        (λ n. min (data_spec.depth (front_spec.own_value (open_view top.now)).tree) 33 ≤ n) }
-    ensures shallow { IfOk result (λ n. n ≤ 33) }
-{
-    if top.head.sort.opens_block() {
-        return Ok(1);
-    }
-    match &top.own {
-        Some(own) => {
-            let tree = tree_of(alloc, own)?;
-            Ok(depth_up_to(&tree, DEEP))
-        }
-        None => Ok(1),
-    }
-}
-
 /// Whether what the last word has brought may be too deep. Its value is looked through only where
 /// the bound that is kept with it is too great.
 pub(crate) fn may_be_deep(alloc: Global, blocks: &[Open<'_>]) -> Result<bool, AllocError>
-    ensures { IfOk result (λ b. b ≡ false → spec.reach (stack_view blocks.now) ≤ 32) }
+    ensures { IfOk result (λ b. b ≡ false → spec.sight (stack_view blocks.now) ≤ 32) }
 {
     let Some(top) = blocks.last() else {
         return Ok(false);
     };
-    let levels = levels(blocks);
-    if levels + own_depth(top) <= MOST_DEPTH {
+    if levels(blocks) + own_depth(top) <= MOST_DEPTH {
         return Ok(false);
     }
-    let depth = exact_depth(alloc, top)?;
-    Ok(levels + depth > MOST_DEPTH)
+    Ok(sight(alloc, blocks)? > MOST_DEPTH)
 }
