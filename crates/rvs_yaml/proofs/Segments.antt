@@ -22,7 +22,8 @@ use Rattle.rvs_yaml.specs.StepParts.{Block, opened, bare, closed_value, put_cont
 use Rattle.rvs_yaml.specs.Filling.{with_own, filled}
 use Rattle.rvs_yaml.specs.Flow.{flow_value}
 use Rattle.rvs_yaml.specs.Front.{own_value, ends, front_value, checked_front}
-use Rattle.rvs_yaml.specs.Reach.{level, levels, reach, KeepsDepth}
+use Rattle.rvs_yaml.specs.Reach.{passed, deepened, seen, sight, KeepsDepth}
+use Rattle.rvs_tree.specs.Shown.{Shown, shown_by}
 use Rattle.rvs_yaml.specs.Answer.{within_limits}
 use Rattle.rvs_yaml.specs.Rising.{Rises, befores}
 use Rattle.rvs_yaml.specs.StackView.{anchor_view, anchors_view, own_view, open_view, stack_view}
@@ -240,21 +241,22 @@ pub checked-anchored : (all : List Anchor) (bs : List Open)
     → checked_front (anchored all bs) ≡ checked_front (stack_view bs)
 checked-anchored all bs = ap (λ m. m >>= within_limits) (front-anchored all bs)
 
-levels-over : (all : List Anchor) (bs : List Open)
-    → levels (over all bs) ≡ levels (map open_view bs)
-levels-over all [] = refl
-levels-over all (b ∷ bs) =
-    ap (λ n. level (open_view b).done + n) (levels-over (take b.block.before all) bs)
+seen-over : (f : Shown) (n : ℕ) (all : List Anchor) (bs : List Open)
+    → seen f n (over all bs) ≡ seen f n (map open_view bs)
+seen-over f n all [] = refl
+seen-over f n all (b ∷ bs) =
+    seen-over (passed (open_view b).done n f) (deepened (open_view b).done f n)
+    (take b.block.before all) bs
 
-reach-over : (all : List Anchor) (bs : List Open) → reach (over all bs) ≡ reach (map open_view bs)
-reach-over all [] = refl
-reach-over all (b ∷ bs) =
-    ap (λ n. depth (own_value (open_view b)).tree + n) (levels-over all (b ∷ bs))
+sight-over : (all : List Anchor) (bs : List Open) → sight (over all bs) ≡ sight (map open_view bs)
+sight-over all [] = refl
+sight-over all (b ∷ bs) =
+    let own = (own_value (open_view b)).tree in seen-over (shown_by own) (depth own) all (b ∷ bs)
 
 pub keeps-anchored : (all : List Anchor) (bs : List Open) → KeepsDepth (anchored all bs)
     → KeepsDepth (stack_view bs)
 keeps-anchored all bs k = λ v e.
     let deep = k v (front-anchored all bs ∙ e) in
-    let same : reach (anchored all bs) ≡ reach (stack_view bs) =
-    reach-over all (reverse bs) ∙ ap reach (sym (map-reverse bs)) in
+    let same : sight (anchored all bs) ≡ sight (stack_view bs) =
+    sight-over all (reverse bs) ∙ ap sight (sym (map-reverse bs)) in
     omega (arith, deep, same)
