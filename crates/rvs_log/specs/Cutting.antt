@@ -2,8 +2,8 @@
 use Rattle.std.specs.Prelude.{◌≡◌, ℕ, ◌+◌, ◌-◌, ◌<◌, ◌≤◌, ◌==◌, Bool, true, false, List, [], ◌∷◌}
 use Rattle.std.specs.Prelude.{◌++◌, length, take, drop, Option, Some, None}
 use Rattle.rvs_log.specs.Lines.{held_more, without_return}
-use Rattle.rvs_log.specs.declared.follow.Place.{Place}
-use Rattle.rvs_log.specs.declared.follow.Place.TheVariants.{Here, Held, Nowhere}
+use Rattle.rvs_log.specs.declared.follow.NextLine.{NextLine}
+use Rattle.rvs_log.specs.declared.follow.NextLine.TheVariants.{Here, Held, Nowhere}
 use Rattle.rvs_log.specs.declared.follow.Ending.{Ending}
 use Rattle.rvs_log.specs.declared.follow.Ending.TheVariants as ending
 
@@ -51,16 +51,16 @@ HasEnded w line too_long bytes ending.Over = (lines_held (held_more w line) ≡ 
     × (waiting too_long bytes ≡ Some [])
 
 -- where the next line of a piece is
-abbrev pub IsPlace : Option (List ℕ) → List ℕ → Bool → List ℕ → Place → Type 0
-IsPlace w piece too_long bytes (Here start end) =
+abbrev pub IsNextLine : Option (List ℕ) → List ℕ → Bool → List ℕ → NextLine → Type 0
+IsNextLine w piece too_long bytes (Here start end) =
     (start ≤ end) × (end < length piece)
     × (lines_after w (take (end + 1) piece) ≡ without_return (take (end - start) (drop start piece))
     ∷ [])
     × (held_after w (take (end + 1) piece) ≡ Some []) × (waiting too_long bytes ≡ Some [])
-IsPlace w piece too_long bytes (Held used) =
+IsNextLine w piece too_long bytes (Held used) =
     (used ≤ length piece) × (lines_after w (take used piece) ≡ without_return bytes ∷ [])
     × (held_after w (take used piece) ≡ Some []) × (too_long ≡ false)
-IsPlace w piece too_long bytes Nowhere = (lines_after w piece ≡ [])
+IsNextLine w piece too_long bytes Nowhere = (lines_after w piece ≡ [])
     × (held_after w piece ≡ waiting too_long bytes)
 
 abbrev pub one_or_none : Option (List ℕ) → List (List ℕ)

@@ -6,7 +6,7 @@ ghost use Rattle.std.specs.Option.{option_copied};
 ghost use mathlib.Core.Option.{none};
 ghost use Rattle.memchr.specs.Find.{IsFirstByte, is_byte};
 ghost use Rattle.rvs_log.specs.contracts.follow.Follow.{the_row};
-ghost use Rattle.rvs_log.specs.Cutting.{HasEnded, IsPlace, held_after, last_of, lines_after};
+ghost use Rattle.rvs_log.specs.Cutting.{HasEnded, IsNextLine, held_after, last_of, lines_after};
 ghost use Rattle.rvs_log.specs.Cutting.{one_or_none, unless_given, waiting};
 ghost use Rattle.rvs_log.specs.Lines.{held_more, without_return};
 
@@ -55,7 +55,7 @@ enum Ending {
 
 /// Where the next line is.
 #[derive(Clone, Copy)]
-enum Place {
+enum NextLine {
     /// From one place of the piece up to another.
     Here(usize, usize),
     /// In the bytes that waited, after so many of the piece.
@@ -142,8 +142,8 @@ fn front_of(bytes: &[u8], end: usize) -> &[u8]
 
 /// Goes on to the end of the next line that isn't too long.
 #[inline(always)]
-fn advance(bytes: &mut ArrayVec<u8, LONGEST>, too_long: &mut bool, piece: &[u8]) -> Place
-    ensures { IsPlace (waiting too_long.old bytes.old.items) piece.now
+fn advance(bytes: &mut ArrayVec<u8, LONGEST>, too_long: &mut bool, piece: &[u8]) -> NextLine
+    ensures { IsNextLine (waiting too_long.old bytes.old.items) piece.now
         too_long.new bytes.new.items result }
 {
     let mut used: usize = 0;
@@ -152,11 +152,11 @@ fn advance(bytes: &mut ArrayVec<u8, LONGEST>, too_long: &mut bool, piece: &[u8])
         match line_feed(rest) {
             None => {
                 wait(bytes, too_long, rest);
-                return Place::Nowhere;
+                return NextLine::Nowhere;
             },
             Some(end) => match end_line(bytes, too_long, front_of(rest, end)) {
-                Ending::Here => return Place::Here(used, used + end),
-                Ending::Waited => return Place::Held(used + end + 1),
+                Ending::Here => return NextLine::Here(used, used + end),
+                Ending::Waited => return NextLine::Held(used + end + 1),
                 Ending::Over => used += end + 1,
             },
         }
@@ -201,18 +201,18 @@ impl Follow {
     {
         begin(&mut self.bytes, &mut self.too_long, &mut self.given);
         match advance(&mut self.bytes, &mut self.too_long, piece) {
-            Place::Nowhere => Cut {
+            NextLine::Nowhere => Cut {
                 used: piece.len(),
                 line: None,
             },
-            Place::Here(start, end) => {
+            NextLine::Here(start, end) => {
                 let line = front_of(back_of(piece, start), end - start);
                 Cut {
                     used: end + 1,
                     line: Some(without_carriage_return(line)),
                 }
             },
-            Place::Held(used) => {
+            NextLine::Held(used) => {
                 self.given = true;
                 Cut {
                     used,
