@@ -9,6 +9,8 @@ mod orders;
 mod registers;
 mod solved;
 mod solving;
+#[cfg(test)]
+mod tests;
 mod truth;
 mod values;
 mod walk;
