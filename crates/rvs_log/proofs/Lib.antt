@@ -2,9 +2,11 @@ pub mod Ascii
 pub mod Back
 pub mod Cuts
 pub mod Digits
+pub mod Fronts
 pub mod Logs
 pub mod Octets
 pub mod Returns
 pub mod RunLogs
 pub mod RunWords
+pub mod Tables
 pub mod Values

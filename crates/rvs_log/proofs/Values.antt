@@ -1,5 +1,5 @@
 -- The table of the values of hexadecimal digits.
-use Rattle.std.proofs.Common.{◌≡◌, ℕ, zero, suc, ◌+◌, ◌<◌, ◌≤◌, Bool, true, false, cond, ◌&&◌, ◌||◌}
+use Rattle.std.proofs.Common.{◌≡◌, ℕ, zero, suc, ◌+◌, ◌<◌, ◌≤◌, Bool, true, false, cond, ◌&&◌}
 use Rattle.std.proofs.Common.{List, [], ◌∷◌, Option, Some, None, refl, sym, ap, ◌∙◌, length, get_or}
 use Rattle.std.proofs.Common.{arith}
 use Rattle.std.proofs.lemmas.Bool.Decides.{nat_tests}
@@ -65,22 +65,3 @@ value_none b h high =
   where
     is_high : (n : ℕ) → 16 ≤ n → nat_lt n 16 ≡ false
     is_high n h = grind (arith, nat_tests)
-
--- a byte that is no digit has 255
-abbrev marks : List ℕ → Bool
-marks [] = true
-marks (v ∷ vs) = (nat_lt v 16 || v == 255) && marks vs
-
-marks_at : (vs : List ℕ) (k : ℕ) → marks vs ≡ true → k < length vs → get_or vs k 0 < 255
-    → get_or vs k 0 < 16
-marks_at [] k h l s = absurd (omega arith)
-marks_at (v ∷ vs) zero h l s = low v (both _ _ h).0 s
-  where
-    low : (n : ℕ) → (nat_lt n 16 || n == 255) ≡ true → n < 255 → n < 16
-    low n h s = grind (arith, nat_tests)
-marks_at (v ∷ vs) (suc k) h l s =
-    marks_at vs k (both (nat_lt v 16 || v == 255) (marks vs) h).1 (omega arith) s
-
-pub entry_some : (b : ℕ) → b < 256 → get_or VALUES b 0 < 255
-    → hex_value b ≡ Some (get_or VALUES b 0)
-entry_some b h low = sym (value_some b h (marks_at VALUES b refl h low))

@@ -3,6 +3,7 @@
 
 mod follow;
 mod laws;
+mod places;
 mod reading;
 mod registers;
 mod view;

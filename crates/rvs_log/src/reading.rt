@@ -149,6 +149,7 @@ fn address_and_word(text: &[u8]) -> Option<(u32, u32, &[u8])>
 }
 
 /// A register's number, and what follows.
+#[inline(always)]
 fn register(text: &[u8]) -> Option<(u8, &[u8])>
     ensures value { option_map (λ found. (found.0, found.1.now)) result ≡ register_at text.now }
     ensures low { IfSome result (λ found. found.0 < 32) }
@@ -169,6 +170,7 @@ fn register(text: &[u8]) -> Option<(u8, &[u8])>
 
 /// A register and the word written to it, at the front.
 #[tactic(auto, unfolding(crate::specs::Grammar::write_at))]
+#[inline(always)]
 fn write(text: &[u8]) -> Option<Commit>
     ensures { result ≡ write_at text.now }
 {
@@ -187,8 +189,24 @@ fn write_if_fresh(fresh: bool, text: &[u8]) -> Option<Commit>
     if fresh { write(text) } else { None }
 }
 
-/// The first write among the tokens of a text.
+/// The first write among the tokens of a text. It mostly stands behind one space.
+#[tactic(auto, using(crate::proofs::Fronts::after_space))]
+#[inline(always)]
 fn written(text: &[u8]) -> Option<Commit>
+    ensures { result ≡ first_write true text.now }
+{
+    match byte_at(text, b' ') {
+        None => any_written(text),
+        Some(after) => match write(after) {
+            Some(commit) => Some(commit),
+            None => any_written(text),
+        },
+    }
+}
+
+/// The same, token by token.
+#[inline(never)]
+fn any_written(text: &[u8]) -> Option<Commit>
     ensures { result ≡ first_write true text.now }
 {
     let mut fresh = true;

@@ -4,6 +4,8 @@ ghost use Rattle.std.specs.Prelude.{None, if◌then◌else◌, length};
 ghost use Rattle.std.specs.Option.{option_map};
 ghost use Rattle.rvs_log.specs.Grammar.{hex_at, hex_digits, hex_run, hex_value};
 
+use crate::places::{highest, lowest, second, third};
+
 /// The value of a hexadecimal digit by its byte, and 255 for the other bytes. A table has no branch
 /// that depends on the digit.
 #[rattlefmt::skip]
@@ -54,33 +56,16 @@ fn spelled(count: u32, value: u32, rest: &[u8]) -> Option<(u32, &[u8])>
     }
 }
 
-/// The same, and 255 for a byte that is no digit.
-#[tactic(auto, using(crate::proofs::Values::entry_some))]
-#[inline(always)]
-fn value_at(byte: u8) -> u32
-    ensures digit { result < 255 → hex_value byte ≡ Some result }
-    ensures low { result ≤ 255 }
-{
-    u32::from(VALUES[usize::from(byte)])
-}
-
 /// The number that four bytes spell, where each is a hexadecimal digit.
-#[tactic(auto, using(crate::proofs::Digits::four_more))]
+#[tactic(auto, using(crate::proofs::Tables::four_counted))]
 #[inline(always)]
 fn four_digits(a: u8, b: u8, c: u8, d: u8) -> Option<u32>
     ensures run { IfSome result (λ n. (v : ℕ) (bs : List ℕ) →
         hex_run v (a ∷ b ∷ c ∷ d ∷ bs) ≡ hex_run (65536 * v + n) bs) }
     ensures small { IfSome result (λ n. n < 65536) }
 {
-    let first = value_at(a);
-    let second = value_at(b);
-    let third = value_at(c);
-    let fourth = value_at(d);
-    if first + second + third + fourth < 255 {
-        Some(4096 * first + 256 * second + 16 * third + fourth)
-    } else {
-        None
-    }
+    let sum = highest(a) + third(b) + second(c) + lowest(d);
+    if sum < 65536 { Some(sum) } else { None }
 }
 
 /// The number that the first eight bytes spell, where they are hexadecimal digits, and what follows
