@@ -4,6 +4,7 @@ use rvs_base::{
     first_line, hex_word, number_below, put_all, read_file, short_number, without_return,
 };
 use std::alloc::Global;
+use std::process::Abort;
 use std::test::Fail;
 
 fn two_files(alloc: Global, fail: &[u64]) -> Result<MemoryHost, Fail> {
@@ -43,52 +44,87 @@ fn lines_are_cut(rt: HostRuntime) {
     assert_eq!(rt; without_return(b"a\r\r"), b"a\r".as_slice());
 }
 
+/// What a read of a file with a limit gives.
+fn check_read(
+    rt: &impl Abort,
+    alloc: Global,
+    host: &mut MemoryHost,
+    (name, limit): (&str, u64),
+    wanted: Result<&[u8], FileRefusal>,
+) {
+    match read_file(alloc, host, name, limit) {
+        Ok(bytes) => assert_eq!(rt; Ok(bytes.as_slice()), wanted),
+        Err(refusal) => assert_eq!(rt; Err(refusal), wanted),
+    }
+}
+
 #[test]
 fn a_file_is_read_up_to_its_limit(rt: HostRuntime) -> Result<(), Fail> {
     let mut host = two_files(rt.alloc(), &[])?;
-    let bytes = read_file(rt.alloc(), &mut host, "b.sig", 5)?;
-    assert_eq!(rt; bytes.as_slice(), b"b.sig".as_slice());
-    let longer = read_file(rt.alloc(), &mut host, "a.sig", 4).err();
-    assert_eq!(rt; longer, Some(FileRefusal::TooLong { limit: 4 }));
-    let missing = read_file(rt.alloc(), &mut host, "c.sig", 4).err();
-    assert_eq!(rt; missing, Some(FileRefusal::NoFile));
+    for (name, limit, wanted) in [
+        ("b.sig", 5, Ok(b"b.sig".as_slice())),
+        ("a.sig", 4, Err(FileRefusal::TooLong { limit: 4 })),
+        ("c.sig", 4, Err(FileRefusal::NoFile)),
+    ] {
+        check_read(&rt, rt.alloc(), &mut host, (name, limit), wanted);
+    }
     Ok(())
 }
 
 #[test]
 fn a_fault_in_mid_stream_is_told(rt: HostRuntime) -> Result<(), Fail> {
     let mut host = two_files(rt.alloc(), &[2])?;
-    let outcome = read_file(rt.alloc(), &mut host, "a.sig", 5).err();
-    assert_eq!(rt; outcome, Some(FileRefusal::Failed));
+    check_read(&rt, rt.alloc(), &mut host, ("a.sig", 5), Err(FileRefusal::Failed));
     Ok(())
+}
+
+fn check_write(
+    rt: &impl Abort,
+    host: &mut MemoryHost,
+    name: &str,
+    bytes: &[u8],
+    wanted: Result<(), Failed>,
+) {
+    assert_eq!(rt; host.write_file(name, bytes), wanted);
+    assert_eq!(rt; host.file(name), wanted.is_ok().then_some(bytes));
 }
 
 #[test]
 fn a_written_file_is_found(rt: HostRuntime) -> Result<(), Fail> {
     let mut host = two_files(rt.alloc(), &[1])?;
-    assert_eq!(rt; host.write_file("a.sig", b"x"), Ok(()));
-    assert_eq!(rt; host.write_file("c.sig", b"y"), Err(Failed));
-    assert_eq!(rt; host.file("a.sig"), Some(b"x".as_slice()));
-    assert_eq!(rt; host.file("c.sig"), None);
+    check_write(&rt, &mut host, "a.sig", b"x", Ok(()));
+    check_write(&rt, &mut host, "c.sig", b"y", Err(Failed));
     assert_eq!(rt; host.starved(), 0);
     Ok(())
 }
 
-#[test]
-fn a_device_run_is_answered_from_the_list(rt: HostRuntime) -> Result<(), Fail> {
-    let alloc = rt.alloc();
+fn check_run(
+    rt: &impl Abort,
+    host: &mut MemoryHost,
+    words: &[String],
+    status: Result<i32, Failed>,
+    left: Option<&[u8]>,
+) {
+    assert_eq!(rt; host.run_device(words, "a.S", "a.sig"), status);
+    assert_eq!(rt; host.file("a.sig"), left);
+}
+
+/// A host whose device leaves a file and ends with 3, and then leaves none and ends with -1.
+fn two_answers(alloc: Global) -> Result<MemoryHost, Fail> {
     let mut answers = Items::new(alloc);
     let holds = Items::from(b"7".to_vec(alloc)?);
-    for (status, leaves) in [(3, Leaves::Holds(holds)), (-1, Leaves::Absent)] {
-        answers.push(Answer { status, leaves })?;
-    }
-    let mut host = MemoryHost::new(Items::new(alloc), Items::new(alloc), answers);
-    let words = [String::from_str(alloc, "dev")?];
-    assert_eq!(rt; host.run_device(&words, "a.S", "a.sig"), Ok(3));
-    assert_eq!(rt; host.file("a.sig"), Some(b"7".as_slice()));
-    assert_eq!(rt; host.run_device(&words, "a.S", "a.sig"), Ok(-1));
-    assert_eq!(rt; host.file("a.sig"), None);
-    assert_eq!(rt; host.run_device(&words, "a.S", "a.sig"), Err(Failed));
+    answers.push(Answer { status: 3, leaves: Leaves::Holds(holds) })?;
+    answers.push(Answer { status: -1, leaves: Leaves::Absent })?;
+    Ok(MemoryHost::new(Items::new(alloc), Items::new(alloc), answers))
+}
+
+#[test]
+fn a_device_run_is_answered_from_the_list(rt: HostRuntime) -> Result<(), Fail> {
+    let mut host = two_answers(rt.alloc())?;
+    let words = [String::from_str(rt.alloc(), "dev")?];
+    check_run(&rt, &mut host, &words, Ok(3), Some(b"7".as_slice()));
+    check_run(&rt, &mut host, &words, Ok(-1), None);
+    check_run(&rt, &mut host, &words, Err(Failed), None);
     assert_eq!(rt; host.runs().len(), 2);
     Ok(())
 }

@@ -5,8 +5,27 @@ use std::test::Fail;
 
 /// Whether the entry holds, or `none` where it is no condition; and the entry, one a line.
 #[rattlefmt::skip]
-const ROWS: &str =
-    "yes|check ISA:=regex(.*I.*)\nno|check ISA:=regex(.*C.*)\nno|check ISA:=regex(I)\nyes|check ISA:=regex(RV32IM)\nyes|\nyes|def a = b\nnone|def\nnone|check ISA\nnone|check ISA:=regex(.*I.*);;\nyes|check ISA:=regex(.*I.*);\nyes| check ISA:=regex(.*M) ; def x \nno|check ISA:=regex()\nno|check  ISA:=regex(.*)\nnone|check ISA:=regex(a[b])\nno|check hw_data_misaligned_support:=True\nyes|check hw_data_misaligned_support:=False\nno|check foo:=bar\nno|check ISA:=regex(.*.*.*.*.*.*.*.*.*.*.*.*.*.*.*.*.*.*.*.*.*.*.*.*.*.*.*.*.*.*.*.*.*.*.*.*.*.*.*.*x)\nnone|check ISA:=regex(.)";
+const ROWS: &str = "\
+yes|check ISA:=regex(.*I.*)\n\
+no|check ISA:=regex(.*C.*)\n\
+no|check ISA:=regex(I)\n\
+yes|check ISA:=regex(RV32IM)\n\
+yes|\n\
+yes|def a = b\n\
+none|def\n\
+none|check ISA\n\
+none|check ISA:=regex(.*I.*);;\n\
+yes|check ISA:=regex(.*I.*);\n\
+yes| check ISA:=regex(.*M) ; def x \n\
+no|check ISA:=regex()\n\
+no|check  ISA:=regex(.*)\n\
+none|check ISA:=regex(a[b])\n\
+no|check hw_data_misaligned_support:=True\n\
+yes|check hw_data_misaligned_support:=False\n\
+no|check foo:=bar\n\
+no|check \
+ISA:=regex(.*.*.*.*.*.*.*.*.*.*.*.*.*.*.*.*.*.*.*.*.*.*.*.*.*.*.*.*.*.*.*.*.*.*.*.*.*.*.*.*x)\n\
+none|check ISA:=regex(.)";
 
 #[test]
 fn reads(rt: HostRuntime) -> Result<(), Fail> {

@@ -5,13 +5,54 @@ use std::test::Fail;
 
 /// Kind and column of a refusal, or `ok`, and an expression of numbers, one a line.
 #[rattlefmt::skip]
-const NUMBERS: &str =
-    "ok|rs1_val == -2**31\nok|rs1_val == (-2**(xlen-1)) and rs2_val != 0 or not ea_align == 3\n6 13|rs1_val == 2**101\n1 9|rs1_val = 3\n2 11|rs1_val ==\n5 1|rs1_val + 1\n2 2|0x == 1\n2 3|12ab == 1\n5 3|1 == (2 == 3) == (4 == (5 == 6))\n9 133|not not not not not not not not not not not not not not not not not not not not not not not not not not not not not not not not not 1 == 1\nok|not not not not not not not not not not not not not not not not not not not not not not not not not not not not not not not not 1 == 1\n2 34|((((((((((((((((((((((((((((((((()\n6 2|2**110 == 1\n6 9|(2**100)**127 == 1\n5 1|   rs1_val\n4 1|rs1 == 1\n4 18|rs1_val == 1 and x3 == 1\n3 1|rs3_val == 1\n7 9|rs1_val % 0 == 1\n7 9|rs1_val % rs2_val == 1\n8 9|rs1_val ** 2 == 1\n8 2|2**128 == 1\nok|2**100 == 1\n6 2|2**101 == 1\n11 1|1 == 1 == 1 == 1 == 1 == 1 == 1 == 1 == 1 == 1 == 1 == 1 == 1 == 1 == 1 == 1 == 1\nok|1 == 1 == 1 == 1 == 1 == 1 == 1 == 1 == 1 == 1 == 1 == 1 == 1 == 1 == 1 == 1\n10 257|1+1+1+1+1+1+1+1+1+1+1+1+1+1+1+1+1+1+1+1+1+1+1+1+1+1+1+1+1+1+1+1+1+1+1+1+1+1+1+1+1+1+1+1+1+1+1+1+1+1+1+1+1+1+1+1+1+1+1+1+1+1+1+1+1+1+1+1+1+1+1+1+1+1+1+1+1+1+1+1+1+1+1+1+1+1+1+1+1+1+1+1+1+1+1+1+1+1+1+1+1+1+1+1+1+1+1+1+1+1+1+1+1+1+1+1+1+1+1+1+1+1+1+1+1+1+1+1+1\n5 3|1 and 2 == 2\n6 9|(2**100)*2 == 1";
+const NUMBERS: &str = "\
+ok|rs1_val == -2**31\n\
+ok|rs1_val == (-2**(xlen-1)) and rs2_val != 0 or not ea_align == 3\n\
+6 13|rs1_val == 2**101\n\
+1 9|rs1_val = 3\n\
+2 11|rs1_val ==\n\
+5 1|rs1_val + 1\n\
+2 2|0x == 1\n\
+2 3|12ab == 1\n\
+5 3|1 == (2 == 3) == (4 == (5 == 6))\n\
+9 133|not not not not not not not not not not not not not not not not not not not not not not \
+not not not not not not not not not not not 1 == 1\n\
+ok|not not not not not not not not not not not not not not not not not not not not not not not \
+not not not not not not not not not 1 == 1\n\
+2 34|((((((((((((((((((((((((((((((((()\n\
+6 2|2**110 == 1\n\
+6 9|(2**100)**127 == 1\n\
+5 1|   rs1_val\n\
+4 1|rs1 == 1\n\
+4 18|rs1_val == 1 and x3 == 1\n\
+3 1|rs3_val == 1\n\
+7 9|rs1_val % 0 == 1\n\
+7 9|rs1_val % rs2_val == 1\n\
+8 9|rs1_val ** 2 == 1\n\
+8 2|2**128 == 1\n\
+ok|2**100 == 1\n\
+6 2|2**101 == 1\n\
+11 1|1 == 1 == 1 == 1 == 1 == 1 == 1 == 1 == 1 == 1 == 1 == 1 == 1 == 1 == 1 == 1 == 1\n\
+ok|1 == 1 == 1 == 1 == 1 == 1 == 1 == 1 == 1 == 1 == 1 == 1 == 1 == 1 == 1 == 1\n\
+10 257|1+1+1+1+1+1+1+1+1+1+1+1+1+1+1+1+1+1+1+1+1+1+1+1+1+1+1+1+1+1+1+1+1+1+1+1+1+1+1+1+1+1+1+1+\
+1+1+1+1+1+1+1+1+1+1+1+1+1+1+1+1+1+1+1+1+1+1+1+1+1+1+1+1+1+1+1+1+1+1+1+1+1+1+1+1+1+1+1+1+1+1+1+1+\
+1+1+1+1+1+1+1+1+1+1+1+1+1+1+1+1+1+1+1+1+1+1+1+1+1+1+1+1+1+1+1+1+1+1+1+1+1\n\
+5 3|1 and 2 == 2\n\
+6 9|(2**100)*2 == 1";
 
 /// The same of expressions of registers.
 #[rattlefmt::skip]
-const REGISTERS: &str =
-    "ok|rs1 == rs2 != rd\nok|not (rs1 == x0) and rd != x31\n4 1|xlen == rd\n4 1|rs1_val == rd\n3 1|x32 == rd\n3 8|rs1 == a\n5 4|x1 == 1\n5 5|rs1 < rs2\n5 1|rd\n5 11|rd == rs1 + rs2";
+const REGISTERS: &str = "\
+ok|rs1 == rs2 != rd\n\
+ok|not (rs1 == x0) and rd != x31\n\
+4 1|xlen == rd\n\
+4 1|rs1_val == rd\n\
+3 1|x32 == rd\n\
+3 8|rs1 == a\n\
+5 4|x1 == 1\n\
+5 5|rs1 < rs2\n\
+5 1|rd\n\
+5 11|rd == rs1 + rs2";
 
 fn shown(alloc: Global, read: Result<Expr, ExprRefusal>) -> Result<String, AllocError> {
     match read {

@@ -4,8 +4,30 @@ use std::test::Fail;
 
 /// Kind and column of a refusal, or `ok`, and the text, one a line.
 #[rattlefmt::skip]
-const ROWS: &str =
-    "ok|rs1_val + 1\nok|a_b % 0x1f == 0b101 and not (c)\nok| -2**-x \n2 2|0x == 1\n2 3|12ab == 1\n2 11|rs1_val ==\n1 9|rs1_val = 3\n1 3|a ! b\n2 1|\n2 34|((((((((((((((((((((((((((((((((()\n9 133|not not not not not not not not not not not not not not not not not not not not not not not not not not not not not not not not not 1 == 1\nok|not not not not not not not not not not not not not not not not not not not not not not not not not not not not not not not not 1 == 1\n10 257|1+1+1+1+1+1+1+1+1+1+1+1+1+1+1+1+1+1+1+1+1+1+1+1+1+1+1+1+1+1+1+1+1+1+1+1+1+1+1+1+1+1+1+1+1+1+1+1+1+1+1+1+1+1+1+1+1+1+1+1+1+1+1+1+1+1+1+1+1+1+1+1+1+1+1+1+1+1+1+1+1+1+1+1+1+1+1+1+1+1+1+1+1+1+1+1+1+1+1+1+1+1+1+1+1+1+1+1+1+1+1+1+1+1+1+1+1+1+1+1+1+1+1+1+1+1+1+1+1\nok|1+1+1+1+1+1+1+1+1+1+1+1+1+1+1+1+1+1+1+1+1+1+1+1+1+1+1+1+1+1+1+1+1+1+1+1+1+1+1+1+1+1+1+1+1+1+1+1+1+1+1+1+1+1+1+1+1+1+1+1+1+1+1+1+1+1+1+1+1+1+1+1+1+1+1+1+1+1+1+1+1+1+1+1+1+1+1+1+1+1+1+1+1+1+1+1+1+1+1+1+1+1+1+1+1+1+1+1+1+1+1+1+1+1+1+1+1+1+1+1+1+1+1+1+1+1+1+1\n2 6|a == not b\n2 5|(a) b\n2 6|-2 **";
+const ROWS: &str = "\
+ok|rs1_val + 1\n\
+ok|a_b % 0x1f == 0b101 and not (c)\n\
+ok| -2**-x \n\
+2 2|0x == 1\n\
+2 3|12ab == 1\n\
+2 11|rs1_val ==\n\
+1 9|rs1_val = 3\n\
+1 3|a ! b\n\
+2 1|\n\
+2 34|((((((((((((((((((((((((((((((((()\n\
+9 133|not not not not not not not not not not not not not not not not not not not not not not \
+not not not not not not not not not not not 1 == 1\n\
+ok|not not not not not not not not not not not not not not not not not not not not not not not \
+not not not not not not not not not 1 == 1\n\
+10 257|1+1+1+1+1+1+1+1+1+1+1+1+1+1+1+1+1+1+1+1+1+1+1+1+1+1+1+1+1+1+1+1+1+1+1+1+1+1+1+1+1+1+1+1+\
+1+1+1+1+1+1+1+1+1+1+1+1+1+1+1+1+1+1+1+1+1+1+1+1+1+1+1+1+1+1+1+1+1+1+1+1+1+1+1+1+1+1+1+1+1+1+1+1+\
+1+1+1+1+1+1+1+1+1+1+1+1+1+1+1+1+1+1+1+1+1+1+1+1+1+1+1+1+1+1+1+1+1+1+1+1+1\n\
+ok|1+1+1+1+1+1+1+1+1+1+1+1+1+1+1+1+1+1+1+1+1+1+1+1+1+1+1+1+1+1+1+1+1+1+1+1+1+1+1+1+1+1+1+1+1+1+\
+1+1+1+1+1+1+1+1+1+1+1+1+1+1+1+1+1+1+1+1+1+1+1+1+1+1+1+1+1+1+1+1+1+1+1+1+1+1+1+1+1+1+1+1+1+1+1+1+\
+1+1+1+1+1+1+1+1+1+1+1+1+1+1+1+1+1+1+1+1+1+1+1+1+1+1+1+1+1+1+1+1+1+1\n\
+2 6|a == not b\n\
+2 5|(a) b\n\
+2 6|-2 **";
 
 #[test]
 fn reads(rt: HostRuntime) -> Result<(), Fail> {

@@ -1,11 +1,12 @@
 // What QEMU computes, traps, image files and runs.
-use rvs_base::{Bytes, Items};
+use rvs_base::{Bytes, Items, number_below};
 use rvs_insn::IsaSpec;
 use rvs_machine::{
     Commit, End, Event, Executed, Image, ImageKind, ImageRefusal, Machine, Trace, Trap, TrapKind,
     read_image,
 };
 use std::alloc::{AllocError, Global};
+use std::process::Abort;
 use std::test::Fail;
 
 const RV32IM: IsaSpec = IsaSpec {
@@ -23,143 +24,117 @@ static START: [u32; 3] = [0x8100_0237, 0x0002_2103, 0x0042_2183];
 
 const NOP: u32 = 0x0000_0013;
 
-// an instruction as GNU as writes it, the words of x2 and x3 before it, and what QEMU has in x1
-// after it
-static COMPUTED: [[u32; 4]; 53] = [
-    [0xffff_f0b7, 0x0000_0000, 0x0000_0000, 0xffff_f000], // lui x1, 0xfffff
-    [0x0012_0083, 0x8001_f07f, 0xfedc_ba98, 0xffff_fff0], // lb x1, 1(x4)
-    [0x0022_1083, 0x8001_f07f, 0xfedc_ba98, 0xffff_8001], // lh x1, 2(x4)
-    [0x0042_2083, 0x8001_f07f, 0xfedc_ba98, 0xfedc_ba98], // lw x1, 4(x4)
-    [0x0012_4083, 0x8001_f07f, 0xfedc_ba98, 0x0000_00f0], // lbu x1, 1(x4)
-    [0x0022_5083, 0x8001_f07f, 0xfedc_ba98, 0x0000_8001], // lhu x1, 2(x4)
-    [0x8001_0093, 0x0000_0001, 0x0000_0000, 0xffff_f801], // addi x1, x2, -2048
-    [0x8001_0093, 0x7fff_ffff, 0x0000_0000, 0x7fff_f7ff], // addi x1, x2, -2048
-    [0xfff1_2093, 0xffff_fffe, 0x0000_0000, 0x0000_0001], // slti x1, x2, -1
-    [0xfff1_2093, 0x0000_0000, 0x0000_0000, 0x0000_0000], // slti x1, x2, -1
-    [0xfff1_2093, 0xffff_ffff, 0x0000_0000, 0x0000_0000], // slti x1, x2, -1
-    [0xfff1_3093, 0xffff_fffe, 0x0000_0000, 0x0000_0001], // sltiu x1, x2, -1
-    [0xfff1_3093, 0xffff_ffff, 0x0000_0000, 0x0000_0000], // sltiu x1, x2, -1
-    [0x0011_3093, 0x0000_0000, 0x0000_0000, 0x0000_0001], // sltiu x1, x2, 1
-    [0xfff1_4093, 0x0ff0_0ff0, 0x0000_0000, 0xf00f_f00f], // xori x1, x2, -1
-    [0x8001_6093, 0x0000_0123, 0x0000_0000, 0xffff_f923], // ori x1, x2, -2048
-    [0xf001_7093, 0x1234_5678, 0x0000_0000, 0x1234_5600], // andi x1, x2, -256
-    [0x01f1_1093, 0x0000_0003, 0x0000_0000, 0x8000_0000], // slli x1, x2, 31
-    [0x0041_5093, 0x8000_0010, 0x0000_0000, 0x0800_0001], // srli x1, x2, 4
-    [0x4041_5093, 0x8000_0010, 0x0000_0000, 0xf800_0001], // srai x1, x2, 4
-    [0x0031_00b3, 0xffff_ffff, 0x0000_0002, 0x0000_0001], // add x1, x2, x3
-    [0x4031_00b3, 0x0000_0001, 0x0000_0002, 0xffff_ffff], // sub x1, x2, x3
-    [0x0031_10b3, 0x0000_0001, 0x0000_0021, 0x0000_0002], // sll x1, x2, x3
-    [0x0031_20b3, 0xffff_ffff, 0x0000_0000, 0x0000_0001], // slt x1, x2, x3
-    [0x0031_20b3, 0x0000_0000, 0xffff_ffff, 0x0000_0000], // slt x1, x2, x3
-    [0x0031_30b3, 0xffff_ffff, 0x0000_0000, 0x0000_0000], // sltu x1, x2, x3
-    [0x0031_30b3, 0x0000_0000, 0xffff_ffff, 0x0000_0001], // sltu x1, x2, x3
-    [0x0031_40b3, 0xff00_ff00, 0x0ff0_0ff0, 0xf0f0_f0f0], // xor x1, x2, x3
-    [0x0031_50b3, 0x8000_0000, 0x0000_003f, 0x0000_0001], // srl x1, x2, x3
-    [0x4031_50b3, 0x8000_0000, 0x0000_003f, 0xffff_ffff], // sra x1, x2, x3
-    [0x0031_60b3, 0xff00_ff00, 0x0ff0_0ff0, 0xfff0_fff0], // or x1, x2, x3
-    [0x0031_70b3, 0xff00_ff00, 0x0ff0_0ff0, 0x0f00_0f00], // and x1, x2, x3
-    [0x0231_00b3, 0x1234_5678, 0x9abc_def0, 0x242d_2080], // mul x1, x2, x3
-    [0x0231_10b3, 0xffff_ffff, 0xffff_ffff, 0x0000_0000], // mulh x1, x2, x3
-    [0x0231_10b3, 0x8000_0000, 0x8000_0000, 0x4000_0000], // mulh x1, x2, x3
-    [0x0231_10b3, 0x8000_0000, 0x7fff_ffff, 0xc000_0000], // mulh x1, x2, x3
-    [0x0231_20b3, 0xffff_ffff, 0xffff_ffff, 0xffff_ffff], // mulhsu x1, x2, x3
-    [0x0231_20b3, 0x8000_0000, 0xffff_ffff, 0x8000_0000], // mulhsu x1, x2, x3
-    [0x0231_20b3, 0x0000_0002, 0xffff_ffff, 0x0000_0001], // mulhsu x1, x2, x3
-    [0x0231_30b3, 0xffff_ffff, 0xffff_ffff, 0xffff_fffe], // mulhu x1, x2, x3
-    [0x0231_30b3, 0x8000_0000, 0x0000_0002, 0x0000_0001], // mulhu x1, x2, x3
-    [0x0231_40b3, 0xffff_fff9, 0x0000_0002, 0xffff_fffd], // div x1, x2, x3
-    [0x0231_40b3, 0x8000_0000, 0xffff_ffff, 0x8000_0000], // div x1, x2, x3
-    [0x0231_40b3, 0x0000_0007, 0x0000_0000, 0xffff_ffff], // div x1, x2, x3
-    [0x0231_40b3, 0x0000_0007, 0xffff_fffd, 0xffff_fffe], // div x1, x2, x3
-    [0x0231_50b3, 0xffff_fff9, 0x0000_0002, 0x7fff_fffc], // divu x1, x2, x3
-    [0x0231_50b3, 0x0000_0007, 0x0000_0000, 0xffff_ffff], // divu x1, x2, x3
-    [0x0231_60b3, 0xffff_fff9, 0x0000_0002, 0xffff_ffff], // rem x1, x2, x3
-    [0x0231_60b3, 0x8000_0000, 0xffff_ffff, 0x0000_0000], // rem x1, x2, x3
-    [0x0231_60b3, 0x0000_0007, 0x0000_0000, 0x0000_0007], // rem x1, x2, x3
-    [0x0231_60b3, 0x0000_0007, 0xffff_fffd, 0x0000_0001], // rem x1, x2, x3
-    [0x0231_70b3, 0xffff_fff9, 0x0000_0002, 0x0000_0001], // remu x1, x2, x3
-    [0x0231_70b3, 0x0000_0007, 0x0000_0000, 0x0000_0007], // remu x1, x2, x3
-];
-
-// the same for five instructions
+/// An instruction's word, the words of x2 and x3 before it, what QEMU has in x1 after it, and the
+/// instruction as GNU as writes it.
 #[rattlefmt::skip]
-static SEQUENCES: [[u32; 8]; 25] = [
-    // auipc x1, 0x12345; auipc x5, 0; sub x1, x1, x5
-    [0x1234_5097, 0x0000_0297, 0x4050_80b3, NOP, NOP,
-        0x0000_0000, 0x0000_0000, 0x1234_4ffc],
-    // auipc x5, 0; jal x1, .+8; addi x1, x0, 0; sub x1, x1, x5
-    [0x0000_0297, 0x0080_00ef, 0x0000_0093, 0x4050_80b3, NOP,
-        0x0000_0000, 0x0000_0000, 0x0000_0008],
-    // auipc x5, 0; addi x6, x5, 17; jalr x1, 0(x6); addi x1, x0, 0; sub x1, x1, x5
-    [0x0000_0297, 0x0112_8313, 0x0003_00e7, 0x0000_0093, 0x4050_80b3,
-        0x0000_0000, 0x0000_0000, 0x0000_000c],
-    // auipc x5, 0; addi x6, x5, 24; jalr x6, -8(x6); addi x6, x0, 0; sub x1, x6, x5
-    [0x0000_0297, 0x0182_8313, 0xff83_0367, 0x0000_0313, 0x4053_00b3,
-        0x0000_0000, 0x0000_0000, 0x0000_000c],
-    // addi x1, x0, 1; beq x2, x3, .+8; addi x1, x1, 2
-    [0x0010_0093, 0x0031_0463, 0x0020_8093, NOP, NOP,
-        0x0000_0005, 0x0000_0005, 0x0000_0001],
-    // addi x1, x0, 1; beq x2, x3, .+8; addi x1, x1, 2
-    [0x0010_0093, 0x0031_0463, 0x0020_8093, NOP, NOP,
-        0x0000_0005, 0x0000_0006, 0x0000_0003],
-    // addi x1, x0, 1; bne x2, x3, .+8; addi x1, x1, 2
-    [0x0010_0093, 0x0031_1463, 0x0020_8093, NOP, NOP,
-        0x0000_0005, 0x0000_0005, 0x0000_0003],
-    // addi x1, x0, 1; bne x2, x3, .+8; addi x1, x1, 2
-    [0x0010_0093, 0x0031_1463, 0x0020_8093, NOP, NOP,
-        0x0000_0005, 0x0000_0006, 0x0000_0001],
-    // addi x1, x0, 1; blt x2, x3, .+8; addi x1, x1, 2
-    [0x0010_0093, 0x0031_4463, 0x0020_8093, NOP, NOP,
-        0xffff_ffff, 0x0000_0001, 0x0000_0001],
-    // addi x1, x0, 1; blt x2, x3, .+8; addi x1, x1, 2
-    [0x0010_0093, 0x0031_4463, 0x0020_8093, NOP, NOP,
-        0x0000_0001, 0xffff_ffff, 0x0000_0003],
-    // addi x1, x0, 1; blt x2, x3, .+8; addi x1, x1, 2
-    [0x0010_0093, 0x0031_4463, 0x0020_8093, NOP, NOP,
-        0x0000_0007, 0x0000_0007, 0x0000_0003],
-    // addi x1, x0, 1; bge x2, x3, .+8; addi x1, x1, 2
-    [0x0010_0093, 0x0031_5463, 0x0020_8093, NOP, NOP,
-        0xffff_ffff, 0x0000_0001, 0x0000_0003],
-    // addi x1, x0, 1; bge x2, x3, .+8; addi x1, x1, 2
-    [0x0010_0093, 0x0031_5463, 0x0020_8093, NOP, NOP,
-        0x0000_0001, 0xffff_ffff, 0x0000_0001],
-    // addi x1, x0, 1; bge x2, x3, .+8; addi x1, x1, 2
-    [0x0010_0093, 0x0031_5463, 0x0020_8093, NOP, NOP,
-        0x0000_0007, 0x0000_0007, 0x0000_0001],
-    // addi x1, x0, 1; bltu x2, x3, .+8; addi x1, x1, 2
-    [0x0010_0093, 0x0031_6463, 0x0020_8093, NOP, NOP,
-        0xffff_ffff, 0x0000_0001, 0x0000_0003],
-    // addi x1, x0, 1; bltu x2, x3, .+8; addi x1, x1, 2
-    [0x0010_0093, 0x0031_6463, 0x0020_8093, NOP, NOP,
-        0x0000_0001, 0xffff_ffff, 0x0000_0001],
-    // addi x1, x0, 1; bltu x2, x3, .+8; addi x1, x1, 2
-    [0x0010_0093, 0x0031_6463, 0x0020_8093, NOP, NOP,
-        0x0000_0007, 0x0000_0007, 0x0000_0003],
-    // addi x1, x0, 1; bgeu x2, x3, .+8; addi x1, x1, 2
-    [0x0010_0093, 0x0031_7463, 0x0020_8093, NOP, NOP,
-        0xffff_ffff, 0x0000_0001, 0x0000_0001],
-    // addi x1, x0, 1; bgeu x2, x3, .+8; addi x1, x1, 2
-    [0x0010_0093, 0x0031_7463, 0x0020_8093, NOP, NOP,
-        0x0000_0001, 0xffff_ffff, 0x0000_0003],
-    // addi x1, x0, 1; bgeu x2, x3, .+8; addi x1, x1, 2
-    [0x0010_0093, 0x0031_7463, 0x0020_8093, NOP, NOP,
-        0x0000_0007, 0x0000_0007, 0x0000_0001],
-    // sb x2, 5(x4); lw x1, 4(x4)
-    [0x0022_02a3, 0x0042_2083, NOP, NOP, NOP,
-        0x8001_f07f, 0xfedc_ba98, 0xfedc_7f98],
-    // sh x2, 6(x4); lw x1, 4(x4)
-    [0x0022_1323, 0x0042_2083, NOP, NOP, NOP,
-        0x8001_f07f, 0xfedc_ba98, 0xf07f_ba98],
-    // sw x2, 4(x4); lw x1, 4(x4)
-    [0x0022_2223, 0x0042_2083, NOP, NOP, NOP,
-        0x8001_f07f, 0xfedc_ba98, 0x8001_f07f],
-    // addi x1, x0, 5; fence
-    [0x0050_0093, 0x0ff0_000f, NOP, NOP, NOP,
-        0x0000_0000, 0x0000_0000, 0x0000_0005],
-    // addi x0, x2, 5; addi x1, x0, 0
-    [0x0051_0013, 0x0000_0093, NOP, NOP, NOP,
-        0x0000_0009, 0x0000_0000, 0x0000_0000],
-];
+const COMPUTED: &str = "\
+fffff0b7 00000000 00000000 fffff000 lui x1, 0xfffff\n\
+00120083 8001f07f fedcba98 fffffff0 lb x1, 1(x4)\n\
+00221083 8001f07f fedcba98 ffff8001 lh x1, 2(x4)\n\
+00422083 8001f07f fedcba98 fedcba98 lw x1, 4(x4)\n\
+00124083 8001f07f fedcba98 000000f0 lbu x1, 1(x4)\n\
+00225083 8001f07f fedcba98 00008001 lhu x1, 2(x4)\n\
+80010093 00000001 00000000 fffff801 addi x1, x2, -2048\n\
+80010093 7fffffff 00000000 7ffff7ff addi x1, x2, -2048\n\
+fff12093 fffffffe 00000000 00000001 slti x1, x2, -1\n\
+fff12093 00000000 00000000 00000000 slti x1, x2, -1\n\
+fff12093 ffffffff 00000000 00000000 slti x1, x2, -1\n\
+fff13093 fffffffe 00000000 00000001 sltiu x1, x2, -1\n\
+fff13093 ffffffff 00000000 00000000 sltiu x1, x2, -1\n\
+00113093 00000000 00000000 00000001 sltiu x1, x2, 1\n\
+fff14093 0ff00ff0 00000000 f00ff00f xori x1, x2, -1\n\
+80016093 00000123 00000000 fffff923 ori x1, x2, -2048\n\
+f0017093 12345678 00000000 12345600 andi x1, x2, -256\n\
+01f11093 00000003 00000000 80000000 slli x1, x2, 31\n\
+00415093 80000010 00000000 08000001 srli x1, x2, 4\n\
+40415093 80000010 00000000 f8000001 srai x1, x2, 4\n\
+003100b3 ffffffff 00000002 00000001 add x1, x2, x3\n\
+403100b3 00000001 00000002 ffffffff sub x1, x2, x3\n\
+003110b3 00000001 00000021 00000002 sll x1, x2, x3\n\
+003120b3 ffffffff 00000000 00000001 slt x1, x2, x3\n\
+003120b3 00000000 ffffffff 00000000 slt x1, x2, x3\n\
+003130b3 ffffffff 00000000 00000000 sltu x1, x2, x3\n\
+003130b3 00000000 ffffffff 00000001 sltu x1, x2, x3\n\
+003140b3 ff00ff00 0ff00ff0 f0f0f0f0 xor x1, x2, x3\n\
+003150b3 80000000 0000003f 00000001 srl x1, x2, x3\n\
+403150b3 80000000 0000003f ffffffff sra x1, x2, x3\n\
+003160b3 ff00ff00 0ff00ff0 fff0fff0 or x1, x2, x3\n\
+003170b3 ff00ff00 0ff00ff0 0f000f00 and x1, x2, x3\n\
+023100b3 12345678 9abcdef0 242d2080 mul x1, x2, x3\n\
+023110b3 ffffffff ffffffff 00000000 mulh x1, x2, x3\n\
+023110b3 80000000 80000000 40000000 mulh x1, x2, x3\n\
+023110b3 80000000 7fffffff c0000000 mulh x1, x2, x3\n\
+023120b3 ffffffff ffffffff ffffffff mulhsu x1, x2, x3\n\
+023120b3 80000000 ffffffff 80000000 mulhsu x1, x2, x3\n\
+023120b3 00000002 ffffffff 00000001 mulhsu x1, x2, x3\n\
+023130b3 ffffffff ffffffff fffffffe mulhu x1, x2, x3\n\
+023130b3 80000000 00000002 00000001 mulhu x1, x2, x3\n\
+023140b3 fffffff9 00000002 fffffffd div x1, x2, x3\n\
+023140b3 80000000 ffffffff 80000000 div x1, x2, x3\n\
+023140b3 00000007 00000000 ffffffff div x1, x2, x3\n\
+023140b3 00000007 fffffffd fffffffe div x1, x2, x3\n\
+023150b3 fffffff9 00000002 7ffffffc divu x1, x2, x3\n\
+023150b3 00000007 00000000 ffffffff divu x1, x2, x3\n\
+023160b3 fffffff9 00000002 ffffffff rem x1, x2, x3\n\
+023160b3 80000000 ffffffff 00000000 rem x1, x2, x3\n\
+023160b3 00000007 00000000 00000007 rem x1, x2, x3\n\
+023160b3 00000007 fffffffd 00000001 rem x1, x2, x3\n\
+023170b3 fffffff9 00000002 00000001 remu x1, x2, x3\n\
+023170b3 00000007 00000000 00000007 remu x1, x2, x3";
+
+/// The same of five instructions.
+#[rattlefmt::skip]
+const SEQUENCES: &str = "\
+12345097 00000297 405080b3 00000013 00000013 00000000 00000000 12344ffc \
+    auipc x1, 0x12345; auipc x5, 0; sub x1, x1, x5\n\
+00000297 008000ef 00000093 405080b3 00000013 00000000 00000000 00000008 \
+    auipc x5, 0; jal x1, .+8; addi x1, x0, 0; sub x1, x1, x5\n\
+00000297 01128313 000300e7 00000093 405080b3 00000000 00000000 0000000c \
+    auipc x5, 0; addi x6, x5, 17; jalr x1, 0(x6); addi x1, x0, 0; sub x1, x1, x5\n\
+00000297 01828313 ff830367 00000313 405300b3 00000000 00000000 0000000c \
+    auipc x5, 0; addi x6, x5, 24; jalr x6, -8(x6); addi x6, x0, 0; sub x1, x6, x5\n\
+00100093 00310463 00208093 00000013 00000013 00000005 00000005 00000001 \
+    addi x1, x0, 1; beq x2, x3, .+8; addi x1, x1, 2\n\
+00100093 00310463 00208093 00000013 00000013 00000005 00000006 00000003 \
+    addi x1, x0, 1; beq x2, x3, .+8; addi x1, x1, 2\n\
+00100093 00311463 00208093 00000013 00000013 00000005 00000005 00000003 \
+    addi x1, x0, 1; bne x2, x3, .+8; addi x1, x1, 2\n\
+00100093 00311463 00208093 00000013 00000013 00000005 00000006 00000001 \
+    addi x1, x0, 1; bne x2, x3, .+8; addi x1, x1, 2\n\
+00100093 00314463 00208093 00000013 00000013 ffffffff 00000001 00000001 \
+    addi x1, x0, 1; blt x2, x3, .+8; addi x1, x1, 2\n\
+00100093 00314463 00208093 00000013 00000013 00000001 ffffffff 00000003 \
+    addi x1, x0, 1; blt x2, x3, .+8; addi x1, x1, 2\n\
+00100093 00314463 00208093 00000013 00000013 00000007 00000007 00000003 \
+    addi x1, x0, 1; blt x2, x3, .+8; addi x1, x1, 2\n\
+00100093 00315463 00208093 00000013 00000013 ffffffff 00000001 00000003 \
+    addi x1, x0, 1; bge x2, x3, .+8; addi x1, x1, 2\n\
+00100093 00315463 00208093 00000013 00000013 00000001 ffffffff 00000001 \
+    addi x1, x0, 1; bge x2, x3, .+8; addi x1, x1, 2\n\
+00100093 00315463 00208093 00000013 00000013 00000007 00000007 00000001 \
+    addi x1, x0, 1; bge x2, x3, .+8; addi x1, x1, 2\n\
+00100093 00316463 00208093 00000013 00000013 ffffffff 00000001 00000003 \
+    addi x1, x0, 1; bltu x2, x3, .+8; addi x1, x1, 2\n\
+00100093 00316463 00208093 00000013 00000013 00000001 ffffffff 00000001 \
+    addi x1, x0, 1; bltu x2, x3, .+8; addi x1, x1, 2\n\
+00100093 00316463 00208093 00000013 00000013 00000007 00000007 00000003 \
+    addi x1, x0, 1; bltu x2, x3, .+8; addi x1, x1, 2\n\
+00100093 00317463 00208093 00000013 00000013 ffffffff 00000001 00000001 \
+    addi x1, x0, 1; bgeu x2, x3, .+8; addi x1, x1, 2\n\
+00100093 00317463 00208093 00000013 00000013 00000001 ffffffff 00000003 \
+    addi x1, x0, 1; bgeu x2, x3, .+8; addi x1, x1, 2\n\
+00100093 00317463 00208093 00000013 00000013 00000007 00000007 00000001 \
+    addi x1, x0, 1; bgeu x2, x3, .+8; addi x1, x1, 2\n\
+002202a3 00422083 00000013 00000013 00000013 8001f07f fedcba98 fedc7f98 \
+    sb x2, 5(x4); lw x1, 4(x4)\n\
+00221323 00422083 00000013 00000013 00000013 8001f07f fedcba98 f07fba98 \
+    sh x2, 6(x4); lw x1, 4(x4)\n\
+00222223 00422083 00000013 00000013 00000013 8001f07f fedcba98 8001f07f \
+    sw x2, 4(x4); lw x1, 4(x4)\n\
+00500093 0ff0000f 00000013 00000013 00000013 00000000 00000000 00000005 \
+    addi x1, x0, 5; fence\n\
+00510013 00000093 00000013 00000013 00000013 00000009 00000000 00000000 \
+    addi x0, x2, 5; addi x1, x0, 0";
 
 // a machine that runs these words after the start, with two words of data, 8 bytes for `tohost`
 // and an empty signature
@@ -226,21 +201,44 @@ fn outcome(
     }
 }
 
+fn word_of(text: &str) -> Result<u32, Fail> {
+    let word = number_below(1 << 32, 16, text.as_bytes()).ok_or("no word")?;
+    Ok(word as u32)
+}
+
+/// The first words of a row, which are so many and in hexadecimal.
+fn words_of(alloc: Global, row: &str, count: usize) -> Result<Vec<u32>, Fail> {
+    let mut words = Vec::new(alloc);
+    for text in row.split(' ').take(count) {
+        words.push(word_of(text)?)?;
+    }
+    Ok(words)
+}
+
+/// Runs the instructions of a row, behind which stand the words of x2 and x3 and that of x1.
+fn check_row(rt: &impl Abort, alloc: Global, row: &str, count: usize) -> Result<(), Fail> {
+    let words = words_of(alloc, row, count + 3)?;
+    let (code, rest) = words.as_slice().split_at_checked(count).ok_or("no code")?;
+    let [first, second, wanted] = rest else {
+        return Err(Fail::new("no words"));
+    };
+    let (_, last) = outcome(alloc, code, *first, *second, RV32IM)?.ok_or("no image")?;
+    assert_eq!(rt; last, Some(*wanted), "at {row}");
+    Ok(())
+}
+
 #[test]
 fn computes_as_qemu(rt: HostRuntime) -> Result<(), Fail> {
-    for [word, first, second, wanted] in COMPUTED {
-        let (_, last) = outcome(rt.alloc(), &[word], first, second, RV32IM)?.ok_or("no image")?;
-        assert_eq!(rt; last, Some(wanted), "at {word:08x}");
+    for row in COMPUTED.split('\n') {
+        check_row(&rt, rt.alloc(), row, 1)?;
     }
     Ok(())
 }
 
 #[test]
 fn goes_as_qemu(rt: HostRuntime) -> Result<(), Fail> {
-    for [a, b, c, d, e, first, second, wanted] in SEQUENCES {
-        let words = [a, b, c, d, e];
-        let (_, last) = outcome(rt.alloc(), &words, first, second, RV32IM)?.ok_or("no image")?;
-        assert_eq!(rt; last, Some(wanted), "at {b:08x}");
+    for row in SEQUENCES.split('\n') {
+        check_row(&rt, rt.alloc(), row, 5)?;
     }
     Ok(())
 }
@@ -257,61 +255,66 @@ fn trap(kind: TrapKind) -> Option<End> {
     Some(End::Trapped(Trap { pc, kind }))
 }
 
+fn check_trap(
+    rt: &impl Abort,
+    alloc: Global,
+    word: u32,
+    pc: u32,
+    kind: TrapKind,
+) -> Result<(), Fail> {
+    let end = end_of(alloc, word)?;
+    assert_eq!(rt; end, Some(End::Trapped(Trap { pc, kind })));
+    Ok(())
+}
+
+const PC: u32 = 0x8000_000c;
+
 // ecall; ebreak; no instruction; jalr x1, 2(x0)
 #[test]
 fn traps(rt: HostRuntime) -> Result<(), Fail> {
-    assert_eq!(rt; end_of(rt.alloc(), 0x0000_0073)?, trap(TrapKind::Ecall));
-    assert_eq!(rt; end_of(rt.alloc(), 0x0010_0073)?, trap(TrapKind::Ebreak));
+    let alloc = rt.alloc();
+    check_trap(&rt, alloc, 0x0000_0073, PC, TrapKind::Ecall)?;
+    check_trap(&rt, alloc, 0x0010_0073, PC, TrapKind::Ebreak)?;
     let illegal = TrapKind::Illegal { word: 0x0000_000b };
-    assert_eq!(rt; end_of(rt.alloc(), 0x0000_000b)?, trap(illegal));
+    check_trap(&rt, alloc, 0x0000_000b, PC, illegal)?;
     let target = TrapKind::MisalignedTarget { target: 2 };
-    assert_eq!(rt; end_of(rt.alloc(), 0x0020_00e7)?, trap(target));
-    Ok(())
+    check_trap(&rt, alloc, 0x0020_00e7, PC, target)
 }
 
 // the end of the text; lw x1, 1(x4); lw x1, 16(x4); sb x2, -4(x4), which is in the text's range
 #[test]
 fn traps_at_addresses(rt: HostRuntime) -> Result<(), Fail> {
-    let pc = 0x8000_0010;
-    let kind = TrapKind::AccessFault { addr: pc };
-    assert_eq!(rt;
-        end_of(rt.alloc(), NOP)?,
-        Some(End::Trapped(Trap { pc, kind }))
-    );
+    let alloc = rt.alloc();
+    let addr = 0x8000_0010;
+    check_trap(&rt, alloc, NOP, addr, TrapKind::AccessFault { addr })?;
     let misaligned = TrapKind::MisalignedAccess { addr: 0x8100_0001 };
-    assert_eq!(rt; end_of(rt.alloc(), 0x0012_2083)?, trap(misaligned));
+    check_trap(&rt, alloc, 0x0012_2083, PC, misaligned)?;
     let above = TrapKind::AccessFault { addr: 0x8100_0010 };
-    assert_eq!(rt; end_of(rt.alloc(), 0x0102_2083)?, trap(above));
+    check_trap(&rt, alloc, 0x0102_2083, PC, above)?;
     let below = TrapKind::AccessFault { addr: 0x80ff_fffc };
-    assert_eq!(rt; end_of(rt.alloc(), 0xfe22_0e23)?, trap(below));
-    Ok(())
+    check_trap(&rt, alloc, 0xfe22_0e23, PC, below)
 }
 
-// the word of mul without M, and a misaligned load where the core allows it
+// the word of mul without M
 #[test]
 fn keeps_to_the_core(rt: HostRuntime) -> Result<(), Fail> {
     let without = IsaSpec { m: false, ..RV32IM };
     let (end, _) = outcome(rt.alloc(), &[0x0231_00b3], 1, 2, without)?.ok_or("no image")?;
     let kind = TrapKind::Illegal { word: 0x0231_00b3 };
-    assert_eq!(rt;
-        end,
-        End::Trapped(Trap {
-            pc: 0x8000_000c,
-            kind
-        })
-    );
+    assert_eq!(rt; end, End::Trapped(Trap { pc: PC, kind }));
+    Ok(())
+}
+
+// a misaligned load where the core allows it
+#[test]
+fn loads_what_is_misaligned(rt: HostRuntime) -> Result<(), Fail> {
     let lenient = IsaSpec {
         misaligned: true,
         ..RV32IM
     };
-    let (_, last) = outcome(
-        rt.alloc(),
-        &[0x0012_2083],
-        0x4433_2211,
-        0x8877_6655,
-        lenient,
-    )?
-    .ok_or("no image")?;
+    let code = [0x0012_2083];
+    let (_, last) =
+        outcome(rt.alloc(), &code, 0x4433_2211, 0x8877_6655, lenient)?.ok_or("no image")?;
     assert_eq!(rt; last, Some(0x5544_3322));
     Ok(())
 }
@@ -319,8 +322,10 @@ fn keeps_to_the_core(rt: HostRuntime) -> Result<(), Fail> {
 // the same file twice: the second with carriage returns, leading zeros in its counts, letters of
 // either case, and no last line feed
 static IMAGES: [&[u8]; 2] = [
-    b"rvimage 1\ntext 3\n810002b7\n00100313\n0062a023\ndata 2\n00000000\n00000007\ntohost 81000000\nbegin 81000004\nend 81000008\n",
-    b"rvimage 1\r\ntext 0000003\n810002B7\n00100313\n0062A023\r\ndata 02\n00000000\n00000007\ntohost 81000000\nbegin 81000004\nend 81000008",
+    b"rvimage 1\ntext 3\n810002b7\n00100313\n0062a023\ndata 2\n00000000\n00000007\n\
+tohost 81000000\nbegin 81000004\nend 81000008\n",
+    b"rvimage 1\r\ntext 0000003\n810002B7\n00100313\n0062A023\r\ndata 02\n00000000\n\
+00000007\ntohost 81000000\nbegin 81000004\nend 81000008",
 ];
 
 // how a run of an image file ends, and how many instructions it has
@@ -331,12 +336,30 @@ fn run_of_image(alloc: Global, bytes: &[u8], limit: u64) -> Result<(End, usize),
     Ok((end, trace.as_slice().len()))
 }
 
+fn check_image(
+    rt: &impl Abort,
+    alloc: Global,
+    bytes: &[u8],
+    limit: u64,
+    wanted: (End, usize),
+) -> Result<(), Fail> {
+    assert_eq!(rt; run_of_image(alloc, bytes, limit)?, wanted);
+    Ok(())
+}
+
 #[test]
 fn runs_an_image_file(rt: HostRuntime) -> Result<(), Fail> {
     for bytes in IMAGES {
-        assert_eq!(rt; run_of_image(rt.alloc(), bytes, 10)?, (End::Halted, 3));
-        assert_eq!(rt; run_of_image(rt.alloc(), bytes, 3)?, (End::Halted, 3));
-        assert_eq!(rt; run_of_image(rt.alloc(), bytes, 2)?, (End::StepLimit, 2));
+        check_image(&rt, rt.alloc(), bytes, 10, (End::Halted, 3))?;
+        check_image(&rt, rt.alloc(), bytes, 3, (End::Halted, 3))?;
+        check_image(&rt, rt.alloc(), bytes, 2, (End::StepLimit, 2))?;
+    }
+    Ok(())
+}
+
+#[test]
+fn an_image_file_has_a_signature(rt: HostRuntime) -> Result<(), Fail> {
+    for bytes in IMAGES {
         let core = Machine::new(read_image(rt.alloc(), bytes)?, RV32IM);
         assert_eq!(rt; core.signature(rt.alloc())?.as_slice(), [7].as_slice());
     }

@@ -1,4 +1,5 @@
 // Files as people write them, and that calls which have memory succeed.
+use rvs_base::Items;
 use rvs_sig::{SigRefusal, Verdict, compare, print_words, read_words};
 use std::alloc::Global;
 use std::test::Fail;
@@ -11,54 +12,47 @@ fn many_lines(alloc: Global, count: usize) -> Result<Vec<u8>, Fail> {
     Ok(bytes)
 }
 
+fn words_of(alloc: Global, bytes: &[u8]) -> Result<Items<u32>, Fail> {
+    Ok(read_words(alloc, bytes).ok().ok_or("refused")?)
+}
+
 fn refusal(alloc: Global, bytes: &[u8]) -> Option<SigRefusal> {
     read_words(alloc, bytes).err()
 }
 
 #[test]
 fn lines_end_in_either_way(rt: HostRuntime) -> Result<(), Fail> {
-    let unix = read_words(rt.alloc(), b"00000001\nffffffff\n")
-        .ok()
-        .ok_or("refused")?;
-    let other = read_words(rt.alloc(), b"00000001\r\nFFFFFFFF\r")
-        .ok()
-        .ok_or("refused")?;
+    let unix = words_of(rt.alloc(), b"00000001\nffffffff\n")?;
+    let other = words_of(rt.alloc(), b"00000001\r\nFFFFFFFF\r")?;
     assert_eq!(rt; unix.as_slice(), [1, 0xffff_ffff].as_slice());
     assert_eq!(rt;
         compare(unix.as_slice(), other.as_slice()),
         Verdict::Same { n: 2 }
     );
-    let none = read_words(rt.alloc(), b"").ok().ok_or("refused")?;
+    let none = words_of(rt.alloc(), b"")?;
     assert_eq!(rt; none.as_slice().len(), 0);
     Ok(())
 }
 
+/// Files, and their first bad lines.
+static BAD: [(&[u8], u32); 4] = [
+    (b"0000001\n", 1),
+    (b"00000001\n\n000000001\n", 2),
+    (b"00000001\n0000000g", 2),
+    (b"00000001\r\r\n", 1),
+];
+
 #[test]
 fn the_first_bad_line_is_named(rt: HostRuntime) {
-    assert_eq!(rt;
-        refusal(rt.alloc(), b"0000001\n"),
-        Some(SigRefusal::BadLine { line: 1 })
-    );
-    assert_eq!(rt;
-        refusal(rt.alloc(), b"00000001\n\n000000001\n"),
-        Some(SigRefusal::BadLine { line: 2 })
-    );
-    assert_eq!(rt;
-        refusal(rt.alloc(), b"00000001\n0000000g"),
-        Some(SigRefusal::BadLine { line: 2 })
-    );
-    assert_eq!(rt;
-        refusal(rt.alloc(), b"00000001\r\r\n"),
-        Some(SigRefusal::BadLine { line: 1 })
-    );
+    for (bytes, line) in BAD {
+        assert_eq!(rt; refusal(rt.alloc(), bytes), Some(SigRefusal::BadLine { line }));
+    }
 }
 
 #[test]
 fn a_file_may_have_so_many_lines(rt: HostRuntime) -> Result<(), Fail> {
     let most = many_lines(rt.alloc(), 262_144)?;
-    let words = read_words(rt.alloc(), most.as_slice())
-        .ok()
-        .ok_or("refused")?;
+    let words = words_of(rt.alloc(), most.as_slice())?;
     assert_eq!(rt; words.as_slice().len(), 262_144);
     let more = many_lines(rt.alloc(), 262_145)?;
     assert_eq!(rt;

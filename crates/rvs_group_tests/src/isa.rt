@@ -2,6 +2,7 @@
 use rvs_base::{NoMemory, Text};
 use rvs_isa::{check, print_checked, refusal_text};
 use std::alloc::Global;
+use std::test::Fail;
 
 // What is printed of a file: the checked specification, or why it is refused.
 fn printed(alloc: Global, file: &str) -> Result<Text, NoMemory> {
@@ -25,131 +26,122 @@ fn printed_of(alloc: Global, isa: &str, more: &str) -> Result<Text, NoMemory> {
     printed(alloc, file.as_str())
 }
 
-const IM: &str = "isa RV32IM\nmisaligned false\naddress_bits 32\nmisa 0x40001100\n";
-
-const I: &str = "isa RV32I\nmisaligned false\naddress_bits 32\nmisa 0x40000100\n";
+/// What is printed, a mark, and an ISA text; another mark between two rows.
+#[rattlefmt::skip]
+const TEXTS: &str = "\
+isa RV32IM\nmisaligned false\naddress_bits 32\nmisa 0x40001100\n\u{2}RV32IM\u{1}\
+isa RV32I\nmisaligned false\naddress_bits 32\nmisa 0x40000100\n\u{2}RV32I\u{1}\
+isa RV32IMZicsr_Zifencei\nmisaligned false\naddress_bits 32\nmisa 0x40001100\n\u{2}\
+RV32IMZicsr_Zifencei\u{1}\
+isa RV32IZicsr\nmisaligned false\naddress_bits 32\nmisa 0x40000100\n\u{2}RV32I_Zicsr\u{1}\
+isa RV32IZicsr_Zifencei\nmisaligned false\naddress_bits 32\nmisa 0x40000100\n\u{2}\
+RV32IZifencei_Zicsr\u{1}\
+isa 3 hart0.ISA\u{2}RV64I\u{1}\
+isa 3 hart0.ISA\u{2}RV32\u{1}\
+isa 3 hart0.ISA\u{2}rv32i\u{1}\
+isa 3 hart0.ISA\u{2}RV32IE\u{1}\
+isa 3 hart0.ISA\u{2}RV32IMM\u{1}\
+isa 3 hart0.ISA\u{2}RV32IFM\u{1}\
+isa 3 hart0.ISA\u{2}RV32IZ\u{1}\
+isa 3 hart0.ISA\u{2}RV32I_\u{1}\
+isa 3 hart0.ISA\u{2}RV32I__Zicsr\u{1}\
+isa 3 hart0.ISA\u{2}RV32IZicsrZifencei\u{1}\
+isa 3 hart0.ISA\u{2}[RV32I]\u{1}\
+isa 4 hart0.ISA\u{2}RV32IMC\u{1}\
+isa 4 hart0.ISA\u{2}RV32E\u{1}\
+isa 4 hart0.ISA\u{2}RV32EM\u{1}\
+isa 4 hart0.ISA\u{2}RV32IA\u{1}\
+isa 4 hart0.ISA\u{2}RV32IMAFDQLCBJTPVN\u{1}\
+isa 4 hart0.ISA\u{2}RV32IZicsr_Zicsr\u{1}\
+isa 4 hart0.ISA\u{2}RV32IZfh";
 
 #[test]
-fn isa_texts(rt: HostRuntime) {
-    let rows = [
-        ("RV32IM", IM),
-        ("RV32I", I),
-        (
-            "RV32IMZicsr_Zifencei",
-            "isa RV32IMZicsr_Zifencei\nmisaligned false\naddress_bits 32\nmisa 0x40001100\n",
-        ),
-        (
-            "RV32I_Zicsr",
-            "isa RV32IZicsr\nmisaligned false\naddress_bits 32\nmisa 0x40000100\n",
-        ),
-        (
-            "RV32IZifencei_Zicsr",
-            "isa RV32IZicsr_Zifencei\nmisaligned false\naddress_bits 32\nmisa 0x40000100\n",
-        ),
-        ("RV64I", "isa 3 hart0.ISA"),
-        ("RV32", "isa 3 hart0.ISA"),
-        ("rv32i", "isa 3 hart0.ISA"),
-        ("RV32IE", "isa 3 hart0.ISA"),
-        ("RV32IMM", "isa 3 hart0.ISA"),
-        ("RV32IFM", "isa 3 hart0.ISA"),
-        ("RV32IZ", "isa 3 hart0.ISA"),
-        ("RV32I_", "isa 3 hart0.ISA"),
-        ("RV32I__Zicsr", "isa 3 hart0.ISA"),
-        ("RV32IZicsrZifencei", "isa 3 hart0.ISA"),
-        ("[RV32I]", "isa 3 hart0.ISA"),
-        ("RV32IMC", "isa 4 hart0.ISA"),
-        ("RV32E", "isa 4 hart0.ISA"),
-        ("RV32EM", "isa 4 hart0.ISA"),
-        ("RV32IA", "isa 4 hart0.ISA"),
-        ("RV32IMAFDQLCBJTPVN", "isa 4 hart0.ISA"),
-        ("RV32IZicsr_Zicsr", "isa 4 hart0.ISA"),
-        ("RV32IZfh", "isa 4 hart0.ISA"),
-    ];
-    for (isa, want) in rows {
-        let text = printed_of(rt.alloc(), isa, "").expect(&rt, "memory");
+fn isa_texts(rt: HostRuntime) -> Result<(), Fail> {
+    for row in TEXTS.split('\u{1}') {
+        let (want, isa) = row.split_once('\u{2}').ok_or("no row")?;
+        let text = printed_of(rt.alloc(), isa, "")?;
         assert_eq!(rt; text.as_str(), want, "at {isa}");
     }
+    Ok(())
 }
 
+/// The same of lines behind the ISA text `RV32IM`.
+#[rattlefmt::skip]
+const ENTRIES: &str = "\
+isa RV32IM\nmisaligned false\naddress_bits 32\nmisa 0x40001100\nunread hart0.User_Spec_Version\n\
+\u{2}  User_Spec_Version: '2.3'\n\u{1}\
+isa RV32IM\nmisaligned false\naddress_bits 32\nmisa 0x40001100\n\u{2}  supported_xlen: [32]\n\
+\u{1}\
+isa 5 hart0.supported_xlen\u{2}  supported_xlen:\n\u{1}\
+isa 5 hart0.supported_xlen\u{2}  supported_xlen: 32\n\u{1}\
+isa 5 hart0.supported_xlen\u{2}  supported_xlen: [32, 64]\n\u{1}\
+isa 5 hart0.supported_xlen\u{2}  physical_addr_sz: 9\n  supported_xlen: [64]\n\u{1}\
+isa RV32IM\nmisaligned false\naddress_bits 34\nmisa 0x40001100\n\u{2}  physical_addr_sz: 34\n\
+\u{1}\
+isa RV32IM\nmisaligned false\naddress_bits 32\nmisa 0x40001100\n\u{2}  physical_addr_sz: 0x20\n\
+\u{1}\
+isa RV32IM\nmisaligned false\naddress_bits 32\nmisa 0x40001100\n\u{2}  physical_addr_sz: 0032\n\
+\u{1}\
+isa 6 hart0.physical_addr_sz\u{2}  physical_addr_sz: 0X20\n\u{1}\
+isa 6 hart0.physical_addr_sz\u{2}  physical_addr_sz: 31\n\u{1}\
+isa 6 hart0.physical_addr_sz\u{2}  physical_addr_sz: 35\n\u{1}\
+isa RV32IM\nmisaligned true\naddress_bits 32\nmisa 0x40001100\n\
+\u{2}  hw_data_misaligned_support: TRUE\n\u{1}\
+isa RV32IM\nmisaligned false\naddress_bits 32\nmisa 0x40001100\n\
+\u{2}  hw_data_misaligned_support: False\n\u{1}\
+isa 9 hart0.hw_data_misaligned_support\u{2}  hw_data_misaligned_support: yes\n\u{1}\
+isa 1 hart0.misa\u{2}  misa:\n\u{1}\
+isa RV32IM\nmisaligned false\naddress_bits 32\nmisa 0x40001100\n\u{2}  misa: {}\n\u{1}\
+isa RV32IM\nmisaligned false\naddress_bits 32\nmisa 0x40001100\n\
+\u{2}  misa:\n    reset-val: 0x40001100\n\u{1}\
+isa RV32IM\nmisaligned false\naddress_bits 32\nmisa 0x40001100\n\
+\u{2}  misa:\n    reset-val: 1073746176\n\u{1}\
+isa 7 hart0.misa.reset-val stated 0x40000100 expected 0x40001100\u{2}  misa:\n    reset-val: \
+0x40000100\n\u{1}\
+isa 10 hart0.misa.reset-val\u{2}  misa:\n    reset-val: 0x140001100\n\u{1}\
+isa 10 hart0.misa.reset-val\u{2}  misa:\n    reset-val: -1\n";
+
 #[test]
-fn entries_of_the_hart(rt: HostRuntime) {
-    let rows = [
-        (
-            "  User_Spec_Version: '2.3'\n",
-            "isa RV32IM\nmisaligned false\naddress_bits 32\nmisa 0x40001100\nunread hart0.User_Spec_Version\n",
-        ),
-        ("  supported_xlen: [32]\n", IM),
-        ("  supported_xlen:\n", "isa 5 hart0.supported_xlen"),
-        ("  supported_xlen: 32\n", "isa 5 hart0.supported_xlen"),
-        ("  supported_xlen: [32, 64]\n", "isa 5 hart0.supported_xlen"),
-        (
-            "  physical_addr_sz: 9\n  supported_xlen: [64]\n",
-            "isa 5 hart0.supported_xlen",
-        ),
-        (
-            "  physical_addr_sz: 34\n",
-            "isa RV32IM\nmisaligned false\naddress_bits 34\nmisa 0x40001100\n",
-        ),
-        ("  physical_addr_sz: 0x20\n", IM),
-        ("  physical_addr_sz: 0032\n", IM),
-        ("  physical_addr_sz: 0X20\n", "isa 6 hart0.physical_addr_sz"),
-        ("  physical_addr_sz: 31\n", "isa 6 hart0.physical_addr_sz"),
-        ("  physical_addr_sz: 35\n", "isa 6 hart0.physical_addr_sz"),
-        (
-            "  hw_data_misaligned_support: TRUE\n",
-            "isa RV32IM\nmisaligned true\naddress_bits 32\nmisa 0x40001100\n",
-        ),
-        ("  hw_data_misaligned_support: False\n", IM),
-        (
-            "  hw_data_misaligned_support: yes\n",
-            "isa 9 hart0.hw_data_misaligned_support",
-        ),
-        ("  misa:\n", "isa 1 hart0.misa"),
-        ("  misa: {}\n", IM),
-        ("  misa:\n    reset-val: 0x40001100\n", IM),
-        ("  misa:\n    reset-val: 1073746176\n", IM),
-        (
-            "  misa:\n    reset-val: 0x40000100\n",
-            "isa 7 hart0.misa.reset-val stated 0x40000100 expected 0x40001100",
-        ),
-        (
-            "  misa:\n    reset-val: 0x140001100\n",
-            "isa 10 hart0.misa.reset-val",
-        ),
-        (
-            "  misa:\n    reset-val: -1\n",
-            "isa 10 hart0.misa.reset-val",
-        ),
-    ];
-    for (more, want) in rows {
-        let text = printed_of(rt.alloc(), "RV32IM", more).expect(&rt, "memory");
+fn entries_of_the_hart(rt: HostRuntime) -> Result<(), Fail> {
+    for row in ENTRIES.split('\u{1}') {
+        let (want, more) = row.split_once('\u{2}').ok_or("no row")?;
+        let text = printed_of(rt.alloc(), "RV32IM", more)?;
         assert_eq!(rt; text.as_str(), want, "at {more}");
     }
+    Ok(())
+}
+
+/// The same of whole files.
+#[rattlefmt::skip]
+const FILES: &str = "\
+isa 1 \u{2}[]\u{1}\
+isa 1 \u{2}\u{1}\
+isa 2 hart_ids\u{2}hart0: 1\n\u{1}\
+isa 8 hart_ids\u{2}hart_ids: 0\n\u{1}\
+isa 8 hart_ids\u{2}hart_ids: []\n\u{1}\
+isa 8 hart_ids\u{2}hart_ids: [0, x]\n\u{1}\
+isa 10 hart_ids\u{2}hart_ids: [x]\n\u{1}\
+isa 2 hart0\u{2}hart_ids: [0]\n\u{1}\
+isa 1 hart0\u{2}hart_ids: [0]\nhart0: 1\n\u{1}\
+isa 2 hart0.ISA\u{2}hart_ids: [0]\nhart0: {}\n\u{1}\
+isa RV32I\nmisaligned false\naddress_bits 32\nmisa 0x40000100\nunread hart0\n\u{2}\
+hart_ids: [0x0A]\nhart10: {ISA: RV32I}\nhart0: 1\n";
+
+#[test]
+fn files(rt: HostRuntime) -> Result<(), Fail> {
+    for row in FILES.split('\u{1}') {
+        let (want, file) = row.split_once('\u{2}').ok_or("no row")?;
+        let text = printed(rt.alloc(), file)?;
+        assert_eq!(rt; text.as_str(), want, "at {file}");
+    }
+    Ok(())
 }
 
 #[test]
-fn files(rt: HostRuntime) {
-    let rows = [
-        ("[]", "isa 1 "),
-        ("", "isa 1 "),
-        ("hart0: 1\n", "isa 2 hart_ids"),
-        ("hart_ids: 0\n", "isa 8 hart_ids"),
-        ("hart_ids: []\n", "isa 8 hart_ids"),
-        ("hart_ids: [0, x]\n", "isa 8 hart_ids"),
-        ("hart_ids: [x]\n", "isa 10 hart_ids"),
-        ("hart_ids: [0]\n", "isa 2 hart0"),
-        ("hart_ids: [0]\nhart0: 1\n", "isa 1 hart0"),
-        ("hart_ids: [0]\nhart0: {}\n", "isa 2 hart0.ISA"),
-        (
-            "hart_ids: [0x0A]\nhart10: {ISA: RV32I}\nhart0: 1\n",
-            "isa RV32I\nmisaligned false\naddress_bits 32\nmisa 0x40000100\nunread hart0\n",
-        ),
-        (USUAL, USUAL_TEXT),
-    ];
-    for (file, want) in rows {
-        let text = printed(rt.alloc(), file).expect(&rt, "memory");
-        assert_eq!(rt; text.as_str(), want, "at {file}");
-    }
+fn a_usual_file(rt: HostRuntime) -> Result<(), Fail> {
+    let text = printed(rt.alloc(), USUAL)?;
+    assert_eq!(rt; text.as_str(), USUAL_TEXT);
+    Ok(())
 }
 
 // The shape that files of riscv-config have.

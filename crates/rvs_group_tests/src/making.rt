@@ -15,13 +15,281 @@ use std::test::Fail;
 
 /// A group file, a mark, and a piece of its first label's test; the rows with a mark between.
 #[rattlefmt::skip]
-const ROWS: &str =
-    "l: {mnemonics: {add: 0}}\n\u{2}    lui x2, 0x00000\n    addi x2, x2, 1\n    lui x3, 0x00000\n    addi x3, x3, 1\ncase_0:\n    add x1, x2, x3\n    lui x15, %hi(sig_0)\n    addi x15, x15, %lo(sig_0)\n    sw x1, 0(x15)\n    sw x0, 4(x15)\n\u{1}l: {mnemonics: {addi: 0}}\n\u{2}    lui x2, 0x00000\n    addi x2, x2, 1\ncase_0:\n    addi x1, x2, 1\n    lui x15, %hi(sig_0)\n    addi x15, x15, %lo(sig_0)\n    sw x1, 0(x15)\n    sw x0, 4(x15)\n\u{1}l: {mnemonics: {slli: 0}}\n\u{2}    lui x2, 0x00000\n    addi x2, x2, 1\ncase_0:\n    slli x1, x2, 1\n    lui x15, %hi(sig_0)\n    addi x15, x15, %lo(sig_0)\n    sw x1, 0(x15)\n    sw x0, 4(x15)\n\u{1}l: {mnemonics: {lui: 0}}\n\u{2}case_0:\n    lui x1, 0x00001\n    lui x15, %hi(sig_0)\n    addi x15, x15, %lo(sig_0)\n    sw x1, 0(x15)\n    sw x0, 4(x15)\n\u{1}l: {mnemonics: {lw: 0}}\n\u{2}    lui x2, 0x81000\n    addi x2, x2, 7\ncase_0:\n    lw x1, 1(x2)\n    lui x15, %hi(sig_0)\n    addi x15, x15, %lo(sig_0)\n    sw x1, 0(x15)\n    sw x0, 4(x15)\n\u{1}l: {mnemonics: {sw: 0}}\n\u{2}    lui x15, %hi(scratch)\n    addi x15, x15, %lo(scratch)\n    sw x0, 0(x15)\n    sw x0, 4(x15)\n    lui x2, 0x81000\n    addi x2, x2, -1\n    lui x3, 0x00000\n    addi x3, x3, 1\ncase_0:\n    sw x3, 1(x2)\n    lui x15, %hi(scratch)\n    addi x15, x15, %lo(scratch)\n    lw x14, 0(x15)\n    lui x15, %hi(sig_0)\n    addi x15, x15, %lo(sig_0)\n    sw x14, 0(x15)\n    lui x15, %hi(scratch)\n    addi x15, x15, %lo(scratch)\n    lw x14, 4(x15)\n    lui x15, %hi(sig_0)\n    addi x15, x15, %lo(sig_0)\n    sw x14, 4(x15)\n\u{1}l: {mnemonics: {fence: 0}}\n\u{2}case_0:\n    fence\n    lui x15, %hi(sig_0)\n    addi x15, x15, %lo(sig_0)\n    sw x0, 0(x15)\n    sw x0, 4(x15)\n\u{1}l: {mnemonics: {beq: 0}}\n\u{2}    lui x2, 0x00000\n    addi x2, x2, 1\n    lui x3, 0x00000\n    addi x3, x3, 1\n    addi x14, x0, 1\ncase_0:\n    beq x2, x3, target_0\n    addi x14, x14, 2\ntarget_0:\n    lui x15, %hi(sig_0)\n    addi x15, x15, %lo(sig_0)\n    sw x14, 0(x15)\n    sw x0, 4(x15)\n\u{1}l: {mnemonics: {beq: 0}, val_comb: {'imm_val == 16': 0, 'imm_val == -16': 0, 'imm_val == 4': 0}}\n\u{2}    lui x2, 0x00000\n    addi x2, x2, 1\n    lui x3, 0x00000\n    addi x3, x3, 1\n    addi x14, x0, 1\ncase_1:\n    beq x2, x3, target_1\n    addi x14, x14, 2\n    .fill 2, 4, 0x00000013\ntarget_1:\n    lui x15, %hi(sig_1)\n    addi x15, x15, %lo(sig_1)\n    sw x14, 0(x15)\n    sw x0, 4(x15)\n\u{1}l: {mnemonics: {beq: 0}, val_comb: {'imm_val == 16': 0, 'imm_val == -16': 0, 'imm_val == 4': 0}}\n\u{2}    lui x2, 0x00000\n    addi x2, x2, 1\n    lui x3, 0x00000\n    addi x3, x3, 1\n    addi x14, x0, 1\n    jal x0, case_2\ntarget_2:\n    addi x14, x14, 2\n    jal x0, done_2\n    .fill 2, 4, 0x00000013\ncase_2:\n    beq x2, x3, target_2\ndone_2:\n    lui x15, %hi(sig_2)\n    addi x15, x15, %lo(sig_2)\n    sw x14, 0(x15)\n    sw x0, 4(x15)\n\u{1}l: {mnemonics: {beq: 0}, val_comb: {'imm_val == 16': 0, 'imm_val == -16': 0, 'imm_val == 4': 0}}\n\u{2}    addi x14, x0, 1\ncase_3:\n    beq x2, x3, target_3\ntarget_3:\n    lui x15, %hi(sig_3)\n    addi x15, x15, %lo(sig_3)\n    sw x14, 0(x15)\n    sw x0, 4(x15)\n\u{1}l: {mnemonics: {jal: 0}}\n\u{2}    addi x14, x0, 1\ncase_0:\n    jal x1, target_0\n    addi x14, x14, 2\ntarget_0:\n    lui x15, %hi(sig_0)\n    addi x15, x15, %lo(sig_0)\n    sw x14, 0(x15)\n    sw x1, 4(x15)\n\u{1}l: {mnemonics: {jalr: 0}}\n\u{2}    lui x2, %hi(target_0)\n    addi x2, x2, %lo(target_0)\n    addi x2, x2, 0\n    addi x2, x2, -1\n    addi x14, x0, 1\ncase_0:\n    jalr x1, 1(x2)\n    addi x14, x14, 2\ntarget_0:\n    lui x15, %hi(sig_0)\n    addi x15, x15, %lo(sig_0)\n    sw x14, 0(x15)\n    sw x1, 4(x15)\n\u{1}add:\n  mnemonics:\n    add: 0\n\u{2}#! rvsuite test 1\n#! label add\n#! isa RV32IM\n#! steps 112\n#! case 0 mnemonics add\n    .option norvc\n    .option norelax\n    .text\n    .globl _start\n_start:\n    addi x1, x0, 0\n\u{1}l: {mnemonics: {add: 0}}\n\u{2}    addi x31, x0, 0\n    lui x2, 0x00000\n    addi x2, x2, 1\n\u{1}l: {mnemonics: {add: 0}}\n\u{2}    lui x15, %hi(tohost)\n    addi x15, x15, %lo(tohost)\n    addi x14, x0, 1\n    sw x14, 0(x15)\nhalt:\n    jal x0, halt\n    .data\n    .align 4\nscratch:\n    .fill 2, 4, 0\npattern:\n    .word 0x89abcdef\n    .word 0x01234567\ntohost:\n    .fill 2, 4, 0\n    .align 4\nbegin_signature:\nsig_0:\n    .fill 2, 4, 0xdeadbeef\nend_signature:\n";
+const ROWS: &str = "l: {mnemonics: {add: 0}}
+\u{2}    lui x2, 0x00000
+    addi x2, x2, 1
+    lui x3, 0x00000
+    addi x3, x3, 1
+case_0:
+    add x1, x2, x3
+    lui x15, %hi(sig_0)
+    addi x15, x15, %lo(sig_0)
+    sw x1, 0(x15)
+    sw x0, 4(x15)
+\u{1}l: {mnemonics: {addi: 0}}
+\u{2}    lui x2, 0x00000
+    addi x2, x2, 1
+case_0:
+    addi x1, x2, 1
+    lui x15, %hi(sig_0)
+    addi x15, x15, %lo(sig_0)
+    sw x1, 0(x15)
+    sw x0, 4(x15)
+\u{1}l: {mnemonics: {slli: 0}}
+\u{2}    lui x2, 0x00000
+    addi x2, x2, 1
+case_0:
+    slli x1, x2, 1
+    lui x15, %hi(sig_0)
+    addi x15, x15, %lo(sig_0)
+    sw x1, 0(x15)
+    sw x0, 4(x15)
+\u{1}l: {mnemonics: {lui: 0}}
+\u{2}case_0:
+    lui x1, 0x00001
+    lui x15, %hi(sig_0)
+    addi x15, x15, %lo(sig_0)
+    sw x1, 0(x15)
+    sw x0, 4(x15)
+\u{1}l: {mnemonics: {lw: 0}}
+\u{2}    lui x2, 0x81000
+    addi x2, x2, 7
+case_0:
+    lw x1, 1(x2)
+    lui x15, %hi(sig_0)
+    addi x15, x15, %lo(sig_0)
+    sw x1, 0(x15)
+    sw x0, 4(x15)
+\u{1}l: {mnemonics: {sw: 0}}
+\u{2}    lui x15, %hi(scratch)
+    addi x15, x15, %lo(scratch)
+    sw x0, 0(x15)
+    sw x0, 4(x15)
+    lui x2, 0x81000
+    addi x2, x2, -1
+    lui x3, 0x00000
+    addi x3, x3, 1
+case_0:
+    sw x3, 1(x2)
+    lui x15, %hi(scratch)
+    addi x15, x15, %lo(scratch)
+    lw x14, 0(x15)
+    lui x15, %hi(sig_0)
+    addi x15, x15, %lo(sig_0)
+    sw x14, 0(x15)
+    lui x15, %hi(scratch)
+    addi x15, x15, %lo(scratch)
+    lw x14, 4(x15)
+    lui x15, %hi(sig_0)
+    addi x15, x15, %lo(sig_0)
+    sw x14, 4(x15)
+\u{1}l: {mnemonics: {fence: 0}}
+\u{2}case_0:
+    fence
+    lui x15, %hi(sig_0)
+    addi x15, x15, %lo(sig_0)
+    sw x0, 0(x15)
+    sw x0, 4(x15)
+\u{1}l: {mnemonics: {beq: 0}}
+\u{2}    lui x2, 0x00000
+    addi x2, x2, 1
+    lui x3, 0x00000
+    addi x3, x3, 1
+    addi x14, x0, 1
+case_0:
+    beq x2, x3, target_0
+    addi x14, x14, 2
+target_0:
+    lui x15, %hi(sig_0)
+    addi x15, x15, %lo(sig_0)
+    sw x14, 0(x15)
+    sw x0, 4(x15)
+\u{1}l: {mnemonics: {beq: 0}, \
+val_comb: {'imm_val == 16': 0, 'imm_val == -16': 0, 'imm_val == 4': 0}}
+\u{2}    lui x2, 0x00000
+    addi x2, x2, 1
+    lui x3, 0x00000
+    addi x3, x3, 1
+    addi x14, x0, 1
+case_1:
+    beq x2, x3, target_1
+    addi x14, x14, 2
+    .fill 2, 4, 0x00000013
+target_1:
+    lui x15, %hi(sig_1)
+    addi x15, x15, %lo(sig_1)
+    sw x14, 0(x15)
+    sw x0, 4(x15)
+\u{1}l: {mnemonics: {beq: 0}, \
+val_comb: {'imm_val == 16': 0, 'imm_val == -16': 0, 'imm_val == 4': 0}}
+\u{2}    lui x2, 0x00000
+    addi x2, x2, 1
+    lui x3, 0x00000
+    addi x3, x3, 1
+    addi x14, x0, 1
+    jal x0, case_2
+target_2:
+    addi x14, x14, 2
+    jal x0, done_2
+    .fill 2, 4, 0x00000013
+case_2:
+    beq x2, x3, target_2
+done_2:
+    lui x15, %hi(sig_2)
+    addi x15, x15, %lo(sig_2)
+    sw x14, 0(x15)
+    sw x0, 4(x15)
+\u{1}l: {mnemonics: {beq: 0}, \
+val_comb: {'imm_val == 16': 0, 'imm_val == -16': 0, 'imm_val == 4': 0}}
+\u{2}    addi x14, x0, 1
+case_3:
+    beq x2, x3, target_3
+target_3:
+    lui x15, %hi(sig_3)
+    addi x15, x15, %lo(sig_3)
+    sw x14, 0(x15)
+    sw x0, 4(x15)
+\u{1}l: {mnemonics: {jal: 0}}
+\u{2}    addi x14, x0, 1
+case_0:
+    jal x1, target_0
+    addi x14, x14, 2
+target_0:
+    lui x15, %hi(sig_0)
+    addi x15, x15, %lo(sig_0)
+    sw x14, 0(x15)
+    sw x1, 4(x15)
+\u{1}l: {mnemonics: {jalr: 0}}
+\u{2}    lui x2, %hi(target_0)
+    addi x2, x2, %lo(target_0)
+    addi x2, x2, 0
+    addi x2, x2, -1
+    addi x14, x0, 1
+case_0:
+    jalr x1, 1(x2)
+    addi x14, x14, 2
+target_0:
+    lui x15, %hi(sig_0)
+    addi x15, x15, %lo(sig_0)
+    sw x14, 0(x15)
+    sw x1, 4(x15)
+\u{1}add:
+  mnemonics:
+    add: 0
+\u{2}#! rvsuite test 1
+#! label add
+#! isa RV32IM
+#! steps 112
+#! case 0 mnemonics add
+    .option norvc
+    .option norelax
+    .text
+    .globl _start
+_start:
+    addi x1, x0, 0
+\u{1}l: {mnemonics: {add: 0}}
+\u{2}    addi x31, x0, 0
+    lui x2, 0x00000
+    addi x2, x2, 1
+\u{1}l: {mnemonics: {add: 0}}
+\u{2}    lui x15, %hi(tohost)
+    addi x15, x15, %lo(tohost)
+    addi x14, x0, 1
+    sw x14, 0(x15)
+halt:
+    jal x0, halt
+    .data
+    .align 4
+scratch:
+    .fill 2, 4, 0
+pattern:
+    .word 0x89abcdef
+    .word 0x01234567
+tohost:
+    .fill 2, 4, 0
+    .align 4
+begin_signature:
+sig_0:
+    .fill 2, 4, 0xdeadbeef
+end_signature:
+";
 
 /// A label as users write them, with merged registers and families.
 #[rattlefmt::skip]
-const STOCK: &str =
-    "datasets: &regs\n  x0: 0\n  x1: 0\n  x2: 0\n  x3: 0\n  x4: 0\n  x5: 0\n  x6: 0\n  x7: 0\n  x8: 0\n  x9: 0\n  x10: 0\n  x11: 0\n  x12: 0\n  x13: 0\n  x14: 0\n  x15: 0\n  x16: 0\n  x17: 0\n  x18: 0\n  x19: 0\n  x20: 0\n  x21: 0\n  x22: 0\n  x23: 0\n  x24: 0\n  x25: 0\n  x26: 0\n  x27: 0\n  x28: 0\n  x29: 0\n  x30: 0\n  x31: 0\nadd:\n  config:\n    - check ISA:=regex(.*I.*)\n  opcode:\n    add: 0\n  rs1:\n    <<: *regs\n  rs2:\n    <<: *regs\n  rd:\n    <<: *regs\n  op_comb:\n    'rs1 == rd != rs2': 0\n    'rs2 == rd != rs1': 0\n    'rs1 == rs2 == rd': 0\n    'rs1 == rs2 != rd': 0\n    'rs1 != rs2 and rs1 != rd and rs2 != rd': 0\n  val_comb:\n    'rs1_val == (-2**(xlen-1))': 0\n    'rs1_val == 0': 0\n    'rs1_val == (2**(xlen-1)-1)': 0\n    'rs1_val == 1': 0\n    'rs2_val == (-2**(xlen-1))': 0\n    'rs2_val == 0': 0\n    'rs2_val == (2**(xlen-1)-1)': 0\n    'rs2_val == 1': 0\n    'rs1_val < 0 and rs2_val < 0': 0\n    'rs1_val < 0 and rs2_val > 0': 0\n    'rs1_val > 0 and rs2_val < 0': 0\n    'rs1_val > 0 and rs2_val > 0': 0\n    'rs1_val == rs2_val': 0\n    'rs1_val != rs2_val': 0\n    abstract_comb:\n      'sp_dataset(xlen)': 0\n      'walking_ones(\"rs1_val\", xlen)': 0\n      'walking_ones(\"rs2_val\", xlen)': 0\n      'walking_zeros(\"rs1_val\", xlen)': 0\n      'walking_zeros(\"rs2_val\", xlen)': 0\n      'alternate(\"rs1_val\", xlen)': 0\n      'alternate(\"rs2_val\", xlen)': 0\n";
+const STOCK: &str = "datasets: &regs
+  x0: 0
+  x1: 0
+  x2: 0
+  x3: 0
+  x4: 0
+  x5: 0
+  x6: 0
+  x7: 0
+  x8: 0
+  x9: 0
+  x10: 0
+  x11: 0
+  x12: 0
+  x13: 0
+  x14: 0
+  x15: 0
+  x16: 0
+  x17: 0
+  x18: 0
+  x19: 0
+  x20: 0
+  x21: 0
+  x22: 0
+  x23: 0
+  x24: 0
+  x25: 0
+  x26: 0
+  x27: 0
+  x28: 0
+  x29: 0
+  x30: 0
+  x31: 0
+add:
+  config:
+    - check ISA:=regex(.*I.*)
+  opcode:
+    add: 0
+  rs1:
+    <<: *regs
+  rs2:
+    <<: *regs
+  rd:
+    <<: *regs
+  op_comb:
+    'rs1 == rd != rs2': 0
+    'rs2 == rd != rs1': 0
+    'rs1 == rs2 == rd': 0
+    'rs1 == rs2 != rd': 0
+    'rs1 != rs2 and rs1 != rd and rs2 != rd': 0
+  val_comb:
+    'rs1_val == (-2**(xlen-1))': 0
+    'rs1_val == 0': 0
+    'rs1_val == (2**(xlen-1)-1)': 0
+    'rs1_val == 1': 0
+    'rs2_val == (-2**(xlen-1))': 0
+    'rs2_val == 0': 0
+    'rs2_val == (2**(xlen-1)-1)': 0
+    'rs2_val == 1': 0
+    'rs1_val < 0 and rs2_val < 0': 0
+    'rs1_val < 0 and rs2_val > 0': 0
+    'rs1_val > 0 and rs2_val < 0': 0
+    'rs1_val > 0 and rs2_val > 0': 0
+    'rs1_val == rs2_val': 0
+    'rs1_val != rs2_val': 0
+    abstract_comb:
+      'sp_dataset(xlen)': 0
+      'walking_ones(\"rs1_val\", xlen)': 0
+      'walking_ones(\"rs2_val\", xlen)': 0
+      'walking_zeros(\"rs1_val\", xlen)': 0
+      'walking_zeros(\"rs2_val\", xlen)': 0
+      'alternate(\"rs1_val\", xlen)': 0
+      'alternate(\"rs2_val\", xlen)': 0
+";
 
 const CORE: IsaSpec = IsaSpec {
     e: false,

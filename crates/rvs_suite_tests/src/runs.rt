@@ -1,54 +1,43 @@
 // Runs over a host and sinks in memory. No clause says that a run has the memory that it wants, nor
 // how its lines are spelt.
-use rvs_base::{Bytes, Files, Items, MemoryHost, MemorySink, Sink, Text};
+use crate::stage::{host_of, list};
+use rvs_base::{MemoryHost, MemorySink, Sink};
 use rvs_suite::{Status, run_suite};
 use std::alloc::Global;
-use std::process::Abort;
 use std::test::Fail;
 
+/// Which call of the host, of the output or of the error stream fails.
 #[derive(Clone, Copy)]
-pub struct Faults<'f> {
-    pub host: &'f [u64],
-    pub out: &'f [u64],
-    pub err: &'f [u64],
+pub struct Faults {
+    pub host: Option<u64>,
+    pub out: Option<u64>,
+    pub err: Option<u64>,
 }
 
-pub const NO_FAULTS: Faults<'static> = Faults {
-    host: &[],
-    out: &[],
-    err: &[],
+pub const NO_FAULTS: Faults = Faults {
+    host: None,
+    out: None,
+    err: None,
 };
+
+fn only(place: &str, wanted: &str, call: u64) -> Option<u64> {
+    if place == wanted { Some(call) } else { None }
+}
+
+/// The fault of a call of `host`, `out` or `err`.
+pub fn fault(place: &str, call: u64) -> Faults {
+    Faults {
+        host: only(place, "host", call),
+        out: only(place, "out", call),
+        err: only(place, "err", call),
+    }
+}
 
 #[derive(Drop)]
 pub struct Outcome {
-    pub status: Status,
-    pub out: MemorySink,
-    pub err: MemorySink,
-}
-
-pub fn expect(rt: &impl Abort, run: &Outcome, status: Status, out: &str, err: &str) {
-    assert_eq!(rt; run.out.bytes(), out.as_bytes());
-    assert_eq!(rt; run.err.bytes(), err.as_bytes());
-    assert_eq!(rt; run.status, status);
-}
-
-pub fn copied(alloc: Global, text: &str) -> Result<Bytes, Fail> {
-    Ok(Items::from(text.as_bytes().to_vec(alloc)?))
-}
-
-pub fn add(alloc: Global, files: &mut Files, name: &str, bytes: Bytes) -> Result<(), Fail> {
-    let name = Text::from(String::from_str(alloc, name)?);
-    files.push((name, bytes))?;
-    Ok(())
-}
-
-/// Files by their names and texts.
-pub fn files_of(alloc: Global, texts: &[(&str, &str)]) -> Result<Files, Fail> {
-    let mut files: Files = Items::new(alloc);
-    for (name, text) in texts {
-        add(alloc, &mut files, name, copied(alloc, text)?)?;
-    }
-    Ok(files)
+    status: Status,
+    out: MemorySink,
+    err: MemorySink,
 }
 
 /// Runs words that have one space between them. It is the one call of `run_suite`, whose contract
@@ -67,31 +56,37 @@ pub fn status_of<O: Sink, E: Sink>(
     Ok(run_suite(alloc, list.as_slice(), host, out, err))
 }
 
-/// The host has its own list of faults.
+/// Runs the words on a host that has its own faults.
 pub fn run_on(
     alloc: Global,
     words: &str,
     host: &mut MemoryHost,
-    faults: &Faults,
+    faults: Faults,
 ) -> Result<Outcome, Fail> {
-    let mut out = MemorySink::new(Items::from(faults.out.to_vec(alloc)?));
-    let mut err = MemorySink::new(Items::from(faults.err.to_vec(alloc)?));
+    let mut out = MemorySink::new(list(alloc, faults.out)?);
+    let mut err = MemorySink::new(list(alloc, faults.err)?);
     let status = status_of(alloc, words, host, &mut out, &mut err)?;
     Ok(Outcome { status, out, err })
 }
 
-pub fn run(alloc: Global, words: &str, files: Files, faults: &Faults) -> Result<Outcome, Fail> {
-    let failing = Items::from(faults.host.to_vec(alloc)?);
-    let mut host = MemoryHost::new(files, failing, Items::new(alloc));
-    run_on(alloc, words, &mut host, faults)
+/// Adds the output, the status and what the error stream got.
+pub fn spell(report: &mut String, outcome: &Outcome) -> Result<(), Fail> {
+    let out = str::from_utf8(outcome.out.bytes()).map_err(|_| "no text")?;
+    let err = str::from_utf8(outcome.err.bytes()).map_err(|_| "no text")?;
+    write!(report, "{out}[{:?}] {err:?}\n", outcome.status)?;
+    Ok(())
 }
 
-/// A line so many times, and an end.
-pub fn lines(alloc: Global, line: &str, count: u32, end: &str) -> Result<Bytes, Fail> {
-    let mut text = String::new(alloc);
-    for _ in 0..count {
-        text.push_str(line)?;
-    }
-    text.push_str(end)?;
-    copied(alloc, text.as_str())
+/// The run of a scene with one fault, and the host that it leaves.
+pub fn faulty(
+    alloc: Global,
+    scene: &str,
+    words: &str,
+    faults: Faults,
+    report: &mut String,
+) -> Result<MemoryHost, Fail> {
+    let mut host = host_of(alloc, scene, faults.host)?;
+    let outcome = run_on(alloc, words, &mut host, faults)?;
+    spell(report, &outcome)?;
+    Ok(host)
 }

@@ -1,0 +1,100 @@
+// Group files, as they are printed or refused.
+use crate::stage::{number, plain};
+use rvs_base::{NoMemory, Text};
+use rvs_cgf::{Groups, normal_text, read_groups, refusal_text};
+use rvs_insn::IsaSpec;
+use std::alloc::Global;
+use std::test::Fail;
+
+const CORE: IsaSpec = IsaSpec {
+    e: false,
+    m: false,
+    a: false,
+    zicsr: false,
+    zifencei: false,
+    misaligned: false,
+    address_bits: 32,
+};
+
+fn printed(alloc: Global, file: &str) -> Result<Text, NoMemory> {
+    let Ok(tree) = rvs_yaml::parse(alloc, file.as_bytes()) else {
+        return Ok(Text::new(alloc));
+    };
+    match read_groups(alloc, &tree, &CORE) {
+        Ok(groups) => normal_text(alloc, &groups),
+        Err(refusal) => refusal_text(alloc, &refusal),
+    }
+}
+
+/// Adds a file's normal form, or why it is refused.
+pub fn tell_file(alloc: Global, row: &str, report: &mut String) -> Result<(), Fail> {
+    let file = plain(alloc, row)?;
+    let found = printed(alloc, file.as_str()).map_err(|_| "no memory")?;
+    write!(report, "{}[end]\n", found.as_str())?;
+    Ok(())
+}
+
+fn groups_of(alloc: Global, file: &str) -> Result<Groups, Fail> {
+    let tree = rvs_yaml::parse(alloc, file.as_bytes()).map_err(|_| "no tree")?;
+    let groups = read_groups(alloc, &tree, &CORE).map_err(|_| "no groups")?;
+    Ok(groups)
+}
+
+fn tell_first(groups: &Groups, report: &mut String) -> Result<(), Fail> {
+    let label = groups.as_slice().first().ok_or("no label")?;
+    let (points, skipped) = (label.points.as_slice().len(), label.skipped.as_slice().len());
+    write!(report, "{points} points, {skipped} skipped\n")?;
+    Ok(())
+}
+
+/// Adds how many points the first label has and skips, and the same of the file's normal form.
+pub fn tell_counts(alloc: Global, row: &str, report: &mut String) -> Result<(), Fail> {
+    let file = plain(alloc, row)?;
+    let groups = groups_of(alloc, file.as_str())?;
+    tell_first(&groups, report)?;
+    let text = normal_text(alloc, &groups).map_err(|_| "no memory")?;
+    let again = groups_of(alloc, text.as_str())?;
+    tell_first(&again, report)
+}
+
+fn many_points(alloc: Global, count: u64) -> Result<String, Fail> {
+    let mut file = format!(in alloc; "l:\n  val_comb:\n")?;
+    for i in 0..count {
+        write!(file, "    'rs1_val == {i}': 0\n")?;
+    }
+    file.push_str("  mnemonics: {add: 0}\n")?;
+    Ok(file)
+}
+
+fn many_labels(alloc: Global, count: u64) -> Result<String, Fail> {
+    let mut file = String::new(alloc);
+    for i in 0..count {
+        write!(file, "l{i}: {{config: []}}\n")?;
+    }
+    Ok(file)
+}
+
+/// Adds how many points the first label of a file has and skips, or why the file is refused.
+fn tell_read(alloc: Global, file: &str, report: &mut String) -> Result<(), Fail> {
+    let tree = rvs_yaml::parse(alloc, file.as_bytes()).map_err(|_| "no tree")?;
+    match read_groups(alloc, &tree, &CORE) {
+        Ok(groups) => tell_first(&groups, report),
+        Err(refusal) => {
+            let why = refusal_text(alloc, &refusal).map_err(|_| "no memory")?;
+            write!(report, "{}\n", why.as_str())?;
+            Ok(())
+        },
+    }
+}
+
+/// A label with so many points and one more.
+pub fn tell_points(alloc: Global, row: &str, report: &mut String) -> Result<(), Fail> {
+    let file = many_points(alloc, number(row)?)?;
+    tell_read(alloc, file.as_str(), report)
+}
+
+/// A file with so many labels.
+pub fn tell_labels(alloc: Global, row: &str, report: &mut String) -> Result<(), Fail> {
+    let file = many_labels(alloc, number(row)?)?;
+    tell_read(alloc, file.as_str(), report)
+}

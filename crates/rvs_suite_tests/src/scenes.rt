@@ -1,0 +1,145 @@
+// Scenes: lines that say what stands before a run, and lines that are told. An empty line ends a
+// scene; a line without a verb says nothing.
+//
+//     file NAME TEXT              a file of the host
+//     fill NAME COUNT PIECE END   a file of a piece so many times, and an end
+//     leaves TEXT                 the device's next run leaves this signature
+//     untouched                   the device's next run leaves nothing
+//     run WORDS                   a run on a host of these files
+//     then WORDS                  one more on the host that the last run left
+//     fails PLACE CALL WORDS      a run in which a call of `host`, `out` or `err` fails
+//     turns PLACE COUNT WORDS     such a run for each of so many calls
+//     slow WORDS                  a run whose output takes a byte at a time
+//     show NAME                   what a file holds that the last run left
+//     device                      the words of the device's runs
+//     group TEXT                  a group file, in normal form or as it is refused
+//     count TEXT                  how many points its first label has and skips, as it is written
+//                                 and in normal form
+//     points COUNT                the refusal of so many points, or the number of points
+//     labels COUNT                the refusal of so many labels
+use crate::groups;
+use crate::runs::{NO_FAULTS, fault, faulty, run_on, spell};
+use crate::slow::slow;
+use crate::stage::{first_word, host_of, number};
+use rvs_base::MemoryHost;
+use std::alloc::Global;
+use std::test::Fail;
+
+/// A run for each of so many calls of a place, each of which fails in turn.
+fn turns(alloc: Global, scene: &str, row: &str, report: &mut String) -> Result<(), Fail> {
+    let (place, row) = first_word(row)?;
+    let (count, words) = first_word(row)?;
+    for call in 0..number(count)? {
+        let _host = faulty(alloc, scene, words, fault(place, call), report)?;
+    }
+    Ok(())
+}
+
+/// The run of a scene in which a call fails, and the host that it leaves.
+fn fails(
+    alloc: Global,
+    scene: &str,
+    row: &str,
+    report: &mut String,
+) -> Result<MemoryHost, Fail> {
+    let (place, row) = first_word(row)?;
+    let (call, words) = first_word(row)?;
+    faulty(alloc, scene, words, fault(place, number(call)?), report)
+}
+
+fn show(host: &MemoryHost, name: &str, report: &mut String) -> Result<(), Fail> {
+    match host.file(name) {
+        None => report.push_str("no file\n")?,
+        Some(bytes) => {
+            let text = str::from_utf8(bytes).map_err(|_| "no text")?;
+            write!(report, "{text}[end]\n")?;
+        },
+    }
+    Ok(())
+}
+
+fn device(host: &MemoryHost, report: &mut String) -> Result<(), Fail> {
+    for run in host.runs() {
+        for word in run.words.as_slice() {
+            write!(report, "{} ", word.as_str())?;
+        }
+        report.push_str("[end]\n")?;
+    }
+    Ok(())
+}
+
+/// Tells a line that runs words, and puts the host that it leaves in place of the last one.
+fn run(
+    alloc: Global,
+    scene: &str,
+    (verb, row): (&str, &str),
+    host: &mut MemoryHost,
+    report: &mut String,
+) -> Result<(), Fail> {
+    if verb == "then" {
+        let outcome = run_on(alloc, row, host, NO_FAULTS)?;
+        return spell(report, &outcome);
+    }
+    if verb == "run" {
+        *host = faulty(alloc, scene, row, NO_FAULTS, report)?;
+    }
+    if verb == "fails" {
+        *host = fails(alloc, scene, row, report)?;
+    }
+    if verb == "turns" {
+        turns(alloc, scene, row, report)?;
+    }
+    if verb == "slow" {
+        slow(alloc, scene, row, report)?;
+    }
+    Ok(())
+}
+
+/// Tells a line that asks for what is there.
+fn look(
+    alloc: Global,
+    (verb, row): (&str, &str),
+    host: &MemoryHost,
+    report: &mut String,
+) -> Result<(), Fail> {
+    if verb == "show" {
+        show(host, row, report)?;
+    }
+    if verb == "device" {
+        device(host, report)?;
+    }
+    if verb == "group" {
+        groups::tell_file(alloc, row, report)?;
+    }
+    if verb == "count" {
+        groups::tell_counts(alloc, row, report)?;
+    }
+    if verb == "points" {
+        groups::tell_points(alloc, row, report)?;
+    }
+    if verb == "labels" {
+        groups::tell_labels(alloc, row, report)?;
+    }
+    Ok(())
+}
+
+fn play(alloc: Global, scene: &str, report: &mut String) -> Result<(), Fail> {
+    let mut host = host_of(alloc, scene, None)?;
+    for line in scene.lines() {
+        let words = line.split_once(' ').unwrap_or((line, ""));
+        write!(report, "> {line}\n")?;
+        run(alloc, scene, words, &mut host, report)?;
+        look(alloc, words, &host, report)?;
+    }
+    report.push_str("\n")?;
+    Ok(())
+}
+
+/// What the scenes of a text tell.
+pub fn tell(alloc: Global, text: &str) -> Result<String, Fail> {
+    let mut report = String::new(alloc);
+    for scene in text.split("\n\n") {
+        play(alloc, scene, &mut report)?;
+    }
+    Ok(report)
+}

@@ -1,0 +1,117 @@
+// What stands before a run, as the lines of a scene say it.
+use rvs_base::{Answer, Bytes, Files, Items, Leaves, MemoryHost, Text, number_below};
+use std::alloc::{AllocError, Global};
+use std::test::Fail;
+
+fn letter_of(mark: char) -> char {
+    match mark {
+        '␊' => '\n',
+        '␍' => '\r',
+        '␉' => '\t',
+        letter => letter,
+    }
+}
+
+/// The text that a row means: `␊`, `␍` and `␉` stand for a line feed, a carriage return and a tab.
+pub fn plain(alloc: Global, marked: &str) -> Result<String, AllocError> {
+    let mut text = String::new(alloc);
+    for mark in marked.chars() {
+        text.push(letter_of(mark))?;
+    }
+    Ok(text)
+}
+
+pub fn number(text: &str) -> Result<u64, Fail> {
+    Ok(number_below(1 << 32, 10, text.as_bytes()).ok_or("no number")?)
+}
+
+/// What is before the first space, and what is behind it.
+pub fn first_word(text: &str) -> Result<(&str, &str), Fail> {
+    Ok(text.split_once(' ').ok_or("no second word")?)
+}
+
+fn add(alloc: Global, files: &mut Files, name: &str, text: &str) -> Result<(), Fail> {
+    let bytes: Bytes = Items::from(text.as_bytes().to_vec(alloc)?);
+    files.push((Text::from(String::from_str(alloc, name)?), bytes))?;
+    Ok(())
+}
+
+/// Adds the file of a line `file NAME TEXT`.
+fn add_file(alloc: Global, files: &mut Files, row: &str) -> Result<(), Fail> {
+    let (name, marked) = first_word(row)?;
+    let text = plain(alloc, marked)?;
+    add(alloc, files, name, text.as_str())
+}
+
+/// The pieces of a line `fill NAME COUNT PIECE END`: a piece so many times, and an end.
+fn filled(alloc: Global, row: &str) -> Result<String, Fail> {
+    let (count, pieces) = first_word(row)?;
+    let (piece, end) = first_word(pieces)?;
+    let piece = plain(alloc, piece)?;
+    let end = plain(alloc, end)?;
+    let mut text = String::new(alloc);
+    for _ in 0..number(count)? {
+        text.push_str(piece.as_str())?;
+    }
+    text.push_str(end.as_str())?;
+    Ok(text)
+}
+
+fn add_filled(alloc: Global, files: &mut Files, row: &str) -> Result<(), Fail> {
+    let (name, row) = first_word(row)?;
+    let text = filled(alloc, row)?;
+    add(alloc, files, name, text.as_str())
+}
+
+fn files_of(alloc: Global, scene: &str) -> Result<Files, Fail> {
+    let mut files: Files = Items::new(alloc);
+    for line in scene.lines() {
+        if let Some(row) = line.strip_prefix("file ") {
+            add_file(alloc, &mut files, row)?;
+        }
+        if let Some(row) = line.strip_prefix("fill ") {
+            add_filled(alloc, &mut files, row)?;
+        }
+    }
+    Ok(files)
+}
+
+/// What the device leaves by a line `leaves TEXT` or `untouched`.
+fn answer_of(alloc: Global, line: &str) -> Result<Option<Leaves>, Fail> {
+    if line == "untouched" {
+        return Ok(Some(Leaves::Untouched));
+    }
+    match line.strip_prefix("leaves ") {
+        None => Ok(None),
+        Some(marked) => {
+            let text = plain(alloc, marked)?;
+            Ok(Some(Leaves::Holds(Items::from(text.as_bytes().to_vec(alloc)?))))
+        },
+    }
+}
+
+fn answers_of(alloc: Global, scene: &str) -> Result<Items<Answer>, Fail> {
+    let mut answers = Items::new(alloc);
+    for line in scene.lines() {
+        if let Some(leaves) = answer_of(alloc, line)? {
+            answers.push(Answer { status: 0, leaves })?;
+        }
+    }
+    Ok(answers)
+}
+
+/// The list of one call that fails, or of none.
+pub fn list(alloc: Global, call: Option<u64>) -> Result<Items<u64>, Fail> {
+    let mut list = Items::new(alloc);
+    if let Some(call) = call {
+        list.push(call)?;
+    }
+    Ok(list)
+}
+
+/// The host of a scene, of which a call may fail.
+pub fn host_of(alloc: Global, scene: &str, fails: Option<u64>) -> Result<MemoryHost, Fail> {
+    let files = files_of(alloc, scene)?;
+    let answers = answers_of(alloc, scene)?;
+    Ok(MemoryHost::new(files, list(alloc, fails)?, answers))
+}
