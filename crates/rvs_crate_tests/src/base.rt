@@ -74,7 +74,13 @@ fn a_file_is_read_up_to_its_limit(rt: HostRuntime) -> Result<(), Fail> {
 #[test]
 fn a_fault_in_mid_stream_is_told(rt: HostRuntime) -> Result<(), Fail> {
     let mut host = two_files(rt.alloc(), &[2])?;
-    check_read(&rt, rt.alloc(), &mut host, ("a.sig", 5), Err(FileRefusal::Failed));
+    check_read(
+        &rt,
+        rt.alloc(),
+        &mut host,
+        ("a.sig", 5),
+        Err(FileRefusal::Failed),
+    );
     Ok(())
 }
 
@@ -113,8 +119,14 @@ fn check_run(
 fn two_answers(alloc: Global) -> Result<MemoryHost, Fail> {
     let mut answers = Items::new(alloc);
     let holds = Items::from(b"7".to_vec(alloc)?);
-    answers.push(Answer { status: 3, leaves: Leaves::Holds(holds) })?;
-    answers.push(Answer { status: -1, leaves: Leaves::Absent })?;
+    answers.push(Answer {
+        status: 3,
+        leaves: Leaves::Holds(holds),
+    })?;
+    answers.push(Answer {
+        status: -1,
+        leaves: Leaves::Absent,
+    })?;
     Ok(MemoryHost::new(Items::new(alloc), Items::new(alloc), answers))
 }
 

@@ -88,7 +88,10 @@ fn word_of(text: &str) -> Result<u32, Fail> {
 
 fn parts(alloc: Global, insn: &Insn) -> Result<String, AllocError> {
     let name = op_name(insn.op);
-    format!(in alloc; "{name} {:?} {:?} {:?} {:?}", insn.rd, insn.rs1, insn.rs2, insn.imm)
+    format!(in alloc;
+        "{name} {:?} {:?} {:?} {:?}",
+        insn.rd, insn.rs1, insn.rs2, insn.imm
+    )
 }
 
 #[test]

@@ -313,8 +313,9 @@ fn loads_what_is_misaligned(rt: HostRuntime) -> Result<(), Fail> {
         ..RV32IM
     };
     let code = [0x0012_2083];
-    let (_, last) =
-        outcome(rt.alloc(), &code, 0x4433_2211, 0x8877_6655, lenient)?.ok_or("no image")?;
+    let (_, last) = outcome(rt.alloc(), &code, 0x4433_2211, 0x8877_6655, lenient)?.ok_or(
+        "no image",
+    )?;
     assert_eq!(rt; last, Some(0x5544_3322));
     Ok(())
 }

@@ -45,7 +45,10 @@ static BAD: [(&[u8], u32); 4] = [
 #[test]
 fn the_first_bad_line_is_named(rt: HostRuntime) {
     for (bytes, line) in BAD {
-        assert_eq!(rt; refusal(rt.alloc(), bytes), Some(SigRefusal::BadLine { line }));
+        assert_eq!(rt;
+            refusal(rt.alloc(), bytes),
+            Some(SigRefusal::BadLine { line })
+        );
     }
 }
 

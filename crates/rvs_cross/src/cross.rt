@@ -78,3 +78,10 @@ pub fn places(cross: &Cross) -> usize
 {
     cross.list.as_slice().len()
 }
+
+/// The places of a cross point, in their order. It takes no memory.
+pub fn in_order(cross: &Cross) -> &[Place]
+    ensures { result.now ≡ cross.now.list }
+{
+    cross.list.as_slice()
+}

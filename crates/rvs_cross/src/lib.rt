@@ -14,12 +14,10 @@ mod matching;
 mod parsing;
 mod refusal;
 mod solving;
-#[cfg(test)]
-mod tests;
 mod values;
 mod variables;
 
-pub use cross::{Assignment, Cross, Field, Place, Variable, places};
+pub use cross::{Assignment, Cross, Field, Place, Variable, in_order, places};
 pub use first::first_ops;
 pub use laws::one_mnemonic_is_read;
 pub use matching::matches;

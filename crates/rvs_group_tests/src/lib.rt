@@ -5,6 +5,8 @@
 #[cfg(test)]
 mod count;
 #[cfg(test)]
+mod cross;
+#[cfg(test)]
 mod demo;
 #[cfg(test)]
 mod device;

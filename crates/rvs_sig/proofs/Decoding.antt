@@ -94,21 +94,21 @@ value_of-sized digits =
     (even_half (length digits)) (eight_again (length digits))
     (λ is. value_onto-pairs 0 0 digits (even_eight (length digits) is))
 
-abbrev pub Answer : Type 0
-Answer = Result (Unit {0}) FromHexError
+abbrev pub DecodeResult : Type 0
+DecodeResult = Result (Unit {0}) FromHexError
 
 pub value_of-written : (r : Result (List ℕ) FromHexError) (out : List ℕ) (u : Unit {0}) → length out
-    ≡ 4 → MatchResult r (λ bytes. (◌≡◌ {A = Answer} (Ok u) (Ok tt)) × (out ≡ bytes))
-    (λ e. ◌≡◌ {A = Answer} (Ok u) (Err e))
+    ≡ 4 → MatchResult r (λ bytes. (◌≡◌ {A = DecodeResult} (Ok u) (Ok tt)) × (out ≡ bytes))
+    (λ e. ◌≡◌ {A = DecodeResult} (Ok u) (Err e))
     → value_of 0 r ≡ Some (from_be_bytes w32 out)
 value_of-written (Ok bytes) out u four written = rw (sym written.1) (ap Some (total-be out four))
-value_of-written (Err e) out u four written = let p : ◌≡◌ {A = Answer} (Ok u) (Err e) = written in
-    cc
+value_of-written (Err e) out u four written =
+    let p : ◌≡◌ {A = DecodeResult} (Ok u) (Err e) = written in cc
 
 pub value_of-refused : (r : Result (List ℕ) FromHexError) (out : List ℕ) (d : FromHexError)
-    → MatchResult r (λ bytes. (◌≡◌ {A = Answer} (Err d) (Ok tt)) × (out ≡ bytes))
-    (λ e. ◌≡◌ {A = Answer} (Err d) (Err e))
+    → MatchResult r (λ bytes. (◌≡◌ {A = DecodeResult} (Err d) (Ok tt)) × (out ≡ bytes))
+    (λ e. ◌≡◌ {A = DecodeResult} (Err d) (Err e))
     → value_of 0 r ≡ None
-value_of-refused (Ok bytes) out d written = let p : ◌≡◌ {A = Answer} (Err d) (Ok tt) = written.0 in
-    cc
+value_of-refused (Ok bytes) out d written =
+    let p : ◌≡◌ {A = DecodeResult} (Err d) (Ok tt) = written.0 in cc
 value_of-refused (Err e) out d written = refl

@@ -9,8 +9,6 @@ mod orders;
 mod registers;
 mod solved;
 mod solving;
-#[cfg(test)]
-mod tests;
 mod truth;
 mod values;
 mod walk;

@@ -42,7 +42,10 @@ fn groups_of(alloc: Global, file: &str) -> Result<Groups, Fail> {
 
 fn tell_first(groups: &Groups, report: &mut String) -> Result<(), Fail> {
     let label = groups.as_slice().first().ok_or("no label")?;
-    let (points, skipped) = (label.points.as_slice().len(), label.skipped.as_slice().len());
+    let (points, skipped) = (
+        label.points.as_slice().len(),
+        label.skipped.as_slice().len(),
+    );
     write!(report, "{points} points, {skipped} skipped\n")?;
     Ok(())
 }

@@ -14,7 +14,8 @@ use std::fs;
 use std::test::Fail;
 
 /// The files of scenes, in the order in which they are told.
-const SCENES: [&str; 8] = [
+const SCENES: [&str; 9] = [
+    "choices",
     "compare",
     "coverage",
     "demo",

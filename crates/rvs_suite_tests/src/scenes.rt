@@ -11,12 +11,15 @@
 //     turns PLACE COUNT WORDS     such a run for each of so many calls
 //     slow WORDS                  a run whose output takes a byte at a time
 //     show NAME                   what a file holds that the last run left
+//     lines LINE NAME             what stands round a line of such a file: ten lines before it,
+//                                 and three behind it
 //     device                      the words of the device's runs
 //     group TEXT                  a group file, in normal form or as it is refused
 //     count TEXT                  how many points its first label has and skips, as it is written
 //                                 and in normal form
-//     points COUNT                the refusal of so many points, or the number of points
-//     labels COUNT                the refusal of so many labels
+//     points COUNT                how many points a label has with so many and one, or why its
+//                                 file is refused
+//     labels COUNT                the same of a file with so many labels
 use crate::groups;
 use crate::runs::{NO_FAULTS, fault, faulty, run_on, spell};
 use crate::slow::slow;
@@ -36,12 +39,7 @@ fn turns(alloc: Global, scene: &str, row: &str, report: &mut String) -> Result<(
 }
 
 /// The run of a scene in which a call fails, and the host that it leaves.
-fn fails(
-    alloc: Global,
-    scene: &str,
-    row: &str,
-    report: &mut String,
-) -> Result<MemoryHost, Fail> {
+fn fails(alloc: Global, scene: &str, row: &str, report: &mut String) -> Result<MemoryHost, Fail> {
     let (place, row) = first_word(row)?;
     let (call, words) = first_word(row)?;
     faulty(alloc, scene, words, fault(place, number(call)?), report)
@@ -56,6 +54,26 @@ fn show(host: &MemoryHost, name: &str, report: &mut String) -> Result<(), Fail> 
         },
     }
     Ok(())
+}
+
+/// Adds the lines of a text from ten before the first one that is this line to three behind it.
+fn lines(text: &str, line: &str, report: &mut String) -> Result<(), Fail> {
+    let at = text
+        .lines()
+        .position(|other| other == line)
+        .ok_or("no line")?;
+    let first = at.saturating_sub(10);
+    for other in text.lines().skip(first).take(at - first + 4) {
+        write!(report, "{other}\n")?;
+    }
+    Ok(())
+}
+
+fn show_lines(host: &MemoryHost, row: &str, report: &mut String) -> Result<(), Fail> {
+    let (line, name) = first_word(row)?;
+    let bytes = host.file(name).ok_or("no file")?;
+    let text = str::from_utf8(bytes).map_err(|_| "no text")?;
+    lines(text, line, report)
 }
 
 fn device(host: &MemoryHost, report: &mut String) -> Result<(), Fail> {
@@ -104,6 +122,9 @@ fn look(
 ) -> Result<(), Fail> {
     if verb == "show" {
         show(host, row, report)?;
+    }
+    if verb == "lines" {
+        show_lines(host, row, report)?;
     }
     if verb == "device" {
         device(host, report)?;

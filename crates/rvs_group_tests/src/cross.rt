@@ -1,19 +1,40 @@
 // Texts, each with its cross point or why it is refused.
-use crate::{Cross, CrossRead, CrossRefusal, Place, parse_cross};
+use rvs_cross::{Cross, CrossRead, CrossRefusal, Place, in_order, parse_cross};
 use std::alloc::{AllocError, Global};
 use std::test::Fail;
 
-/// The places of a cross point, each by the number of its mnemonics, its assignments, and whether
-/// it has an expression; `skipped`; or the number of a refusal with what it names. Behind it stands
-/// the text, one a line.
+/// The places of a cross point, each by the number of its mnemonics, its assignments, whether it
+/// has an expression, and a space; `skipped`; or the number of a refusal with what it names. Behind
+/// it stands the text, one a line.
 #[rattlefmt::skip]
-const ROWS: &str =
-    " 2,First=Rd 2,if|[(add,sub) : (add,sub)] :: [a=rd : ?] :: [? : rs1==a]\n5 a|[add] :: [?] :: [rs1==a]\n7 1 5|[add] :: [?] :: [   rs1 = x1]\n1|[add-x] :: [?] :: [?]\n6 foo|[foo] :: [?] :: [?]\n6 lr.w|[lr.w] :: [?] :: [?]\nskipped|[rv32i_arith : ?] :: [? : a=rd] :: [? : ?]\n 1|[mul] :: [?] :: [?]\n7 2 1|[add] :: [?] :: [ ]\n2|[add:sub] :: [?] :: [?]\n3|[?:?:?:?:?:?:?] :: [?:?:?:?:?:?:?] :: [?:?:?:?:?:?:?]\n4|[?] :: [a=rd;b=rs1;c=rs2;d=rd] :: [?]\n1|[add] :: [a=rd;] :: [?]\n1|[add] :: [A=rd] :: [?]\n1|[add] :: [x1=rd] :: [?]\n1|[add] :: [not=rd] :: [?]\n1|[()] :: [?] :: [?]\n1|[] :: [?] :: [?]\n1|[add] : [?] :: [?]\n1|[add] :: [?] :: [?] x\n ?,First=Rd,Second=Rs1 ?,if| [ ? : ? ] :: [ a = rd ; b = rs1 : ? ] :: [ ? : rs1 == a or rs2 == b ] ";
+const ROWS: &str = "\
+2,First=Rd 2,if |[(add,sub) : (add,sub)] :: [a=rd : ?] :: [? : rs1==a]\n\
+5 a|[add] :: [?] :: [rs1==a]\n\
+7 1 5|[add] :: [?] :: [   rs1 = x1]\n\
+1|[add-x] :: [?] :: [?]\n\
+6 foo|[foo] :: [?] :: [?]\n\
+6 lr.w|[lr.w] :: [?] :: [?]\n\
+skipped|[rv32i_arith : ?] :: [? : a=rd] :: [? : ?]\n\
+1 |[mul] :: [?] :: [?]\n\
+7 2 1|[add] :: [?] :: [ ]\n\
+2|[add:sub] :: [?] :: [?]\n\
+3|[?:?:?:?:?:?:?] :: [?:?:?:?:?:?:?] :: [?:?:?:?:?:?:?]\n\
+4|[?] :: [a=rd;b=rs1;c=rs2;d=rd] :: [?]\n\
+1|[add] :: [a=rd;] :: [?]\n\
+1|[add] :: [A=rd] :: [?]\n\
+1|[add] :: [x1=rd] :: [?]\n\
+1|[add] :: [not=rd] :: [?]\n\
+1|[()] :: [?] :: [?]\n\
+1|[] :: [?] :: [?]\n\
+1|[add] : [?] :: [?]\n\
+1|[add] :: [?] :: [?] x\n\
+?,First=Rd,Second=Rs1 ?,if | [ ? : ? ] :: [ a = rd ; b = rs1 : ? ] :: [ ? : rs1 == a or rs2 == \
+b ] ";
 
 fn push_place(text: &mut String, place: &Place) -> Result<(), AllocError> {
     match &place.ops {
-        Some(ops) => write!(text, " {}", ops.as_slice().len())?,
-        None => text.push_str(" ?")?,
+        Some(ops) => write!(text, "{}", ops.as_slice().len())?,
+        None => text.push_str("?")?,
     }
     for set in place.sets.as_slice() {
         write!(text, ",{:?}={:?}", set.variable, set.field)?;
@@ -21,12 +42,13 @@ fn push_place(text: &mut String, place: &Place) -> Result<(), AllocError> {
     if place.condition.is_some() {
         text.push_str(",if")?;
     }
+    text.push_str(" ")?;
     Ok(())
 }
 
 fn described(alloc: Global, cross: &Cross) -> Result<String, AllocError> {
     let mut text = String::new(alloc);
-    for place in cross.list.as_slice() {
+    for place in in_order(cross) {
         push_place(&mut text, place)?;
     }
     Ok(text)
