@@ -24,7 +24,7 @@ pub gives_same : {X Y : Type 0} (see : X → Y) (r : Result X YamlKind) (m t : C
 gives_same see (Ok x) m t e h = sym e ∙ h
 gives_same see (Err kind) m t e h = fails_to kind m t (λ is. sym e ∙ is) h
 
-fails_with : {A : Type 0} (kind : YamlKind) (m : Checked A) → m ≡ Err kind → Fails kind m
+pub fails_with : {A : Type 0} (kind : YamlKind) (m : Checked A) → m ≡ Err kind → Fails kind m
 fails_with NoMemory m is = tt
 fails_with kind m is = is
 
