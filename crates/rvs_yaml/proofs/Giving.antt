@@ -2,7 +2,9 @@
 use Rattle.std.proofs.Common.{◌≡◌, List, Result, Ok, Err, ap, subst, ◌∙◌, sym}
 use Rattle.rvs_yaml.specs.Checks.{Checked, ◌>>=◌}
 use Rattle.rvs_yaml.specs.Gives.{Agrees, Gives, Fails}
-use Rattle.rvs_yaml.specs.Reader.{kept, Passes}
+use Rattle.rvs_yaml.specs.Answer.{within_limits}
+use Rattle.rvs_yaml.specs.Reader.{kept, Passes, RefusesFront, DeniesFront}
+use Rattle.rvs_tree.specs.Value.{Value}
 use Rattle.rvs_yaml.specs.Stack.{Open}
 use Rattle.rvs_yaml_text.specs.declared.kind.YamlKind.{YamlKind}
 use Rattle.rvs_yaml_text.specs.declared.kind.YamlKind.TheVariants.{NoMemory}
@@ -22,7 +24,7 @@ pub gives_same : {X Y : Type 0} (see : X → Y) (r : Result X YamlKind) (m t : C
 gives_same see (Ok x) m t e h = sym e ∙ h
 gives_same see (Err kind) m t e h = fails_to kind m t (λ is. sym e ∙ is) h
 
-fails_with : {A : Type 0} (kind : YamlKind) (m : Checked A) → m ≡ Err kind → Fails kind m
+pub fails_with : {A : Type 0} (kind : YamlKind) (m : Checked A) → m ≡ Err kind → Fails kind m
 fails_with NoMemory m is = tt
 fails_with kind m is = is
 
@@ -31,6 +33,11 @@ pub agrees_gives : {X Y : Type 0} (see : X → Y) (r : Result X YamlKind) (m t :
     → Agrees see r m → Gives see r t
 agrees_gives see (Ok x) m t e h = sym e ∙ h
 agrees_gives see (Err kind) m t e h = fails_with kind t (sym e ∙ h)
+
+pub refuses_denies : (r : Result (Unit {0}) YamlKind) (m : Checked Value) → RefusesFront r m
+    → DeniesFront r m
+refuses_denies (Ok x) m h = h
+refuses_denies (Err kind) m h = fails_with kind (m >>= within_limits) h
 
 pub passes_same : {X : Type 0} (see : X → List Open) (r : Result X YamlKind)
     (m t : Checked (List Open)) → m ≡ t → Passes see r m → Passes see r t

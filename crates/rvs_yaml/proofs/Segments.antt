@@ -27,7 +27,8 @@ use Rattle.rvs_tree.specs.Shown.{Shown, shown_by}
 use Rattle.rvs_yaml.specs.Answer.{within_limits}
 use Rattle.rvs_yaml.specs.Rising.{Rises, befores}
 use Rattle.rvs_yaml.specs.StackView.{anchor_view, anchors_view, own_view, open_view, stack_view}
-use Rattle.rvs_yaml.specs.StackView.{block_at, open_at, over, anchored, Names}
+use Rattle.rvs_yaml.specs.StackView.{done_view, block_at, open_at, over, anchored, Names}
+use Rattle.rvs_yaml.specs.declared.open.Block as code
 use Rattle.rvs_yaml.specs.declared.open.Anchor.{Anchor}
 use Rattle.rvs_yaml.specs.declared.open.Open.{Open}
 use Rattle.rvs_yaml.proofs.Fronts.{noted-value}
@@ -67,6 +68,11 @@ known-over all (b ∷ bs) h =
     let below = subst (λ m. Rises m (map (λ (o : Open). o.block.before) bs))
     (sym (length-take-le n all h.0)) h.1 in
     ap (λ xs. anchors_view (drop n all) ++ xs) (known-over (take n all) bs below) ∙ whole all n
+
+-- the anchors in all blocks are all
+pub known-all : (all : List Anchor) (bs : List Open) → Rises (length all) (befores bs)
+    → known_of (anchored all bs) ≡ anchors_view all
+known-all all bs h = known-over all (reverse bs) h
 
 -- the anchors in a block and those around it are all
 pub known-put : (all : List Anchor) (n : ℕ) (bs : List Open) → Rises (length all) (n ∷ befores bs)
@@ -207,6 +213,32 @@ last-whole bs top h =
     sym (ap (λ n. take n bs) one ∙ take_all (length bs) bs (omega arith))
     ∙ take_more bs m top inside
     ∙ ap (λ b. take m bs ++ b ∷ []) here
+
+-- a block that the word isn't in closes, and names what it stands for
+pub closed-over : (v u : Value) (b : code.Block) (o : Open) (rest : List Open)
+    (all after : List Anchor) (w : Word) → is_below (head_view o.head) w ≡ false
+    → Rises (length all) (b.before ∷ befores (rest ++ o ∷ []))
+    → closed_value (done_view b.done) b.line v ≡ Ok u
+    → Names (head_view o.head).anchor u b.before all after
+    → Rises (length after) (o.block.before ∷ befores rest)
+    × (settled (found u []) (bare (block_at after o.block))
+    (anchored (take o.block.before after) rest) w
+    ≡ settled (found v []) (bare (block_at all b)) (anchored (take b.before all)
+    (rest ++ o ∷ [])) w)
+closed-over v u b o rest all after w above risen is named =
+    let n = b.before in
+    let m = o.block.before in
+    let at = block_at all b in
+    let around = open_at (take n all) o in
+    let below = anchored (take m (take n all)) rest in
+    let name = (head_view o.head).anchor in
+    let inner : Rises n (m ∷ befores rest) = subst (Rises n) (befores-push rest o) risen.1 in (
+      (omega (arith, inner.0, risen.0, named.more), inner.1),
+      sym (next-over name u n all after o rest w named inner.0 risen.0)
+          ∙ sym (ap (λ r. r >>= λ x. settled (noted name (found x at.anchors)) around below w) is)
+          ∙ sym (settled-closing at v around below w above)
+          ∙ sym (ap (λ s. settled (found v []) (bare at) s w) (anchored-push (take n all) rest o)),
+    )
 
 -- THE FRONT NEEDS NO ANCHORS
 map-reverse : (bs : List Open) → reverse (map open_view bs) ≡ map open_view (reverse bs)

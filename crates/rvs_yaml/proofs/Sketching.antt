@@ -60,12 +60,15 @@ pub ge_fact : (a b : ℕ) → nat_lt a b ≡ false → b ≤ a
 ge_fact a b h = grind (arith, nat_tests)
 
 -- no last block: no block
-pub no_last : (bs : List Open) → None ≡ slice_get bs (length bs - 1)
-    → front_value (stack_view bs) ≡ Ok (scalar_value [] 1)
-no_last [] h = refl
-no_last (x ∷ bs) h = let there : slice_get (x ∷ bs) (length (x ∷ bs) - 1)
+pub none-last : (bs : List Open) → None ≡ slice_get bs (length bs - 1) → bs ≡ []
+none-last [] h = refl
+none-last (x ∷ bs) h = let there : slice_get (x ∷ bs) (length (x ∷ bs) - 1)
     ≡ Some (get_or (x ∷ bs) (length (x ∷ bs) - 1) x) =
     slice_get-get_or (x ∷ bs) _ x (omega arith) in cc
+
+pub no_last : (bs : List Open) → None ≡ slice_get bs (length bs - 1)
+    → front_value (stack_view bs) ≡ Ok (scalar_value [] 1)
+no_last bs h = ap (λ xs. front_value (stack_view xs)) (none-last bs h)
 
 last-here : (bs : List Open) (top : Open) → Some top ≡ slice_get bs (length bs - 1)
     → length bs - 1 < length bs → get_or bs (length bs - 1) top ≡ top

@@ -12,7 +12,7 @@ use Rattle.rvs_yaml.specs.StepParts.{Block, own_content, put_content, advanced_c
 use Rattle.rvs_yaml.specs.StepParts.{bare}
 use Rattle.rvs_yaml.proofs.Outlined.{bind_assoc, bind_same}
 
-own-content : (known : Anchors) (line : ℕ) (s : Shape)
+pub own-content : (known : Anchors) (line : ℕ) (s : Shape)
     → content_value known line (own_content s) ≡ own_value known line s
 own-content known line (dash a) = refl
 own-content known line (key k a content) = refl

@@ -20,6 +20,10 @@ abbrev pub ◌>>◌ : {A B : Type 0} → Checked A → Checked B → Checked B
 (Ok x) >> next = next
 (Err e) >> next = Err e
 
+-- whether a check succeeds
+abbrev pub succeeds : {A : Type 0} → Checked A → Checked (Unit {0})
+succeeds m = m >> Ok tt
+
 -- what is checked, seen by a function
 abbrev pub mapped : {A B : Type 0} → (A → B) → Checked A → Checked B
 mapped see (Ok x) = Ok (see x)

@@ -17,3 +17,7 @@ Agrees see (Err kind) read = read ≡ Err kind
 abbrev pub Gives : {X Y : Type 0} → (X → Y) → Result X YamlKind → Checked Y → Type 0
 Gives see (Ok x) read = read ≡ Ok (see x)
 Gives see (Err kind) read = Fails kind read
+
+-- Where the check fails, so does the function, however much memory there is.
+abbrev pub FailsWith : {X Y : Type 0} → Result X YamlKind → Checked Y → Type 0
+FailsWith result read = (kind : YamlKind) → read ≡ Err kind → result ≡ Err kind

@@ -31,6 +31,11 @@ abbrev pub DeniesFront : Result (Unit {0}) YamlKind → Checked Value → Type 0
 DeniesFront (Ok x) m = Unit {0}
 DeniesFront (Err kind) m = Fails kind (m >>= within_limits)
 
+-- the same of a function that takes no memory
+abbrev pub RefusesFront : Result (Unit {0}) YamlKind → Checked Value → Type 0
+RefusesFront (Ok x) m = Unit {0}
+RefusesFront (Err kind) m = (m >>= within_limits) ≡ Err kind
+
 abbrev pub checked_line : List Open → ℕ → Bool → List ℕ → Checked (List Open)
 checked_line bs line started bytes = steps bs (line_words line started bytes) >>= kept
 

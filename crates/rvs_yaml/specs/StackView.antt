@@ -47,6 +47,11 @@ abbrev pub own_view : ℕ → Option (Box Value) → value_spec.Value
 own_view line None = value_spec.scalar_value [] line
 own_view line (Some v) = value_view v.value
 
+-- the depth that is kept with it
+abbrev pub kept_depth : Option (Box Value) → ℕ
+kept_depth None = 1
+kept_depth (Some v) = v.value.depth
+
 abbrev pub open_view : Open → spec.Open
 open_view b = parts.opened (block_view b.block) (head_view b.head) (own_view b.head.line b.own)
 

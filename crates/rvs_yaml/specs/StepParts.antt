@@ -1,15 +1,16 @@
 -- Parts of a step of the stack of open blocks.
-use Rattle.std.specs.Prelude.{ℕ, not, ◌||◌, List, [], ◌∷◌, ◌++◌, None, Ok}
+use Rattle.std.specs.Prelude.{ℕ, Bool, not, ◌||◌, if◌then◌else◌, List, [], ◌∷◌, ◌++◌, None, Ok, Err}
 use Rattle.rvs_yaml.specs.Checks.{Checked, ◌>>=◌, ◌>>◌, check}
 use Rattle.rvs_tree.specs.Value.{Value, Written, has_key, scalar_value, list_value, map_value}
-use Rattle.rvs_yaml_text.specs.Word.{Key, Content, nothing, faulty, Shape, dash, key, leaf, refused}
-use Rattle.rvs_yaml_text.specs.Word.{Word, Head, no_opener}
-use Rattle.rvs_yaml.specs.Anchors.{Anchors}
+use Rattle.rvs_yaml_text.specs.Word.{Key, Content, nothing, alias, faulty, Shape, dash, key, leaf}
+use Rattle.rvs_yaml_text.specs.Word.{refused, Word, Head, no_opener, is_below, opens_block}
+use Rattle.rvs_yaml.specs.Anchors.{Anchors, lookup, known_alias}
 use Rattle.rvs_yaml.specs.Entry.{written}
 use Rattle.rvs_yaml.specs.Block.{content_value, key_at, check_merge}
 use Rattle.rvs_yaml.specs.Stack.{Done, done_items, done_entries, alone, Open, known_of}
 use Rattle.rvs_yaml.specs.Stack.{advanced_as}
-use Rattle.rvs_yaml_text.specs.declared.kind.YamlKind.TheVariants.{DuplicateKey}
+use Rattle.rvs_yaml_text.specs.declared.kind.YamlKind.TheVariants.{DuplicateKey, BadScalar}
+use Rattle.rvs_yaml_text.specs.declared.kind.YamlKind.TheVariants.{Unsupported}
 
 -- what is behind a word
 abbrev pub own_content : Shape → Content
@@ -33,6 +34,23 @@ next_item vs column v w = advanced_content (done_items vs) column v w
 
 abbrev pub next_entry : List Written → Key → ℕ → Value → Word → Checked (Done × Content)
 next_entry ws k column v w = advanced_content (done_entries ws k) column v w
+
+-- an alias stands for something, and at most a comment is behind it
+abbrev pub alias_found : Anchors → List ℕ → Bool → Checked (Unit {0})
+alias_found known name ended = known_alias (lookup name known) >> check ended BadScalar
+
+-- what the anchors alone tell of what is behind a word
+abbrev pub looked_up : Anchors → Content → Checked (Unit {0})
+looked_up known (alias name ended) = alias_found known name ended
+looked_up known (faulty kind) = Err kind
+looked_up known _ = Ok tt
+
+-- whether a word may begin a block below the last word, where it is below that
+abbrev pub placed : List Open → Word → Checked (Unit {0})
+placed [] w = looked_up [] (own_content w.shape)
+placed (b ∷ bs) w = if is_below b.head w then (check (opens_block b.head.sort) Unsupported
+    >> looked_up (known_of (b ∷ bs)) (own_content w.shape))
+    else Ok tt
 
 -- what a block has so far
 pub record Block : Type 0 where

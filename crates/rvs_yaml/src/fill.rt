@@ -12,7 +12,7 @@ ghost use Rattle.rvs_yaml.specs.Filling as spec;
 ghost use Rattle.rvs_yaml.specs.Flow.{flow_value};
 ghost use Rattle.rvs_yaml.specs.Front.{ends};
 ghost use Rattle.rvs_yaml.specs.Gives.{Gives};
-ghost use Rattle.rvs_yaml.specs.Reader.{Passes, Denies, DeniesFront};
+ghost use Rattle.rvs_yaml.specs.Reader.{Passes, Denies, DeniesFront, RefusesFront};
 ghost use Rattle.rvs_yaml.specs.StackView.{all_known, anchors_view, stack_view, open_blocks};
 
 use crate::anchor_list::AnchorList;
@@ -31,7 +31,7 @@ use std::alloc::Global;
 fn check_nodes(blocks: &[Open<'_>], thin: &Value, height: u64) -> Result<(), YamlKind>
     requires { height ≤ 33 }
     ensures { (v : value_spec.Value) → value_view thin.now ≡ standin v
-        → min (depth v.tree) 33 ≤ height → DeniesFront result (ends v (stack_view blocks.now)) }
+        → min (depth v.tree) 33 ≤ height → RefusesFront result (ends v (stack_view blocks.now)) }
 {
     let sketch = sketch_with(blocks, thin_sketch(thin, height))?;
     if sketch.nodes > MOST_NODES && sketch.depth <= MOST_DEPTH {

@@ -1,11 +1,11 @@
 // Reading flow collections from left to right.
-ghost use Rattle.std.specs.Prelude.{◌≡◌, true, Err, Some, if◌then◌else◌};
+ghost use Rattle.std.specs.Prelude.{◌≡◌, true, Err, if◌then◌else◌};
 ghost use Rattle.rvs_tree.specs.Value as value_spec;
 ghost use Rattle.rvs_yaml.specs.Flow as spec;
 ghost use Rattle.rvs_yaml.specs.FlowSteps as steps_spec;
 ghost use Rattle.rvs_yaml.specs.FlowParts as parts;
 ghost use Rattle.rvs_yaml_text.specs.declared.kind.YamlKind.TheVariants.{BadScalar, BadFlow};
-ghost use Rattle.rvs_yaml.specs.Gives.{Agrees, Gives};
+ghost use Rattle.rvs_yaml.specs.Gives.{Agrees, Gives, FailsWith};
 ghost use Rattle.rvs_yaml.specs.StackView.{known_view};
 ghost use Rattle.rvs_tree.specs.ValueView.{value_view, written_view, entries_view};
 ghost use Rattle.rvs_yaml_text.specs.KeyView.{key_view};
@@ -14,6 +14,7 @@ ghost use Rattle.rvs_yaml_text.specs.TokenView.{token_view};
 ghost use Rattle.rvs_yaml.specs.FlowView.{place_view, reading_view, levels_view};
 
 use crate::entry::entry_of;
+use crate::flow_places::{ends_with, may_close, may_go_on, may_open, may_take};
 use crate::known::Known;
 use crate::reading::{Level, Pending, Place, Reading};
 use rvs_tree::{
@@ -35,7 +36,10 @@ fn first_place(alloc: Global, bracket: Bracket) -> Place
 
 /// The place behind a value.
 fn with_value(alloc: Global, place: Place, value: Value) -> Result<Place, YamlKind>
-    ensures { Gives place_view result (spec.with_value (place_view place) (value_view value)) }
+    ensures given { Gives place_view result
+        (spec.with_value (place_view place) (value_view value)) }
+    ensures refused { FailsWith result
+        (spec.with_value (place_view place) (value_view value)) }
 {
     match place {
         Place::Member(list) => Ok(Place::BehindMember(list.with(value)?)),
@@ -67,7 +71,10 @@ fn is_new(list: &EntryList, key: &Key) -> bool
 
 /// The place behind a key and its colon.
 fn with_key(alloc: Global, place: Place, key: Key) -> Result<Place, YamlKind>
-    ensures { Gives place_view result (spec.with_key (place_view place) (key_view key)) }
+    ensures given { Gives place_view result
+        (spec.with_key (place_view place) (key_view key)) }
+    ensures refused { FailsWith result
+        (spec.with_key (place_view place) (key_view key)) }
 {
     match place {
         Place::KeyPlace(list) => {
@@ -138,7 +145,9 @@ fn alias_here(
     place: &Place,
     name: &str,
 ) -> Result<Value, YamlKind>
-    ensures { Gives value_view result
+    ensures given { Gives value_view result
+        (parts.alias_at (known_view known.now) (place_view place.now) name.now) }
+    ensures refused { FailsWith result
         (parts.alias_at (known_view known.now) (place_view place.now) name.now) }
 {
     match place {
@@ -160,7 +169,9 @@ fn with_alias(
     place: Place,
     name: &str,
 ) -> Result<Place, YamlKind>
-    ensures { Gives place_view result
+    ensures given { Gives place_view result
+        (spec.with_alias (known_view known.now) (place_view place) name.now) }
+    ensures refused { FailsWith result
         (spec.with_alias (known_view known.now) (place_view place) name.now) }
 {
     let value = alias_here(alloc, known, &place, name)?;
@@ -169,9 +180,12 @@ fn with_alias(
 
 /// The place behind a scalar.
 fn with_scalar(alloc: Global, line: u64, place: Place, key: Key) -> Result<Place, YamlKind>
-    ensures { Gives place_view result
+    ensures given { Gives place_view result
+        (spec.with_value (place_view place) (value_spec.scalar_value (key_view key).name line)) }
+    ensures refused { FailsWith result
         (spec.with_value (place_view place) (value_spec.scalar_value (key_view key).name line)) }
 {
+    may_take(&place)?;
     let value = scalar_value(alloc, key.name, line)?;
     with_value(alloc, place, value)
 }
@@ -184,7 +198,9 @@ fn with_token(
     place: Place,
     token: Token<'_>,
 ) -> Result<Place, YamlKind>
-    ensures { Gives place_view result
+    ensures given { Gives place_view result
+        (spec.with_token (known_view known.now) line (place_view place) (token_view token.entry)) }
+    ensures refused { FailsWith result
         (spec.with_token (known_view known.now) line (place_view place) (token_view token.entry)) }
 {
     match token {
@@ -197,24 +213,16 @@ fn with_token(
         Token::Alias(name) => with_alias(alloc, known, place, name),
         Token::Fault(kind) => Err(start_fault(&place, kind)),
         Token::LateColon => Err(YamlKind::Unsupported),
-        _ => Err(YamlKind::BadFlow),
-    }
-}
-
-/// Whether a collection may begin here.
-fn may_open(place: &Place) -> Result<(), YamlKind>
-    ensures { Agrees (λ u. u) result (spec.may_open (place_view place.now)) }
-{
-    match place {
-        Place::Member(_) | Place::EntryValue(_) => Ok(()),
-        Place::KeyPlace(_) => Err(YamlKind::Unsupported),
-        _ => Err(YamlKind::BadFlow),
+        Token::Opening(_) | Token::Closing(_) => Err(YamlKind::BadFlow),
     }
 }
 
 /// The value of a collection that ends here.
 fn closes(alloc: Global, line: u64, place: &Place) -> Result<Value, YamlKind>
-    ensures { Gives value_view result (spec.closes line (place_view place.now)) }
+    ensures given { Gives value_view result
+        (spec.closes line (place_view place.now)) }
+    ensures refused { FailsWith result
+        (spec.closes line (place_view place.now)) }
 {
     match place {
         Place::Member(list) | Place::BehindMember(list) => Ok(list_value(alloc, line, list)?),
@@ -225,7 +233,10 @@ fn closes(alloc: Global, line: u64, place: &Place) -> Result<Value, YamlKind>
 
 /// What stands for the value of a collection that ends here.
 fn thin_closes(alloc: Global, line: u64, place: &Place) -> Result<Value, YamlKind>
-    ensures { Gives value_view result (steps_spec.closed_by true line (place_view place.now)) }
+    ensures given { Gives value_view result
+        (steps_spec.closed_by true line (place_view place.now)) }
+    ensures refused { FailsWith result
+        (steps_spec.closed_by true line (place_view place.now)) }
 {
     match place {
         Place::Member(list) | Place::BehindMember(list) => Ok(thin_list_value(alloc, line, list)?),
@@ -236,23 +247,15 @@ fn thin_closes(alloc: Global, line: u64, place: &Place) -> Result<Value, YamlKin
 
 /// The value of a collection that ends here, or what stands for it.
 fn closed_by(alloc: Global, poor: bool, line: u64, place: &Place) -> Result<Value, YamlKind>
-    ensures { Gives value_view result (steps_spec.closed_by poor line (place_view place.now)) }
+    ensures given { Gives value_view result
+        (steps_spec.closed_by poor line (place_view place.now)) }
+    ensures refused { FailsWith result
+        (steps_spec.closed_by poor line (place_view place.now)) }
 {
     if poor {
         thin_closes(alloc, line, place)
     } else {
         closes(alloc, line, place)
-    }
-}
-
-/// Whether the bracket ends a collection with this one.
-fn ends_with(first: Bracket, last: Bracket) -> Result<(), YamlKind>
-    ensures { Agrees (λ u. u) result
-        (spec.ends_with (bracket_view first) (Some (bracket_view last))) }
-{
-    match (first, last) {
-        (Bracket::Square, Bracket::Square) | (Bracket::Curly, Bracket::Curly) => Ok(()),
-        _ => Err(YamlKind::BadFlow),
     }
 }
 
@@ -285,7 +288,9 @@ fn entry_fits(written: &Written) -> bool
 
 /// What is read once a value is whole.
 fn into(alloc: Global, value: Value, good: bool, mut outer: Vec<Level>) -> Result<Reading, YamlKind>
-    ensures { Gives reading_view result
+    ensures given { Gives reading_view result
+        (steps_spec.into (value_view value, good) (levels_view outer.items)) }
+    ensures refused { FailsWith result
         (steps_spec.into (value_view value, good) (levels_view outer.items)) }
 {
     let Some(level) = outer.pop() else {
@@ -311,7 +316,11 @@ fn opened(
     mut outer: Vec<Level>,
     bracket: Bracket,
 ) -> Result<Reading, YamlKind>
-    ensures { Gives reading_view result (parts.opened good (bracket_view level.bracket)
+    ensures given { Gives reading_view result
+        (parts.opened good (bracket_view level.bracket)
+        (place_view level.place) (levels_view outer.items) (bracket_view bracket)) }
+    ensures refused { FailsWith result
+        (parts.opened good (bracket_view level.bracket)
         (place_view level.place) (levels_view outer.items) (bracket_view bracket)) }
 {
     may_open(&level.place)?;
@@ -336,11 +345,17 @@ fn closed(
     outer: Vec<Level>,
     bracket: Bracket,
 ) -> Result<Reading, YamlKind>
-    ensures { Gives reading_view result (parts.closed poor line good (bracket_view level.bracket)
+    ensures given { Gives reading_view result
+        (parts.closed poor line good (bracket_view level.bracket)
+        (place_view level.place) (levels_view outer.items) (bracket_view bracket)) }
+    ensures refused { FailsWith result
+        (parts.closed poor line good (bracket_view level.bracket)
         (place_view level.place) (levels_view outer.items) (bracket_view bracket)) }
 {
-    let value = closed_by(alloc, poor, line, &level.place)?;
+    may_close(&level.place)?;
     ends_with(level.bracket, bracket)?;
+    may_go_on(outer.as_slice())?;
+    let value = closed_by(alloc, poor, line, &level.place)?;
     into(alloc, value, good, outer)
 }
 
@@ -354,7 +369,12 @@ fn moved(
     outer: Vec<Level>,
     token: Token<'_>,
 ) -> Result<Reading, YamlKind>
-    ensures { Gives reading_view result (steps_spec.moved good (bracket_view level.bracket)
+    ensures given { Gives reading_view result
+        (steps_spec.moved good (bracket_view level.bracket)
+        (levels_view outer.items) (spec.with_token (known_view known.now) line
+        (place_view level.place) (token_view token.entry))) }
+    ensures refused { FailsWith result
+        (steps_spec.moved good (bracket_view level.bracket)
         (levels_view outer.items) (spec.with_token (known_view known.now) line
         (place_view level.place) (token_view token.entry))) }
 {
@@ -370,6 +390,30 @@ fn moved(
     ))
 }
 
+/// What is read behind one token more, where a collection is open.
+fn inside(
+    alloc: Global,
+    known: &Known<'_, '_>,
+    line: u64,
+    good: bool,
+    level: Level,
+    outer: Vec<Level>,
+    token: Token<'_>,
+) -> Result<Reading, YamlKind>
+    ensures given { Gives reading_view result (steps_spec.flow_step known.now.poor
+        (known_view known.now) line (steps_spec.open_in good (bracket_view level.bracket)
+        (place_view level.place) (levels_view outer.items)) (token_view token.entry)) }
+    ensures refused { FailsWith result (steps_spec.flow_step known.now.poor
+        (known_view known.now) line (steps_spec.open_in good (bracket_view level.bracket)
+        (place_view level.place) (levels_view outer.items)) (token_view token.entry)) }
+{
+    match token {
+        Token::Opening(bracket) => opened(alloc, good, level, outer, bracket),
+        Token::Closing(bracket) => closed(alloc, known.poor, line, good, level, outer, bracket),
+        _ => moved(alloc, known, line, good, level, outer, token),
+    }
+}
+
 /// What is read behind one token more.
 pub(crate) fn flow_step(
     alloc: Global,
@@ -378,15 +422,17 @@ pub(crate) fn flow_step(
     reading: Reading,
     token: Token<'_>,
 ) -> Result<Reading, YamlKind>
-    ensures { Gives reading_view result (steps_spec.flow_step known.now.poor (known_view known.now)
+    ensures given { Gives reading_view result
+        (steps_spec.flow_step known.now.poor (known_view known.now)
+        line (reading_view reading) (token_view token.entry)) }
+    ensures refused { FailsWith result
+        (steps_spec.flow_step known.now.poor (known_view known.now)
         line (reading_view reading) (token_view token.entry)) }
 {
     match reading {
-        Reading::Inside(good, level, outer) => match token {
-            Token::Opening(bracket) => opened(alloc, good, level, outer, bracket),
-            Token::Closing(bracket) => closed(alloc, known.poor, line, good, level, outer, bracket),
-            _ => moved(alloc, known, line, good, level, outer, token),
-        },
+        Reading::Inside(good, level, outer) => inside(
+            alloc, known, line, good, level, outer, token,
+        ),
         Reading::Whole(_, _) => match token {
             Token::LateColon => Err(YamlKind::Unsupported),
             _ => Err(YamlKind::BadFlow),

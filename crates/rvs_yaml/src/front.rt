@@ -1,6 +1,6 @@
 // The limits on the tree of the lines so far.
 ghost use Rattle.std.specs.Prelude.{◌≡◌, ◌≤◌, ◌∷◌, ◌++◌, ◌+◌, ◌&&◌, [], ℕ, List, min, not, nat_lt};
-ghost use Rattle.std.specs.Prelude.{if◌then◌else◌, IfOk};
+ghost use Rattle.std.specs.Prelude.{if◌then◌else◌, Ok, IfOk, IfErr, IsOk};
 ghost use Rattle.rvs_tree.specs.Data as data_spec;
 ghost use Rattle.rvs_tree.specs.Value as value_spec;
 ghost use Rattle.rvs_yaml.specs.StepParts as parts;
@@ -8,9 +8,11 @@ ghost use Rattle.rvs_tree.specs.Bound.{brought};
 ghost use Rattle.rvs_yaml.specs.Entry.{written};
 ghost use Rattle.rvs_tree.specs.Standin.{standin};
 ghost use Rattle.rvs_yaml.specs.Stack.{done_entries};
+ghost use Rattle.rvs_yaml.specs.Answer.{within_limits};
 ghost use Rattle.rvs_yaml.specs.Front as spec;
 ghost use Rattle.rvs_yaml.specs.Reach.{KeepsDepth};
-ghost use Rattle.rvs_yaml.specs.Gives.{Gives};
+ghost use Rattle.rvs_yaml.specs.Gives.{Agrees, Gives, FailsWith};
+ghost use Rattle.rvs_yaml_text.specs.declared.kind.YamlKind.TheVariants.{NoMemory};
 ghost use Rattle.rvs_yaml.specs.Sketched.{IsSketch, Brings, SketchedAs};
 ghost use Rattle.rvs_tree.specs.TreeView.{view};
 ghost use Rattle.rvs_yaml.specs.StackView.{own_view, done_view, open_view, stack_view};
@@ -348,7 +350,9 @@ fn longer_map(
 
 /// The value of a block with its open member.
 fn closed_copy(alloc: Global, block: &Block, value: Value) -> Result<Value, YamlKind>
-    ensures { Gives value_view result
+    ensures given { Gives value_view result
+        (parts.closed_value (done_view block.now.done) block.now.line (value_view value)) }
+    ensures refused { FailsWith result
         (parts.closed_value (done_view block.now.done) block.now.line (value_view value)) }
 {
     match &block.done {
@@ -396,25 +400,63 @@ fn is_deeper(tree: &Tree, levels: u64) -> bool
     false
 }
 
-/// Whether the tree of the lines so far keeps the limits. Before the last line it was no deeper
-/// than it may be, so it is looked through only where what that line has brought could be too deep.
-pub(crate) fn check_front(alloc: Global, blocks: &[Open<'_>]) -> Result<(), YamlKind>
+/// Whether the tree of the lines so far, of which this is known, is too deep. Before the last line
+/// it was no deeper than it may be, so it is looked through only where what that line has brought
+/// could be too deep. What is known tells it mostly, and then no memory is taken.
+fn is_too_deep(alloc: Global, blocks: &[Open<'_>], sketch: &Sketch) -> Result<bool, YamlKind>
     requires { KeepsDepth (stack_view blocks.now) }
-    ensures { Gives (λ u. u) result (spec.checked_front (stack_view blocks.now)) }
+    ensures told { (v : value_spec.Value) → spec.front_value (stack_view blocks.now) ≡ Ok v
+        → IsSketch v sketch.now → IfOk result (λ b. b ≡ nat_lt 32 (data_spec.depth v.tree)) }
+    ensures memory { (v : value_spec.Value) → spec.front_value (stack_view blocks.now) ≡ Ok v
+        → IfErr result (λ kind. kind ≡ NoMemory) }
+    ensures shallow { sketch.now.depth ≤ 32 → IsOk result }
+    ensures deep { 33 ≤ sketch.now.least → IsOk result }
 {
-    let sketch = sketch_front(blocks)?;
     if sketch.least > MOST_DEPTH {
+        return Ok(true);
+    }
+    if sketch.depth <= MOST_DEPTH || !may_be_deep(alloc, blocks)? {
+        return Ok(false);
+    }
+    let tree = into_tree(alloc, front_value(alloc, blocks)?)?;
+    Ok(is_deeper(&tree, MOST_DEPTH))
+}
+
+/// Refuses a tree that is too deep, or has too many nodes.
+fn check_limits(deep: bool, nodes: u64) -> Result<(), YamlKind>
+    ensures { Agrees (λ u. u) result (spec.limited deep nodes) }
+{
+    if deep {
         return Err(YamlKind::TooDeep);
     }
-    if sketch.depth > MOST_DEPTH && may_be_deep(alloc, blocks)? {
-        let tree = into_tree(alloc, front_value(alloc, blocks)?)?;
-        if is_deeper(&tree, MOST_DEPTH) {
-            return Err(YamlKind::TooDeep);
-        }
-    }
-    if sketch.nodes > MOST_NODES {
+    if nodes > MOST_NODES {
         Err(YamlKind::TooManyNodes)
     } else {
         Ok(())
     }
+}
+
+/// Whether the tree of the lines so far, of which this is known, keeps the limits. Memory may run
+/// out only where what is known doesn't tell whether it is too deep.
+fn check_sketched(alloc: Global, blocks: &[Open<'_>], sketch: &Sketch) -> Result<(), YamlKind>
+    requires { KeepsDepth (stack_view blocks.now) }
+    ensures given { (v : value_spec.Value) → spec.front_value (stack_view blocks.now) ≡ Ok v
+        → IsSketch v sketch.now → Gives (λ u. u) result (within_limits v) }
+    ensures shallow { (v : value_spec.Value) → spec.front_value (stack_view blocks.now) ≡ Ok v
+        → IsSketch v sketch.now → sketch.now.depth ≤ 32 → Agrees (λ u. u) result (within_limits v) }
+    ensures deep { (v : value_spec.Value) → spec.front_value (stack_view blocks.now) ≡ Ok v
+        → IsSketch v sketch.now → 33 ≤ sketch.now.least → Agrees (λ u. u) result (within_limits v) }
+{
+    let deep = is_too_deep(alloc, blocks, sketch)?;
+    check_limits(deep, sketch.nodes)
+}
+
+/// Whether the tree of the lines so far keeps the limits.
+pub(crate) fn check_front(alloc: Global, blocks: &[Open<'_>]) -> Result<(), YamlKind>
+    requires { KeepsDepth (stack_view blocks.now) }
+    ensures given { Gives (λ u. u) result (spec.checked_front (stack_view blocks.now)) }
+    ensures merged { FailsWith result (spec.front_value (stack_view blocks.now)) }
+{
+    let sketch = sketch_front(blocks)?;
+    check_sketched(alloc, blocks, &sketch)
 }

@@ -1,7 +1,7 @@
 // The anchors that are known at a place.
 ghost use Rattle.std.specs.Prelude.{◌≡◌, ◌≤◌, min, option_map, IfOk};
 ghost use Rattle.rvs_yaml.specs.Anchors as spec;
-ghost use Rattle.rvs_yaml.specs.Gives.{Gives};
+ghost use Rattle.rvs_yaml.specs.Gives.{Gives, FailsWith};
 ghost use Rattle.rvs_yaml.specs.Heights.{found_depth};
 ghost use Rattle.rvs_yaml.specs.StackView.{all_known, known_view};
 ghost use Rattle.rvs_tree.specs.Standin.{formed_value};
@@ -54,7 +54,9 @@ impl<'a, 'b> Known<'a, 'b> {
 
     /// What an alias with this name stands for.
     pub(crate) fn alias_value(&self, alloc: Global, name: &str) -> Result<Value, YamlKind>
-        ensures { Gives value_view result
+        ensures given { Gives value_view result
+            (spec.known_alias (spec.lookup name.now (known_view self.now))) }
+        ensures refused { FailsWith result
             (spec.known_alias (spec.lookup name.now (known_view self.now))) }
     {
         match self.find(name) {

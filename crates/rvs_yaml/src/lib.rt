@@ -4,10 +4,12 @@
 
 mod anchor_list;
 mod anchoring;
+mod beginning;
 mod closing;
 mod entry;
 mod fill;
 mod flow;
+mod flow_places;
 mod flow_text;
 mod front;
 mod height;

@@ -1,9 +1,11 @@
 // How deep what the last word has brought can be.
-ghost use Rattle.std.specs.Prelude.{◌≡◌, ◌≤◌, false, min, IfOk};
+ghost use Rattle.std.specs.Prelude.{◌≡◌, ◌≤◌, false, min, if◌then◌else◌, IfOk};
 ghost use Rattle.rvs_tree.specs.Data as data_spec;
 ghost use Rattle.rvs_yaml.specs.Front as front_spec;
 ghost use Rattle.rvs_yaml.specs.Reach as spec;
-ghost use Rattle.rvs_yaml.specs.StackView.{done_view, open_view, stack_view};
+ghost use Rattle.rvs_yaml.specs.StackView.{done_view, open_view, stack_view, kept_depth};
+ghost use Rattle.rvs_yaml_text.specs.Word.{opens_block};
+ghost use Rattle.rvs_yaml_text.specs.WordView.{head_view};
 
 use crate::front::MOST_DEPTH;
 use crate::open::{Done, Open};
@@ -37,6 +39,8 @@ fn levels(blocks: &[Open<'_>]) -> u64
 fn own_depth(top: &Open<'_>) -> u64
     ensures bound { min (data_spec.depth (front_spec.own_value (open_view top.now)).tree) 33
         ≤ result }
+    ensures kept { result ≡ (if opens_block (head_view top.now.head).sort then 1
+        else kept_depth top.now.own) }
     ensures shallow { result ≤ 33 }
 {
     if top.head.sort.opens_block() {

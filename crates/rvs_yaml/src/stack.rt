@@ -1,10 +1,11 @@
 // Reading words with a stack of open blocks.
-ghost use Rattle.std.specs.Prelude.{◌≡◌, ◌∷◌, [], length, take, if◌then◌else◌, IfOk};
+ghost use Rattle.std.specs.Prelude.{◌≡◌, ◌∷◌, ◌++◌, [], length, take, if◌then◌else◌, IfOk};
 ghost use Rattle.rvs_yaml.specs.Block as block_spec;
 ghost use Rattle.rvs_yaml.specs.Stack as spec;
 ghost use Rattle.rvs_tree.specs.Value as value_spec;
+ghost use Rattle.rvs_tree.specs.Value.{has_key};
 ghost use Rattle.rvs_yaml.specs.StepParts as parts;
-ghost use Rattle.rvs_yaml.specs.Gives.{Agrees, Gives};
+ghost use Rattle.rvs_yaml.specs.Gives.{Agrees, Gives, FailsWith};
 ghost use Rattle.rvs_yaml.specs.StackView.{anchors_view, own_view, done_view};
 ghost use Rattle.rvs_yaml.specs.StackView.{block_at, anchored, open_blocks};
 ghost use Rattle.rvs_yaml.specs.Rising.{Rises, befores};
@@ -16,6 +17,7 @@ ghost use Rattle.rvs_yaml_text.specs.Word.{opens_block};
 
 use crate::anchor_list::AnchorList;
 use crate::anchoring::{named, no_anchors};
+use crate::beginning::check_placed;
 use crate::entry::entry_of;
 use crate::known::Known;
 use crate::open::{Block, Done, Open};
@@ -76,15 +78,24 @@ fn item_at(column: usize, word: &Word<'_>) -> Result<(), YamlKind>
     }
 }
 
-/// Whether the key is new in the map, or merges.
-fn check_new(entries: &EntryList, key: &Key) -> Result<(), YamlKind>
+/// Whether the key is that of the open entry, which doesn't merge.
+fn is_last(last: &Key, key: &Key) -> bool
+    ensures { result ≡ has_key (key_view key.now).name (block_spec.spelled (key_view last.now)) }
+{
+    !last.merges && last.name.as_str() == key.name.as_str()
+}
+
+/// Whether the key is new in the map with this open entry, or merges.
+#[tactic(auto, using(crate::proofs::Deciding::known_key))]
+fn check_new(entries: &EntryList, last: &Key, key: &Key) -> Result<(), YamlKind>
     ensures { Agrees (λ u. u) result (parts.check_new
-        (value_spec.explicit_keys (entries_view entries.now.entries.items)) (key_view key.now)) }
+        (value_spec.explicit_keys (entries_view entries.now.entries.items)
+        ++ block_spec.spelled (key_view last.now)) (key_view key.now)) }
 {
     if key.merges {
         return Ok(());
     }
-    if entries.has_key(key.name.as_str()) {
+    if entries.has_key(key.name.as_str()) || is_last(last, key) {
         Err(YamlKind::DuplicateKey)
     } else {
         Ok(())
@@ -95,11 +106,12 @@ fn check_new(entries: &EntryList, key: &Key) -> Result<(), YamlKind>
 fn key_at<'a>(
     column: usize,
     entries: &EntryList,
+    last: &Key,
     word: Word<'a>,
 ) -> Result<(Key, Content<'a>), YamlKind>
     ensures { Agrees key_content result (parts.keyed_content column
-        (value_spec.explicit_keys (entries_view entries.now.entries.items))
-        (word_view word.entry)) }
+        (value_spec.explicit_keys (entries_view entries.now.entries.items)
+        ++ block_spec.spelled (key_view last.now)) (word_view word.entry)) }
 {
     let Word {
         line: _,
@@ -111,7 +123,7 @@ fn key_at<'a>(
             if at != column {
                 return Err(YamlKind::BadIndent);
             }
-            check_new(entries, &key)?;
+            check_new(entries, last, &key)?;
             Ok((key, content))
         }
         Shape::Refused(kind) => Err(kind),
@@ -119,7 +131,8 @@ fn key_at<'a>(
     }
 }
 
-/// The members of a map with the value of the open one, and the word that is the next.
+/// The members of a map with the value of the open one, and the word that is the next. What can be
+/// refused is, before memory is taken.
 fn next_entry<'a>(
     alloc: Global,
     entries: EntryList,
@@ -128,14 +141,16 @@ fn next_entry<'a>(
     value: Value,
     word: Word<'a>,
 ) -> Result<(Done, Content<'a>), YamlKind>
-    ensures { Gives done_content result (parts.next_entry (entries_view entries.entries.items)
+    ensures given { Gives done_content result (parts.next_entry (entries_view entries.entries.items)
+        (key_view key) column (value_view value) (word_view word.entry)) }
+    ensures refused { FailsWith result (parts.next_entry (entries_view entries.entries.items)
         (key_view key) column (value_view value) (word_view word.entry)) }
 {
     check_merge(&key, &value)?;
-    let entries = entries.with(alloc, entry_of(key, value))?;
-    let (key, content) = key_at(column, &entries, word)?;
+    let (next, content) = key_at(column, &entries, &key, word)?;
+    let list = entries.with(alloc, entry_of(key, value))?;
     Ok((
-        Done::Entries(Box::new(alloc, Pending { list: entries, key })?),
+        Done::Entries(Box::new(alloc, Pending { list, key: next })?),
         content,
     ))
 }
@@ -147,8 +162,10 @@ fn next_item<'a>(
     value: Value,
     word: &Word<'a>,
 ) -> Result<(Done, Content<'a>), YamlKind>
-    ensures { Gives done_content result (parts.next_item (values_view items.values.items) column
-        (value_view value) (word_view word.now)) }
+    ensures given { Gives done_content result (parts.next_item (values_view items.values.items)
+        column (value_view value) (word_view word.now)) }
+    ensures refused { FailsWith result (parts.next_item (values_view items.values.items)
+        column (value_view value) (word_view word.now)) }
 {
     item_at(column, word)?;
     let items = items.with(value)?;
@@ -163,7 +180,9 @@ fn advanced<'a>(
     value: Value,
     word: Word<'a>,
 ) -> Result<(Done, Content<'a>), YamlKind>
-    ensures { Gives done_content result
+    ensures given { Gives done_content result
+        (parts.advanced_content (done_view done) column (value_view value) (word_view word.entry)) }
+    ensures refused { FailsWith result
         (parts.advanced_content (done_view done) column (value_view value) (word_view word.entry)) }
 {
     match done {
@@ -271,11 +290,13 @@ fn advance<'a>(
     word: Word<'a>,
 ) -> Result<OpenBlocks<'a>, YamlKind>
     requires { Rises (length anchors.anchors.items) (block.before ∷ befores blocks.items) }
-    ensures { Gives open_blocks result (spec.advanced
+    ensures given { Gives open_blocks result (spec.advanced
         (parts.bare (block_at anchors.entry.anchors.items block))
         (block_spec.found (value_view value) [])
         (anchored (take block.before anchors.entry.anchors.items) blocks.entry.items)
         (word_view word.entry)) }
+    ensures refused { FailsWith result (parts.advanced_content (done_view block.done) block.column
+        (value_view value) (word_view word.entry)) }
 {
     let head = word.head();
     let Block {
@@ -327,7 +348,9 @@ pub(crate) fn closed_value(
     done: Done,
     value: Value,
 ) -> Result<Value, YamlKind>
-    ensures { Gives value_view result
+    ensures given { Gives value_view result
+        (parts.closed_value (done_view done) line (value_view value)) }
+    ensures refused { FailsWith result
         (parts.closed_value (done_view done) line (value_view value)) }
 {
     match done {
@@ -383,15 +406,18 @@ fn settle<'a>(
     advance(alloc, blocks, anchors, block, value, word)
 }
 
-/// Reads a word.
+/// Reads a word. A block that can't begin is refused before memory is taken.
 pub(crate) fn step<'a>(
     alloc: Global,
     stack: OpenBlocks<'a>,
     word: Word<'a>,
 ) -> Result<OpenBlocks<'a>, YamlKind>
-    ensures { Gives open_blocks result
+    ensures given { Gives open_blocks result
         (spec.step (open_blocks stack.entry) (word_view word.entry)) }
+    ensures refused { FailsWith result
+        (parts.placed (open_blocks stack.entry) (word_view word.entry)) }
 {
+    check_placed(&stack, &word)?;
     let OpenBlocks {
         mut blocks,
         anchors,
@@ -400,9 +426,6 @@ pub(crate) fn step<'a>(
         return begin(alloc, blocks, anchors, word);
     };
     if is_below(&top.head, &word) {
-        if !top.head.sort.opens_block() {
-            return Err(YamlKind::Unsupported);
-        }
         blocks.push(top)?;
         return begin(alloc, blocks, anchors, word);
     }

@@ -13,7 +13,7 @@ pub loop-outer-preserved : goal.loop-outer-preserved
 loop-outer-preserved c =
     let rest = stack_view c.pop.new.self.items in
     let v = value_view c.loop-outer.value in
-    sym (ap (λ m. m >>= λ w. ends w rest) c.in_ok-value.ensures)
+    sym (ap (λ m. m >>= λ w. ends w rest) c.in_ok-value.ensures.given)
     ∙ sym (ap (ends v)
     (ap stack_view c.in-Some.ensures.items ∙ stack-push c.pop.new.self.items c.in-Some.outer))
     ∙ c.loop-outer.invariant
@@ -27,4 +27,4 @@ returns-in_err-value c =
     rw (p.1, p.2) (fails_first _ (closed_value (done_view outer.block.done) outer.block.line v) (λ w. ends w rest) _
     (sym (ap (ends v) (ap stack_view c.in-Some.ensures.items ∙ stack-push c.pop.new.self.items outer))
     ∙ c.loop-outer.invariant)
-    c.in_err-value.ensures)
+    c.in_err-value.ensures.given)

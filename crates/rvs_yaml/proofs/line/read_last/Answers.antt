@@ -28,7 +28,7 @@ returns-in_err-stack c =
     let p = err_from_is_err_and c.from_residual-in_err-stack.result
     c.from_residual-in_err-stack.ensures.1 in
     rw (p.1, p.2) (fails_kept _ (step bs u) _ (filled f) (word-parts bs w u f _ words hollowed flow)
-    c.in_err-stack.ensures)
+    c.in_err-stack.ensures.given)
 
 pub returns : goal.returns
 returns c =
@@ -43,5 +43,5 @@ returns c =
     let hollowed : u ≡ hollow w =
     ap (λ p. word_at word.line word.column p.0) c.hollow_shape-shape.ensures in
     let flow : f ≡ flow_of w.shape = ap (λ p. p.1) c.hollow_shape-shape.ensures in
-    passes_same _ _ _ _ (sym (ap (λ m. m >>= filled f) c.in_ok-stack.ensures)
+    passes_same _ _ _ _ (sym (ap (λ m. m >>= filled f) c.in_ok-stack.ensures.given)
     ∙ word-parts bs w u f _ words hollowed flow) c.fill_flow.ensures

@@ -12,7 +12,7 @@ returns-in_default c =
     let bs = open_blocks c.args.stack in
     gives_passes _ _ _ _ (ap (step bs) c.refused.ensures ∙ steps-one bs _ ∙ sym (ap (steps bs)
     (line-bad c.args.line c.args.started c.args.bytes.now c.in_default.ensures.cases.0)))
-    c.step.ensures
+    c.step.ensures.given
 
 pub returns-then-started : goal.returns-then-started
 returns-then-started c =
@@ -20,7 +20,7 @@ returns-then-started c =
     gives_passes _ _ _ _ (ap (step bs) c.refused-then-started.ensures ∙ steps-one bs _
     ∙ sym (ap (steps bs) (line-again c.args.line c.args.started c.args.bytes.now
     c.in-Ok.ensures.cases.1 (sym c.is_mark.ensures ∙ c.if-is_mark.true) c.if-started.true)))
-    c.step-then-started.ensures
+    c.step-then-started.ensures.given
 
 pub returns-else-started : goal.returns-else-started
 returns-else-started c =
@@ -34,7 +34,7 @@ returns-then-is_mark-2 c =
     gives_passes _ _ _ _ (ap (step bs) c.refused-then-is_mark-2.ensures ∙ steps-one bs _
     ∙ sym (ap (steps bs) (line-dots c.args.line c.args.started c.args.bytes.now
     c.in-Ok.ensures.cases.1 (sym c.is_mark.ensures ∙ c.if-is_mark.false)
-    (sym c.is_mark-2.ensures ∙ c.if-is_mark-2.true)))) c.step-then-is_mark-2.ensures
+    (sym c.is_mark-2.ensures ∙ c.if-is_mark-2.true)))) c.step-then-is_mark-2.ensures.given
 
 pub returns : goal.returns
 returns c =

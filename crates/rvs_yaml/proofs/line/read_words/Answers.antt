@@ -34,7 +34,7 @@ loop-behind-preserved c =
     let is = c.without_spaces-rest-in-Some.ensures in
     let w = word_at c.args.line (n - length rest) (dash (item_name behind)) in
     let stepped : step here w ≡ Ok after =
-    ap (step here) (sym c.dash.ensures) ∙ c.in_ok-stack.ensures in (
+    ap (step here) (sym c.dash.ensures) ∙ c.in_ok-stack.ensures.given in (
       ap (λ r. steps after (words_at c.args.line true (n - length r) r)) is
           ∙ steps-next here after w _ stepped
           ∙ sym (ap (steps here) (words-next c.args.line c.loop-behind.item n rest behind

@@ -41,7 +41,7 @@ returns-in_err-check_front c =
     rw (p.1, p.2) (fails_to _ (checked_front (stack_view c.as_slice.result.now)) _
     (λ is. ap (λ m. m >>= kept) c.in_ok-stack.ensures
     ∙ ap (λ m. m >> (let r : Checked (List Open) = Ok (open_blocks s) in r)) (same ∙ is))
-    c.in_err-check_front.ensures)
+    c.in_err-check_front.ensures.given)
 
 pub returns : goal.returns
 returns c =
@@ -51,4 +51,4 @@ returns c =
     ∙ sym (ap (λ bs. checked_front (stack_view bs)) c.as_slice.ensures.value) in
     ap (λ m. m >>= kept) c.in_ok-stack.ensures
     ∙ ap (λ m. m >> (let r : Checked (List Open) = Ok (open_blocks s) in r))
-    (same ∙ c.in_ok-check_front.ensures)
+    (same ∙ c.in_ok-check_front.ensures.given)

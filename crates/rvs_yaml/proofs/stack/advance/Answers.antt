@@ -10,8 +10,8 @@ use Rattle.rvs_yaml.proofs.Giving.{gives_same, fails_first}
 use Rattle.rvs_yaml.proofs.Stepping.{block_with, advanced-put, then-parts}
 use Rattle.rvs_yaml.proofs.stack.advance.Goals as goal
 
-pub returns-in_err-done : goal.returns-in_err-done
-returns-in_err-done c =
+pub returns-in_err-done-clause-given : goal.returns-in_err-done-clause-given
+returns-in_err-done-clause-given c =
     let all = c.args.anchors.anchors.items in
     let bs = anchored (take c.args.block.before all) c.args.blocks.items in
     let b = block_at all c.args.block in
@@ -21,10 +21,11 @@ returns-in_err-done c =
     let p = err_from_is_err_and c.from_residual.result c.from_residual.ensures.1 in
     rw (p.1, p.2) (fails_first _ (advanced_content b.done b.column v w)
     (λ q. put_content (block_with b.line b.column q.0 b.anchors) bs h q.1) _
-    (advanced-put b (found v []) bs w h b.anchors c.head-head.ensures refl) c.in_err-done.ensures)
+    (advanced-put b (found v []) bs w h b.anchors c.head-head.ensures refl)
+    c.in_err-done.ensures.given)
 
-pub returns : goal.returns
-returns c =
+pub returns-clause-given : goal.returns-clause-given
+returns-clause-given c =
     let all = c.args.anchors.anchors.items in
     let bs = anchored (take c.args.block.before all) c.args.blocks.items in
     let b = block_at all c.args.block in
@@ -34,5 +35,6 @@ returns c =
     gives_same _ _ _ _ (then-parts (advanced_content b.done b.column v w)
     (done_content (c.in_ok-done.done, c.in_ok-done.content))
     (λ q. put_content (block_with b.line b.column q.0 b.anchors) bs h q.1) _
-    (advanced-put b (found v []) bs w h b.anchors c.head-head.ensures refl) c.in_ok-done.ensures)
+    (advanced-put b (found v []) bs w h b.anchors c.head-head.ensures refl)
+    c.in_ok-done.ensures.given)
     c.put.ensures

@@ -5,9 +5,18 @@ use Rattle.rvs_yaml.specs.Rising.{Rises, befores}
 use Rattle.rvs_yaml.specs.Stack.{step}
 use Rattle.rvs_yaml.specs.StackView.{anchored}
 use Rattle.rvs_yaml_text.specs.WordView.{word_view, head_view}
-use Rattle.rvs_yaml.proofs.Giving.{gives_same}
+use Rattle.std.proofs.lemmas.Result.{err_from_is_err_and}
+use Rattle.rvs_yaml.specs.StackView.{open_blocks}
+use Rattle.rvs_yaml.proofs.Deciding.{placed-refused}
+use Rattle.rvs_yaml.proofs.Giving.{gives_same, fails_with}
 use Rattle.rvs_yaml.proofs.Segments.{anchored-push, befores-push, step-own}
 use Rattle.rvs_yaml.proofs.stack.step.Goals as goal
+
+pub returns-in_err-check_placed-clause-given : goal.returns-in_err-check_placed-clause-given
+returns-in_err-check_placed-clause-given c =
+    let p = err_from_is_err_and c.from_residual.result c.from_residual.ensures.1 in
+    rw (p.1, p.2) (fails_with _ _ (placed-refused (open_blocks c.args.stack)
+    (word_view c.args.word) _ c.in_err-check_placed.ensures))
 
 pub settle-requires : goal.settle-requires
 settle-requires c =
@@ -19,8 +28,8 @@ settle-requires c =
     (ap befores c.in-Some.ensures.items ∙ befores-push rest top) s.rising in
     (omega (arith, risen.0, c.in_ok-anchors.ensures.more), risen.1)
 
-pub returns : goal.returns
-returns c =
+pub returns-clause-given : goal.returns-clause-given
+returns-clause-given c =
     let s = c.args.stack in
     let all = s.anchors.anchors.items in
     let after = c.in_ok-anchors.anchors.anchors.items in

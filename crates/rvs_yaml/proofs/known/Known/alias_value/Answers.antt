@@ -4,21 +4,37 @@ use Rattle.rvs_tree.specs.Standin.{formed_value}
 use Rattle.rvs_yaml.specs.Anchors.{known_alias}
 use Rattle.rvs_yaml.specs.Checks.{Checked, mapped}
 use Rattle.rvs_yaml.specs.StackView.{all_known}
+use Rattle.rvs_tree.specs.ValueView.{value_view}
+use Rattle.rvs_yaml.proofs.Deciding.{gave}
 use Rattle.rvs_yaml.proofs.Thinning.{formed-alias}
 use Rattle.rvs_yaml.proofs.known.Known.alias_value.Goals as goal
 
 abbrev good : Value → Checked Value
 good v = Ok v
 
-pub returns-in_ok-formed-in-Some : goal.returns-in_ok-formed-in-Some
-returns-in_ok-formed-in-Some c =
+pub returns-in_ok-formed-in-Some-clause-given : goal.returns-in_ok-formed-in-Some-clause-given
+returns-in_ok-formed-in-Some-clause-given c =
     let poor = c.args.self.now.poor in
     formed-alias poor c.args.name.now (all_known c.args.self.now)
     ∙ ap (λ o. mapped (formed_value poor) (known_alias o)) (sym c.in-Some.ensures)
     ∙ ap good (sym c.in_ok-formed-in-Some.ensures)
 
-pub returns-in-None : goal.returns-in-None
-returns-in-None c =
+pub returns-in-None-clause-given : goal.returns-in-None-clause-given
+returns-in-None-clause-given c =
     let poor = c.args.self.now.poor in
     formed-alias poor c.args.name.now (all_known c.args.self.now)
     ∙ ap (λ o. mapped (formed_value poor) (known_alias o)) (sym c.in-None.ensures)
+
+pub returns-in_err-formed-in-Some-clause-refused : goal.returns-in_err-formed-in-Some-clause-refused
+returns-in_err-formed-in-Some-clause-refused c =
+    let poor = c.args.self.now.poor in
+    gave _ _ (formed_value poor (value_view c.in-Some.value.now))
+    (formed-alias poor c.args.name.now (all_known c.args.self.now)
+    ∙ ap (λ o. mapped (formed_value poor) (known_alias o)) (sym c.in-Some.ensures))
+
+pub returns-in_ok-formed-in-Some-clause-refused : goal.returns-in_ok-formed-in-Some-clause-refused
+returns-in_ok-formed-in-Some-clause-refused c =
+    let poor = c.args.self.now.poor in
+    gave _ _ (formed_value poor (value_view c.in-Some.value.now))
+    (formed-alias poor c.args.name.now (all_known c.args.self.now)
+    ∙ ap (λ o. mapped (formed_value poor) (known_alias o)) (sym c.in-Some.ensures))
