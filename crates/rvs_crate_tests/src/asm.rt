@@ -2,6 +2,7 @@
 use rvs_asm::{AsmKind, assemble};
 use rvs_base::number_below;
 use rvs_insn::IsaSpec;
+use rvs_machine::Image;
 use std::alloc::{AllocError, Global};
 use std::process::Abort;
 use std::test::Fail;
@@ -71,23 +72,29 @@ fn makes_words(rt: &impl Abort, alloc: Global, lines: &str, words: &[u32]) -> Re
 const FIRST: &str = "    lui x5, %hi(tohost)\n    addi x6, x0, 1\n    sw x6, %lo(tohost)(x5)\n\
 .data\nbegin_signature:\n.word 7\nend_signature:\ntohost:\n.word 0\n";
 
+/// The text and the data of an image, its three addresses, and how many symbols it has.
+fn told(alloc: Global, image: &Image) -> Result<String, AllocError> {
+    let (text, data) = (image.text.as_slice(), image.data_bytes.as_slice());
+    let mut told = format!(in alloc; "{text:?} {data:?}")?;
+    write!(
+        told,
+        " {:x} {:x} {:x}",
+        image.tohost, image.sig_begin, image.sig_end
+    )?;
+    write!(told, " {}", image.symbols.as_slice().len())?;
+    Ok(told)
+}
+
+const FIRST_IMAGE: &str = "[183, 2, 0, 129, 19, 3, 16, 0, 35, 162, 98, 0] [7, 0, 0, 0, 0, 0, 0, 0] \
+     81000004 81000000 81000004 3";
+
 #[test]
 fn first_program(rt: HostRuntime) -> Result<(), Fail> {
-    match assemble(rt.alloc(), FIRST.as_bytes(), &core(false)) {
-        Ok(image) => {
-            let words = [
-                0xb7, 0x02, 0, 0x81, 0x13, 0x03, 0x10, 0, 0x23, 0xa2, 0x62, 0,
-            ];
-            assert_eq!(rt; image.text.as_slice(), words.as_slice());
-            let ram = [7, 0, 0, 0, 0, 0, 0, 0];
-            assert_eq!(rt; image.data_bytes.as_slice(), ram.as_slice());
-            assert_eq!(rt; image.tohost, 0x8100_0004);
-            assert_eq!(rt; image.sig_begin, 0x8100_0000);
-            assert_eq!(rt; image.sig_end, 0x8100_0004);
-            assert_eq!(rt; image.symbols.as_slice().len(), 3);
-        },
-        Err(_) => assert!(rt; false),
-    }
+    let Ok(image) = assemble(rt.alloc(), FIRST.as_bytes(), &core(false)) else {
+        return Err(Fail::new("no image"));
+    };
+    let told = told(rt.alloc(), &image)?;
+    assert_eq!(rt; told.as_str(), FIRST_IMAGE);
     Ok(())
 }
 
