@@ -3,6 +3,7 @@ pub mod Depths
 pub mod Drafts
 pub mod Entering
 pub mod Growing
+pub mod Joining
 pub mod Merging
 pub mod Showing
 pub mod Sifting

@@ -61,6 +61,14 @@ pub left-deep : (ws : List Written) (f : Shown) (ds es : List (List ℕ × ℕ))
 left-deep ws f ds es h e =
     omega (arith, h (keys_so_far ws), e [] (keys_so_far ws) (λ k i. i) (λ k i. cc))
 
+-- what a list with these keys leaves
+pub listed-shown : (X : List (List ℕ)) (f : Shown) (ds es : List (List ℕ × ℕ))
+    → ((T : List (List ℕ)) → min (f T) 33 ≤ visible ds T)
+    → ((T U : List (List ℕ)) → Holds X U → Holds T U → visible ds U ≤ visible es T)
+    → (T : List (List ℕ)) → min (f (X ++ T)) 33 ≤ visible es T
+listed-shown X f ds es h e T =
+    omega (arith, h (X ++ T), e T (X ++ T) (λ k i. in-front k X T i) (λ k i. in-more k X T i))
+
 -- a value at a key
 at-shown-by : (b : Bool) (n d : ℕ) → min n 33 ≤ d → min (cond b 0 n) 33 ≤ max (cond b 0 d) 0
 at-shown-by true n d h = omega arith

@@ -38,7 +38,7 @@ fn with_value(alloc: Global, place: Place, value: Value) -> Result<Place, YamlKi
     ensures { Gives place_view result (spec.with_value (place_view place) (value_view value)) }
 {
     match place {
-        Place::Member(list) => Ok(Place::BehindMember(list.with(value)?)),
+        Place::Member(list) => Ok(Place::BehindMember(list.with(alloc, value)?)),
         Place::EntryValue(pending) => {
             let Pending { list, key } = Box::into_inner(pending);
             Ok(Place::BehindEntry(list.with(alloc, entry_of(key, value))?))
@@ -213,8 +213,8 @@ fn may_open(place: &Place) -> Result<(), YamlKind>
 }
 
 /// The value of a collection that ends here.
-fn closes(alloc: Global, line: u64, place: &Place) -> Result<Value, YamlKind>
-    ensures { Gives value_view result (spec.closes line (place_view place.now)) }
+fn closes(alloc: Global, line: u64, place: Place) -> Result<Value, YamlKind>
+    ensures { Gives value_view result (spec.closes line (place_view place)) }
 {
     match place {
         Place::Member(list) | Place::BehindMember(list) => Ok(list_value(alloc, line, list)?),
@@ -235,11 +235,11 @@ fn thin_closes(alloc: Global, line: u64, place: &Place) -> Result<Value, YamlKin
 }
 
 /// The value of a collection that ends here, or what stands for it.
-fn closed_by(alloc: Global, poor: bool, line: u64, place: &Place) -> Result<Value, YamlKind>
-    ensures { Gives value_view result (steps_spec.closed_by poor line (place_view place.now)) }
+fn closed_by(alloc: Global, poor: bool, line: u64, place: Place) -> Result<Value, YamlKind>
+    ensures { Gives value_view result (steps_spec.closed_by poor line (place_view place)) }
 {
     if poor {
-        thin_closes(alloc, line, place)
+        thin_closes(alloc, line, &place)
     } else {
         closes(alloc, line, place)
     }
@@ -339,7 +339,7 @@ fn closed(
     ensures { Gives reading_view result (parts.closed poor line good (bracket_view level.bracket)
         (place_view level.place) (levels_view outer.items) (bracket_view bracket)) }
 {
-    let value = closed_by(alloc, poor, line, &level.place)?;
+    let value = closed_by(alloc, poor, line, level.place)?;
     ends_with(level.bracket, bracket)?;
     into(alloc, value, good, outer)
 }
