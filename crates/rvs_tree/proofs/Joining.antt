@@ -8,7 +8,7 @@ use Rattle.rvs_tree.specs.Value.{merged_pairs, pairs_in, is_map_or_empty, map_va
 use Rattle.rvs_tree.specs.Sifted.{merged_keys}
 use Rattle.rvs_tree.proofs.Sums.{map-append, has_key-append}
 use Rattle.rvs_tree.proofs.Views.{list_of-items_of, pairs_of-entries_of}
-use Rattle.rvs_tree.proofs.Sifting.{all-keys, kept-merged}
+use Rattle.rvs_tree.proofs.Bringing.{all-keys, kept-merged}
 
 -- a key that moved was in one of the sets
 pub moved : (b s f : Bool) → (b ≡ true → f ≡ true) → (cond b true s || cond b false f) ≡ true

@@ -1,4 +1,5 @@
 pub mod Bared
+pub mod Bringing
 pub mod Depths
 pub mod Drafts
 pub mod Entering

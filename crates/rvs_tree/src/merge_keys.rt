@@ -70,10 +70,7 @@ fn with_tree_keys(
 }
 
 /// The first keys and the others, which are let go.
-fn with_all(
-    into: BTreeSet<String>,
-    from: BTreeSet<String>,
-) -> Result<BTreeSet<String>, AllocError>
+fn with_all(into: BTreeSet<String>, from: BTreeSet<String>) -> Result<BTreeSet<String>, AllocError>
     ensures { IfOk result (λ s. (k : List ℕ) → contains_text s k ≡ true
         → (contains_text into k || contains_text from k) ≡ true) }
 {
@@ -86,10 +83,7 @@ fn with_all(
 }
 
 /// The keys of both. Those of the smaller set move, so a key moves few times.
-fn joined(
-    left: BTreeSet<String>,
-    right: BTreeSet<String>,
-) -> Result<BTreeSet<String>, AllocError>
+fn joined(left: BTreeSet<String>, right: BTreeSet<String>) -> Result<BTreeSet<String>, AllocError>
     ensures { IfOk result (λ s. (k : List ℕ) → contains_text s k ≡ true
         → (contains_text left k || contains_text right k) ≡ true) }
 {

@@ -18,18 +18,6 @@ use Rattle.rvs_yaml.proofs.Sketching.{stack-top}
 use Rattle.rvs_tree.proofs.Sums.{take_whole}
 use Rattle.rvs_tree.proofs.Sums.{has_key-append}
 use Rattle.rvs_tree.proofs.Sifting.{in-more}
-use Rattle.rvs_tree.proofs.Within.{at-behind-by}
-
--- where more keys are taken nothing is deeper
-visible-less : (ps : List (List ℕ × ℕ)) (V U : List (List ℕ))
-    → ((k : List ℕ) → has_key k V ≡ true → has_key k U ≡ true) → visible ps U ≤ visible ps V
-visible-less [] V U h = omega arith
-visible-less (p ∷ ps) V U h =
-    omega (arith, visible-less ps V U h, at-behind-by (has_key p.0 U) (has_key p.0 V) p.1 (h p.0))
-
-pub behind-more : (ps : List (List ℕ × ℕ)) (X T : List (List ℕ))
-    → visible ps (X ++ T) ≤ visible ps T
-behind-more ps X T = visible-less ps T (X ++ T) (λ k h. in-more k X T h)
 
 or-front : (a b : Bool) → a ≡ true → (a || b) ≡ true
 or-front true b h = refl
