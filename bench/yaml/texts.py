@@ -87,6 +87,14 @@ def by_draft(names):
     return '', '{<<: {' + names + '}, z: 1}'
 
 
+def by_drafts(names):
+    return '', '{<<: {<<: [{<<: {<<: {' + names + '}, y: 1}, w: 1}, {z: 1}], v: 1}, u: 1}'
+
+
+def by_draft_alias(names):
+    return 'n:\n  <<: &m {<<: {' + names + '}, z: 1}\n', '*m'
+
+
 DEEP_ENTRY = '%x: [[[[[]]]]]\n'
 
 
@@ -110,6 +118,19 @@ def dropped_by_chain(size):
     member = ' ' * (31 + levels) + '<<:\n' + ' ' * (32 + levels) + '<<: *m\n'
     text = head + nested + taken + chain
     return text + member * min((size - len(text)) // len(member), 480_000 // (2 * count + 1))
+
+
+# The same, where each alias is of a map with other keys.
+def dropped_by_chain_apart(size):
+    levels = int(math.sqrt(size) * 0.55)
+    nested = 'r:\n' + ''.join(' ' * (i + 1) + '-\n' for i in range(29))
+    chain = ''.join(' ' * (31 + i) + 'k: 1\n' + ' ' * (31 + i) + '<<:\n' for i in range(1, levels + 1))
+    left = size - len(nested) - len(chain)
+    maps = max(1, left // (12 * levels))
+    count = min(left * 9 // 10 // 22, 90_000) // maps
+    heads = ''.join('m%x: &m%x {' % (i, i) + ', '.join('%x: [x]' % (i * count + j) for j in range(count)) + '}\n' for i in range(maps))
+    taken = ' ' * 31 + '<<: {' + ', '.join('%x: 1' % i for i in range(maps * count)) + '}\n' + ' ' * 31 + '<<:\n'
+    return heads + nested + taken + chain + ''.join(' ' * (32 + levels) + '<<: *m%x\n' % i for i in range(maps))
 
 
 # Merges nested in one line bring a deep value that the outer one drops, line by line.
@@ -228,10 +249,13 @@ FAMILIES = {
     'dropped_by_alias': lambda size: dropped_by(size, by_alias, DEEP_ENTRY),
     'dropped_by_list': lambda size: dropped_by(size, by_list, DEEP_ENTRY),
     'dropped_by_draft': lambda size: dropped_by(size, by_draft, DEEP_ENTRY),
+    'dropped_by_drafts': lambda size: dropped_by(size, by_drafts, DEEP_ENTRY),
+    'dropped_by_draft_alias': lambda size: dropped_by(size, by_draft_alias, DEEP_ENTRY),
     'dropped_items': lambda size: dropped_by(size, by_map, '- ' + DEEP_ENTRY),
     'dropped_far_out': lambda size: dropped_by(size, by_map, DEEP_ENTRY, 100),
     'dropped_in_list': dropped_in_list,
     'dropped_by_chain': dropped_by_chain,
+    'dropped_by_chain_apart': dropped_by_chain_apart,
     'hidden_in_lines': hidden_in_lines,
     'aliases_in_a_chain': aliases_in_a_chain,
     'chain_closed': chain_closed,

@@ -10,7 +10,8 @@ use Rattle.rvs_tree.specs.Parts.{takes, map_entries}
 use Rattle.rvs_tree.specs.DraftView.{data_of, merged_trees}
 use Rattle.rvs_tree.proofs.Sums.{map-append, has_key-append}
 use Rattle.rvs_tree.proofs.Views.{pairs_of-entries_of}
-use Rattle.rvs_tree.proofs.Sifting.{Same, sift-append, later-same, pairs-later, enters, middle}
+use Rattle.rvs_tree.proofs.Sifting.{Same, sift-append, later-same, pairs-later, middle}
+use Rattle.rvs_tree.proofs.Bringing.{enters}
 use Rattle.rvs_tree.proofs.Sifting.{taken-again}
 
 in-front : (j : List ℕ) (T xs : List (List ℕ)) → has_key j T ≡ true → has_key j (T ++ xs) ≡ true

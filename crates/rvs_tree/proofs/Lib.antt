@@ -1,8 +1,10 @@
 pub mod Bared
+pub mod Bringing
 pub mod Depths
 pub mod Drafts
 pub mod Entering
 pub mod Growing
+pub mod Joining
 pub mod Merging
 pub mod Showing
 pub mod Sifting

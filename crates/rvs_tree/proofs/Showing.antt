@@ -16,7 +16,8 @@ use Rattle.rvs_tree.specs.Shown.{shown_by, at_key, keys_so_far, key_depths, visi
 use Rattle.rvs_tree.specs.ShownView.{depths_view}
 use Rattle.rvs_tree.specs.declared.key_depth.KeyDepth.{KeyDepth}
 use Rattle.rvs_tree.proofs.Sums.{map-append, has_key-append}
-use Rattle.rvs_tree.proofs.Sifting.{sift-same, sift-sift, gathered-sift, all-keys, kept-merged}
+use Rattle.rvs_tree.proofs.Sifting.{sift-same, sift-sift}
+use Rattle.rvs_tree.proofs.Bringing.{gathered-sift, all-keys, kept-merged}
 use Rattle.rvs_tree.proofs.Sifting.{in-more}
 use Rattle.rvs_tree.proofs.Within.{less-with}
 

@@ -3,13 +3,13 @@ ghost use Rattle.std.specs.Prelude.{◌≡◌, ◌≤◌, ◌∷◌, ◌++◌, [
 ghost use Rattle.std.specs.Prelude.{string_bytes, IfOk};
 ghost use Rattle.std.specs.List.{zip};
 ghost use Rattle.rvs_tree.specs.Data.{depth};
-ghost use Rattle.rvs_tree.specs.Value.{has_key};
+ghost use Rattle.rvs_tree.specs.Value.{has_key, keys_of, pairs_in, trees};
 ghost use Rattle.rvs_tree.specs.Shown as spec;
 ghost use Rattle.rvs_tree.specs.Shown.{Holds};
 ghost use Rattle.rvs_tree.specs.GatheredView.{gathered_view};
 ghost use Rattle.rvs_tree.specs.ShownView.{depths_view};
 ghost use Rattle.rvs_tree.specs.TreeView.{view, rc_view};
-ghost use Rattle.rvs_tree.specs.ValueView.{value_view, entries_view};
+ghost use Rattle.rvs_tree.specs.ValueView.{value_view, values_view, entries_view};
 
 use crate::counted::Value;
 use crate::entry_list::EntryList;
@@ -19,6 +19,7 @@ use crate::members::{DEEP, depth_up_to};
 use crate::pairs::Pairs;
 use crate::taken::Taken;
 use crate::tree::Tree;
+use crate::value_list::ValueList;
 use crate::whole::tree_of;
 use std::alloc::{AllocError, Global};
 use std::rc::Rc;
@@ -88,6 +89,51 @@ fn none_gathered(alloc: Global) -> Gathered
     Gathered {
         pairs: Pairs::new(alloc),
         taken: Taken::new(alloc),
+    }
+}
+
+impl ValueList {
+    /// These and one more, unless a map of these values has its key.
+    fn with_untaken(
+        &self,
+        mut kept: Vec<KeyDepth>,
+        pair: KeyDepth,
+    ) -> Result<Vec<KeyDepth>, AllocError>
+        ensures { IfOk result (λ l. (T U : List (List ℕ))
+            → Holds (keys_of (pairs_in (trees (values_view self.now.values.items)))) U → Holds T U
+            → max (spec.visible (depths_view kept.items) T)
+            (spec.at_key (string_bytes pair.key) pair.depth U)
+            ≤ spec.visible (depths_view l.items) T) }
+    {
+        if self.is_taken(pair.key.as_str()) {
+            return Ok(kept);
+        }
+        kept.push(pair)?;
+        Ok(kept)
+    }
+
+    /// Whether a map of these values is known to have the key.
+    fn is_taken(&self, key: &str) -> bool
+        ensures { result ≡ true → has_key key.now
+            (keys_of (pairs_in (trees (values_view self.now.values.items)))) ≡ true }
+    {
+        match &self.keys {
+            Some(keys) => keys.set.contains(key),
+            None => false,
+        }
+    }
+
+    /// Those whose keys no map of these values is known to have.
+    pub fn untaken(&self, alloc: Global, depths: Vec<KeyDepth>) -> Result<Vec<KeyDepth>, AllocError>
+        ensures { IfOk result (λ l. (T U : List (List ℕ))
+            → Holds (keys_of (pairs_in (trees (values_view self.now.values.items)))) U → Holds T U
+            → spec.visible (depths_view depths.items) U ≤ spec.visible (depths_view l.items) T) }
+    {
+        let mut kept = Vec::new(alloc);
+        for pair in depths {
+            kept = self.with_untaken(kept, pair)?;
+        }
+        Ok(kept)
     }
 }
 

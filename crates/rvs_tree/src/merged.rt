@@ -13,6 +13,7 @@ use crate::entry_list::EntryList;
 use crate::held::Held;
 use crate::keys::with_key;
 use crate::members::DEEP;
+use crate::merge_keys::brought_keys;
 use crate::pairs::Pairs;
 use crate::parts::{list_draft, map_draft};
 use crate::tree::Tree;
@@ -199,17 +200,27 @@ fn held_map(alloc: Global, line: u64, own: &EntryList) -> Result<Held, AllocErro
 }
 
 /// The map of these entries, which begins on this line.
-pub fn map_value(alloc: Global, line: u64, own: &EntryList) -> Result<Value, AllocError>
+pub fn map_value(alloc: Global, line: u64, own: EntryList) -> Result<Value, AllocError>
     ensures value { IfOk result
-        (λ v. value_view v ≡ spec.map_value line (entries_view own.now.entries.items)) }
-    ensures depth { IfOk result (λ v. v.depth ≡ min (own.now.depth + 1) 33) }
+        (λ v. value_view v ≡ spec.map_value line (entries_view own.entries.items)) }
+    ensures depth { IfOk result (λ v. v.depth ≡ min (own.depth + 1) 33) }
 {
-    let held = held_map(alloc, line, own)?;
+    let held = held_map(alloc, line, &own)?;
+    let EntryList {
+        entries,
+        keys,
+        nodes,
+        depth,
+        merged,
+    } = own;
+    drop(entries);
+    let keys = brought_keys(alloc, keys, merged)?;
     Ok(Value {
         held,
-        nodes: own.nodes,
-        depth: (own.depth + 1).min(DEEP),
+        nodes,
+        depth: (depth + 1).min(DEEP),
         mergeable: true,
+        keys,
     })
 }
 
@@ -239,17 +250,27 @@ fn held_list(alloc: Global, line: u64, list: &ValueList) -> Result<Held, AllocEr
 }
 
 /// The list of these values, which begins on this line.
-pub fn list_value(alloc: Global, line: u64, list: &ValueList) -> Result<Value, AllocError>
+pub fn list_value(alloc: Global, line: u64, list: ValueList) -> Result<Value, AllocError>
     ensures value { IfOk result
-        (λ v. value_view v ≡ spec.list_value line (values_view list.now.values.items)) }
-    ensures depth { IfOk result (λ v. v.depth ≡ min (list.now.depth + 1) 33) }
+        (λ v. value_view v ≡ spec.list_value line (values_view list.values.items)) }
+    ensures depth { IfOk result (λ v. v.depth ≡ min (list.depth + 1) 33) }
 {
-    let held = held_list(alloc, line, list)?;
+    let held = held_list(alloc, line, &list)?;
+    let ValueList {
+        values,
+        nodes,
+        depth,
+        all_maps,
+        merging: _,
+        keys,
+    } = list;
+    drop(values);
     Ok(Value {
         held,
-        nodes: list.nodes,
-        depth: (list.depth + 1).min(DEEP),
-        mergeable: list.all_maps,
+        nodes,
+        depth: (depth + 1).min(DEEP),
+        mergeable: all_maps,
+        keys,
     })
 }
 

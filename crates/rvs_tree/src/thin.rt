@@ -82,6 +82,7 @@ pub fn thin_value(alloc: Global, value: &Value) -> Result<Value, AllocError>
         nodes: value.nodes,
         depth: value.depth,
         mergeable: value.mergeable,
+        keys: None,
     })
 }
 
@@ -96,6 +97,7 @@ pub fn thin_map_value(alloc: Global, line: u64, own: &EntryList) -> Result<Value
         nodes: own.nodes,
         depth: (own.depth + 1).min(DEEP),
         mergeable: true,
+        keys: None,
     })
 }
 
@@ -110,5 +112,6 @@ pub fn thin_list_value(alloc: Global, line: u64, list: &ValueList) -> Result<Val
         nodes: list.nodes,
         depth: (list.depth + 1).min(DEEP),
         mergeable: list.all_maps,
+        keys: None,
     })
 }

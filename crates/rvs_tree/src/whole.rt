@@ -100,6 +100,7 @@ pub fn into_tree(alloc: Global, value: Value) -> Result<Rc<Tree>, AllocError>
         nodes: _,
         depth: _,
         mergeable: _,
+        keys: _,
     } = value;
     match held {
         Held::Whole(tree) => Ok(tree),
@@ -132,6 +133,7 @@ fn worked_out(alloc: Global, value: Value) -> Result<Value, AllocError>
         nodes,
         depth,
         mergeable,
+        keys: None,
     })
 }
 

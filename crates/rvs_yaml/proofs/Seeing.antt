@@ -18,18 +18,6 @@ use Rattle.rvs_yaml.proofs.Sketching.{stack-top}
 use Rattle.rvs_tree.proofs.Sums.{take_whole}
 use Rattle.rvs_tree.proofs.Sums.{has_key-append}
 use Rattle.rvs_tree.proofs.Sifting.{in-more}
-use Rattle.rvs_tree.proofs.Within.{at-behind-by}
-
--- where more keys are taken nothing is deeper
-visible-less : (ps : List (List ℕ × ℕ)) (V U : List (List ℕ))
-    → ((k : List ℕ) → has_key k V ≡ true → has_key k U ≡ true) → visible ps U ≤ visible ps V
-visible-less [] V U h = omega arith
-visible-less (p ∷ ps) V U h =
-    omega (arith, visible-less ps V U h, at-behind-by (has_key p.0 U) (has_key p.0 V) p.1 (h p.0))
-
-pub behind-more : (ps : List (List ℕ × ℕ)) (X T : List (List ℕ))
-    → visible ps (X ++ T) ≤ visible ps T
-behind-more ps X T = visible-less ps T (X ++ T) (λ k h. in-more k X T h)
 
 or-front : (a b : Bool) → a ≡ true → (a || b) ≡ true
 or-front true b h = refl
@@ -60,6 +48,14 @@ pub left-deep : (ws : List Written) (f : Shown) (ds es : List (List ℕ × ℕ))
     → min (f (keys_so_far ws)) 33 ≤ visible es []
 left-deep ws f ds es h e =
     omega (arith, h (keys_so_far ws), e [] (keys_so_far ws) (λ k i. i) (λ k i. cc))
+
+-- what a list with these keys leaves
+pub listed-shown : (X : List (List ℕ)) (f : Shown) (ds es : List (List ℕ × ℕ))
+    → ((T : List (List ℕ)) → min (f T) 33 ≤ visible ds T)
+    → ((T U : List (List ℕ)) → Holds X U → Holds T U → visible ds U ≤ visible es T)
+    → (T : List (List ℕ)) → min (f (X ++ T)) 33 ≤ visible es T
+listed-shown X f ds es h e T =
+    omega (arith, h (X ++ T), e T (X ++ T) (λ k i. in-front k X T i) (λ k i. in-more k X T i))
 
 -- a value at a key
 at-shown-by : (b : Bool) (n d : ℕ) → min n 33 ≤ d → min (cond b 0 n) 33 ≤ max (cond b 0 d) 0

@@ -42,7 +42,7 @@ fn with_value(alloc: Global, place: Place, value: Value) -> Result<Place, YamlKi
         (spec.with_value (place_view place) (value_view value)) }
 {
     match place {
-        Place::Member(list) => Ok(Place::BehindMember(list.with(value)?)),
+        Place::Member(list) => Ok(Place::BehindMember(list.with(alloc, value)?)),
         Place::EntryValue(pending) => {
             let Pending { list, key } = Box::into_inner(pending);
             Ok(Place::BehindEntry(list.with(alloc, entry_of(key, value))?))
@@ -218,11 +218,9 @@ fn with_token(
 }
 
 /// The value of a collection that ends here.
-fn closes(alloc: Global, line: u64, place: &Place) -> Result<Value, YamlKind>
-    ensures given { Gives value_view result
-        (spec.closes line (place_view place.now)) }
-    ensures refused { FailsWith result
-        (spec.closes line (place_view place.now)) }
+fn closes(alloc: Global, line: u64, place: Place) -> Result<Value, YamlKind>
+    ensures given { Gives value_view result (spec.closes line (place_view place)) }
+    ensures refused { FailsWith result (spec.closes line (place_view place)) }
 {
     match place {
         Place::Member(list) | Place::BehindMember(list) => Ok(list_value(alloc, line, list)?),
@@ -246,14 +244,12 @@ fn thin_closes(alloc: Global, line: u64, place: &Place) -> Result<Value, YamlKin
 }
 
 /// The value of a collection that ends here, or what stands for it.
-fn closed_by(alloc: Global, poor: bool, line: u64, place: &Place) -> Result<Value, YamlKind>
-    ensures given { Gives value_view result
-        (steps_spec.closed_by poor line (place_view place.now)) }
-    ensures refused { FailsWith result
-        (steps_spec.closed_by poor line (place_view place.now)) }
+fn closed_by(alloc: Global, poor: bool, line: u64, place: Place) -> Result<Value, YamlKind>
+    ensures given { Gives value_view result (steps_spec.closed_by poor line (place_view place)) }
+    ensures refused { FailsWith result (steps_spec.closed_by poor line (place_view place)) }
 {
     if poor {
-        thin_closes(alloc, line, place)
+        thin_closes(alloc, line, &place)
     } else {
         closes(alloc, line, place)
     }
@@ -355,7 +351,7 @@ fn closed(
     may_close(&level.place)?;
     ends_with(level.bracket, bracket)?;
     may_go_on(outer.as_slice())?;
-    let value = closed_by(alloc, poor, line, &level.place)?;
+    let value = closed_by(alloc, poor, line, level.place)?;
     into(alloc, value, good, outer)
 }
 

@@ -286,7 +286,7 @@ fn copied_values(alloc: Global, values: &[Value]) -> Result<ValueList, AllocErro
 {
     let mut list = ValueList::new(alloc);
     for value in values {
-        list = list.with(shared_value(value)?)?;
+        list = list.with(alloc, shared_value(value)?)?;
     }
     Ok(list)
 }
@@ -328,8 +328,8 @@ fn longer_list(alloc: Global, line: u64, values: &[Value], last: Value) -> Resul
     ensures { IfOk result (λ v. value_view v
         ≡ value_spec.list_value line (values_view values.now ++ value_view last ∷ [])) }
 {
-    let list = copied_values(alloc, values)?.with(last)?;
-    list_value(alloc, line, &list)
+    let list = copied_values(alloc, values)?.with(alloc, last)?;
+    list_value(alloc, line, list)
 }
 
 /// The value of a map with one entry more.
@@ -345,7 +345,7 @@ fn longer_map(
 {
     let key = copied_key(alloc, key)?;
     let list = copied_entries(alloc, entries)?.with(alloc, entry_of(key, value))?;
-    map_value(alloc, line, &list)
+    map_value(alloc, line, list)
 }
 
 /// The value of a block with its open member.

@@ -2,8 +2,8 @@
 ghost use Rattle.std.specs.Prelude.{◌≡◌, ◌≤◌, ◌++◌, [], ℕ, List, suc, min, string_bytes};
 ghost use Rattle.std.specs.Prelude.{if◌then◌else◌, IfOk};
 ghost use Rattle.rvs_tree.specs.Shown as shown;
-ghost use Rattle.rvs_tree.specs.Value.{scalar_value};
-ghost use Rattle.rvs_tree.specs.ValueView.{value_view, entries_view};
+ghost use Rattle.rvs_tree.specs.Value.{scalar_value, keys_of, pairs_in, trees};
+ghost use Rattle.rvs_tree.specs.ValueView.{value_view, values_view, entries_view};
 ghost use Rattle.rvs_yaml.specs.Front.{own_value};
 ghost use Rattle.rvs_yaml.specs.Reach as spec;
 ghost use Rattle.rvs_yaml.specs.Seen.{Tells, TellsOf};
@@ -13,7 +13,7 @@ use crate::open::{Done, Open};
 use crate::reading::Pending;
 use crate::seen::Seen;
 use rvs_tree::{
-    DEEP, EntryList, KeyDepth, Value, brought_depths, deepest_of, depth_up_to, tree_of,
+    DEEP, EntryList, KeyDepth, Value, ValueList, brought_depths, deepest_of, depth_up_to, tree_of,
 };
 use rvs_yaml_text::Key;
 use std::alloc::{AllocError, Global};
@@ -51,16 +51,17 @@ fn own_seen(alloc: Global, top: &Open<'_>) -> Result<Seen, AllocError>
     }
 }
 
-/// What is new in a list with such an item.
-fn listed(seen: Seen) -> Seen
-    ensures { (f : shown.Shown) → (n : ℕ) → Tells seen f n → (X : List (List ℕ)) →
-        Tells result (λ T. f (X ++ T)) (suc n) }
+/// What is new in a list of these items with such an item.
+fn listed(alloc: Global, list: &ValueList, seen: Seen) -> Result<Seen, AllocError>
+    ensures { IfOk result (λ s. (f : shown.Shown) → (n : ℕ) → Tells seen f n → Tells s
+        (λ T. f (keys_of (pairs_in (trees (values_view list.now.values.items))) ++ T)) (suc n)) }
 {
     let Seen { depth, depths } = seen;
-    Seen {
+    let depths = list.untaken(alloc, depths)?;
+    Ok(Seen {
         depth: (depth + 1).min(DEEP),
         depths,
-    }
+    })
 }
 
 /// What is new in a map of these entries that merges such a value.
@@ -114,7 +115,7 @@ fn around(alloc: Global, done: &Done, seen: Seen) -> Result<Seen, AllocError>
         Tells s (spec.passed (done_view done.now) n f) (spec.deepened (done_view done.now) f n)) }
 {
     match done {
-        Done::Items(_) => Ok(listed(seen)),
+        Done::Items(list) => listed(alloc, list, seen),
         Done::Entries(pending) => entered(alloc, &pending.list, &pending.key, seen),
         Done::Alone => Ok(seen),
     }

@@ -157,6 +157,7 @@ fn next_entry<'a>(
 
 /// The members of a list with the value of the open one, and the word that is the next.
 fn next_item<'a>(
+    alloc: Global,
     items: ValueList,
     column: usize,
     value: Value,
@@ -168,7 +169,7 @@ fn next_item<'a>(
         column (value_view value) (word_view word.now)) }
 {
     item_at(column, word)?;
-    let items = items.with(value)?;
+    let items = items.with(alloc, value)?;
     Ok((Done::Items(items), Content::Nothing))
 }
 
@@ -186,7 +187,7 @@ fn advanced<'a>(
         (parts.advanced_content (done_view done) column (value_view value) (word_view word.entry)) }
 {
     match done {
-        Done::Items(items) => next_item(items, column, value, &word),
+        Done::Items(items) => next_item(alloc, items, column, value, &word),
         Done::Entries(pending) => {
             let Pending { list, key } = Box::into_inner(pending);
             next_entry(alloc, list, key, column, value, word)
@@ -355,14 +356,14 @@ pub(crate) fn closed_value(
 {
     match done {
         Done::Items(items) => {
-            let items = items.with(value)?;
-            Ok(list_value(alloc, line, &items)?)
+            let items = items.with(alloc, value)?;
+            Ok(list_value(alloc, line, items)?)
         }
         Done::Entries(pending) => {
             let Pending { list, key } = Box::into_inner(pending);
             check_merge(&key, &value)?;
             let entries = list.with(alloc, entry_of(key, value))?;
-            Ok(map_value(alloc, line, &entries)?)
+            Ok(map_value(alloc, line, entries)?)
         }
         Done::Alone => Ok(value),
     }

@@ -7,7 +7,8 @@ use Rattle.rvs_tree.specs.PairsView.{pairs_view}
 use Rattle.rvs_tree.specs.GatheredView.{taken_view, gathered_view}
 use Rattle.rvs_tree.specs.PartsView.{next_view, brings}
 use Rattle.rvs_tree.proofs.Drafts.{view-whole}
-use Rattle.rvs_tree.proofs.Sifting.{gathered-sift, gathered-keys, later-same}
+use Rattle.rvs_tree.proofs.Sifting.{later-same}
+use Rattle.rvs_tree.proofs.Bringing.{gathered-sift, gathered-keys}
 use Rattle.rvs_tree.proofs.spread.done.Goals as goal
 
 after : (out : Pairs) (T : List (List ℕ)) (ps : Pairs) (g : Pairs × List (List ℕ))

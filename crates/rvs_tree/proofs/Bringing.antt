@@ -1,0 +1,222 @@
+-- The keys that entries bring, the step of the pass over merges, and what is gathered in it.
+use Rattle.std.proofs.Common.{◌≡◌, ℕ, Bool, true, false, cond, List, [], ◌∷◌, ◌++◌, refl, sym, ap}
+use Rattle.std.proofs.Common.{◌∙◌, append_assoc, append-nil, true≢false}
+use Rattle.std.specs.Prelude.{◌||◌, bytes_eq}
+use Rattle.rvs_tree.specs.Data.{Data, Pairs}
+use Rattle.rvs_tree.specs.Value.{Written, has_key, keys_of, resolved, explicit_keys}
+use Rattle.rvs_tree.specs.Sifted.{sift, later, kept, gathered, merged_keys}
+use Rattle.rvs_tree.proofs.Sums.{map-append, has_key-append}
+use Rattle.rvs_tree.proofs.Sifting.{Keys, pairs, adds, Same, or-true, taken-again, middle, in-more}
+use Rattle.rvs_tree.proofs.Sifting.{sifted-keys, Has, has-merge, has-own, has-first, has-more}
+use Rattle.rvs_tree.proofs.Sifting.{pairs-later, later-same, brings}
+
+later-append-by : (m : Bool) (V : Keys) (w : Written) (us vs : List Written) →
+    ((U : Keys) → later U (us ++ vs) ≡ later U us ++ later (merged_keys us ++ U) vs) →
+    cond m (sift V (pairs w) ++ later (adds w ++ V) (us ++ vs))
+    ((w.key, w.value.tree) ∷ later V (us ++ vs))
+    ≡ cond m (sift V (pairs w) ++ later (adds w ++ V) us) ((w.key, w.value.tree) ∷ later V us)
+    ++ later ((merged_keys us ++ cond m (adds w) []) ++ V) vs
+later-append-by true V w us vs f =
+    let ps = pairs w in
+    ap (λ x. sift V ps ++ x) (f (keys_of ps ++ V))
+    ∙ sym (append_assoc (sift V ps) (later (keys_of ps ++ V) us)
+    (later (merged_keys us ++ (keys_of ps ++ V)) vs))
+    ∙ ap (λ x. (sift V ps ++ later (keys_of ps ++ V) us) ++ later x vs)
+    (sym (append_assoc (merged_keys us) (keys_of ps) V))
+later-append-by false V w us vs f =
+    ap (λ x. (w.key, w.value.tree) ∷ x)
+    (f V ∙ ap (λ x. later V us ++ later (x ++ V) vs) (sym (append-nil (merged_keys us))))
+
+pub later-append : (V : Keys) (us vs : List Written)
+    → later V (us ++ vs) ≡ later V us ++ later (merged_keys us ++ V) vs
+later-append V [] vs = refl
+later-append V (w ∷ us) vs = later-append-by w.merges V w us vs (λ U. later-append U us vs)
+
+kept-merged-by : (m b : Bool) (T : Keys) (w : Written) (ws : List Written) → w.merges ≡ m →
+    merged_keys (kept T ws) ≡ merged_keys ws → merged_keys (kept (w.key ∷ T) ws) ≡ merged_keys ws →
+    merged_keys (cond m (w ∷ kept T ws) (cond b (kept T ws) (w ∷ kept (w.key ∷ T) ws)))
+    ≡ merged_keys ws ++ cond m (adds w) []
+kept-merged-by true b T w ws e f g =
+    ap (λ x. merged_keys (kept T ws) ++ cond x (adds w) []) e ∙ ap (λ x. x ++ adds w) f
+kept-merged-by false true T w ws e f g = f ∙ sym (append-nil (merged_keys ws))
+kept-merged-by false false T w ws e f g =
+    ap (λ x. merged_keys (kept (w.key ∷ T) ws) ++ cond x (adds w) []) e ∙ ap (λ x. x ++ []) g
+
+pub kept-merged : (T : Keys) (ws : List Written) → merged_keys (kept T ws) ≡ merged_keys ws
+kept-merged T [] = refl
+kept-merged T (w ∷ ws) = kept-merged-by w.merges (has_key w.key T) T w ws refl (kept-merged T ws)
+    (kept-merged (w.key ∷ T) ws)
+
+mix : (ks kl kp mk v : Bool) → (ks || v) ≡ (kp || v) → (kl || (kp || v)) ≡ (mk || (kp || v))
+    → ((ks || kl) || v) ≡ ((mk || kp) || v)
+mix ks kl kp mk true e f = or-true (ks || kl) ∙ sym (or-true (mk || kp))
+mix true true true true false e f = cc
+mix true true true false false e f = cc
+mix true true false true false e f = cc
+mix true true false false false e f = cc
+mix true false true true false e f = cc
+mix true false true false false e f = cc
+mix true false false true false e f = cc
+mix true false false false false e f = cc
+mix false true true true false e f = cc
+mix false true true false false e f = cc
+mix false true false true false e f = cc
+mix false true false false false e f = cc
+mix false false true true false e f = cc
+mix false false true false false e f = cc
+mix false false false true false e f = cc
+mix false false false false false e f = cc
+
+or-false : (a : Bool) → (a || false) ≡ a
+or-false true = refl
+or-false false = refl
+
+or-either : (a b c : Bool) → (a || b) ≡ true → (b ≡ true → c ≡ true) → (a || c) ≡ true
+or-either true b c i g = refl
+or-either false b c i g = g i
+
+has-rest-by : (m : Bool) (w : Written) (ws : List Written) (V : Keys) → w.merges ≡ m
+    → Has (w ∷ ws) V → Has ws V
+has-rest-by true w ws V e h = has-merge w ws V e h
+has-rest-by false w ws V e h = has-own w ws V e h
+
+has-rest : (w : Written) (ws : List Written) (V : Keys) → Has (w ∷ ws) V → Has ws V
+has-rest w ws V h = has-rest-by w.merges w ws V refl h
+
+-- the keys of what entries bring are their own and those that they merge
+brought-keys-by : (m : Bool) (V : Keys) (w : Written) (ws : List Written) (k : List ℕ)
+    → (m ≡ false → has_key w.key V ≡ true) →
+    has_key k (keys_of (later (adds w ++ V) ws) ++ (adds w ++ V))
+    ≡ has_key k (merged_keys ws ++ (adds w ++ V)) →
+    has_key k (keys_of (later V ws) ++ V) ≡ has_key k (merged_keys ws ++ V) →
+    has_key k (keys_of
+    (cond m (sift V (pairs w) ++ later (adds w ++ V) ws) ((w.key, w.value.tree) ∷ later V ws))
+    ++ V)
+    ≡ has_key k ((merged_keys ws ++ cond m (adds w) []) ++ V)
+brought-keys-by true V w ws k h f g =
+    let ps = pairs w in
+    let l = keys_of (later (keys_of ps ++ V) ws) in
+    let s = keys_of (sift V ps) in
+    ap (λ ks. has_key k (ks ++ V)) (map-append (λ q. q.0) (sift V ps) (later (keys_of ps ++ V) ws))
+    ∙ has_key-append k (s ++ l) V ∙ ap (λ b. b || has_key k V) (has_key-append k s l)
+    ∙ mix (has_key k s) (has_key k l) (has_key k (keys_of ps)) (has_key k (merged_keys ws))
+    (has_key k V)
+    (sym (has_key-append k s V) ∙ sifted-keys V ps k ∙ has_key-append k (keys_of ps) V)
+    (ap (λ b. has_key k l || b) (sym (has_key-append k (keys_of ps) V)) ∙ sym (has_key-append k l (keys_of ps ++ V)) ∙ f
+    ∙ has_key-append k (merged_keys ws) (keys_of ps ++ V)
+    ∙ ap (λ b. has_key k (merged_keys ws) || b) (has_key-append k (keys_of ps) V))
+    ∙ ap (λ b. b || has_key k V) (sym (has_key-append k (merged_keys ws) (keys_of ps)))
+    ∙ sym (has_key-append k (merged_keys ws ++ keys_of ps) V)
+brought-keys-by false V w ws k h f g =
+    taken-again w.key (keys_of (later V ws) ++ V) (in-more w.key (keys_of (later V ws)) V (h refl))
+    k ∙ g ∙ ap (λ ks. has_key k (ks ++ V)) (sym (append-nil (merged_keys ws)))
+
+brought-keys : (ws : List Written) (V : Keys) → Has ws V
+    → Same (keys_of (later V ws) ++ V) (merged_keys ws ++ V)
+brought-keys [] V h k = refl
+brought-keys (w ∷ ws) V h k =
+    brought-keys-by w.merges V w ws k (λ e. has-first w ws V e h)
+    (brought-keys ws (adds w ++ V) (has-more ws (adds w) V (has-rest w ws V h)) k)
+    (brought-keys ws V (has-rest w ws V h) k)
+
+-- each own key of the entries is among what they bring
+own-there-by : (m : Bool) (V : Keys) (w : Written) (ws : List Written) (k : List ℕ) →
+    (has_key k (explicit_keys ws) ≡ true → has_key k (keys_of (later (adds w ++ V) ws)) ≡ true) →
+    (has_key k (explicit_keys ws) ≡ true → has_key k (keys_of (later V ws)) ≡ true) →
+    has_key k (cond m [] (w.key ∷ []) ++ explicit_keys ws) ≡ true →
+    has_key k (keys_of
+    (cond m (sift V (pairs w) ++ later (adds w ++ V) ws) ((w.key, w.value.tree) ∷ later V ws)))
+    ≡ true
+own-there-by true V w ws k f g i =
+    let ps = pairs w in
+    ap (has_key k) (map-append (λ q. q.0) (sift V ps) (later (keys_of ps ++ V) ws))
+    ∙ in-more k (keys_of (sift V ps)) (keys_of (later (keys_of ps ++ V) ws)) (f i)
+own-there-by false V w ws k f g i = or-either (bytes_eq w.key k) (has_key k (explicit_keys ws))
+    (has_key k (keys_of (later V ws))) i g
+
+own-there : (ws : List Written) (V : Keys) (k : List ℕ) → has_key k (explicit_keys ws) ≡ true
+    → has_key k (keys_of (later V ws)) ≡ true
+own-there [] V k i = i
+own-there (w ∷ ws) V k i =
+    own-there-by w.merges V w ws k (own-there ws (adds w ++ V) k) (own-there ws V k) i
+
+finals : (kr e mk v : Bool) → (kr || e) ≡ (mk || e) → (e ≡ true → kr ≡ true)
+    → (kr || v) ≡ (mk || (v || e))
+finals true true mk v f g = sym (ap (λ b. mk || b) (or-true v) ∙ or-true mk)
+finals false true mk v f g = absurd (true≢false (sym (g refl)))
+finals kr false mk v f g =
+    ap (λ b. b || v) (sym (or-false kr) ∙ f ∙ or-false mk) ∙ ap (λ b. mk || b) (sym (or-false v))
+
+pub all-keys : (T : Keys) (ws : List Written)
+    → Same (keys_of (resolved (explicit_keys ws) [] ws) ++ T)
+    (merged_keys (kept T ws) ++ (T ++ explicit_keys ws))
+all-keys T ws k =
+    let E = explicit_keys ws in
+    let r = keys_of (later E ws) in
+    ap (λ ps. has_key k (keys_of ps ++ T)) (pairs-later ws) ∙ has_key-append k r T
+    ∙ finals (has_key k r) (has_key k E) (has_key k (merged_keys ws)) (has_key k T)
+    (sym (has_key-append k r E) ∙ brought-keys ws E (λ j i. i) k
+    ∙ has_key-append k (merged_keys ws) E) (own-there ws E k)
+    ∙ ap (λ b. has_key k (merged_keys ws) || b) (sym (has_key-append k T E))
+    ∙ sym (has_key-append k (merged_keys ws) (T ++ E))
+    ∙ ap (λ ks. has_key k (ks ++ (T ++ E))) (sym (kept-merged T ws))
+
+-- THE STEP: in place of an entry that merges a map stand the entries of that map that are kept
+pub enters : (T : Keys) (ws rest : List Written) →
+    sift T (resolved (explicit_keys ws) [] ws)
+    ++ later (keys_of (resolved (explicit_keys ws) [] ws) ++ T) rest
+    ≡ later (T ++ explicit_keys ws) (kept T ws ++ rest)
+enters T ws rest =
+    ap (λ x. x ++ later (keys_of (resolved (explicit_keys ws) [] ws) ++ T) rest) (brings T ws)
+    ∙ ap (λ x. later (T ++ explicit_keys ws) (kept T ws) ++ x) (later-same
+    (keys_of (resolved (explicit_keys ws) [] ws) ++ T)
+    (merged_keys (kept T ws) ++ (T ++ explicit_keys ws)) rest (all-keys T ws))
+    ∙ sym (later-append (T ++ explicit_keys ws) (kept T ws) rest)
+
+gathered-by : (b : Bool) (g : Pairs × Keys) (p : List ℕ × Data) (ps : Pairs) →
+    cond b (gathered g ps) (gathered (g.0 ++ p ∷ [], p.0 ∷ g.1) ps)
+    ≡ gathered (cond b g (g.0 ++ p ∷ [], p.0 ∷ g.1)) ps
+gathered-by true g p ps = refl
+gathered-by false g p ps = refl
+
+pub gathered-step : (g : Pairs × Keys) (p : List ℕ × Data) (ps : Pairs)
+    → gathered g (p ∷ ps) ≡ gathered (gathered g (p ∷ [])) ps
+gathered-step g p ps = gathered-by (has_key p.0 g.1) g p ps
+
+pub gathered-append : (g : Pairs × Keys) (ps qs : Pairs)
+    → gathered g (ps ++ qs) ≡ gathered (gathered g ps) qs
+gathered-append g [] qs = refl
+gathered-append g (p ∷ ps) qs =
+    gathered-step g p (ps ++ qs) ∙ gathered-append (gathered g (p ∷ [])) ps qs
+    ∙ ap (λ t. gathered t qs) (sym (gathered-step g p ps))
+
+-- what is gathered is what is sifted
+gathered-sift-by : (b : Bool) (out : Pairs) (T : Keys) (p : List ℕ × Data) (ps : Pairs) →
+    (gathered (out, T) ps).0 ≡ out ++ sift T ps
+    → (gathered (out ++ p ∷ [], p.0 ∷ T) ps).0 ≡ (out ++ p ∷ []) ++ sift (p.0 ∷ T) ps →
+    (cond b (gathered (out, T) ps) (gathered (out ++ p ∷ [], p.0 ∷ T) ps)).0
+    ≡ out ++ cond b (sift T ps) (p ∷ sift (p.0 ∷ T) ps)
+gathered-sift-by true out T p ps f g = f
+gathered-sift-by false out T p ps f g = g ∙ append_assoc out (p ∷ []) (sift (p.0 ∷ T) ps)
+
+pub gathered-sift : (out : Pairs) (T : Keys) (ps : Pairs)
+    → (gathered (out, T) ps).0 ≡ out ++ sift T ps
+gathered-sift out T [] = sym (append-nil out)
+gathered-sift out T (p ∷ ps) = gathered-sift-by (has_key p.0 T) out T p ps (gathered-sift out T ps)
+    (gathered-sift (out ++ p ∷ []) (p.0 ∷ T) ps)
+
+gathered-keys-by : (b : Bool) (out : Pairs) (T : Keys) (p : List ℕ × Data) (ps : Pairs) (k : List ℕ)
+    → has_key p.0 T ≡ b →
+    has_key k (gathered (out, T) ps).1 ≡ has_key k (keys_of ps ++ T)
+    → has_key k (gathered (out ++ p ∷ [], p.0 ∷ T) ps).1 ≡ has_key k (keys_of ps ++ p.0 ∷ T) →
+    has_key k (cond b (gathered (out, T) ps) (gathered (out ++ p ∷ [], p.0 ∷ T) ps)).1
+    ≡ has_key k (p.0 ∷ keys_of ps ++ T)
+gathered-keys-by true out T p ps k e f g =
+    f ∙ sym (taken-again p.0 (keys_of ps ++ T) (in-more p.0 (keys_of ps) T e) k)
+gathered-keys-by false out T p ps k e f g = g ∙ middle (keys_of ps) p.0 T k
+
+pub gathered-keys : (out : Pairs) (T : Keys) (ps : Pairs)
+    → Same (gathered (out, T) ps).1 (keys_of ps ++ T)
+gathered-keys out T [] k = refl
+gathered-keys out T (p ∷ ps) k = gathered-keys-by (has_key p.0 T) out T p ps k refl
+    (gathered-keys out T ps k) (gathered-keys (out ++ p ∷ []) (p.0 ∷ T) ps k)
