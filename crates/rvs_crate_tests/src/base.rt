@@ -49,10 +49,11 @@ fn check_read(
     rt: &impl Abort,
     alloc: Global,
     host: &mut MemoryHost,
-    (name, limit): (&str, u64),
+    name: &str,
+    limit: u32,
     wanted: Result<&[u8], FileRefusal>,
 ) {
-    match read_file(alloc, host, name, limit) {
+    match read_file(alloc, host, name, u64::from(limit)) {
         Ok(bytes) => assert_eq!(rt; Ok(bytes.as_slice()), wanted),
         Err(refusal) => assert_eq!(rt; Err(refusal), wanted),
     }
@@ -66,7 +67,7 @@ fn a_file_is_read_up_to_its_limit(rt: HostRuntime) -> Result<(), Fail> {
         ("a.sig", 4, Err(FileRefusal::TooLong { limit: 4 })),
         ("c.sig", 4, Err(FileRefusal::NoFile)),
     ] {
-        check_read(&rt, rt.alloc(), &mut host, (name, limit), wanted);
+        check_read(&rt, rt.alloc(), &mut host, name, limit, wanted);
     }
     Ok(())
 }
@@ -78,7 +79,8 @@ fn a_fault_in_mid_stream_is_told(rt: HostRuntime) -> Result<(), Fail> {
         &rt,
         rt.alloc(),
         &mut host,
-        ("a.sig", 5),
+        "a.sig",
+        5,
         Err(FileRefusal::Failed),
     );
     Ok(())
@@ -106,13 +108,15 @@ fn a_written_file_is_found(rt: HostRuntime) -> Result<(), Fail> {
 
 fn check_run(
     rt: &impl Abort,
+    alloc: Global,
     host: &mut MemoryHost,
-    words: &[String],
     status: Result<i32, Failed>,
     left: Option<&[u8]>,
-) {
-    assert_eq!(rt; host.run_device(words, "a.S", "a.sig"), status);
+) -> Result<(), Fail> {
+    let words = [String::from_str(alloc, "dev")?];
+    assert_eq!(rt; host.run_device(&words, "a.S", "a.sig"), status);
     assert_eq!(rt; host.file("a.sig"), left);
+    Ok(())
 }
 
 /// A host whose device leaves a file and ends with 3, and then leaves none and ends with -1.
@@ -133,10 +137,9 @@ fn two_answers(alloc: Global) -> Result<MemoryHost, Fail> {
 #[test]
 fn a_device_run_is_answered_from_the_list(rt: HostRuntime) -> Result<(), Fail> {
     let mut host = two_answers(rt.alloc())?;
-    let words = [String::from_str(rt.alloc(), "dev")?];
-    check_run(&rt, &mut host, &words, Ok(3), Some(b"7".as_slice()));
-    check_run(&rt, &mut host, &words, Ok(-1), None);
-    check_run(&rt, &mut host, &words, Err(Failed), None);
+    check_run(&rt, rt.alloc(), &mut host, Ok(3), Some(b"7".as_slice()))?;
+    check_run(&rt, rt.alloc(), &mut host, Ok(-1), None)?;
+    check_run(&rt, rt.alloc(), &mut host, Err(Failed), None)?;
     assert_eq!(rt; host.runs().len(), 2);
     Ok(())
 }

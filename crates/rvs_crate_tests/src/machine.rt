@@ -217,7 +217,7 @@ fn words_of(alloc: Global, row: &str, count: usize) -> Result<Vec<u32>, Fail> {
 
 /// Runs the instructions of a row, behind which stand the words of x2 and x3 and that of x1.
 fn check_row(rt: &impl Abort, alloc: Global, row: &str, count: usize) -> Result<(), Fail> {
-    let words = words_of(alloc, row, count + 3)?;
+    let words = words_of(alloc, row, count.saturating_add(3))?;
     let (code, rest) = words.as_slice().split_at_checked(count).ok_or("no code")?;
     let [first, second, wanted] = rest else {
         return Err(Fail::new("no words"));
