@@ -81,7 +81,8 @@ add-kept P Q k label node key p t u h q e =
     if-ok (has p.kind p.key t.points) (Ok t) (if nat_le 2048 t.count then refused label node key
     fault.TooManyPoints else Ok (with_point p t)) u e
     (λ b g. subst P (ok-is t u g) h)
-    (λ b g. if-ok (nat_le 2048 t.count) (refused label node key fault.TooManyPoints) (Ok (with_point p t)) u g
+    (λ b g. if-ok (nat_le 2048 t.count) (refused label node key fault.TooManyPoints)
+    (Ok (with_point p t)) u g
     (λ c r. err-not _ u r)
     (λ c r. subst P (ok-is (with_point p t) u r) (k.one p t h q b c)))
 
@@ -226,7 +227,8 @@ abstract_node-kept P kept label key d t u h e =
     if-ok (is_empty_scalar d) (Ok t) (if is_map d then for_each (abstract_entry label) (own_pairs d)
     t else refused label (codes "val_comb") key fault.BadShape) u e
     (λ b g. subst P (ok-is t u g) h)
-    (λ b g. if-ok (is_map d) (for_each (abstract_entry label) (own_pairs d) t) (refused label (codes "val_comb") key fault.BadShape) u g
+    (λ b g. if-ok (is_map d) (for_each (abstract_entry label) (own_pairs d) t)
+    (refused label (codes "val_comb") key fault.BadShape) u g
     (λ c r. each-kept P (abstract_entry label) (abstract-kept P kept label) (own_pairs d) t u h r)
     (λ c r. err-not _ u r))
 
@@ -320,7 +322,8 @@ entries-kept P isa s label node step d t u h e =
     if-ok (is_empty_scalar d) (Ok t) (if is_map d then for_each (entry_of isa s label node)
     (own_pairs d) t else refused label node [] fault.BadShape) u e
     (λ b g. subst P (ok-is t u g) h)
-    (λ b g. if-ok (is_map d) (for_each (entry_of isa s label node) (own_pairs d) t) (refused label node [] fault.BadShape) u g
+    (λ b g. if-ok (is_map d) (for_each (entry_of isa s label node) (own_pairs d) t)
+    (refused label node [] fault.BadShape) u g
     (λ c r. each-kept P (entry_of isa s label node) step (own_pairs d) t u h r)
     (λ c r. err-not _ u r))
 
@@ -338,6 +341,7 @@ passed-kept P Q kept isa label node d t u h e =
     if-ok (is_empty_scalar d) (skip node (codes "-") t) (if is_map d then passed_over_map isa label
     node (own_pairs d) t else refused label node [] fault.BadShape) u e
     (λ b g. skip-kept P Q kept node (codes "-") t u h g)
-    (λ b g. if-ok (is_map d) (passed_over_map isa label node (own_pairs d) t) (refused label node [] fault.BadShape) u g
+    (λ b g. if-ok (is_map d) (passed_over_map isa label node (own_pairs d) t)
+    (refused label node [] fault.BadShape) u g
     (λ c r. passed_map-kept P Q kept isa label node (own_pairs d) t u h r)
     (λ c r. err-not _ u r))

@@ -122,7 +122,14 @@ joined-read isa p (b ∷ bs) r h = by (same_kind b.kind p.kind) refl
   where
     by : (x : Bool) → same_kind b.kind p.kind ≡ x → AllRead isa
         (if x then block p.kind (p ∷ b.points) ∷ bs else block p.kind (p ∷ []) ∷ b ∷ bs)
-    by true e = ((r, subst (λ (k : Kind). ReadsAll isa (sort_of k) b.points) (kind-is b.kind p.kind e) h.0), h.1)
+    by true e = (
+      (
+        r,
+        subst (λ (k : Kind). ReadsAll isa (sort_of k) b.points)
+            (kind-is b.kind p.kind e) h.0,
+      ),
+      h.1,
+    )
     by false e = ((r, tt), h)
 
 pub joined-meant : (p : Point) (bs : List Block) → IsMeant p → AllMeant bs → AllMeant (joined p bs)

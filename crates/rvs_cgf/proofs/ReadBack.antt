@@ -83,7 +83,8 @@ step-other : (isa : Isa) (label : List ℕ) (b : Block) (key : List ℕ) (d : Da
 step-other isa label b key d n k e m sp rd dis few =
     ap (λ x. by_role isa label x d (role_of x) n) k
     ∙ ap (λ r. by_role isa label (kind_name b.kind) d r n) (role-other b.kind e)
-    ∙ ap (kept_first n) (entries-read isa (sort_of b.kind) label (kind_name b.kind) d n.taken (taken-at (n.taken.count + length b.points) (n.taken.points ++ b.points) n.taken.skipped) m
+    ∙ ap (kept_first n) (entries-read isa (sort_of b.kind) label (kind_name b.kind) d n.taken
+    (taken-at (n.taken.count + length b.points) (n.taken.points ++ b.points) n.taken.skipped) m
     (block-read isa (sort_of b.kind) label (kind_name b.kind) b.points (own_pairs d) sp rd n.taken
     dis few))
 
@@ -235,7 +236,8 @@ label-read isa l d p m sp =
     let firsts : first_points isa l.name (codes "mnemonics") main.node ≡ Ok taken =
     bind-yes (all_entries isa sort.Mnemonic l.name (codes "mnemonics") main.node nothing_taken)
     (λ t. some_points l.name (codes "mnemonics") t) taken
-    (entries-read isa sort.Mnemonic l.name (codes "mnemonics") main.node nothing_taken taken main.is_node
+    (entries-read isa sort.Mnemonic l.name
+    (codes "mnemonics") main.node nothing_taken taken main.is_node
     (block-read isa sort.Mnemonic l.name (codes "mnemonics") first (own_pairs main.node)
     main.spelled (reads-under isa bs reads) nothing_taken (under-distinct bs distinct)
     (omega (arith, few, under-short bs))))
@@ -353,8 +355,10 @@ plain-for isa other l p a = record {
 all-plain-for : (isa other : Isa) (ls : List Label) → ArePlain isa ls
     → list_all (λ l. list_all (is_admitted_op other) l.ops) ls ≡ true → ArePlain other ls
 all-plain-for isa other [] p a = tt
-all-plain-for isa other (l ∷ ls) p a =
-    (plain-for isa other l p.0 (and-left (list_all (is_admitted_op other) l.ops) _ a), all-plain-for isa other ls p.1 (and-right (list_all (is_admitted_op other) l.ops) _ a))
+all-plain-for isa other (l ∷ ls) p a = (
+  plain-for isa other l p.0 (and-left (list_all (is_admitted_op other) l.ops) _ a),
+  all-plain-for isa other ls p.1 (and-right (list_all (is_admitted_op other) l.ops) _ a),
+)
 
 -- a tree that spells plain groups within the limits gives their selected labels again, with nothing
 -- skipped

@@ -159,7 +159,8 @@ main-goes main ops n e es h = record {
       ∙ ap together (append-nil n.taken.points) ∙ h.stand)
       (λ b. together-append kind.Mnemonic n.taken.points n.first h.stand h.mains b);
   later = λ k o b. rest-later k e es (h.later k o
-      (or-cases (has_kind k n.taken.points) (has_kind k n.first) (sym (list_any-append (λ p. same_kind p.kind k) n.taken.points n.first) ∙ b) (λ x. x)
+      (or-cases (has_kind k n.taken.points) (has_kind k n.first)
+      (sym (list_any-append (λ p. same_kind p.kind k) n.taken.points n.first) ∙ b) (λ x. x)
       (λ x. both-ways (has_kind k n.first) x
       (others-none kind.Mnemonic k n.first h.mains (turned k kind.Mnemonic o)))));
   main_once = λ b. refl;
@@ -250,7 +251,8 @@ role-goes isa label main ops n m e es is own h (role.Entries s) good here done =
 role-goes isa label main ops n m e es is own h role.PassedOver good here done =
     bind-ok (passed_over isa label e.0 e.1 n.taken) (λ t. Ok (nodes-at t n.first)) m done
     (λ w a r. subst (λ (x : Nodes). Goes main ops x es) (ok-is (nodes-at w n.first) m r)
-    (same-goes main ops n e es h (pass-on main n.first e es is role.PassedOver here (λ x. cc) h.pending) w
+    (same-goes main ops n e es h (pass-on main n.first e es is role.PassedOver here
+    (λ x. cc) h.pending) w
     (passed-kept (λ t. t.points ≡ n.taken.points) (λ p. ⊥) (same-kept n.taken.points) isa label e.0
     e.1 n.taken w refl a)))
 role-goes isa label main ops n m e es is own h role.Unknown good here done = err-not _ m done
@@ -262,7 +264,8 @@ nodes-go isa label main ops is [] n m own h e =
     subst (λ (x : Nodes). Goes main ops x []) (ok-is n m e) h
 nodes-go isa label main ops is (x ∷ es) n m own h e =
     bind-ok (node_step isa label x.0 x.1 n) (λ k. each_node isa label es k) m e
-    (λ k g r. nodes-go isa label main ops is es k m (and-right (not (named_among x.0 es)) (keys_are_own es) own)
+    (λ k g r. nodes-go isa label main ops is es k m
+    (and-right (not (named_among x.0 es)) (keys_are_own es) own)
     (role-goes isa label main ops n k x es is
     (and-left (not (named_among x.0 es)) (keys_are_own es) own) h (role_of x.0) (role-good x.0)
     refl g) r)
@@ -332,7 +335,8 @@ label-plain isa name d l named other own e =
     bind-ok (main_of name d)
     (λ m. first_points isa name m.0 m.1 >>= (λ first. nodes isa name d first)) l e
     (λ m a r. bind-ok (first_points isa name m.0 m.1) (λ first. nodes isa name d first) l r
-    (λ first b s. bind-ok (all_entries isa sort.Mnemonic name m.0 m.1 nothing_taken) (λ t. some_points name m.0 t) first b
+    (λ first b s. bind-ok (all_entries isa sort.Mnemonic name m.0 m.1 nothing_taken)
+    (λ t. some_points name m.0 t) first b
     (λ t c g. holds-then (not (t.count == 0)) name m.0 [] fault.BadShape (Ok t) first g
     (λ some same.
     let mains : Mains isa first = subst (Mains isa) (ok-is t first same) (entries-kept (Mains isa)
@@ -415,10 +419,13 @@ step-plain : (isa : Isa) (name : List ℕ) (d : Data) (l m : Listed)
 step-plain isa name d l m own h e =
     if-ok (bytes_eq name (codes "datasets")) (Ok l) _ m e
     (λ b g. subst (Plainly isa) (ok-is l m g) h)
-    (λ b g. holds-then (nat_lt (length l.labels) 256) name [] [] fault.TooManyLabels (label_of isa name d >>= (λ x. with_label name x l)) m g
+    (λ b g. holds-then (nat_lt (length l.labels) 256) name [] [] fault.TooManyLabels
+    (label_of isa name d >>= (λ x. with_label name x l)) m g
     (λ few r. bind-ok (label_of isa name d) (λ x. with_label name x l) m r
-    (λ x a s. holds-then (nat_le (l.total + size_of x) 65536) name [] [] fault.TooManyPoints (Ok (listed-at (l.labels ++ x ∷ []) (l.total + size_of x))) m s
-    (λ c k. subst (Plainly isa) (ok-is (listed-at (l.labels ++ x ∷ []) (l.total + size_of x)) m k) (record {
+    (λ x a s. holds-then (nat_le (l.total + size_of x) 65536) name [] [] fault.TooManyPoints
+    (Ok (listed-at (l.labels ++ x ∷ []) (l.total + size_of x))) m s
+    (λ c k. subst (Plainly isa) (ok-is (listed-at (l.labels ++ x ∷ []) (l.total + size_of x)) m k)
+    (record {
       plain = All-push (IsPlainIfSelected isa) l.labels x h.plain (of-plain isa name d x b own a);
       few = omega (arith, one-more (length l.labels) few, length-append l.labels (x ∷ []));
       total_is = omega
@@ -457,7 +464,8 @@ groups-spelled isa d ls own e =
       few_labels = omega arith;
       few_points = omega arith;
     }))
-    (λ b g. if-ok (is_map d) (each_label isa (own_pairs d) nothing_listed >>= (λ listed. Ok listed.labels)) _ ls g
+    (λ b g. if-ok (is_map d) (each_label isa (own_pairs d) nothing_listed
+    >>= (λ listed. Ok listed.labels)) _ ls g
     (λ m r. bind-ok (each_label isa (own_pairs d) nothing_listed) (λ listed. Ok listed.labels) ls r
     (λ listed a s.
     let p = each_plain isa (own_pairs d) nothing_listed listed own (record {
@@ -468,8 +476,17 @@ groups-spelled isa d ls own e =
     }) a in
     subst (CanBeSpelled isa) (ok-is listed.labels ls s) (record {
       plain = selected-plain isa listed.labels p.plain;
-      few_labels = omega (arith, p.few, length-filter_both (λ (l : Label). l.selected) (λ l. not l.selected) (λ l. refl) listed.labels);
-      few_points = omega (arith, p.small, p.total_is, sum_by-filter_both (λ (l : Label). l.selected) (λ l. not l.selected) (λ l. refl) size_of listed.labels);
+      few_labels = omega (
+        arith,
+        p.few,
+        length-filter_both (λ (l : Label). l.selected) (λ l. not l.selected) (λ l. refl) listed.labels,
+      );
+      few_points = omega (
+        arith,
+        p.small,
+        p.total_is,
+        sum_by-filter_both (λ (l : Label). l.selected) (λ l. not l.selected) (λ l. refl) size_of listed.labels,
+      );
     })))
     (λ m r. err-not _ ls r))
 

@@ -296,7 +296,12 @@ mains-kept isa = record {
             (ops_of t.points) (q.op ∷ []) ∙ and-is (list_all (is_admitted_op isa) (ops_of t.points))
             (is_admitted_op isa q.op && true) h.all_admitted
             (and-is (is_admitted_op isa q.op) true q.admitted_op refl);
-        each = ap length is ∙ omega (arith, h.each, length-append (ops_of t.points) (q.op ∷ []), length-append t.points (p ∷ []));
+        each = ap length is ∙ omega (
+          arith,
+          h.each,
+          length-append (ops_of t.points) (q.op ∷ []),
+          length-append t.points (p ∷ []),
+        );
       };
   passed = λ s t h. record {
     count_is = h.count_is;
@@ -317,7 +322,8 @@ admitted-by label node key isa None f u e g = cc
 admitted-by label node key isa (Some op) f u e g =
     bind-ok (if is_admitted_op isa op then Ok op else refused label node key fault.UnknownMnemonic)
     f u e
-    (λ x a r. if-ok (is_admitted_op isa op) (Ok op) (refused label node key fault.UnknownMnemonic) x a
+    (λ x a r. if-ok (is_admitted_op isa op) (Ok op)
+    (refused label node key fault.UnknownMnemonic) x a
     (λ b s. g op refl b (ap f (ok-is op x s) ∙ r))
     (λ b s. err-not _ x s))
 
@@ -327,8 +333,10 @@ mnemonic-kept isa label node key d t u h e =
     holds-then (is_shaped key d) label node key fault.BadShape
     (admitted label node key isa (op_of_name key)
     >>= (λ op. add label node key (point kind.Mnemonic key (op_is op)) t)) u e
-    (λ s g. admitted-by label node key isa (op_of_name key) (λ op. add label node key (point kind.Mnemonic key (op_is op)) t) u g
-    (λ op is a r. add-kept (Mains isa) (IsMain isa) (mains-kept isa) label node key (point kind.Mnemonic key (op_is op)) t u h
+    (λ s g. admitted-by label node key isa (op_of_name key)
+    (λ op. add label node key (point kind.Mnemonic key (op_is op)) t) u g
+    (λ op is a r. add-kept (Mains isa) (IsMain isa) (mains-kept isa) label node key
+    (point kind.Mnemonic key (op_is op)) t u h
     (record {
       meant = record { printable = printable-is key d s; meaning_is = ap (option_map op_is) is };
       main = refl;
@@ -389,7 +397,8 @@ label-valid isa name d l named e =
     bind-ok (main_of name d)
     (λ m. first_points isa name m.0 m.1 >>= (λ first. nodes isa name d first)) l e
     (λ m a r. bind-ok (first_points isa name m.0 m.1) (λ first. nodes isa name d first) l r
-    (λ first b s. bind-ok (all_entries isa sort.Mnemonic name m.0 m.1 nothing_taken) (λ t. some_points name m.0 t) first b
+    (λ first b s. bind-ok (all_entries isa sort.Mnemonic name m.0 m.1 nothing_taken)
+    (λ t. some_points name m.0 t) first b
     (λ t c g. holds-then (not (t.count == 0)) name m.0 [] fault.BadShape (Ok t) first g
     (λ some same.
     let mains : Mains isa first = subst (Mains isa) (ok-is t first same) (entries-kept (Mains isa)
@@ -441,9 +450,11 @@ step-good isa name d l m h e =
     if-ok (bytes_eq name (codes "datasets")) (Ok l) (holds (nat_lt (length l.labels) 256) name [] []
     fault.TooManyLabels >> (label_of isa name d >>= (λ x. with_label name x l))) m e
     (λ b g. subst (Goods isa) (ok-is l m g) h)
-    (λ b g. holds-then (nat_lt (length l.labels) 256) name [] [] fault.TooManyLabels (label_of isa name d >>= (λ x. with_label name x l)) m g
+    (λ b g. holds-then (nat_lt (length l.labels) 256) name [] [] fault.TooManyLabels
+    (label_of isa name d >>= (λ x. with_label name x l)) m g
     (λ few r. bind-ok (label_of isa name d) (λ x. with_label name x l) m r
-    (λ x a s. holds-then (nat_le (l.total + size_of x) 65536) name [] [] fault.TooManyPoints (Ok (record {
+    (λ x a s. holds-then (nat_le (l.total + size_of x) 65536) name [] [] fault.TooManyPoints
+    (Ok (record {
       labels = l.labels ++ x ∷ [];
       total = l.total + size_of x;
     })) m s
@@ -467,7 +478,8 @@ groups_good isa d ls e =
     >>= (λ listed. Ok listed.labels) else refused [] [] [] fault.BadShape) ls e
     (λ b g. subst (λ (xs : List Label). All (IsValidIfSelected isa) xs) (ok-is [] ls g)
     (All-nil (IsValidIfSelected isa)))
-    (λ b g. if-ok (is_map d) (each_label isa (own_pairs d) nothing_listed >>= (λ listed. Ok listed.labels)) (refused [] [] [] fault.BadShape) ls g
+    (λ b g. if-ok (is_map d) (each_label isa (own_pairs d) nothing_listed
+    >>= (λ listed. Ok listed.labels)) (refused [] [] [] fault.BadShape) ls g
     (λ m r. bind-ok (each_label isa (own_pairs d) nothing_listed) (λ listed. Ok listed.labels) ls r
     (λ listed a s. subst (λ (xs : List Label). All (IsValidIfSelected isa) xs)
     (ok-is listed.labels ls s)

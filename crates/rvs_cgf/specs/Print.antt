@@ -108,5 +108,6 @@ inner_text _ = []
 -- point is refused
 abbrev pub refusal_text : Refusal → List ℕ
 refusal_text r =
-    codes "cgf " ++ (decimal (number_of r.kind) ++ (codes " " ++ (or_dash r.place.label ++ (codes " " ++ (or_dash r.place.node
+    codes "cgf " ++ (decimal (number_of r.kind)
+    ++ (codes " " ++ (or_dash r.place.label ++ (codes " " ++ (or_dash r.place.node
     ++ (codes " " ++ (or_dash r.place.key ++ inner_text r.kind)))))))

@@ -74,4 +74,9 @@ places_fail vars a b c i d ps why h e f is =
 
 -- a list has an entry
 pub some_entry : (xs : Refs) (text : List ℕ) → texts xs ≡ entries text → 1 ≤ length xs
-some_entry xs text e = omega (arith, length-map xs (λ (t : Bor (List ℕ)). t.now), ap length e, length-slice_split (λ c. c == 58) text)
+some_entry xs text e = omega (
+  arith,
+  length-map xs (λ (t : Bor (List ℕ)). t.now),
+  ap length e,
+  length-slice_split (λ c. c == 58) text,
+)

@@ -273,8 +273,11 @@ judges-read t old mid ran new status (Ok verdict) m back = record {
   };
   left = λ files runs tells is.
       let run = made-run t old mid ran status files runs m tells is in
-      let told : is_told ran ≡ true = (made-later m).told ∙ is_told-Tells tells in
-      (run.0, RanOnce-reads back.reads_only run.1, found-left t files runs ran run.0 status verdict run.1 run.2 told back.comes.of_file);
+      let told : is_told ran ≡ true = (made-later m).told ∙ is_told-Tells tells in (
+        run.0,
+        RanOnce-reads back.reads_only run.1,
+        found-left t files runs ran run.0 status verdict run.1 run.2 told back.comes.of_file,
+      );
 }
 judges-read t old mid ran new status (Err Write) m back = absurd back.comes
 judges-read t old mid ran new status (Err Run) m back = absurd back.comes

@@ -146,8 +146,12 @@ changes_one : (t : Task) (files : Files) (before now : Option Files) (left : Opt
     → before ≡ Some files → now ≡ Some (with_left t.signature left files)
     → ChangesOne t.signature (written t.signature [] before) now
 changes_one t files before now left is now_is =
-    subst (λ (b : Option Files). ChangesOne t.signature (written t.signature [] b) now) (sym is)
-    (with_left t.signature left files, now_is, λ other apart. others_kept t.signature left files other apart ∙ sym (others_kept t.signature (Some []) files other apart))
+    subst (λ (b : Option Files). ChangesOne t.signature (written t.signature [] b) now) (sym is) (
+      with_left t.signature left files,
+      now_is,
+      λ other apart. others_kept t.signature left files other apart
+          ∙ sym (others_kept t.signature (Some []) files other apart),
+    )
 
 -- nothing was done
 kept : (t : Task) (out : SinkState) (files : Files) (runs : List DeviceRun) (old new : HostState)

@@ -25,7 +25,8 @@ named false false false core = refl
 pub canonical_accepted : CanonicalTextsAreAccepted
 canonical_accepted core e a =
     let same : plain core.m core.zicsr core.zifencei core ≡ core =
-    ap (λ v. record core { e = v; a = false }) (sym e) ∙ ap (λ v. record core { a = v }) (sym a) in (
+    ap (λ v. record core { e = v; a = false }) (sym e)
+    ∙ ap (λ v. record core { a = v }) (sym a) in (
       record { m = core.m; zicsr = core.zicsr; zifencei = core.zifencei },
       ap (λ k. extensions_in (isa_name k)) (sym same) ∙ named core.m core.zicsr core.zifencei core,
       same,

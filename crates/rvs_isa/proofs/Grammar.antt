@@ -215,8 +215,14 @@ spelled-read text p e =
     → AreGood p × ((underscore : Bool) × (text ≡ spelled underscore p))) [
       | true ↦ λ t h.
           let front = (bytes_eq-Decides (take 4 text) (codes "RV32")).0 t in
-          let behind = spelled_behind (drop 4 text) p h in
-          (behind.0, (behind.1.0, sym (take-append-drop 4 text) ∙ ap (λ x. x ++ drop 4 text) front ∙ ap (λ x. codes "RV32" ++ x) behind.1.1))
+          let behind = spelled_behind (drop 4 text) p h in (
+            behind.0,
+            (
+              behind.1.0,
+              sym (take-append-drop 4 text) ∙ ap (λ x. x ++ drop 4 text) front
+                  ∙ ap (λ x. codes "RV32" ++ x) behind.1.1,
+            ),
+          )
       | false ↦ λ t h. absurd (cc)
     ] refl e
 

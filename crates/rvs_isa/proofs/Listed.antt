@@ -72,7 +72,16 @@ root_key_unread hart key e f =
     let i = λ (s : codes "hart_ids" ≡ key). unequal key (codes "hart_ids") f (sym s) in
     not_among hart (key ∷ []) (All-from_recursion (Unlike (key ∷ [])) (read_paths hart) (
       λ s. cc,
-      (λ s. i (cc), (λ s. h (cc), (λ s. cc, (λ s. cc, (λ s. cc, (λ s. cc, (λ s. cc, (λ s. cc, tt)))))))),
+      (
+        λ s. i (cc),
+        (
+          λ s. h (cc),
+          (
+            λ s. cc,
+            (λ s. cc, (λ s. cc, (λ s. cc, (λ s. cc, (λ s. cc, tt))))),
+          ),
+        ),
+      ),
     ))
 
 none_of_two : (a b : Bool) → (a || b) ≡ false → (a ≡ false) × (b ≡ false)
@@ -141,7 +150,19 @@ misa_key_unread hart key f =
     not_among hart (hart ∷ codes "misa" ∷ key ∷ [])
     (All-from_recursion (Unlike (hart ∷ codes "misa" ∷ key ∷ [])) (read_paths hart) (
       λ s. cc,
-      (λ s. cc, (λ s. cc, (λ s. cc, (λ s. cc, (λ s. cc, (λ s. cc, (λ s. cc, (λ s. no_key (cc), tt)))))))),
+      (
+        λ s. cc,
+        (
+          λ s. cc,
+          (
+            λ s. cc,
+            (
+              λ s. cc,
+              (λ s. cc, (λ s. cc, (λ s. cc, (λ s. no_key (cc), tt)))),
+            ),
+          ),
+        ),
+      ),
     ))
 
 -- ---- what is listed is unread
@@ -161,8 +182,14 @@ from_misa : (hart : List ℕ) (root entries misa : Data) (text : List ℕ)
 from_misa hart root entries misa text there inside c =
     let g = flat_from (λ p. unread_of_misa hart p.0) (own_pairs misa) text c in
     let k = kept (bytes_eq g.0.0 (codes "reset-val")) (path_text (hart ∷ codes "misa" ∷ g.0.0 ∷ []))
-    text g.2 in
-    (misa_path hart, g.0.0, (2, lit< tt, refl), (entries, there, (misa, inside, (g.0.1, g.1, tt))), misa_key_unread hart g.0.0 k.0, k.1)
+    text g.2 in (
+      misa_path hart,
+      g.0.0,
+      (2, lit< tt, refl),
+      (entries, there, (misa, inside, (g.0.1, g.1, tt))),
+      misa_key_unread hart g.0.0 k.0,
+      k.1,
+    )
 
 from_entry : (hart : List ℕ) (root entries : Data) (key : List ℕ) (value : Data) (text : List ℕ)
     → Contains (own_pairs root) (hart, entries)
@@ -176,8 +203,14 @@ from_entry hart root entries key value text there inside c =
           (λ (k : List ℕ). Contains (own_pairs entries) (k, value)) (equal key (codes "misa") h.0)
           inside) h.1
       | inr r ↦
-          let k = kept (is_checked key) (path_text (hart ∷ key ∷ [])) text r.1 in
-          (hart ∷ [], key, (1, lit< tt, refl), (entries, there, (value, inside, tt)), hart_key_unread hart key (differs key r.0 k.0), k.1)
+          let k = kept (is_checked key) (path_text (hart ∷ key ∷ [])) text r.1 in (
+            hart ∷ [],
+            key,
+            (1, lit< tt, refl),
+            (entries, there, (value, inside, tt)),
+            hart_key_unread hart key (differs key r.0 k.0),
+            k.1,
+          )
     ]
 
 from_hart : (hart : List ℕ) (root entries : Data) (text : List ℕ)
@@ -251,7 +284,8 @@ through_hart hart root entries key value text there inside c =
     let others : List (List ℕ) = if bytes_eq hart (codes "hart_ids") then []
     else path_text (hart ∷ []) ∷ [] in
     flat_in (λ p. unread_of_root hart p.0 p.1) (own_pairs root) (hart, entries) text there
-    (first (bytes_eq hart hart) (each_entry (unread_of_hart hart) entries) others text ((bytes_eq-Decides hart hart).1 refl)
+    (first (bytes_eq hart hart) (each_entry (unread_of_hart hart) entries) others text
+    ((bytes_eq-Decides hart hart).1 refl)
     (flat_in (λ p. unread_of_hart hart p.0 p.1) (own_pairs entries) (key, value) text inside c))
 
 -- the key isn't that of a path that is read
@@ -273,7 +307,8 @@ listed_of_hart hart root text key leads n e =
     } in
     let others : List (List ℕ) = if is_checked key then [] else path_text (hart ∷ key ∷ []) ∷ [] in
     through_hart hart root leads.0 key value text leads.1 leads.2.1
-    (second (bytes_eq key (codes "misa")) (each_entry (λ inner _. unread_of_misa hart inner) value) others text d.misa
+    (second (bytes_eq key (codes "misa"))
+    (each_entry (λ inner _. unread_of_misa hart inner) value) others text d.misa
     (put (is_checked key) (path_text (hart ∷ key ∷ [])) text (unchecked key d) e))
 
 listed_of_misa : (hart : List ℕ) (root : Data) (text : List ℕ)
@@ -286,7 +321,8 @@ listed_of_misa hart root text key leads n e =
     let others : List (List ℕ) = if is_checked (codes "misa") then []
     else path_text (hart ∷ codes "misa" ∷ []) ∷ [] in
     through_hart hart root leads.0 (codes "misa") misa text leads.1 leads.2.1
-    (first (bytes_eq (codes "misa") (codes "misa")) (each_entry (λ inner _. unread_of_misa hart inner) misa) others text refl
+    (first (bytes_eq (codes "misa") (codes "misa"))
+    (each_entry (λ inner _. unread_of_misa hart inner) misa) others text refl
     (flat_in (λ p. unread_of_misa hart p.0) (own_pairs misa) (key, leads.2.2.0) text leads.2.2.1
     (put (bytes_eq key (codes "reset-val")) (path_text (hart ∷ codes "misa" ∷ key ∷ [])) text
     no_reset e)))
@@ -295,7 +331,10 @@ unread_is_listed : (hart : List ℕ) (root : Data) (text : List ℕ) → IsUnrea
     → Contains (unread hart root) text
 unread_is_listed hart root text u =
     All-contains (IsListedIn hart root text) (opened_maps hart) u.0
-    (All-from_recursion (IsListedIn hart root text) (opened_maps hart) (listed_of_root hart root text, (listed_of_hart hart root text, (listed_of_misa hart root text, tt))))
+    (All-from_recursion (IsListedIn hart root text) (opened_maps hart) (
+      listed_of_root hart root text,
+      (listed_of_hart hart root text, (listed_of_misa hart root text, tt)),
+    ))
     u.2 u.1 u.3 u.4 u.5
 
 pub unread_are_listed : UnreadAreListed

@@ -65,7 +65,12 @@ read_are_refused path c =
                   (
                     refused (hart ∷ codes "misa" ∷ []) NotAMapping (with_entry (codes "misa") bad)
                         refl,
-                    (refused (hart ∷ codes "misa" ∷ codes "reset-val" ∷ []) BadNumber (with_entry (codes "misa") (mapping (entry (codes "reset-val") bad no_entries) 0)) refl, tt),
+                    (
+                      refused (hart ∷ codes "misa" ∷ codes "reset-val" ∷ []) BadNumber
+                          (with_entry (codes "misa") (mapping
+                          (entry (codes "reset-val") bad no_entries) 0)) refl,
+                      tt,
+                    ),
                   ),
                 ),
               ),

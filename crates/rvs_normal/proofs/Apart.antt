@@ -35,7 +35,11 @@ FreeOf seen (k ∷ ks) = (has_key k seen ≡ false) × FreeOf seen ks
 one-more : (seen : List (List ℕ)) (k : List ℕ) (ms : List (List ℕ)) → FreeOf seen ms → Differs k ms
     → FreeOf (seen ++ (k ∷ [])) ms
 one-more seen k [] f d = tt
-one-more seen k (m ∷ ms) f d = (list_any-append (λ l. bytes_eq l m) seen (k ∷ []) ∙ or-last (has_key m seen) (bytes_eq k m) f.0 d.0, one-more seen k ms f.1 d.1)
+one-more seen k (m ∷ ms) f d = (
+  list_any-append (λ l. bytes_eq l m) seen (k ∷ [])
+      ∙ or-last (has_key m seen) (bytes_eq k m) f.0 d.0,
+  one-more seen k ms f.1 d.1,
+)
 
 free-from : (seen ks : List (List ℕ)) → FreeOf seen ks → Distinct ks → AreFree seen ks
 free-from seen [] f d = tt
@@ -221,8 +225,10 @@ pub node-names : (bs : List Block) → kinds_are_apart bs ≡ true
     → Distinct (map (λ b. kind_name b.kind) bs)
 node-names [] h = tt
 node-names (b ∷ bs) h =
-    let p = both (not (list_any (λ c. same_kind c.kind b.kind) bs)) (kinds_are_apart bs) h in
-    (other-names b bs (not-true (list_any (λ c. same_kind c.kind b.kind) bs) p.0), node-names bs p.1)
+    let p = both (not (list_any (λ c. same_kind c.kind b.kind) bs)) (kinds_are_apart bs) h in (
+      other-names b bs (not-true (list_any (λ c. same_kind c.kind b.kind) bs) p.0),
+      node-names bs p.1,
+    )
 
 -- ---- names of labels
 other-labels : (l : Label) (ls : List Label) → list_any (λ m. bytes_eq l.name m.name) ls ≡ false
@@ -235,5 +241,7 @@ other-labels l (m ∷ ls) h =
 pub label-names : (ls : List Label) → names_are_apart ls ≡ true → Distinct (map (λ l. l.name) ls)
 label-names [] h = tt
 label-names (l ∷ ls) h =
-    let p = both (not (list_any (λ m. bytes_eq l.name m.name) ls)) (names_are_apart ls) h in
-    (other-labels l ls (not-true (list_any (λ m. bytes_eq l.name m.name) ls) p.0), label-names ls p.1)
+    let p = both (not (list_any (λ m. bytes_eq l.name m.name) ls)) (names_are_apart ls) h in (
+      other-labels l ls (not-true (list_any (λ m. bytes_eq l.name m.name) ls) p.0),
+      label-names ls p.1,
+    )

@@ -51,7 +51,8 @@ nodes-cut (suc n) [] rest = refl
 nodes-cut zero (x ∷ xs) rest = sym (take-none rest)
 nodes-cut (suc n) (x ∷ xs) rest =
     ap (λ cs. opener 2 x.name ∷ cs)
-    (ap (take n) (append_assoc (points_cols 4 zero_text x.keys) (parts_cols 2 (map node_part xs)) rest)
+    (ap (take n) (append_assoc (points_cols 4 zero_text x.keys)
+    (parts_cols 2 (map node_part xs)) rest)
     ∙ keys-cut n x.keys (parts_cols 2 (map node_part xs) ++ rest)
     ∙ ap (λ cs. points_cols 4 zero_text (take n x.keys) ++ cs) (nodes-cut (left n x.keys) xs rest)
     ∙ sym (append_assoc (points_cols 4 zero_text (take n x.keys))
@@ -114,13 +115,21 @@ pub groups-distinct : (n : ℕ) (gs : List Group) → Distinct (group_names gs)
 groups-distinct zero [] d = tt
 groups-distinct (suc n) [] d = tt
 groups-distinct zero (g ∷ gs) d = tt
-groups-distinct (suc n) (g ∷ gs) d = (groups-differ (left_nodes n g.nodes) g.name gs d.0, groups-distinct (left_nodes n g.nodes) gs d.1)
+groups-distinct (suc n) (g ∷ gs) d = (
+  groups-differ (left_nodes n g.nodes) g.name gs d.0,
+  groups-distinct (left_nodes n g.nodes) gs d.1,
+)
 
 pub are-groups : (n : ℕ) (gs : List Group) → AreGroups gs → AreGroups (cut_groups n gs)
 are-groups zero [] a = tt
 are-groups (suc n) [] a = tt
 are-groups zero (g ∷ gs) a = tt
-are-groups (suc n) (g ∷ gs) a = (a.0, nodes-distinct n g.nodes a.1, are-nodes n g.nodes a.2, are-groups (left_nodes n g.nodes) gs a.3)
+are-groups (suc n) (g ∷ gs) a = (
+  a.0,
+  nodes-distinct n g.nodes a.1,
+  are-nodes n g.nodes a.2,
+  are-groups (left_nodes n g.nodes) gs a.3,
+)
 
 -- ---- and costs no more
 take-cost : (n : ℕ) (ks : List (List ℕ)) → keys_cost (take n ks) ≤ keys_cost ks

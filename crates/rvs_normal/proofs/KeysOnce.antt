@@ -149,7 +149,8 @@ resolved-good explicit so_far (w ∷ ws) sub a g n o =
     (λ sub' a' n'. let m = added-good explicit (explicit_keys ws) so_far (merged_pairs w.value.tree)
     sub' g n' (merged-owned w.value.tree o.0) in resolved-good explicit
     (added explicit so_far (merged_pairs w.value.tree)) ws sub' a' m.0 m.1 o.1)
-    (λ sub' a' n'. resolved-good explicit (so_far ++ ((w.key, w.value.tree) ∷ [])) ws (λ k h. (or-both (bytes_eq w.key k) (has_key k (explicit_keys ws)) (sub' k h)).1) a'.1
+    (λ sub' a' n'. resolved-good explicit (so_far ++ ((w.key, w.value.tree) ∷ [])) ws
+    (λ k h. (or-both (bytes_eq w.key k) (has_key k (explicit_keys ws)) (sub' k h)).1) a'.1
     (record {
       own = own-pushed so_far (w.key, w.value.tree) g.own n'.0;
       owned = pairs-append so_far ((w.key, w.value.tree) ∷ []) g.owned (o.0, tt);
@@ -190,8 +191,10 @@ pub map-owned : (line : ℕ) (ws : List Written) → Apart (explicit_keys ws) �
     → KeysOnce (map_value line ws).tree
 map-owned line ws a o =
     let g = resolved-good (explicit_keys ws) [] ws (λ k h. h) a (record { own = refl; owned = tt })
-    (none-in-nothing (explicit_keys ws)) o in
-    (ap keys_are_own (pairs-back (resolved (explicit_keys ws) [] ws)) ∙ g.own, to-entries (resolved (explicit_keys ws) [] ws) g.owned)
+    (none-in-nothing (explicit_keys ws)) o in (
+      ap keys_are_own (pairs-back (resolved (explicit_keys ws) [] ws)) ∙ g.own,
+      to-entries (resolved (explicit_keys ws) [] ws) g.owned,
+    )
 
 -- ---- lists of values
 abbrev pub ValuesOwned : List Value → Type 0

@@ -259,9 +259,11 @@ role-fits node =
     fits-if node (bytes_eq node (codes "mnemonics") || bytes_eq node (codes "opcode")) role.Main
     config (λ _. tt)
     (fits-if node (bytes_eq node (codes "config")) role.Config rs1 (λ _. tt)
-    (fits-if node (bytes_eq node (codes "rs1")) (role.Entries (sort.Register kind.Rs1)) rs2 (λ _. tt)
+    (fits-if node (bytes_eq node (codes "rs1")) (role.Entries (sort.Register kind.Rs1)) rs2
+    (λ _. tt)
     (fits-if node (bytes_eq node (codes "rs2")) (role.Entries (sort.Register kind.Rs2)) rd (λ _. tt)
-    (fits-if node (bytes_eq node (codes "rd")) (role.Entries (sort.Register kind.Rd)) operation (λ _. tt)
+    (fits-if node (bytes_eq node (codes "rd")) (role.Entries (sort.Register kind.Rd)) operation
+    (λ _. tt)
     (fits-if node (bytes_eq node (codes "op_comb")) (role.Entries sort.Operation) numeric (λ _. tt)
     (fits-if node (bytes_eq node (codes "val_comb")) (role.Entries sort.Numeric) crossed (λ _. tt)
     (fits-if node (bytes_eq node (codes "cross_comb")) (role.Entries sort.Crossed) last (λ _. tt)
@@ -302,7 +304,11 @@ label-named isa name d h =
     has-next (IsNamed name) (first_points isa name m.0 m.1) _ (λ first.
     has-then NodesNoted (IsNamed name) (each_node isa name (own_pairs d) (starting first)) _
     (nodes-noted isa name (own_pairs d) (starting first) refl)
-    (λ n k. (refl, and-true (is_printable name) (list_all is_note n.taken.skipped) (name-printable name h) k))))
+    (λ n k. (
+      refl,
+      and-true (is_printable name) (list_all is_note n.taken.skipped)
+          (name-printable name h) k,
+    ))))
 
 chosen-named : (isa : Isa) (name : List ℕ) (d : Data) (b : Bool) → is_label_name name ≡ true
     → Has (IsNamed name) (chosen isa name d b)
@@ -334,7 +340,11 @@ record Well (es : Pairs) (l : Listed) : Type 0 where
 
 later-less : (ls : List Label) (e : List ℕ × Data) (es : Pairs) → Later ls (e ∷ es) → Later ls es
 later-less [] e es h = tt
-later-less (l ∷ ls) e es h = ((or-both (bytes_eq l.name e.0) (list_any (λ f. bytes_eq l.name f.0) es) h.0).1, later-less ls e es h.1)
+later-less (l ∷ ls) e es h = (
+  (or-both (bytes_eq l.name e.0)
+      (list_any (λ f. bytes_eq l.name f.0) es) h.0).1,
+  later-less ls e es h.1,
+)
 
 later-push : (ls : List Label) (l : Label) (es : Pairs) → Later ls es
     → list_any (λ e. bytes_eq l.name e.0) es ≡ false → Later (ls ++ (l ∷ [])) es
@@ -375,9 +385,12 @@ step-well isa e es l own w =
     has-if (Well es) (bytes_eq e.0 (codes "datasets")) (Ok l) (holds (nat_lt (length l.labels) 256)
     e.0 [] [] fault.TooManyLabels >> (label_of isa e.0 e.1 >>= (λ m. with_label e.0 m l)))
     (λ _. record { apart = w.apart; notes = w.notes; later = later-less l.labels e es w.later })
-    (λ _. has-holds (Well es) (nat_lt (length l.labels) 256) e.0 [] [] fault.TooManyLabels (label_of isa e.0 e.1 >>= (λ m. with_label e.0 m l))
-    (λ _. has-then (IsNamed e.0) (Well es) (label_of isa e.0 e.1) (λ m. with_label e.0 m l) (of-named isa e.0 e.1)
-    (λ m n. has-holds (Well es) (nat_le (l.total + size_of m) 65536) e.0 [] [] fault.TooManyPoints (Ok (record {
+    (λ _. has-holds (Well es) (nat_lt (length l.labels) 256) e.0 [] [] fault.TooManyLabels
+    (label_of isa e.0 e.1 >>= (λ m. with_label e.0 m l))
+    (λ _. has-then (IsNamed e.0) (Well es) (label_of isa e.0 e.1) (λ m. with_label e.0 m l)
+    (of-named isa e.0 e.1)
+    (λ m n. has-holds (Well es) (nat_le (l.total + size_of m) 65536) e.0 [] [] fault.TooManyPoints
+    (Ok (record {
       labels = l.labels ++ (m ∷ []);
       total = l.total + size_of m;
     }))
@@ -408,7 +421,8 @@ unfolding groups_of
 groups-well isa d own =
     has-if IsWell (is_empty_scalar d) (Ok []) _ (λ _. record { apart = refl; notes = tt })
     (λ _. has-if IsWell (is_map d) _ _
-    (λ _. has-then (Well []) IsWell (each_label isa (own_pairs d) nothing_listed) _ (each-well isa (own_pairs d) nothing_listed own (record {
+    (λ _. has-then (Well []) IsWell (each_label isa (own_pairs d) nothing_listed) _
+    (each-well isa (own_pairs d) nothing_listed own (record {
       apart = refl;
       notes = tt;
       later = tt;

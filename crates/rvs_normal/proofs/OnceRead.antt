@@ -220,7 +220,8 @@ collection-owned known line good p (one m rest) a o =
     (λ next t. collection-owned known line (good && fits next) next rest a t)
 collection-owned known line good p (group b inner last rest) a o =
     has-behind FlowOwned (may_open p) _
-    (has-then FlowOwned FlowOwned (collection known line good (first_place b) inner) _ (collection-owned known line good (first_place b) inner a (first-owned b))
+    (has-then FlowOwned FlowOwned (collection known line good (first_place b) inner) _
+    (collection-owned known line good (first_place b) inner a (first-owned b))
     (λ v t. has-behind FlowOwned (ends_with b last) _
     (has-then PlaceOwned FlowOwned (with_value p v.0) _ (value-owned p v.0 o t)
     (λ next u. collection-owned known line (v.1 && fits next) next rest a u))))
@@ -229,7 +230,9 @@ flow-owned : (known : Anchors) (line : ℕ) (b : Bracket) (tokens : List Token) 
     → Has TreeOwned (flow_value known line b tokens)
 flow-owned known line b tokens a =
     has-then FlowOwned TreeOwned (whole_value known line b (nest tokens)) merged_well
-    (has-then FlowOwned FlowOwned (collection known line true (first_place b) (inside (nest tokens))) _ (collection-owned known line true (first_place b) (inside (nest tokens)) a (first-owned b))
+    (has-then FlowOwned FlowOwned (collection known line true (first_place b)
+    (inside (nest tokens))) _ (collection-owned known line true (first_place b) (inside
+    (nest tokens)) a (first-owned b))
     (λ v t. has-behind FlowOwned (ends_with b (ending (nest tokens))) _
     (has-behind FlowOwned (only_end (behind (nest tokens))) (Ok v) t)))
     (λ v t. has-behind TreeOwned (check v.1 _) (Ok v.0) t)
@@ -299,7 +302,8 @@ pub key-new : {B : Type 0} (Q : B → Type 0) (column : ℕ) (seen : List (List 
 key-new Q column seen at (key k n c) f h =
     has-then (λ m. (m.merges || not (has_key m.name seen)) ≡ true) Q
     (key_at column seen at (key k n c)) f
-    (has-behind (λ m. (m.merges || not (has_key m.name seen)) ≡ true) (check (at == column) BadIndent) _
+    (has-behind (λ m. (m.merges || not (has_key m.name seen)) ≡ true)
+    (check (at == column) BadIndent) _
     (has-check (λ m. (m.merges || not (has_key m.name seen)) ≡ true)
     (k.merges || not (has_key k.name seen)) DuplicateKey (Ok k) (λ e. e)))
     h
@@ -331,16 +335,21 @@ more-written seen k v ws new a n = by-case k.merges refl
         let same : explicit_keys (written k v ∷ ws) ≡ explicit_keys ws =
         ap (λ b. cond b [] (k.name ∷ []) ++ explicit_keys ws) e in
         let seen-same : seen ++ spelled k ≡ seen =
-        ap (λ b. seen ++ cond b [] (k.name ∷ [])) e ∙ append-nil seen in
-        (subst Apart (sym same) a, subst (NoneSeen seen) (sym same) (subst (λ s. NoneSeen s (explicit_keys ws)) seen-same n))
+        ap (λ b. seen ++ cond b [] (k.name ∷ [])) e ∙ append-nil seen in (
+          subst Apart (sym same) a,
+          subst (NoneSeen seen) (sym same)
+              (subst (λ s. NoneSeen s (explicit_keys ws)) seen-same n),
+        )
     by-case false e =
         let same : explicit_keys (written k v ∷ ws) ≡ k.name ∷ explicit_keys ws =
         ap (λ b. cond b [] (k.name ∷ []) ++ explicit_keys ws) e in
         let seen-same : seen ++ spelled k ≡ seen ++ (k.name ∷ []) =
         ap (λ b. seen ++ cond b [] (k.name ∷ [])) e in
         let less = none-seen-less seen k.name (explicit_keys ws)
-        (subst (λ s. NoneSeen s (explicit_keys ws)) seen-same n) in
-        (subst Apart (sym same) (less.1, a), subst (NoneSeen seen) (sym same) (or-true k.merges (has_key k.name seen) new e, less.0))
+        (subst (λ s. NoneSeen s (explicit_keys ws)) seen-same n) in (
+          subst Apart (sym same) (less.1, a),
+          subst (NoneSeen seen) (sym same) (or-true k.merges (has_key k.name seen) new e, less.0),
+        )
 
 first-written : (k : Key) (v : Value) (ws : List Written) → Apart (explicit_keys ws)
     → NoneSeen (spelled k) (explicit_keys ws) → Apart (explicit_keys (written k v ∷ ws))
@@ -369,11 +378,22 @@ first-owned-block : (known : Anchors) (line column : ℕ) (rest : Outline) (firs
     ])
 first-owned-block known line column rest first (dash b) a f is es =
     has-then ItemsOwned FoundOwned (items (first.anchors ++ known) column rest) _ is
-    (λ m o. (list-owned line (first.value ∷ m.value) (f.0, o.0), anchors-append m.anchors first.anchors o.1 f.1))
+    (λ m o. (
+      list-owned line (first.value ∷ m.value) (f.0, o.0),
+      anchors-append m.anchors first.anchors o.1 f.1,
+    ))
 first-owned-block known line column rest first (key k b content) a f is es =
     has-behind FoundOwned (check_merge k first.value) _
-    (has-then (EntriesFound (spelled k)) FoundOwned (entries (first.anchors ++ known) column (spelled k) rest) _ (es (spelled k))
-    (λ m o. (map-owned line (written k first.value ∷ m.value) (first-written k first.value m.value o.1 o.2) (f.0, o.0), anchors-append m.anchors first.anchors o.3 f.1)))
+    (has-then (EntriesFound (spelled k)) FoundOwned
+    (entries (first.anchors ++ known) column (spelled k) rest) _ (es (spelled k))
+    (λ m o. (
+      map-owned line (written k first.value ∷ m.value)
+          (first-written k first.value m.value o.1 o.2) (
+            f.0,
+            o.0,
+          ),
+      anchors-append m.anchors first.anchors o.3 f.1,
+    )))
 first-owned-block known line column rest first (leaf c) a f is es =
     has-behind FoundOwned (only_leaf rest) (Ok first) f
 first-owned-block known line column rest first (refused kind) a f is es =
@@ -386,7 +406,9 @@ mutual
   block-owned known line (below w inner rest) a =
       has-then FoundOwned FoundOwned (value_of known w inner (block known w.line inner)) _
       (word-owned known w inner (block known w.line inner) a (block-owned known w.line inner a))
-      (λ first f. first-owned-block known w.line w.column rest first w.shape a f (items-owned-block (first.anchors ++ known) w.column rest (anchors-append first.anchors known f.1 a))
+      (λ first f. first-owned-block known w.line w.column rest first w.shape a f
+      (items-owned-block (first.anchors ++ known) w.column rest
+      (anchors-append first.anchors known f.1 a))
       (λ seen. entries-owned-block (first.anchors ++ known) w.column seen rest
       (anchors-append first.anchors known f.1 a)))
 
@@ -395,8 +417,11 @@ mutual
   items-owned-block known column end a = (tt, tt)
   items-owned-block known column (below w inner rest) a =
       has-behind ItemsOwned (item_at column w) _
-      (has-then FoundOwned ItemsOwned (value_of known w inner (block known w.line inner)) _ (word-owned known w inner (block known w.line inner) a (block-owned known w.line inner a))
-      (λ first f. has-then ItemsOwned ItemsOwned (items (first.anchors ++ known) column rest) _ (items-owned-block (first.anchors ++ known) column rest (anchors-append first.anchors known f.1 a))
+      (has-then FoundOwned ItemsOwned (value_of known w inner (block known w.line inner)) _
+      (word-owned known w inner (block known w.line inner) a (block-owned known w.line inner a))
+      (λ first f. has-then ItemsOwned ItemsOwned (items (first.anchors ++ known) column rest) _
+      (items-owned-block (first.anchors ++ known) column rest
+      (anchors-append first.anchors known f.1 a))
       (λ others o. ((f.0, o.0), anchors-append others.anchors first.anchors o.1 f.1))))
 
   entries-owned-block : (known : Anchors) (column : ℕ) (seen : List (List ℕ)) (o : Outline)
@@ -404,9 +429,12 @@ mutual
   entries-owned-block known column seen end a = (tt, tt, tt, tt)
   entries-owned-block known column seen (below w inner rest) a =
       key-new (EntriesFound seen) column seen w.column w.shape _
-      (λ k new. has-then FoundOwned (EntriesFound seen) (value_of known w inner (block known w.line inner)) _ (word-owned known w inner (block known w.line inner) a (block-owned known w.line inner a))
+      (λ k new. has-then FoundOwned (EntriesFound seen)
+      (value_of known w inner (block known w.line inner)) _ (word-owned known w inner
+      (block known w.line inner) a (block-owned known w.line inner a))
       (λ first f. has-behind (EntriesFound seen) (check_merge k first.value) _
-      (has-then (EntriesFound (seen ++ spelled k)) (EntriesFound seen) (entries (first.anchors ++ known) column (seen ++ spelled k) rest) _
+      (has-then (EntriesFound (seen ++ spelled k)) (EntriesFound seen)
+      (entries (first.anchors ++ known) column (seen ++ spelled k) rest) _
       (entries-owned-block (first.anchors ++ known) column (seen ++ spelled k) rest
       (anchors-append first.anchors known f.1 a))
       (λ others o. let m = more-written seen k first.value others.value new o.1 o.2 in

@@ -97,7 +97,8 @@ label-text l = by-case l.selected refl
   where
     by-case : (b : Bool) → l.selected ≡ b → label_text l ≡ texts (label_rows l)
     by-case true e = rw (e, label_text, label_rows)
-        (append_assoc l.name (codes ":\n") (points_text None l.points ++ flat_map skipped_line l.skipped)
+        (append_assoc l.name (codes ":\n")
+        (points_text None l.points ++ flat_map skipped_line l.skipped)
         ∙ ap (λ r. l.name ++ (codes ":\n" ++ r))
         (ap (λ r. r ++ flat_map skipped_line l.skipped) (points-text None l.points)
         ∙ ap (λ r. texts (points_rows None l.points) ++ r) (skipped-text l.skipped)

@@ -111,7 +111,11 @@ all-printed isa (l ∷ ls) h n = by-case l.selected refl (λ q. all-printed isa 
     by-case true e others =
         let q = subst (ArePlain isa) (selected-first l ls e) h in
         ((λ s. plain-printed isa l q.0), n.0, others q.1)
-    by-case false e others = ((λ s. absurd (true≢false (sym s ∙ e))), n.0, others (subst (ArePlain isa) (selected-others l ls e) h))
+    by-case false e others = (
+      (λ s. absurd (true≢false (sym s ∙ e))),
+      n.0,
+      others (subst (ArePlain isa) (selected-others l ls e) h),
+    )
 
 -- a label with mnemonics has points
 some-points : (isa : Isa) (l : Label) → IsPlain isa l → IsSome l.points
@@ -236,7 +240,12 @@ times-more n m h = grind arith
 
 points-few : (isa : Isa) (ls : List Label) → ArePlain isa ls → point_count ls ≤ sum_by size_of ls
 points-few isa [] h = omega arith
-points-few isa (l ∷ ls) h = omega (arith, sum_by-cons size_of l ls, points-few isa ls h.1, times-more (length l.points) (length l.ops) h.0.valid.some_op)
+points-few isa (l ∷ ls) h = omega (
+  arith,
+  sum_by-cons size_of l ls,
+  points-few isa ls h.1,
+  times-more (length l.points) (length l.ops) h.0.valid.some_op,
+)
 
 -- ---- the whole
 plain-admitted : (isa : Isa) (ls : List Label) → ArePlain isa ls
@@ -253,7 +262,16 @@ read-again isa other bytes d ls a g short admits =
     let owned = answer-owned bytes d a in
     let can = groups-spelled isa d ls (nodes-own d owned) g in
     let well = read-well isa d ls (top-own d owned) g in
-    let cost : labels_cost (selected ls) ≤ 31999936 = omega (arith, labels-cost (selected ls), points-few isa (selected ls) can.plain, can.few_labels, can.few_points, text-long ls, short) in
+    let cost : labels_cost (selected ls)
+    ≤ 31999936 = omega (
+      arith,
+      labels-cost (selected ls),
+      points-few isa (selected ls) can.plain,
+      can.few_labels,
+      can.few_points,
+      text-long ls,
+      short,
+    ) in
     let r = printed-is-read ls (all-printed isa ls can.plain well.notes)
     (all-some isa (selected ls) can.plain) (selected-apart ls well.apart) cost in
     record {

@@ -101,7 +101,15 @@ key-of-name c cs h k =
     let n = not-start c h in
     let all : list_all is_next (c ∷ cs) ≡ true =
     and-true (is_next c) (list_all is_next cs) (first-next c h) k in
-    rw (n.single, n.double, key_of, starts-well c (cs ++ (colon_byte ∷ [])) h, split-name false (c ∷ cs) all, trimmed-name (c ∷ cs) all, plain_key) refl
+    rw (
+      n.single,
+      n.double,
+      key_of,
+      starts-well c (cs ++ (colon_byte ∷ [])) h,
+      split-name false (c ∷ cs) all,
+      trimmed-name (c ∷ cs) all,
+      plain_key,
+    ) refl
 
 at-last : (line column c : ℕ) (bs : List ℕ) → (c == 32) ≡ false → (c == 45) ≡ false
     → words_at line false column (c ∷ bs) ≡ last_words line column (c ∷ bs)

@@ -65,7 +65,13 @@ nodes-most : (n : ℕ) (ws : List Written) → 64 * written_nodes_from n ws ≤ 
 nodes-most n [] = omega arith
 nodes-most n (w ∷ ws) =
     let next = plus (plus n (text_nodes w.key)) w.value.nodes in
-    omega (arith, nodes-most next ws, plus-most (plus n (text_nodes w.key)) w.value.nodes, plus-most n (text_nodes w.key), text-most w.key)
+    omega (
+      arith,
+      nodes-most next ws,
+      plus-most (plus n (text_nodes w.key)) w.value.nodes,
+      plus-most n (text_nodes w.key),
+      text-most w.key,
+    )
 
 pub map-nodes : (line : ℕ) (ws : List Written) → 64 * (map_value line ws).nodes ≤ 64 + cost ws
 map-nodes line ws = nodes-most 1 ws

@@ -138,8 +138,11 @@ skipped-good [] h = tt
 skipped-good (s ∷ ss) h =
     let p = both (is_printable s.node && is_printable s.key)
     (list_all (λ s. is_printable s.node && is_printable s.key) ss) h in
-    let q = both (is_printable s.node) (is_printable s.key) p.0 in
-    (inked-append (codes " skipped ") (s.node ++ (codes " " ++ s.key)) refl (inked-append s.node (codes " " ++ s.key) q.0 q.1), skipped-good ss p.1)
+    let q = both (is_printable s.node) (is_printable s.key) p.0 in (
+      inked-append (codes " skipped ") (s.node ++ (codes " " ++ s.key)) refl
+          (inked-append s.node (codes " " ++ s.key) q.0 q.1),
+      skipped-good ss p.1,
+    )
 
 label-good : (l : Label) → (l.selected ≡ true → IsPrinted l) → notes_are_printable l ≡ true
     → AreRows (label_rows l)
@@ -149,7 +152,10 @@ label-good l h n = by-case l.selected refl
     by-case true e =
         let p = both (is_printable l.name)
         (list_all (λ s. is_printable s.node && is_printable s.key) l.skipped) n in
-        rw (e, label_rows) (name-plain l.name (h e).named, rows-append (points_rows None l.points) (map skipped_row l.skipped) (points-good None l.points (h e).keys_printable) (skipped-good l.skipped p.1))
+        rw (e, label_rows) (
+          name-plain l.name (h e).named,
+          rows-append (points_rows None l.points) (map skipped_row l.skipped) (points-good None l.points (h e).keys_printable) (skipped-good l.skipped p.1),
+        )
     by-case false e =
         let p = both (is_printable l.name)
         (list_all (λ s. is_printable s.node && is_printable s.key) l.skipped) n in

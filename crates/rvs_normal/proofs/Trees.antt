@@ -102,7 +102,11 @@ deeper-append c (x ∷ xs) ys d e = (d.0, deeper-append c xs ys d.1 e)
 
 nodes-deeper : (ns : List Node) → IsDeeper 0 (parts_cols 2 (map node_part ns))
 nodes-deeper [] = tt
-nodes-deeper (n ∷ ns) = (refl, deeper-append 0 (points_cols 4 zero_text n.keys) (parts_cols 2 (map node_part ns)) (points-deep n.keys) (nodes-deeper ns))
+nodes-deeper (n ∷ ns) = (
+  refl,
+  deeper-append 0 (points_cols 4 zero_text n.keys)
+      (parts_cols 2 (map node_part ns)) (points-deep n.keys) (nodes-deeper ns),
+)
 
 groups-blocks : (gs : List Group) → AreGroups gs → AreBlocks 0 group_part IsGroup gs
 groups-blocks [] good = tt

@@ -135,7 +135,8 @@ generates_are_read program isa work groups m few =
     let words = options (codes "--cgf") groups ++ option (codes "--work") work in
     let read =
     option_read (codes "--isa") isa-name isa words rest (first-stands isa (work ∷ groups) m)
-    (options_read (codes "--cgf") cgf-name groups (option (codes "--work") work) behind (others-stand work groups m1)
+    (options_read (codes "--cgf") cgf-name groups (option (codes "--work") work) behind
+    (others-stand work groups m1)
     (option_alone (codes "--work") work-name work (first-stands work groups m1))) in
     of-pairs generate_options generate_of (option (codes "--isa") isa ++ words)
     (pair (codes "--isa") isa ∷ rest) read
@@ -168,7 +169,8 @@ runs_are_read program isa device work groups m few =
     let read = option_read (codes "--isa") isa-name isa words rest
     (first-stands isa (device ∷ work ∷ groups) m)
     (options_read (codes "--cgf") cgf-name groups last behind (others-stand work groups m2)
-    (option_read (codes "--device") device-name device (option (codes "--work") work) (pair (codes "--work") work ∷ [])
+    (option_read (codes "--device") device-name device (option (codes "--work") work)
+    (pair (codes "--work") work ∷ [])
     (first-stands device (work ∷ groups) m1)
     (option_alone (codes "--work") work-name work (first-stands work groups m2)))) in
     of-pairs run_options (run_of program) (option (codes "--isa") isa ++ words)
@@ -204,14 +206,16 @@ coverages_are_read program isa log groups windows kept m w few fit =
     let read =
     option_read (codes "--isa") isa-name isa words rest (first-stands isa (log ∷ groups) m)
     (options_read (codes "--cgf") cgf-name groups last behind (others-stand log groups m1)
-    (option_read (codes "--log") log-name log (options (codes "--window") windows) ends (first-stands log groups m1)
+    (option_read (codes "--log") log-name log (options (codes "--window") windows) ends
+    (first-stands log groups m1)
     (options_alone (codes "--window") window-name windows w))) in
     of-pairs coverage_options coverage_of (option (codes "--isa") isa ++ words)
     (pair (codes "--isa") isa ∷ rest) read
     (known_pairs coverage_options (codes "--cgf") refl groups behind
     ∙ known_pairs coverage_options (codes "--window") refl windows [])
     ∙ coverage-of (pair (codes "--isa") isa ∷ rest) isa.text log.text (map text_of groups) kept
-    (ap (λ vs. only (isa.text ∷ vs)) (values_other (codes "--isa") (codes "--cgf") refl groups behind
+    (ap (λ vs. only (isa.text ∷ vs))
+    (values_other (codes "--isa") (codes "--cgf") refl groups behind
     ∙ values_other (codes "--isa") (codes "--window") refl windows []))
     (ap (some_of 64) (own-values (codes "--cgf") cgf-name groups behind
     (values_other (codes "--cgf") (codes "--window") refl windows []))
@@ -253,10 +257,13 @@ references_are_read program isa test signature log steps count m l s fit =
     let read = option_read (codes "--isa") isa-name isa second
     (pair (codes "--test") test ∷ pair (codes "--signature") signature ∷ behind)
     (first-stands isa (test ∷ signature ∷ []) m)
-    (option_read (codes "--test") test-name test third (pair (codes "--signature") signature ∷ behind)
+    (option_read (codes "--test") test-name test third
+    (pair (codes "--signature") signature ∷ behind)
     (first-stands test (signature ∷ []) m1)
-    (option_read (codes "--signature") signature-name signature last behind (first-stands signature [] m2)
-    (options_read (codes "--log") log-name (listed log) (options (codes "--steps") (listed steps)) ends l
+    (option_read (codes "--signature") signature-name signature last behind
+    (first-stands signature [] m2)
+    (options_read (codes "--log") log-name (listed log)
+    (options (codes "--steps") (listed steps)) ends l
     (options_alone (codes "--steps") steps-name (listed steps) s)))) in
     let without = λ (name : List ℕ) (a : bytes_eq (codes "--log") name
     ≡ false) (b : bytes_eq (codes "--steps") name ≡ false).

@@ -43,8 +43,11 @@ again-of isa text inputs e short = by-answer (answer text) refl e
         let listed : groups ≡ inputs.groups = ap (λ (i : Inputs). i.groups) is in
         let g' : groups_of isa tree ≡ Ok inputs.groups = g ∙ ap (λ ls. Ok ls) listed in
         let r = read-again isa isa text tree inputs.groups a g' short
-        (own-admitted isa text tree inputs.groups a g') in
-        (sym (ap (λ (i : Inputs). i.isa) is), ap (tree_groups isa) r.is ∙ ap checked_groups r.groups_are)
+        (own-admitted isa text tree inputs.groups a g') in (
+          sym (ap (λ (i : Inputs). i.isa) is),
+          ap (tree_groups isa) r.is
+              ∙ ap checked_groups r.groups_are,
+        )
 
     by-answer : (r : Answer) → answer text ≡ r → inputs_of isa (tree_groups isa r) ≡ Ok inputs
         → (inputs.isa ≡ isa)

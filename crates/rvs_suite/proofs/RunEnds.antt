@@ -319,7 +319,8 @@ judges {call} files program isa names device work r =
                 (ended files program isa names device work inputs call.status m.end given m.comes
                 m.status_is)
                 (λ not_passed. not-failed {call = call} program work inputs test before run
-                (given-left {call = call} program work inputs (run_inputs_in files isa names device) given
+                (given-left {call = call} program work inputs
+                (run_inputs_in files isa names device) given
                 (left {call = call} files program isa names device work finish.NotPassed r.told
                 (at_status ran files command answer.NotPassed r.told refl not_passed).completes))
                 one was now spells)

@@ -97,7 +97,15 @@ longer : (work name : List ℕ) (one other : List ℕ) → length one ≢ length
 longer work name one other differ = other-bytes _ _ (λ same.
     let lengths : length (work ++ (codes "/" ++ (name ++ one)))
     ≡ length (work ++ (codes "/" ++ (name ++ other))) = ap (λ (x : List ℕ). length x) same in
-    differ (omega (arith, lengths, length-append work (codes "/" ++ (name ++ one)), length-append work (codes "/" ++ (name ++ other)), length-append name one, length-append name other)))
+    differ (omega (
+      arith,
+      lengths,
+      length-append work (codes "/" ++ (name ++ one)),
+      length-append work (codes "/" ++ (name
+          ++ other)),
+      length-append name one,
+      length-append name other,
+    )))
 
 not-reference : (work name : List ℕ)
     → bytes_eq (path_of work name) (reference_path work name) ≡ false
@@ -116,7 +124,8 @@ passed-by b x y e = rw e refl
 abbrev started : Bench → Test → Files → Files
 started bench test files =
     with_file (device_path bench.work test.name) []
-    (with_file (reference_path bench.work test.name) (text_of_words (reference_words bench.isa test))
+    (with_file (reference_path bench.work test.name)
+    (text_of_words (reference_words bench.isa test))
     (with_file (path_of bench.work test.name) test.text files))
 
 test-there : (bench : Bench) (test : Test) (files : Files)
@@ -183,9 +192,11 @@ record JudgedOne (bench : Bench) (test : Test) (next : Bool → Plan Finish) (fi
 abbrev effects_with : Bench → Test → Files → Answer → Option (List ℕ) → List Effect → List Effect
 effects_with bench test files answer found later =
     Did (Write (path_of bench.work test.name) test.text)
-    ∷ (Did (Write (reference_path bench.work test.name) (text_of_words (reference_words bench.isa test)))
+    ∷ (Did (Write (reference_path bench.work test.name)
+    (text_of_words (reference_words bench.isa test)))
     ∷ (Did (Write (device_path bench.work test.name) [])
-    ∷ (Device (task_of bench test).words (path_of bench.work test.name) (device_path bench.work test.name) answer
+    ∷ (Device (task_of bench test).words (path_of bench.work test.name)
+    (device_path bench.work test.name) answer
     ∷ (Read (device_path bench.work test.name) found
     ∷ (Did (Out (verdict_line test.name (verdict_by bench test (record {
       words = [];

@@ -238,7 +238,14 @@ spares-judging : (other : List ℕ) (bench : Bench) (passed : ℕ) (tests : List
     → IsOther bench.work other → Spares other (judges_all bench passed tests)
 spares-judging other bench passed [] apart = tt
 spares-judging other bench passed (test ∷ tests) apart =
-    Spares-then other (judges_one bench test) (λ pass. judges_all bench (with_one passed pass) tests) (apart.text test.name, (apart.reference test.name, (apart.device test.name, (apart.device test.name, λ answer found. tt)))) (λ pass.
+    Spares-then other (judges_one bench test) (λ pass. judges_all bench
+    (with_one passed pass) tests) (
+      apart.text test.name,
+      (
+        apart.reference test.name,
+        (apart.device test.name, (apart.device test.name, λ answer found. tt)),
+      ),
+    ) (λ pass.
     spares-judging other bench (with_one passed pass) tests apart)
 
 spares-run : (other program isa : List ℕ) (names : List (List ℕ)) (device work : List ℕ)

@@ -48,7 +48,8 @@ passed_onto bench passed tests runs = passed
 abbrev pub with_judged : Bench → Test → DeviceRun → Files → Files
 with_judged bench test run files =
     with_left (device_path bench.work test.name) run.after
-    (with_file (reference_path bench.work test.name) (text_of_words (reference_words bench.isa test))
+    (with_file (reference_path bench.work test.name)
+    (text_of_words (reference_words bench.isa test))
     (with_file (path_of bench.work test.name) test.text files))
 
 -- the same of all tests

@@ -48,8 +48,10 @@ HitsAs l p m e more outcome = HitsAlone l p e more outcome
 
 -- the two words of a case in the signature
 abbrev pub words_of_case : ImageValue → Isa → Outcome → ℕ → ℕ × ℕ
-words_of_case image isa o k =
-    (slice_index (words_after image isa o) (2 * k), slice_index (words_after image isa o) (2 * k + 1))
+words_of_case image isa o k = (
+  slice_index (words_after image isa o) (2 * k),
+  slice_index (words_after image isa o) (2 * k + 1),
+)
 
 -- exactly one instruction was executed at the case's symbol. It hits the point, together with those
 -- behind it where the point is a cross point, and the outcome is in the signature

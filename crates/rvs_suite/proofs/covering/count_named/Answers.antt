@@ -128,4 +128,8 @@ returns-in_ok-too_long-in-Err-TooLong g c = λ out.
     ∙ fed_of groups c.from-windows.result [] 0 in
     asks-refused out name (report_found (groups_view groups) windows name)
     c.in_ok-too_long-in-Err-TooLong.field-0 c.in-Err-TooLong.ensures.reads_only
-    (λ files t. let long = cause.0.longer files t in (long.0, long.1, refused groups windows name long.0 c.in_ok-too_long-in-Err-TooLong.field-0 (longer c.in_ok-counter.counter long.0 new long.2) text)) cause.1
+    (λ files t. let long = cause.0.longer files t in (
+      long.0,
+      long.1,
+      refused groups windows name long.0 c.in_ok-too_long-in-Err-TooLong.field-0 (longer c.in_ok-counter.counter long.0 new long.2) text,
+    )) cause.1

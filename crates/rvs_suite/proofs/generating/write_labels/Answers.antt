@@ -40,7 +40,8 @@ loop-label-preserved g c =
     ∙ ap (λ l. label_view l ∷ rest) (sym c.label-item.is) in
     record {
       met = λ out new result later. c.loop-label.invariant.met out new result
-          (subst (λ (ls : List Label). Meets (writes_tests c.args.work.now isa ls) (world (g.H.Host.state c.loop-label.host) out) new result) (sym here)
+          (subst (λ (ls : List Label). Meets (writes_tests c.args.work.now isa ls)
+          (world (g.H.Host.state c.loop-label.host) out) new result) (sym here)
           (Meets-then (λ _. writes_tests c.args.work.now isa rest)
           (c.in_ok-write_test.ensures.met out) later));
       text = ap (λ t. t ++ flat_map (label_text isa) rest) c.in_ok-write_test.ensures.text

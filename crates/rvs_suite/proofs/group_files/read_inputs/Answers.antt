@@ -36,7 +36,8 @@ returns-clause-met g c = λ out.
       isa = said.spec;
       groups = groups;
     }))) (c.in_ok-said.ensures out)
-    (Meets-then (λ groups. gives (record { isa = isa; groups = groups })) (c.in_ok-groups.ensures.met out) (Meets-gives (record {
+    (Meets-then (λ groups. gives (record { isa = isa; groups = groups }))
+    (c.in_ok-groups.ensures.met out) (Meets-gives (record {
       isa = isa;
       groups = groups_view c.in_ok-groups.groups;
     }) w))

@@ -40,7 +40,8 @@ loop-test-preserved g c =
     ∙ ap (λ (t : Test). t ∷ rest) (sym c.test-item.is) in
     record {
       met = λ new result later. c.loop-test.invariant.met new result
-          (subst (λ (ts : List Test). MeetsWith IsAnswer (judges_all bench passed ts) old new result) (sym here)
+          (subst (λ (ts : List Test). MeetsWith IsAnswer
+          (judges_all bench passed ts) old new result) (sym here)
           (Meets-then (λ pass. judges_all bench (with_one passed pass) rest) c.in_ok-pass.ensures
           (rw c.with_one-passed.ensures.value at later)));
       some = let before = c.loop-test.invariant.some in let more = c.with_one-passed.ensures.some in

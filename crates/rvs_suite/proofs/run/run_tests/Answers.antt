@@ -88,7 +88,10 @@ returns-in_err-print g c =
     c.as_bytes.ensures.value ∙ c.as_str.ensures ∙ c.in_ok-gathered.ensures.text in
     let p = err_from_is_err_and c.from_residual-in_err-print.result
     c.from_residual-in_err-print.ensures.1 in
-    rw (p.1, p.2) (Meets-weaker (Meets-then next (Meets-then (device_behind c.args.device.now) (c.in_ok-inputs.ensures.met out) (Meets-then (with_device inputs) (c.in_ok-device.ensures out) (Meets-gives (inputs_with inputs device) w)))
+    rw (p.1, p.2) (Meets-weaker (Meets-then next
+    (Meets-then (device_behind c.args.device.now) (c.in_ok-inputs.ensures.met out)
+    (Meets-then (with_device inputs) (c.in_ok-device.ensures out)
+    (Meets-gives (inputs_with inputs device) w)))
     (Meets-stop (judging bench inputs) (rw line at (c.in_err-print.ensures host)))))
 
 pub returns : goal.returns
