@@ -203,7 +203,7 @@ values-kept P kept label key f v s signed size (suc n) k within t u h e =
     }) g) r)
 
 pub called-kept : (P : Taken → Type 0) → Kept P (IsOf kind.ValComb)
-    → (label key : List ℕ) (a : calls.CallReading) → calls.call_of key ≡ a → (t u : Taken) → P t
+    → (label key : List ℕ) (a : calls.Answer) → calls.call_of key ≡ a → (t u : Taken) → P t
     → called label key a t ≡ Ok u → P u
 called-kept P kept label key (Ok (calls.points f v s signed)) is t u h e = values-kept P kept label
     key f v s signed (call-size key f v s signed is) (length_of f s signed) zero (omega arith) t u h

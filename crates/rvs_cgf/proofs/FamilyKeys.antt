@@ -17,8 +17,7 @@ use Rattle.rvs_expr.proofs.Decimals.{AllDigit, decimal-is, key-read}
 use Rattle.rvs_abstract.specs.Sizes.{is_size, least_size}
 use Rattle.rvs_abstract.specs.Values.{length_of, value_of, as_read, alternate, signed_edge}
 use Rattle.rvs_abstract.specs.Values.{unsigned_edge, edge}
-use Rattle.rvs_abstract.specs.Calls.{points, skipped, CallReading, in_size, shaped, with_two}
-use Rattle.rvs_abstract.specs.Calls.{with_third}
+use Rattle.rvs_abstract.specs.Calls.{points, skipped, Answer, in_size, shaped, with_two, with_third}
 use Rattle.rvs_abstract.specs.Calls.{with_second, with_first, named, called, call_of, Cut, first}
 use Rattle.rvs_abstract.specs.Calls.{is_filter, trimmed, signed_of, var_of, size_of, inside_of}
 use Rattle.rvs_abstract.specs.Calls.{name_length, family_of, is_skipped as passes_over, is_letter}
@@ -113,12 +112,12 @@ value-small EdgeDataset s signed k e h = let small : s ≤ 32 = size-small EdgeD
     edge-small signed (2 ^ (s - 1)) k (within_31 (s - 1) (omega arith))
 
 -- ---- a call's size
-abbrev sized : CallReading → Bool
+abbrev sized : Answer → Bool
 sized (Ok (points f v s signed)) = is_size f s
 sized (Ok skipped) = true
 sized (Err e) = true
 
-if-sized : (b : Bool) (x y : CallReading) → (b ≡ true → sized x ≡ true) → sized y ≡ true
+if-sized : (b : Bool) (x y : Answer) → (b ≡ true → sized x ≡ true) → sized y ≡ true
     → sized (if b then x else y) ≡ true
 if-sized true x y h k = h refl
 if-sized false x y h k = k

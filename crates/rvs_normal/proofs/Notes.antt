@@ -149,7 +149,7 @@ values-noted label key f v s signed k (suc m) t n =
     has-then Noted Noted (add_value label key v _ t) _ (added-noted label abstract_key key _ t n)
     (λ u o. values-noted label key f v s signed (suc k) m u o)
 
-called-noted : (label key : List ℕ) (a : calls.CallReading) (t : Taken) → is_printable key ≡ true
+called-noted : (label key : List ℕ) (a : calls.Answer) (t : Taken) → is_printable key ≡ true
     → Noted t → Has Noted (called label key a t)
 called-noted label key (Ok (calls.points f v s signed)) t p n =
     values-noted label key f v s signed zero _ t n
