@@ -94,7 +94,8 @@ fn joined(left: BTreeSet<String>, right: BTreeSet<String>) -> Result<BTreeSet<St
     }
 }
 
-/// These keys and those that a value merges. Of a collection that isn't shared they are kept with it.
+/// These keys and those that a value merges. Of a collection that isn't shared they are kept with
+/// it.
 fn with_value_keys(
     alloc: Global,
     set: BTreeSet<String>,

@@ -19,6 +19,7 @@ loop-key-preserved c = λ k h.
     btree_set_updates_text key from left false c.in-Some.ensures.updates k in
     let there : bytes_eq key k ≡ true → contains_text from k ≡ true = λ e.
     ap (contains_text from) (sym ((bytes_eq-Decides key k).0 e)) ∙ c.in-Some.ensures.member in
-    c.loop-key.invariant k (moved (bytes_eq key k) (contains_text set k) (contains_text from k) there
+    let was = contains_text from k in
+    c.loop-key.invariant k (moved (bytes_eq key k) (contains_text set k) was there
     (sym (ap (λ b. b || contains_text left k) put
     ∙ ap (λ b. cond (bytes_eq key k) true (contains_text set k) || b) out) ∙ h))
