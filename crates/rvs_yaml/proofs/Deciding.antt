@@ -2,7 +2,7 @@
 use Rattle.std.proofs.Common.{◌≡◌, ℕ, Bool, true, false, List, [], ◌∷◌, ◌++◌, Result, Ok, Err, refl}
 use Rattle.std.proofs.Common.{length, take, subst}
 use Rattle.std.proofs.Common.{sym, ap, ◌∙◌}
-use Rattle.std.specs.Prelude.{◌||◌, if◌then◌else◌, Option, Some, None}
+use Rattle.std.specs.Prelude.{◌||◌, ◌==◌, if◌then◌else◌, Option, Some, None}
 use Rattle.rvs_tree.specs.Value.{Value, Written, has_key, explicit_keys}
 use Rattle.rvs_tree.proofs.Sums.{has_key-append, explicit_keys-push}
 use Rattle.rvs_yaml.specs.Checks.{Checked, ◌>>=◌, ◌>>◌, check, succeeds}
@@ -258,3 +258,16 @@ closed-well poor line good b p outer c h e f =
     let q = closed-as poor line good b p outer c h in
     let t = has_value (into (q.0, good) outer) (f q.0 good) in
     (t.0, q.1 ∙ ap (λ m. m >> into (q.0, good) outer) e ∙ t.1)
+
+-- an alias with a name, where one may stand
+pub named-member : (known : Anchors) (p : Place) (vs : List Value) (name : List ℕ)
+    → p ≡ member vs → (length name == 0) ≡ false
+    → alias_at known p name ≡ known_alias (lookup name known)
+named-member known p vs [] e h = absurd (cc)
+named-member known p vs (b ∷ bs) e h = ap (λ q. alias_at known q (b ∷ bs)) e
+
+pub named-entry : (known : Anchors) (p : Place) (ws : List Written) (k : Key) (name : List ℕ)
+    → p ≡ entry_value ws k → (length name == 0) ≡ false
+    → alias_at known p name ≡ known_alias (lookup name known)
+named-entry known p ws k [] e h = absurd (cc)
+named-entry known p ws k (b ∷ bs) e h = ap (λ q. alias_at known q (b ∷ bs)) e
