@@ -6,6 +6,7 @@ pub mod Ends
 pub mod Feeding
 pub mod Hitting
 pub mod Marks
+pub mod Masks
 pub mod Matching
 pub mod Places
 pub mod Reports

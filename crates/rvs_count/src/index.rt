@@ -127,7 +127,7 @@ impl<'g> Index<'g> {
         if head.more {
             self.add_list(0, facts, counts);
         } else {
-            add_marks(head.marks.as_slice(), &facts.signs, counts);
+            add_marks(head.marks.as_slice(), facts.signs, counts);
         }
     }
 

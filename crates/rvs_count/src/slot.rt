@@ -4,12 +4,11 @@ ghost use Rattle.std.proofs.Props.{props};
 ghost use Rattle.rvs_cgf.specs.GroupView.{point_view};
 ghost use Rattle.rvs_cgf.specs.Hits as hit;
 ghost use Rattle.rvs_count.specs.Shortcuts.{says};
-ghost use Rattle.rvs_count.specs.Signs.{signs_of};
+ghost use Rattle.rvs_count.specs.Signs.{signs_of, signs_word};
 ghost use Rattle.rvs_expr.specs.Meaning.{Table};
 ghost use Rattle.rvs_insn.specs.declared.op.Op as mnemonic;
 
 use crate::shortcut::{Shortcut, shortcut_of};
-use crate::taken::SIGNS;
 use rvs_cgf::Point;
 use rvs_expr::{Facts, Steps};
 use rvs_insn::Op;
@@ -47,10 +46,10 @@ impl<'g> Slot<'g> {
         &self,
         op: Op,
         facts: &F,
-        signs: &[bool; SIGNS],
+        signs: u32,
         steps: &mut Steps<L>,
     ) -> bool
-        requires { signs.now ≡ signs_of (F.table facts.now) }
+        requires { signs ≡ signs_word (signs_of (F.table facts.now)) }
         ensures { result ≡ hit.holds (point_view self.now.point.now) op (F.table facts.now) }
     {
         match self.shortcut {
