@@ -13,6 +13,7 @@ pub mod Reports
 pub mod Seen
 pub mod Sequels
 pub mod Shifts
+pub mod Sorting
 pub mod Streams
 pub mod Sums
 pub mod Turned

@@ -3,11 +3,13 @@ ghost use Rattle.std.specs.Prelude.{◌≡◌, IfSome};
 ghost use Rattle.std.proofs.Props.{props};
 ghost use Rattle.rvs_cgf.specs.GroupView.{point_view};
 ghost use Rattle.rvs_cgf.specs.Hits as hit;
+ghost use Rattle.rvs_count.specs.Buckets.{bucket_of};
 ghost use Rattle.rvs_count.specs.Shortcuts.{says};
 ghost use Rattle.rvs_count.specs.Signs.{signs_of, signs_word};
 ghost use Rattle.rvs_expr.specs.Meaning.{Table};
 ghost use Rattle.rvs_insn.specs.declared.op.Op as mnemonic;
 
+use crate::buckets::bucket_of;
 use crate::shortcut::{Shortcut, shortcut_of};
 use rvs_cgf::Point;
 use rvs_expr::{Facts, Steps};
@@ -20,7 +22,10 @@ use std::sync::ledger::Ledger;
 pub struct Slot<'g> {
     pub point: &'g Point,
     pub at: usize,
+    /// The list of a mnemonic in which it stands.
+    pub bucket: usize,
     pub shortcut: Option<Shortcut>,
+    ghost bucket_known: { bucket ≡ bucket_of (point_view point.now) } by { Prim.hlevel props },
     ghost same: { IfSome shortcut (λ s. (op : mnemonic.Op) (t : Table) →
         hit.holds (point_view point.now) op t ≡ says s op t) } by { Prim.hlevel props },
 }
@@ -35,6 +40,7 @@ impl<'g> Slot<'g> {
         Slot {
             point,
             at,
+            bucket: bucket_of(point),
             shortcut,
         }
     }
