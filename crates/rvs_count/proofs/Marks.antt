@@ -92,7 +92,7 @@ marks_add n op t (s ∷ slots) (m ∷ ms) cs o l has =
     let is : IsMark n s m = has.each 0 s m (omega arith) in
     marks_add n op t slots ms (raised (has_all (signs_word (signs_of t)) m.mask) m.at cs) o (omega arith)
     (tail_marks has)
-    ∙ ap (λ k. raised_all (λ p. holds p op t) (places slots) 
+    ∙ ap (λ k. raised_all (λ p. holds p op t) (places slots)
     (raised (has_all (signs_word (signs_of t)) m.mask) k cs))
     is.place
     ∙ ap (λ b. raised_all (λ p. holds p op t) (places slots) (raised b s.at cs))

@@ -114,9 +114,9 @@ lost_bit w m i h g = turn (has_all w m) refl
     turn false e = refl
     turn true e =
         let same : bit_at (bit_and w m) i ≡ bit_at m i =
-            ap (λ n. bit_at n i) (equal (bit_and w m) m e) in
+        ap (λ n. bit_at n i) (equal (bit_and w m) m e) in
         let none : bit_at (bit_and w m) i ≡ 0 =
-            bit_at_and w m i ∙ ap (λ n. min n (bit_at m i)) h ∙ none_min (bit_at m i) in
+        bit_at_and w m i ∙ ap (λ n. min n (bit_at m i)) h ∙ none_min (bit_at m i) in
         absurd (omega (arith, same, none, g))
 
 all_kept : (w f s t : ℕ) → f < 32 → s < 32 → t < 32 → bit_at w f ≡ 1 → bit_at w s ≡ 1

@@ -103,12 +103,12 @@ more_index labels lists lists' all list n bucket index len low whole part e =
     let q : (n * 365 + bucket) / 365 ≡ n = omega (arith, low) in
     let r : (n * 365 + bucket) % 365 ≡ bucket = omega (arith, low) in
     let mine : places list ≡ places_for (is_for (Insns n bucket)) 0 (aims_in labels) =
-        part ∙ ap (in_bucket bucket) whole ∙ bucket_for n bucket 0 (aims_in labels) in
+    part ∙ ap (in_bucket bucket) whole ∙ bucket_for n bucket 0 (aims_in labels) in
     let key : places list ≡ places_for (is_for (insns_key (n * 365 + bucket))) 0 (aims_in labels) =
-        mine
-        ∙ ap (λ k. places_for (is_for (Insns k bucket)) 0 (aims_in labels)) (sym q)
-        ∙ ap (λ b. places_for (is_for (Insns ((n * 365 + bucket) / 365) b)) 0 (aims_in labels))
-        (sym r) in
+    mine
+    ∙ ap (λ k. places_for (is_for (Insns k bucket)) 0 (aims_in labels)) (sym q)
+    ∙ ap (λ b. places_for (is_for (Insns ((n * 365 + bucket) / 365) b)) 0 (aims_in labels))
+    (sym r) in
     subst (IsIndex insns_key labels) (sym e) (record {
       each = λ k d h. pushed_at
           (λ k slots. places slots ≡ places_for (is_for (insns_key k)) 0 (aims_in labels)) lists

@@ -12,11 +12,7 @@ use rvs_cgf::Label;
 use std::alloc::Global;
 
 /// Adds a slot, where its point is of this bucket.
-fn add_slot<'g>(
-    list: &mut Items<Slot<'g>>,
-    slot: &Slot<'g>,
-    bucket: usize,
-) -> Result<(), NoMemory>
+fn add_slot<'g>(list: &mut Items<Slot<'g>>, slot: &Slot<'g>, bucket: usize) -> Result<(), NoMemory>
     ensures { OnOk result (places list.new
         ≡ places list.old ++ in_bucket bucket (place_of slot.now ∷ [])) }
 {
