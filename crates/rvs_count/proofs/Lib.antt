@@ -6,12 +6,14 @@ pub mod Ends
 pub mod Feeding
 pub mod Hitting
 pub mod Marks
+pub mod Masks
 pub mod Matching
 pub mod Places
 pub mod Reports
 pub mod Seen
 pub mod Sequels
 pub mod Shifts
+pub mod Sorting
 pub mod Streams
 pub mod Sums
 pub mod Turned

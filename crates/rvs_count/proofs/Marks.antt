@@ -16,13 +16,14 @@ use Rattle.rvs_count.specs.Buckets.{is_seen}
 use Rattle.rvs_count.specs.Counting.{aims_in, hits_insn}
 use Rattle.rvs_count.specs.Index.{insns_key, is_for, places, places_for, raised}
 use Rattle.rvs_count.specs.Index.{raised_all, IsIndex}
-use Rattle.rvs_count.specs.Marks.{are_so, raised_marks, HasHeads, HasMarks, IsHead}
+use Rattle.rvs_count.specs.Marks.{raised_marks, HasHeads, HasMarks, IsHead}
 use Rattle.rvs_count.specs.Marks.{IsMark}
-use Rattle.rvs_count.specs.Signs.{all_signs, signs_of}
+use Rattle.rvs_count.specs.Signs.{has_all, signs_of, signs_word}
 use Rattle.rvs_count.specs.State.{added}
 use Rattle.rvs_count.specs.declared.mark.Head.{Head}
 use Rattle.rvs_count.specs.declared.mark.Mark.{Mark}
 use Rattle.rvs_count.specs.declared.slot.Slot.{Slot}
+use Rattle.rvs_count.proofs.Masks.{first_always}
 use Rattle.rvs_count.proofs.Places.{added_bucket, slots_few, slots_low}
 
 -- ---- lists that grow
@@ -69,9 +70,10 @@ more_heads lists hs hs' n slots h has len low at is e =
 
 -- ---- marks
 -- the mnemonic of a list is that of the instructions that it is for
-pub always_so : (n : ℕ) (mnemonic op : Op) → number mnemonic ≡ n → number op ≡ n
-    → is_same mnemonic op ≡ true
-always_so n mnemonic op m o = same (number mnemonic) (number op) (m ∙ sym o)
+pub always_so : (n : ℕ) (mnemonic op : Op) (t : Table) → number mnemonic ≡ n → number op ≡ n
+    → is_same mnemonic op ≡ has_all (signs_word (signs_of t)) 1
+always_so n mnemonic op t m o =
+    same (number mnemonic) (number op) (m ∙ sym o) ∙ first_always t
   where
     same : (a b : ℕ) → a ≡ b → (a == b) ≡ true
     same a b h = grind (arith, nat_tests)
@@ -82,15 +84,16 @@ tail_marks has = record { each = λ k d e h. has.each (suc k) d e (omega arith) 
 
 pub marks_add : (n : ℕ) (op : Op) (t : Table) (slots : List Slot) (ms : List Mark) (cs : List ℕ)
     → number op ≡ n → length ms ≡ length slots → HasMarks n slots ms
-    → raised_marks (signs_of t) ms cs ≡ raised_all (λ p. holds p op t) (places slots) cs
+    → raised_marks (signs_word (signs_of t)) ms cs ≡ raised_all (λ p. holds p op t) (places slots) cs
 marks_add n op t [] [] cs o l has = refl
 marks_add n op t [] (m ∷ ms) cs o l has = absurd (omega arith)
 marks_add n op t (s ∷ slots) [] cs o l has = absurd (omega arith)
 marks_add n op t (s ∷ slots) (m ∷ ms) cs o l has =
     let is : IsMark n s m = has.each 0 s m (omega arith) in
-    marks_add n op t slots ms (raised (all_signs m.signs t) m.at cs) o (omega arith)
+    marks_add n op t slots ms (raised (has_all (signs_word (signs_of t)) m.mask) m.at cs) o (omega arith)
     (tail_marks has)
-    ∙ ap (λ k. raised_all (λ p. holds p op t) (places slots) (raised (all_signs m.signs t) k cs))
+    ∙ ap (λ k. raised_all (λ p. holds p op t) (places slots)
+    (raised (has_all (signs_word (signs_of t)) m.mask) k cs))
     is.place
     ∙ ap (λ b. raised_all (λ p. holds p op t) (places slots) (raised b s.at cs))
     (sym (is.says op t o))
@@ -103,20 +106,20 @@ marks_low n k (s ∷ slots) ms l has low i d h =
     omega (arith, is.place, low i s (omega arith))
 
 -- going over the marks
-pub marks_next : (signs : List Bool) (ms : List Mark) (k : ℕ) (d : Mark) (cs : List ℕ)
+pub marks_next : (signs : ℕ) (ms : List Mark) (k : ℕ) (d : Mark) (cs : List ℕ)
     → k < length ms
     → raised_marks signs (drop k ms) cs
     ≡ raised_marks signs (drop (k + 1) ms)
-    (raised (are_so signs (get_or ms k d).signs) (get_or ms k d).at cs)
+    (raised (has_all signs (get_or ms k d).mask) (get_or ms k d).at cs)
 marks_next signs [] k d cs h = absurd (omega arith)
 marks_next signs (m ∷ ms) zero d cs h = refl
 marks_next signs (m ∷ ms) (suc k) d cs h =
     let e : suc k + 1 ≡ suc (k + 1) = omega arith in
     marks_next signs ms k d cs (omega arith)
     ∙ ap (λ n. raised_marks signs (drop n (m ∷ ms))
-    (raised (are_so signs (get_or ms k d).signs) (get_or ms k d).at cs)) (sym e)
+    (raised (has_all signs (get_or ms k d).mask) (get_or ms k d).at cs)) (sym e)
 
-pub marks_over : (signs : List Bool) (ms : List Mark) (k : ℕ) (cs : List ℕ) → length ms ≤ k
+pub marks_over : (signs : ℕ) (ms : List Mark) (k : ℕ) (cs : List ℕ) → length ms ≤ k
     → raised_marks signs (drop k ms) cs ≡ cs
 marks_over signs [] zero cs h = refl
 marks_over signs [] (suc k) cs h = refl
@@ -128,7 +131,7 @@ pub added_marks : (labels : List Label) (lists : List (List Slot)) (i : Fields) 
     (h : Head) (cs cs' : List ℕ)
     → IsIndex insns_key labels lists → n * 365 < length lists → n ≡ number i.op
     → length cs ≡ length (aims_in labels) → IsHead n (get_or lists (n * 365) []) h
-    → h.more ≡ false → cs' ≡ raised_marks (signs_of (facts_of i v1 v2)) h.marks cs
+    → h.more ≡ false → cs' ≡ raised_marks (signs_word (signs_of (facts_of i v1 v2))) h.marks cs
     → cs' ≡ added (λ a. is_seen (Some 0) a.point && hits_insn a (Some i) v1 v2) (aims_in labels) cs
 added_marks labels lists i v1 v2 n h cs cs' index l same len is m e =
     let key : n * 365 ≡ n * 365 + 0 = omega arith in

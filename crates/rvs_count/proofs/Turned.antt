@@ -87,7 +87,3 @@ one_more t k = and_true (sign_at k t)
 pub two_and_one : (t : Table) (b : Bool) → b ≡ (b && sign_at 0 t)
 unfolding signs_of
 two_and_one t b = and_true b
-
-pub signs_length : (t : Table) → length (signs_of t) ≡ 19
-unfolding signs_of
-signs_length t = refl

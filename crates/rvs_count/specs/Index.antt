@@ -15,7 +15,7 @@ use Rattle.rvs_count.specs.Buckets.{bucket_of, is_seen}
 use Rattle.rvs_count.specs.State.{added}
 use Rattle.rvs_count.specs.Counting.{Aim, aims_in}
 use Rattle.rvs_count.specs.declared.key.ListKey.{ListKey}
-use Rattle.rvs_count.specs.declared.key.ListKey.TheVariants.{Insns, Windows}
+use Rattle.rvs_count.specs.declared.key.ListKey.TheVariants.{Any, Insns, Windows}
 use Rattle.rvs_count.specs.declared.slot.Slot.{Slot}
 
 -- a point, and its place among the counts
@@ -50,11 +50,13 @@ window_fits count n _ = false
 -- the point stands in the list of this key, under a label that the list admits
 abbrev pub stands : ListKey → Point → Bool
 stands (Insns n bucket) p = bucket_of p == bucket && meaning_fits n p.meaning
+stands (Any n) p = meaning_fits n p.meaning
 stands (Windows count n) p = window_fits count n p.meaning
 
 -- a cross point is looked for whatever its label's mnemonics
 abbrev pub admits : ListKey → List Op → Bool
 admits (Insns n bucket) ops = has_number n ops
+admits (Any n) ops = has_number n ops
 admits (Windows count n) ops = true
 
 abbrev pub is_for : ListKey → Aim → Bool
@@ -84,6 +86,15 @@ places_in key at (p ∷ ps) =
     elim (stands key p) [
       | true ↦ (p, at) ∷ places_in key (at + 1) ps
       | false ↦ places_in key (at + 1) ps
+    ]
+
+-- the places whose points are of a bucket
+abbrev pub in_bucket : ℕ → List Place → List Place
+in_bucket bucket [] = []
+in_bucket bucket (p ∷ ps) =
+    elim (bucket_of p.0 == bucket) [
+      | true ↦ p ∷ in_bucket bucket ps
+      | false ↦ in_bucket bucket ps
     ]
 
 -- lists for the first numbers

@@ -1,5 +1,5 @@
 -- First lists, by the signs that their points say.
-use Rattle.std.specs.Prelude.{◌≡◌, ℕ, ◌*◌, ◌<◌, Bool, false, ◌&&◌, List, [], ◌∷◌, length}
+use Rattle.std.specs.Prelude.{◌≡◌, ℕ, ◌*◌, ◌<◌, false, List, [], ◌∷◌, length}
 use Rattle.std.specs.Prelude.{slice_index_or}
 use Rattle.rvs_cgf.specs.GroupView.{point_view}
 use Rattle.rvs_cgf.specs.Hits.{holds}
@@ -7,34 +7,29 @@ use Rattle.rvs_expr.specs.Meaning.{Table}
 use Rattle.rvs_facts.specs.Mnemonics.{is_same, number}
 use Rattle.rvs_insn.specs.declared.op.Op.{Op}
 use Rattle.rvs_count.specs.Index.{raised}
-use Rattle.rvs_count.specs.Signs.{all_signs}
+use Rattle.rvs_count.specs.Signs.{has_all, signs_of, signs_word}
 use Rattle.rvs_count.specs.declared.mark.Mark.{Mark}
 use Rattle.rvs_count.specs.declared.mark.Head.{Head}
-use Rattle.rvs_count.specs.declared.signs.Signs.{Signs}
 use Rattle.rvs_count.specs.declared.slot.Slot.{Slot}
 
--- the signs are so where an instruction of the mnemonic of this number has this mnemonic
-abbrev pub SaysMnemonic : ℕ → Op → Signs → Type 0
-SaysMnemonic n mnemonic signs = (op : Op) (t : Table) → number op ≡ n
-    → is_same mnemonic op ≡ all_signs signs t
+-- the signs have all bits of a mask where an instruction of the mnemonic of this number has this
+-- mnemonic
+abbrev pub SaysMnemonic : ℕ → Op → ℕ → Type 0
+SaysMnemonic n mnemonic mask = (op : Op) (t : Table) → number op ≡ n
+    → is_same mnemonic op ≡ has_all (signs_word (signs_of t)) mask
 
 -- a mark stands for a point: instructions of the mnemonic of this number hit it where they have its
 -- signs
 pub record IsMark (n : ℕ) (s : Slot) (m : Mark) : Type 0 where
   pub place : m.at ≡ s.at
   pub says : (op : Op) (t : Table) → number op ≡ n
-      → holds (point_view s.point.now) op t ≡ all_signs m.signs t
+      → holds (point_view s.point.now) op t ≡ has_all (signs_word (signs_of t)) m.mask
 
--- all three are so
-abbrev pub are_so : List Bool → Signs → Bool
-are_so signs s = (slice_index_or signs s.first false && slice_index_or signs s.second false)
-    && slice_index_or signs s.third false
-
--- the counts after marks, of which those are hit whose signs are so
-abbrev pub raised_marks : List Bool → List Mark → List ℕ → List ℕ
-raised_marks signs [] counts = counts
-raised_marks signs (m ∷ ms) counts =
-    raised_marks signs ms (raised (are_so signs m.signs) m.at counts)
+-- the counts after marks, of which those are hit whose bits this word has
+abbrev pub raised_marks : ℕ → List Mark → List ℕ → List ℕ
+raised_marks word [] counts = counts
+raised_marks word (m ∷ ms) counts =
+    raised_marks word ms (raised (has_all word m.mask) m.at counts)
 
 -- marks for the first points
 pub record HasMarks (n : ℕ) (slots : List Slot) (marks : List Mark) : Type 0 where

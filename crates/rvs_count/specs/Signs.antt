@@ -1,7 +1,7 @@
 -- What instructions are told apart by, where neither a number nor a register says it alone: signs,
 -- and what is equal.
 use Rattle.std.specs.Prelude.{ℕ, ℤ, pos, Bool, true, false, ◌&&◌, List, [], ◌∷◌, Option, Some}
-use Rattle.std.specs.Prelude.{slice_index_or}
+use Rattle.std.specs.Prelude.{◌+◌, ◌*◌, ◌%◌, ◌^◌, ◌==◌, bit_and, bit_or, if◌then◌else◌, slice_index_or}
 use Rattle.rvs_expr_text.specs.declared.lexeme.NumName.TheVariants.{Rs1Val, Rs2Val, ImmVal}
 use Rattle.rvs_expr_text.specs.declared.lexeme.RegName.TheVariants.{Rd, Rs1, Rs2}
 use Rattle.rvs_expr.specs.declared.formula.Comparison.{Comparison}
@@ -44,6 +44,20 @@ signs rd rs1 rs2 rs1_val rs2_val imm_val =
 -- those of a table
 unfoldable pub signs_of : Table → List Bool
 signs_of t = signs (t.reg Rd) (t.reg Rs1) (t.reg Rs2) (t.num Rs1Val) (t.num Rs2Val) (t.num ImmVal)
+
+-- signs as the bits of a word, the first as the lowest
+abbrev pub signs_word : List Bool → ℕ
+signs_word [] = 0
+signs_word (b ∷ bs) = (if b then 1 else 0) + 2 * signs_word bs
+
+-- the bits of three signs
+abbrev pub mask : ℕ → ℕ → ℕ → ℕ
+mask first second third =
+    bit_or (bit_or (1 * 2 ^ first % 2 ^ 32) (1 * 2 ^ second % 2 ^ 32)) (1 * 2 ^ third % 2 ^ 32)
+
+-- a word has all bits of a mask
+abbrev pub has_all : ℕ → ℕ → Bool
+has_all word mask = bit_and word mask == mask
 
 -- one of them
 abbrev pub sign_at : ℕ → Table → Bool

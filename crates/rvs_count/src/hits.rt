@@ -3,11 +3,10 @@ ghost use Rattle.std.specs.Prelude.{◌≡◌, ◌<◌, ◌≤◌, ◌+◌, ◌^
 ghost use Rattle.rvs_cgf.specs.Hits.{holds};
 ghost use Rattle.rvs_facts.specs.Facts.{facts_of};
 ghost use Rattle.rvs_count.specs.Index.{places, raised, raised_all};
-ghost use Rattle.rvs_count.specs.Signs.{signs_of};
+ghost use Rattle.rvs_count.specs.Signs.{signs_of, signs_word};
 
 use crate::known_facts::Known;
 use crate::slot::Slot;
-use crate::taken::SIGNS;
 use rvs_expr::{Facts, Steps};
 use rvs_insn::Op;
 use std::marker::Brand;
@@ -28,11 +27,11 @@ fn add_hits<F: Facts, L: Ledger>(
     slots: &[Slot<'_>],
     op: Op,
     facts: &F,
-    signs: &[bool; SIGNS],
+    signs: u32,
     counts: &mut Vec<u64>,
     steps: &mut Steps<L>,
 )
-    requires signs { signs.now ≡ signs_of (F.table facts.now) }
+    requires signs { signs ≡ signs_word (signs_of (F.table facts.now)) }
     requires within { All (λ s. s.at < vec_len counts.old) slots.now }
     requires few { length slots.now ≤ vec_len counts.old }
     requires low { All (λ n. n ≤ 2 ^ 41) counts.old.items }
@@ -64,7 +63,7 @@ fn add_counted<L: Ledger>(
 {
     let mut steps: Steps<L> = Steps::new(blank);
     let insn = facts.insn;
-    add_hits(slots, insn.op, facts, &facts.signs, counts, &mut steps);
+    add_hits(slots, insn.op, facts, facts.signs, counts, &mut steps);
 }
 
 /// Adds one to the counts of the points that an instruction hits.

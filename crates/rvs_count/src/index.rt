@@ -14,11 +14,11 @@ use crate::asked::{Asked, asked_bucket};
 use crate::buckets::BUCKETS;
 use crate::cell::{Cell, add_cell, cells};
 use crate::hits::add_insn;
-use crate::key::{ListKey, MNEMONICS};
+use crate::key::MNEMONICS;
 use crate::known_facts::{Known, take_facts};
 use crate::mark::{Head, add_marks, heads};
 use crate::slot::Slot;
-use crate::slots::slots_of;
+use crate::sorted::add_lists;
 use rvs_base::{Items, NoMemory};
 use rvs_cgf::Label;
 use rvs_facts::number;
@@ -26,9 +26,6 @@ use rvs_insn::Insn;
 use rvs_log::{Registers, facts_of};
 use std::alloc::Global;
 use std::marker::Model;
-
-/// How many lists there are: for each mnemonic one a bucket.
-const LISTS: usize = MNEMONICS * BUCKETS;
 
 /// The points of the selected labels by mnemonic and by shape, but no cross points: an instruction
 /// is held against few of the points of its own mnemonic's labels.
@@ -69,8 +66,8 @@ fn lists<'g>(alloc: Global, labels: &'g [Label]) -> Result<Items<Items<Slot<'g>>
     ensures all { IfOk result (λ lists. length lists ≡ 17520) }
 {
     let mut lists = Items::new(alloc);
-    for number in 0..LISTS {
-        lists.push(slots_of(alloc, labels, ListKey::of_insns(number))?)?;
+    for mnemonic in 0..MNEMONICS {
+        add_lists(alloc, &mut lists, labels, mnemonic)?;
     }
     Ok(lists)
 }
@@ -127,7 +124,7 @@ impl<'g> Index<'g> {
         if head.more {
             self.add_list(0, facts, counts);
         } else {
-            add_marks(head.marks.as_slice(), &facts.signs, counts);
+            add_marks(head.marks.as_slice(), facts.signs, counts);
         }
     }
 

@@ -2,8 +2,6 @@
 ghost use Rattle.std.specs.Prelude.{◌≡◌};
 ghost use Rattle.rvs_count.specs.Index as spec;
 
-use crate::buckets::BUCKETS;
-
 /// How many mnemonics there are.
 pub(crate) const MNEMONICS: usize = 48;
 
@@ -12,23 +10,16 @@ pub(crate) const MNEMONICS: usize = 48;
 pub(crate) enum ListKey {
     /// Those of a bucket that an instruction of the mnemonic of this number may hit.
     Insns { mnemonic: usize, bucket: usize },
+    /// Those of all buckets, and cross points, that an instruction of the mnemonic of this number
+    /// may hit.
+    Any { mnemonic: usize },
     /// The cross points of so many places of which an instruction of the mnemonic of this number
     /// may be the first.
     Windows { places: usize, mnemonic: usize },
 }
 
 impl ListKey {
-    /// What the list of this number has, among those for single instructions.
-    pub(crate) fn of_insns(number: usize) -> ListKey
-        ensures { result ≡ spec.insns_key number }
-    {
-        ListKey::Insns {
-            mnemonic: number / BUCKETS,
-            bucket: number % BUCKETS,
-        }
-    }
-
-    /// The same among those for neighbours.
+    /// What the list of this number has, among those for neighbours.
     pub(crate) fn of_windows(number: usize) -> ListKey
         ensures { result ≡ spec.windows_key number }
     {

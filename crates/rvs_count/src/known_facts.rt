@@ -5,10 +5,10 @@ ghost use Rattle.rvs_expr_text.specs.declared.lexeme.NumName.TheVariants.{Rs1Val
 ghost use Rattle.rvs_expr_text.specs.declared.lexeme.NumName.TheVariants.{EaAlign};
 ghost use Rattle.rvs_facts.specs.Facts.{facts_of, num_of};
 ghost use Rattle.rvs_count.specs.Cells.{fact};
-ghost use Rattle.rvs_count.specs.Signs.{signs_of};
+ghost use Rattle.rvs_count.specs.Signs.{signs_of, signs_word};
 
 use crate::asked::Asked;
-use crate::taken::{Operands, SIGNS, take_signs};
+use crate::taken::{Operands, take_signs};
 use rvs_expr::{Facts, NumName, RegName};
 use rvs_facts::InsnFacts;
 use rvs_insn::Insn;
@@ -24,8 +24,9 @@ pub(crate) struct Known<'i> {
     pub rs2_val: Option<i64>,
     pub imm_val: Option<i64>,
     pub ea_align: Option<i64>,
-    pub signs: [bool; SIGNS],
-    ghost signs_known: { signs ≡ signs_of (facts_of insn.now first second) } by { Prim.hlevel props },
+    /// Its signs, as the bits of a word.
+    pub signs: u32,
+    ghost signs_known: { signs ≡ signs_word (signs_of (facts_of insn.now first second)) } by { Prim.hlevel props },
     ghost rs1_known: { rs1_val ≡ num_of insn.now first second Rs1Val } by { Prim.hlevel props },
     ghost rs2_known: { rs2_val ≡ num_of insn.now first second Rs2Val } by { Prim.hlevel props },
     ghost imm_known: { imm_val ≡ num_of insn.now first second ImmVal } by { Prim.hlevel props },

@@ -20,6 +20,7 @@ mod shortcut;
 mod signs;
 mod slot;
 mod slots;
+mod sorted;
 mod taken;
 mod tally;
 mod whole;

@@ -1,25 +1,28 @@
 // First lists, by the signs that their points say.
 ghost use Rattle.std.specs.Prelude.{◌≡◌, ◌<◌, ◌≤◌, ◌^◌, All, IfOk, IfSome, length, vec_len};
+ghost use Rattle.rvs_expr.specs.Meaning.{Table};
+ghost use Rattle.rvs_insn.specs.declared.op.Op as mnemonic;
 ghost use Rattle.rvs_count.specs.Marks as spec;
 ghost use Rattle.rvs_count.specs.Marks.{HasHeads, IsHead, IsMark};
+ghost use Rattle.rvs_count.specs.Shortcuts.{says};
+ghost use Rattle.rvs_count.specs.Signs.{has_all, signs_of, signs_word};
 
 use crate::buckets::BUCKETS;
 use crate::hits::raise;
 use crate::key::MNEMONICS;
 use crate::shortcut::Shortcut;
-use crate::signs::Signs;
 use crate::slot::Slot;
-use crate::taken::{SIGNS, are_so};
+use crate::taken::{has_all, mask_of};
 use rvs_base::{Items, NoMemory};
 use rvs_facts::number;
 use rvs_insn::Op;
 use std::alloc::Global;
 
-/// What a point says, where that is signs: its place among the counts, and the signs.
+/// What a point says, where that is signs: its place among the counts, and the bits of the signs.
 #[derive(Clone, Copy)]
 pub struct Mark {
     pub at: usize,
-    pub signs: Signs,
+    pub mask: u32,
 }
 
 /// The points of a first list, where each says signs or the list's mnemonic.
@@ -31,20 +34,31 @@ pub struct Head {
 }
 
 /// The mark of a point that says a mnemonic, in the list of the mnemonic of this number.
-#[tactic(auto, unfolding(crate::specs::Signs::signs_of), using(crate::proofs::Marks::always_so))]
+#[tactic(auto, using(crate::proofs::Marks::always_so))]
 fn always(mnemonic: usize, op: Op, at: usize) -> Option<Mark>
     ensures at { IfSome result (λ m. m.at ≡ at) }
-    ensures says { IfSome result (λ m. spec.SaysMnemonic mnemonic op m.signs) }
+    ensures says { IfSome result (λ m. spec.SaysMnemonic mnemonic op m.mask) }
 {
     if number(op) == mnemonic {
-        let signs = Signs {
-            first: 0,
-            second: 0,
-            third: 0,
-        };
-        Some(Mark { at, signs })
+        Some(Mark { at, mask: 1 })
     } else {
         None
+    }
+}
+
+/// The mark of a point that says signs.
+#[tactic(auto, using(crate::proofs::Masks::three_masked))]
+fn signed(shortcut: Shortcut, at: usize) -> Option<Mark>
+    ensures at { IfSome result (λ m. m.at ≡ at) }
+    ensures says { IfSome result (λ m. (op : mnemonic.Op) (t : Table) →
+        says shortcut op t ≡ has_all (signs_word (signs_of t)) m.mask) }
+{
+    match shortcut {
+        Shortcut::Three(signs) => Some(Mark {
+            at,
+            mask: mask_of(signs),
+        }),
+        _ => None,
     }
 }
 
@@ -53,8 +67,8 @@ fn mark_of(mnemonic: usize, slot: &Slot<'_>) -> Option<Mark>
 {
     match slot.shortcut {
         Some(Shortcut::Mnemonic(op)) => always(mnemonic, op, slot.at),
-        Some(Shortcut::Three(signs)) => Some(Mark { at: slot.at, signs }),
-        _ => None,
+        Some(shortcut) => signed(shortcut, slot.at),
+        None => None,
     }
 }
 
@@ -91,17 +105,16 @@ pub(crate) fn heads(alloc: Global, lists: &[Items<Slot<'_>>]) -> Result<Items<He
     Ok(heads)
 }
 
-/// Adds one to the counts of the marks whose signs are so.
+/// Adds one to the counts of the marks whose bits these signs have.
 #[inline(always)]
-pub(crate) fn add_marks(marks: &[Mark], signs: &[bool; SIGNS], counts: &mut Vec<u64>)
-    requires signs { length signs.now ≡ 19 }
+pub(crate) fn add_marks(marks: &[Mark], signs: u32, counts: &mut Vec<u64>)
     requires within { All (λ m. m.at < vec_len counts.old) marks.now }
     requires few { length marks.now ≤ vec_len counts.old }
     requires low { All (λ n. n ≤ 2 ^ 41) counts.old.items }
-    ensures { counts.new.items ≡ spec.raised_marks signs.now marks.now counts.old.items }
+    ensures { counts.new.items ≡ spec.raised_marks signs marks.now counts.old.items }
 {
     for mark in marks {
-        let hit = are_so(signs, mark.signs);
+        let hit = has_all(signs, mark.mask);
         raise(counts, mark.at, hit);
     }
 }

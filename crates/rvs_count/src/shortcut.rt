@@ -4,7 +4,7 @@ ghost use Rattle.rvs_cgf.specs.GroupView.{point_view};
 ghost use Rattle.rvs_cgf.specs.Groups.{reg_is};
 ghost use Rattle.rvs_cgf.specs.Hits as hit;
 ghost use Rattle.rvs_count.specs.Shortcuts as spec;
-ghost use Rattle.rvs_count.specs.Signs.{signs_of};
+ghost use Rattle.rvs_count.specs.Signs.{all_signs, signs_of, signs_word};
 ghost use Rattle.rvs_expr.specs.Equated as equated;
 ghost use Rattle.rvs_expr.specs.Meaning.{Table, holds};
 ghost use Rattle.rvs_expr.specs.TypedView.{view};
@@ -12,7 +12,7 @@ ghost use Rattle.rvs_insn.specs.declared.op.Op as mnemonic;
 
 use crate::said::signs_said;
 use crate::signs::Signs;
-use crate::taken::{SIGNS, are_so};
+use crate::taken::{has_all, mask_of};
 use rvs_cgf::{Kind, Meaning, Point};
 use rvs_expr::{Expr, Facts, NumName, RegName};
 use rvs_facts::is_same;
@@ -51,19 +51,29 @@ fn is_register(number: u8, found: Option<u8>) -> bool
     }
 }
 
+/// Whether three signs are so of these facts, which have these signs.
+#[tactic(auto, using(crate::proofs::Masks::three_say))]
+#[inline(always)]
+fn are_so<F: Facts>(facts: &F, signs: u32, three: Signs) -> bool
+    requires { signs ≡ signs_word (signs_of (F.table facts.now)) }
+    ensures { result ≡ all_signs three (F.table facts.now) }
+{
+    let _ = facts;
+    has_all(signs, mask_of(three))
+}
+
 impl Shortcut {
     /// Whether it is so of an instruction of this mnemonic, with these facts and their signs.
-    #[tactic(auto, using(crate::proofs::Turned::signs_length))]
     #[inline(always)]
-    pub(crate) fn holds<F: Facts>(self, op: Op, facts: &F, signs: &[bool; SIGNS]) -> bool
-        requires { signs.now ≡ signs_of (F.table facts.now) }
+    pub(crate) fn holds<F: Facts>(self, op: Op, facts: &F, signs: u32) -> bool
+        requires { signs ≡ signs_word (signs_of (F.table facts.now)) }
         ensures { result ≡ spec.says self op (F.table facts.now) }
     {
         match self {
             Shortcut::Mnemonic(mnemonic) => is_same(mnemonic, op),
             Shortcut::Register(name, number) => is_register(number, facts.reg(name)),
             Shortcut::Number(name, value) => is_value(value, facts.num(name)),
-            Shortcut::Three(three) => are_so(signs, three),
+            Shortcut::Three(three) => are_so(facts, signs, three),
         }
     }
 }

@@ -3,13 +3,14 @@ ghost use Rattle.std.specs.Prelude.{◌≡◌, IfSome};
 ghost use Rattle.std.proofs.Props.{props};
 ghost use Rattle.rvs_cgf.specs.GroupView.{point_view};
 ghost use Rattle.rvs_cgf.specs.Hits as hit;
+ghost use Rattle.rvs_count.specs.Buckets.{bucket_of};
 ghost use Rattle.rvs_count.specs.Shortcuts.{says};
-ghost use Rattle.rvs_count.specs.Signs.{signs_of};
+ghost use Rattle.rvs_count.specs.Signs.{signs_of, signs_word};
 ghost use Rattle.rvs_expr.specs.Meaning.{Table};
 ghost use Rattle.rvs_insn.specs.declared.op.Op as mnemonic;
 
+use crate::buckets::bucket_of;
 use crate::shortcut::{Shortcut, shortcut_of};
-use crate::taken::SIGNS;
 use rvs_cgf::Point;
 use rvs_expr::{Facts, Steps};
 use rvs_insn::Op;
@@ -21,7 +22,10 @@ use std::sync::ledger::Ledger;
 pub struct Slot<'g> {
     pub point: &'g Point,
     pub at: usize,
+    /// The list of a mnemonic in which it stands.
+    pub bucket: usize,
     pub shortcut: Option<Shortcut>,
+    ghost bucket_known: { bucket ≡ bucket_of (point_view point.now) } by { Prim.hlevel props },
     ghost same: { IfSome shortcut (λ s. (op : mnemonic.Op) (t : Table) →
         hit.holds (point_view point.now) op t ≡ says s op t) } by { Prim.hlevel props },
 }
@@ -36,6 +40,7 @@ impl<'g> Slot<'g> {
         Slot {
             point,
             at,
+            bucket: bucket_of(point),
             shortcut,
         }
     }
@@ -47,10 +52,10 @@ impl<'g> Slot<'g> {
         &self,
         op: Op,
         facts: &F,
-        signs: &[bool; SIGNS],
+        signs: u32,
         steps: &mut Steps<L>,
     ) -> bool
-        requires { signs.now ≡ signs_of (F.table facts.now) }
+        requires { signs ≡ signs_word (signs_of (F.table facts.now)) }
         ensures { result ≡ hit.holds (point_view self.now.point.now) op (F.table facts.now) }
     {
         match self.shortcut {

@@ -73,6 +73,7 @@ fn stands_in(key: ListKey, point: &Point) -> bool
         ListKey::Insns { mnemonic, bucket } => {
             bucket_of(point) == bucket && fits(mnemonic, point)
         },
+        ListKey::Any { mnemonic } => fits(mnemonic, point),
         ListKey::Windows { places, mnemonic } => fits_window(places, mnemonic, point),
     }
 }
@@ -138,6 +139,7 @@ fn admits(key: ListKey, ops: &[Op]) -> bool
 {
     match key {
         ListKey::Insns { mnemonic, .. } => has(ops, mnemonic),
+        ListKey::Any { mnemonic } => has(ops, mnemonic),
         ListKey::Windows { .. } => true,
     }
 }
@@ -167,7 +169,7 @@ fn add_label<'g>(
 }
 
 /// The same list in no more memory than it needs, so that lists lie close together.
-fn fitted<'g>(alloc: Global, slots: &[Slot<'g>]) -> Result<Items<Slot<'g>>, NoMemory>
+pub(crate) fn fitted<'g>(alloc: Global, slots: &[Slot<'g>]) -> Result<Items<Slot<'g>>, NoMemory>
     ensures { IfOk result (λ list. list ≡ slots.now) }
 {
     Ok(Items::from(Vec::from_slice(alloc, slots)?))

@@ -1,13 +1,10 @@
 // The signs of an instruction.
-ghost use Rattle.std.specs.Prelude.{◌≡◌, ◌<◌, ◌&&◌, length, slice_index_or, false};
+ghost use Rattle.std.specs.Prelude.{◌≡◌, ◌<◌, ◌≤◌, ◌+◌, ◌*◌, ◌^◌, if◌then◌else◌};
 ghost use Rattle.rvs_expr.specs.Meaning.{compare, equation};
 ghost use Rattle.rvs_count.specs.Signs as spec;
 
 use crate::signs::Signs;
 use rvs_expr::Comparison;
-
-/// How many signs there are.
-pub(crate) const SIGNS: usize = 19;
 
 #[inline(always)]
 fn compare(op: Comparison, left: i64, right: i64) -> bool
@@ -69,41 +66,55 @@ pub(crate) struct Operands {
     pub imm_val: Option<i64>,
 }
 
-/// The signs of these operands.
+/// A sign below the signs of a word.
 #[inline(always)]
-pub(crate) fn take_signs(o: Operands) -> [bool; SIGNS]
-    ensures { result ≡ spec.signs o.rd o.rs1 o.rs2 o.rs1_val o.rs2_val o.imm_val }
+fn below(sign: bool, rest: u32) -> u32
+    requires { rest < 2 ^ 31 }
+    ensures value { result ≡ (if sign then 1 else 0) + 2 * rest }
+    ensures low { result ≤ 2 * rest + 1 }
 {
-    [
-        true,
-        compares(Comparison::Below, o.rs1_val, Some(0)),
-        compares(Comparison::Equal, o.rs1_val, Some(0)),
-        compares(Comparison::Above, o.rs1_val, Some(0)),
-        compares(Comparison::Below, o.rs2_val, Some(0)),
-        compares(Comparison::Equal, o.rs2_val, Some(0)),
-        compares(Comparison::Above, o.rs2_val, Some(0)),
-        compares(Comparison::Below, o.imm_val, Some(0)),
-        compares(Comparison::Equal, o.imm_val, Some(0)),
-        compares(Comparison::Above, o.imm_val, Some(0)),
-        compares(Comparison::Equal, o.rs1_val, o.rs2_val),
-        compares(Comparison::Unequal, o.rs1_val, o.rs2_val),
-        relates(true, o.rd, o.rs1),
-        relates(false, o.rd, o.rs1),
-        relates(true, o.rd, o.rs2),
-        relates(false, o.rd, o.rs2),
-        relates(true, o.rs1, o.rs2),
-        relates(false, o.rs1, o.rs2),
-        relates(true, o.rd, Some(0)),
-    ]
+    u32::from(sign) + 2 * rest
 }
 
-/// Whether all three are so.
+/// The signs of these operands, as the bits of a word.
 #[inline(always)]
-pub(crate) fn are_so(signs: &[bool], three: Signs) -> bool
-    requires { length signs.now ≡ 19 }
-    ensures { result ≡ (slice_index_or signs.now three.first false
-        && slice_index_or signs.now three.second false)
-        && slice_index_or signs.now three.third false }
+pub(crate) fn take_signs(o: Operands) -> u32
+    ensures { result
+        ≡ spec.signs_word (spec.signs o.rd o.rs1 o.rs2 o.rs1_val o.rs2_val o.imm_val) }
 {
-    signs[three.first] & signs[three.second] & signs[three.third]
+    let word = below(relates(true, o.rd, Some(0)), 0);
+    let word = below(relates(false, o.rs1, o.rs2), word);
+    let word = below(relates(true, o.rs1, o.rs2), word);
+    let word = below(relates(false, o.rd, o.rs2), word);
+    let word = below(relates(true, o.rd, o.rs2), word);
+    let word = below(relates(false, o.rd, o.rs1), word);
+    let word = below(relates(true, o.rd, o.rs1), word);
+    let word = below(compares(Comparison::Unequal, o.rs1_val, o.rs2_val), word);
+    let word = below(compares(Comparison::Equal, o.rs1_val, o.rs2_val), word);
+    let word = below(compares(Comparison::Above, o.imm_val, Some(0)), word);
+    let word = below(compares(Comparison::Equal, o.imm_val, Some(0)), word);
+    let word = below(compares(Comparison::Below, o.imm_val, Some(0)), word);
+    let word = below(compares(Comparison::Above, o.rs2_val, Some(0)), word);
+    let word = below(compares(Comparison::Equal, o.rs2_val, Some(0)), word);
+    let word = below(compares(Comparison::Below, o.rs2_val, Some(0)), word);
+    let word = below(compares(Comparison::Above, o.rs1_val, Some(0)), word);
+    let word = below(compares(Comparison::Equal, o.rs1_val, Some(0)), word);
+    let word = below(compares(Comparison::Below, o.rs1_val, Some(0)), word);
+    below(true, word)
+}
+
+/// The bits of three signs.
+#[inline(always)]
+pub(crate) fn mask_of(three: Signs) -> u32
+    ensures { result ≡ spec.mask three.first three.second three.third }
+{
+    1u32 << three.first | 1u32 << three.second | 1u32 << three.third
+}
+
+/// Whether a word has all bits of a mask.
+#[inline(always)]
+pub(crate) fn has_all(word: u32, mask: u32) -> bool
+    ensures { result ≡ spec.has_all word mask }
+{
+    word & mask == mask
 }

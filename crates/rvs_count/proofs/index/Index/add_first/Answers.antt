@@ -1,4 +1,4 @@
-use Rattle.std.proofs.Common.{◌≡◌, ◌*◌, ◌<◌, ◌&&◌, Bool, List, [], Some, sym, ap, subst, ◌∙◌, All}
+use Rattle.std.proofs.Common.{ℕ, ◌≡◌, ◌*◌, ◌<◌, ◌&&◌, Bool, List, [], Some, sym, ap, subst, ◌∙◌, All}
 use Rattle.std.proofs.Common.{arith}
 use Rattle.std.proofs.Common.{length, get_or, vec_len}
 use Rattle.rvs_cgf.specs.declared.group.Label.{Label}
@@ -74,7 +74,7 @@ returns-else-head c =
     (c.add_marks.ensures
     ∙ ap (λ (ms : List Mark). raised_marks c.args.facts.now.signs ms cs)
     c.as_slice-else-head.ensures
-    ∙ ap (λ (bs : List Bool). raised_marks bs h.marks cs) c.args.facts.now.signs_known)
+    ∙ ap (λ (w : ℕ). raised_marks w h.marks cs) c.args.facts.now.signs_known)
     ∙ ap (λ (ls : List Label). added (λ a. is_seen (Some 0) a.point
     && hits_insn a (Some c.args.facts.now.insn.now) c.args.facts.now.first c.args.facts.now.second)
     (aims_in ls) cs) labels

@@ -1,0 +1,118 @@
+-- The points of a mnemonic, bucket by bucket.
+use Rattle.std.proofs.Common.{◌≡◌, ℕ, zero, suc, ◌+◌, ◌*◌, ◌/◌, ◌%◌, ◌<◌, Bool, true, false, ◌&&◌}
+use Rattle.std.proofs.Common.{List, [], ◌∷◌, ◌++◌, refl, sym, ap, subst, ◌∙◌, arith, length, drop}
+use Rattle.std.proofs.Common.{get_or}
+use Rattle.std.proofs.lemmas.List.{append_assoc}
+use Rattle.std.specs.Prelude.{◌==◌}
+use Rattle.rvs_cgf.specs.declared.group.Label.{Label}
+use Rattle.rvs_count.specs.Buckets.{bucket_of}
+use Rattle.rvs_count.specs.Counting.{Aim, aims_in}
+use Rattle.rvs_count.specs.Index.{Place, place_of, places, places_for, in_bucket, insns_key, is_for}
+use Rattle.rvs_count.specs.Index.{has_number, meaning_fits, IsIndex}
+use Rattle.rvs_count.specs.declared.key.ListKey.TheVariants.{Any, Insns}
+use Rattle.rvs_count.specs.declared.slot.Slot.{Slot}
+
+-- the next slot
+next_slot : (bucket : ℕ) (slots : List Slot) (k : ℕ) (d : Slot) → k < length slots
+    → in_bucket bucket (places (drop k slots))
+    ≡ in_bucket bucket (place_of (get_or slots k d) ∷ [])
+    ++ in_bucket bucket (places (drop (k + 1) slots))
+next_slot bucket [] k d h = absurd (omega arith)
+next_slot bucket (s ∷ slots) zero d h = turn (bucket_of (place_of s).0 == bucket)
+  where
+    turn : (b : Bool)
+        → (elim b as (λ _. List Place) [
+          | true ↦ place_of s ∷ in_bucket bucket (places slots)
+          | false ↦ in_bucket bucket (places slots)
+        ])
+        ≡ (elim b as (λ _. List Place) [ true ↦ place_of s ∷ [] | false ↦ [] ])
+        ++ in_bucket bucket (places slots)
+    turn true = refl
+    turn false = refl
+next_slot bucket (s ∷ slots) (suc k) d h =
+    let e : suc k + 1 ≡ suc (k + 1) = omega arith in
+    next_slot bucket slots k d (omega arith)
+    ∙ ap (λ n. in_bucket bucket (place_of (get_or slots k d) ∷ [])
+    ++ in_bucket bucket (places (drop n (s ∷ slots)))) (sym e)
+
+pub slot_more : (bucket : ℕ) (slots list list' : List Slot) (k : ℕ) (d : Slot) → k < length slots
+    → places list' ≡ places list ++ in_bucket bucket (place_of (get_or slots k d) ∷ [])
+    → places list' ++ in_bucket bucket (places (drop (k + 1) slots))
+    ≡ places list ++ in_bucket bucket (places (drop k slots))
+slot_more bucket slots list list' k d h e =
+    let rest = in_bucket bucket (places (drop (k + 1) slots)) in
+    ap (λ l. l ++ rest) e
+    ∙ append_assoc (places list) (in_bucket bucket (place_of (get_or slots k d) ∷ [])) rest
+    ∙ ap (λ l. places list ++ l) (sym (next_slot bucket slots k d h))
+
+-- those of a bucket among those of a mnemonic
+bucket_for : (n bucket at : ℕ) (aims : List Aim)
+    → in_bucket bucket (places_for (is_for (Any n)) at aims)
+    ≡ places_for (is_for (Insns n bucket)) at aims
+bucket_for n bucket at [] = refl
+bucket_for n bucket at (a ∷ aims) =
+    turn (has_number n a.ops) (meaning_fits n a.point.meaning) (bucket_of a.point == bucket)
+    (bucket_for n bucket (at + 1) aims) refl
+  where
+    turn : (h f q : Bool)
+        → in_bucket bucket (places_for (is_for (Any n)) (at + 1) aims)
+        ≡ places_for (is_for (Insns n bucket)) (at + 1) aims
+        → (bucket_of a.point == bucket) ≡ q
+        → in_bucket bucket (elim (h && f) as (λ _. List Place) [
+          | true ↦ (a.point, at) ∷ places_for (is_for (Any n)) (at + 1) aims
+          | false ↦ places_for (is_for (Any n)) (at + 1) aims
+        ])
+        ≡ (elim (h && (q && f)) as (λ _. List Place) [
+          | true ↦ (a.point, at) ∷ places_for (is_for (Insns n bucket)) (at + 1) aims
+          | false ↦ places_for (is_for (Insns n bucket)) (at + 1) aims
+        ])
+    turn false f q rest e = rest
+    turn true false true rest e = rest
+    turn true false false rest e = rest
+    turn true true true rest e =
+        ap (λ b. elim b as (λ _. List Place) [
+          | true ↦ (a.point, at) ∷ in_bucket bucket (places_for (is_for (Any n)) (at + 1) aims)
+          | false ↦ in_bucket bucket (places_for (is_for (Any n)) (at + 1) aims)
+        ]) e
+        ∙ ap (λ l. (a.point, at) ∷ l) rest
+    turn true true false rest e =
+        ap (λ b. elim b as (λ _. List Place) [
+          | true ↦ (a.point, at) ∷ in_bucket bucket (places_for (is_for (Any n)) (at + 1) aims)
+          | false ↦ in_bucket bucket (places_for (is_for (Any n)) (at + 1) aims)
+        ]) e
+        ∙ rest
+
+-- an element of a list with one more
+pushed_at : {X : Type 0} (P : ℕ → X → Type 0) (xs : List X) (x : X)
+    → ((k : ℕ) (d : X) → k < length xs → P k (get_or xs k d)) → P (length xs) x
+    → (k : ℕ) (d : X) → k < length (xs ++ x ∷ []) → P k (get_or (xs ++ x ∷ []) k d)
+pushed_at P [] x has p zero d h = p
+pushed_at P [] x has p (suc k) d h = absurd (omega arith)
+pushed_at P (y ∷ xs) x has p zero d h = has 0 d (omega arith)
+pushed_at P (y ∷ xs) x has p (suc k) d h =
+    pushed_at (λ k. P (suc k)) xs x (λ k d h. has (suc k) d (omega arith)) p k d (omega arith)
+
+-- the list of one more bucket
+pub more_index : (labels : List Label) (lists lists' : List (List Slot)) (all list : List Slot)
+    (n bucket : ℕ)
+    → IsIndex insns_key labels lists → length lists ≡ n * 365 + bucket → bucket < 365
+    → places all ≡ places_for (is_for (Any n)) 0 (aims_in labels)
+    → places list ≡ in_bucket bucket (places all) → lists' ≡ lists ++ list ∷ []
+    → IsIndex insns_key labels lists'
+more_index labels lists lists' all list n bucket index len low whole part e =
+    let q : (n * 365 + bucket) / 365 ≡ n = omega (arith, low) in
+    let r : (n * 365 + bucket) % 365 ≡ bucket = omega (arith, low) in
+    let mine : places list ≡ places_for (is_for (Insns n bucket)) 0 (aims_in labels) =
+    part ∙ ap (in_bucket bucket) whole ∙ bucket_for n bucket 0 (aims_in labels) in
+    let key : places list ≡ places_for (is_for (insns_key (n * 365 + bucket))) 0 (aims_in labels) =
+    mine
+    ∙ ap (λ k. places_for (is_for (Insns k bucket)) 0 (aims_in labels)) (sym q)
+    ∙ ap (λ b. places_for (is_for (Insns ((n * 365 + bucket) / 365) b)) 0 (aims_in labels))
+    (sym r) in
+    subst (IsIndex insns_key labels) (sym e) (record {
+      each = λ k d h. pushed_at
+          (λ k slots. places slots ≡ places_for (is_for (insns_key k)) 0 (aims_in labels)) lists
+          list index.each
+          (subst (λ k. places list ≡ places_for (is_for (insns_key k)) 0 (aims_in labels)) (sym len)
+          key) k d h;
+    })
