@@ -84,13 +84,15 @@ tail_marks has = record { each = λ k d e h. has.each (suc k) d e (omega arith) 
 
 pub marks_add : (n : ℕ) (op : Op) (t : Table) (slots : List Slot) (ms : List Mark) (cs : List ℕ)
     → number op ≡ n → length ms ≡ length slots → HasMarks n slots ms
-    → raised_marks (signs_word (signs_of t)) ms cs ≡ raised_all (λ p. holds p op t) (places slots) cs
+    → raised_marks (signs_word (signs_of t)) ms cs
+    ≡ raised_all (λ p. holds p op t) (places slots) cs
 marks_add n op t [] [] cs o l has = refl
 marks_add n op t [] (m ∷ ms) cs o l has = absurd (omega arith)
 marks_add n op t (s ∷ slots) [] cs o l has = absurd (omega arith)
 marks_add n op t (s ∷ slots) (m ∷ ms) cs o l has =
     let is : IsMark n s m = has.each 0 s m (omega arith) in
-    marks_add n op t slots ms (raised (has_all (signs_word (signs_of t)) m.mask) m.at cs) o (omega arith)
+    marks_add n op t slots ms (raised
+    (has_all (signs_word (signs_of t)) m.mask) m.at cs) o (omega arith)
     (tail_marks has)
     ∙ ap (λ k. raised_all (λ p. holds p op t) (places slots)
     (raised (has_all (signs_word (signs_of t)) m.mask) k cs))

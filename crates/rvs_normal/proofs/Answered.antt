@@ -10,7 +10,7 @@ use Rattle.rvs_yaml_text.specs.Scalar.{is_blank}
 use Rattle.rvs_yaml_text.specs.Text.{words_of}
 use Rattle.rvs_yaml.specs.Checks.{◌>>=◌, ◌>>◌}
 use Rattle.rvs_yaml.specs.Block.{tree_of}
-use Rattle.rvs_yaml.specs.Answer.{within_limits, front, at_end, answer_after, answer, HasTree}
+use Rattle.rvs_yaml.specs.Parsed.{within_limits, front, at_end, answer_after, answer, HasTree}
 use Rattle.rvs_normal.proofs.Lines.{fed, AreInked, lines-fed}
 use Rattle.rvs_normal.proofs.Rows.{Row, row_text, row_words, row-inked, line-words}
 use Rattle.rvs_normal.proofs.Columns.{Col, words}

@@ -16,7 +16,8 @@ use Rattle.rvs_yaml_text.specs.declared.kind.YamlKind.TheVariants.{BadIndent}
 use Rattle.rvs_yaml.specs.Anchors.{Anchors, lookup, known_alias}
 use Rattle.rvs_yaml.specs.Checks.{Checked, ◌>>=◌, ◌>>◌, check}
 use Rattle.rvs_yaml.specs.Entry.{written}
-use Rattle.rvs_yaml.specs.Flow.{Nest, none, one, group, inside, ending, behind, nest, Place, member}
+use Rattle.rvs_yaml.specs.Flow.{Nest, none, one, group, inside, ending, behind, nest, FlowState}
+use Rattle.rvs_yaml.specs.Flow.{member}
 use Rattle.rvs_yaml.specs.Flow.{behind_member, key_place, entry_value, behind_entry, first_place}
 use Rattle.rvs_yaml.specs.Flow.{new_key, with_value, with_comma, with_key, with_cut_key}
 use Rattle.rvs_yaml.specs.Flow.{with_colon_scalar, with_alias, with_fault, with_token, may_open}
@@ -82,7 +83,7 @@ known-owned name (x ∷ xs) v a h = by-case (bytes_eq x.0 name) refl (known-owne
         others (sym (ap (λ b. known_alias (cond b (Some x.1) (lookup name xs))) e) ∙ h)
 
 -- ---- flow
-abbrev pub PlaceOwned : Place → Type 0
+abbrev pub PlaceOwned : FlowState → Type 0
 PlaceOwned (member vs) = ValuesOwned vs
 PlaceOwned (behind_member vs) = ValuesOwned vs
 PlaceOwned (key_place ws) = WrittenOwned ws × Apart (explicit_keys ws)
@@ -112,7 +113,7 @@ has-check Q false kind b h = tt
 abbrev pub TreeOwned : Value → Type 0
 TreeOwned v = KeysOnce v.tree
 
-value-owned : (p : Place) (v : Value) → PlaceOwned p → KeysOnce v.tree
+value-owned : (p : FlowState) (v : Value) → PlaceOwned p → KeysOnce v.tree
     → Has PlaceOwned (with_value p v)
 value-owned (member vs) v o t = values-append vs (v ∷ []) o (t, tt)
 value-owned (behind_member vs) v o t = tt
@@ -121,7 +122,7 @@ value-owned (entry_value ws k) v o t =
     (written-append ws (written k v ∷ []) o.0 (t, tt), apart-written ws k v o.1 o.2)
 value-owned (behind_entry ws) v o t = tt
 
-key-owned : (p : Place) (k : Key) → PlaceOwned p → Has PlaceOwned (with_key p k)
+key-owned : (p : FlowState) (k : Key) → PlaceOwned p → Has PlaceOwned (with_key p k)
 key-owned (member vs) k o = tt
 key-owned (behind_member vs) k o = tt
 key-owned (key_place ws) k o = has-check PlaceOwned
@@ -130,28 +131,28 @@ key-owned (key_place ws) k o = has-check PlaceOwned
 key-owned (entry_value ws l) k o = tt
 key-owned (behind_entry ws) k o = tt
 
-comma-owned : (p : Place) → PlaceOwned p → Has PlaceOwned (with_comma p)
+comma-owned : (p : FlowState) → PlaceOwned p → Has PlaceOwned (with_comma p)
 comma-owned (member vs) o = tt
 comma-owned (behind_member vs) o = o
 comma-owned (key_place ws) o = tt
 comma-owned (entry_value ws l) o = tt
 comma-owned (behind_entry ws) o = o
 
-cut-owned : (p : Place) (k : Key) → Has PlaceOwned (with_cut_key p k)
+cut-owned : (p : FlowState) (k : Key) → Has PlaceOwned (with_cut_key p k)
 cut-owned (member vs) k = tt
 cut-owned (behind_member vs) k = tt
 cut-owned (key_place ws) k = has-behind PlaceOwned (new_key ws k) (Err _) tt
 cut-owned (entry_value ws l) k = tt
 cut-owned (behind_entry ws) k = tt
 
-colon-owned : (p : Place) (b : ℕ) → Has PlaceOwned (with_colon_scalar p b)
+colon-owned : (p : FlowState) (b : ℕ) → Has PlaceOwned (with_colon_scalar p b)
 colon-owned (member vs) b = tt
 colon-owned (behind_member vs) b = tt
 colon-owned (key_place ws) b = tt
 colon-owned (entry_value ws l) b = tt
 colon-owned (behind_entry ws) b = tt
 
-fault-owned : (p : Place) (kind : YamlKind) → Has PlaceOwned (with_fault p kind)
+fault-owned : (p : FlowState) (kind : YamlKind) → Has PlaceOwned (with_fault p kind)
 fault-owned (member vs) b = tt
 fault-owned (behind_member vs) b = tt
 fault-owned (key_place ws) b = tt
@@ -166,7 +167,7 @@ has-known name known a = by-result (known_alias (lookup name known)) refl
     by-result (Ok v) e = known-owned name known v a e
     by-result (Err k) e = tt
 
-alias-owned : (known : Anchors) (p : Place) (name : List ℕ) → AnchorsOwned known → PlaceOwned p
+alias-owned : (known : Anchors) (p : FlowState) (name : List ℕ) → AnchorsOwned known → PlaceOwned p
     → Has PlaceOwned (with_alias known p name)
 alias-owned known (member vs) [] a o = tt
 alias-owned known (member vs) (c ∷ cs) a o = has-then TreeOwned PlaceOwned
@@ -181,7 +182,7 @@ alias-owned known (key_place ws) name a o = tt
 alias-owned known (behind_member vs) name a o = tt
 alias-owned known (behind_entry ws) name a o = tt
 
-token-owned : (known : Anchors) (line : ℕ) (p : Place) (t : Token) → AnchorsOwned known
+token-owned : (known : Anchors) (line : ℕ) (p : FlowState) (t : Token) → AnchorsOwned known
     → PlaceOwned p → Has PlaceOwned (with_token known line p t)
 token-owned known line p (opening b) a o = tt
 token-owned known line p (closing b) a o = tt
@@ -195,7 +196,7 @@ token-owned known line p (alias_token name) a o = alias-owned known p name a o
 token-owned known line p late_colon a o = tt
 token-owned known line p (fault kind) a o = fault-owned p kind
 
-closes-owned : (line : ℕ) (p : Place) → PlaceOwned p → Has TreeOwned (closes line p)
+closes-owned : (line : ℕ) (p : FlowState) → PlaceOwned p → Has TreeOwned (closes line p)
 closes-owned line (member vs) o = list-owned line vs o
 closes-owned line (behind_member vs) o = list-owned line vs o
 closes-owned line (key_place ws) o = map-owned line ws o.1 o.0
@@ -209,7 +210,7 @@ first-owned curly = (tt, tt)
 abbrev pub FlowOwned : Value × Bool → Type 0
 FlowOwned v = KeysOnce v.0.tree
 
-pub collection-owned : (known : Anchors) (line : ℕ) (good : Bool) (p : Place) (n : Nest)
+pub collection-owned : (known : Anchors) (line : ℕ) (good : Bool) (p : FlowState) (n : Nest)
     → AnchorsOwned known → PlaceOwned p → Has FlowOwned (collection known line good p n)
 collection-owned known line good p none a o = has-then TreeOwned FlowOwned (closes line p)
     (λ v. Ok (v, good)) (closes-owned line p o) (λ v t. t)

@@ -6,7 +6,7 @@ use Rattle.rvs_insn.specs.Isa.{Isa}
 use Rattle.rvs_insn.specs.Names.{op_of_name}
 use Rattle.rvs_insn.specs.declared.op.Op.TheVariants.{Add}
 use Rattle.rvs_expr_text.specs.declared.lexeme.NumName.TheVariants.{Rs1Val}
-use Rattle.rvs_yaml.specs.Answer.{answer}
+use Rattle.rvs_yaml.specs.Parsed.{answer}
 use Rattle.std.specs.Prelude.{◌&&◌, codes, true, not}
 use Rattle.rvs_expr.specs.Equation.{name_of, key_of, number_of, equation_of}
 use Rattle.rvs_cgf.specs.Keys.{is_skipped}

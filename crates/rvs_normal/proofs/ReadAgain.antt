@@ -15,7 +15,7 @@ use Rattle.rvs_tree.specs.Value.{Value}
 use Rattle.rvs_yaml_text.specs.Text.{lines_of, words_of}
 use Rattle.rvs_yaml.specs.Checks.{Checked, ◌>>=◌, ◌>>◌}
 use Rattle.rvs_yaml.specs.Block.{tree_of}
-use Rattle.rvs_yaml.specs.Answer.{within_limits, front, at_end, answer_after, answer}
+use Rattle.rvs_yaml.specs.Parsed.{within_limits, front, at_end, answer_after, answer}
 use Rattle.rvs_cgf.specs.Keys.{is_printable}
 use Rattle.rvs_cgf.specs.Groups.{Point, Label, size_of, groups_of, ops_of}
 use Rattle.rvs_cgf.specs.Print.{doubled, doubled_byte, head_line, point_line, points_text}

@@ -8,7 +8,7 @@ use Rattle.std.proofs.lemmas.Bool.Decides.{nat_tests}
 use Rattle.rvs_tree.specs.Data.{Data, own_pairs, is_map, is_scalar}
 use Rattle.rvs_tree.specs.Value.{Value, Written}
 use Rattle.rvs_yaml_text.specs.Scalar.{key_name}
-use Rattle.rvs_yaml.specs.Answer.{answer}
+use Rattle.rvs_yaml.specs.Parsed.{answer}
 use Rattle.rvs_abstract.specs.Calls.{is_letter, is_digit}
 use Rattle.rvs_cgf.specs.Keys.{is_name_byte, is_label_name, is_printable}
 use Rattle.rvs_cgf.specs.Groups.{Point, Skipped, Label, same_kind, is_empty_scalar}

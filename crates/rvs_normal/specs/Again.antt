@@ -3,7 +3,7 @@ use Rattle.std.specs.Prelude.{◌≡◌, Bool, true, not, ◌&&◌, List, [], �
 use Rattle.std.specs.List.{list_any, list_all}
 use Rattle.rvs_insn.specs.Isa.{Isa}
 use Rattle.rvs_tree.specs.Data.{Data}
-use Rattle.rvs_yaml.specs.Answer.{answer}
+use Rattle.rvs_yaml.specs.Parsed.{answer}
 use Rattle.rvs_cgf.specs.Keys.{is_printable}
 use Rattle.rvs_cgf.specs.Groups.{Label, groups_of}
 use Rattle.rvs_cgf.specs.Print.{normal_text}

@@ -4,7 +4,7 @@ use Rattle.rvs_insn.specs.Isa.{Isa}
 use Rattle.rvs_insn.specs.declared.op.Op.TheVariants.{Add}
 use Rattle.rvs_expr_text.specs.declared.lexeme.NumName.TheVariants.{Rs1Val}
 use Rattle.rvs_tree.specs.Data.{Data}
-use Rattle.rvs_yaml.specs.Answer.{answer}
+use Rattle.rvs_yaml.specs.Parsed.{answer}
 use Rattle.rvs_expr.specs.Equation.{number_of, equation_of}
 use Rattle.rvs_cgf.specs.Groups.{Label, point, op_is, nums, groups_of}
 use Rattle.rvs_cgf.specs.Spelled.{Spells}

@@ -2,7 +2,7 @@
 ghost use Rattle.std.specs.Prelude.{◌≡◌, ◌≤◌, ℕ, List, [], ◌∷◌, length, true, Ok};
 ghost use Rattle.rvs_insn.specs.Isa.{Isa};
 ghost use Rattle.rvs_tree.specs.Data.{Data};
-ghost use Rattle.rvs_yaml.specs.Answer.{answer};
+ghost use Rattle.rvs_yaml.specs.Parsed.{answer};
 ghost use Rattle.rvs_cgf.specs.Groups.{Label, groups_of};
 ghost use Rattle.rvs_cgf.specs.Print.{normal_text};
 ghost use Rattle.rvs_cgf.specs.Spelled.{are_admitted};

@@ -12,7 +12,7 @@ use Rattle.rvs_isa.specs.Unread.{unread}
 use Rattle.rvs_isa.specs.Check.{is_a_map, hart_number, hart_key, hart_entries, isa_entry}
 use Rattle.rvs_isa.specs.Check.{xlen_entry, address_bits, misaligned, misa_entry, core_of}
 use Rattle.rvs_isa.specs.Check.{checked_hart, checked}
-use Rattle.rvs_yaml.specs.Answer.{Answer, answer}
+use Rattle.rvs_yaml.specs.Parsed.{Parsed, answer}
 use Rattle.rvs_suite.specs.Specification.{isa_limit, checked_end, tree_end, bytes_said, said_in}
 
 abbrev pub IsBase : AcceptedSpec → Type 0
@@ -47,7 +47,7 @@ base_end : (name : List ℕ) (r : Result AcceptedSpec IsaRefusal) → IfOk r IsB
 base_end name (Ok said) is = is
 base_end name (Err refusal) is = tt
 
-base_tree : (name : List ℕ) (a : Answer) → IfOk (tree_end name a) IsBase
+base_tree : (name : List ℕ) (a : Parsed) → IfOk (tree_end name a) IsBase
 base_tree name (Ok tree) = base_end name (checked tree) (base_checked tree)
 base_tree name (Err fault) = tt
 

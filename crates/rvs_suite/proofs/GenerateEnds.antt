@@ -12,7 +12,7 @@ use Rattle.rvs_plan.specs.declared.status.Finish.TheVariants.{Done}
 use Rattle.rvs_tree.specs.Data.{Data}
 use Rattle.rvs_insn.specs.Isa.{Isa}
 use Rattle.rvs_isa.specs.declared.accepted_spec.AcceptedSpec.{AcceptedSpec}
-use Rattle.rvs_yaml.specs.Answer.{Answer, answer}
+use Rattle.rvs_yaml.specs.Parsed.{Parsed, answer}
 use Rattle.rvs_cgf.specs.Groups.{Label, Point, Refusal, groups_of}
 use Rattle.rvs_cgf.specs.Valid.{IsValid, IsValidIfSelected}
 use Rattle.rvs_cgf.proofs.Validity.{groups_good}
@@ -119,7 +119,7 @@ good-checked : (isa : Isa) (tree : Data) (r : Result (List Label) Refusal) → i
 good-checked isa tree (Ok ls) base is = record { base = base; valid = groups_good isa tree ls is }
 good-checked isa tree (Err refusal) base is = tt
 
-good-tree : (isa : Isa) (a : Answer) → isa.e ≡ false
+good-tree : (isa : Isa) (a : Parsed) → isa.e ≡ false
     → IfOk (inputs_of isa (tree_groups isa a)) IsGood
 good-tree isa (Ok tree) base = good-checked isa tree (groups_of isa tree) base refl
 good-tree isa (Err fault) base = tt

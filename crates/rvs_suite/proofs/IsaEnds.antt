@@ -12,7 +12,7 @@ use Rattle.rvs_plan.specs.declared.stop.Stop.{Stop}
 use Rattle.rvs_plan.specs.declared.stop.Stop.TheVariants.{NoFile, Refused}
 use Rattle.rvs_plan.proofs.FoundInputs.{found-none, found-long, found-whole}
 use Rattle.rvs_tree.specs.Data.{Data}
-use Rattle.rvs_yaml.specs.Answer.{Answer as Tree, answer}
+use Rattle.rvs_yaml.specs.Parsed.{Parsed as Tree, answer}
 use Rattle.rvs_isa.specs.Check.{checked}
 use Rattle.rvs_isa.specs.declared.accepted_spec.AcceptedSpec.{AcceptedSpec}
 use Rattle.rvs_isa.specs.declared.refusal.IsaRefusal.{IsaRefusal}

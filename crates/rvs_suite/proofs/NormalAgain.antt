@@ -6,7 +6,7 @@ use Rattle.std.proofs.lemmas.Bool.Decides.{nat_tests}
 use Rattle.rvs_base.specs.Host.{Files}
 use Rattle.rvs_plan.specs.declared.stop.Stop.{Stop}
 use Rattle.rvs_tree.specs.Data.{Data}
-use Rattle.rvs_yaml.specs.Answer.{Answer, answer}
+use Rattle.rvs_yaml.specs.Parsed.{Parsed, answer}
 use Rattle.rvs_insn.specs.Isa.{Isa}
 use Rattle.rvs_cgf.specs.Groups.{Label, Refusal, groups_of}
 use Rattle.rvs_cgf.specs.Print.{normal_text}
@@ -49,7 +49,7 @@ again-of isa text inputs e short = by-answer (answer text) refl e
               ∙ ap checked_groups r.groups_are,
         )
 
-    by-answer : (r : Answer) → answer text ≡ r → inputs_of isa (tree_groups isa r) ≡ Ok inputs
+    by-answer : (r : Parsed) → answer text ≡ r → inputs_of isa (tree_groups isa r) ≡ Ok inputs
         → (inputs.isa ≡ isa)
         × (groups_found isa (normal_text inputs.groups) ≡ Ok (map bare (selected inputs.groups)))
     by-answer (Err fault) a e = cc

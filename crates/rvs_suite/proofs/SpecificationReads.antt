@@ -5,7 +5,7 @@ use Rattle.rvs_plan.specs.Effect.{Answer, Read}
 use Rattle.rvs_plan.specs.Plan.{Plan, Ends, ◌>>=◌, followed}
 use Rattle.rvs_plan.specs.Performed.{performed}
 use Rattle.rvs_plan.specs.declared.stop.Stop.{Stop}
-use Rattle.rvs_yaml.specs.Answer.{Answer as Tree}
+use Rattle.rvs_yaml.specs.Parsed.{Parsed as Tree}
 use Rattle.rvs_isa.specs.declared.accepted_spec.AcceptedSpec.{AcceptedSpec}
 use Rattle.rvs_isa.specs.declared.refusal.IsaRefusal.{IsaRefusal}
 use Rattle.rvs_suite.specs.Specification.{isa_limit, checked_end, tree_end, checks, specification}

@@ -5,7 +5,7 @@ use Rattle.rvs_plan.specs.Plan.{Plan, Ends, ◌>>=◌}
 use Rattle.rvs_plan.specs.Inputs.{input, part_end}
 use Rattle.rvs_plan.specs.declared.stop.Stop.{Stop}
 use Rattle.rvs_plan.specs.declared.stop.Stop.TheVariants.{Refused}
-use Rattle.rvs_yaml.specs.Answer.{Answer, answer}
+use Rattle.rvs_yaml.specs.Parsed.{Parsed, answer}
 use Rattle.rvs_device.specs.DeviceFile.{Told, told_in}
 use Rattle.rvs_device.specs.Printed.{refusal_text}
 use Rattle.rvs_device.specs.declared.refusals.DeviceRefusal.{DeviceRefusal}
@@ -25,7 +25,7 @@ checked_end name (Ok told) = Ok told
 checked_end name (Err refusal) = Err (Refused (device_text name refusal))
 
 -- the device that the tree of the named file tells, or why the file is refused
-abbrev pub tree_end : List ℕ → Answer → Result Told Stop
+abbrev pub tree_end : List ℕ → Parsed → Result Told Stop
 tree_end name (Ok tree) = checked_end name (told_in tree)
 tree_end name (Err fault) = Err (Refused (yaml_text name fault.0 fault.1))
 

@@ -6,7 +6,7 @@ use Rattle.rvs_plan.specs.Plan.{Plan, Ends, gives, ◌>>=◌}
 use Rattle.rvs_plan.specs.Inputs.{part, too_long_text}
 use Rattle.rvs_plan.specs.declared.stop.Stop.{Stop}
 use Rattle.rvs_plan.specs.declared.stop.Stop.TheVariants.{Refused, NoFile}
-use Rattle.rvs_yaml.specs.Answer.{Answer, answer}
+use Rattle.rvs_yaml.specs.Parsed.{Parsed, answer}
 use Rattle.rvs_insn.specs.Isa.{Isa}
 use Rattle.rvs_cgf.specs.Groups.{Label, Refusal, groups_of}
 use Rattle.rvs_suite.specs.Specification.{yaml_text, said_in, specification}
@@ -47,7 +47,7 @@ abbrev pub checked_groups : Result (List Label) Refusal → Result (List Label) 
 checked_groups (Ok groups) = Ok groups
 checked_groups (Err refusal) = Err (Refused (group_text refusal))
 
-abbrev pub tree_groups : Isa → Answer → Result (List Label) Stop
+abbrev pub tree_groups : Isa → Parsed → Result (List Label) Stop
 tree_groups isa (Ok tree) = checked_groups (groups_of isa tree)
 tree_groups isa (Err fault) = Err (Refused (yaml_text groups_name fault.0 fault.1))
 

@@ -4,7 +4,7 @@ use Rattle.rvs_base.specs.Host.{Files}
 use Rattle.rvs_base.specs.Sink.{SinkState, appended}
 use Rattle.rvs_plan.specs.Account.{fault_line}
 use Rattle.rvs_tree.specs.Data.{Data}
-use Rattle.rvs_yaml.specs.Answer.{answer}
+use Rattle.rvs_yaml.specs.Parsed.{answer}
 use Rattle.rvs_yaml_text.specs.declared.kind.YamlKind.{YamlKind}
 use Rattle.rvs_isa.specs.Check.{checked}
 use Rattle.rvs_isa.specs.Print.{checked_text}

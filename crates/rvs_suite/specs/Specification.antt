@@ -5,7 +5,7 @@ use Rattle.rvs_plan.specs.Plan.{Plan, Ends, ◌>>=◌}
 use Rattle.rvs_plan.specs.Inputs.{input, part_end}
 use Rattle.rvs_plan.specs.declared.stop.Stop.{Stop}
 use Rattle.rvs_plan.specs.declared.stop.Stop.TheVariants.{Refused}
-use Rattle.rvs_yaml.specs.Answer.{Answer, answer}
+use Rattle.rvs_yaml.specs.Parsed.{Parsed, answer}
 use Rattle.rvs_yaml_text.specs.Kinds.{number_of}
 use Rattle.rvs_yaml_text.specs.declared.kind.YamlKind.{YamlKind}
 use Rattle.rvs_isa.specs.Check.{checked}
@@ -32,7 +32,7 @@ checked_end name (Ok said) = Ok said
 checked_end name (Err refusal) = Err (Refused (isa_text name refusal))
 
 -- what the tree of the named file says, or why the file is refused
-abbrev pub tree_end : List ℕ → Answer → Result AcceptedSpec Stop
+abbrev pub tree_end : List ℕ → Parsed → Result AcceptedSpec Stop
 tree_end name (Ok tree) = checked_end name (checked tree)
 tree_end name (Err fault) = Err (Refused (yaml_text name fault.0 fault.1))
 

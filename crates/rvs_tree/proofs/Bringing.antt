@@ -102,7 +102,8 @@ brought-keys-by true V w ws k h f g =
     ∙ mix (has_key k s) (has_key k l) (has_key k (keys_of ps)) (has_key k (merged_keys ws))
     (has_key k V)
     (sym (has_key-append k s V) ∙ sifted-keys V ps k ∙ has_key-append k (keys_of ps) V)
-    (ap (λ b. has_key k l || b) (sym (has_key-append k (keys_of ps) V)) ∙ sym (has_key-append k l (keys_of ps ++ V)) ∙ f
+    (ap (λ b. has_key k l || b) (sym (has_key-append k (keys_of ps) V))
+    ∙ sym (has_key-append k l (keys_of ps ++ V)) ∙ f
     ∙ has_key-append k (merged_keys ws) (keys_of ps ++ V)
     ∙ ap (λ b. has_key k (merged_keys ws) || b) (has_key-append k (keys_of ps) V))
     ∙ ap (λ b. b || has_key k V) (sym (has_key-append k (merged_keys ws) (keys_of ps)))

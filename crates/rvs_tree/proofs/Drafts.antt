@@ -101,6 +101,14 @@ parts-fewer work rest p e s = omega (arith, ap sizes e, sizes-append rest (p ∷
 
 pub parts-appended : (b : Bool) (work rest new items : List Part) (p : Part) → work ≡ rest ++ p ∷ []
     → new ≡ cond b (rest ++ items) rest → sizes items < part_size p → sizes new < sizes work
-parts-appended true work rest new items p e n s = omega (arith, ap sizes e, ap sizes n, sizes-append rest items, sizes-append rest (p ∷ []), sizes-one p, s)
+parts-appended true work rest new items p e n s = omega (
+  arith,
+  ap sizes e,
+  ap sizes n,
+  sizes-append rest items,
+  sizes-append rest (p ∷ []),
+  sizes-one p,
+  s,
+)
 parts-appended false work rest new items p e n s =
     omega (arith, ap sizes e, ap sizes n, sizes-append rest (p ∷ []), sizes-one p, s)

@@ -72,7 +72,11 @@ enter-item true T w ws rest (mapping es line) e f next =
     let ps = own_pairs (mapping es line) in
     add-list T ps (pairs_in (merged_trees ws)) rest
     (later (keys_of ps ++ T) (map_entries ws ++ rest)) (next (keys_of ps ++ T))
-    ∙ sym (ap (λ b. cond b (sift T (merged_pairs w.value.tree) ++ later (keys_of (merged_pairs w.value.tree) ++ T) (map_entries ws ++ rest)) ((w.key, w.value.tree) ∷ later T (map_entries ws ++ rest))) e
+    ∙ sym (ap (λ b. cond b (sift T (merged_pairs w.value.tree)
+    ++ later (keys_of (merged_pairs w.value.tree) ++ T) (map_entries ws ++ rest)) ((
+      w.key,
+      w.value.tree,
+    ) ∷ later T (map_entries ws ++ rest))) e
     ∙ ap (λ t. sift T (merged_pairs t)
     ++ later (keys_of (merged_pairs t) ++ T) (map_entries ws ++ rest)) f)
 enter-item true T w ws rest (scalar text line) e f next = next T

@@ -13,7 +13,8 @@ use Rattle.rvs_yaml.specs.Checks.{Checked, ◌>>=◌, ◌>>◌, check}
 use Rattle.rvs_yaml.specs.Anchors.{Anchors, lookup, known_alias}
 use Rattle.rvs_yaml.specs.Stack.{has_anchor}
 use Rattle.rvs_yaml.specs.Entry.{written}
-use Rattle.rvs_yaml.specs.Flow.{Place, member, behind_member, key_place, entry_value, behind_entry}
+use Rattle.rvs_yaml.specs.Flow.{FlowState, member, behind_member, key_place, entry_value}
+use Rattle.rvs_yaml.specs.Flow.{behind_entry}
 use Rattle.rvs_yaml.specs.Flow.{Nest, none, one, group, inside, ending, behind, nest, first_place}
 use Rattle.rvs_yaml.specs.Flow.{with_value, with_alias, with_token, may_open, ends_with, fits}
 use Rattle.rvs_yaml.specs.Flow.{collection, only_end, merged_well, flow_value}
@@ -114,16 +115,18 @@ pub alike-noted : (n : List ℕ) (v : Value) (a b : Anchors) → Alike a b
 alike-noted n v a b h = noted-by (has_anchor n b) n v a b h refl
 
 -- WHAT IS READ
-alias-alike : (a b : Anchors) → Alike a b → (p : Place) (name : List ℕ)
+alias-alike : (a b : Anchors) → Alike a b → (p : FlowState) (name : List ℕ)
     → with_alias a p name ≡ with_alias b p name
 alias-alike a b h (member vs) [] = refl
 alias-alike a b h (entry_value ws k) [] = refl
 alias-alike a b h (member vs) (c ∷ cs) =
-    ap (λ o. known_alias o >>= λ v. let r : Checked Place = Ok (behind_member (vs ++ v ∷ [])) in r)
+    ap (λ o. known_alias o >>= λ v. let r : Checked FlowState = Ok (behind_member
+    (vs ++ v ∷ [])) in r)
     (h (c ∷ cs))
 alias-alike a b h (entry_value ws k) (c ∷ cs) =
     ap (λ o. known_alias o
-    >>= λ v. let r : Checked Place = Ok (behind_entry (ws ++ written k v ∷ [])) in r) (h (c ∷ cs))
+    >>= λ v. let r : Checked FlowState = Ok (behind_entry (ws ++ written k v ∷ [])) in r) (h
+    (c ∷ cs))
 alias-alike a b h (key_place ws) [] = refl
 alias-alike a b h (key_place ws) (c ∷ cs) = refl
 alias-alike a b h (behind_member vs) [] = refl
@@ -131,7 +134,7 @@ alias-alike a b h (behind_member vs) (c ∷ cs) = refl
 alias-alike a b h (behind_entry ws) [] = refl
 alias-alike a b h (behind_entry ws) (c ∷ cs) = refl
 
-token-alike : (a b : Anchors) → Alike a b → (line : ℕ) (p : Place) (m : Token)
+token-alike : (a b : Anchors) → Alike a b → (line : ℕ) (p : FlowState) (m : Token)
     → with_token a line p m ≡ with_token b line p m
 token-alike a b h line p (opening c) = refl
 token-alike a b h line p (closing c) = refl
@@ -145,7 +148,7 @@ token-alike a b h line p (alias_token name) = alias-alike a b h p name
 token-alike a b h line p late_colon = refl
 token-alike a b h line p (fault kind) = refl
 
-collection-alike : (a b : Anchors) → Alike a b → (line : ℕ) (good : Bool) (p : Place) (n : Nest)
+collection-alike : (a b : Anchors) → Alike a b → (line : ℕ) (good : Bool) (p : FlowState) (n : Nest)
     → collection a line good p n ≡ collection b line good p n
 collection-alike a b h line good p none = refl
 collection-alike a b h line good p (one m rest) =

@@ -13,7 +13,7 @@ use Rattle.rvs_yaml.specs.Front.{front_value, checked_front}
 use Rattle.rvs_yaml_text.specs.Scalar.{is_blank}
 use Rattle.rvs_yaml_text.specs.Text.{line_words, words_of, lines_of, cut, cut_behind}
 use Rattle.rvs_yaml_text.specs.Text.{without_return}
-use Rattle.rvs_yaml.specs.Answer.{Answer, within_limits, front, at_end, answer_after, answer}
+use Rattle.rvs_yaml.specs.Parsed.{Parsed, within_limits, front, at_end, answer_after, answer}
 use Rattle.rvs_yaml.specs.Reader.{checked_line}
 use Rattle.rvs_yaml_text.specs.declared.kind.YamlKind.{YamlKind}
 use Rattle.rvs_yaml.proofs.Outlined.{bind_assoc, bind_same}
@@ -101,11 +101,11 @@ kept-err (Err k) kind h = let same : k ≡ kind = cc in ap Err same
 kept-err (Ok v) kind h = ap (λ u. u >> Ok v.tree) h
 
 next-answer : (lines : List (List ℕ)) (l : List ℕ) (ls : List (List ℕ)) (r : Checked Data)
-    → front (lines ++ l ∷ []) ≡ r → answer_after lines (l ∷ ls) ≡ (elim r as (λ _. Answer) [
+    → front (lines ++ l ∷ []) ≡ r → answer_after lines (l ∷ ls) ≡ (elim r as (λ _. Parsed) [
       | Err kind ↦ Err (length (lines ++ l ∷ []), kind)
       | Ok d ↦ answer_after (lines ++ l ∷ []) ls
     ])
-next-answer lines l ls r e = ap (λ m. elim m as (λ _. Answer) [
+next-answer lines l ls r e = ap (λ m. elim m as (λ _. Parsed) [
   | Err kind ↦ Err (length (lines ++ l ∷ []), kind)
   | Ok d ↦ answer_after (lines ++ l ∷ []) ls
 ]) e

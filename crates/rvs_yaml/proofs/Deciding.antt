@@ -25,7 +25,8 @@ use Rattle.rvs_yaml_text.specs.WordView.{head_view}
 use Rattle.rvs_yaml_text.specs.declared.kind.YamlKind.{YamlKind}
 use Rattle.rvs_yaml_text.specs.declared.kind.YamlKind.TheVariants.{BadScalar, UnknownAlias}
 use Rattle.rvs_yaml_text.specs.declared.kind.YamlKind.TheVariants.{Unsupported, BadFlow}
-use Rattle.rvs_yaml.specs.Flow.{Place, member, behind_member, key_place, entry_value, behind_entry}
+use Rattle.rvs_yaml.specs.Flow.{FlowState, member, behind_member, key_place, entry_value}
+use Rattle.rvs_yaml.specs.Flow.{behind_entry}
 use Rattle.rvs_yaml.specs.Flow.{with_alias, closes, ends_with}
 use Rattle.rvs_yaml.specs.FlowParts.{alias_at, closed}
 use Rattle.rvs_yaml.specs.FlowSteps.{Reading, closed_by, into}
@@ -180,7 +181,7 @@ pub fails_before : {A B : Type 0} (m : Checked A) (f : A → B) (kind : YamlKind
 fails_before (Ok x) f kind h = cc
 fails_before (Err k) f kind h = let same : k ≡ kind = cc in ap Err same
 
-pub alias-before : (known : Anchors) (p : Place) (name : List ℕ) (kind : YamlKind)
+pub alias-before : (known : Anchors) (p : FlowState) (name : List ℕ) (kind : YamlKind)
     → with_alias known p name ≡ Err kind → alias_at known p name ≡ Err kind
 alias-before known (member vs) [] kind h = let same : BadFlow ≡ kind = cc in ap Err same
 alias-before known (entry_value ws k) [] kind h = let same : BadFlow ≡ kind = cc in ap Err same
@@ -216,31 +217,31 @@ fails_so : {A : Type 0} (m : Checked A) (kind : YamlKind) → succeeds m ≡ Err
 fails_so (Ok x) kind h = cc
 fails_so (Err k) kind h = let same : k ≡ kind = cc in ap Err same
 
-closes-well : (poor : Bool) (line : ℕ) (p : Place) → succeeds (closes line p) ≡ Ok tt
+closes-well : (poor : Bool) (line : ℕ) (p : FlowState) → succeeds (closes line p) ≡ Ok tt
     → (v : Value) × (closed_by poor line p ≡ Ok v)
 closes-well false line p h = has_value (closes line p) h
 closes-well true line p h = let q = has_value (closes line p) h in
     (standin q.0, ap (λ m. m >>= λ v. let r : Checked Value = Ok (standin v) in r) q.1)
 
 -- where the collection may end, the bracket and what is around it decide
-closed-as : (poor : Bool) (line : ℕ) (good : Bool) (b : Bracket) (p : Place)
-    (outer : List (Bracket × Place)) (c : Bracket) → succeeds (closes line p) ≡ Ok tt
+closed-as : (poor : Bool) (line : ℕ) (good : Bool) (b : Bracket) (p : FlowState)
+    (outer : List (Bracket × FlowState)) (c : Bracket) → succeeds (closes line p) ≡ Ok tt
     → (v : Value) × (closed poor line good b p outer c
     ≡ (ends_with b (Some c) >> into (v, good) outer))
 closed-as poor line good b p outer c h =
     let q = closes-well poor line p h in
     (q.0, ap (λ m. m >>= λ v. ends_with b (Some c) >> into (v, good) outer) q.1)
 
-pub closed-bracket : (poor : Bool) (line : ℕ) (good : Bool) (b : Bracket) (p : Place)
-    (outer : List (Bracket × Place)) (c : Bracket) (kind : YamlKind)
+pub closed-bracket : (poor : Bool) (line : ℕ) (good : Bool) (b : Bracket) (p : FlowState)
+    (outer : List (Bracket × FlowState)) (c : Bracket) (kind : YamlKind)
     → succeeds (closes line p) ≡ Ok tt → ends_with b (Some c) ≡ Err kind
     → closed poor line good b p outer c ≡ Err kind
 closed-bracket poor line good b p outer c kind h e =
     let q = closed-as poor line good b p outer c h in
     q.1 ∙ ap (λ m. m >> into (q.0, good) outer) e
 
-pub closed-outer : (poor : Bool) (line : ℕ) (good : Bool) (b : Bracket) (p : Place)
-    (outer : List (Bracket × Place)) (c : Bracket) (kind : YamlKind)
+pub closed-outer : (poor : Bool) (line : ℕ) (good : Bool) (b : Bracket) (p : FlowState)
+    (outer : List (Bracket × FlowState)) (c : Bracket) (kind : YamlKind)
     → succeeds (closes line p) ≡ Ok tt → ends_with b (Some c) ≡ Ok tt
     → ((v : Value) (fine : Bool) → succeeds (into (v, fine) outer) ≡ Err kind)
     → closed poor line good b p outer c ≡ Err kind
@@ -249,8 +250,8 @@ closed-outer poor line good b p outer c kind h e f =
     q.1 ∙ ap (λ m. m >> into (q.0, good) outer) e
     ∙ fails_so (into (q.0, good) outer) kind (f q.0 good)
 
-pub closed-well : (poor : Bool) (line : ℕ) (good : Bool) (b : Bracket) (p : Place)
-    (outer : List (Bracket × Place)) (c : Bracket) → succeeds (closes line p) ≡ Ok tt
+pub closed-well : (poor : Bool) (line : ℕ) (good : Bool) (b : Bracket) (p : FlowState)
+    (outer : List (Bracket × FlowState)) (c : Bracket) → succeeds (closes line p) ≡ Ok tt
     → ends_with b (Some c) ≡ Ok tt
     → ((v : Value) (fine : Bool) → succeeds (into (v, fine) outer) ≡ Ok tt)
     → (r : Reading) × (closed poor line good b p outer c ≡ Ok r)
@@ -260,13 +261,13 @@ closed-well poor line good b p outer c h e f =
     (t.0, q.1 ∙ ap (λ m. m >> into (q.0, good) outer) e ∙ t.1)
 
 -- an alias with a name, where one may stand
-pub named-member : (known : Anchors) (p : Place) (vs : List Value) (name : List ℕ)
+pub named-member : (known : Anchors) (p : FlowState) (vs : List Value) (name : List ℕ)
     → p ≡ member vs → (length name == 0) ≡ false
     → alias_at known p name ≡ known_alias (lookup name known)
 named-member known p vs [] e h = absurd (cc)
 named-member known p vs (b ∷ bs) e h = ap (λ q. alias_at known q (b ∷ bs)) e
 
-pub named-entry : (known : Anchors) (p : Place) (ws : List Written) (k : Key) (name : List ℕ)
+pub named-entry : (known : Anchors) (p : FlowState) (ws : List Written) (k : Key) (name : List ℕ)
     → p ≡ entry_value ws k → (length name == 0) ≡ false
     → alias_at known p name ≡ known_alias (lookup name known)
 named-entry known p ws k [] e h = absurd (cc)

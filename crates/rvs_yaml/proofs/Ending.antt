@@ -6,23 +6,23 @@ use Rattle.rvs_tree.specs.Data.{Data}
 use Rattle.rvs_tree.specs.Value.{Value}
 use Rattle.rvs_yaml.specs.Stack.{Open}
 use Rattle.rvs_yaml.specs.Front.{front_value, checked_front}
-use Rattle.rvs_yaml.specs.Answer.{Answer, within_limits, answer}
+use Rattle.rvs_yaml.specs.Parsed.{Parsed, within_limits, answer}
 use Rattle.rvs_yaml.specs.Reader.{Refuses, whole}
 use Rattle.rvs_yaml.specs.Gives.{Fails}
 use Rattle.rvs_yaml_text.specs.declared.kind.YamlKind.{YamlKind}
 use Rattle.rvs_yaml_text.specs.declared.kind.YamlKind.TheVariants.{NoMemory}
 use Rattle.rvs_yaml.proofs.Answering.{Reads, Reads-end}
 
-line_refused : {A : Type 0} (kind : YamlKind) (line n : ℕ) (a : Answer) (m : Checked A)
+line_refused : {A : Type 0} (kind : YamlKind) (line n : ℕ) (a : Parsed) (m : Checked A)
     → (m ≡ Err kind → a ≡ Err (n, kind)) → Fails kind m
-    → ((b : Answer) → b ≡ Err (n, kind) → Refuses kind line b) → (kind ≡ NoMemory → line ≡ 0)
+    → ((b : Parsed) → b ≡ Err (n, kind) → Refuses kind line b) → (kind ≡ NoMemory → line ≡ 0)
     → Refuses kind line a
 line_refused NoMemory line n a m to h f memory = memory refl
 line_refused kind line n a m to h f memory = f a (to h)
 
-pub refused-line : {A : Type 0} (told kind : YamlKind) (line n : ℕ) (a : Answer) (m : Checked A)
+pub refused-line : {A : Type 0} (told kind : YamlKind) (line n : ℕ) (a : Parsed) (m : Checked A)
     → told ≡ kind → (m ≡ Err kind → a ≡ Err (n, kind)) → Fails kind m
-    → ((b : Answer) → b ≡ Err (n, kind) → Refuses kind line b) → (kind ≡ NoMemory → line ≡ 0)
+    → ((b : Parsed) → b ≡ Err (n, kind) → Refuses kind line b) → (kind ≡ NoMemory → line ≡ 0)
     → Refuses told line a
 refused-line told kind line n a m same to h f memory =
     subst (λ k. Refuses k line a) (sym same) (line_refused kind line n a m to h f memory)
@@ -32,18 +32,18 @@ never-fails : (m : Checked Value) (kind : YamlKind) → (m >>= within_limits) �
 never-fails (Ok v) kind k e = cc
 never-fails (Err x) kind k e = cc
 
-last_refused : (kind : YamlKind) (line : ℕ) (a : Answer) (bs : List Open) → checked_front bs ≡ Ok tt
+last_refused : (kind : YamlKind) (line : ℕ) (a : Parsed) (bs : List Open) → checked_front bs ≡ Ok tt
     → Fails kind (whole bs) → (kind ≡ NoMemory → line ≡ 0) → Refuses kind line a
 last_refused NoMemory line a bs k h memory = memory refl
 last_refused kind line a bs k h memory = absurd (never-fails (front_value bs) kind k h)
 
-pub refused-last : (told kind : YamlKind) (line : ℕ) (a : Answer) (bs : List Open) → told ≡ kind
+pub refused-last : (told kind : YamlKind) (line : ℕ) (a : Parsed) (bs : List Open) → told ≡ kind
     → checked_front bs ≡ Ok tt → Fails kind (whole bs) → (kind ≡ NoMemory → line ≡ 0)
     → Refuses told line a
 refused-last told kind line a bs same k h memory =
     subst (λ x. Refuses x line a) (sym same) (last_refused kind line a bs k h memory)
 
-abbrev good_answer : Data → Answer
+abbrev good_answer : Data → Parsed
 good_answer d = Ok d
 
 whole-by : (bytes : List ℕ) (number : ℕ) (started : Bool) (blocks : List Open)

@@ -8,7 +8,8 @@ use Rattle.rvs_yaml_text.specs.Word.{Bracket, Token, opening, closing, comma, co
 use Rattle.rvs_yaml_text.specs.Word.{key_token, cut_key, colon_scalar, alias_token, late_colon}
 use Rattle.rvs_yaml_text.specs.Word.{fault}
 use Rattle.rvs_yaml.specs.Checks.{Checked, ◌>>=◌, ◌>>◌}
-use Rattle.rvs_yaml.specs.Flow.{Nest, none, one, group, inside, ending, behind, nest, Place, member}
+use Rattle.rvs_yaml.specs.Flow.{Nest, none, one, group, inside, ending, behind, nest, FlowState}
+use Rattle.rvs_yaml.specs.Flow.{member}
 use Rattle.rvs_yaml.specs.Flow.{behind_member, key_place, entry_value, behind_entry, first_place}
 use Rattle.rvs_yaml.specs.Flow.{with_value, with_token, may_open, closes, ends_with, fits}
 use Rattle.rvs_yaml.specs.Flow.{last_fits, entry_fits, collection, only_end, merged_well}
@@ -23,7 +24,7 @@ use Rattle.rvs_yaml.proofs.Outlined.{bind_assoc, bind_same, then_assoc, then_sam
 abbrev behind_whole : Value × Bool → Nest → Checked (Value × Bool)
 behind_whole v n = only_end n >> Ok v
 
-abbrev resumed : Anchors → ℕ → Bool → Bracket → Place → List (Bracket × Place) → Nest
+abbrev resumed : Anchors → ℕ → Bool → Bracket → FlowState → List (Bracket × FlowState) → Nest
     → Checked (Value × Bool)
 resumed known line good b place [] n = collection known line good place (inside n)
     >>= λ v. ends_with b (ending n) >> behind_whole v (behind n)
@@ -37,27 +38,27 @@ going known line (open_in good b place outer) n = resumed known line good b plac
 going known line (whole v) n = behind_whole v n
 
 -- what stands behind the collection on top
-rest_of : Anchors → ℕ → List (Bracket × Place) → Nest → Value × Bool → Checked (Value × Bool)
+rest_of : Anchors → ℕ → List (Bracket × FlowState) → Nest → Value × Bool → Checked (Value × Bool)
 rest_of known line [] n v = behind_whole v n
 rest_of known line (o ∷ outer) n v =
     with_value o.1 v.0 >>= λ next. resumed known line (v.1 && fits next) o.0 next outer n
 
-resumed-rest : (known : Anchors) (line : ℕ) (good : Bool) (b : Bracket) (place : Place)
-    (outer : List (Bracket × Place)) (n : Nest) →
+resumed-rest : (known : Anchors) (line : ℕ) (good : Bool) (b : Bracket) (place : FlowState)
+    (outer : List (Bracket × FlowState)) (n : Nest) →
     resumed known line good b place outer n ≡ (collection known line good place (inside n)
     >>= λ v. ends_with b (ending n) >> rest_of known line outer (behind n) v)
 unfolding rest_of
 resumed-rest known line good b place [] n = refl
 resumed-rest known line good b place (o ∷ outer) n = refl
 
-into-rest : (known : Anchors) (line : ℕ) (v : Value × Bool) (outer : List (Bracket × Place))
+into-rest : (known : Anchors) (line : ℕ) (v : Value × Bool) (outer : List (Bracket × FlowState))
     (n : Nest) → rest_of known line outer n v ≡ (into v outer >>= λ r. going known line r n)
 unfolding rest_of
 into-rest known line v [] n = refl
 into-rest known line v (o ∷ outer) n = sym (bind_assoc (with_value o.1 v.0) _ _)
 
-close-going : (known : Anchors) (line : ℕ) (good : Bool) (b c : Bracket) (place : Place)
-    (outer : List (Bracket × Place)) (n : Nest) →
+close-going : (known : Anchors) (line : ℕ) (good : Bool) (b c : Bracket) (place : FlowState)
+    (outer : List (Bracket × FlowState)) (n : Nest) →
     resumed known line good b place outer (one (closing c) n)
     ≡ (flow_step false known line (open_in good b place outer) (closing c)
     >>= λ r. going known line r n)
@@ -70,7 +71,7 @@ close-going known line good b c place outer n =
     ∙ sym (bind_assoc (closes line place) _ _)
 
 token-going : (known : Anchors) (line : ℕ) (good : Bool) (b : Bracket)
-    (outer : List (Bracket × Place)) (m : Checked Place) (n : Nest) →
+    (outer : List (Bracket × FlowState)) (m : Checked FlowState) (n : Nest) →
     ((m >>= λ next. collection known line (good && fits next) next (inside n))
     >>= λ v. ends_with b (ending n) >> rest_of known line outer (behind n) v)
     ≡ (moved good b outer m >>= λ r. going known line r n)
@@ -79,8 +80,8 @@ token-going known line good b outer m n =
     ∙ bind_same m _ _ (λ next. sym (resumed-rest known line (good && fits next) b next outer n))
     ∙ sym (bind_assoc m _ _)
 
-open-going : (known : Anchors) (line : ℕ) (good : Bool) (b c : Bracket) (place : Place)
-    (outer : List (Bracket × Place)) (n : Nest) →
+open-going : (known : Anchors) (line : ℕ) (good : Bool) (b c : Bracket) (place : FlowState)
+    (outer : List (Bracket × FlowState)) (n : Nest) →
     resumed known line good b place outer (group c (inside n) (ending n) (behind n))
     ≡ (flow_step false known line (open_in good b place outer) (opening c)
     >>= λ r. going known line r n)
@@ -142,7 +143,7 @@ step-going known line (whole v) (alias_token k) ms = refl
 step-going known line (whole v) (fault k) ms = refl
 step-going known line (whole v) late_colon ms = refl
 
-no_end : {A : Type 0} (line : ℕ) (good : Bool) (place : Place)
+no_end : {A : Type 0} (line : ℕ) (good : Bool) (place : FlowState)
     → ((closes line place >>= λ v. let r : Checked (Value × Bool) = Ok (v, good) in r)
     >>= λ v. let r : Checked A = Err BadFlow in r) ≡ Err BadFlow
 no_end line good (member vs) = refl

@@ -116,8 +116,11 @@ follows-words h line item column (b ∷ bs) l =
     (dash-or line item column b bs) (follows-words h line item (suc column) bs (omega arith)) (
     choose (Follows h) (b == 45 && ends_indicator bs)
     (word_at line column (dash (item_name bs)) ∷ words_at line true (suc column) bs)
-    (named-or-last line item column b bs)
-    (right-below h line column (dash (item_name bs)) l, follows-words (head_of (word_at line column (dash (item_name bs)))) line true (suc column) bs (omega arith)) (
+    (named-or-last line item column b bs) (
+      right-below h line column (dash (item_name bs)) l,
+      follows-words (head_of (word_at line column
+          (dash (item_name bs)))) line true (suc column) bs (omega arith),
+    ) (
     choose (Follows h) (item && b == 38) (word_of line column (anchored_shape (anchor_split bs)))
     (last_words line column (b ∷ bs))
     (follows-name h line column (anchored_shape (anchor_split bs)) l)

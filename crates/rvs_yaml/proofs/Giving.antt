@@ -2,7 +2,7 @@
 use Rattle.std.proofs.Common.{◌≡◌, List, Result, Ok, Err, ap, subst, ◌∙◌, sym}
 use Rattle.rvs_yaml.specs.Checks.{Checked, ◌>>=◌}
 use Rattle.rvs_yaml.specs.Gives.{Agrees, Gives, Fails}
-use Rattle.rvs_yaml.specs.Answer.{within_limits}
+use Rattle.rvs_yaml.specs.Parsed.{within_limits}
 use Rattle.rvs_yaml.specs.Reader.{kept, Passes, RefusesFront, DeniesFront}
 use Rattle.rvs_tree.specs.Value.{Value}
 use Rattle.rvs_yaml.specs.Stack.{Open}

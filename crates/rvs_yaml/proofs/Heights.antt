@@ -16,7 +16,8 @@ use Rattle.rvs_yaml_text.specs.declared.kind.YamlKind.TheVariants.{BadFlow, BadS
 use Rattle.rvs_yaml.specs.Checks.{Checked, ◌>>=◌, ◌>>◌, check}
 use Rattle.rvs_yaml.specs.Anchors.{Anchors, lookup, known_alias}
 use Rattle.rvs_yaml.specs.Entry.{written}
-use Rattle.rvs_yaml.specs.Flow.{Place, member, behind_member, key_place, entry_value, behind_entry}
+use Rattle.rvs_yaml.specs.Flow.{FlowState, member, behind_member, key_place, entry_value}
+use Rattle.rvs_yaml.specs.Flow.{behind_entry}
 use Rattle.rvs_yaml.specs.Flow.{first_place, new_key, with_value, with_comma, with_key}
 use Rattle.rvs_yaml.specs.Flow.{with_cut_key, with_colon_scalar, with_alias, with_fault, with_token}
 use Rattle.rvs_yaml.specs.Flow.{may_open, closes, ends_with, fits, flow_value}
@@ -26,7 +27,7 @@ use Rattle.rvs_yaml.specs.Heights.{found_depth, level_behind, reach, height}
 use Rattle.rvs_yaml.proofs.FlowRuns.{flow-ended}
 
 -- how deep the members of a place are
-abbrev place_depth : Place → ℕ
+abbrev place_depth : FlowState → ℕ
 place_depth (member vs) = values_depth vs
 place_depth (behind_member vs) = values_depth vs
 place_depth (key_place ws) = written_depth ws
@@ -34,7 +35,7 @@ place_depth (entry_value ws k) = written_depth ws
 place_depth (behind_entry ws) = written_depth ws
 
 -- the members on each level, with the levels around them, are no deeper than this
-abbrev Levels : List (Bracket × Place) → ℕ → Type 0
+abbrev Levels : List (Bracket × FlowState) → ℕ → Type 0
 Levels [] n = Unit {0}
 Levels (o ∷ outer) n = (place_depth o.1 + suc (length outer) ≤ n) × Levels outer n
 
@@ -60,7 +61,7 @@ entry-deep : (ws : List Written) (k : Key) (v : Value)
 entry-deep ws k v = omega
     (arith, written_depth-push ws (written k v), brought_small (explicit_keys ws) k.merges v.tree)
 
-value-deep : (p q : Place) (v : Value) → with_value p v ≡ Ok q
+value-deep : (p q : FlowState) (v : Value) → with_value p v ≡ Ok q
     → place_depth q ≤ max (place_depth p) (depth v.tree)
 value-deep (member vs) q v h = let e : behind_member (vs ++ v ∷ []) ≡ q = cc in
     omega (arith, ap place_depth e, values_depth-push vs v)
@@ -70,14 +71,14 @@ value-deep (entry_value ws k) q v h = let e : behind_entry (ws ++ written k v �
     omega (arith, ap place_depth e, entry-deep ws k v)
 value-deep (behind_entry ws) q v h = cc
 
-comma-deep : (p q : Place) → with_comma p ≡ Ok q → place_depth q ≡ place_depth p
+comma-deep : (p q : FlowState) → with_comma p ≡ Ok q → place_depth q ≡ place_depth p
 comma-deep (member vs) q h = cc
 comma-deep (behind_member vs) q h = let e : member vs ≡ q = cc in sym (ap place_depth e)
 comma-deep (key_place ws) q h = cc
 comma-deep (entry_value ws k) q h = cc
 comma-deep (behind_entry ws) q h = let e : key_place ws ≡ q = cc in sym (ap place_depth e)
 
-key-deep : (p q : Place) (k : Key) → with_key p k ≡ Ok q → place_depth q ≡ place_depth p
+key-deep : (p q : FlowState) (k : Key) → with_key p k ≡ Ok q → place_depth q ≡ place_depth p
 key-deep (member vs) q k h = cc
 key-deep (behind_member vs) q k h = cc
 key-deep (key_place ws) q k h = let is = follows (new_key ws k) (Ok (entry_value ws k)) q h in
@@ -85,22 +86,22 @@ key-deep (key_place ws) q k h = let is = follows (new_key ws k) (Ok (entry_value
 key-deep (entry_value ws l) q k h = cc
 key-deep (behind_entry ws) q k h = cc
 
-cut-deep : (p q : Place) (k : Key) → with_cut_key p k ≡ Ok q → ⊥
+cut-deep : (p q : FlowState) (k : Key) → with_cut_key p k ≡ Ok q → ⊥
 cut-deep (member vs) q k h = cc
 cut-deep (behind_member vs) q k h = cc
 cut-deep (key_place ws) q k h = let is =
-    follows (new_key ws k) (let r : Checked Place = Err BadFlow in r) q h in cc
+    follows (new_key ws k) (let r : Checked FlowState = Err BadFlow in r) q h in cc
 cut-deep (entry_value ws l) q k h = cc
 cut-deep (behind_entry ws) q k h = cc
 
-colon-deep : (p q : Place) (b : ℕ) → with_colon_scalar p b ≡ Ok q → ⊥
+colon-deep : (p q : FlowState) (b : ℕ) → with_colon_scalar p b ≡ Ok q → ⊥
 colon-deep (member vs) q b h = cc
 colon-deep (behind_member vs) q b h = cc
 colon-deep (key_place ws) q b h = cc
 colon-deep (entry_value ws l) q b h = cc
 colon-deep (behind_entry ws) q b h = cc
 
-fault-deep : (p q : Place) (kind : YamlKind) → with_fault p kind ≡ Ok q → ⊥
+fault-deep : (p q : FlowState) (kind : YamlKind) → with_fault p kind ≡ Ok q → ⊥
 fault-deep (member vs) q kind h = cc
 fault-deep (behind_member vs) q kind h = cc
 fault-deep (key_place ws) q kind h = cc
@@ -111,17 +112,17 @@ found-deep : (o : Option Value) (v : Value) → known_alias o ≡ Ok v → depth
 found-deep None v h = cc
 found-deep (Some u) v h = let e : u ≡ v = cc in sym (ap (λ (x : Value). depth x.tree) e)
 
-alias-deep : (known : Anchors) (p q : Place) (name : List ℕ) → with_alias known p name ≡ Ok q
+alias-deep : (known : Anchors) (p q : FlowState) (name : List ℕ) → with_alias known p name ≡ Ok q
     → place_depth q ≤ max (place_depth p) (found_depth (lookup name known))
 alias-deep known (member vs) q [] h = cc
 alias-deep known (entry_value ws k) q [] h = cc
 alias-deep known (member vs) q (b ∷ bs) h =
     let (v, e, i) = bound (known_alias (lookup (b ∷ bs) known))
-    (λ v. let r : Checked Place = Ok (behind_member (vs ++ v ∷ [])) in r) q h in
+    (λ v. let r : Checked FlowState = Ok (behind_member (vs ++ v ∷ [])) in r) q h in
     omega (arith, value-deep (member vs) q v i, found-deep (lookup (b ∷ bs) known) v e)
 alias-deep known (entry_value ws k) q (b ∷ bs) h =
     let (v, e, i) = bound (known_alias (lookup (b ∷ bs) known))
-    (λ v. let r : Checked Place = Ok (behind_entry (ws ++ written k v ∷ [])) in r) q h in
+    (λ v. let r : Checked FlowState = Ok (behind_entry (ws ++ written k v ∷ [])) in r) q h in
     omega (arith, value-deep (entry_value ws k) q v i, found-deep (lookup (b ∷ bs) known) v e)
 alias-deep known (key_place ws) q [] h = cc
 alias-deep known (key_place ws) q (b ∷ bs) h = cc
@@ -131,7 +132,7 @@ alias-deep known (behind_entry ws) q [] h = cc
 alias-deep known (behind_entry ws) q (b ∷ bs) h = cc
 
 -- a token that is no bracket
-token-deep : (known : Anchors) (line level : ℕ) (p q : Place) (m : Token) (n : ℕ)
+token-deep : (known : Anchors) (line level : ℕ) (p q : FlowState) (m : Token) (n : ℕ)
     → with_token known line p m ≡ Ok q → place_depth p + level ≤ n → reach known level m ≤ n
     → place_depth q + level ≤ n
 token-deep known line level p q (opening b) n h d r = cc
@@ -148,7 +149,7 @@ token-deep known line level p q (alias_token name) n h d r =
 token-deep known line level p q late_colon n h d r = cc
 token-deep known line level p q (fault kind) n h d r = absurd (fault-deep p q kind h)
 
-closes-deep : (line : ℕ) (p : Place) (v : Value) → closes line p ≡ Ok v
+closes-deep : (line : ℕ) (p : FlowState) (v : Value) → closes line p ≡ Ok v
     → depth v.tree ≤ suc (place_depth p)
 closes-deep line (member vs) v h = let e : list_value line vs ≡ v = cc in
     omega (arith, ap (λ (x : Value). depth x.tree) e, list-depth vs)
@@ -168,13 +169,13 @@ whole-reading : (v : Value) (good : Bool) (s : Reading) (n : ℕ)
     → (let r : Checked Reading = Ok (whole (v, good)) in r) ≡ Ok s → depth v.tree ≤ n → Within s n
 whole-reading v good s n h d = let e : whole (v, good) ≡ s = cc in subst (λ x. Within x n) e d
 
-open-reading : (good : Bool) (b : Bracket) (p : Place) (outer : List (Bracket × Place))
+open-reading : (good : Bool) (b : Bracket) (p : FlowState) (outer : List (Bracket × FlowState))
     (s : Reading) (n : ℕ) → (let r : Checked Reading = Ok (open_in good b p outer) in r) ≡ Ok s
     → Within (open_in good b p outer) n → Within s n
 open-reading good b p outer s n h d = let e : open_in good b p outer ≡ s = cc in
     subst (λ x. Within x n) e d
 
-into-deep : (v : Value) (good : Bool) (outer : List (Bracket × Place)) (s : Reading) (n : ℕ)
+into-deep : (v : Value) (good : Bool) (outer : List (Bracket × FlowState)) (s : Reading) (n : ℕ)
     → into (v, good) outer ≡ Ok s → depth v.tree + length outer ≤ n → Levels outer n → Within s n
 into-deep v good [] s n h d l = whole-reading v good s n h (omega (arith, d))
 into-deep v good (o ∷ outer) s n h d l =
@@ -184,8 +185,8 @@ into-deep v good (o ∷ outer) s n h d l =
     open-reading (good && fits q) o.0 q outer s n i
     (omega (arith, value-deep o.1 q v e, d, l.0), l.1)
 
-moved-deep : (known : Anchors) (line : ℕ) (good : Bool) (b : Bracket) (p : Place)
-    (outer : List (Bracket × Place)) (m : Token) (s : Reading) (n : ℕ) →
+moved-deep : (known : Anchors) (line : ℕ) (good : Bool) (b : Bracket) (p : FlowState)
+    (outer : List (Bracket × FlowState)) (m : Token) (s : Reading) (n : ℕ) →
     moved good b outer (with_token known line p m) ≡ Ok s → Within (open_in good b p outer) n
     → reach known (suc (length outer)) m ≤ n → Within s n
 moved-deep known line good b p outer m s n h d r =
@@ -237,7 +238,7 @@ step-deep known line (whole v) s late_colon n h d r = cc
 step-deep known line (whole v) s (fault k) n h d r = cc
 
 -- the level behind a token that was read
-into-level : (v : Value) (good : Bool) (outer : List (Bracket × Place)) (s : Reading)
+into-level : (v : Value) (good : Bool) (outer : List (Bracket × FlowState)) (s : Reading)
     → into (v, good) outer ≡ Ok s → level_of s ≡ length outer
 into-level v good [] s h = let e : whole (v, good) ≡ s = cc in sym (ap level_of e)
 into-level v good (o ∷ outer) s h =
@@ -247,7 +248,8 @@ into-level v good (o ∷ outer) s h =
     let e : open_in (good && fits q) o.0 q outer ≡ s = cc in sym (ap level_of e)
 
 moved-level : (known : Anchors) (line : ℕ) (good : Bool) (b : Bracket)
-    (outer : List (Bracket × Place)) (m : Checked Place) (s : Reading) → moved good b outer m ≡ Ok s
+    (outer : List (Bracket × FlowState)) (m : Checked FlowState) (s : Reading)
+    → moved good b outer m ≡ Ok s
     → level_of s ≡ suc (length outer)
 moved-level known line good b outer m s h =
     let (q, e, i) = bound m
@@ -262,7 +264,11 @@ step-level known line (open_in good b p outer) s (opening c) h =
     let e : open_in good c (first_place c) ((b, p) ∷ outer) ≡ s = cc in sym (ap level_of e)
 step-level known line (open_in good b p outer) s (closing c) h =
     let (v, e, i) = bound (closes line p) (λ v. ends_with b (Some c) >> into (v, good) outer) s h in
-    omega (arith, into-level v good outer s (follows (ends_with b (Some c)) (into (v, good) outer) s i))
+    omega (
+      arith,
+      into-level v good outer s
+          (follows (ends_with b (Some c)) (into (v, good) outer) s i),
+    )
 step-level known line (open_in good b p outer) s comma h = moved-level known line good b outer _ s h
 step-level known line (open_in good b p outer) s colon h = moved-level known line good b outer _ s h
 step-level known line (open_in good b p outer) s (scalar_token k) h =

@@ -6,8 +6,8 @@ use Rattle.std.proofs.lemmas.Bool.{cases_lt}
 use Rattle.rvs_tree.specs.Data.{Data}
 use Rattle.rvs_yaml.specs.Checks.{Checked}
 use Rattle.rvs_yaml_text.specs.Text.{lines_of}
-use Rattle.rvs_yaml.specs.Answer.{Answer, front, at_end, answer_after, HasTree, Tells}
-use Rattle.rvs_yaml.specs.Answer.{AnswersAreLeast}
+use Rattle.rvs_yaml.specs.Parsed.{Parsed, front, at_end, answer_after, HasTree, Tells}
+use Rattle.rvs_yaml.specs.Parsed.{AnswersAreLeast}
 
 -- each front of lines that is shorter than n has a tree
 abbrev FrontsHave : List (List ℕ) → ℕ → Type 0
@@ -45,10 +45,10 @@ tells-end lines (Err kind) e before = record {
   fault = ap front (take_more_than lines (length lines) (omega arith)) ∙ e;
 }
 
-tells-line : (lines done : List (List ℕ)) (n : ℕ) (r : Checked Data) (more : Answer)
+tells-line : (lines done : List (List ℕ)) (n : ℕ) (r : Checked Data) (more : Parsed)
     → take n lines ≡ done → front done ≡ r → FrontsHave lines n
     → (HasTree (take n lines) → Tells lines more)
-    → Tells lines (elim r as (λ _. Answer) [ Err kind ↦ Err (n, kind) | Ok d ↦ more ])
+    → Tells lines (elim r as (λ _. Parsed) [ Err kind ↦ Err (n, kind) | Ok d ↦ more ])
 tells-line lines done n (Ok d) more is e before next = next (d, ap front is ∙ e)
 tells-line lines done n (Err kind) more is e before next =
     record { before = before; fault = ap front is ∙ e }

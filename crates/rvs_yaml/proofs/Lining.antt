@@ -66,7 +66,8 @@ pub words-dash : (line : ℕ) (item : Bool) (column : ℕ) (bs behind : List ℕ
     ≡ word_at line column (dash (item_name behind)) ∷ words_at line true (suc column) behind
 words-dash line item column [] behind h = cc
 words-dash line item column (b ∷ bs) behind h =
-    elim (b == 45 && ends_indicator bs) as (λ t. (b == 45 && ends_indicator bs) ≡ t → Some behind ≡ (elim t as (λ _. Option (List ℕ)) [
+    elim (b == 45 && ends_indicator bs) as (λ t. (b == 45 && ends_indicator bs) ≡ t → Some behind
+    ≡ (elim t as (λ _. Option (List ℕ)) [
       | true ↦ Some bs
       | false ↦ None
     ]) → words_at line item column (b ∷ bs)

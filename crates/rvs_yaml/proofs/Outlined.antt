@@ -138,7 +138,8 @@ next-entries ws line column A known k l v e rest =
 advance-members : (dn : Done) (line column : ℕ) (anchors known : Anchors) (g : Found Value)
     (w : Word) (inner rest : Outline) →
     members_as dn line column anchors known g (below w inner rest)
-    ≡ (advanced_as dn column g.value w >>= λ dn2. own_value ((g.anchors ++ anchors) ++ known) w.line w.shape >>= λ own.
+    ≡ (advanced_as dn column g.value w
+    >>= λ dn2. own_value ((g.anchors ++ anchors) ++ known) w.line w.shape >>= λ own.
     value_over own (head_of w) inner (block ((g.anchors ++ anchors) ++ known) w.line inner)
     >>= λ e. members_as dn2 line column (g.anchors ++ anchors) known e rest)
 advance-members (done_items vs) line column anchors known g w inner rest =
@@ -166,7 +167,9 @@ advance-members (done_entries ws k) line column anchors known g w inner rest =
     ∙ bind_assoc (own_value (A ++ known) w.line w.shape) _ _)
     ∙ sym (bind_assoc keyed _ _))
     ∙ sym (then_assoc (check_merge k g.value) _ _)
-    ∙ ap (λ seen. (check_merge k g.value >> (key_at column seen w.column w.shape >>= λ l. Ok (done_entries (ws ++ written k g.value ∷ []) l))) >>= λ dn2. own_value (A ++ known) w.line w.shape >>= λ own.
+    ∙ ap (λ seen. (check_merge k g.value
+    >> (key_at column seen w.column w.shape
+    >>= λ l. Ok (done_entries (ws ++ written k g.value ∷ []) l))) >>= λ dn2. own_value (A ++ known) w.line w.shape >>= λ own.
     value_over own (head_of w) inner (block (A ++ known) w.line inner)
     >>= λ e. members_as dn2 line column A known e rest) (sym (explicit_keys-push ws k g.value))
 advance-members alone line column anchors known g w inner rest = refl
@@ -191,7 +194,8 @@ moved b g dn w own = record {
 advance-resumed : (g : Found Value) (b : Open) (bs : List Open) (w : Word) (o inside : Outline)
     (go : Found Value → Checked (Found Value)) →
     (members b bs g (below w (children (head_of w) o) inside) >>= go)
-    ≡ (advanced_as b.done b.column g.value w >>= λ dn. own_value ((g.anchors ++ b.anchors) ++ known_of bs) w.line w.shape >>= λ own.
+    ≡ (advanced_as b.done b.column g.value w
+    >>= λ dn. own_value ((g.anchors ++ b.anchors) ++ known_of bs) w.line w.shape >>= λ own.
     value_over own (head_of w) (children (head_of w) o)
     (block ((g.anchors ++ b.anchors) ++ known_of bs) w.line (children (head_of w) o)) >>= λ e.
     members (moved b g dn w own) bs e inside >>= go)
@@ -246,7 +250,10 @@ over-end false a empty own = refl
 
 -- a word below a word that opens no block, and one below a word that does
 below-step : (t : Bool) (b : Open) (bs : List Open) (w : Word) (o : Outline) →
-    (cond t (block (known_of (b ∷ bs)) b.head.line (below w (children (head_of w) o) (children b.head (after (head_of w) o))) >>= λ g. Ok (named b.head.anchor g)) (check false Unsupported >> Ok (named b.head.anchor (found b.own [])))
+    (cond t (block (known_of (b ∷ bs)) b.head.line
+    (below w (children (head_of w) o) (children b.head (after (head_of w) o)))
+    >>= λ g. Ok (named b.head.anchor g)) (check false Unsupported
+    >> Ok (named b.head.anchor (found b.own [])))
     >>= λ g. resumed_value g b bs (after b.head (after (head_of w) o)))
     ≡ ((check t Unsupported >> begins (b ∷ bs) w) >>= λ cs. resumed cs o)
 below-step true b bs w o =

@@ -11,7 +11,7 @@ use Rattle.rvs_yaml.specs.Flow.{flow_value}
 use Rattle.rvs_yaml.specs.Stack.{Open, known_of}
 use Rattle.rvs_yaml.specs.Filling.{with_own, filled}
 use Rattle.rvs_yaml.specs.Front.{ends}
-use Rattle.rvs_yaml.specs.Answer.{within_limits}
+use Rattle.rvs_yaml.specs.Parsed.{within_limits}
 use Rattle.rvs_yaml.specs.Reader.{kept, DeniesFront, Denies}
 use Rattle.rvs_yaml.specs.Sketched.{SketchedAs}
 use Rattle.rvs_yaml.specs.Gives.{Fails}

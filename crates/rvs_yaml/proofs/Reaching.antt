@@ -19,7 +19,7 @@ use Rattle.rvs_yaml_text.specs.Word.{head_of, is_below, opens_block}
 use Rattle.rvs_yaml.specs.Checks.{Checked, ◌>>=◌, ◌>>◌, check}
 use Rattle.rvs_yaml.specs.Anchors.{Anchors}
 use Rattle.rvs_yaml.specs.Entry.{written}
-use Rattle.rvs_yaml.specs.Answer.{within_limits}
+use Rattle.rvs_yaml.specs.Parsed.{within_limits}
 use Rattle.rvs_yaml.specs.Block.{Found, no_place, item_at, key_at, check_merge}
 use Rattle.rvs_yaml.specs.Block as block_spec
 use Rattle.rvs_yaml.specs.Stack.{noted}

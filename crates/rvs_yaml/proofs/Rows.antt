@@ -2,7 +2,7 @@
 use Rattle.std.proofs.Common.{◌≡◌, [], ◌∷◌, Ok, Err, refl}
 use Rattle.std.specs.Str.{is_utf8, chars}
 use lib.Utf8.{encode}
-use Rattle.rvs_yaml.specs.Answer.{answer}
+use Rattle.rvs_yaml.specs.Parsed.{answer}
 use Rattle.rvs_tree.specs.Data.{scalar, sequence, mapping, no_items, item, no_entries, entry}
 use Rattle.rvs_yaml_text.specs.declared.kind.YamlKind.TheVariants.{TabIndent, BadIndent, BadScalar}
 use Rattle.rvs_yaml_text.specs.declared.kind.YamlKind.TheVariants.{BadFlow, DuplicateKey}

@@ -24,7 +24,7 @@ use Rattle.rvs_yaml.specs.Flow.{flow_value}
 use Rattle.rvs_yaml.specs.Front.{own_value, ends, front_value, checked_front}
 use Rattle.rvs_yaml.specs.Reach.{passed, deepened, seen, sight, KeepsDepth}
 use Rattle.rvs_tree.specs.Shown.{Shown, shown_by}
-use Rattle.rvs_yaml.specs.Answer.{within_limits}
+use Rattle.rvs_yaml.specs.Parsed.{within_limits}
 use Rattle.rvs_yaml.specs.Rising.{Rises, befores}
 use Rattle.rvs_yaml.specs.StackView.{anchor_view, anchors_view, own_view, open_view, stack_view}
 use Rattle.rvs_yaml.specs.StackView.{done_view, block_at, open_at, over, anchored, Names}

@@ -105,7 +105,11 @@ pub top-ok : (bs : List Open) (top : Open) (sk : Sketch) → Some top ≡ slice_
     → ((v : Value) × (top_closed top ≡ Ok v) × IsSketch v sk) →
     (v : Value) × IsSketch v sk
     × (ends v (stack_view (take (length bs - 1) bs)) ≡ front_value (stack_view bs))
-top-ok bs top sk h (v, e, s) = (v, s, sym (ap (λ m. m >>= λ w. ends w (stack_view (take (length bs - 1) bs))) e) ∙ front-top bs top h)
+top-ok bs top sk h (v, e, s) = (
+  v,
+  s,
+  sym (ap (λ m. m >>= λ w. ends w (stack_view (take (length bs - 1) bs))) e) ∙ front-top bs top h,
+)
 
 pub top-err : (bs : List Open) (top : Open) (kind : YamlKind)
     → Some top ≡ slice_get bs (length bs - 1) → top_closed top ≡ Err kind
@@ -127,7 +131,11 @@ sketch-next : (bs : List Open) (m : ℕ) (b : Open) (new : Sketch) (t : Checked 
     → m < length bs → ends v (stack_view (take (m + 1) bs)) ≡ t →
     ((w : Value) × (closing (get_or bs m b) v ≡ Ok w) × IsSketch w new)
     → (w : Value) × IsSketch w new × (ends w (stack_view (take m bs)) ≡ t)
-sketch-next bs m b new t v h e (w, c, s) = (w, s, sym (ap (λ r. r >>= λ u. ends u (stack_view (take m bs))) c) ∙ sym (ends-top bs m b v h) ∙ e)
+sketch-next bs m b new t v h e (w, c, s) = (
+  w,
+  s,
+  sym (ap (λ r. r >>= λ u. ends u (stack_view (take m bs))) c) ∙ sym (ends-top bs m b v h) ∙ e,
+)
 
 pub sketch-ok : (bs : List Open) (m : ℕ) (b : Open) (sk new : Sketch) (t : Checked Value)
     → m < length bs →

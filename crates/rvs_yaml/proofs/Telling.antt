@@ -6,8 +6,8 @@ use Rattle.rvs_tree.specs.Data.{Data, depth}
 use Rattle.rvs_tree.specs.Value.{Value}
 use Rattle.rvs_yaml.specs.Checks.{Checked, ◌>>=◌, ◌>>◌, check}
 use Rattle.rvs_yaml.specs.Block.{tree_of}
-use Rattle.rvs_yaml.specs.Answer.{answer, within_limits, HasTree, IsTreeOf, IsFirstFault, Tells}
-use Rattle.rvs_yaml.specs.Answer.{RefusesLines, KeepsNodes, FrontsHaveTrees}
+use Rattle.rvs_yaml.specs.Parsed.{answer, within_limits, HasTree, IsTreeOf, IsFirstFault, Tells}
+use Rattle.rvs_yaml.specs.Parsed.{RefusesLines, KeepsNodes, FrontsHaveTrees}
 use Rattle.rvs_yaml.specs.Reader.{Refuses}
 use Rattle.rvs_yaml_text.specs.Text.{lines_of, words_of}
 use Rattle.rvs_yaml_text.specs.declared.kind.YamlKind.{YamlKind}

@@ -14,7 +14,8 @@ use Rattle.rvs_yaml_text.specs.Word.{alias_token, late_colon, fault}
 use Rattle.rvs_yaml.specs.Checks.{Checked, ◌>>=◌, ◌>>◌, check, mapped}
 use Rattle.rvs_yaml.specs.Anchors.{Anchors, lookup, known_alias, thinned, formed}
 use Rattle.rvs_yaml.specs.Entry.{written}
-use Rattle.rvs_yaml.specs.Flow.{Place, member, behind_member, key_place, entry_value, behind_entry}
+use Rattle.rvs_yaml.specs.Flow.{FlowState, member, behind_member, key_place, entry_value}
+use Rattle.rvs_yaml.specs.Flow.{behind_entry}
 use Rattle.rvs_yaml.specs.Flow.{first_place, new_key, with_value, with_comma, with_key}
 use Rattle.rvs_yaml.specs.Flow.{with_cut_key, with_colon_scalar, with_alias, with_fault, with_token}
 use Rattle.rvs_yaml.specs.Flow.{may_open, closes, ends_with, entry_fits, last_fits, fits}
@@ -94,21 +95,21 @@ thin-last (w ∷ []) = thin-fits w
 thin-last (w ∷ u ∷ ws) = thin-last (u ∷ ws)
 
 -- places, with what stands for their values
-abbrev pub thin_place : Place → Place
+abbrev pub thin_place : FlowState → FlowState
 thin_place (member vs) = member (map standin vs)
 thin_place (behind_member vs) = behind_member (map standin vs)
 thin_place (key_place ws) = key_place (map thin_written ws)
 thin_place (entry_value ws k) = entry_value (map thin_written ws) k
 thin_place (behind_entry ws) = behind_entry (map thin_written ws)
 
-place-fits : (p : Place) → fits (thin_place p) ≡ fits p
+place-fits : (p : FlowState) → fits (thin_place p) ≡ fits p
 place-fits (member vs) = refl
 place-fits (behind_member vs) = refl
 place-fits (key_place ws) = refl
 place-fits (entry_value ws k) = refl
 place-fits (behind_entry ws) = thin-last ws
 
-abbrev thin_level : Bracket × Place → Bracket × Place
+abbrev thin_level : Bracket × FlowState → Bracket × FlowState
 thin_level o = (o.0, thin_place o.1)
 
 abbrev pub thin_reading : Reading → Reading
@@ -135,7 +136,7 @@ then-with (Ok x) f g h = h
 then-with (Err k) f g h = refl
 
 -- a value comes next
-thin-value : (p : Place) (v : Value)
+thin-value : (p : FlowState) (v : Value)
     → with_value (thin_place p) (standin v) ≡ mapped thin_place (with_value p v)
 thin-value (member vs) v = ap (λ us. Ok (behind_member us)) (sym (map-append standin vs (v ∷ [])))
 thin-value (behind_member vs) v = refl
@@ -178,17 +179,17 @@ pub formed-alias : (poor : Bool) (name : List ℕ) (known : Anchors)
 formed-alias false name known = same-alias (lookup name known)
 formed-alias true name known = thin-known name known
 
-alias-into : (known : Anchors) (name : List ℕ) (f : Value → Place) (g : Value → Place)
+alias-into : (known : Anchors) (name : List ℕ) (f : Value → FlowState) (g : Value → FlowState)
     → ((v : Value) → f (standin v) ≡ thin_place (g v)) →
     (known_alias (lookup name (thinned known)) >>= λ v. Ok (f v))
     ≡ mapped thin_place (known_alias (lookup name known) >>= λ v. Ok (g v))
 alias-into known name f g h =
-    ap (λ m. m >>= λ v. let r : Checked Place = Ok (f v) in r) (thin-known name known)
+    ap (λ m. m >>= λ v. let r : Checked FlowState = Ok (f v) in r) (thin-known name known)
     ∙ bind-mapped standin (known_alias (lookup name known)) (λ v. Ok (f v))
     ∙ bind_same (known_alias (lookup name known)) _ _ (λ v. ap (λ p. Ok p) (h v))
     ∙ sym (mapped-bind thin_place (known_alias (lookup name known)) (λ v. Ok (g v)))
 
-thin-alias : (known : Anchors) (p : Place) (name : List ℕ)
+thin-alias : (known : Anchors) (p : FlowState) (name : List ℕ)
     → with_alias (thinned known) (thin_place p) name ≡ mapped thin_place (with_alias known p name)
 thin-alias known (member vs) [] = refl
 thin-alias known (entry_value ws k) [] = refl
@@ -205,33 +206,33 @@ thin-alias known (behind_member vs) (b ∷ bs) = refl
 thin-alias known (behind_entry ws) [] = refl
 thin-alias known (behind_entry ws) (b ∷ bs) = refl
 
-thin-comma : (p : Place) → with_comma (thin_place p) ≡ mapped thin_place (with_comma p)
+thin-comma : (p : FlowState) → with_comma (thin_place p) ≡ mapped thin_place (with_comma p)
 thin-comma (member vs) = refl
 thin-comma (behind_member vs) = refl
 thin-comma (key_place ws) = refl
 thin-comma (entry_value ws k) = refl
 thin-comma (behind_entry ws) = refl
 
-thin-key : (p : Place) (k : Key) → with_key (thin_place p) k ≡ mapped thin_place (with_key p k)
+thin-key : (p : FlowState) (k : Key) → with_key (thin_place p) k ≡ mapped thin_place (with_key p k)
 thin-key (member vs) k = refl
 thin-key (behind_member vs) k = refl
 thin-key (key_place ws) k = ap
-    (λ m. m >> (let r : Checked Place = Ok (entry_value (map thin_written ws) k) in r))
+    (λ m. m >> (let r : Checked FlowState = Ok (entry_value (map thin_written ws) k) in r))
     (thin-new ws k) ∙ sym (mapped-then thin_place (new_key ws k) (Ok (entry_value ws k)))
 thin-key (entry_value ws l) k = refl
 thin-key (behind_entry ws) k = refl
 
-thin-cut : (p : Place) (k : Key)
+thin-cut : (p : FlowState) (k : Key)
     → with_cut_key (thin_place p) k ≡ mapped thin_place (with_cut_key p k)
 thin-cut (member vs) k = refl
 thin-cut (behind_member vs) k = refl
 thin-cut (key_place ws) k =
-    ap (λ m. m >> (let r : Checked Place = Err BadFlow in r)) (thin-new ws k)
+    ap (λ m. m >> (let r : Checked FlowState = Err BadFlow in r)) (thin-new ws k)
     ∙ sym (mapped-then thin_place (new_key ws k) (Err BadFlow))
 thin-cut (entry_value ws l) k = refl
 thin-cut (behind_entry ws) k = refl
 
-thin-colon : (p : Place) (b : ℕ)
+thin-colon : (p : FlowState) (b : ℕ)
     → with_colon_scalar (thin_place p) b ≡ mapped thin_place (with_colon_scalar p b)
 thin-colon (member vs) b = refl
 thin-colon (behind_member vs) b = refl
@@ -239,7 +240,7 @@ thin-colon (key_place ws) b = refl
 thin-colon (entry_value ws l) b = refl
 thin-colon (behind_entry ws) b = refl
 
-thin-fault : (p : Place) (kind : YamlKind)
+thin-fault : (p : FlowState) (kind : YamlKind)
     → with_fault (thin_place p) kind ≡ mapped thin_place (with_fault p kind)
 thin-fault (member vs) kind = refl
 thin-fault (behind_member vs) kind = refl
@@ -247,7 +248,7 @@ thin-fault (key_place ws) kind = refl
 thin-fault (entry_value ws l) kind = refl
 thin-fault (behind_entry ws) kind = refl
 
-thin-token : (known : Anchors) (line : ℕ) (p : Place) (m : Token)
+thin-token : (known : Anchors) (line : ℕ) (p : FlowState) (m : Token)
     → with_token (thinned known) line (thin_place p) m
     ≡ mapped thin_place (with_token known line p m)
 thin-token known line p (opening b) = refl
@@ -262,14 +263,14 @@ thin-token known line p (alias_token name) = thin-alias known p name
 thin-token known line p late_colon = refl
 thin-token known line p (fault kind) = thin-fault p kind
 
-thin-open : (p : Place) → may_open (thin_place p) ≡ may_open p
+thin-open : (p : FlowState) → may_open (thin_place p) ≡ may_open p
 thin-open (member vs) = refl
 thin-open (behind_member vs) = refl
 thin-open (key_place ws) = refl
 thin-open (entry_value ws k) = refl
 thin-open (behind_entry ws) = refl
 
-thin-closes : (line : ℕ) (p : Place)
+thin-closes : (line : ℕ) (p : FlowState)
     → closed_by true line (thin_place p) ≡ mapped standin (closes line p)
 thin-closes line (member vs) = ap (λ v. Ok v) (thin-list line vs)
 thin-closes line (behind_member vs) = ap (λ v. Ok v) (thin-list line vs)
@@ -277,28 +278,28 @@ thin-closes line (key_place ws) = ap (λ v. Ok v) (thin-map_value line ws)
 thin-closes line (entry_value ws k) = refl
 thin-closes line (behind_entry ws) = ap (λ v. Ok v) (thin-map_value line ws)
 
-thin-moved : (known : Anchors) (good : Bool) (b : Bracket) (outer : List (Bracket × Place))
-    (m : Checked Place) → moved good b (map thin_level outer) (mapped thin_place m) ≡ mapped
+thin-moved : (known : Anchors) (good : Bool) (b : Bracket) (outer : List (Bracket × FlowState))
+    (m : Checked FlowState) → moved good b (map thin_level outer) (mapped thin_place m) ≡ mapped
     thin_reading (moved good b outer m)
 thin-moved known good b outer (Ok p) =
     ap (λ g. Ok (open_in (good && g) b (thin_place p) (map thin_level outer))) (place-fits p)
 thin-moved known good b outer (Err k) = refl
 
-into-by : (good : Bool) (b : Bracket) (outer : List (Bracket × Place)) (m : Checked Place) →
+into-by : (good : Bool) (b : Bracket) (outer : List (Bracket × FlowState)) (m : Checked FlowState) →
     (mapped thin_place m >>= λ next. Ok (open_in (good && fits next) b next (map thin_level outer)))
     ≡ mapped thin_reading (m >>= λ next. Ok (open_in (good && fits next) b next outer))
 into-by good b outer (Ok p) =
     ap (λ g. Ok (open_in (good && g) b (thin_place p) (map thin_level outer))) (place-fits p)
 into-by good b outer (Err k) = refl
 
-thin-into : (v : Value) (good : Bool) (outer : List (Bracket × Place))
+thin-into : (v : Value) (good : Bool) (outer : List (Bracket × FlowState))
     → into (standin v, good) (map thin_level outer) ≡ mapped thin_reading (into (v, good) outer)
 thin-into v good [] = refl
 thin-into v good (o ∷ outer) = ap (λ m. m >>= λ next. let r : Checked Reading = Ok
     (open_in (good && fits next) o.0 next (map thin_level outer)) in r) (thin-value o.1 v) ∙ into-by
     good o.0 outer (with_value o.1 v)
 
-thin-close : (line : ℕ) (good : Bool) (b c : Bracket) (outer : List (Bracket × Place))
+thin-close : (line : ℕ) (good : Bool) (b c : Bracket) (outer : List (Bracket × FlowState))
     (m : Checked Value) →
     (mapped standin m >>= λ v. ends_with b (Some c) >> into (v, good) (map thin_level outer))
     ≡ mapped thin_reading (m >>= λ v. ends_with b (Some c) >> into (v, good) outer)
@@ -311,7 +312,7 @@ first-thin : (b : Bracket) → thin_place (first_place b) ≡ first_place b
 first-thin square = refl
 first-thin curly = refl
 
-thin-opening : (good : Bool) (b c : Bracket) (p : Place) (outer : List (Bracket × Place)) →
+thin-opening : (good : Bool) (b c : Bracket) (p : FlowState) (outer : List (Bracket × FlowState)) →
     (may_open (thin_place p) >> (let r : Checked Reading = Ok
     (open_in good c (first_place c) ((b, thin_place p) ∷ map thin_level outer)) in r)) ≡ mapped
     thin_reading (may_open p >> Ok (open_in good c (first_place c) ((b, p) ∷ outer)))

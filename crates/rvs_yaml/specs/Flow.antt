@@ -50,14 +50,14 @@ nest (opening b ∷ ms) = group b (inside (nest ms)) (ending (nest ms)) (behind 
 nest (m ∷ ms) = one m (nest ms)
 
 -- What may come next in an open collection. A comma may stand before its end.
-pub data Place : Type 0 where
-  member : List Value → Place
-  behind_member : List Value → Place
-  key_place : List Written → Place
-  entry_value : List Written → Key → Place
-  behind_entry : List Written → Place
+pub data FlowState : Type 0 where
+  member : List Value → FlowState
+  behind_member : List Value → FlowState
+  key_place : List Written → FlowState
+  entry_value : List Written → Key → FlowState
+  behind_entry : List Written → FlowState
 
-abbrev pub first_place : Bracket → Place
+abbrev pub first_place : Bracket → FlowState
 first_place square = member []
 first_place curly = key_place []
 
@@ -65,26 +65,26 @@ abbrev pub new_key : List Written → Key → Checked (Unit {0})
 new_key ws k = check (k.merges || not (has_key k.name (explicit_keys ws))) DuplicateKey
 
 -- a value comes next
-abbrev pub with_value : Place → Value → Checked Place
+abbrev pub with_value : FlowState → Value → Checked FlowState
 with_value (member vs) v = Ok (behind_member (vs ++ v ∷ []))
 with_value (entry_value ws k) v = Ok (behind_entry (ws ++ written k v ∷ []))
 with_value _ v = Err BadFlow
 
 -- a comma comes next
-abbrev pub with_comma : Place → Checked Place
+abbrev pub with_comma : FlowState → Checked FlowState
 with_comma (behind_member vs) = Ok (member vs)
 with_comma (behind_entry ws) = Ok (key_place ws)
 with_comma _ = Err BadFlow
 
 -- a key with its colon comes next
-abbrev pub with_key : Place → Key → Checked Place
+abbrev pub with_key : FlowState → Key → Checked FlowState
 with_key (key_place ws) k = new_key ws k >> Ok (entry_value ws k)
 with_key (member vs) k = Err BadScalar
 with_key (entry_value ws l) k = Err BadScalar
 with_key _ k = Err BadFlow
 
 -- a quoted scalar with a colon and then more text comes next
-abbrev pub with_cut_key : Place → Key → Checked Place
+abbrev pub with_cut_key : FlowState → Key → Checked FlowState
 with_cut_key (key_place ws) k = new_key ws k >> Err BadFlow
 with_cut_key (member vs) k = Err BadScalar
 with_cut_key (entry_value ws l) k = Err BadScalar
@@ -92,7 +92,7 @@ with_cut_key _ k = Err BadFlow
 
 -- a plain scalar that ends in a colon comes next: bad, unless the bracket or comma behind it is
 -- worse
-abbrev pub with_colon_scalar : Place → ℕ → Checked Place
+abbrev pub with_colon_scalar : FlowState → ℕ → Checked FlowState
 with_colon_scalar (member vs) b =
     Err (if b == comma_byte || b == close_square_byte then BadScalar else BadFlow)
 with_colon_scalar (entry_value ws k) b =
@@ -100,7 +100,7 @@ with_colon_scalar (entry_value ws k) b =
 with_colon_scalar _ b = Err BadFlow
 
 -- an alias comes next; it is no key
-abbrev pub with_alias : Anchors → Place → List ℕ → Checked Place
+abbrev pub with_alias : Anchors → FlowState → List ℕ → Checked FlowState
 with_alias known (member vs) [] = Err BadFlow
 with_alias known (entry_value ws k) [] = Err BadFlow
 with_alias known (member vs) name =
@@ -111,13 +111,13 @@ with_alias known (key_place ws) name = Err BadScalar
 with_alias known _ name = Err BadFlow
 
 -- Where a scalar could begin, the fault is the scalar's.
-abbrev pub with_fault : Place → YamlKind → Checked Place
+abbrev pub with_fault : FlowState → YamlKind → Checked FlowState
 with_fault (behind_member vs) kind = Err BadFlow
 with_fault (behind_entry ws) kind = Err BadFlow
 with_fault _ kind = Err kind
 
 -- a token that is no bracket comes next, where these anchors are known
-abbrev pub with_token : Anchors → ℕ → Place → Token → Checked Place
+abbrev pub with_token : Anchors → ℕ → FlowState → Token → Checked FlowState
 with_token known line place comma = with_comma place
 with_token known line place colon = with_fault place BadScalar
 with_token known line place (scalar_token k) = with_value place (scalar_value k.name line)
@@ -130,14 +130,14 @@ with_token known line place late_colon = Err Unsupported
 with_token known line place _ = Err BadFlow
 
 -- a collection may begin here
-abbrev pub may_open : Place → Checked (Unit {0})
+abbrev pub may_open : FlowState → Checked (Unit {0})
 may_open (member vs) = Ok tt
 may_open (entry_value ws k) = Ok tt
 may_open (key_place ws) = Err Unsupported
 may_open _ = Err BadFlow
 
 -- the collection may end here
-abbrev pub closes : ℕ → Place → Checked Value
+abbrev pub closes : ℕ → FlowState → Checked Value
 closes line (member vs) = Ok (list_value line vs)
 closes line (behind_member vs) = Ok (list_value line vs)
 closes line (key_place ws) = Ok (map_value line ws)
@@ -157,13 +157,13 @@ last_fits [] = true
 last_fits (w ∷ []) = entry_fits w
 last_fits (w ∷ u ∷ ws) = last_fits (u ∷ ws)
 
-abbrev pub fits : Place → Bool
+abbrev pub fits : FlowState → Bool
 fits (behind_entry ws) = last_fits ws
 fits _ = true
 
 -- A collection from this place on, up to its end, and whether all that it merges so far can be
 -- merged.
-abbrev pub collection : Anchors → ℕ → Bool → Place → Nest → Checked (Value × Bool)
+abbrev pub collection : Anchors → ℕ → Bool → FlowState → Nest → Checked (Value × Bool)
 collection known line good place none = closes line place >>= λ v. Ok (v, good)
 collection known line good place (one m rest) =
     with_token known line place m >>= λ next. collection known line (good && fits next) next rest

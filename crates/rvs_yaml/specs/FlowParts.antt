@@ -4,13 +4,13 @@ use Rattle.rvs_yaml.specs.Checks.{Checked, ◌>>=◌, ◌>>◌}
 use Rattle.rvs_tree.specs.Value.{Value, Written, has_key, explicit_keys}
 use Rattle.rvs_yaml_text.specs.Word.{Key, Bracket, Token}
 use Rattle.rvs_yaml.specs.Anchors.{Anchors, lookup, known_alias}
-use Rattle.rvs_yaml.specs.Flow.{Place, member, key_place, entry_value, first_place, may_open}
+use Rattle.rvs_yaml.specs.Flow.{FlowState, member, key_place, entry_value, first_place, may_open}
 use Rattle.rvs_yaml.specs.Flow.{ends_with, merged_well}
 use Rattle.rvs_yaml.specs.FlowSteps.{Reading, open_in, closed_by, into, flow_steps, flow_end}
 use Rattle.rvs_yaml_text.specs.declared.kind.YamlKind.TheVariants.{BadFlow, BadScalar}
 
 -- the value of an alias at a place
-abbrev pub alias_at : Anchors → Place → List ℕ → Checked Value
+abbrev pub alias_at : Anchors → FlowState → List ℕ → Checked Value
 alias_at known (member vs) [] = Err BadFlow
 alias_at known (entry_value ws k) [] = Err BadFlow
 alias_at known (member vs) name = known_alias (lookup name known)
@@ -18,11 +18,12 @@ alias_at known (entry_value ws k) name = known_alias (lookup name known)
 alias_at known (key_place ws) name = Err BadScalar
 alias_at known _ name = Err BadFlow
 
-abbrev pub opened : Bool → Bracket → Place → List (Bracket × Place) → Bracket → Checked Reading
+abbrev pub opened : Bool → Bracket → FlowState → List (Bracket × FlowState) → Bracket
+    → Checked Reading
 opened good b place outer c =
     may_open place >> Ok (open_in good c (first_place c) ((b, place) ∷ outer))
 
-abbrev pub closed : Bool → ℕ → Bool → Bracket → Place → List (Bracket × Place) → Bracket
+abbrev pub closed : Bool → ℕ → Bool → Bracket → FlowState → List (Bracket × FlowState) → Bracket
     → Checked Reading
 closed poor line good b place outer c =
     closed_by poor line place >>= λ v. ends_with b (Some c) >> into (v, good) outer

@@ -5,24 +5,24 @@ use Rattle.rvs_tree.specs.Standin.{standin}
 use Rattle.rvs_yaml.specs.Checks.{Checked, ◌>>=◌, ◌>>◌}
 use Rattle.rvs_yaml_text.specs.Word.{Bracket, Token, opening, closing, late_colon}
 use Rattle.rvs_yaml.specs.Anchors.{Anchors}
-use Rattle.rvs_yaml.specs.Flow.{Place, first_place, with_value, with_token, may_open, closes}
+use Rattle.rvs_yaml.specs.Flow.{FlowState, first_place, with_value, with_token, may_open, closes}
 use Rattle.rvs_yaml.specs.Flow.{ends_with, fits}
 use Rattle.rvs_yaml_text.specs.declared.kind.YamlKind.TheVariants.{BadFlow, Unsupported}
 
 pub data Reading : Type 0 where
-  open_in : Bool → Bracket → Place → List (Bracket × Place) → Reading
+  open_in : Bool → Bracket → FlowState → List (Bracket × FlowState) → Reading
   whole : Value × Bool → Reading
 
 -- The value of a collection that ends, or, where poor values serve, what stands for it.
-abbrev pub closed_by : Bool → ℕ → Place → Checked Value
+abbrev pub closed_by : Bool → ℕ → FlowState → Checked Value
 closed_by false line place = closes line place
 closed_by true line place = closes line place >>= λ v. Ok (standin v)
 
-abbrev pub into : Value × Bool → List (Bracket × Place) → Checked Reading
+abbrev pub into : Value × Bool → List (Bracket × FlowState) → Checked Reading
 into v [] = Ok (whole v)
 into v (o ∷ outer) = with_value o.1 v.0 >>= λ next. Ok (open_in (v.1 && fits next) o.0 next outer)
 
-abbrev pub moved : Bool → Bracket → List (Bracket × Place) → Checked Place → Checked Reading
+abbrev pub moved : Bool → Bracket → List (Bracket × FlowState) → Checked FlowState → Checked Reading
 moved good b outer place = place >>= λ next. Ok (open_in (good && fits next) b next outer)
 
 abbrev pub flow_step : Bool → Anchors → ℕ → Reading → Token → Checked Reading

@@ -5,7 +5,7 @@ use Rattle.rvs_tree.specs.Value.{Value, scalar_value}
 use Rattle.rvs_yaml_text.specs.Word.{opens_block}
 use Rattle.rvs_yaml.specs.Stack.{Open}
 use Rattle.rvs_yaml.specs.StepParts.{closed_value}
-use Rattle.rvs_yaml.specs.Answer.{within_limits}
+use Rattle.rvs_yaml.specs.Parsed.{within_limits}
 use Rattle.rvs_yaml_text.specs.declared.kind.YamlKind.TheVariants.{TooDeep, TooManyNodes}
 
 -- what the last word of a block is with nothing below it

@@ -1,13 +1,13 @@
 -- The definition of the profile comes first, in the order in which it is to be read: what a check
 -- is, what anchors name, an entry of a map, flow collections, the tree of a block of words, and the
 -- answer for a text. What a line and its words are stands in rvs_yaml_text, and what a tree and a
--- merge are in rvs_tree. `Answer` says what `parse` tells.
+-- merge are in rvs_tree. `Parsed` says what `parse` tells.
 pub mod Checks
 pub mod Anchors
 pub mod Entry
 pub mod Flow
 pub mod Block
-pub mod Answer
+pub mod Parsed
 -- How the code reads: with a stack of open blocks, and with a list of open brackets. None of this
 -- is part of the definition.
 pub mod Stack

@@ -5,7 +5,7 @@ use Rattle.rvs_yaml.specs.Stack.{Open, steps}
 use Rattle.rvs_yaml_text.specs.Text.{line_words}
 use Rattle.rvs_yaml.specs.Front.{checked_front, front_value}
 use Rattle.rvs_tree.specs.Data.{Data}
-use Rattle.rvs_yaml.specs.Answer.{Answer, within_limits}
+use Rattle.rvs_yaml.specs.Parsed.{Parsed, within_limits}
 use Rattle.rvs_tree.specs.Value.{Value}
 use Rattle.rvs_yaml.specs.Gives.{Fails}
 use Rattle.rvs_yaml_text.specs.declared.kind.YamlKind.{YamlKind}
@@ -40,7 +40,7 @@ abbrev pub checked_line : List Open → ℕ → Bool → List ℕ → Checked (L
 checked_line bs line started bytes = steps bs (line_words line started bytes) >>= kept
 
 -- What a refusal says: the line and the kind of the answer, and line 0 for want of memory.
-abbrev pub Refuses : YamlKind → ℕ → Answer → Type 0
+abbrev pub Refuses : YamlKind → ℕ → Parsed → Type 0
 Refuses NoMemory line a = line ≡ 0
 Refuses kind line a = a ≡ Err (line, kind)
 

@@ -16,7 +16,7 @@ ghost use Rattle.rvs_yaml.specs.FlowView.{place_view, reading_view, levels_view}
 use crate::entry::entry_of;
 use crate::flow_places::{ends_with, may_close, may_go_on, may_open, may_take};
 use crate::known::Known;
-use crate::reading::{Level, Pending, Place, Reading};
+use crate::reading::{FlowState, Level, Pending, Reading};
 use rvs_tree::{
     EntryList, Value, ValueList, Written, list_value, map_value, scalar_value, thin_list_value,
     thin_map_value,
@@ -25,39 +25,39 @@ use rvs_yaml_text::{Bracket, Key, Token, YamlKind};
 use std::alloc::Global;
 
 /// The place behind a collection's bracket.
-fn first_place(alloc: Global, bracket: Bracket) -> Place
+fn first_place(alloc: Global, bracket: Bracket) -> FlowState
     ensures { place_view result ≡ spec.first_place (bracket_view bracket) }
 {
     match bracket {
-        Bracket::Square => Place::Member(ValueList::new(alloc)),
-        Bracket::Curly => Place::KeyPlace(EntryList::new(alloc)),
+        Bracket::Square => FlowState::Member(ValueList::new(alloc)),
+        Bracket::Curly => FlowState::KeyPlace(EntryList::new(alloc)),
     }
 }
 
 /// The place behind a value.
-fn with_value(alloc: Global, place: Place, value: Value) -> Result<Place, YamlKind>
+fn with_value(alloc: Global, place: FlowState, value: Value) -> Result<FlowState, YamlKind>
     ensures given { Gives place_view result
         (spec.with_value (place_view place) (value_view value)) }
     ensures refused { FailsWith result
         (spec.with_value (place_view place) (value_view value)) }
 {
     match place {
-        Place::Member(list) => Ok(Place::BehindMember(list.with(alloc, value)?)),
-        Place::EntryValue(pending) => {
+        FlowState::Member(list) => Ok(FlowState::BehindMember(list.with(alloc, value)?)),
+        FlowState::EntryValue(pending) => {
             let Pending { list, key } = Box::into_inner(pending);
-            Ok(Place::BehindEntry(list.with(alloc, entry_of(key, value))?))
+            Ok(FlowState::BehindEntry(list.with(alloc, entry_of(key, value))?))
         }
         _ => Err(YamlKind::BadFlow),
     }
 }
 
 /// The place behind a comma.
-fn with_comma(place: Place) -> Result<Place, YamlKind>
+fn with_comma(place: FlowState) -> Result<FlowState, YamlKind>
     ensures { Agrees place_view result (spec.with_comma (place_view place)) }
 {
     match place {
-        Place::BehindMember(list) => Ok(Place::Member(list)),
-        Place::BehindEntry(list) => Ok(Place::KeyPlace(list)),
+        FlowState::BehindMember(list) => Ok(FlowState::Member(list)),
+        FlowState::BehindEntry(list) => Ok(FlowState::KeyPlace(list)),
         _ => Err(YamlKind::BadFlow),
     }
 }
@@ -70,49 +70,49 @@ fn is_new(list: &EntryList, key: &Key) -> bool
 }
 
 /// The place behind a key and its colon.
-fn with_key(alloc: Global, place: Place, key: Key) -> Result<Place, YamlKind>
+fn with_key(alloc: Global, place: FlowState, key: Key) -> Result<FlowState, YamlKind>
     ensures given { Gives place_view result
         (spec.with_key (place_view place) (key_view key)) }
     ensures refused { FailsWith result
         (spec.with_key (place_view place) (key_view key)) }
 {
     match place {
-        Place::KeyPlace(list) => {
+        FlowState::KeyPlace(list) => {
             if is_new(&list, &key) {
-                Ok(Place::EntryValue(Box::new(alloc, Pending { list, key })?))
+                Ok(FlowState::EntryValue(Box::new(alloc, Pending { list, key })?))
             } else {
                 Err(YamlKind::DuplicateKey)
             }
         }
-        Place::Member(_) | Place::EntryValue(_) => Err(YamlKind::BadScalar),
+        FlowState::Member(_) | FlowState::EntryValue(_) => Err(YamlKind::BadScalar),
         _ => Err(YamlKind::BadFlow),
     }
 }
 
 /// Why a quoted scalar with a colon and then more text is refused.
-fn cut_key_fault(place: &Place, key: &Key) -> YamlKind
+fn cut_key_fault(place: &FlowState, key: &Key) -> YamlKind
     ensures { spec.with_cut_key (place_view place.now) (key_view key.now) ≡ Err result }
 {
     match place {
-        Place::KeyPlace(list) => {
+        FlowState::KeyPlace(list) => {
             if is_new(list, key) {
                 YamlKind::BadFlow
             } else {
                 YamlKind::DuplicateKey
             }
         }
-        Place::Member(_) | Place::EntryValue(_) => YamlKind::BadScalar,
+        FlowState::Member(_) | FlowState::EntryValue(_) => YamlKind::BadScalar,
         _ => YamlKind::BadFlow,
     }
 }
 
 /// Why a plain scalar that ends in a colon is refused, where this byte ends it.
-fn colon_scalar_fault(place: &Place, byte: u8) -> YamlKind
+fn colon_scalar_fault(place: &FlowState, byte: u8) -> YamlKind
     ensures { spec.with_colon_scalar (place_view place.now) byte ≡ Err result }
 {
     match place {
-        Place::Member(_) => bad_unless(byte == b',' || byte == b']'),
-        Place::EntryValue(_) => bad_unless(byte == b',' || byte == b'}'),
+        FlowState::Member(_) => bad_unless(byte == b',' || byte == b']'),
+        FlowState::EntryValue(_) => bad_unless(byte == b',' || byte == b'}'),
         _ => YamlKind::BadFlow,
     }
 }
@@ -129,11 +129,11 @@ fn bad_unless(in_place: bool) -> YamlKind
 }
 
 /// The fault of what begins here, which is the scalar's where one could begin.
-fn start_fault(place: &Place, kind: YamlKind) -> YamlKind
+fn start_fault(place: &FlowState, kind: YamlKind) -> YamlKind
     ensures { spec.with_fault (place_view place.now) kind ≡ Err result }
 {
     match place {
-        Place::BehindMember(_) | Place::BehindEntry(_) => YamlKind::BadFlow,
+        FlowState::BehindMember(_) | FlowState::BehindEntry(_) => YamlKind::BadFlow,
         _ => kind,
     }
 }
@@ -142,7 +142,7 @@ fn start_fault(place: &Place, kind: YamlKind) -> YamlKind
 fn alias_here(
     alloc: Global,
     known: &Known<'_, '_>,
-    place: &Place,
+    place: &FlowState,
     name: &str,
 ) -> Result<Value, YamlKind>
     ensures given { Gives value_view result
@@ -151,13 +151,13 @@ fn alias_here(
         (parts.alias_at (known_view known.now) (place_view place.now) name.now) }
 {
     match place {
-        Place::Member(_) | Place::EntryValue(_) => {
+        FlowState::Member(_) | FlowState::EntryValue(_) => {
             if name.is_empty() {
                 return Err(YamlKind::BadFlow);
             }
             known.alias_value(alloc, name)
         }
-        Place::KeyPlace(_) => Err(YamlKind::BadScalar),
+        FlowState::KeyPlace(_) => Err(YamlKind::BadScalar),
         _ => Err(YamlKind::BadFlow),
     }
 }
@@ -166,9 +166,9 @@ fn alias_here(
 fn with_alias(
     alloc: Global,
     known: &Known<'_, '_>,
-    place: Place,
+    place: FlowState,
     name: &str,
-) -> Result<Place, YamlKind>
+) -> Result<FlowState, YamlKind>
     ensures given { Gives place_view result
         (spec.with_alias (known_view known.now) (place_view place) name.now) }
     ensures refused { FailsWith result
@@ -179,7 +179,7 @@ fn with_alias(
 }
 
 /// The place behind a scalar.
-fn with_scalar(alloc: Global, line: u64, place: Place, key: Key) -> Result<Place, YamlKind>
+fn with_scalar(alloc: Global, line: u64, place: FlowState, key: Key) -> Result<FlowState, YamlKind>
     ensures given { Gives place_view result
         (spec.with_value (place_view place) (value_spec.scalar_value (key_view key).name line)) }
     ensures refused { FailsWith result
@@ -195,9 +195,9 @@ fn with_token(
     alloc: Global,
     known: &Known<'_, '_>,
     line: u64,
-    place: Place,
+    place: FlowState,
     token: Token<'_>,
-) -> Result<Place, YamlKind>
+) -> Result<FlowState, YamlKind>
     ensures given { Gives place_view result
         (spec.with_token (known_view known.now) line (place_view place) (token_view token.entry)) }
     ensures refused { FailsWith result
@@ -218,33 +218,41 @@ fn with_token(
 }
 
 /// The value of a collection that ends here.
-fn closes(alloc: Global, line: u64, place: Place) -> Result<Value, YamlKind>
+fn closes(alloc: Global, line: u64, place: FlowState) -> Result<Value, YamlKind>
     ensures given { Gives value_view result (spec.closes line (place_view place)) }
     ensures refused { FailsWith result (spec.closes line (place_view place)) }
 {
     match place {
-        Place::Member(list) | Place::BehindMember(list) => Ok(list_value(alloc, line, list)?),
-        Place::KeyPlace(list) | Place::BehindEntry(list) => Ok(map_value(alloc, line, list)?),
+        FlowState::Member(list) | FlowState::BehindMember(list) => {
+            Ok(list_value(alloc, line, list)?)
+        },
+        FlowState::KeyPlace(list) | FlowState::BehindEntry(list) => {
+            Ok(map_value(alloc, line, list)?)
+        },
         _ => Err(YamlKind::BadFlow),
     }
 }
 
 /// What stands for the value of a collection that ends here.
-fn thin_closes(alloc: Global, line: u64, place: &Place) -> Result<Value, YamlKind>
+fn thin_closes(alloc: Global, line: u64, place: &FlowState) -> Result<Value, YamlKind>
     ensures given { Gives value_view result
         (steps_spec.closed_by true line (place_view place.now)) }
     ensures refused { FailsWith result
         (steps_spec.closed_by true line (place_view place.now)) }
 {
     match place {
-        Place::Member(list) | Place::BehindMember(list) => Ok(thin_list_value(alloc, line, list)?),
-        Place::KeyPlace(list) | Place::BehindEntry(list) => Ok(thin_map_value(alloc, line, list)?),
+        FlowState::Member(list) | FlowState::BehindMember(list) => {
+            Ok(thin_list_value(alloc, line, list)?)
+        },
+        FlowState::KeyPlace(list) | FlowState::BehindEntry(list) => {
+            Ok(thin_map_value(alloc, line, list)?)
+        },
         _ => Err(YamlKind::BadFlow),
     }
 }
 
 /// The value of a collection that ends here, or what stands for it.
-fn closed_by(alloc: Global, poor: bool, line: u64, place: Place) -> Result<Value, YamlKind>
+fn closed_by(alloc: Global, poor: bool, line: u64, place: FlowState) -> Result<Value, YamlKind>
     ensures given { Gives value_view result (steps_spec.closed_by poor line (place_view place)) }
     ensures refused { FailsWith result (steps_spec.closed_by poor line (place_view place)) }
 {
@@ -256,11 +264,11 @@ fn closed_by(alloc: Global, poor: bool, line: u64, place: Place) -> Result<Value
 }
 
 /// Whether the entry that was read last can be merged, where it is to be.
-fn fits(place: &Place) -> bool
+fn fits(place: &FlowState) -> bool
     ensures { result ≡ spec.fits (place_view place.now) }
 {
     match place {
-        Place::BehindEntry(list) => last_fits(list.entries.as_slice()),
+        FlowState::BehindEntry(list) => last_fits(list.entries.as_slice()),
         _ => true,
     }
 }

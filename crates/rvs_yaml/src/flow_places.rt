@@ -8,16 +8,16 @@ ghost use Rattle.rvs_yaml.specs.FlowView.{place_view, levels_view};
 ghost use Rattle.rvs_yaml.specs.Gives.{Agrees};
 ghost use Rattle.rvs_yaml_text.specs.WordView.{bracket_view};
 
-use crate::reading::{Level, Place};
+use crate::reading::{FlowState, Level};
 use rvs_yaml_text::{Bracket, YamlKind};
 
 /// Whether a value may stand here.
-pub(crate) fn may_take(place: &Place) -> Result<(), YamlKind>
+pub(crate) fn may_take(place: &FlowState) -> Result<(), YamlKind>
     ensures { (v : value_spec.Value)
         → Agrees (λ u. u) result (succeeds (spec.with_value (place_view place.now) v)) }
 {
     match place {
-        Place::Member(_) | Place::EntryValue(_) => Ok(()),
+        FlowState::Member(_) | FlowState::EntryValue(_) => Ok(()),
         _ => Err(YamlKind::BadFlow),
     }
 }
@@ -34,23 +34,23 @@ pub(crate) fn may_go_on(outer: &[Level]) -> Result<(), YamlKind>
 }
 
 /// Whether a collection may begin here.
-pub(crate) fn may_open(place: &Place) -> Result<(), YamlKind>
+pub(crate) fn may_open(place: &FlowState) -> Result<(), YamlKind>
     ensures { Agrees (λ u. u) result (spec.may_open (place_view place.now)) }
 {
     match place {
-        Place::Member(_) | Place::EntryValue(_) => Ok(()),
-        Place::KeyPlace(_) => Err(YamlKind::Unsupported),
+        FlowState::Member(_) | FlowState::EntryValue(_) => Ok(()),
+        FlowState::KeyPlace(_) => Err(YamlKind::Unsupported),
         _ => Err(YamlKind::BadFlow),
     }
 }
 
 /// Whether a collection may end here.
-pub(crate) fn may_close(place: &Place) -> Result<(), YamlKind>
+pub(crate) fn may_close(place: &FlowState) -> Result<(), YamlKind>
     ensures { (line : ℕ)
         → Agrees (λ u. u) result (succeeds (spec.closes line (place_view place.now))) }
 {
     match place {
-        Place::EntryValue(_) => Err(YamlKind::BadFlow),
+        FlowState::EntryValue(_) => Err(YamlKind::BadFlow),
         _ => Ok(()),
     }
 }

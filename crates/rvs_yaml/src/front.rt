@@ -8,7 +8,7 @@ ghost use Rattle.rvs_tree.specs.Bound.{brought};
 ghost use Rattle.rvs_yaml.specs.Entry.{written};
 ghost use Rattle.rvs_tree.specs.Standin.{standin};
 ghost use Rattle.rvs_yaml.specs.Stack.{done_entries};
-ghost use Rattle.rvs_yaml.specs.Answer.{within_limits};
+ghost use Rattle.rvs_yaml.specs.Parsed.{within_limits};
 ghost use Rattle.rvs_yaml.specs.Front as spec;
 ghost use Rattle.rvs_yaml.specs.Reach.{KeepsDepth};
 ghost use Rattle.rvs_yaml.specs.Gives.{Agrees, Gives, FailsWith};

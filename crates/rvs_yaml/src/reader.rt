@@ -1,7 +1,7 @@
 // Reading a text line by line.
 ghost use Rattle.std.specs.Prelude.{◌≡◌, ◌≤◌, ◌||◌, ◌&&◌, not, true, Ok, Err, IfOk, IfErr};
-ghost use Rattle.rvs_yaml.specs.Answer.{Answer, answer, IsTreeOf, RefusesLines, KeepsNodes};
-ghost use Rattle.rvs_yaml.specs.Answer.{FrontsHaveTrees, AnswersAreLeast};
+ghost use Rattle.rvs_yaml.specs.Parsed.{Parsed, answer, IsTreeOf, RefusesLines, KeepsNodes};
+ghost use Rattle.rvs_yaml.specs.Parsed.{FrontsHaveTrees, AnswersAreLeast};
 ghost use Rattle.rvs_yaml.specs.Front as front_spec;
 ghost use Rattle.rvs_yaml.specs.Reader as spec;
 ghost use Rattle.rvs_yaml_text.specs.Scalar as scalar_spec;
@@ -64,7 +64,7 @@ fn read_checked_line<'a>(
 /// The refusal of a line.
 fn refusal(line: u64, kind: YamlKind) -> YamlRefusal
     ensures kind { result.kind ≡ kind }
-    ensures line { (a : Answer) → (a ≡ Err (line, kind)) → spec.Refuses kind result.line a }
+    ensures line { (a : Parsed) → (a ≡ Err (line, kind)) → spec.Refuses kind result.line a }
     ensures memory { kind ≡ NoMemory → result.line ≡ 0 }
 {
     match kind {

@@ -11,7 +11,7 @@ pub(crate) struct Pending {
 
 /// What may come next in an open collection. It is kept small, since a text may open millions.
 #[derive(Drop)]
-pub(crate) enum Place {
+pub(crate) enum FlowState {
     Member(ValueList),
     BehindMember(ValueList),
     KeyPlace(EntryList),
@@ -23,7 +23,7 @@ pub(crate) enum Place {
 #[derive(Drop)]
 pub(crate) struct Level {
     pub bracket: Bracket,
-    pub place: Place,
+    pub place: FlowState,
 }
 
 /// A flow collection that is read: the open collections, the innermost apart, or the whole. `good`

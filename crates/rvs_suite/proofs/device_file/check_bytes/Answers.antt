@@ -3,7 +3,7 @@ use Rattle.std.proofs.lemmas.Result.{err_from_is_err_and}
 use Rattle.rvs_plan.specs.Plan.{Ends}
 use Rattle.rvs_plan.specs.Meets.{Meets}
 use Rattle.rvs_plan.proofs.Sequence.{Meets-no_memory}
-use Rattle.rvs_yaml.specs.Answer.{Answer}
+use Rattle.rvs_yaml.specs.Parsed.{Parsed}
 use Rattle.rvs_device.specs.DeviceView.{told}
 use Rattle.rvs_suite.specs.Seen.{seen}
 use Rattle.rvs_suite.specs.DeviceInput.{tree_end, checks}
@@ -16,5 +16,5 @@ returns-in_err-yaml_text-in-Err c = λ w.
 
 pub returns-in-Ok : goal.returns-in-Ok
 returns-in-Ok c = λ w. subst
-    (λ (a : Answer). Meets (Ends (tree_end c.args.name.now a)) w w (seen told c.check_tree.result))
+    (λ (a : Parsed). Meets (Ends (tree_end c.args.name.now a)) w w (seen told c.check_tree.result))
     (sym c.in-Ok.ensures.tree) (c.check_tree.ensures w)

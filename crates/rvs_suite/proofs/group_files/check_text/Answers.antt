@@ -6,7 +6,7 @@ use Rattle.rvs_plan.proofs.Sequence.{Meets-no_memory}
 use Rattle.rvs_plan.specs.declared.stop.Stop.{Stop}
 use Rattle.rvs_plan.specs.declared.stop.Stop.TheVariants.{Refused}
 use Rattle.rvs_tree.specs.TreeView.{view}
-use Rattle.rvs_yaml.specs.Answer.{Answer, answer}
+use Rattle.rvs_yaml.specs.Parsed.{Parsed, answer}
 use Rattle.rvs_cgf.specs.Groups.{Label}
 use Rattle.rvs_suite.proofs.Accepting.{Meets-refused, refused-is}
 use Rattle.rvs_suite.specs.Seen.{seen}
@@ -23,7 +23,7 @@ pub returns-in-Ok-clause-met : goal.returns-in-Ok-clause-met
 returns-in-Ok-clause-met c = λ w.
     let read : answer c.args.text ≡ Ok (view c.in-Ok.tree) =
     ap answer (sym c.as_slice.ensures) ∙ c.in-Ok.ensures.tree in
-    subst (λ (a : Answer). Meets (Ends (tree_groups c.args.isa.now a)) w w
+    subst (λ (a : Parsed). Meets (Ends (tree_groups c.args.isa.now a)) w w
     (seen groups_view c.check_tree.result)) (sym read) (c.check_tree.ensures.met w)
 
 pub returns-in_ok-yaml_text-in-Err-clause-met : goal.returns-in_ok-yaml_text-in-Err-clause-met

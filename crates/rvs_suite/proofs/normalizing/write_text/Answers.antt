@@ -6,7 +6,7 @@ use Rattle.rvs_plan.proofs.Sequence.{Meets-no_memory}
 use Rattle.rvs_plan.specs.declared.stop.Stop.{Stop}
 use Rattle.rvs_plan.specs.declared.stop.Stop.TheVariants.{Refused}
 use Rattle.rvs_tree.specs.TreeView.{view}
-use Rattle.rvs_yaml.specs.Answer.{Answer, answer}
+use Rattle.rvs_yaml.specs.Parsed.{Parsed, answer}
 use Rattle.rvs_cgf.specs.Print.{normal_text}
 use Rattle.rvs_suite.proofs.Accepting.{Meets-refused, refused-is}
 use Rattle.rvs_suite.specs.Seen.{seen}
@@ -23,7 +23,7 @@ pub returns-in-Ok : goal.returns-in-Ok
 returns-in-Ok c = λ w.
     let read : answer c.args.text ≡ Ok (view c.in-Ok.tree) =
     ap answer (sym c.as_slice.ensures) ∙ c.in-Ok.ensures.tree in
-    subst (λ (a : Answer). Meets (Ends (seen normal_text (tree_groups c.args.isa.now a))) w w
+    subst (λ (a : Parsed). Meets (Ends (seen normal_text (tree_groups c.args.isa.now a))) w w
     c.write_tree.result) (sym read) (c.write_tree.ensures w)
 
 pub returns-in_ok-yaml_text-in-Err : goal.returns-in_ok-yaml_text-in-Err

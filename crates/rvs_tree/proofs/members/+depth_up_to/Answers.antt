@@ -13,7 +13,13 @@ loop-i-preserved t c =
     c.loop-i.invariant in
     let more : c.max-deepest.result
     ≡ min (members_depth (take (c.loop-i.i + 1) ms)) (c.args.most - 1) =
-    rw add-one (omega (arith, before, c.max-deepest.ensures, c.depth_up_to.ensures, take-get ms c.loop-i.i (view c.item.result.now) c.item.ensures)) in
+    rw add-one (omega (
+      arith,
+      before,
+      c.max-deepest.ensures,
+      c.depth_up_to.ensures,
+      take-get ms c.loop-i.i (view c.item.result.now) c.item.ensures,
+    )) in
     more
 
 pub returns : goal.returns
@@ -25,4 +31,10 @@ returns t c =
     let inner : is_scalar d ≡ false = sym c.is_scalar.ensures ∙ c.if-is_scalar.false in
     let all : c.loop-i.i ≡ length ms =
     omega (arith, c.len-i-end.ensures, c.loop-i.auto.i-end, c.loop-i-test.false) in
-    omega (arith, before, depth-members d inner, ap (λ n. members_depth (take n ms)) all, ap members_depth (take_whole ms))
+    omega (
+      arith,
+      before,
+      depth-members d inner,
+      ap (λ n. members_depth (take n ms)) all,
+      ap members_depth (take_whole ms),
+    )

@@ -14,5 +14,12 @@ loop-part-preserved c =
           ∙ sym (ap (λ x. x ++ next_view work)
           (ap refs_view c.in-Some.ensures.items ∙ refs-push rest p))
           ∙ c.loop-part.invariant.0,
-      omega (arith, ap ref_sizes c.in_ok-push.ensures.items, sizes-push work p, ap ref_sizes c.in-Some.ensures.items, sizes-push rest p, c.loop-part.invariant.1),
+      omega (
+        arith,
+        ap ref_sizes c.in_ok-push.ensures.items,
+        sizes-push work p,
+        ap ref_sizes c.in-Some.ensures.items,
+        sizes-push rest p,
+        c.loop-part.invariant.1,
+      ),
     )

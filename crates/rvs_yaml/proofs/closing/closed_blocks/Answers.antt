@@ -24,7 +24,9 @@ returns-in_err-value c =
     let rest = stack_view c.pop.new.self.items in
     let v = value_view c.loop-outer.value in
     let p = err_from_is_err_and c.from_residual.result c.from_residual.ensures.1 in
-    rw (p.1, p.2) (fails_first _ (closed_value (done_view outer.block.done) outer.block.line v) (λ w. ends w rest) _
-    (sym (ap (ends v) (ap stack_view c.in-Some.ensures.items ∙ stack-push c.pop.new.self.items outer))
+    rw (p.1, p.2) (fails_first _ (closed_value (done_view outer.block.done) outer.block.line v)
+    (λ w. ends w rest) _
+    (sym (ap (ends v) (ap stack_view c.in-Some.ensures.items
+    ∙ stack-push c.pop.new.self.items outer))
     ∙ c.loop-outer.invariant)
     c.in_err-value.ensures.given)

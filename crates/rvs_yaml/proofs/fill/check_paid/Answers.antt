@@ -72,5 +72,6 @@ returns c =
     (denied-front c.check_thin.result (open_at all top) rest b ts (value_view c.in_ok-thin.thin)
     leaf
     (ap (λ xs. mapped standin (flow_value xs top.head.line b ts)) known ∙ c.in_ok-thin.ensures)
-    (λ v e t. subst (DeniesFront c.check_thin.result) (front v) (c.check_thin.ensures top.head.line b
+    (λ v e t. subst (DeniesFront c.check_thin.result) (front v)
+    (c.check_thin.ensures top.head.line b
     v (sym (ap (λ xs. flow_value xs top.head.line b ts) known) ∙ e) t)))

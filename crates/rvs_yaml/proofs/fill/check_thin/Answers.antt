@@ -8,4 +8,5 @@ use Rattle.rvs_yaml.proofs.fill.check_thin.Goals as goal
 pub returns : goal.returns
 returns c = λ line b v e s.
     let deep = flow-height (all_known c.args.known.now) line b (tokens_of c.args.text.now) v e in
-    refuses_denies _ _ (c.check_nodes.ensures v s (omega (arith, c.in_ok-height.ensures.bound, deep)))
+    refuses_denies _ _ (c.check_nodes.ensures v s
+    (omega (arith, c.in_ok-height.ensures.bound, deep)))

@@ -35,4 +35,9 @@ returns t c =
     let all : c.loop-i.i ≡ length ms =
     omega (arith, c.len-i-end.ensures, c.loop-i.auto.i-end, c.loop-i-test.false) in
     let before : members_depth (take c.loop-i.i ms) ≤ c.args.levels - 1 = c.loop-i.invariant in
-    ge_test c.args.levels (depth d) (omega (arith, depth-members d inner, ap (λ n. members_depth (take n ms)) all, ap members_depth (take_whole ms)))
+    ge_test c.args.levels (depth d) (omega (
+      arith,
+      depth-members d inner,
+      ap (λ n. members_depth (take n ms)) all,
+      ap members_depth (take_whole ms),
+    ))

@@ -11,8 +11,11 @@ use Rattle.rvs_yaml.proofs.front.closed_sketch.Goals as goal
 
 pub returns-in-Items : goal.returns-in-Items
 returns-in-Items c = λ v s.
-    let line = c.args.block.now.line in
-    (list_value line (values_view c.in-Items.list.values.items ++ v ∷ []), ap (λ d. closed_value (done_view d) line v) c.in-Items.is, c.list_sketch.ensures line v s)
+    let line = c.args.block.now.line in (
+      list_value line (values_view c.in-Items.list.values.items ++ v ∷ []),
+      ap (λ d. closed_value (done_view d) line v) c.in-Items.is,
+      c.list_sketch.ensures line v s,
+    )
 
 pub returns-in-Entries : goal.returns-in-Entries
 returns-in-Entries c = λ v s.

@@ -10,7 +10,13 @@ pub returns : goal.returns
 returns c = λ line v s.
     let vs = values_view c.args.list.now.values.items in
     record {
-      bounded = omega (arith, list-depth (vs ++ v ∷ []), values_depth-push vs v, c.args.list.now.bounded, s.bounded);
+      bounded = omega (
+        arith,
+        list-depth (vs ++ v ∷ []),
+        values_depth-push vs v,
+        c.args.list.now.bounded,
+        s.bounded,
+      );
       reached = omega (arith, list-depth (vs ++ v ∷ []), values_depth-push vs v, s.reached);
       counted = nodes_from-push 1 vs v ∙ ap (λ n. plus n v.nodes) (sym c.args.list.now.added_up)
           ∙ ap (plus c.args.list.now.nodes) s.counted ∙ sym c.plus.ensures;

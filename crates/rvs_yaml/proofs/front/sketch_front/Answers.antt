@@ -8,7 +8,11 @@ use Rattle.rvs_yaml.proofs.Sketching.{no_last, top-err, top-ok, sketch-err, sket
 use Rattle.rvs_yaml.proofs.front.sketch_front.Goals as goal
 
 pub returns-in_default : goal.returns-in_default
-returns-in_default c = (scalar_value [] 1, no_last c.args.blocks.now c.in_default.ensures.value, c.empty_sketch.ensures 1)
+returns-in_default c = (
+  scalar_value [] 1,
+  no_last c.args.blocks.now c.in_default.ensures.value,
+  c.empty_sketch.ensures 1,
+)
 
 pub returns-in_err-first : goal.returns-in_err-first
 returns-in_err-first c =

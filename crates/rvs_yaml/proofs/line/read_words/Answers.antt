@@ -22,7 +22,12 @@ loop-behind-init c =
     )
 
 pub loop-behind-smaller : goal.loop-behind-smaller
-loop-behind-smaller c = omega (arith, ap length c.without_spaces-rest-in-Some.ensures, spaces-length c.in-Some.behind.now, c.in-Some.ensures.shorter)
+loop-behind-smaller c = omega (
+  arith,
+  ap length c.without_spaces-rest-in-Some.ensures,
+  spaces-length c.in-Some.behind.now,
+  c.in-Some.ensures.shorter,
+)
 
 pub loop-behind-preserved : goal.loop-behind-preserved
 loop-behind-preserved c =
@@ -41,7 +46,13 @@ loop-behind-preserved c =
           c.in-Some.ensures.split c.loop-behind.invariant.2))
           ∙ c.loop-behind.invariant.0,
       ap without_spaces is ∙ spaces-twice behind ∙ sym is,
-      omega (arith, ap length is, spaces-length behind, c.in-Some.ensures.shorter, c.loop-behind.invariant.2),
+      omega (
+        arith,
+        ap length is,
+        spaces-length behind,
+        c.in-Some.ensures.shorter,
+        c.loop-behind.invariant.2,
+      ),
       c.without_spaces-rest-in-Some.utf8,
     )
 

@@ -10,7 +10,13 @@ pub invariant_of-self : goal.invariant_of-self
 invariant_of-self c =
     let number = ap (λ (t : Tallied). t.instructions) c.take_last.ensures.tally in
     let none = ap waiting_len c.take_last.ensures.follow in (
-      omega (arith, number, none, last_adds c.self.inside.tally c.self.inside.follow, c.self.invariant.0),
+      omega (
+        arith,
+        number,
+        none,
+        last_adds c.self.inside.tally c.self.inside.follow,
+        c.self.invariant.0,
+      ),
       c.self.invariant.1,
     )
 

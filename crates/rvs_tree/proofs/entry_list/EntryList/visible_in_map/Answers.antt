@@ -33,7 +33,8 @@ loop-i-preserved c =
     ∙ ap (λ (t : Tree). max n (min (if has_key (string_bytes k) E then 0 else depth (view t)) 33))
     c.deref.ensures)
     ∙ visible-step E n (string_bytes k) (rc_view v) rest
-    ∙ sym (ap (λ us. max n (min (visible_depth E (zip (map string_bytes us) (map rc_view (drop i vs)))) 33)) keys
+    ∙ sym (ap (λ us. max n (min (visible_depth E
+    (zip (map string_bytes us) (map rc_view (drop i vs)))) 33)) keys
     ∙ ap (λ us. max n
     (min (visible_depth E (zip (map string_bytes (k ∷ drop (suc i) ks)) (map rc_view us))) 33))
     values)

@@ -20,22 +20,22 @@ within_limits v = do
 abbrev pub front : List (List ℕ) → Checked Data
 front lines = tree_of (words_of 1 false lines) >>= λ v. within_limits v >> Ok v.tree
 
-abbrev pub Answer : Type 0
-Answer = Result Data (ℕ × YamlKind)
+abbrev pub Parsed : Type 0
+Parsed = Result Data (ℕ × YamlKind)
 
-abbrev pub at_end : ℕ → Checked Data → Answer
+abbrev pub at_end : ℕ → Checked Data → Parsed
 at_end line (Err kind) = Err (line, kind)
 at_end line (Ok d) = Ok d
 
 -- The lines in done have a tree: one line more, and then one more.
-abbrev pub answer_after : List (List ℕ) → List (List ℕ) → Answer
+abbrev pub answer_after : List (List ℕ) → List (List ℕ) → Parsed
 answer_after done [] = at_end (length done) (front done)
 answer_after done (l ∷ ls) = elim (front (done ++ l ∷ [])) [
   | Err kind ↦ Err (length (done ++ l ∷ []), kind)
   | Ok d ↦ answer_after (done ++ l ∷ []) ls
 ]
 
-abbrev pub answer : List ℕ → Answer
+abbrev pub answer : List ℕ → Parsed
 answer bytes = answer_after [] (lines_of bytes)
 
 abbrev pub HasTree : List (List ℕ) → Type 0
@@ -51,7 +51,7 @@ pub record IsTreeOf (lines : List (List ℕ)) (tree : Data) : Type 0 where
   pub fronts : (m : ℕ) → HasTree (take m lines)
   pub whole : front lines ≡ Ok tree
 
-abbrev pub Tells : List (List ℕ) → Answer → Type 0
+abbrev pub Tells : List (List ℕ) → Parsed → Type 0
 Tells lines (Ok tree) = IsTreeOf lines tree
 Tells lines (Err refusal) = IsFirstFault lines refusal.0 refusal.1
 
