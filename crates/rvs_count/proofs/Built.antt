@@ -10,7 +10,8 @@ use Rattle.rvs_cgf.specs.declared.group.Label.{Label}
 use Rattle.rvs_cgf.specs.declared.group.Point.{Point}
 use Rattle.rvs_insn.specs.declared.op.Op.{Op}
 use Rattle.rvs_count.specs.Counting.{Aim, count, aims_in, aims_of_label, aims_of_points}
-use Rattle.rvs_count.specs.Index.{Place, places, admits, is_for, stands, places_for, places_in}
+use Rattle.rvs_count.specs.Index.{PlacedPoint, places, admits, is_for, stands, places_for}
+use Rattle.rvs_count.specs.Index.{places_in}
 use Rattle.rvs_count.specs.State.{Tallied, tally_of}
 use Rattle.rvs_count.specs.declared.key.ListKey.{ListKey}
 use Rattle.rvs_count.specs.declared.slot.Slot.{Slot}
@@ -59,11 +60,11 @@ places_has : (key : ListKey) (ops : List Op) (at : ℕ) (points : List group.Poi
     → places_for (is_for key) at (aims_of_points ops points) ≡ places_in key at points
 places_has key ops at [] h = refl
 places_has key ops at (p ∷ ps) h =
-    ap (λ b. elim (b && stands key p) as (λ _. List Place) [
+    ap (λ b. elim (b && stands key p) as (λ _. List PlacedPoint) [
       | true ↦ (p, at) ∷ places_for (is_for key) (at + 1) (aims_of_points ops ps)
       | false ↦ places_for (is_for key) (at + 1) (aims_of_points ops ps)
     ]) h
-    ∙ ap (λ l. elim (stands key p) as (λ _. List Place) [ true ↦ (p, at) ∷ l | false ↦ l ])
+    ∙ ap (λ l. elim (stands key p) as (λ _. List PlacedPoint) [ true ↦ (p, at) ∷ l | false ↦ l ])
     (places_has key ops (at + 1) ps h)
 
 places_lacks : (key : ListKey) (ops : List Op) (at : ℕ) (points : List group.Point)
@@ -71,7 +72,7 @@ places_lacks : (key : ListKey) (ops : List Op) (at : ℕ) (points : List group.P
     → places_for (is_for key) at (aims_of_points ops points) ≡ []
 places_lacks key ops at [] h = refl
 places_lacks key ops at (p ∷ ps) h =
-    ap (λ b. elim (b && stands key p) as (λ _. List Place) [
+    ap (λ b. elim (b && stands key p) as (λ _. List PlacedPoint) [
       | true ↦ (p, at) ∷ places_for (is_for key) (at + 1) (aims_of_points ops ps)
       | false ↦ places_for (is_for key) (at + 1) (aims_of_points ops ps)
     ]) h
@@ -87,11 +88,11 @@ places-append passes at m (x ∷ xs) ys e =
     turn : (b : Bool)
         → places_for passes (at + 1) (xs ++ ys)
         ≡ places_for passes (at + 1) xs ++ places_for passes m ys
-        → (elim b as (λ _. List Place) [
+        → (elim b as (λ _. List PlacedPoint) [
           | true ↦ (x.point, at) ∷ places_for passes (at + 1) (xs ++ ys)
           | false ↦ places_for passes (at + 1) (xs ++ ys)
         ])
-        ≡ (elim b as (λ _. List Place) [
+        ≡ (elim b as (λ _. List PlacedPoint) [
           | true ↦ (x.point, at) ∷ places_for passes (at + 1) xs
           | false ↦ places_for passes (at + 1) xs
         ]) ++ places_for passes m ys
@@ -123,15 +124,15 @@ in_more : (key : ListKey) (points : List Point) (k at : ℕ) (d : Point) → k <
 in_more key [] k at d h = absurd (omega arith)
 in_more key (p ∷ ps) zero at d h = turn (stands key (point_view p))
   where
-    rest : List Place
+    rest : List PlacedPoint
     rest = places_in key (at + 1) (map point_view ps)
 
     turn : (b : Bool)
-        → (elim b as (λ _. List Place) [
+        → (elim b as (λ _. List PlacedPoint) [
           | true ↦ (point_view p, at) ∷ places_in key (at + 1) (map point_view ps)
           | false ↦ places_in key (at + 1) (map point_view ps)
         ])
-        ≡ (elim b as (λ _. List Place) [ true ↦ (point_view p, at) ∷ [] | false ↦ [] ])
+        ≡ (elim b as (λ _. List PlacedPoint) [ true ↦ (point_view p, at) ∷ [] | false ↦ [] ])
         ++ places_in key (at + 1) (map point_view ps)
     turn true = refl
     turn false = refl

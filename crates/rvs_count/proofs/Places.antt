@@ -21,7 +21,7 @@ use Rattle.rvs_insn.specs.Fields.{Fields}
 use Rattle.rvs_insn.specs.declared.op.Op.{Op}
 use Rattle.rvs_count.specs.Buckets.{bucket_of, is_seen}
 use Rattle.rvs_count.specs.Counting.{Aim, aims_in, hits_insn}
-use Rattle.rvs_count.specs.Index.{Place, place_of, places, has_number, insns_key, is_for}
+use Rattle.rvs_count.specs.Index.{PlacedPoint, place_of, places, has_number, insns_key, is_for}
 use Rattle.rvs_count.specs.Index.{is_matched, lists_number, meaning_fits, places_for, window_fits}
 use Rattle.rvs_count.specs.Index.{windows_key, IsIndex, raised, raised_all}
 use Rattle.rvs_count.specs.State.{added}
@@ -72,7 +72,7 @@ raised_from passes hit (a ∷ aims) front (c ∷ cs) k f l =
         → ((h : Bool)
         → raised_all hit (places_for passes (k + 1) aims) ((front ++ (c + cond h 1 0) ∷ []) ++ cs)
         ≡ (front ++ (c + cond h 1 0) ∷ []) ++ added (hit_by passes hit) aims cs)
-        → raised_all hit (elim b as (λ _. List Place) [
+        → raised_all hit (elim b as (λ _. List PlacedPoint) [
           | true ↦ (a.point, k) ∷ places_for passes (k + 1) aims
           | false ↦ places_for passes (k + 1) aims
         ]) (front ++ c ∷ cs)
@@ -262,11 +262,11 @@ low_places passes at n [] (s ∷ slots) p e k d l = cc
 low_places passes at n (a ∷ aims) slots p e k d l =
     turn (passes a) slots p k l (λ slots p. low_places passes (at + 1) n aims slots p (omega arith))
   where
-    at_of : Place → ℕ
+    at_of : PlacedPoint → ℕ
     at_of p = p.1
 
     turn : (b : Bool) (slots : List Slot)
-        → places slots ≡ (elim b as (λ _. List Place) [
+        → places slots ≡ (elim b as (λ _. List PlacedPoint) [
           | true ↦ (a.point, at) ∷ places_for passes (at + 1) aims
           | false ↦ places_for passes (at + 1) aims
         ])
@@ -279,7 +279,8 @@ low_places passes at n (a ∷ aims) slots p e k d l =
     turn true (s ∷ slots) p zero l next =
         let q : s.at
         ≡ at =
-        ap (λ (ps : List Place). (get_or {A = Place} ps 0 (a.point, at)).1) p in omega arith
+        ap (λ (ps : List PlacedPoint). (get_or {A = PlacedPoint} ps 0
+        (a.point, at)).1) p in omega arith
     turn true (s ∷ slots) p (suc k) l next = next slots (ap (λ ps. drop 1 ps) p) k d (omega arith)
 
 few_places : (passes : Aim → Bool) (at : ℕ) (aims : List Aim)
@@ -288,7 +289,7 @@ few_places passes at [] = omega arith
 few_places passes at (a ∷ aims) = turn (passes a) (few_places passes (at + 1) aims)
   where
     turn : (b : Bool) → length (places_for passes (at + 1) aims) ≤ length aims
-        → length (elim b as (λ _. List Place) [
+        → length (elim b as (λ _. List PlacedPoint) [
           | true ↦ (a.point, at) ∷ places_for passes (at + 1) aims
           | false ↦ places_for passes (at + 1) aims
         ]) ≤ length (a ∷ aims)

@@ -7,7 +7,8 @@ use Rattle.std.specs.Prelude.{◌==◌}
 use Rattle.rvs_cgf.specs.declared.group.Label.{Label}
 use Rattle.rvs_count.specs.Buckets.{bucket_of}
 use Rattle.rvs_count.specs.Counting.{Aim, aims_in}
-use Rattle.rvs_count.specs.Index.{Place, place_of, places, places_for, in_bucket, insns_key, is_for}
+use Rattle.rvs_count.specs.Index.{PlacedPoint, place_of, places, places_for, in_bucket, insns_key}
+use Rattle.rvs_count.specs.Index.{is_for}
 use Rattle.rvs_count.specs.Index.{has_number, meaning_fits, IsIndex}
 use Rattle.rvs_count.specs.declared.key.ListKey.TheVariants.{Any, Insns}
 use Rattle.rvs_count.specs.declared.slot.Slot.{Slot}
@@ -21,11 +22,11 @@ next_slot bucket [] k d h = absurd (omega arith)
 next_slot bucket (s ∷ slots) zero d h = turn (bucket_of (place_of s).0 == bucket)
   where
     turn : (b : Bool)
-        → (elim b as (λ _. List Place) [
+        → (elim b as (λ _. List PlacedPoint) [
           | true ↦ place_of s ∷ in_bucket bucket (places slots)
           | false ↦ in_bucket bucket (places slots)
         ])
-        ≡ (elim b as (λ _. List Place) [ true ↦ place_of s ∷ [] | false ↦ [] ])
+        ≡ (elim b as (λ _. List PlacedPoint) [ true ↦ place_of s ∷ [] | false ↦ [] ])
         ++ in_bucket bucket (places slots)
     turn true = refl
     turn false = refl
@@ -58,11 +59,11 @@ bucket_for n bucket at (a ∷ aims) =
         → in_bucket bucket (places_for (is_for (Any n)) (at + 1) aims)
         ≡ places_for (is_for (Insns n bucket)) (at + 1) aims
         → (bucket_of a.point == bucket) ≡ q
-        → in_bucket bucket (elim (h && f) as (λ _. List Place) [
+        → in_bucket bucket (elim (h && f) as (λ _. List PlacedPoint) [
           | true ↦ (a.point, at) ∷ places_for (is_for (Any n)) (at + 1) aims
           | false ↦ places_for (is_for (Any n)) (at + 1) aims
         ])
-        ≡ (elim (h && (q && f)) as (λ _. List Place) [
+        ≡ (elim (h && (q && f)) as (λ _. List PlacedPoint) [
           | true ↦ (a.point, at) ∷ places_for (is_for (Insns n bucket)) (at + 1) aims
           | false ↦ places_for (is_for (Insns n bucket)) (at + 1) aims
         ])
@@ -70,13 +71,13 @@ bucket_for n bucket at (a ∷ aims) =
     turn true false true rest e = rest
     turn true false false rest e = rest
     turn true true true rest e =
-        ap (λ b. elim b as (λ _. List Place) [
+        ap (λ b. elim b as (λ _. List PlacedPoint) [
           | true ↦ (a.point, at) ∷ in_bucket bucket (places_for (is_for (Any n)) (at + 1) aims)
           | false ↦ in_bucket bucket (places_for (is_for (Any n)) (at + 1) aims)
         ]) e
         ∙ ap (λ l. (a.point, at) ∷ l) rest
     turn true true false rest e =
-        ap (λ b. elim b as (λ _. List Place) [
+        ap (λ b. elim b as (λ _. List PlacedPoint) [
           | true ↦ (a.point, at) ∷ in_bucket bucket (places_for (is_for (Any n)) (at + 1) aims)
           | false ↦ in_bucket bucket (places_for (is_for (Any n)) (at + 1) aims)
         ]) e

@@ -19,13 +19,13 @@ use Rattle.rvs_count.specs.declared.key.ListKey.TheVariants.{Any, Insns, Windows
 use Rattle.rvs_count.specs.declared.slot.Slot.{Slot}
 
 -- a point, and its place among the counts
-abbrev pub Place : Type 0
-Place = Point × ℕ
+abbrev pub PlacedPoint : Type 0
+PlacedPoint = Point × ℕ
 
-abbrev pub place_of : Slot → Place
+abbrev pub place_of : Slot → PlacedPoint
 place_of s = (point_view s.point.now, s.at)
 
-abbrev pub places : List Slot → List Place
+abbrev pub places : List Slot → List PlacedPoint
 places slots = map place_of slots
 
 -- the mnemonic of this number is among them
@@ -71,7 +71,7 @@ abbrev pub windows_key : ℕ → ListKey
 windows_key n = Windows (n / 48 + 1) (n % 48)
 
 -- the points that pass, counted from a place
-abbrev pub places_for : (Aim → Bool) → ℕ → List Aim → List Place
+abbrev pub places_for : (Aim → Bool) → ℕ → List Aim → List PlacedPoint
 places_for passes at [] = []
 places_for passes at (a ∷ aims) =
     elim (passes a) [
@@ -80,7 +80,7 @@ places_for passes at (a ∷ aims) =
     ]
 
 -- the points of a list, counted from a place
-abbrev pub places_in : ListKey → ℕ → List Point → List Place
+abbrev pub places_in : ListKey → ℕ → List Point → List PlacedPoint
 places_in key at [] = []
 places_in key at (p ∷ ps) =
     elim (stands key p) [
@@ -89,7 +89,7 @@ places_in key at (p ∷ ps) =
     ]
 
 -- the places whose points are of a bucket
-abbrev pub in_bucket : ℕ → List Place → List Place
+abbrev pub in_bucket : ℕ → List PlacedPoint → List PlacedPoint
 in_bucket bucket [] = []
 in_bucket bucket (p ∷ ps) =
     elim (bucket_of p.0 == bucket) [
@@ -125,7 +125,7 @@ raised true at counts = slice_set counts at (slice_index counts at + 1)
 raised false at counts = counts
 
 -- the counts after the points of a list, of which some are hit
-abbrev pub raised_all : (Point → Bool) → List Place → List ℕ → List ℕ
+abbrev pub raised_all : (Point → Bool) → List PlacedPoint → List ℕ → List ℕ
 raised_all hit [] counts = counts
 raised_all hit (p ∷ ps) counts = raised_all hit ps (raised (hit p.0) p.1 counts)
 

@@ -1,4 +1,5 @@
-use Rattle.std.proofs.Common.{◌≡◌, ◌≤◌, ◌+◌, ◌^◌, ℕ, List, All, sym, ap, subst, ◌∙◌, arith, drop, get_or}
+use Rattle.std.proofs.Common.{◌≡◌, ◌≤◌, ◌+◌, ◌^◌, ℕ, List, All, sym, ap, subst, ◌∙◌, arith, drop}
+use Rattle.std.proofs.Common.{get_or}
 use Rattle.rvs_count.specs.Index.{raised}
 use Rattle.rvs_count.specs.Marks.{raised_marks}
 use Rattle.rvs_count.specs.Signs.{has_all}

@@ -2,7 +2,7 @@ use Rattle.std.proofs.Common.{◌≡◌, ◌≤◌, ◌+◌, ◌^◌, ℕ, List,
 use Rattle.std.proofs.Common.{drop}
 use Rattle.rvs_cgf.specs.GroupView.{meaning_view}
 use Rattle.rvs_cgf.specs.Groups.{Point}
-use Rattle.rvs_count.specs.Index.{Place, is_matched, place_of, places, raised, raised_all}
+use Rattle.rvs_count.specs.Index.{PlacedPoint, is_matched, place_of, places, raised, raised_all}
 use Rattle.rvs_count.specs.declared.slot.Slot.{Slot}
 use Rattle.rvs_count.proofs.Places.{slots_next, raised_low}
 use Rattle.rvs_count.proofs.matched.add_hits.Goals as goal
@@ -25,7 +25,7 @@ loop-slot-preserved g c =
     record {
       same =
           c.loop-slot.invariant.same
-          ∙ ap (λ (ps : List Place). raised_all matched ps c.loop-slot.counts.items)
+          ∙ ap (λ (ps : List PlacedPoint). raised_all matched ps c.loop-slot.counts.items)
           (slots_next c.args.slots.now c.loop-slot.slot-index s c.loop-slot-test.true)
           ∙ ap (λ (s : Slot). raised_all matched (place_of s ∷ rest) c.loop-slot.counts.items)
           (sym c.slot-item.is)
