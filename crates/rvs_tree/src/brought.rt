@@ -113,7 +113,7 @@ impl ValueList {
     }
 
     /// Whether a map of these values is known to have the key.
-    fn is_taken(&self, key: &str) -> bool
+    pub fn is_taken(&self, key: &str) -> bool
         ensures { result ≡ true → has_key key.now
             (keys_of (pairs_in (trees (values_view self.now.values.items)))) ≡ true }
     {
@@ -139,7 +139,7 @@ impl ValueList {
 
 impl EntryList {
     /// Whether these entries are known to have the key.
-    fn is_taken(&self, key: &str) -> bool
+    pub fn is_taken(&self, key: &str) -> bool
         ensures { result ≡ true
             → has_key key.now (spec.keys_so_far (entries_view self.now.entries.items)) ≡ true }
     {
