@@ -67,20 +67,27 @@ looked-first bs end = record {
   rooted = λ j b l u is. absurd (omega arith);
 }
 
--- one block more, which lies around or merges
-opened : (bs : List code.Open) (m root end : ℕ) (b : code.Open) → m < length bs → end ≤ length bs
+by-place : {X : Type 0} (m j : ℕ) → m ≤ j → (j ≡ m → X) → (m + 1 ≤ j → X) → X
+by-place m j l same above = by-test (nat_eq j m) refl
+  where
+    by-test : (b : Bool) → nat_eq j m ≡ b → X
+    by-test true e = same (omega (arith, e))
+    by-test false e = above (omega (arith, l, e))
+
+-- one block more, whose open member merges
+opened : (bs : List code.Open) (m root end : ℕ) (b : code.Open) → m < length bs
     → b ≡ get_or bs m b → Looked bs (m + 1) root end
     → chained (done_view b.block.done) (in_chain (stack_view (take m bs))) ≡ true
     → AreAround bs m end
-opened bs m root end b here most is g e j c l u at =
+opened bs m root end b here is g e j c l u at =
     let I = in_chain (stack_view (take m bs)) in
     let d = done_view b.block.done in
     let view : stack_view (take (m + 1) bs) ≡ open_view b ∷ stack_view (take m bs) =
     stack-more bs m b here ∙ ap (λ x. open_view x ∷ stack_view (take m bs)) (sym is) in
     let inner = g.open (ap in_chain view ∙ e) in
-    nat-split m j l
+    by-place m j l
     (λ same. λ k h. g.more k (ap (λ xs. has_key k (chain_keys xs)) view
     ∙ own-around d I (chain_keys (stack_view (take m bs))) e k
     (ap (λ (x : code.Open). has_key k (done_keys (done_view x.block.done)))
-    (same-block bs m b c here is (at ∙ ap (λ i. get_or bs i c) (sym same))) ∙ h)))
+    (same-block bs m b c here is (at ∙ ap (λ i. get_or bs i c) same)) ∙ h)))
     (λ above. inner j c above u at)
