@@ -1,6 +1,8 @@
 -- Which blocks are around what merges into them.
 use Rattle.std.proofs.Common.{◌≡◌, ℕ, ◌≤◌, ◌<◌, ◌+◌, Bool, true, false, cond, List, [], ◌∷◌, ◌++◌}
 use Rattle.std.proofs.Common.{refl, sym, ap, ◌∙◌, subst, arith, length, take, get_or, Some}
+use Rattle.std.proofs.Math.Dec.{eqb}
+use Rattle.std.proofs.lemmas.Bool.{eqb-true, eqb-false}
 use Rattle.std.proofs.lemmas.Option.{slice_get-get_or}
 use Rattle.std.specs.Prelude.{◌||◌}
 use Rattle.rvs_tree.specs.Shown.{Holds}
@@ -54,7 +56,7 @@ pub record Looked (bs : List code.Open) (at root end : ℕ) : Type 0 where
   pub small : root ≤ end
   pub all : at ≤ root
   pub more : Holds (chain_keys (stack_view (take at bs))) (chain_keys (stack_view (take end bs)))
-  pub open : in_chain (stack_view (take at bs)) ≡ true → AreAround bs at end
+  pub passing : in_chain (stack_view (take at bs)) ≡ true → AreAround bs at end
   pub rooted : AreAround bs root end
 
 pub looked-first : (bs : List code.Open) (end : ℕ) → Looked bs end end end
@@ -63,16 +65,17 @@ looked-first bs end = record {
   small = omega arith;
   all = omega arith;
   more = λ k h. h;
-  open = λ e j b l u is. absurd (omega arith);
+  passing = λ e j b l u is. absurd (omega arith);
   rooted = λ j b l u is. absurd (omega arith);
 }
 
+by-test : {X : Type 0} (m j : ℕ) → m ≤ j → (b : Bool) → eqb j m ≡ b → (j ≡ m → X)
+    → (m + 1 ≤ j → X) → X
+by-test m j l true e same above = same (eqb-true j m e)
+by-test m j l false e same above = above (omega (arith, l, eqb-false j m e))
+
 by-place : {X : Type 0} (m j : ℕ) → m ≤ j → (j ≡ m → X) → (m + 1 ≤ j → X) → X
-by-place m j l same above = by-test (nat_eq j m) refl
-  where
-    by-test : (b : Bool) → nat_eq j m ≡ b → X
-    by-test true e = same (omega (arith, e))
-    by-test false e = above (omega (arith, l, e))
+by-place m j l same above = by-test m j l (eqb j m) refl same above
 
 -- one block more, whose open member merges
 opened : (bs : List code.Open) (m root end : ℕ) (b : code.Open) → m < length bs
@@ -84,10 +87,50 @@ opened bs m root end b here is g e j c l u at =
     let d = done_view b.block.done in
     let view : stack_view (take (m + 1) bs) ≡ open_view b ∷ stack_view (take m bs) =
     stack-more bs m b here ∙ ap (λ x. open_view x ∷ stack_view (take m bs)) (sym is) in
-    let inner = g.open (ap in_chain view ∙ e) in
+    let inner = g.passing (ap in_chain view ∙ e) in
     by-place m j l
     (λ same. λ k h. g.more k (ap (λ xs. has_key k (chain_keys xs)) view
     ∙ own-around d I (chain_keys (stack_view (take m bs))) e k
     (ap (λ (x : code.Open). has_key k (done_keys (done_view x.block.done)))
     (same-block bs m b c here is (at ∙ ap (λ i. get_or bs i c) same)) ∙ h)))
     (λ above. inner j c above u at)
+
+-- the next block outwards, whose open member passes what merges into it
+pub looked-more : (bs : List code.Open) (m root end : ℕ) (b : code.Open) → m < length bs
+    → b ≡ get_or bs m b → Looked bs (m + 1) root end
+    → chained (done_view b.block.done) true ≡ true → Looked bs m root end
+looked-more bs m root end b here is g e =
+    let I = in_chain (stack_view (take m bs)) in
+    let K = chain_keys (stack_view (take m bs)) in
+    let view : stack_view (take (m + 1) bs) ≡ open_view b ∷ stack_view (take m bs) =
+    stack-more bs m b here ∙ ap (λ x. open_view x ∷ stack_view (take m bs)) (sym is) in
+    record {
+      inside = omega (arith, g.inside);
+      small = g.small;
+      all = omega (arith, g.all);
+      more = λ k h. g.more k (ap (λ xs. has_key k (chain_keys xs)) view
+          ∙ keys-around (done_view b.block.done) I K (chain-none (stack_view (take m bs))) e k h);
+      passing = λ i. opened bs m root end b here is g
+          (subst (λ x. chained (done_view b.block.done) x ≡ true) (sym i) e);
+      rooted = g.rooted;
+    }
+
+passes-always : (d : Done) → chained d false ≡ true → chained d true ≡ true
+passes-always d e = chained-more d true e
+
+-- the next one, which merges
+pub looked-root : (bs : List code.Open) (m root end : ℕ) (b : code.Open) → m < length bs
+    → b ≡ get_or bs m b → Looked bs (m + 1) root end
+    → chained (done_view b.block.done) false ≡ true → Looked bs m m end
+looked-root bs m root end b here is g e =
+    let d = done_view b.block.done in
+    let I = in_chain (stack_view (take m bs)) in
+    let next = looked-more bs m root end b here is g (passes-always d e) in
+    record {
+      inside = next.inside;
+      small = next.inside;
+      all = omega arith;
+      more = next.more;
+      passing = next.passing;
+      rooted = opened bs m root end b here is g (chained-more d I e);
+    }
