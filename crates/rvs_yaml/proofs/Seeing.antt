@@ -142,6 +142,11 @@ told-in inside keys s new f n d h t = record {
   shown = λ T i. omega (arith, t.shown T, h T i);
 }
 
+-- a key that is taken brings nothing
+pub at-taken : (b : Bool) (n : ℕ) → b ≡ true → cond b 0 n ≡ 0
+at-taken true n e = refl
+at-taken false n e = absurd (true≢false (sym e))
+
 -- a value at a key
 at-shown-by : (b : Bool) (n d : ℕ) → min n 33 ≤ d → min (cond b 0 n) 33 ≤ max (cond b 0 d) 0
 at-shown-by true n d h = omega arith
