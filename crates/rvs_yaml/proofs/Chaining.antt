@@ -134,3 +134,10 @@ looked-root bs m root end b here is g e =
       passing = next.passing;
       rooted = opened bs m root end b here is g (chained-more d I e);
     }
+
+-- what stands in place of a block that isn't there doesn't matter where there is one
+pub same-at : (bs : List code.Open) (m : ℕ) (b c : code.Open) → m < length bs
+    → get_or bs m b ≡ get_or bs m c
+same-at bs m b c h =
+    let here = slice_get-get_or bs m b h in
+    let there = slice_get-get_or bs m c h in cc
