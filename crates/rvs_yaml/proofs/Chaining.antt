@@ -27,7 +27,8 @@ chained-more (done_items vs) inside e = cc
 chained-more (done_entries ws k) inside e = e
 chained-more alone inside e = cc
 
-front-key : (k : List ℕ) (A B : List (List ℕ)) → has_key k A ≡ true → has_key k (A ++ B) ≡ true
+pub front-key : (k : List ℕ) (A B : List (List ℕ)) → has_key k A ≡ true
+    → has_key k (A ++ B) ≡ true
 front-key k A B h = has_key-append k A B ∙ ap (λ b. b || has_key k B) h
 
 -- the keys around a block, and its own, are around what merges into it
@@ -39,16 +40,21 @@ keys-around d true keys none e k h =
 keys-around d false keys none e k h =
     let no : false ≡ true = sym (ap (has_key k) (none refl)) ∙ h in cc
 
-pub own-around : (d : Done) (inside : Bool) (keys : List (List ℕ)) → chained d inside ≡ true
-    → Holds (done_keys d) (cond (chained d inside) (done_keys d ++ keys) [])
+pub own-around : (d : Done) (inside : Bool) (keys : List (List ℕ))
+    → chained d inside ≡ true → Holds (done_keys d) (cond (chained d inside) (done_keys d ++ keys) [])
 own-around d inside keys e k h = ap (λ t. has_key k (cond t (done_keys d ++ keys) [])) e
     ∙ front-key k (done_keys d) keys h
 
-same-block : (bs : List code.Open) (m : ℕ) (b c : code.Open) → m < length bs → b ≡ get_or bs m b
-    → c ≡ get_or bs m c → b ≡ c
-same-block bs m b c h e f =
+-- what stands in place of a block that isn't there doesn't matter where there is one
+pub same-at : (bs : List code.Open) (m : ℕ) (b c : code.Open) → m < length bs
+    → get_or bs m b ≡ get_or bs m c
+same-at bs m b c h =
     let here = slice_get-get_or bs m b h in
     let there = slice_get-get_or bs m c h in cc
+
+same-block : (bs : List code.Open) (m : ℕ) (b c : code.Open) → m < length bs
+    → b ≡ get_or bs m b → c ≡ get_or bs m c → b ≡ c
+same-block bs m b c h e f = e ∙ same-at bs m b c h ∙ sym f
 
 -- what is known of the blocks from `at` on, when what is in the last of them is looked outwards from
 pub record Looked (bs : List code.Open) (at root end : ℕ) : Type 0 where
@@ -115,9 +121,6 @@ looked-more bs m root end b here is g e =
       rooted = g.rooted;
     }
 
-passes-always : (d : Done) → chained d false ≡ true → chained d true ≡ true
-passes-always d e = chained-more d true e
-
 -- the next one, which merges
 pub looked-root : (bs : List code.Open) (m root end : ℕ) (b : code.Open) → m < length bs
     → b ≡ get_or bs m b → Looked bs (m + 1) root end
@@ -125,7 +128,7 @@ pub looked-root : (bs : List code.Open) (m root end : ℕ) (b : code.Open) → m
 looked-root bs m root end b here is g e =
     let d = done_view b.block.done in
     let I = in_chain (stack_view (take m bs)) in
-    let next = looked-more bs m root end b here is g (passes-always d e) in
+    let next = looked-more bs m root end b here is g (chained-more d true e) in
     record {
       inside = next.inside;
       small = next.inside;
@@ -134,10 +137,3 @@ looked-root bs m root end b here is g e =
       passing = next.passing;
       rooted = opened bs m root end b here is g (chained-more d I e);
     }
-
--- what stands in place of a block that isn't there doesn't matter where there is one
-pub same-at : (bs : List code.Open) (m : ℕ) (b c : code.Open) → m < length bs
-    → get_or bs m b ≡ get_or bs m c
-same-at bs m b c h =
-    let here = slice_get-get_or bs m b h in
-    let there = slice_get-get_or bs m c h in cc

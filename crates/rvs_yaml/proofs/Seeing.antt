@@ -20,6 +20,7 @@ use Rattle.rvs_yaml.specs.Seen.{Tells, TellsOf, TellsIn, TellsAt, Steps}
 use Rattle.rvs_yaml.specs.StackView.{done_view, open_view, stack_view}
 use Rattle.rvs_yaml.specs.declared.open.Open as code
 use Rattle.rvs_yaml.specs.declared.seen.Seen.{Seen}
+use Rattle.rvs_yaml.proofs.Chaining.{front-key}
 use Rattle.rvs_yaml.proofs.Lookups.{stack-more}
 use Rattle.rvs_yaml.proofs.Sketching.{stack-top}
 use Rattle.rvs_tree.proofs.Sums.{take_whole}
@@ -40,13 +41,6 @@ visible-less (p ∷ ps) V U h =
 pub behind-more : (ps : List (List ℕ × ℕ)) (X T : List (List ℕ))
     → visible ps (X ++ T) ≤ visible ps T
 behind-more ps X T = visible-less ps T (X ++ T) (λ k h. in-more k X T h)
-
-or-front : (a b : Bool) → a ≡ true → (a || b) ≡ true
-or-front true b h = refl
-or-front false b h = cc
-
-in-front : (k : List ℕ) (A B : List (List ℕ)) → has_key k A ≡ true → has_key k (A ++ B) ≡ true
-in-front k A B h = has_key-append k A B ∙ or-front (has_key k A) (has_key k B) h
 
 or-either : (a b c : Bool) → (b ≡ true → c ≡ true) → (a || b) ≡ true → (a || c) ≡ true
 or-either true b c g e = refl
@@ -70,17 +64,23 @@ list-step vs true keys s new d e f n t =
     let X = keys_of (pairs_in (trees vs)) in
     record {
       deep = λ i. absurd (true≢false i);
-      shown = λ T h. omega (arith, t.shown (X ++ T) (behind-keys X keys T h),
-      behind-more (depths_view s.depths.items) X T,
-      ap (λ (v : Vec KeyDepth Global). visible (depths_view v.items) T) e);
+      shown = λ T h. omega (
+        arith,
+        t.shown (X ++ T) (behind-keys X keys T h),
+        behind-more (depths_view s.depths.items) X T,
+        ap (λ (v : Vec KeyDepth Global). visible (depths_view v.items) T) e,
+      );
     }
 list-step vs false keys s new d e f n t =
     let X = keys_of (pairs_in (trees vs)) in
     record {
       deep = λ i. omega (arith, t.deep refl, d);
-      shown = λ T h. omega (arith, t.shown (X ++ T) (λ k i. cc),
-      behind-more (depths_view s.depths.items) X T,
-      ap (λ (v : Vec KeyDepth Global). visible (depths_view v.items) T) e);
+      shown = λ T h. omega (
+        arith,
+        t.shown (X ++ T) (λ k i. cc),
+        behind-more (depths_view s.depths.items) X T,
+        ap (λ (v : Vec KeyDepth Global). visible (depths_view v.items) T) e,
+      );
     }
 
 map-told : (ws : List Written) (inside : Bool) (keys : Keys) (s new : Seen)
@@ -92,16 +92,24 @@ map-told ws inside keys s new none d e f n t =
     let S = keys_of (resolved (explicit_keys ws) [] ws) in
     let ds = depths_view s.depths.items in
     record {
-      deep = λ i. omega (arith, t.shown A (λ k j. sym (ap (has_key k) (append-nil A))
-      ∙ subst (λ ks. has_key k (A ++ ks) ≡ true) (none i) j),
-      visible-less ds [] A (λ k j. cc), s.known, d);
+      deep = λ i. omega (
+        arith,
+        t.shown A (λ k j. sym (ap (has_key k) (append-nil A))
+            ∙ subst (λ ks. has_key k (A ++ ks) ≡ true) (none i) j),
+        visible-less ds [] A (λ k j. cc),
+        s.known,
+        d,
+      );
       shown = λ T h.
           let U = (S ++ T) ++ A in
-          omega (arith, t.shown U (λ k j. has_key-append k (S ++ T) A
-          ∙ or-cover (has_key k (S ++ T)) (has_key k A) (has_key k keys)
-          (λ l. in-more k S T (h k l)) (sym (has_key-append k A keys) ∙ j)),
-          visible-less ds T U (λ k j. in-front k (S ++ T) A (in-more k S T j)),
-          ap (λ (v : Vec KeyDepth Global). visible (depths_view v.items) T) e);
+          omega (
+            arith,
+            t.shown U (λ k j. has_key-append k (S ++ T) A
+                ∙ or-cover (has_key k (S ++ T)) (has_key k A) (has_key k keys)
+                (λ l. in-more k S T (h k l)) (sym (has_key-append k A keys) ∙ j)),
+            visible-less ds T U (λ k j. front-key k (S ++ T) A (in-more k S T j)),
+            ap (λ (v : Vec KeyDepth Global). visible (depths_view v.items) T) e,
+          );
     }
 
 -- what a map keeps of what is new in what it merges

@@ -9,15 +9,18 @@ use Rattle.rvs_yaml.specs.Reach.{passed, deepened}
 use Rattle.rvs_yaml.specs.Stack.{Done, Open}
 use Rattle.rvs_yaml.specs.declared.seen.Seen.{Seen}
 
+abbrev Keys : Type 0
+Keys = List (List ℕ)
+
 pub record Tells (s : Seen) (f : Shown) (n : ℕ) : Type 0 where
   pub deep : min n 33 ≤ s.depth
   pub shown : (T : List (List ℕ)) → min (f T) 33 ≤ visible (depths_view s.depths.items) T
 
--- The same where these keys are taken around it, and where it merges into a map or doesn't: how deep
--- it is by itself counts only where it doesn't.
-pub record TellsIn (inside : Bool) (keys : List (List ℕ)) (s : Seen) (f : Shown) (n : ℕ) : Type 0 where
+-- The same where these keys are taken around it, and where it merges into a map or doesn't: how
+-- deep it is by itself counts only where it doesn't.
+pub record TellsIn (inside : Bool) (keys : Keys) (s : Seen) (f : Shown) (n : ℕ) : Type 0 where
   pub deep : inside ≡ false → min n 33 ≤ s.depth
-  pub shown : (T : List (List ℕ)) → Holds keys T → min (f T) 33 ≤ visible (depths_view s.depths.items) T
+  pub shown : (T : Keys) → Holds keys T → min (f T) 33 ≤ visible (depths_view s.depths.items) T
 
 -- the same of what is new in the open member of these blocks
 abbrev pub TellsAt : List Open → Seen → Shown → ℕ → Type 0
@@ -29,7 +32,8 @@ around d inside keys = if chained d inside then done_keys d ++ keys else []
 
 -- what a step from the open member of a block to the block keeps
 abbrev pub Steps : Done → Bool → List (List ℕ) → Seen → Seen → Type 0
-Steps d inside keys s new = (f : Shown) (n : ℕ) → TellsIn (chained d inside) (around d inside keys) s f n
+Steps d inside keys s new = (f : Shown) (n : ℕ)
+    → TellsIn (chained d inside) (around d inside keys) s f n
     → TellsIn inside keys new (passed d n f) (deepened d f n)
 
 -- what is known of a value that is new

@@ -129,7 +129,14 @@ fn unseen(
         deepest: _,
         depths,
     } = seen;
-    let depths = untaken(alloc, blocks, root, end, arrivals_at(arrivals, root), depths)?;
+    let depths = untaken(
+        alloc,
+        blocks,
+        root,
+        end,
+        arrivals_at(arrivals, root),
+        depths,
+    )?;
     let deepest = deepest_of(depths.as_slice());
     Ok(Seen {
         depth,
@@ -157,8 +164,8 @@ fn listed(seen: Seen) -> Seen
 
 /// What is new in a map that merges such a value.
 fn merged(seen: Seen) -> Seen
-    ensures { (ws : List value_spec.Written) → (k : word_spec.Key) → k.merges ≡ true → (inside : Bool)
-        → (keys : List (List ℕ)) → (inside ≡ false → keys ≡ [])
+    ensures { (ws : List value_spec.Written) → (k : word_spec.Key) → k.merges ≡ true
+        → (inside : Bool) → (keys : List (List ℕ)) → (inside ≡ false → keys ≡ [])
         → Steps (done_entries ws k) inside keys seen result }
 {
     let Seen {

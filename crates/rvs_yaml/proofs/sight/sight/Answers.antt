@@ -23,7 +23,8 @@ loop-i-preserved c =
     let top = c.in-Some.top.now in
     let one : c.loop-i.i ≡ m + 1 = omega arith in
     let here : m < length bs = omega (arith, c.loop-i.invariant.inside) in
-    let told = subst (λ i. (f : Shown) × (n : ℕ) × TellsAt (stack_view (take i bs)) c.loop-i.seen f n
+    let told = subst (λ i. (f : Shown) × (n : ℕ)
+    × TellsAt (stack_view (take i bs)) c.loop-i.seen f n
     × (spec.seen f n (stack_view (take i bs)) ≡ spec.sight (stack_view bs))) one
     c.loop-i.invariant.told in
     record {

@@ -12,7 +12,8 @@ loop-pair-preserved c = λ T h.
     omega (
       arith,
       c.in_ok-kept.ensures T (λ t. h (string_bytes d.key)
-      (subst (λ k. has_key k keys ≡ true) c.as_str.ensures.value (c.is_taken_around-taken.ensures t))),
+          (subst (λ k. has_key k keys ≡ true) c.as_str.ensures.value
+          (c.is_taken_around-taken.ensures t))),
       c.loop-pair.invariant T h,
       push-visible c.loop-pair.yielded _ d T refl,
     )
