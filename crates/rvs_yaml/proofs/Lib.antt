@@ -1,5 +1,6 @@
 pub mod Alike
 pub mod Answering
+pub mod Chaining
 pub mod Deciding
 pub mod Ending
 pub mod Filling

@@ -1,61 +1,159 @@
 -- What is new in open blocks, from the innermost outwards.
 use Rattle.std.proofs.Common.{◌≡◌, ℕ, ◌≤◌, max, min, Bool, true, false, cond, List, [], ◌∷◌}
 use Rattle.std.proofs.Common.{◌++◌, ◌+◌, ◌-◌, ◌<◌, refl, sym, ap, ◌∙◌, arith, length, take, get_or}
-use Rattle.std.proofs.Common.{slice_get, Some, None}
+use Rattle.std.proofs.Common.{slice_get, Some, None, zero, suc, append-nil, subst, true≢false}
+use Rattle.std.proofs.Common.{Vec, Global}
 use Rattle.std.proofs.lemmas.Option.{slice_get-get_or}
 use Rattle.rvs_tree.specs.Data.{depth}
 use Rattle.std.specs.Prelude.{◌||◌}
-use Rattle.rvs_tree.specs.Value.{Written, has_key, keys_of, explicit_keys, resolved}
+use Rattle.rvs_tree.specs.Value.{Value, Written, has_key, keys_of, pairs_in, trees}
+use Rattle.rvs_tree.specs.Value.{explicit_keys, resolved}
+use Rattle.rvs_tree.specs.ShownView.{depths_view}
+use Rattle.rvs_tree.specs.declared.key_depth.KeyDepth.{KeyDepth}
+use Rattle.rvs_yaml.specs.Chain.{in_chain, chain_keys}
+use Rattle.rvs_yaml.specs.Stack.{done_items, done_entries, alone}
+use Rattle.rvs_yaml_text.specs.Word.{Key}
 use Rattle.rvs_tree.specs.Shown.{Shown, Holds, shown_by, at_key, keys_so_far, left_by, visible}
 use Rattle.rvs_yaml.specs.Front.{own_value}
 use Rattle.rvs_yaml.specs.Reach.{passed, deepened, seen, sight}
-use Rattle.rvs_yaml.specs.Seen.{Tells, TellsOf}
+use Rattle.rvs_yaml.specs.Seen.{Tells, TellsOf, TellsIn, TellsAt, Steps}
 use Rattle.rvs_yaml.specs.StackView.{done_view, open_view, stack_view}
 use Rattle.rvs_yaml.specs.declared.open.Open as code
 use Rattle.rvs_yaml.specs.declared.seen.Seen.{Seen}
+use Rattle.rvs_yaml.proofs.Chaining.{front-key}
 use Rattle.rvs_yaml.proofs.Lookups.{stack-more}
 use Rattle.rvs_yaml.proofs.Sketching.{stack-top}
 use Rattle.rvs_tree.proofs.Sums.{take_whole}
 use Rattle.rvs_tree.proofs.Sums.{has_key-append}
 use Rattle.rvs_tree.proofs.Sifting.{in-more}
+use Rattle.rvs_tree.proofs.Within.{at-behind-by}
 
-or-front : (a b : Bool) → a ≡ true → (a || b) ≡ true
-or-front true b h = refl
-or-front false b h = cc
+abbrev Keys : Type 0
+Keys = List (List ℕ)
 
-in-front : (k : List ℕ) (A B : List (List ℕ)) → has_key k A ≡ true → has_key k (A ++ B) ≡ true
-in-front k A B h = has_key-append k A B ∙ or-front (has_key k A) (has_key k B) h
+-- where more keys are taken nothing is deeper
+visible-less : (ps : List (List ℕ × ℕ)) (V U : List (List ℕ))
+    → ((k : List ℕ) → has_key k V ≡ true → has_key k U ≡ true) → visible ps U ≤ visible ps V
+visible-less [] V U h = omega arith
+visible-less (p ∷ ps) V U h =
+    omega (arith, visible-less ps V U h, at-behind-by (has_key p.0 U) (has_key p.0 V) p.1 (h p.0))
 
--- what a map leaves of what it merges
-pub left-shown : (ws : List Written) (f : Shown) (ds es : List (List ℕ × ℕ))
-    → ((T : List (List ℕ)) → min (f T) 33 ≤ visible ds T)
-    → ((T U : List (List ℕ)) → Holds (keys_so_far ws) U → Holds T U → visible ds U ≤ visible es T)
-    → (T : List (List ℕ)) → min (left_by ws f T) 33 ≤ visible es T
-left-shown ws f ds es h e T =
-    let E = explicit_keys ws in
-    let S = keys_of (resolved E [] ws) in
-    let U = (S ++ T) ++ keys_so_far ws in
-    omega (
-      arith,
-      h U,
-      e T U (λ k i. in-more k (S ++ T) (keys_so_far ws) i)
-          (λ k i. in-front k (S ++ T) (keys_so_far ws) (in-more k S T i)),
-    )
+pub behind-more : (ps : List (List ℕ × ℕ)) (X T : List (List ℕ))
+    → visible ps (X ++ T) ≤ visible ps T
+behind-more ps X T = visible-less ps T (X ++ T) (λ k h. in-more k X T h)
 
-pub left-deep : (ws : List Written) (f : Shown) (ds es : List (List ℕ × ℕ))
-    → ((T : List (List ℕ)) → min (f T) 33 ≤ visible ds T)
-    → ((T U : List (List ℕ)) → Holds (keys_so_far ws) U → Holds T U → visible ds U ≤ visible es T)
-    → min (f (keys_so_far ws)) 33 ≤ visible es []
-left-deep ws f ds es h e =
-    omega (arith, h (keys_so_far ws), e [] (keys_so_far ws) (λ k i. i) (λ k i. cc))
+or-either : (a b c : Bool) → (b ≡ true → c ≡ true) → (a || b) ≡ true → (a || c) ≡ true
+or-either true b c g e = refl
+or-either false b c g e = g e
 
--- what a list with these keys leaves
-pub listed-shown : (X : List (List ℕ)) (f : Shown) (ds es : List (List ℕ × ℕ))
-    → ((T : List (List ℕ)) → min (f T) 33 ≤ visible ds T)
-    → ((T U : List (List ℕ)) → Holds X U → Holds T U → visible ds U ≤ visible es T)
-    → (T : List (List ℕ)) → min (f (X ++ T)) 33 ≤ visible es T
-listed-shown X f ds es h e T =
-    omega (arith, h (X ++ T), e T (X ++ T) (λ k i. in-front k X T i) (λ k i. in-more k X T i))
+or-cover : (a b c : Bool) → (c ≡ true → a ≡ true) → (b || c) ≡ true → (a || b) ≡ true
+or-cover true b c g e = refl
+or-cover false true c g e = refl
+or-cover false false c g e = g e
+
+behind-keys : (X K T : Keys) → Holds K T → Holds (X ++ K) (X ++ T)
+behind-keys X K T h k i =
+    has_key-append k X T
+    ∙ or-either (has_key k X) (has_key k K) (has_key k T) (h k) (sym (has_key-append k X K) ∙ i)
+
+-- what a list keeps of what is new in its open item
+pub list-step : (vs : List Value) (inside : Bool) (keys : Keys) (s new : Seen)
+    → new.depth ≡ min (s.depth + 1) 33 → new.depths ≡ s.depths
+    → Steps (done_items vs) inside keys s new
+list-step vs true keys s new d e f n t =
+    let X = keys_of (pairs_in (trees vs)) in
+    record {
+      deep = λ i. absurd (true≢false i);
+      shown = λ T h. omega (
+        arith,
+        t.shown (X ++ T) (behind-keys X keys T h),
+        behind-more (depths_view s.depths.items) X T,
+        ap (λ (v : Vec KeyDepth Global). visible (depths_view v.items) T) e,
+      );
+    }
+list-step vs false keys s new d e f n t =
+    let X = keys_of (pairs_in (trees vs)) in
+    record {
+      deep = λ i. omega (arith, t.deep refl, d);
+      shown = λ T h. omega (
+        arith,
+        t.shown (X ++ T) (λ k i. cc),
+        behind-more (depths_view s.depths.items) X T,
+        ap (λ (v : Vec KeyDepth Global). visible (depths_view v.items) T) e,
+      );
+    }
+
+map-told : (ws : List Written) (inside : Bool) (keys : Keys) (s new : Seen)
+    → (inside ≡ false → keys ≡ []) → new.depth ≡ min (s.deepest + 1) 33 → new.depths ≡ s.depths
+    → (f : Shown) (n : ℕ) → TellsIn true (keys_so_far ws ++ keys) s f n
+    → TellsIn inside keys new (left_by ws f) (suc (f (keys_so_far ws)))
+map-told ws inside keys s new none d e f n t =
+    let A = keys_so_far ws in
+    let S = keys_of (resolved (explicit_keys ws) [] ws) in
+    let ds = depths_view s.depths.items in
+    record {
+      deep = λ i. omega (
+        arith,
+        t.shown A (λ k j. sym (ap (has_key k) (append-nil A))
+            ∙ subst (λ ks. has_key k (A ++ ks) ≡ true) (none i) j),
+        visible-less ds [] A (λ k j. cc),
+        s.known,
+        d,
+      );
+      shown = λ T h.
+          let U = (S ++ T) ++ A in
+          omega (
+            arith,
+            t.shown U (λ k j. has_key-append k (S ++ T) A
+                ∙ or-cover (has_key k (S ++ T)) (has_key k A) (has_key k keys)
+                (λ l. in-more k S T (h k l)) (sym (has_key-append k A keys) ∙ j)),
+            visible-less ds T U (λ k j. front-key k (S ++ T) A (in-more k S T j)),
+            ap (λ (v : Vec KeyDepth Global). visible (depths_view v.items) T) e,
+          );
+    }
+
+-- what a map keeps of what is new in what it merges
+pub map-step : (ws : List Written) (k : Key) → k.merges ≡ true → (inside : Bool) (keys : Keys)
+    → (inside ≡ false → keys ≡ []) → (s new : Seen) → new.depth ≡ min (s.deepest + 1) 33
+    → new.depths ≡ s.depths → Steps (done_entries ws k) inside keys s new
+map-step ws k m inside keys none s new d e f n t =
+    let A = keys_so_far ws in
+    let u : TellsIn true (A ++ keys) s f n =
+    subst (λ b. TellsIn b (cond b (A ++ keys) []) s f n) m t in
+    subst (λ b. TellsIn inside keys new (λ T. cond b (left_by ws f T) (at_key k.name n T))
+    (cond b (suc (f A)) (suc n))) (sym m) (map-told ws inside keys s new none d e f n u)
+
+-- and of what is new at its open key
+pub plain-step : (ws : List Written) (k : Key) → k.merges ≡ false → (inside : Bool) (keys : Keys)
+    (s at new : Seen) → ((n : ℕ) → min n 33 ≤ s.depth → Tells at (at_key k.name n) (suc n))
+    → ((f : Shown) (n : ℕ) → Tells at f n → TellsIn inside keys new f n)
+    → Steps (done_entries ws k) inside keys s new
+plain-step ws k m inside keys s at new g h f n t =
+    subst (λ b. TellsIn inside keys new (λ T. cond b (left_by ws f T) (at_key k.name n T))
+    (cond b (suc (f (keys_so_far ws))) (suc n))) (sym m)
+    (h (at_key k.name n) (suc n) (g n (t.deep m)))
+
+pub alone-step : (inside : Bool) (keys : Keys) (s : Seen) → Steps alone inside keys s s
+alone-step true keys s f n t = t
+alone-step false keys s f n t = record {
+  deep = t.deep;
+  shown = λ T h. t.shown T (λ k i. cc);
+}
+
+-- what isn't taken is as new as it was
+pub told-in : (inside : Bool) (keys : Keys) (s new : Seen) (f : Shown) (n : ℕ)
+    → new.depth ≡ s.depth → ((T : Keys) → Holds keys T
+    → visible (depths_view s.depths.items) T ≤ visible (depths_view new.depths.items) T)
+    → Tells s f n → TellsIn inside keys new f n
+told-in inside keys s new f n d h t = record {
+  deep = λ i. omega (arith, t.deep, d);
+  shown = λ T i. omega (arith, t.shown T, h T i);
+}
+
+-- a key that is taken brings nothing
+pub at-taken : (b : Bool) (n : ℕ) → b ≡ true → cond b 0 n ≡ 0
+at-taken true n e = refl
+at-taken false n e = absurd (true≢false (sym e))
 
 -- a value at a key
 at-shown-by : (b : Bool) (n d : ℕ) → min n 33 ≤ d → min (cond b 0 n) 33 ≤ max (cond b 0 d) 0
@@ -69,35 +167,42 @@ at-shown k n d T h = at-shown-by (has_key k T) n d h
 -- one open block more is passed
 pub tells-next : (bs : List code.Open) (m : ℕ) (b : code.Open) (s new : Seen) (t : ℕ)
     → m < length bs
-    → ((f : Shown) × (n : ℕ) × Tells s f n × (seen f n (stack_view (take (m + 1) bs)) ≡ t))
-    → ((f : Shown) (n : ℕ) → Tells s f n
-    → Tells new (passed (done_view (get_or bs m b).block.done) n f)
-    (deepened (done_view (get_or bs m b).block.done) f n))
-    → (f : Shown) × (n : ℕ) × Tells new f n × (seen f n (stack_view (take m bs)) ≡ t)
+    → ((f : Shown) × (n : ℕ) × TellsAt (stack_view (take (m + 1) bs)) s f n
+    × (seen f n (stack_view (take (m + 1) bs)) ≡ t))
+    → Steps (done_view (get_or bs m b).block.done) (in_chain (stack_view (take m bs)))
+    (chain_keys (stack_view (take m bs))) s new
+    → (f : Shown) × (n : ℕ) × TellsAt (stack_view (take m bs)) new f n
+    × (seen f n (stack_view (take m bs)) ≡ t)
 tells-next bs m b s new t h (f, n, k, e) g =
     let d = done_view (get_or bs m b).block.done in
-    (passed d n f, deepened d f n, g f n k, sym (ap (seen f n) (stack-more bs m b h)) ∙ e)
+    let more = stack-more bs m b h in (
+      passed d n f,
+      deepened d f n,
+      g f n (subst (λ os. TellsAt os s f n) more k),
+      sym (ap (seen f n) more) ∙ e,
+    )
 
 -- what the last word has brought is what is new in its block
-pub tells-first : (bs : List code.Open) (top : code.Open) (s : Seen)
+pub tells-first : (bs : List code.Open) (top : code.Open) (s new : Seen)
     → Some top ≡ slice_get bs (length bs - 1) → TellsOf s (own_value (open_view top))
-    → (f : Shown) × (n : ℕ) × Tells s f n
+    → ((f : Shown) (n : ℕ) → Tells s f n → TellsAt (stack_view (take (length bs) bs)) new f n)
+    → (f : Shown) × (n : ℕ) × TellsAt (stack_view (take (length bs) bs)) new f n
     × (seen f n (stack_view (take (length bs) bs)) ≡ sight (stack_view bs))
-tells-first bs top s h k =
+tells-first bs top s new h k g =
     let d = (own_value (open_view top)).tree in (
       shown_by d,
       depth d,
-      k,
+      g (shown_by d) (depth d) k,
       ap (λ xs. seen (shown_by d) (depth d) (stack_view xs)) (take_whole bs)
           ∙ ap (seen (shown_by d) (depth d)) (stack-top bs top h)
           ∙ sym (ap sight (stack-top bs top h)),
     )
 
 pub tells-last : (bs : List code.Open) (m : ℕ) (s : Seen) (t : ℕ) → m ≡ 0
-    → ((f : Shown) × (n : ℕ) × Tells s f n × (seen f n (stack_view (take m bs)) ≡ t))
-    → min t 33 ≤ s.depth
-tells-last bs m s t z (f, n, k, e) =
-    omega (arith, k.deep, e, ap (λ i. seen f n (stack_view (take i bs))) z)
+    → ((f : Shown) × (n : ℕ) × TellsAt (stack_view (take m bs)) s f n
+    × (seen f n (stack_view (take m bs)) ≡ t)) → min t 33 ≤ s.depth
+tells-last bs zero s t z (f, n, k, e) = omega (arith, k.deep refl, e)
+tells-last bs (suc m) s t z g = absurd (omega arith)
 
 pub no-sight : (bs : List code.Open) → None ≡ slice_get bs (length bs - 1)
     → sight (stack_view bs) ≡ 1

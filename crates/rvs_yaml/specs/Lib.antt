@@ -26,6 +26,8 @@ pub mod Gives
 pub mod Places
 pub mod Rising
 pub mod Sketched
+pub mod Chain
+pub mod Around
 pub mod Seen
 pub mod StackView
 pub mod StepView

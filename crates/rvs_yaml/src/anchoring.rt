@@ -35,6 +35,7 @@ pub(crate) fn no_anchors<'a>(alloc: Global) -> AnchorList<'a>
     AnchorList {
         anchors: Vec::new(alloc),
         latest: BTreeMap::new(alloc),
+        arrivals: Vec::new(alloc),
     }
 }
 
@@ -50,10 +51,15 @@ fn with_anchor<'a>(
     let AnchorList {
         mut anchors,
         latest,
+        arrivals,
     } = list;
     let latest = with_place(alloc, latest, anchor.name, anchors.len())?;
     anchors.push(anchor)?;
-    Ok(AnchorList { anchors, latest })
+    Ok(AnchorList {
+        anchors,
+        latest,
+        arrivals,
+    })
 }
 
 /// Whether one of these anchors has this name, of those behind so many.

@@ -19,6 +19,7 @@ ghost use Rattle.rvs_yaml.specs.StackView.{own_view, done_view, open_view, stack
 ghost use Rattle.rvs_tree.specs.ValueView.{value_view, values_view, entries_view, written_view};
 ghost use Rattle.rvs_yaml_text.specs.KeyView.{key_view};
 
+use crate::arrivals::Arrivals;
 use crate::entry::entry_of;
 use crate::open::{Block, Done, Open};
 use crate::reach::may_be_deep;
@@ -403,7 +404,12 @@ fn is_deeper(tree: &Tree, levels: u64) -> bool
 /// Whether the tree of the lines so far, of which this is known, is too deep. Before the last line
 /// it was no deeper than it may be, so it is looked through only where what that line has brought
 /// could be too deep. What is known tells it mostly, and then no memory is taken.
-fn is_too_deep(alloc: Global, blocks: &[Open<'_>], sketch: &Sketch) -> Result<bool, YamlKind>
+fn is_too_deep(
+    alloc: Global,
+    blocks: &[Open<'_>],
+    arrivals: &[Arrivals],
+    sketch: &Sketch,
+) -> Result<bool, YamlKind>
     requires { KeepsDepth (stack_view blocks.now) }
     ensures told { (v : value_spec.Value) → spec.front_value (stack_view blocks.now) ≡ Ok v
         → IsSketch v sketch.now → IfOk result (λ b. b ≡ nat_lt 32 (data_spec.depth v.tree)) }
@@ -415,7 +421,7 @@ fn is_too_deep(alloc: Global, blocks: &[Open<'_>], sketch: &Sketch) -> Result<bo
     if sketch.least > MOST_DEPTH {
         return Ok(true);
     }
-    if sketch.depth <= MOST_DEPTH || !may_be_deep(alloc, blocks)? {
+    if sketch.depth <= MOST_DEPTH || !may_be_deep(alloc, blocks, arrivals)? {
         return Ok(false);
     }
     let tree = into_tree(alloc, front_value(alloc, blocks)?)?;
@@ -438,7 +444,12 @@ fn check_limits(deep: bool, nodes: u64) -> Result<(), YamlKind>
 
 /// Whether the tree of the lines so far, of which this is known, keeps the limits. Memory may run
 /// out only where what is known doesn't tell whether it is too deep.
-fn check_sketched(alloc: Global, blocks: &[Open<'_>], sketch: &Sketch) -> Result<(), YamlKind>
+fn check_sketched(
+    alloc: Global,
+    blocks: &[Open<'_>],
+    arrivals: &[Arrivals],
+    sketch: &Sketch,
+) -> Result<(), YamlKind>
     requires { KeepsDepth (stack_view blocks.now) }
     ensures given { (v : value_spec.Value) → spec.front_value (stack_view blocks.now) ≡ Ok v
         → IsSketch v sketch.now → Gives (λ u. u) result (within_limits v) }
@@ -447,16 +458,20 @@ fn check_sketched(alloc: Global, blocks: &[Open<'_>], sketch: &Sketch) -> Result
     ensures deep { (v : value_spec.Value) → spec.front_value (stack_view blocks.now) ≡ Ok v
         → IsSketch v sketch.now → 33 ≤ sketch.now.least → Agrees (λ u. u) result (within_limits v) }
 {
-    let deep = is_too_deep(alloc, blocks, sketch)?;
+    let deep = is_too_deep(alloc, blocks, arrivals, sketch)?;
     check_limits(deep, sketch.nodes)
 }
 
 /// Whether the tree of the lines so far keeps the limits.
-pub(crate) fn check_front(alloc: Global, blocks: &[Open<'_>]) -> Result<(), YamlKind>
+pub(crate) fn check_front(
+    alloc: Global,
+    blocks: &[Open<'_>],
+    arrivals: &[Arrivals],
+) -> Result<(), YamlKind>
     requires { KeepsDepth (stack_view blocks.now) }
     ensures given { Gives (λ u. u) result (spec.checked_front (stack_view blocks.now)) }
     ensures merged { FailsWith result (spec.front_value (stack_view blocks.now)) }
 {
     let sketch = sketch_front(blocks)?;
-    check_sketched(alloc, blocks, &sketch)
+    check_sketched(alloc, blocks, arrivals, &sketch)
 }

@@ -4,7 +4,10 @@
 
 mod anchor_list;
 mod anchoring;
+mod arrivals;
+mod arriving;
 mod beginning;
+mod chain;
 mod closing;
 mod entry;
 mod fill;

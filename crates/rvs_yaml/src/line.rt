@@ -8,7 +8,8 @@ ghost use Rattle.rvs_yaml.specs.StackView.{open_blocks};
 ghost use Rattle.rvs_yaml_text.specs.Word as word_spec;
 ghost use Rattle.rvs_yaml_text.specs.WordView.{word_view, shape_view};
 
-use crate::fill::{fill_flow, hollow_shape};
+use crate::arriving::filled;
+use crate::fill::hollow_shape;
 use crate::open_blocks::OpenBlocks;
 use crate::stack::step;
 use rvs_yaml_text::{
@@ -130,7 +131,7 @@ fn read_last<'a>(
             shape,
         },
     )?;
-    fill_flow(alloc, stack, flow)
+    filled(alloc, stack, flow)
 }
 
 /// A dash of an item, behind which this stands.

@@ -7,6 +7,7 @@ ghost use Rattle.rvs_yaml.specs.StackView.{done_view, open_view, stack_view, kep
 ghost use Rattle.rvs_yaml_text.specs.Word.{opens_block};
 ghost use Rattle.rvs_yaml_text.specs.WordView.{head_view};
 
+use crate::arrivals::Arrivals;
 use crate::front::MOST_DEPTH;
 use crate::open::{Done, Open};
 use crate::sight::sight;
@@ -54,7 +55,11 @@ fn own_depth(top: &Open<'_>) -> u64
 
 /// Whether what the last word has brought may be too deep. Its value is looked through only where
 /// the bound that is kept with it is too great.
-pub(crate) fn may_be_deep(alloc: Global, blocks: &[Open<'_>]) -> Result<bool, AllocError>
+pub(crate) fn may_be_deep(
+    alloc: Global,
+    blocks: &[Open<'_>],
+    arrivals: &[Arrivals],
+) -> Result<bool, AllocError>
     ensures { IfOk result (λ b. b ≡ false → spec.sight (stack_view blocks.now) ≤ 32) }
 {
     let Some(top) = blocks.last() else {
@@ -63,5 +68,5 @@ pub(crate) fn may_be_deep(alloc: Global, blocks: &[Open<'_>]) -> Result<bool, Al
     if levels(blocks) + own_depth(top) <= MOST_DEPTH {
         return Ok(false);
     }
-    Ok(sight(alloc, blocks)? > MOST_DEPTH)
+    Ok(sight(alloc, blocks, arrivals)? > MOST_DEPTH)
 }

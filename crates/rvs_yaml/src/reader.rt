@@ -57,7 +57,7 @@ fn read_checked_line<'a>(
     if is_blank_text(bytes) {
         return Ok(stack);
     }
-    check_front(alloc, stack.blocks.as_slice())?;
+    check_front(alloc, stack.blocks.as_slice(), &stack.anchors.arrivals)?;
     Ok(stack)
 }
 

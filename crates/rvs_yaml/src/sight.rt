@@ -1,21 +1,28 @@
 // How deep what the last word has brought is, as far as the keys around it leave it.
-ghost use Rattle.std.specs.Prelude.{◌≡◌, ◌≤◌, ◌++◌, [], ℕ, List, suc, min, string_bytes};
-ghost use Rattle.std.specs.Prelude.{if◌then◌else◌, IfOk};
+ghost use Rattle.std.specs.Prelude.{◌≡◌, ◌≤◌, ◌<◌, [], ℕ, Bool, true, false, List, suc, max, min};
+ghost use Rattle.std.specs.Prelude.{string_bytes, slice_index_or, length, take, IfOk};
 ghost use Rattle.rvs_tree.specs.Shown as shown;
-ghost use Rattle.rvs_tree.specs.Value.{scalar_value, keys_of, pairs_in, trees};
-ghost use Rattle.rvs_tree.specs.ValueView.{value_view, values_view, entries_view};
+ghost use Rattle.rvs_tree.specs.ShownView.{depths_view};
+ghost use Rattle.rvs_tree.specs.Value as value_spec;
+ghost use Rattle.rvs_tree.specs.Value.{has_key, scalar_value};
+ghost use Rattle.rvs_tree.specs.ValueView.{value_view, entries_view};
+ghost use Rattle.rvs_yaml.specs.Around.{AreAround};
+ghost use Rattle.rvs_yaml.specs.Chain.{in_chain, chain_keys};
 ghost use Rattle.rvs_yaml.specs.Front.{own_value};
 ghost use Rattle.rvs_yaml.specs.Reach as spec;
-ghost use Rattle.rvs_yaml.specs.Seen.{Tells, TellsOf};
+ghost use Rattle.rvs_yaml.specs.Seen.{Tells, TellsOf, TellsAt, Steps};
+ghost use Rattle.rvs_yaml.specs.Stack.{done_items, done_entries};
 ghost use Rattle.rvs_yaml.specs.StackView.{done_view, open_view, stack_view};
+ghost use Rattle.rvs_yaml.specs.declared.open.Open as code;
+ghost use Rattle.rvs_yaml_text.specs.KeyView.{key_view};
+ghost use Rattle.rvs_yaml_text.specs.Word as word_spec;
 
+use crate::arrivals::Arrivals;
+use crate::chain::{arrivals_at, is_taken_around, root_of};
 use crate::open::{Done, Open};
 use crate::reading::Pending;
 use crate::seen::Seen;
-use rvs_tree::{
-    DEEP, EntryList, KeyDepth, Value, ValueList, brought_depths, deepest_of, depth_up_to, tree_of,
-};
-use rvs_yaml_text::Key;
+use rvs_tree::{DEEP, KeyDepth, Value, brought_depths, deepest_of, depth_up_to, tree_of};
 use std::alloc::{AllocError, Global};
 
 /// What is new in an empty scalar.
@@ -24,6 +31,7 @@ fn empty_seen(alloc: Global) -> Seen
 {
     Seen {
         depth: 1,
+        deepest: 0,
         depths: Vec::new(alloc),
     }
 }
@@ -35,7 +43,12 @@ fn seen_of(alloc: Global, value: &Value) -> Result<Seen, AllocError>
     let depths = brought_depths(alloc, value)?;
     let tree = tree_of(alloc, value)?;
     let depth = depth_up_to(&tree, DEEP);
-    Ok(Seen { depth, depths })
+    let deepest = deepest_of(depths.as_slice());
+    Ok(Seen {
+        depth,
+        deepest,
+        depths,
+    })
 }
 
 /// What is new in what a last word is by itself.
@@ -51,32 +64,120 @@ fn own_seen(alloc: Global, top: &Open<'_>) -> Result<Seen, AllocError>
     }
 }
 
-/// What is new in a list of these items with such an item.
-fn listed(alloc: Global, list: &ValueList, seen: Seen) -> Result<Seen, AllocError>
-    ensures { IfOk result (λ s. (f : shown.Shown) → (n : ℕ) → Tells seen f n → Tells s
-        (λ T. f (keys_of (pairs_in (trees (values_view list.now.values.items))) ++ T)) (suc n)) }
+/// These and one more, unless its key is taken.
+fn with_pair(
+    mut kept: Vec<KeyDepth>,
+    pair: KeyDepth,
+    taken: bool,
+) -> Result<Vec<KeyDepth>, AllocError>
+    ensures { IfOk result (λ l. (T : List (List ℕ)) →
+        (taken ≡ true → has_key (string_bytes pair.key) T ≡ true) →
+        max (shown.visible (depths_view kept.items) T)
+        (shown.at_key (string_bytes pair.key) pair.depth T)
+        ≤ shown.visible (depths_view l.items) T) }
 {
-    let Seen { depth, depths } = seen;
-    let depths = list.untaken(alloc, depths)?;
+    if taken {
+        return Ok(kept);
+    }
+    kept.push(pair)?;
+    Ok(kept)
+}
+
+/// Those whose keys aren't known to be taken in the blocks from `first` to `end`.
+fn untaken(
+    alloc: Global,
+    blocks: &[Open<'_>],
+    first: usize,
+    end: usize,
+    arrivals: Option<&Arrivals>,
+    depths: Vec<KeyDepth>,
+) -> Result<Vec<KeyDepth>, AllocError>
+    requires some { first < end }
+    requires inside { end ≤ length blocks.now }
+    requires around { AreAround blocks.now first end }
+    ensures { IfOk result (λ l. (T : List (List ℕ)) →
+        shown.Holds (chain_keys (stack_view (take end blocks.now))) T →
+        shown.visible (depths_view depths.items) T ≤ shown.visible (depths_view l.items) T) }
+{
+    let mut kept = Vec::new(alloc);
+    for pair in depths {
+        let taken = is_taken_around(blocks, first, end, arrivals, pair.key.as_str());
+        kept = with_pair(kept, pair, taken)?;
+    }
+    Ok(kept)
+}
+
+/// What is new in the open member of the last of these blocks, as far as the maps around it aren't
+/// known to have its keys.
+fn unseen(
+    alloc: Global,
+    blocks: &[Open<'_>],
+    end: usize,
+    arrivals: &[Arrivals],
+    seen: Seen,
+) -> Result<Seen, AllocError>
+    requires { end ≤ length blocks.now }
+    ensures { IfOk result (λ s. (f : shown.Shown) → (n : ℕ) → Tells seen f n
+        → TellsAt (stack_view (take end blocks.now)) s f n) }
+{
+    let root = root_of(blocks, end);
+    if root >= end {
+        return Ok(seen);
+    }
+    let Seen {
+        depth,
+        deepest: _,
+        depths,
+    } = seen;
+    let depths = untaken(
+        alloc,
+        blocks,
+        root,
+        end,
+        arrivals_at(arrivals, root),
+        depths,
+    )?;
+    let deepest = deepest_of(depths.as_slice());
     Ok(Seen {
-        depth: (depth + 1).min(DEEP),
+        depth,
+        deepest,
         depths,
     })
 }
 
-/// What is new in a map of these entries that merges such a value.
-fn merged(alloc: Global, list: &EntryList, seen: Seen) -> Result<Seen, AllocError>
-    ensures { IfOk result (λ s. (f : shown.Shown) → (n : ℕ) → Tells seen f n →
-        Tells s (shown.left_by (entries_view list.now.entries.items) f)
-        (suc (f (shown.keys_so_far (entries_view list.now.entries.items))))) }
+/// What is new in a list with such an item.
+fn listed(seen: Seen) -> Seen
+    ensures { (vs : List value_spec.Value) → (inside : Bool) → (keys : List (List ℕ))
+        → Steps (done_items vs) inside keys seen result }
 {
-    let Seen { depth: _, depths } = seen;
-    let depths = list.untaken(alloc, depths)?;
-    let deepest = deepest_of(depths.as_slice());
-    Ok(Seen {
-        depth: (deepest + 1).min(DEEP),
+    let Seen {
+        depth,
+        deepest,
         depths,
-    })
+    } = seen;
+    Seen {
+        depth: (depth + 1).min(DEEP),
+        deepest,
+        depths,
+    }
+}
+
+/// What is new in a map that merges such a value.
+fn merged(seen: Seen) -> Seen
+    ensures { (ws : List value_spec.Written) → (k : word_spec.Key) → k.merges ≡ true
+        → (inside : Bool) → (keys : List (List ℕ)) → (inside ≡ false → keys ≡ [])
+        → Steps (done_entries ws k) inside keys seen result }
+{
+    let Seen {
+        depth: _,
+        deepest,
+        depths,
+    } = seen;
+    Seen {
+        depth: (deepest + 1).min(DEEP),
+        deepest,
+        depths,
+    }
 }
 
 /// What is new in a map that has at this key a value of such a depth.
@@ -90,49 +191,70 @@ fn keyed(alloc: Global, key: &str, depth: u64) -> Result<Seen, AllocError>
     depths.push(KeyDepth { key, depth })?;
     Ok(Seen {
         depth: (depth + 1).min(DEEP),
+        deepest: depth,
         depths,
     })
 }
 
-/// What is new in a map whose open entry has such a value.
-fn entered(alloc: Global, list: &EntryList, key: &Key, seen: Seen) -> Result<Seen, AllocError>
-    ensures { IfOk result (λ s. (f : shown.Shown) → (n : ℕ) → Tells seen f n → Tells s
-        (λ T. if key.now.merges then shown.left_by (entries_view list.now.entries.items) f T
-        else shown.at_key (string_bytes key.now.name) n T)
-        (if key.now.merges then suc (f (shown.keys_so_far (entries_view list.now.entries.items)))
-        else suc n)) }
+/// What is new in the map at this place, whose open entry has such a value.
+fn entered(
+    alloc: Global,
+    blocks: &[Open<'_>],
+    place: usize,
+    arrivals: &[Arrivals],
+    pending: &Pending,
+    seen: Seen,
+) -> Result<Seen, AllocError>
+    requires { place ≤ length blocks.now }
+    ensures { IfOk result (λ s. Steps
+        (done_entries (entries_view pending.now.list.entries.items) (key_view pending.now.key))
+        (in_chain (stack_view (take place blocks.now)))
+        (chain_keys (stack_view (take place blocks.now))) seen s) }
 {
-    if key.merges {
-        merged(alloc, list, seen)
-    } else {
-        keyed(alloc, key.name.as_str(), seen.depth)
+    if pending.key.merges {
+        return Ok(merged(seen));
     }
+    let seen = keyed(alloc, pending.key.name.as_str(), seen.depth)?;
+    unseen(alloc, blocks, place, arrivals, seen)
 }
 
-/// What is new in a block whose open member is such a value.
-fn around(alloc: Global, done: &Done, seen: Seen) -> Result<Seen, AllocError>
-    ensures { IfOk result (λ s. (f : shown.Shown) → (n : ℕ) → Tells seen f n →
-        Tells s (spec.passed (done_view done.now) n f) (spec.deepened (done_view done.now) f n)) }
+/// What is new in the block at this place, whose open member is such a value.
+fn around(
+    alloc: Global,
+    blocks: &[Open<'_>],
+    place: usize,
+    arrivals: &[Arrivals],
+    seen: Seen,
+) -> Result<Seen, AllocError>
+    requires { place < length blocks.now }
+    ensures { IfOk result (λ s. (b : code.Open) → b ≡ slice_index_or blocks.now place b
+        → Steps (done_view b.block.done) (in_chain (stack_view (take place blocks.now)))
+        (chain_keys (stack_view (take place blocks.now))) seen s) }
 {
-    match done {
-        Done::Items(list) => listed(alloc, list, seen),
-        Done::Entries(pending) => entered(alloc, &pending.list, &pending.key, seen),
+    match &blocks[place].block.done {
+        Done::Items(_) => Ok(listed(seen)),
+        Done::Entries(pending) => entered(alloc, blocks, place, arrivals, pending, seen),
         Done::Alone => Ok(seen),
     }
 }
 
 /// A bound on the depth of what the last word has brought, from 33 on counted as 33.
-pub(crate) fn sight(alloc: Global, blocks: &[Open<'_>]) -> Result<u64, AllocError>
+pub(crate) fn sight(
+    alloc: Global,
+    blocks: &[Open<'_>],
+    arrivals: &[Arrivals],
+) -> Result<u64, AllocError>
     ensures { IfOk result (λ n. min (spec.sight (stack_view blocks.now)) 33 ≤ n) }
 {
     let Some(top) = blocks.last() else {
         return Ok(1);
     };
-    let mut seen = own_seen(alloc, top)?;
+    let own = own_seen(alloc, top)?;
     let mut i = blocks.len();
+    let mut seen = unseen(alloc, blocks, i, arrivals, own)?;
     while i > 0 {
         i -= 1;
-        seen = around(alloc, &blocks[i].block.done, seen)?;
+        seen = around(alloc, blocks, i, arrivals, seen)?;
     }
     Ok(seen.depth)
 }

@@ -44,4 +44,4 @@ returns c =
     ap (λ p. word_at word.line word.column p.0) c.hollow_shape-shape.ensures in
     let flow : f ≡ flow_of w.shape = ap (λ p. p.1) c.hollow_shape-shape.ensures in
     passes_same _ _ _ _ (sym (ap (λ m. m >>= filled f) c.in_ok-stack.ensures.given)
-    ∙ word-parts bs w u f _ words hollowed flow) c.fill_flow.ensures
+    ∙ word-parts bs w u f _ words hollowed flow) c.filled.ensures

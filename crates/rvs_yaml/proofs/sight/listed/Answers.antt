@@ -1,14 +1,7 @@
-use Rattle.std.proofs.Common.{arith}
-use Rattle.rvs_tree.specs.Value.{keys_of, pairs_in, trees}
-use Rattle.rvs_tree.specs.ShownView.{depths_view}
-use Rattle.rvs_tree.specs.ValueView.{values_view}
-use Rattle.rvs_yaml.proofs.Seeing.{listed-shown}
+use Rattle.std.proofs.Common.{arith, refl}
+use Rattle.rvs_yaml.proofs.Seeing.{list-step}
 use Rattle.rvs_yaml.proofs.sight.listed.Goals as goal
 
 pub returns : goal.returns
-returns c = λ f n t. record {
-  deep = omega (arith, t.deep, c.min.ensures);
-  shown = listed-shown (keys_of (pairs_in (trees (values_view c.args.list.now.values.items)))) f
-      (depths_view c.args.seen.depths.items) (depths_view c.in_ok-depths.depths.items) t.shown
-      c.in_ok-depths.ensures;
-}
+returns c = λ vs inside keys.
+    list-step vs inside keys c.args.seen _ (omega (arith, c.min.ensures)) refl

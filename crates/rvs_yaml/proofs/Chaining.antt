@@ -1,0 +1,139 @@
+-- Which blocks are around what merges into them.
+use Rattle.std.proofs.Common.{◌≡◌, ℕ, ◌≤◌, ◌<◌, ◌+◌, Bool, true, false, cond, List, [], ◌∷◌, ◌++◌}
+use Rattle.std.proofs.Common.{refl, sym, ap, ◌∙◌, subst, arith, length, take, get_or}
+use Rattle.std.proofs.Math.Dec.{eqb}
+use Rattle.std.proofs.lemmas.Bool.{eqb-true, eqb-false}
+use Rattle.std.proofs.lemmas.Option.{slice_get-get_or}
+use Rattle.std.specs.Prelude.{◌||◌}
+use Rattle.rvs_tree.specs.Shown.{Holds}
+use Rattle.rvs_tree.specs.Value.{has_key}
+use Rattle.rvs_tree.proofs.Sifting.{in-more}
+use Rattle.rvs_tree.proofs.Sums.{has_key-append}
+use Rattle.rvs_yaml.specs.Chain.{chained, in_chain, done_keys, chain_keys}
+use Rattle.rvs_yaml.specs.Around.{AreAround}
+use Rattle.rvs_yaml.specs.Stack.{Done, done_items, done_entries, alone, Open}
+use Rattle.rvs_yaml.specs.StackView.{done_view, open_view, stack_view}
+use Rattle.rvs_yaml.specs.declared.open.Open as code
+use Rattle.rvs_yaml.proofs.Lookups.{stack-more}
+
+-- no keys are taken around what doesn't merge
+pub chain-none : (bs : List Open) → in_chain bs ≡ false → chain_keys bs ≡ []
+chain-none [] e = refl
+chain-none (b ∷ bs) e = ap (λ t. cond t (done_keys b.done ++ chain_keys bs) []) e
+
+-- a map that merges does so whatever is around it
+pub chained-more : (d : Done) (inside : Bool) → chained d false ≡ true → chained d inside ≡ true
+chained-more (done_items vs) inside e = cc
+chained-more (done_entries ws k) inside e = e
+chained-more alone inside e = cc
+
+pub front-key : (k : List ℕ) (A B : List (List ℕ)) → has_key k A ≡ true
+    → has_key k (A ++ B) ≡ true
+front-key k A B h = has_key-append k A B ∙ ap (λ b. b || has_key k B) h
+
+-- the keys around a block, and its own, are around what merges into it
+pub keys-around : (d : Done) (inside : Bool) (keys : List (List ℕ)) → (inside ≡ false → keys ≡ [])
+    → chained d true ≡ true
+    → Holds keys (cond (chained d inside) (done_keys d ++ keys) [])
+keys-around d true keys none e k h =
+    ap (λ t. has_key k (cond t (done_keys d ++ keys) [])) e ∙ in-more k (done_keys d) keys h
+keys-around d false keys none e k h =
+    let no : false ≡ true = sym (ap (has_key k) (none refl)) ∙ h in cc
+
+pub own-around : (d : Done) (inside : Bool) (keys : List (List ℕ))
+    → chained d inside ≡ true → Holds (done_keys d) (cond (chained d inside) (done_keys d ++ keys) [])
+own-around d inside keys e k h = ap (λ t. has_key k (cond t (done_keys d ++ keys) [])) e
+    ∙ front-key k (done_keys d) keys h
+
+-- what stands in place of a block that isn't there doesn't matter where there is one
+pub same-at : (bs : List code.Open) (m : ℕ) (b c : code.Open) → m < length bs
+    → get_or bs m b ≡ get_or bs m c
+same-at bs m b c h =
+    let here = slice_get-get_or bs m b h in
+    let there = slice_get-get_or bs m c h in cc
+
+same-block : (bs : List code.Open) (m : ℕ) (b c : code.Open) → m < length bs
+    → b ≡ get_or bs m b → c ≡ get_or bs m c → b ≡ c
+same-block bs m b c h e f = e ∙ same-at bs m b c h ∙ sym f
+
+-- what is known of the blocks from `at` on, when what is in the last of them is looked outwards from
+pub record Looked (bs : List code.Open) (at root end : ℕ) : Type 0 where
+  pub inside : at ≤ end
+  pub small : root ≤ end
+  pub all : at ≤ root
+  pub more : Holds (chain_keys (stack_view (take at bs))) (chain_keys (stack_view (take end bs)))
+  pub passing : in_chain (stack_view (take at bs)) ≡ true → AreAround bs at end
+  pub rooted : AreAround bs root end
+
+pub looked-first : (bs : List code.Open) (end : ℕ) → Looked bs end end end
+looked-first bs end = record {
+  inside = omega arith;
+  small = omega arith;
+  all = omega arith;
+  more = λ k h. h;
+  passing = λ e j b l u is. absurd (omega arith);
+  rooted = λ j b l u is. absurd (omega arith);
+}
+
+by-test : {X : Type 0} (m j : ℕ) → m ≤ j → (b : Bool) → eqb j m ≡ b → (j ≡ m → X)
+    → (m + 1 ≤ j → X) → X
+by-test m j l true e same above = same (eqb-true j m e)
+by-test m j l false e same above = above (omega (arith, l, eqb-false j m e))
+
+by-place : {X : Type 0} (m j : ℕ) → m ≤ j → (j ≡ m → X) → (m + 1 ≤ j → X) → X
+by-place m j l same above = by-test m j l (eqb j m) refl same above
+
+-- one block more, whose open member merges
+opened : (bs : List code.Open) (m root end : ℕ) (b : code.Open) → m < length bs
+    → b ≡ get_or bs m b → Looked bs (m + 1) root end
+    → chained (done_view b.block.done) (in_chain (stack_view (take m bs))) ≡ true
+    → AreAround bs m end
+opened bs m root end b here is g e j c l u at =
+    let I = in_chain (stack_view (take m bs)) in
+    let d = done_view b.block.done in
+    let view : stack_view (take (m + 1) bs) ≡ open_view b ∷ stack_view (take m bs) =
+    stack-more bs m b here ∙ ap (λ x. open_view x ∷ stack_view (take m bs)) (sym is) in
+    let inner = g.passing (ap in_chain view ∙ e) in
+    by-place m j l
+    (λ same. λ k h. g.more k (ap (λ xs. has_key k (chain_keys xs)) view
+    ∙ own-around d I (chain_keys (stack_view (take m bs))) e k
+    (ap (λ (x : code.Open). has_key k (done_keys (done_view x.block.done)))
+    (same-block bs m b c here is (at ∙ ap (λ i. get_or bs i c) same)) ∙ h)))
+    (λ above. inner j c above u at)
+
+-- the next block outwards, whose open member passes what merges into it
+pub looked-more : (bs : List code.Open) (m root end : ℕ) (b : code.Open) → m < length bs
+    → b ≡ get_or bs m b → Looked bs (m + 1) root end
+    → chained (done_view b.block.done) true ≡ true → Looked bs m root end
+looked-more bs m root end b here is g e =
+    let I = in_chain (stack_view (take m bs)) in
+    let K = chain_keys (stack_view (take m bs)) in
+    let view : stack_view (take (m + 1) bs) ≡ open_view b ∷ stack_view (take m bs) =
+    stack-more bs m b here ∙ ap (λ x. open_view x ∷ stack_view (take m bs)) (sym is) in
+    record {
+      inside = omega (arith, g.inside);
+      small = g.small;
+      all = omega (arith, g.all);
+      more = λ k h. g.more k (ap (λ xs. has_key k (chain_keys xs)) view
+          ∙ keys-around (done_view b.block.done) I K (chain-none (stack_view (take m bs))) e k h);
+      passing = λ i. opened bs m root end b here is g
+          (subst (λ x. chained (done_view b.block.done) x ≡ true) (sym i) e);
+      rooted = g.rooted;
+    }
+
+-- the next one, which merges
+pub looked-root : (bs : List code.Open) (m root end : ℕ) (b : code.Open) → m < length bs
+    → b ≡ get_or bs m b → Looked bs (m + 1) root end
+    → chained (done_view b.block.done) false ≡ true → Looked bs m m end
+looked-root bs m root end b here is g e =
+    let d = done_view b.block.done in
+    let I = in_chain (stack_view (take m bs)) in
+    let next = looked-more bs m root end b here is g (chained-more d true e) in
+    record {
+      inside = next.inside;
+      small = next.inside;
+      all = omega arith;
+      more = next.more;
+      passing = next.passing;
+      rooted = opened bs m root end b here is g (chained-more d I e);
+    }

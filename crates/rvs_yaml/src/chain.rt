@@ -1,0 +1,169 @@
+// Which keys are known to be taken in the maps around a value that merges.
+ghost use Rattle.std.specs.Prelude.{◌≡◌, ◌≤◌, ◌<◌, true, false, length, take};
+ghost use Rattle.rvs_tree.specs.Shown.{keys_so_far};
+ghost use Rattle.rvs_tree.specs.Value.{has_key, keys_of, pairs_in, trees};
+ghost use Rattle.rvs_tree.specs.ValueView.{entries_view, values_view};
+ghost use Rattle.rvs_yaml.specs.Chain as spec;
+ghost use Rattle.rvs_yaml.specs.Around.{AreAround};
+ghost use Rattle.rvs_yaml.specs.StackView.{done_view, stack_view};
+
+use crate::arrivals::Arrivals;
+use crate::open::{Done, Open};
+use rvs_tree::{EntryList, ValueList};
+
+/// Whether the open entry of a map merges.
+pub(crate) fn merges(done: &Done) -> bool
+    ensures { result ≡ spec.chained (done_view done.now) false }
+{
+    match done {
+        Done::Items(_) => false,
+        Done::Entries(pending) => pending.key.merges,
+        Done::Alone => false,
+    }
+}
+
+/// Whether what merges into the open member of a block merges into the block.
+fn passes(done: &Done) -> bool
+    ensures { result ≡ spec.chained (done_view done.now) true }
+{
+    match done {
+        Done::Items(_) => true,
+        Done::Entries(pending) => pending.key.merges,
+        Done::Alone => true,
+    }
+}
+
+/// The place of the outermost of the maps, one in another, into which what is in the last of these
+/// blocks merges. Their number where there is none.
+pub(crate) fn root_of(blocks: &[Open<'_>], end: usize) -> usize
+    requires { end ≤ length blocks.now }
+    ensures inside { result ≤ end }
+    ensures around { AreAround blocks.now result end }
+{
+    let mut root = end;
+    let mut i = end;
+    while i > 0 {
+        i -= 1;
+        if !passes(&blocks[i].block.done) {
+            return root;
+        }
+        if merges(&blocks[i].block.done) {
+            root = i;
+        }
+    }
+    root
+}
+
+/// Whether these entries are known to have this key.
+fn is_taken_by_map(list: &EntryList, key: &str) -> bool
+    ensures { result ≡ true
+        → has_key key.now (keys_so_far (entries_view list.now.entries.items)) ≡ true }
+{
+    if list.has_key(key) {
+        return true;
+    }
+    match &list.merged {
+        Some(merged) => merged.set.contains(key),
+        None => false,
+    }
+}
+
+/// Whether a map of these items is known to have this key.
+fn is_taken_by_items(list: &ValueList, key: &str) -> bool
+    ensures { result ≡ true → has_key key.now
+        (keys_of (pairs_in (trees (values_view list.now.values.items)))) ≡ true }
+{
+    match &list.keys {
+        Some(keys) => keys.set.contains(key),
+        None => false,
+    }
+}
+
+/// Whether the members that a block has so far are known to have this key.
+fn is_taken_in(done: &Done, key: &str) -> bool
+    ensures { result ≡ true → has_key key.now (spec.done_keys (done_view done.now)) ≡ true }
+{
+    match done {
+        Done::Items(list) => is_taken_by_items(list, key),
+        Done::Entries(pending) => is_taken_by_map(&pending.list, key),
+        Done::Alone => false,
+    }
+}
+
+/// The place of the last of the blocks from `first` to `end` that began on this line or before.
+fn place_at(blocks: &[Open<'_>], first: usize, end: usize, line: u64) -> usize
+    requires some { first < end }
+    requires inside { end ≤ length blocks.now }
+    ensures above { first ≤ result }
+    ensures below { result < end }
+{
+    let mut low = first;
+    let mut high = end;
+    while high - low > 1 {
+        let middle = low + (high - low) / 2;
+        if blocks[middle].block.line <= line {
+            low = middle;
+        } else {
+            high = middle;
+        }
+    }
+    low
+}
+
+/// The place where the key may be taken, if it came below the map at `first`.
+fn place_of(
+    blocks: &[Open<'_>],
+    first: usize,
+    end: usize,
+    arrivals: Option<&Arrivals>,
+    key: &str,
+) -> usize
+    requires some { first < end }
+    requires inside { end ≤ length blocks.now }
+    ensures above { first ≤ result }
+    ensures below { result < end }
+{
+    let Some(arrivals) = arrivals else {
+        return first;
+    };
+    match arrivals.lines.get(key) {
+        Some(line) => place_at(blocks, first, end, *line),
+        None => first,
+    }
+}
+
+/// Whether a key is known to be taken in one of the blocks from `first` to `end`.
+pub(crate) fn is_taken_around(
+    blocks: &[Open<'_>],
+    first: usize,
+    end: usize,
+    arrivals: Option<&Arrivals>,
+    key: &str,
+) -> bool
+    requires some { first < end }
+    requires inside { end ≤ length blocks.now }
+    requires around { AreAround blocks.now first end }
+    ensures { result ≡ true
+        → has_key key.now (spec.chain_keys (stack_view (take end blocks.now))) ≡ true }
+{
+    if is_taken_in(&blocks[first].block.done, key) {
+        return true;
+    }
+    let place = place_of(blocks, first, end, arrivals, key);
+    is_taken_in(&blocks[place].block.done, key)
+}
+
+/// The keys that came below the map at this place.
+pub(crate) fn arrivals_at(arrivals: &[Arrivals], place: usize) -> Option<&Arrivals> {
+    let mut i = arrivals.len();
+    while i > 0 {
+        i -= 1;
+        if arrivals[i].place == place {
+            return Some(&arrivals[i]);
+        }
+        if arrivals[i].place < place {
+            return None;
+        }
+    }
+    None
+}
