@@ -41,7 +41,8 @@ keys-around d false keys none e k h =
     let no : false ≡ true = sym (ap (has_key k) (none refl)) ∙ h in cc
 
 pub own-around : (d : Done) (inside : Bool) (keys : List (List ℕ))
-    → chained d inside ≡ true → Holds (done_keys d) (cond (chained d inside) (done_keys d ++ keys) [])
+    → chained d inside ≡ true → Holds (done_keys d) (cond (chained d inside)
+    (done_keys d ++ keys) [])
 own-around d inside keys e k h = ap (λ t. has_key k (cond t (done_keys d ++ keys) [])) e
     ∙ front-key k (done_keys d) keys h
 
