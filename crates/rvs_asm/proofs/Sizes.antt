@@ -175,7 +175,8 @@ sized_section [] = refused _
 sized_section (a ∷ args) =
     sized_if (is_empty a) (Err BadLine) (cond (begins (codes ".text") a) (Ok ToText)
     (cond (begins (codes ".data") a) (Ok ToData) (Err BadOperand))) (refused _)
-    (sized_if (begins (codes ".text") a) (Ok ToText) (cond (begins (codes ".data") a) (Ok ToData) (Err BadOperand)) (one ToText tt)
+    (sized_if (begins (codes ".text") a) (Ok ToText)
+    (cond (begins (codes ".data") a) (Ok ToData) (Err BadOperand)) (one ToText tt)
     (sized_if (begins (codes ".data") a) (Ok ToData) (Err BadOperand) (one ToData tt) (refused _)))
 
 sized_statement : (in_text : Bool) (word : List ℕ) (args : List (List ℕ))

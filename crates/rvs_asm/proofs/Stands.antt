@@ -31,7 +31,8 @@ in_order i h =
     (le_test _ _ h.data_short))
     (and_from _ _ (and_from _ _ (zero_test _ h.tohost_word) (le_test _ _ h.tohost_low))
     (le_test _ _ h.tohost_high)))
-    (and_from _ _ (and_from _ _ (and_from _ _ (and_from _ _ (zero_test _ h.begin_word) (zero_test _ h.end_word))
+    (and_from _ _ (and_from _ _
+    (and_from _ _ (and_from _ _ (zero_test _ h.begin_word) (zero_test _ h.end_word))
     (le_test _ _ h.begin_low)) (le_test _ _ h.ordered)) (le_test _ _ h.end_high))
 
 pub image_answered : ImagesAreAnswered

@@ -59,4 +59,21 @@ digits_of-hex_word w h =
     let f = hex_digit (w / 16 ^ 2 % 16) (omega arith) in
     let g = hex_digit (w / 16 ^ 1 % 16) (omega arith) in
     let i = hex_digit (w / 16 ^ 0 % 16) (omega arith) in
-    rw (a.digit, b.digit, c.digit, d.digit, e.digit, f.digit, g.digit, i.digit, a.value, b.value, c.value, d.value, e.value, f.value, g.value, i.value) (ap Some (omega arith))
+    rw (
+      a.digit,
+      b.digit,
+      c.digit,
+      d.digit,
+      e.digit,
+      f.digit,
+      g.digit,
+      i.digit,
+      a.value,
+      b.value,
+      c.value,
+      d.value,
+      e.value,
+      f.value,
+      g.value,
+      i.value,
+    ) (ap Some (omega arith))

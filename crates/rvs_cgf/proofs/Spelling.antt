@@ -479,13 +479,15 @@ groups-spelled isa d ls own e =
       few_labels = omega (
         arith,
         p.few,
-        length-filter_both (λ (l : Label). l.selected) (λ l. not l.selected) (λ l. refl) listed.labels,
+        length-filter_both (λ (l : Label). l.selected) (λ l. not l.selected)
+            (λ l. refl) listed.labels,
       );
       few_points = omega (
         arith,
         p.small,
         p.total_is,
-        sum_by-filter_both (λ (l : Label). l.selected) (λ l. not l.selected) (λ l. refl) size_of listed.labels,
+        sum_by-filter_both (λ (l : Label). l.selected) (λ l. not l.selected)
+            (λ l. refl) size_of listed.labels,
       );
     })))
     (λ m r. err-not _ ls r))

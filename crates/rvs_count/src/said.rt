@@ -167,7 +167,8 @@ fn both_said(left: &Formula, right: &Formula) -> Option<(usize, usize)>
 #[tactic(auto, using(crate::proofs::Turned::three_registers))]
 fn chain_said(before: &RegChain, equal: bool, right: Reg) -> Option<(usize, usize)>
     ensures says { IfSome result (λ p. (t : Table) →
-        holds t (typed.registers (typed.reg_more (reg_chain_view before.now) equal (reg_view right)))
+        holds t (typed.registers
+        (typed.reg_more (reg_chain_view before.now) equal (reg_view right)))
         ≡ (spec.sign_at p.0 t && spec.sign_at p.1 t)) }
     ensures first { IfSome result (λ p. p.0 < 19) }
     ensures second { IfSome result (λ p. p.1 < 19) }

@@ -28,9 +28,25 @@ impl Model for IsaSpec {
 
     ghost Value = { Isa };
 
-    ghost view = { λ s. record { e = s.e; m = s.m; a = s.a; zicsr = s.zicsr; zifencei = s.zifencei; misaligned = s.misaligned; address_bits = s.address_bits } };
+    ghost view = { λ s. record {
+      e = s.e;
+      m = s.m;
+      a = s.a;
+      zicsr = s.zicsr;
+      zifencei = s.zifencei;
+      misaligned = s.misaligned;
+      address_bits = s.address_bits;
+    } };
 
     ghost invariant = { λ s. (s.e ≡ false) × (s.a ≡ false) };
 
-    ghost inverse = { λ s. record { e = s.e; m = s.m; a = s.a; zicsr = s.zicsr; zifencei = s.zifencei; misaligned = s.misaligned; address_bits = s.address_bits } };
+    ghost inverse = { λ s. record {
+      e = s.e;
+      m = s.m;
+      a = s.a;
+      zicsr = s.zicsr;
+      zifencei = s.zifencei;
+      misaligned = s.misaligned;
+      address_bits = s.address_bits;
+    } };
 }

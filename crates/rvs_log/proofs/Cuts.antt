@@ -47,8 +47,11 @@ feedless_take : (hay : List ℕ) (n : ℕ)
 feedless_take [] zero h = tt
 feedless_take [] (suc n) h = tt
 feedless_take (b ∷ bs) zero h = tt
-feedless_take (b ∷ bs) (suc n) h =
-    (isnt (b == 10) (h 0 (omega arith) (omega arith)), feedless_take bs n (λ k l u. h (suc k) (omega arith) (omega arith)))
+feedless_take (b ∷ bs) (suc n) h = (
+  isnt (b == 10) (h 0 (omega arith) (omega arith)),
+  feedless_take bs n
+      (λ k l u. h (suc k) (omega arith) (omega arith)),
+)
   where
     isnt : (t : Bool) → (t ≡ true → ⊥) → t ≡ false
     isnt true h = absurd (h refl)

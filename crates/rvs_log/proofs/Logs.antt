@@ -137,13 +137,24 @@ commit_plain (Some w) h =
 commit_length : (w : Option Write) → IsSmall w → length (commit_text w) ≤ 15
 commit_length None h = omega arith
 commit_length (Some w) h =
-    omega (arith, length-append (codes " x") (padded w.reg ++ (codes " 0x" ++ hex_word_of w.value)), length-append (padded w.reg) (codes " 0x" ++ hex_word_of w.value), length-append (codes " 0x") (hex_word_of w.value), padded_length w.reg h.0, hex_length w.value)
+    omega (
+      arith,
+      length-append (codes " x")
+          (padded w.reg ++ (codes " 0x" ++ hex_word_of w.value)),
+      length-append (padded w.reg)
+          (codes " 0x" ++ hex_word_of w.value),
+      length-append (codes " 0x") (hex_word_of w.value),
+      padded_length w.reg h.0,
+      hex_length w.value,
+    )
 
 line_plain : (e : Executed) → IsSmall e.commit → plain (line_of e) ≡ true
 line_plain e h =
     plain_join (codes "core   0: 3 0x") (hex_word_of e.pc
     ++ (codes " (0x" ++ (hex_word_of e.word ++ (codes ")" ++ commit_text e.commit)))) refl
-    (plain_join (hex_word_of e.pc) (codes " (0x" ++ (hex_word_of e.word ++ (codes ")" ++ commit_text e.commit))) (word_plain e.pc)
+    (plain_join (hex_word_of e.pc)
+    (codes " (0x" ++ (hex_word_of e.word ++ (codes ")" ++ commit_text e.commit)))
+    (word_plain e.pc)
     (plain_join (codes " (0x") (hex_word_of e.word ++ (codes ")" ++ commit_text e.commit)) refl
     (plain_join (hex_word_of e.word) (codes ")" ++ commit_text e.commit) (word_plain e.word)
     (plain_join (codes ")") (commit_text e.commit) refl (commit_plain e.commit h)))))

@@ -28,7 +28,8 @@ fits_at : (m b : ℕ) (vs : List ℕ) (k : ℕ) → fits_from m b vs ≡ true �
 fits_at m b [] k h l = absurd (omega arith)
 fits_at m b (v ∷ vs) zero h l =
     let e : b + 0 ≡ b = omega arith in
-    ap (λ n. fits m (hex_value n) v) e ∙ (both (fits m (hex_value b) v) (fits_from m (b + 1) vs) h).0
+    ap (λ n. fits m (hex_value n) v) e
+    ∙ (both (fits m (hex_value b) v) (fits_from m (b + 1) vs) h).0
 fits_at m b (v ∷ vs) (suc k) h l =
     let e : b + suc k ≡ b + 1 + k = omega arith in
     ap (λ n. fits m (hex_value n) (get_or vs k 0)) e

@@ -103,7 +103,11 @@ Told word rd event = (e : Executed) → executed_in event ≡ Some e
 told_go : (word : ℕ) (rd : Option ℕ) (one e : Executed) → one.word ≡ word
     → is_some one.commit ≡ is_written rd → Some one ≡ Some e
     → (e.word ≡ word) × (is_some e.commit ≡ is_written rd)
-told_go word rd one e w c is = let same : one ≡ e = cc in (ap (λ (x : Executed). x.word) (sym same) ∙ w, ap (λ (x : Executed). is_some x.commit) (sym same) ∙ c)
+told_go word rd one e w c is = let same : one ≡ e = cc in (
+  ap (λ (x : Executed). x.word) (sym same) ∙ w,
+  ap (λ (x : Executed). is_some x.commit)
+      (sym same) ∙ c,
+)
 
 told_keep : (word : ℕ) (rd : Option ℕ) (b : Bool) (one : Executed) → one.word ≡ word
     → is_some one.commit ≡ is_written rd → Told word rd (cond b (Halted one) (Ran one))

@@ -96,7 +96,10 @@ hex_plain w = (
           digit_above (w / 16 ^ 3 % 16) (omega arith),
           (
             digit_above (w / 16 ^ 2 % 16) (omega arith),
-            (digit_above (w / 16 ^ 1 % 16) (omega arith), (digit_above (w / 16 ^ 0 % 16) (omega arith), tt)),
+            (
+              digit_above (w / 16 ^ 1 % 16) (omega arith),
+              (digit_above (w / 16 ^ 0 % 16) (omega arith), tt),
+            ),
           ),
         ),
       ),
@@ -193,7 +196,9 @@ addresses_read : (at : Addresses) (n : ℕ) → AreWords (at.tohost ∷ at.sig_b
 addresses_read at n h =
     let r2 = line_of (codes "end ") (hex_word_of at.sig_end) [] in
     let r1 = line_of (codes "begin ") (hex_word_of at.sig_begin) r2 in
-    ap (λ x. and_then x (λ h. and_then (word_line (codes "begin ") h.1) (λ b. and_then (word_line (codes "end ") b.1) (λ e. Ok (
+    ap (λ x. and_then x
+    (λ h. and_then (word_line (codes "begin ") h.1)
+    (λ b. and_then (word_line (codes "end ") b.1) (λ e. Ok (
       record {
         tohost = h.0;
         sig_begin = b.0;

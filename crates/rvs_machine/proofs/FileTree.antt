@@ -149,7 +149,8 @@ words_run (suc count) bytes n =
     bound (word_tree []) (word_line [])
     (λ w. bind (words_tree count) (λ bs. done (to_le_bytes w32 w ++ bs)))
     (λ w r. put_before (to_le_bytes w32 w) (word_lines count r)) (word_run [])
-    (λ w bs k. ap (put_before (to_le_bytes w32 w)) (words_run count bs k) ∙ put_is (to_le_bytes w32 w) (run (words_tree count) bs k)
+    (λ w bs k. ap (put_before (to_le_bytes w32 w)) (words_run count bs k) ∙ put_is
+    (to_le_bytes w32 w) (run (words_tree count) bs k)
     ∙ sym (run-bind (words_tree count) (λ cs. done (to_le_bytes w32 w ++ cs)) bs k)) bytes n
 
 abbrev pub section_tree : List ℕ → ℕ → Tree (List ℕ)

@@ -222,8 +222,12 @@ mend (more f) g a n zero some h = let r = complete (more f) g.0 n in (r.0, refl,
 mend (more f) g [] n (suc m) some h = absurd (omega arith)
 mend (more f) g (c ∷ cs) n (suc m) some h =
     let l = first_line (c ∷ cs) in
-    let r = mend (f l) (g.1 l) (after_feed (c ∷ cs)) (n + 1) m (omega arith) (omega (arith, h)) in
-    (put_line l r.0, lines_put l r.0 m (feedless (c ∷ cs)) ∙ ap (λ (ls : List (Option (List ℕ))). Some l ∷ ls) r.1, (r.2.0, r.2.1, run_put f l r.0 n (feedless (c ∷ cs)) ∙ r.2.2))
+    let r = mend (f l) (g.1 l) (after_feed (c ∷ cs)) (n + 1) m (omega arith) (omega (arith, h)) in (
+      put_line l r.0,
+      lines_put l r.0 m (feedless (c ∷ cs)) ∙ ap
+          (λ (ls : List (Option (List ℕ))). Some l ∷ ls) r.1,
+      (r.2.0, r.2.1, run_put f l r.0 n (feedless (c ∷ cs)) ∙ r.2.2),
+    )
 
 -- ---- the tree of a file
 good_header : (b : Bool) → Good (header_said b)

@@ -73,8 +73,12 @@ one_more old now next n steps more end same r one =
 pub run_goes : (old now next : Whole) (n : ℕ) (before mid after' : List Executed)
     → Done old now n before mid → Stepped now next mid after' StepLimit
     → Done old next (n + 1) before after'
-run_goes old now next n before mid after' d s =
-    (d.0 ++ s.steps, s.trace ∙ ap (λ l. l ++ s.steps) d.1 ∙ append_assoc before d.0 s.steps, one_more old now next n d.0 s.steps StepLimit d.3 d.2 s.run, s.same ∙ d.3)
+run_goes old now next n before mid after' d s = (
+  d.0 ++ s.steps,
+  s.trace ∙ ap (λ l. l ++ s.steps) d.1 ∙ append_assoc before d.0 s.steps,
+  one_more old now next n d.0 s.steps StepLimit d.3 d.2 s.run,
+  s.same ∙ d.3,
+)
 
 -- a run that is over is the same with a higher limit
 over_at : (old next : Whole) (limit n : ℕ) (before mid after' : List Executed) (now : Whole)

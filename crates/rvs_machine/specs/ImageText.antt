@@ -97,7 +97,9 @@ section name limit r = and_then (count_line name limit r) (λ p. word_lines p.0 
 -- the three addresses
 abbrev pub address_lines : Rest → Result (Addresses × Rest) ImageRefusal
 address_lines r =
-    and_then (word_line (codes "tohost ") r) (λ h. and_then (word_line (codes "begin ") h.1) (λ b. and_then (word_line (codes "end ") b.1) (λ e.
+    and_then (word_line (codes "tohost ") r)
+    (λ h. and_then (word_line (codes "begin ") h.1)
+    (λ b. and_then (word_line (codes "end ") b.1) (λ e.
     Ok (record { tohost = h.0; sig_begin = b.0; sig_end = e.0 }, e.1))))
 
 -- the image where nothing follows and its regions are in order
@@ -119,7 +121,10 @@ whole text ram a r =
 -- the text has at most 4,194,304 words and the data at most 262,144
 unfoldable pub image_of_bytes : List ℕ → Result ImageValue ImageRefusal
 image_of_bytes bytes =
-    and_then (header (record { bytes = bytes; line = 1 })) (λ r. and_then (section (codes "text ") 4_194_304 r) (λ t. and_then (section (codes "data ") 262_144 t.1) (λ d. and_then (address_lines d.1) (λ a.
+    and_then (header (record { bytes = bytes; line = 1 }))
+    (λ r. and_then (section (codes "text ") 4_194_304 r)
+    (λ t. and_then (section (codes "data ") 262_144 t.1)
+    (λ d. and_then (address_lines d.1) (λ a.
     whole t.0 d.0 a.0 a.1))))
 
 -- the answer of a reading: what is said, or want of memory

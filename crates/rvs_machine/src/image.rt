@@ -45,9 +45,23 @@ impl Model for Image {
 
     ghost Value = { ImageValue };
 
-    ghost view = { λ i. record { text = i.text; data_bytes = i.data_bytes; tohost = i.tohost; sig_begin = i.sig_begin; sig_end = i.sig_end; symbols = i.symbols } };
+    ghost view = { λ i. record {
+      text = i.text;
+      data_bytes = i.data_bytes;
+      tohost = i.tohost;
+      sig_begin = i.sig_begin;
+      sig_end = i.sig_end;
+      symbols = i.symbols;
+    } };
 
-    ghost invariant = { λ i. IsImage (record { text = i.text; data_bytes = i.data_bytes; tohost = i.tohost; sig_begin = i.sig_begin; sig_end = i.sig_end; symbols = i.symbols }) };
+    ghost invariant = { λ i. IsImage (record {
+      text = i.text;
+      data_bytes = i.data_bytes;
+      tohost = i.tohost;
+      sig_begin = i.sig_begin;
+      sig_end = i.sig_end;
+      symbols = i.symbols;
+    }) };
 }
 
 impl Image {
@@ -60,7 +74,14 @@ impl Image {
         sig_end: u32,
         symbols: Items<Symbol>,
     ) -> Option<Image>
-        ensures { result ≡ if_image (record { text = text; data_bytes = data_bytes; tohost = tohost; sig_begin = sig_begin; sig_end = sig_end; symbols = symbols }) }
+        ensures { result ≡ if_image (record {
+          text = text;
+          data_bytes = data_bytes;
+          tohost = tohost;
+          sig_begin = sig_begin;
+          sig_end = sig_end;
+          symbols = symbols;
+        }) }
     {
         let text_len = text.as_slice().len();
         let data_len = data_bytes.as_slice().len();

@@ -35,9 +35,27 @@ impl Model for Machine {
 
     ghost Value = { Whole };
 
-    ghost view = { λ m. record { setup = record { text = m.text; tohost = m.tohost; sig_begin = m.sig_begin; sig_end = m.sig_end; isa = m.spec }; state = record { pc = m.pc; regs = m.registers; ram = m.ram.items } } };
+    ghost view = { λ m. record {
+      setup = record {
+        text = m.text;
+        tohost = m.tohost;
+        sig_begin = m.sig_begin;
+        sig_end = m.sig_end;
+        isa = m.spec;
+      };
+      state = record { pc = m.pc; regs = m.registers; ram = m.ram.items };
+    } };
 
-    ghost invariant = { λ m. IsMachine (record { setup = record { text = m.text; tohost = m.tohost; sig_begin = m.sig_begin; sig_end = m.sig_end; isa = m.spec }; state = record { pc = m.pc; regs = m.registers; ram = m.ram.items } }) };
+    ghost invariant = { λ m. IsMachine (record {
+      setup = record {
+        text = m.text;
+        tohost = m.tohost;
+        sig_begin = m.sig_begin;
+        sig_end = m.sig_end;
+        isa = m.spec;
+      };
+      state = record { pc = m.pc; regs = m.registers; ram = m.ram.items };
+    }) };
 }
 
 impl Machine {

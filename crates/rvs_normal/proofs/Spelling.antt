@@ -154,7 +154,8 @@ label-good l h n = by-case l.selected refl
         (list_all (λ s. is_printable s.node && is_printable s.key) l.skipped) n in
         rw (e, label_rows) (
           name-plain l.name (h e).named,
-          rows-append (points_rows None l.points) (map skipped_row l.skipped) (points-good None l.points (h e).keys_printable) (skipped-good l.skipped p.1),
+          rows-append (points_rows None l.points) (map skipped_row l.skipped)
+              (points-good None l.points (h e).keys_printable) (skipped-good l.skipped p.1),
         )
     by-case false e =
         let p = both (is_printable l.name)

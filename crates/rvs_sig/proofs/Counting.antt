@@ -129,7 +129,13 @@ words_of-long bytes left words has some =
     ap (take most_lines) has.split ∙ take_at has.lines (cut_lines left) 262144 has.count in
     let none : first_bad (take most_lines (cut_lines bytes)) ≡ None =
     ap first_bad front ∙ none_bad has.lines has.good in
-    let long : 262144 < length (cut_lines bytes) = omega (arith, ap length has.split, length-append has.lines (cut_lines left), has.count, some_line left some) in
+    let long : 262144 < length (cut_lines bytes) = omega (
+      arith,
+      ap length has.split,
+      length-append has.lines (cut_lines left),
+      has.count,
+      some_line left some,
+    ) in
     rw (none, too_many (length (cut_lines bytes)) long) refl
 
 bad_at : (good : List (List ℕ)) (line : List ℕ) (others : List (List ℕ)) → AreGood good

@@ -105,7 +105,8 @@ fn report_at_end(alloc: Global, counter: &mut Counter<'_>) -> Result<Text, NoMem
     ensures state { (labels : List Label) (windows : List Span) (bytes : List ℕ) (n : ℕ)
         → counter.old ≡ state_of labels windows bytes n
         → counter.new ≡ state_of labels windows (ended bytes) n }
-    ensures report { IfOk result (λ text. (labels : List Label) (windows : List Span) (bytes : List ℕ) (n : ℕ)
+    ensures report { IfOk result (λ text.
+        (labels : List Label) (windows : List Span) (bytes : List ℕ) (n : ℕ)
         → counter.old ≡ state_of labels windows bytes n
         → text ≡ report_on (groups_view labels) windows bytes) }
 {

@@ -121,7 +121,8 @@ fn write_selected<H: Host>(
 ) -> Result<(), Stop>
     requires { IsValid isa.now (label_view label.now) }
     ensures met { (out : SinkState) → Meets
-        (writes_text (path_of work.now label.now.name) (text_of_label isa.now (label_view label.now)))
+        (writes_text (path_of work.now label.now.name)
+        (text_of_label isa.now (label_view label.now)))
         (world (H.state host.old) out) (world (H.state host.new) out) result }
     ensures text { OnOk result (said.new.text ≡ said.old.text
         ++ texts.selected_text isa.now (label_view label.now)) }

@@ -85,8 +85,8 @@ fn read_group_files<H: Host>(
 ///
 /// [`Stop`]: a file isn't there or can't be read, or all of them are longer than [`GROUPS_LIMIT`].
 pub fn read_joined<H: Host>(alloc: Global, host: &mut H, names: &[Text]) -> Result<Bytes, Stop>
-    ensures { (out : SinkState) → Meets (joins_all Option.None names.now) (world (H.state host.old) out)
-        (world (H.state host.new) out) result }
+    ensures { (out : SinkState) → Meets (joins_all Option.None names.now)
+        (world (H.state host.old) out) (world (H.state host.new) out) result }
 {
     let mut front = None;
     for name in names {

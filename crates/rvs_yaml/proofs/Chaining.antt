@@ -57,7 +57,8 @@ same-block : (bs : List code.Open) (m : ℕ) (b c : code.Open) → m < length bs
     → b ≡ get_or bs m b → c ≡ get_or bs m c → b ≡ c
 same-block bs m b c h e f = e ∙ same-at bs m b c h ∙ sym f
 
--- what is known of the blocks from `at` on, when what is in the last of them is looked outwards from
+-- what is known of the blocks from `at` on, when what is in the last of them is where one looks
+-- outwards from
 pub record Looked (bs : List code.Open) (at root end : ℕ) : Type 0 where
   pub inside : at ≤ end
   pub small : root ≤ end

@@ -169,7 +169,8 @@ advance-members (done_entries ws k) line column anchors known g w inner rest =
     ∙ sym (then_assoc (check_merge k g.value) _ _)
     ∙ ap (λ seen. (check_merge k g.value
     >> (key_at column seen w.column w.shape
-    >>= λ l. Ok (done_entries (ws ++ written k g.value ∷ []) l))) >>= λ dn2. own_value (A ++ known) w.line w.shape >>= λ own.
+    >>= λ l. Ok (done_entries (ws ++ written k g.value ∷ []) l))) >>= λ dn2. own_value
+    (A ++ known) w.line w.shape >>= λ own.
     value_over own (head_of w) inner (block (A ++ known) w.line inner)
     >>= λ e. members_as dn2 line column A known e rest) (sym (explicit_keys-push ws k g.value))
 advance-members alone line column anchors known g w inner rest = refl

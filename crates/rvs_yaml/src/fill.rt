@@ -149,7 +149,10 @@ fn hollow_content<'a>(
     content: Content<'a>,
 ) -> (Content<'a>, Option<(Bracket, &'a str)>)
     ensures { content_parts result
-        ≡ (spec.hollow_content (content_view content.entry), spec.flow_in (content_view content.entry)) }
+        ≡ (
+          spec.hollow_content (content_view content.entry),
+          spec.flow_in (content_view content.entry),
+        ) }
 {
     match content {
         Content::Flow(bracket, text) => (Content::Text(String::new(alloc)), Some((bracket, text))),

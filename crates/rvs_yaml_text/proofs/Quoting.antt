@@ -122,7 +122,8 @@ double-more b bs h k = rw (h, double) (rw (k, double) refl)
 double-split : (bs : List ℕ) → double bs ≡ then_stop (at_stop bs)
 double-split [] = refl
 double-split (b ∷ bs) =
-    elim (b == 34 || b == 92) as (λ t. (b == 34 || b == 92) ≡ t → double (b ∷ bs) ≡ then_stop (elim t as (λ _. Split) [
+    elim (b == 34 || b == 92) as
+    (λ t. (b == 34 || b == 92) ≡ t → double (b ∷ bs) ≡ then_stop (elim t as (λ _. Split) [
       | true ↦ Some ([], b ∷ bs)
       | false ↦ onto b (at_stop bs)
     ])) [

@@ -70,7 +70,11 @@ quoted_token_before name behind next =
       | true ↦ (scalar_token (quoted_name name), behind)
       | false ↦
           elim (starts_with colon_byte next) [
-            | true ↦ (if ends_indicator (drop 1 next) then key_token (quoted_name name) else cut_key (quoted_name name), drop 1 next)
+            | true ↦ (
+              if ends_indicator (drop 1 next) then key_token
+                  (quoted_name name) else cut_key (quoted_name name),
+              drop 1 next,
+            )
             | false ↦
                 elim (is_punctuation (first_byte next)
                 || (first_byte next == hash_byte && starts_with space_byte behind)) [

@@ -8,7 +8,8 @@ use Rattle.rvs_asm.proofs.emitting.push_values.Given as goal
 
 abbrev pub invariant-loop-text : goal.invariant-loop-text
 invariant-loop-text l =
-    (l.initial.out.items ++ flat_map (λ text. value_bytes (address_of l.symbols) l.size (data_value l.size text)) l.fn.operands
+    (l.initial.out.items ++ flat_map
+    (λ text. value_bytes (address_of l.symbols) l.size (data_value l.size text)) l.fn.operands
     ≡ l.out.items ++ flat_map
     (λ text. value_bytes (address_of l.symbols) l.size (data_value l.size text)) l.operands)
     × (values_fault l.symbols l.size l.fn.operands ≡ values_fault l.symbols l.size l.operands)

@@ -18,5 +18,6 @@ returns-in-None-clause-body c =
     let colon = ap option_copied (sym c.in-None.is) ∙ c.cut-2.ensures.back in
     plain_again c.args.in_text c.args.line.now c.body_in_rest-in-None.result
     (colon ∙ ap (after 58) c.cut.ensures.front)
-    (subst (λ t. IfOk (statement_in c.args.in_text (trim t)) (λ body. c.body_in_rest-in-None.result ≡ body))
+    (subst (λ t. IfOk (statement_in c.args.in_text (trim t))
+    (λ body. c.body_in_rest-in-None.result ≡ body))
     c.cut.ensures.front c.body_in_rest-in-None.ensures.body)

@@ -20,7 +20,10 @@ at_variant P {at = at} {l = l} {r = r} {at' = at'} {l' = l'} {r' = r'} p holds =
 
 pub returns-in-None-clause-same : goal.returns-in-None-clause-same
 returns-in-None-clause-same c = λ n. (
-  λ is. (agrees c.args.left.now c.args.right.now (omega arith) (sym c.in-None.ensures.first), same_length is),
+  λ is. (
+    agrees c.args.left.now c.args.right.now (omega arith) (sym c.in-None.ensures.first),
+    same_length is,
+  ),
   λ both. ap Same (sym both.1),
 )
 
@@ -28,7 +31,11 @@ pub returns-in-Some-clause-same : goal.returns-in-Some-clause-same
 returns-in-Some-clause-same c =
     let differs = first_differs c.args.left.now c.args.right.now c.in-Some.at (omega arith)
     (sym c.in-Some.ensures.first) in
-    λ n. (λ is. absurd (not_same is), λ both. absurd (differs.differ (ap (λ xs. get_or xs c.in-Some.at 0) both.0)))
+    λ n. (
+      λ is. absurd (not_same is),
+      λ both. absurd
+          (differs.differ (ap (λ xs. get_or xs c.in-Some.at 0) both.0)),
+    )
 
 pub returns-in-Some-clause-differs : goal.returns-in-Some-clause-differs
 returns-in-Some-clause-differs c =

@@ -131,5 +131,6 @@ returns-in_ok-too_long-in-Err-TooLong g c = λ out.
     (λ files t. let long = cause.0.longer files t in (
       long.0,
       long.1,
-      refused groups windows name long.0 c.in_ok-too_long-in-Err-TooLong.field-0 (longer c.in_ok-counter.counter long.0 new long.2) text,
+      refused groups windows name long.0 c.in_ok-too_long-in-Err-TooLong.field-0
+          (longer c.in_ok-counter.counter long.0 new long.2) text,
     )) cause.1

@@ -41,7 +41,8 @@ returns-in_err-flowing c =
     ∙ c.if-is_flow_end.false in
     let p = err_from_is_err_and c.from_residual.result c.from_residual.ensures.1 in
     rw (p.1, p.2) (fails_first _ (next_flowing poor known line
-    (flowing r f.closed f.spaced f.rest.now)) (λ g. flow_steps poor known line g.reading (tokens n g.closed g.spaced g.rest) >>= ended) _
+    (flowing r f.closed f.spaced f.rest.now))
+    (λ g. flow_steps poor known line g.reading (tokens n g.closed g.spaced g.rest) >>= ended) _
     (sym (bind_assoc (next_flowing poor known line (flowing r f.closed f.spaced f.rest.now)) _ _)
     ∙ sym (ap (λ m. m >>= ended) (sym c.loop-left.invariant
     ∙ ap (λ k. flow_steps poor known line r (tokens k f.closed f.spaced f.rest.now)) one

@@ -12,7 +12,8 @@ returns-in-Err-clause-refused c =
     refused-line c.refusal.result.kind c.in-Err.kind c.refusal.result.line (l.number + 1)
     (answer c.args.bytes.now) _ c.refusal.ensures.kind
     (Reads-refused c.args.bytes.now l.number l.started
-    (open_blocks l.stack) l.rest c.first_line.result.1 c.in-Some.text c.first_line.result.0.now c.without_return-line.result.now c.in-Err.kind
+    (open_blocks l.stack) l.rest c.first_line.result.1 c.in-Some.text
+    c.first_line.result.0.now c.without_return-line.result.now c.in-Err.kind
     l.invariant c.in-Some.is c.first_line.ensures.cut c.without_return-line.ensures)
     c.in-Err.ensures c.refusal.ensures.line c.refusal.ensures.memory
 
