@@ -1,11 +1,10 @@
 // How deep the values are that a merged value brings.
-ghost use Rattle.std.specs.Prelude.{◌≡◌, ◌≤◌, ◌∷◌, ◌++◌, [], ℕ, List, map, max, min, true};
+ghost use Rattle.std.specs.Prelude.{◌≡◌, ◌≤◌, ◌∷◌, ◌++◌, [], ℕ, List, map, min, true};
 ghost use Rattle.std.specs.Prelude.{string_bytes, IfOk};
 ghost use Rattle.std.specs.List.{zip};
 ghost use Rattle.rvs_tree.specs.Data.{depth};
 ghost use Rattle.rvs_tree.specs.Value.{has_key, keys_of, pairs_in, trees};
 ghost use Rattle.rvs_tree.specs.Shown as spec;
-ghost use Rattle.rvs_tree.specs.Shown.{Holds};
 ghost use Rattle.rvs_tree.specs.GatheredView.{gathered_view};
 ghost use Rattle.rvs_tree.specs.ShownView.{depths_view};
 ghost use Rattle.rvs_tree.specs.TreeView.{view, rc_view};
@@ -93,27 +92,8 @@ fn none_gathered(alloc: Global) -> Gathered
 }
 
 impl ValueList {
-    /// These and one more, unless a map of these values has its key.
-    fn with_untaken(
-        &self,
-        mut kept: Vec<KeyDepth>,
-        pair: KeyDepth,
-    ) -> Result<Vec<KeyDepth>, AllocError>
-        ensures { IfOk result (λ l. (T U : List (List ℕ))
-            → Holds (keys_of (pairs_in (trees (values_view self.now.values.items)))) U → Holds T U
-            → max (spec.visible (depths_view kept.items) T)
-            (spec.at_key (string_bytes pair.key) pair.depth U)
-            ≤ spec.visible (depths_view l.items) T) }
-    {
-        if self.is_taken(pair.key.as_str()) {
-            return Ok(kept);
-        }
-        kept.push(pair)?;
-        Ok(kept)
-    }
-
     /// Whether a map of these values is known to have the key.
-    fn is_taken(&self, key: &str) -> bool
+    pub fn is_taken(&self, key: &str) -> bool
         ensures { result ≡ true → has_key key.now
             (keys_of (pairs_in (trees (values_view self.now.values.items)))) ≡ true }
     {
@@ -122,24 +102,11 @@ impl ValueList {
             None => false,
         }
     }
-
-    /// Those whose keys no map of these values is known to have.
-    pub fn untaken(&self, alloc: Global, depths: Vec<KeyDepth>) -> Result<Vec<KeyDepth>, AllocError>
-        ensures { IfOk result (λ l. (T U : List (List ℕ))
-            → Holds (keys_of (pairs_in (trees (values_view self.now.values.items)))) U → Holds T U
-            → spec.visible (depths_view depths.items) U ≤ spec.visible (depths_view l.items) T) }
-    {
-        let mut kept = Vec::new(alloc);
-        for pair in depths {
-            kept = self.with_untaken(kept, pair)?;
-        }
-        Ok(kept)
-    }
 }
 
 impl EntryList {
-    /// Whether these entries are known to have the key.
-    fn is_taken(&self, key: &str) -> bool
+    /// Whether these entries, or what they merge, are known to have the key.
+    pub fn is_taken(&self, key: &str) -> bool
         ensures { result ≡ true
             → has_key key.now (spec.keys_so_far (entries_view self.now.entries.items)) ≡ true }
     {
@@ -150,37 +117,5 @@ impl EntryList {
             Some(merged) => merged.set.contains(key),
             None => false,
         }
-    }
-
-    /// These and one more, unless these entries have its key.
-    fn with_untaken(
-        &self,
-        mut kept: Vec<KeyDepth>,
-        pair: KeyDepth,
-    ) -> Result<Vec<KeyDepth>, AllocError>
-        ensures { IfOk result (λ l. (T U : List (List ℕ))
-            → Holds (spec.keys_so_far (entries_view self.now.entries.items)) U → Holds T U
-            → max (spec.visible (depths_view kept.items) T)
-            (spec.at_key (string_bytes pair.key) pair.depth U)
-            ≤ spec.visible (depths_view l.items) T) }
-    {
-        if self.is_taken(pair.key.as_str()) {
-            return Ok(kept);
-        }
-        kept.push(pair)?;
-        Ok(kept)
-    }
-
-    /// Those whose keys these entries aren't known to have.
-    pub fn untaken(&self, alloc: Global, depths: Vec<KeyDepth>) -> Result<Vec<KeyDepth>, AllocError>
-        ensures { IfOk result (λ l. (T U : List (List ℕ))
-            → Holds (spec.keys_so_far (entries_view self.now.entries.items)) U → Holds T U
-            → spec.visible (depths_view depths.items) U ≤ spec.visible (depths_view l.items) T) }
-    {
-        let mut kept = Vec::new(alloc);
-        for pair in depths {
-            kept = self.with_untaken(kept, pair)?;
-        }
-        Ok(kept)
     }
 }

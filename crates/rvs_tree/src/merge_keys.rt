@@ -211,7 +211,8 @@ pub(crate) fn with_item_keys(
     Ok(Some(Box::new(alloc, MergedKeys { set })?))
 }
 
-/// The keys of a map with these keys of its own, where it merges.
+/// The keys of a map: those that it merges, and these of its own. Where there are none, no set is
+/// kept.
 pub(crate) fn brought_keys(
     alloc: Global,
     own: BTreeSet<String>,
@@ -220,12 +221,9 @@ pub(crate) fn brought_keys(
     ensures { IfOk result (λ m. (k : List ℕ) → merged_has m k ≡ true
         → (merged_has merged k || contains_text own k) ≡ true) }
 {
-    match merged {
-        Some(merged) => {
-            let MergedKeys { set } = Box::into_inner(merged);
-            let set = joined(set, own)?;
-            Ok(Some(Box::new(alloc, MergedKeys { set })?))
-        }
-        None => Ok(None),
+    let set = joined(keys_so_far(alloc, merged), own)?;
+    if set.is_empty() {
+        return Ok(None);
     }
+    Ok(Some(Box::new(alloc, MergedKeys { set })?))
 }

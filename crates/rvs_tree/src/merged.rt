@@ -1,8 +1,8 @@
 // The entries of a map, with what is merged into it.
-ghost use Rattle.std.specs.Prelude.{◌≡◌, ◌+◌, ◌∷◌, ◌++◌, ◌||◌, [], true, map, min, IfOk};
+ghost use Rattle.std.specs.Prelude.{◌≡◌, ◌+◌, ◌∷◌, ◌++◌, ◌||◌, [], ℕ, List, true, map, min};
+ghost use Rattle.std.specs.Prelude.{IfOk, IfSome};
 ghost use Rattle.rvs_tree.specs.Value as spec;
 ghost use Rattle.rvs_tree.specs.OwnKeys.{OwnKeysStay};
-ghost use Rattle.rvs_tree.specs.Data.{own_pairs};
 ghost use Rattle.rvs_tree.specs.TreeView.{view, rc_view};
 ghost use Rattle.rvs_tree.specs.ValueView.{value_view, values_view, written_view, entries_view};
 ghost use Rattle.rvs_tree.specs.PairsView.{pairs_view};
@@ -11,7 +11,6 @@ ghost use Rattle.rvs_tree.specs.HeldView.{held_view, is_whole};
 use crate::counted::Value;
 use crate::entry_list::EntryList;
 use crate::held::Held;
-use crate::keys::with_key;
 use crate::members::DEEP;
 use crate::merge_keys::brought_keys;
 use crate::pairs::Pairs;
@@ -21,7 +20,6 @@ use crate::value_list::ValueList;
 use crate::whole::tree_of;
 use crate::written::Written;
 use std::alloc::{AllocError, Global};
-use std::collections::BTreeSet;
 use std::rc::Rc;
 
 impl Pairs {
@@ -31,7 +29,6 @@ impl Pairs {
         Pairs {
             keys: Vec::new(alloc),
             values: Vec::new(alloc),
-            seen: BTreeSet::new(alloc),
         }
     }
 
@@ -43,147 +40,58 @@ impl Pairs {
         let Pairs {
             mut keys,
             mut values,
-            seen,
         } = self;
-        let seen = with_key(alloc, seen, key)?;
         let key = String::from_str(alloc, key)?;
         let tree = tree.clone()?;
         keys.push(key)?;
         values.push(tree)?;
-        Ok(Pairs { keys, values, seen })
+        Ok(Pairs { keys, values })
     }
 
-    /// Whether a key of these pairs is this one.
-    fn has_key(&self, key: &str) -> bool
-        ensures { result ≡ spec.has_key key.now (spec.keys_of (pairs_view self.now)) }
+    /// These pairs and an entry of a map. There are none where it merges.
+    fn with_unmerged(self, alloc: Global, written: &Written) -> Result<Option<Pairs>, AllocError>
+        ensures { IfOk result (λ o. IfSome o (λ p. (taken : List (List ℕ)) → pairs_view p
+            ≡ spec.resolved taken (pairs_view self) (written_view written.now ∷ []))) }
     {
-        self.seen.contains(key)
-    }
-
-    /// Whether the key is among those of the map or of these pairs.
-    fn is_taken(&self, own: &EntryList, key: &str) -> bool
-        ensures { result
-            ≡ (spec.has_key key.now (spec.explicit_keys (entries_view own.now.entries.items))
-            || spec.has_key key.now (spec.keys_of (pairs_view self.now))) }
-    {
-        own.has_key(key) || self.has_key(key)
-    }
-
-    /// These pairs and one more, unless its key is among those of the map or of these pairs.
-    fn with_merged_pair(
-        self,
-        alloc: Global,
-        own: &EntryList,
-        key: &str,
-        tree: &Rc<Tree>,
-    ) -> Result<Pairs, AllocError>
-        ensures { IfOk result (λ p. pairs_view p ≡ spec.added
-            (spec.explicit_keys (entries_view own.now.entries.items)) (pairs_view self)
-            ((key.now, view tree.now.value) ∷ [])) }
-    {
-        if self.is_taken(own, key) {
-            Ok(self)
-        } else {
-            self.with(alloc, key, tree)
-        }
-    }
-
-    /// These pairs and those of a merged map.
-    fn with_map(self, alloc: Global, own: &EntryList, tree: &Tree) -> Result<Pairs, AllocError>
-        ensures { IfOk result (λ p. pairs_view p ≡ spec.added
-            (spec.explicit_keys (entries_view own.now.entries.items)) (pairs_view self)
-            (own_pairs (view tree.now))) }
-    {
-        let (keys, values) = tree.entries();
-        let mut pairs = self;
-        for (i, key) in keys.iter().enumerate() {
-            if i >= values.len() {
-                return Ok(pairs);
-            }
-            pairs = pairs.with_merged_pair(alloc, own, key.as_str(), &values[i])?;
-        }
-        Ok(pairs)
-    }
-
-    /// These pairs and those of merged maps.
-    fn with_maps(
-        self,
-        alloc: Global,
-        own: &EntryList,
-        trees: &[Rc<Tree>],
-    ) -> Result<Pairs, AllocError>
-        ensures { IfOk result (λ p. pairs_view p ≡ spec.added
-            (spec.explicit_keys (entries_view own.now.entries.items)) (pairs_view self)
-            (spec.pairs_in (map rc_view trees.now))) }
-    {
-        let mut pairs = self;
-        for tree in trees {
-            pairs = pairs.with_map(alloc, own, tree)?;
-        }
-        Ok(pairs)
-    }
-
-    /// These pairs and those of a merged value.
-    fn with_merged(self, alloc: Global, own: &EntryList, tree: &Tree) -> Result<Pairs, AllocError>
-        ensures { IfOk result (λ p. pairs_view p ≡ spec.added
-            (spec.explicit_keys (entries_view own.now.entries.items)) (pairs_view self)
-            (spec.merged_pairs (view tree.now))) }
-    {
-        if tree.is_list() {
-            self.with_maps(alloc, own, tree.items())
-        } else {
-            self.with_map(alloc, own, tree)
-        }
-    }
-
-    /// These pairs and what an entry brings into the map.
-    fn with_written(
-        self,
-        alloc: Global,
-        own: &EntryList,
-        written: &Written,
-    ) -> Result<Pairs, AllocError>
-        ensures { IfOk result (λ p. pairs_view p ≡ spec.resolved
-            (spec.explicit_keys (entries_view own.now.entries.items)) (pairs_view self)
-            (written_view written.now ∷ [])) }
-    {
-        let tree = tree_of(alloc, &written.value)?;
         if written.merges {
-            self.with_merged(alloc, own, &tree)
-        } else {
-            self.with(alloc, written.key.as_str(), &tree)
+            return Ok(None);
         }
+        let tree = tree_of(alloc, &written.value)?;
+        Ok(Some(self.with(alloc, written.key.as_str(), &tree)?))
     }
 }
 
-/// The pairs of a map with its merges resolved.
-fn resolved_pairs(alloc: Global, own: &EntryList) -> Result<Pairs, AllocError>
-    ensures { IfOk result (λ p. pairs_view p ≡ spec.resolved
-        (spec.explicit_keys (entries_view own.now.entries.items)) []
-        (entries_view own.now.entries.items)) }
+/// The pairs of a map of these entries, where none of them merges.
+fn unmerged_pairs(alloc: Global, entries: &[Written]) -> Result<Option<Pairs>, AllocError>
+    ensures { IfOk result (λ o. IfSome o (λ p. pairs_view p ≡ spec.resolved
+        (spec.explicit_keys (entries_view entries.now)) [] (entries_view entries.now))) }
 {
     let mut pairs = Pairs::new(alloc);
-    for written in &own.entries {
-        pairs = pairs.with_written(alloc, own, written)?;
+    for written in entries {
+        pairs = match pairs.with_unmerged(alloc, written)? {
+            None => return Ok(None),
+            Some(pairs) => pairs,
+        };
     }
-    Ok(pairs)
+    Ok(Some(pairs))
 }
 
-/// The tree of these entries, which begins on this line.
-pub(crate) fn resolved_tree(
+/// The tree of these entries, which begins on this line, where none of them merges.
+fn unmerged_tree(
     alloc: Global,
     line: u64,
-    own: &EntryList,
-) -> Result<Rc<Tree>, AllocError>
-    ensures { IfOk result
-        (λ t. view t.value ≡ (spec.map_value line (entries_view own.now.entries.items)).tree) }
+    entries: &[Written],
+) -> Result<Option<Rc<Tree>>, AllocError>
+    ensures { IfOk result (λ o. IfSome o
+        (λ t. view t.value ≡ (spec.map_value line (entries_view entries.now)).tree)) }
 {
-    let Pairs {
-        keys,
-        values,
-        seen: _,
-    } = resolved_pairs(alloc, own)?;
-    Tree::new_map(alloc, keys, values, line)
+    match unmerged_pairs(alloc, entries)? {
+        None => Ok(None),
+        Some(pairs) => {
+            let Pairs { keys, values } = pairs;
+            Ok(Some(Tree::new_map(alloc, keys, values, line)?))
+        }
+    }
 }
 
 /// What a map of these entries is held as, which begins on this line. Where it merges, its merges
@@ -192,11 +100,14 @@ fn held_map(alloc: Global, line: u64, own: &EntryList) -> Result<Held, AllocErro
     ensures { IfOk result
         (λ h. held_view h ≡ (spec.map_value line (entries_view own.now.entries.items)).tree) }
 {
-    if own.merged.is_some() {
-        Ok(Held::Merging(map_draft(alloc, line, own.entries.as_slice())?))
-    } else {
-        Ok(Held::Whole(resolved_tree(alloc, line, own)?))
+    let entries = own.entries.as_slice();
+    // Where keys are known that it merges, an entry merges.
+    if own.merged.is_none() {
+        if let Some(tree) = unmerged_tree(alloc, line, entries)? {
+            return Ok(Held::Whole(tree));
+        }
     }
+    Ok(Held::Merging(map_draft(alloc, line, entries)?))
 }
 
 /// The map of these entries, which begins on this line.

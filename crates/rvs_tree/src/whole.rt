@@ -23,11 +23,7 @@ fn map_of(alloc: Global, draft: &Draft) -> Result<Rc<Tree>, AllocError>
     requires { is_list (draft_view draft.now) ≡ false }
     ensures { IfOk result (λ t. view t.value ≡ draft_view draft.now) }
 {
-    let Pairs {
-        keys,
-        values,
-        seen: _,
-    } = draft_pairs(alloc, draft)?;
+    let Pairs { keys, values } = draft_pairs(alloc, draft)?;
     Tree::new_map(alloc, keys, values, draft.line())
 }
 

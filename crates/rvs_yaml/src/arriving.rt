@@ -11,7 +11,7 @@ use crate::chain::{merges, root_of};
 use crate::fill::fill_flow;
 use crate::open::{Block, Done, Open};
 use crate::open_blocks::OpenBlocks;
-use rvs_tree::{Value, brought_depths};
+use rvs_tree::{Tree, Value, tree_of};
 use rvs_yaml_text::{Bracket, YamlKind};
 use std::alloc::{AllocError, Global};
 use std::collections::BTreeMap;
@@ -99,6 +99,38 @@ fn with_line(
     Ok(lines)
 }
 
+/// The keys with those of a map. Other trees have none.
+fn with_map(
+    alloc: Global,
+    lines: BTreeMap<String, u64>,
+    tree: &Tree,
+    line: u64,
+) -> Result<BTreeMap<String, u64>, AllocError> {
+    let mut lines = lines;
+    if !tree.is_map() {
+        return Ok(lines);
+    }
+    for i in 0..tree.len() {
+        let key = String::from_str(alloc, tree.key(i))?;
+        lines = with_line(lines, key, line)?;
+    }
+    Ok(lines)
+}
+
+/// The keys with those of the maps in a list.
+fn with_maps(
+    alloc: Global,
+    lines: BTreeMap<String, u64>,
+    tree: &Tree,
+    line: u64,
+) -> Result<BTreeMap<String, u64>, AllocError> {
+    let mut lines = lines;
+    for i in 0..tree.len() {
+        lines = with_map(alloc, lines, tree.item(i), line)?;
+    }
+    Ok(lines)
+}
+
 /// The keys with those that a value brings.
 fn with_value(
     alloc: Global,
@@ -106,11 +138,12 @@ fn with_value(
     value: &Value,
     line: u64,
 ) -> Result<BTreeMap<String, u64>, AllocError> {
-    let mut lines = lines;
-    for pair in brought_depths(alloc, value)? {
-        lines = with_line(lines, pair.key, line)?;
+    let tree = tree_of(alloc, value)?;
+    if tree.is_list() {
+        with_maps(alloc, lines, &tree, line)
+    } else {
+        with_map(alloc, lines, &tree, line)
     }
-    Ok(lines)
 }
 
 /// The keys with those that the last word brings by itself.

@@ -1,15 +1,12 @@
 // Which keys are known to be taken in the maps around a value that merges.
 ghost use Rattle.std.specs.Prelude.{◌≡◌, ◌≤◌, ◌<◌, true, false, length, take};
-ghost use Rattle.rvs_tree.specs.Shown.{keys_so_far};
-ghost use Rattle.rvs_tree.specs.Value.{has_key, keys_of, pairs_in, trees};
-ghost use Rattle.rvs_tree.specs.ValueView.{entries_view, values_view};
+ghost use Rattle.rvs_tree.specs.Value.{has_key};
 ghost use Rattle.rvs_yaml.specs.Chain as spec;
 ghost use Rattle.rvs_yaml.specs.Around.{AreAround};
 ghost use Rattle.rvs_yaml.specs.StackView.{done_view, stack_view};
 
 use crate::arrivals::Arrivals;
 use crate::open::{Done, Open};
-use rvs_tree::{EntryList, ValueList};
 
 /// Whether the open entry of a map merges.
 pub(crate) fn merges(done: &Done) -> bool
@@ -54,38 +51,13 @@ pub(crate) fn root_of(blocks: &[Open<'_>], end: usize) -> usize
     root
 }
 
-/// Whether these entries are known to have this key.
-fn is_taken_by_map(list: &EntryList, key: &str) -> bool
-    ensures { result ≡ true
-        → has_key key.now (keys_so_far (entries_view list.now.entries.items)) ≡ true }
-{
-    if list.has_key(key) {
-        return true;
-    }
-    match &list.merged {
-        Some(merged) => merged.set.contains(key),
-        None => false,
-    }
-}
-
-/// Whether a map of these items is known to have this key.
-fn is_taken_by_items(list: &ValueList, key: &str) -> bool
-    ensures { result ≡ true → has_key key.now
-        (keys_of (pairs_in (trees (values_view list.now.values.items)))) ≡ true }
-{
-    match &list.keys {
-        Some(keys) => keys.set.contains(key),
-        None => false,
-    }
-}
-
 /// Whether the members that a block has so far are known to have this key.
 fn is_taken_in(done: &Done, key: &str) -> bool
     ensures { result ≡ true → has_key key.now (spec.done_keys (done_view done.now)) ≡ true }
 {
     match done {
-        Done::Items(list) => is_taken_by_items(list, key),
-        Done::Entries(pending) => is_taken_by_map(&pending.list, key),
+        Done::Items(list) => list.is_taken(key),
+        Done::Entries(pending) => pending.list.is_taken(key),
         Done::Alone => false,
     }
 }
