@@ -1,6 +1,6 @@
 // The labels of a tree.
 ghost use Rattle.std.specs.Prelude.{◌≡◌, ◌≤◌, ◌-◌, ◌*◌, ◌^◌, ◌∷◌, ◌++◌, [], map, All, true, IsTrue};
-ghost use Rattle.std.specs.Prelude.{IfOk};
+ghost use Rattle.std.specs.Prelude.{IfOk, length, nat_lt};
 ghost use Rattle.rvs_tree.specs.Data.{own_pairs, is_map};
 ghost use Rattle.rvs_tree.specs.TreeView as trees;
 ghost use Rattle.rvs_cgf.specs.Groups as spec;
@@ -58,6 +58,12 @@ fn with_label(alloc: Global, name: &str, label: Label, listed: Listed) -> Result
     }
 }
 
+fn has_room(listed: &Listed) -> bool
+    ensures { result ≡ nat_lt (length (listed_view listed.now).labels) 256 }
+{
+    listed.labels.as_slice().len() < 256
+}
+
 /// One entry of the file: `datasets` is passed over, every other is a label.
 fn label_step(
     alloc: Global,
@@ -72,7 +78,7 @@ fn label_step(
     if name == "datasets" {
         return Ok(listed);
     }
-    let few = listed.labels.as_slice().len() < 256;
+    let few = has_room(&listed);
     holds(alloc, few, name, "", "", CgfKind::TooManyLabels)?;
     let label = label_of(alloc, isa, name, entries)?;
     with_label(alloc, name, label, listed)

@@ -7,6 +7,7 @@ ghost use Rattle.rvs_cgf.specs.PointView.{point_view};
 ghost use Rattle.rvs_cgf.specs.PointKeys.{mark, AreKeysOf};
 
 use crate::group::{Kind, Point};
+use crate::release::release;
 use rvs_base::{Items, NoMemory};
 use std::alloc::{AllocError, Global};
 use std::collections::BTreeSet;
@@ -131,9 +132,16 @@ impl Points {
         ensures { IfOk result (λ p. p.list ≡ self.list ++ point ∷ []) }
     {
         let Points { mut list, known } = self;
-        let known = with_point(alloc, known, &point)?;
-        list.push(point)?;
-        Ok(Points { list, known })
+        match with_point(alloc, known, &point) {
+            Ok(known) => {
+                list.push(point)?;
+                Ok(Points { list, known })
+            }
+            Err(_) => {
+                release(point);
+                Err(NoMemory)
+            }
+        }
     }
 
     /// The points with more behind them.
