@@ -107,31 +107,32 @@ fn with_map(
     line: u64,
 ) -> Result<BTreeMap<String, u64>, AllocError> {
     let mut lines = lines;
-    if !tree.is_map() {
-        return Ok(lines);
-    }
-    for i in 0..tree.len() {
-        let key = String::from_str(alloc, tree.key(i))?;
-        lines = with_line(lines, key, line)?;
+    if tree.is_map() {
+        for i in 0..tree.len() {
+            let key = String::from_str(alloc, tree.key(i))?;
+            lines = with_line(lines, key, line)?;
+        }
     }
     Ok(lines)
 }
 
 /// The keys with those of the maps in a list.
-fn with_maps(
+fn with_items(
     alloc: Global,
     lines: BTreeMap<String, u64>,
     tree: &Tree,
     line: u64,
 ) -> Result<BTreeMap<String, u64>, AllocError> {
     let mut lines = lines;
-    for i in 0..tree.len() {
-        lines = with_map(alloc, lines, tree.item(i), line)?;
+    if tree.is_list() {
+        for i in 0..tree.len() {
+            lines = with_map(alloc, lines, tree.item(i), line)?;
+        }
     }
     Ok(lines)
 }
 
-/// The keys with those that a value brings.
+/// The keys with those that a value brings where it is merged.
 fn with_value(
     alloc: Global,
     lines: BTreeMap<String, u64>,
@@ -139,11 +140,8 @@ fn with_value(
     line: u64,
 ) -> Result<BTreeMap<String, u64>, AllocError> {
     let tree = tree_of(alloc, value)?;
-    if tree.is_list() {
-        with_maps(alloc, lines, &tree, line)
-    } else {
-        with_map(alloc, lines, &tree, line)
-    }
+    let lines = with_map(alloc, lines, &tree, line)?;
+    with_items(alloc, lines, &tree, line)
 }
 
 /// The keys with those that the last word brings by itself.

@@ -14,7 +14,7 @@ use crate::open_blocks::OpenBlocks;
 use rvs_yaml_text::{Content, Head, Shape, Word, YamlKind, is_below};
 
 /// Whether an alias with this name stands for something, and nothing but a comment is behind it.
-fn check_alias(anchors: &AnchorList<'_>, name: &str, ended: bool) -> Result<(), YamlKind>
+pub(crate) fn check_alias(anchors: &AnchorList<'_>, name: &str, ended: bool) -> Result<(), YamlKind>
     ensures { Agrees (λ u. u) result
         (parts.alias_found (anchors_view anchors.now.anchors.items) name.now ended) }
 {

@@ -244,8 +244,10 @@ fn own_of<'a>(
     line: u64,
     content: Content<'a>,
 ) -> Result<Option<Box<Value>>, YamlKind>
-    ensures { Gives (own_view line) result (block_spec.content_value
+    ensures given { Gives (own_view line) result (block_spec.content_value
         (anchors_view anchors.now.anchors.items) line (content_view content.entry)) }
+    ensures refused { FailsWith result (parts.looked_up (anchors_view anchors.now.anchors.items)
+        (content_view content.entry)) }
 {
     if matches!(content, Content::Nothing) {
         return Ok(None);

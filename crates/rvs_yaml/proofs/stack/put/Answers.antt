@@ -22,7 +22,7 @@ returns-in_err-own c =
     let p = err_from_is_err_and c.from_residual.result c.from_residual.ensures.1 in
     rw (p.1, p.2) (fails_first _ (content_value (anchors_view all) h.line t)
     (λ own. Ok (opened (block_at all b) h own ∷ anchored (take b.before all) bs)) _
-    (sym (put-all all b.before (block_at all b) bs h t refl c.requires)) c.in_err-own.ensures)
+    (sym (put-all all b.before (block_at all b) bs h t refl c.requires)) c.in_err-own.ensures.given)
 
 pub invariant_of-result : goal.invariant_of-result
 invariant_of-result c =
@@ -41,5 +41,6 @@ returns c =
     let t = content_view c.args.content in
     put-all all b.before (block_at all b) bs h t refl c.requires
     ∙ ap (λ m. m >>= λ own. let r : Checked (List Open) =
-    Ok (opened (block_at all b) h own ∷ anchored (take b.before all) bs) in r) c.in_ok-own.ensures
+    Ok (opened (block_at all b) h own ∷ anchored (take b.before all) bs) in r)
+    c.in_ok-own.ensures.given
     ∙ ap Ok (sym (ap (anchored all) c.in_ok-push.ensures.items ∙ anchored-push all bs _))
