@@ -13,6 +13,7 @@ use crate::group::{Groups, Label};
 use crate::labelling::label_of;
 use crate::listed::Listed;
 use crate::refusal::{CgfKind, CgfRefusal};
+use crate::release::release;
 use crate::walk::{holds, no_memory, refusal};
 use rvs_base::{Items, NoMemory};
 use rvs_insn::IsaSpec;
@@ -50,6 +51,7 @@ fn with_label(alloc: Global, name: &str, label: Label, listed: Listed) -> Result
 {
     let total = listed.total + size(&label);
     if total > 65536 {
+        release(label);
         return Err(refusal(alloc, name, "", "", CgfKind::TooManyPoints));
     }
     match pushed(label, total, listed) {

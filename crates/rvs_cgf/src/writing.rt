@@ -14,6 +14,7 @@ use crate::labelling::label_of;
 use crate::listing::size;
 use crate::print::push_label;
 use crate::refusal::{CgfKind, CgfRefusal};
+use crate::release::release;
 use crate::walk::{holds, no_memory, refusal};
 use crate::written::Written;
 use rvs_base::{NoMemory, Text};
@@ -82,7 +83,9 @@ fn write_step(
     let few = written.count < 256;
     holds(alloc, few, name, "", "", CgfKind::TooManyLabels)?;
     let label = label_of(alloc, isa, name, entries)?;
-    with_label(alloc, name, &label, written)
+    let written = with_label(alloc, name, &label, written);
+    release(label);
+    written
 }
 
 fn nothing_written(alloc: Global) -> Written
