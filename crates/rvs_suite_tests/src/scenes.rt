@@ -5,6 +5,9 @@
 //     fill NAME COUNT PIECE END   a file of a piece so many times, and an end
 //     leaves TEXT                 the device's next run leaves this signature
 //     untouched                   the device's next run leaves nothing
+//     killed TEXT                 the device's next run leaves this signature and ends with -1
+//     absent                      the device's next run takes the signature file away and ends
+//                                 with -1
 //     run WORDS                   a run on a host of these files
 //     then WORDS                  one more on the host that the last run left
 //     fails PLACE CALL WORDS      a run in which a call of `host`, `out` or `err` fails

@@ -22,7 +22,10 @@ pub fn plain(alloc: Global, marked: &str) -> Result<String, AllocError> {
 }
 
 pub fn number(text: &str) -> Result<u64, Fail> {
-    Ok(number_below(1 << 32, 10, text.as_bytes()).ok_or("no number")?)
+    match number_below(4_294_967_296, 10, text.as_bytes()) {
+        Some(number) => Ok(number),
+        None => Err(Fail::new("no number")),
+    }
 }
 
 /// What is before the first space, and what is behind it.
@@ -76,25 +79,37 @@ fn files_of(alloc: Global, scene: &str) -> Result<Files, Fail> {
     Ok(files)
 }
 
-/// What the device leaves by a line `leaves TEXT` or `untouched`.
-fn answer_of(alloc: Global, line: &str) -> Result<Option<Leaves>, Fail> {
+/// A run of the device that leaves a signature.
+fn leaving(alloc: Global, status: i32, marked: &str) -> Result<Answer, Fail> {
+    let text = plain(alloc, marked)?;
+    let leaves = Leaves::Holds(Items::from(text.as_bytes().to_vec(alloc)?));
+    Ok(Answer { status, leaves })
+}
+
+/// The device's run of a line `leaves TEXT`, `killed TEXT`, `untouched` or `absent`.
+fn answer_of(alloc: Global, line: &str) -> Result<Option<Answer>, Fail> {
     if line == "untouched" {
-        return Ok(Some(Leaves::Untouched));
+        let leaves = Leaves::Untouched;
+        return Ok(Some(Answer { status: 0, leaves }));
+    }
+    if line == "absent" {
+        let leaves = Leaves::Absent;
+        return Ok(Some(Answer { status: -1, leaves }));
+    }
+    if let Some(marked) = line.strip_prefix("killed ") {
+        return Ok(Some(leaving(alloc, -1, marked)?));
     }
     match line.strip_prefix("leaves ") {
         None => Ok(None),
-        Some(marked) => {
-            let text = plain(alloc, marked)?;
-            Ok(Some(Leaves::Holds(Items::from(text.as_bytes().to_vec(alloc)?))))
-        },
+        Some(marked) => Ok(Some(leaving(alloc, 0, marked)?)),
     }
 }
 
 fn answers_of(alloc: Global, scene: &str) -> Result<Items<Answer>, Fail> {
     let mut answers = Items::new(alloc);
     for line in scene.lines() {
-        if let Some(leaves) = answer_of(alloc, line)? {
-            answers.push(Answer { status: 0, leaves })?;
+        if let Some(answer) = answer_of(alloc, line)? {
+            answers.push(answer)?;
         }
     }
     Ok(answers)
