@@ -1,10 +1,12 @@
 -- Lines as they are mostly written.
-use Rattle.std.proofs.Common.{◌≡◌, ℕ, ◌+◌, ◌^◌, ◌<◌, Bool, true, false, cond, List, [], ◌∷◌}
+use Rattle.std.proofs.Common.{◌≡◌, ℕ, ◌+◌, ◌^◌, ◌<◌, Bool, true, false, cond, List}
+use Rattle.std.proofs.Common.{[], ◌∷◌, ◌++◌}
 use Rattle.std.proofs.Common.{Option, Some, None, refl, sym, ap, ◌∙◌, subst, arith, length}
 use Rattle.std.proofs.lemmas.Bool.Decides.{nat_tests}
-use Rattle.std.specs.Prelude.{◌==◌}
+use Rattle.std.specs.Prelude.{◌==◌, codes}
 use Rattle.rvs_machine.specs.Written.{Write}
-use Rattle.rvs_log.specs.Grammar.{◌>>=◌, after_byte, after_spaces, after_text, at_end, first_write}
+use Rattle.rvs_log.specs.Grammar.{◌>>=◌, after_byte, after_core, after_spaces, after_text, at_end}
+use Rattle.rvs_log.specs.Grammar.{first_write}
 use Rattle.rvs_log.specs.Grammar.{hex_at, hex_digits, hex_run, pc_and_word, register_at}
 use Rattle.rvs_log.specs.Grammar.{spaced, write_at}
 use Rattle.rvs_log.proofs.Digits.{word_ended}
@@ -39,6 +41,12 @@ led_by_two s t bs r e = turn (after_byte s bs) refl e
     turn None h g = absurd cc
     turn (Some a) h g =
         led_by_byte s bs a (sym h) ∙ ap (λ xs. s ∷ xs) (second (after_byte t a) a refl g)
+
+-- the front of a line of a commit log
+pub core_is : (line rest : List ℕ) → line ≡ codes "core   0: 3 " ++ rest
+    → Some (after_spaces rest) ≡ after_core line
+unfolding after_core
+core_is line rest e = sym (ap after_core e)
 
 -- eight digits are a word where no digit follows
 pub eight_spelled : (text a b : List ℕ) (v : ℕ) → Some a ≡ after_text (48 ∷ 120 ∷ []) text

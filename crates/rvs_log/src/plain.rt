@@ -1,5 +1,5 @@
 // Lines as they are mostly written: words of eight digits, and one space where some may stand.
-ghost use Rattle.std.specs.Prelude.{◌≡◌, ◌∷◌, [], IfSome, Some, true};
+ghost use Rattle.std.specs.Prelude.{◌≡◌, ◌+◌, ◌*◌, ◌∷◌, ◌++◌, [], IfSome, Some, codes, true};
 ghost use Rattle.std.specs.Option.{option_copied};
 ghost use Rattle.rvs_log.specs.Grammar.{after_spaces, after_text, first_write, hex_at, hex_run};
 ghost use Rattle.rvs_log.specs.Grammar.{pc_and_word, spaced};
@@ -7,6 +7,34 @@ ghost use Rattle.rvs_log.specs.Grammar.{pc_and_word, spaced};
 use crate::reading::{byte_at, register, token_end};
 use crate::words::eight_digits;
 use rvs_machine::Commit;
+
+/// Four bytes as a word, the first as its lowest. So four are compared at once.
+#[inline(always)]
+fn joined(a: u8, b: u8, c: u8, d: u8) -> u32
+    ensures { result ≡ a + 256 * b + 65536 * c + 16777216 * d }
+{
+    u32::from(a) + 256 * u32::from(b) + 65536 * u32::from(c) + 16_777_216 * u32::from(d)
+}
+
+/// What follows the front that the lines of one hart in machine mode have.
+#[inline(always)]
+pub(crate) fn plain_core(line: &[u8]) -> Option<&[u8]>
+    ensures { IfSome result (λ rest. line.now ≡ codes "core   0: 3 " ++ rest.now) }
+{
+    match line {
+        [a, b, c, d, e, f, g, h, i, j, k, l, rest @ ..] => {
+            if joined(*a, *b, *c, *d) == joined(b'c', b'o', b'r', b'e')
+                && joined(*e, *f, *g, *h) == joined(b' ', b' ', b' ', b'0')
+                && joined(*i, *j, *k, *l) == joined(b':', b' ', b'3', b' ')
+            {
+                Some(rest)
+            } else {
+                None
+            }
+        },
+        _ => None,
+    }
+}
 
 /// What follows `0x`.
 #[inline(always)]

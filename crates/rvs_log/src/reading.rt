@@ -11,7 +11,7 @@ ghost use Rattle.rvs_log.specs.Grammar.{register_at, sail_log, Says, spaced, wri
 ghost use Rattle.rvs_log.specs.Grammar.{write_line};
 ghost use Rattle.rvs_log.specs.Read.{said, IsDecoded, IsOf};
 
-use crate::plain::{plain_words, plain_write};
+use crate::plain::{plain_core, plain_words, plain_write};
 use crate::words::word_at;
 use rvs_insn::{Insn, decode};
 use rvs_machine::Commit;
@@ -234,28 +234,14 @@ fn any_written(text: &[u8]) -> Option<Commit>
 }
 
 /// What follows the privilege of a commit log's line.
-#[tactic(auto, unfolding(crate::specs::Grammar::after_core))]
+#[tactic(auto, using(crate::proofs::Straight::core_is))]
 #[inline(always)]
 fn core_front(line: &[u8]) -> Option<&[u8]>
     ensures { option_copied result ≡ after_core line.now }
 {
-    match line {
-        [
-            b'c',
-            b'o',
-            b'r',
-            b'e',
-            b' ',
-            b' ',
-            b' ',
-            b'0',
-            b':',
-            b' ',
-            b'3',
-            b' ',
-            rest @ ..,
-        ] => { Some(without_spaces(rest)) },
-        _ => any_core_front(line),
+    match plain_core(line) {
+        Some(rest) => Some(without_spaces(rest)),
+        None => any_core_front(line),
     }
 }
 
