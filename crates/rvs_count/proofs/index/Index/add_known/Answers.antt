@@ -4,7 +4,7 @@ use Rattle.rvs_insn.specs.Fields.{Fields}
 use Rattle.rvs_count.specs.Counting.{aims_in}
 use Rattle.rvs_count.specs.Index.{insns_key, is_for, places_for}
 use Rattle.rvs_count.proofs.Places.{added_bucket, slots_at, slots_few, slots_low}
-use Rattle.rvs_count.proofs.index.Index.add_list.Goals as goal
+use Rattle.rvs_count.proofs.index.Index.add_known.Goals as goal
 
 pub add_insn-requires-clause-within : goal.add_insn-requires-clause-within
 add_insn-requires-clause-within c =

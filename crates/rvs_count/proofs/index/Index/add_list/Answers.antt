@@ -1,0 +1,22 @@
+use Rattle.std.proofs.Common.{Some, ◌∙◌, ◌&&◌, ap}
+use Rattle.rvs_insn.specs.Fields.{Fields}
+use Rattle.rvs_count.specs.Buckets.{is_seen}
+use Rattle.rvs_count.specs.Counting.{aims_in, hits_insn}
+use Rattle.rvs_count.specs.State.{added}
+use Rattle.rvs_count.proofs.index.Index.add_list.Goals as goal
+
+pub returns : goal.returns
+returns c =
+    let cs = c.args.counts.now.items in
+    let aims = aims_in c.args.self.now in
+    let r = c.take_facts-facts.result in
+    let b = c.args.bucket in
+    c.add_known.ensures
+    ∙ ap (λ (i : Fields). added
+    (λ a. is_seen (Some b) a.point && hits_insn a (Some i) r.first r.second) aims cs)
+    c.take_facts-facts.ensures.insn
+    ∙ ap (λ v. added (λ a. is_seen (Some b) a.point
+    && hits_insn a (Some c.args.insn.now) v r.second) aims cs) c.take_facts-facts.ensures.first
+    ∙ ap (λ v. added (λ a. is_seen (Some b) a.point
+    && hits_insn a (Some c.args.insn.now) c.args.first v) aims cs)
+    c.take_facts-facts.ensures.second
