@@ -18,6 +18,24 @@ compares op a b = is_true (both (λ x y. compare op x y) a b)
 abbrev pub relates : Bool → Option ℕ → Option ℕ → Bool
 relates equal a b = is_true (both (λ x y. equation equal x y) a b)
 
+-- a truth value as a bit
+abbrev pub bit : Bool → ℕ
+bit b = if b then 1 else 0
+
+-- how a number compares with 0, as three bits
+abbrev pub three_bits : Option ℤ → ℕ
+three_bits v =
+    bit (compares Below v (Some (pos 0))) + 2 * bit (compares Equal v (Some (pos 0)))
+    + 4 * bit (compares Above v (Some (pos 0)))
+
+-- whether two numbers are one, and whether they aren't, as two bits
+abbrev pub order_bits : Option ℤ → Option ℤ → ℕ
+order_bits a b = bit (compares Equal a b) + 2 * bit (compares Unequal a b)
+
+-- the same of two registers
+abbrev pub relation_bits : Option ℕ → Option ℕ → ℕ
+relation_bits a b = bit (relates true a b) + 2 * bit (relates false a b)
+
 -- the signs of three numbers, whether the first two are one, and which registers are one
 abbrev pub signs : Option ℕ → Option ℕ → Option ℕ → Option ℤ → Option ℤ → Option ℤ → List Bool
 signs rd rs1 rs2 rs1_val rs2_val imm_val =
@@ -49,7 +67,7 @@ signs_of t = signs (t.reg Rd) (t.reg Rs1) (t.reg Rs2) (t.num Rs1Val) (t.num Rs2V
 -- signs as the bits of a word, the first as the lowest
 abbrev pub signs_word : List Bool → ℕ
 signs_word [] = 0
-signs_word (b ∷ bs) = (if b then 1 else 0) + 2 * signs_word bs
+signs_word (b ∷ bs) = bit b + 2 * signs_word bs
 
 -- the bits of three signs
 abbrev pub mask : ℕ → ℕ → ℕ → ℕ

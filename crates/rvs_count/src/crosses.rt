@@ -135,6 +135,7 @@ impl<'g> Crosses<'g> {
     }
 
     /// The same for every end of a run.
+    #[inline(never)]
     fn add_ends(&self, run: &[Insn], counts: &mut Vec<u64>)
         requires few { length run.now ≤ 6 }
         requires count { length counts.old.items ≡ length (aims_in self.now) }
@@ -148,6 +149,7 @@ impl<'g> Crosses<'g> {
     }
 
     /// Adds one to the counts of the cross points that the last instructions of a run match.
+    #[inline(always)]
     pub(crate) fn add(&self, run: &[Insn], counts: &mut Vec<u64>)
         requires few { length run.now ≤ 6 }
         requires count { length counts.old.items ≡ length (aims_in self.now) }

@@ -96,9 +96,9 @@ impl<'g> Index<'g> {
         self.labels
     }
 
-    /// Adds one to the counts of the points of a list that an instruction hits.
-    #[inline(never)]
-    fn add_list(&self, bucket: usize, facts: &Known<'_>, counts: &mut Vec<u64>)
+    /// Adds one to the counts of the points of a list that an instruction of these facts hits.
+    #[inline(always)]
+    fn add_known(&self, bucket: usize, facts: &Known<'_>, counts: &mut Vec<u64>)
         requires bucket { bucket < 365 }
         requires fits { Fits (aims_in self.now) (2 ^ 41) counts.old.items }
         ensures { counts.new.items ≡ added (λ a. is_seen (Some bucket) a.point
@@ -109,6 +109,19 @@ impl<'g> Index<'g> {
         let key = number(insn.op) * BUCKETS + bucket;
         let slots = self.lists.as_slice()[key].as_slice();
         add_insn(slots, facts, counts);
+    }
+
+    /// The same of an instruction whose registers held these words before it. It takes the facts
+    /// again, so that those of the caller can stay in registers.
+    #[inline(never)]
+    fn add_list(&self, bucket: usize, insn: &Insn, first: u32, second: u32, counts: &mut Vec<u64>)
+        requires bucket { bucket < 365 }
+        requires fits { Fits (aims_in self.now) (2 ^ 41) counts.old.items }
+        ensures { counts.new.items ≡ added (λ a. is_seen (Some bucket) a.point
+            && hits_insn a (Some insn.now) first second) (aims_in self.now) counts.old.items }
+    {
+        let facts = take_facts(insn, *insn, first, second);
+        self.add_known(bucket, &facts, counts);
     }
 
     /// The same of the first list.
@@ -122,7 +135,7 @@ impl<'g> Index<'g> {
         let insn = facts.insn;
         let head = &self.heads.as_slice()[number(insn.op)];
         if head.more {
-            self.add_list(0, facts, counts);
+            self.add_list(0, facts.insn, facts.first, facts.second, counts);
         } else {
             add_marks(head.marks.as_slice(), facts.signs, counts);
         }
@@ -144,7 +157,7 @@ impl<'g> Index<'g> {
         let insn = facts.insn;
         let cell = &self.cells.as_slice()[number(insn.op) * BUCKETS + bucket];
         if cell.more {
-            self.add_list(bucket, facts, counts);
+            self.add_list(bucket, facts.insn, facts.first, facts.second, counts);
         } else {
             add_cell(cell, value, counts);
         }
@@ -166,6 +179,7 @@ impl<'g> Index<'g> {
     }
 
     /// Adds one to the counts of the points that an instruction of these facts hits, list by list.
+    #[inline(always)]
     fn add_lists(&self, facts: &Known<'_>, counts: &mut Vec<u64>)
         requires fits { Fits (aims_in self.now) (2 ^ 40) counts.old.items }
         ensures { counts.new.items
@@ -182,6 +196,72 @@ impl<'g> Index<'g> {
         self.add_asked(Asked::EaAlign, facts, counts);
     }
 
+    /// The same of an instruction whose registers held these words before it. It is given twice, as
+    /// [`take_facts`] takes it.
+    #[inline(always)]
+    fn add_shape(&self, insn: &Insn, shape: Insn, first: u32, second: u32, counts: &mut Vec<u64>)
+        requires shape { shape ≡ insn.now }
+        requires fits { Fits (aims_in self.now) (2 ^ 40) counts.old.items }
+        ensures { counts.new.items ≡ added (λ a. hits_insn a (Some insn.now) first second)
+            (aims_in self.now) counts.old.items }
+    {
+        let facts = take_facts(insn, shape, first, second);
+        self.add_lists(&facts, counts);
+    }
+
+    /// The same where the fields are seldom so.
+    #[inline(never)]
+    fn add_other(&self, insn: &Insn, first: u32, second: u32, counts: &mut Vec<u64>)
+        requires fits { Fits (aims_in self.now) (2 ^ 40) counts.old.items }
+        ensures { counts.new.items ≡ added (λ a. hits_insn a (Some insn.now) first second)
+            (aims_in self.now) counts.old.items }
+    {
+        self.add_shape(insn, *insn, first, second, counts);
+    }
+
+    /// The same, by which fields are there: each arm is compiled for its own, without a test of the
+    /// options.
+    #[inline(always)]
+    fn add_shaped(&self, insn: &Insn, first: u32, second: u32, counts: &mut Vec<u64>)
+        requires fits { Fits (aims_in self.now) (2 ^ 40) counts.old.items }
+        ensures { counts.new.items ≡ added (λ a. hits_insn a (Some insn.now) first second)
+            (aims_in self.now) counts.old.items }
+    {
+        match (insn.rd, insn.rs1, insn.rs2, insn.imm) {
+            (Some(rd), Some(rs1), Some(rs2), None) => {
+                let shape = Insn {
+                    op: insn.op,
+                    rd: Some(rd),
+                    rs1: Some(rs1),
+                    rs2: Some(rs2),
+                    imm: None,
+                };
+                self.add_shape(insn, shape, first, second, counts);
+            },
+            (Some(rd), Some(rs1), None, Some(imm)) => {
+                let shape = Insn {
+                    op: insn.op,
+                    rd: Some(rd),
+                    rs1: Some(rs1),
+                    rs2: None,
+                    imm: Some(imm),
+                };
+                self.add_shape(insn, shape, first, second, counts);
+            },
+            (None, Some(rs1), Some(rs2), Some(imm)) => {
+                let shape = Insn {
+                    op: insn.op,
+                    rd: None,
+                    rs1: Some(rs1),
+                    rs2: Some(rs2),
+                    imm: Some(imm),
+                };
+                self.add_shape(insn, shape, first, second, counts);
+            },
+            _ => self.add_other(insn, first, second, counts),
+        }
+    }
+
     /// Adds one to the counts of the points that an instruction hits whose registers held these
     /// words before it.
     #[tactic(auto, using(crate::proofs::Sums::none_to_add))]
@@ -196,7 +276,7 @@ impl<'g> Index<'g> {
         if counts.is_empty() {
             return;
         }
-        let facts = take_facts(facts_of(insn, before));
-        self.add_lists(&facts, counts);
+        let facts = facts_of(insn, before);
+        self.add_shaped(insn, facts.first, facts.second, counts);
     }
 }

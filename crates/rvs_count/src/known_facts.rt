@@ -1,5 +1,5 @@
 // The facts of an instruction, each taken once.
-ghost use Rattle.std.specs.Prelude.{◌≡◌, ◌≤◌, ◌^◌, IfSome, option_map, pos, unsigned_abs};
+ghost use Rattle.std.specs.Prelude.{◌≡◌, ◌<◌, ◌≤◌, ◌^◌, IfSome, option_map, pos, unsigned_abs};
 ghost use Rattle.std.proofs.Props.{props};
 ghost use Rattle.rvs_expr_text.specs.declared.lexeme.NumName.TheVariants.{Rs1Val, Rs2Val, ImmVal};
 ghost use Rattle.rvs_expr_text.specs.declared.lexeme.NumName.TheVariants.{EaAlign};
@@ -20,51 +20,68 @@ pub(crate) struct Known<'i> {
     pub insn: &'i Insn,
     pub first: u32,
     pub second: u32,
+    pub rd: Option<u8>,
+    pub rs1: Option<u8>,
+    pub rs2: Option<u8>,
     pub rs1_val: Option<i64>,
     pub rs2_val: Option<i64>,
     pub imm_val: Option<i64>,
-    pub ea_align: Option<i64>,
     /// Its signs, as the bits of a word.
     pub signs: u32,
     ghost signs_known: { signs ≡ signs_word (signs_of (facts_of insn.now first second)) } by { Prim.hlevel props },
     ghost rs1_known: { rs1_val ≡ num_of insn.now first second Rs1Val } by { Prim.hlevel props },
     ghost rs2_known: { rs2_val ≡ num_of insn.now first second Rs2Val } by { Prim.hlevel props },
     ghost imm_known: { imm_val ≡ num_of insn.now first second ImmVal } by { Prim.hlevel props },
-    ghost ea_known: { ea_align ≡ num_of insn.now first second EaAlign } by { Prim.hlevel props },
+    ghost rd_known: { rd ≡ insn.now.rd } by { Prim.hlevel props },
+    ghost first_known: { rs1 ≡ insn.now.rs1 } by { Prim.hlevel props },
+    ghost second_known: { rs2 ≡ insn.now.rs2 } by { Prim.hlevel props },
+    ghost rd_small: { IfSome rd (λ n. n < 32) } by { Prim.hlevel props },
+    ghost first_small: { IfSome rs1 (λ n. n < 32) } by { Prim.hlevel props },
+    ghost second_small: { IfSome rs2 (λ n. n < 32) } by { Prim.hlevel props },
     ghost rs1_small: { IfSome rs1_val (λ z. unsigned_abs z ≤ 2 ^ 32) } by { Prim.hlevel props },
     ghost rs2_small: { IfSome rs2_val (λ z. unsigned_abs z ≤ 2 ^ 32) } by { Prim.hlevel props },
     ghost imm_small: { IfSome imm_val (λ z. unsigned_abs z ≤ 2 ^ 32) } by { Prim.hlevel props },
-    ghost ea_small: { IfSome ea_align (λ z. unsigned_abs z ≤ 2 ^ 32) } by { Prim.hlevel props },
 }
 
-/// Takes each fact.
+/// Takes each fact but the alignment, which few points say. The instruction is given twice, so that
+/// a caller can say by value which of its fields are there.
 #[tactic(auto, unfolding(crate::specs::Signs::signs_of))]
 #[inline(always)]
-pub(crate) fn take_facts(facts: InsnFacts<'_>) -> Known<'_>
-    ensures insn { result.insn.now ≡ facts.entry.insn.now }
-    ensures first { result.first ≡ facts.entry.first }
-    ensures second { result.second ≡ facts.entry.second }
+pub(crate) fn take_facts(insn: &Insn, shape: Insn, first: u32, second: u32) -> Known<'_>
+    requires { shape ≡ insn.now }
+    ensures insn { result.insn.now ≡ insn.now }
+    ensures first { result.first ≡ first }
+    ensures second { result.second ≡ second }
 {
-    let insn = facts.insn;
+    let facts = InsnFacts {
+        insn: &shape,
+        first,
+        second,
+    };
+    let rd = facts.reg(RegName::Rd);
+    let rs1 = facts.reg(RegName::Rs1);
+    let rs2 = facts.reg(RegName::Rs2);
     let rs1_val = facts.num(NumName::Rs1Val);
     let rs2_val = facts.num(NumName::Rs2Val);
     let imm_val = facts.num(NumName::ImmVal);
     let signs = take_signs(Operands {
-        rd: insn.rd,
-        rs1: insn.rs1,
-        rs2: insn.rs2,
+        rd,
+        rs1,
+        rs2,
         rs1_val,
         rs2_val,
         imm_val,
     });
     Known {
         insn,
-        first: facts.first,
-        second: facts.second,
+        first,
+        second,
+        rd,
+        rs1,
+        rs2,
         rs1_val,
         rs2_val,
         imm_val,
-        ea_align: facts.num(NumName::EaAlign),
         signs,
     }
 }
@@ -75,11 +92,10 @@ impl Facts for Known<'_> {
     ghost table = { λ k. facts_of k.insn.now k.first k.second };
 
     fn reg(&self, name: RegName) -> Option<u8> {
-        let insn = self.insn;
         match name {
-            RegName::Rd => insn.rd,
-            RegName::Rs1 => insn.rs1,
-            RegName::Rs2 => insn.rs2,
+            RegName::Rd => self.rd,
+            RegName::Rs1 => self.rs1,
+            RegName::Rs2 => self.rs2,
             _ => None,
         }
     }
@@ -89,7 +105,7 @@ impl Facts for Known<'_> {
             NumName::Rs1Val => self.rs1_val,
             NumName::Rs2Val => self.rs2_val,
             NumName::ImmVal => self.imm_val,
-            NumName::EaAlign => self.ea_align,
+            NumName::EaAlign => self.alignment(),
         }
     }
 }
@@ -107,6 +123,20 @@ fn number_of(register: Option<u8>) -> Option<i64>
 }
 
 impl Known<'_> {
+    /// The place of the address within its word, for loads and stores.
+    fn alignment(&self) -> Option<i64>
+        ensures value { result
+            ≡ num_of self.now.insn.now self.now.first self.now.second EaAlign }
+        ensures small { IfSome result (λ z. unsigned_abs z ≤ 2 ^ 32) }
+    {
+        let facts = InsnFacts {
+            insn: self.insn,
+            first: self.first,
+            second: self.second,
+        };
+        facts.num(NumName::EaAlign)
+    }
+
     /// The value of a fact.
     #[inline(always)]
     pub(crate) fn value(&self, asked: Asked) -> Option<i64>

@@ -1,57 +1,62 @@
 // The signs of an instruction.
-ghost use Rattle.std.specs.Prelude.{◌≡◌, ◌<◌, ◌≤◌, ◌+◌, ◌*◌, ◌^◌, if◌then◌else◌};
-ghost use Rattle.rvs_expr.specs.Meaning.{compare, equation};
+ghost use Rattle.std.specs.Prelude.{◌≡◌, ◌≤◌, Some, true};
 ghost use Rattle.rvs_count.specs.Signs as spec;
 
 use crate::signs::Signs;
-use rvs_expr::Comparison;
 
+/// Whether a number that is there is below, equal to and above 0, as three bits.
 #[inline(always)]
-fn compare(op: Comparison, left: i64, right: i64) -> bool
-    ensures { result ≡ compare op left right }
+fn three(value: Option<i64>) -> u32
+    ensures value { result ≡ spec.three_bits value }
+    ensures low { result ≤ 7 }
 {
-    match op {
-        Comparison::Equal => left == right,
-        Comparison::Unequal => left != right,
-        Comparison::AtMost => left <= right,
-        Comparison::AtLeast => left >= right,
-        Comparison::Below => left < right,
-        Comparison::Above => left > right,
-    }
-}
-
-/// Whether two numbers are there and compare so.
-#[inline(always)]
-fn compares(op: Comparison, left: Option<i64>, right: Option<i64>) -> bool
-    ensures { result ≡ spec.compares op left right }
-{
-    match left {
-        None => false,
-        Some(left) => match right {
-            None => false,
-            Some(right) => compare(op, left, right),
+    match value {
+        None => 0,
+        Some(value) => {
+            u32::from(value < 0) + 2 * u32::from(value == 0) + 4 * u32::from(value > 0)
         },
     }
 }
 
+/// Whether two numbers are one, and whether they aren't, as two bits: none where one isn't there.
 #[inline(always)]
-fn relate(equal: bool, left: u8, right: u8) -> bool
-    ensures { result ≡ equation equal left right }
-{
-    if equal { left == right } else { left != right }
-}
-
-/// Whether two registers are there and are one, or aren't.
-#[inline(always)]
-fn relates(equal: bool, left: Option<u8>, right: Option<u8>) -> bool
-    ensures { result ≡ spec.relates equal left right }
+fn order(left: Option<i64>, right: Option<i64>) -> u32
+    ensures value { result ≡ spec.order_bits left right }
+    ensures low { result ≤ 3 }
 {
     match left {
-        None => false,
+        None => 0,
         Some(left) => match right {
-            None => false,
-            Some(right) => relate(equal, left, right),
+            None => 0,
+            Some(right) => 2 - u32::from(left == right),
         },
+    }
+}
+
+/// The same of two registers.
+#[inline(always)]
+fn relation(left: Option<u8>, right: Option<u8>) -> u32
+    ensures value { result ≡ spec.relation_bits left right }
+    ensures low { result ≤ 3 }
+{
+    match left {
+        None => 0,
+        Some(left) => match right {
+            None => 0,
+            Some(right) => 2 - u32::from(left == right),
+        },
+    }
+}
+
+/// Whether a register is there and is x0, as a bit.
+#[inline(always)]
+fn zero(register: Option<u8>) -> u32
+    ensures value { result ≡ spec.bit (spec.relates true register (Some 0)) }
+    ensures low { result ≤ 1 }
+{
+    match register {
+        None => 0,
+        Some(register) => u32::from(register == 0),
     }
 }
 
@@ -66,41 +71,22 @@ pub(crate) struct Operands {
     pub imm_val: Option<i64>,
 }
 
-/// A sign below the signs of a word.
-#[inline(always)]
-fn below(sign: bool, rest: u32) -> u32
-    requires { rest < 2 ^ 31 }
-    ensures value { result ≡ (if sign then 1 else 0) + 2 * rest }
-    ensures low { result ≤ 2 * rest + 1 }
-{
-    u32::from(sign) + 2 * rest
-}
-
 /// The signs of these operands, as the bits of a word.
 #[inline(always)]
 pub(crate) fn take_signs(o: Operands) -> u32
     ensures { result
         ≡ spec.signs_word (spec.signs o.rd o.rs1 o.rs2 o.rs1_val o.rs2_val o.imm_val) }
 {
-    let word = below(relates(true, o.rd, Some(0)), 0);
-    let word = below(relates(false, o.rs1, o.rs2), word);
-    let word = below(relates(true, o.rs1, o.rs2), word);
-    let word = below(relates(false, o.rd, o.rs2), word);
-    let word = below(relates(true, o.rd, o.rs2), word);
-    let word = below(relates(false, o.rd, o.rs1), word);
-    let word = below(relates(true, o.rd, o.rs1), word);
-    let word = below(compares(Comparison::Unequal, o.rs1_val, o.rs2_val), word);
-    let word = below(compares(Comparison::Equal, o.rs1_val, o.rs2_val), word);
-    let word = below(compares(Comparison::Above, o.imm_val, Some(0)), word);
-    let word = below(compares(Comparison::Equal, o.imm_val, Some(0)), word);
-    let word = below(compares(Comparison::Below, o.imm_val, Some(0)), word);
-    let word = below(compares(Comparison::Above, o.rs2_val, Some(0)), word);
-    let word = below(compares(Comparison::Equal, o.rs2_val, Some(0)), word);
-    let word = below(compares(Comparison::Below, o.rs2_val, Some(0)), word);
-    let word = below(compares(Comparison::Above, o.rs1_val, Some(0)), word);
-    let word = below(compares(Comparison::Equal, o.rs1_val, Some(0)), word);
-    let word = below(compares(Comparison::Below, o.rs1_val, Some(0)), word);
-    below(true, word)
+    let first = three(o.rs1_val);
+    let second = three(o.rs2_val);
+    let third = three(o.imm_val);
+    let values = order(o.rs1_val, o.rs2_val);
+    let rd_rs1 = relation(o.rd, o.rs1);
+    let rd_rs2 = relation(o.rd, o.rs2);
+    let rs1_rs2 = relation(o.rs1, o.rs2);
+    let rd_zero = zero(o.rd);
+    let numbers = 1 + 2 * first + 16 * second + 128 * third + 1024 * values;
+    numbers + 4096 * rd_rs1 + 16_384 * rd_rs2 + 65_536 * rs1_rs2 + 262_144 * rd_zero
 }
 
 /// The bits of three signs.

@@ -8,5 +8,6 @@ pub mod Octets
 pub mod Returns
 pub mod RunLogs
 pub mod RunWords
+pub mod Straight
 pub mod Tables
 pub mod Values

@@ -4,6 +4,7 @@
 mod follow;
 mod laws;
 mod places;
+mod plain;
 mod reading;
 mod registers;
 mod view;

@@ -11,6 +11,7 @@ ghost use Rattle.rvs_log.specs.Grammar.{register_at, sail_log, Says, spaced, wri
 ghost use Rattle.rvs_log.specs.Grammar.{write_line};
 ghost use Rattle.rvs_log.specs.Read.{said, IsDecoded, IsOf};
 
+use crate::plain::{plain_core, plain_words, plain_write};
 use crate::words::word_at;
 use rvs_insn::{Insn, decode};
 use rvs_machine::Commit;
@@ -42,7 +43,7 @@ pub enum Line<'l> {
 
 /// What follows a byte at the front.
 #[inline(always)]
-fn byte_at(text: &[u8], byte: u8) -> Option<&[u8]>
+pub(crate) fn byte_at(text: &[u8], byte: u8) -> Option<&[u8]>
     ensures { option_copied result ≡ after_byte byte text.now }
 {
     match text {
@@ -123,7 +124,7 @@ fn without_capitals(text: &[u8]) -> &[u8]
 
 /// The text, where it is empty or begins with a space.
 #[inline(always)]
-fn token_end(text: &[u8]) -> Option<&[u8]>
+pub(crate) fn token_end(text: &[u8]) -> Option<&[u8]>
     ensures { option_copied result ≡ at_end text.now }
 {
     match text {
@@ -134,9 +135,20 @@ fn token_end(text: &[u8]) -> Option<&[u8]>
 }
 
 /// An instruction's address and word, and what follows.
-#[tactic(auto, unfolding(crate::specs::Grammar::pc_and_word))]
 #[inline(always)]
 fn address_and_word(text: &[u8]) -> Option<(u32, u32, &[u8])>
+    ensures { option_map (λ found. (found.0, found.1, found.2.now)) result ≡ pc_and_word text.now }
+{
+    match plain_words(text) {
+        Some(found) => Some(found),
+        None => any_address_and_word(text),
+    }
+}
+
+/// The same with any spaces and digits.
+#[tactic(auto, unfolding(crate::specs::Grammar::pc_and_word))]
+#[inline(never)]
+fn any_address_and_word(text: &[u8]) -> Option<(u32, u32, &[u8])>
     ensures { option_map (λ found. (found.0, found.1, found.2.now)) result ≡ pc_and_word text.now }
 {
     let (pc, rest) = word_at(text)?;
@@ -150,7 +162,7 @@ fn address_and_word(text: &[u8]) -> Option<(u32, u32, &[u8])>
 
 /// A register's number, and what follows.
 #[inline(always)]
-fn register(text: &[u8]) -> Option<(u8, &[u8])>
+pub(crate) fn register(text: &[u8]) -> Option<(u8, &[u8])>
     ensures value { option_map (λ found. (found.0, found.1.now)) result ≡ register_at text.now }
     ensures low { IfSome result (λ found. found.0 < 32) }
 {
@@ -170,7 +182,6 @@ fn register(text: &[u8]) -> Option<(u8, &[u8])>
 
 /// A register and the word written to it, at the front.
 #[tactic(auto, unfolding(crate::specs::Grammar::write_at))]
-#[inline(always)]
 fn write(text: &[u8]) -> Option<Commit>
     ensures { result ≡ write_at text.now }
 {
@@ -189,15 +200,14 @@ fn write_if_fresh(fresh: bool, text: &[u8]) -> Option<Commit>
     if fresh { write(text) } else { None }
 }
 
-/// The first write among the tokens of a text. It mostly stands behind one space.
-#[tactic(auto, using(crate::proofs::Fronts::after_space))]
+/// The first write among the tokens of a text. It is mostly all that the text says.
 #[inline(always)]
 fn written(text: &[u8]) -> Option<Commit>
     ensures { result ≡ first_write true text.now }
 {
-    match byte_at(text, b' ') {
-        None => any_written(text),
-        Some(after) => match write(after) {
+    match text {
+        [] => None,
+        _ => match plain_write(text) {
             Some(commit) => Some(commit),
             None => any_written(text),
         },
@@ -224,28 +234,14 @@ fn any_written(text: &[u8]) -> Option<Commit>
 }
 
 /// What follows the privilege of a commit log's line.
-#[tactic(auto, unfolding(crate::specs::Grammar::after_core))]
+#[tactic(auto, using(crate::proofs::Straight::core_is))]
 #[inline(always)]
 fn core_front(line: &[u8]) -> Option<&[u8]>
     ensures { option_copied result ≡ after_core line.now }
 {
-    match line {
-        [
-            b'c',
-            b'o',
-            b'r',
-            b'e',
-            b' ',
-            b' ',
-            b' ',
-            b'0',
-            b':',
-            b' ',
-            b'3',
-            b' ',
-            rest @ ..,
-        ] => { Some(without_spaces(rest)) },
-        _ => any_core_front(line),
+    match plain_core(line) {
+        Some(rest) => Some(without_spaces(rest)),
+        None => any_core_front(line),
     }
 }
 

@@ -1,5 +1,5 @@
 // Words in hexadecimal digits.
-ghost use Rattle.std.specs.Prelude.{◌≡◌, ◌<◌, ◌≤◌, ◌==◌, ◌+◌, ◌*◌, ◌∷◌, ℕ, List, IfSome, Some};
+ghost use Rattle.std.specs.Prelude.{◌≡◌, ◌<◌, ◌≤◌, ◌==◌, ◌+◌, ◌*◌, ◌^◌, ◌∷◌, ℕ, List, IfSome, Some};
 ghost use Rattle.std.specs.Prelude.{None, if◌then◌else◌, length};
 ghost use Rattle.std.specs.Option.{option_map};
 ghost use Rattle.rvs_log.specs.Grammar.{hex_at, hex_digits, hex_run, hex_value};
@@ -71,9 +71,10 @@ fn four_digits(a: u8, b: u8, c: u8, d: u8) -> Option<u32>
 /// The number that the first eight bytes spell, where they are hexadecimal digits, and what follows
 /// them. Most words of a log have as many.
 #[inline(always)]
-fn eight_digits(text: &[u8]) -> Option<(u32, &[u8])>
+pub(crate) fn eight_digits(text: &[u8]) -> Option<(u32, &[u8])>
     ensures run { IfSome result (λ found. hex_run 0 text.now ≡ hex_run found.0 found.1.now) }
     ensures count { IfSome result (λ found. 8 + length found.1.now ≡ length text.now) }
+    ensures low { IfSome result (λ found. found.0 < 2 ^ 32) }
 {
     match text {
         [a, b, c, d, e, f, g, h, rest @ ..] => {

@@ -1,5 +1,4 @@
 use Rattle.std.proofs.Common.{Some, ◌∙◌, ap}
-use Rattle.rvs_insn.specs.Fields.{Fields}
 use Rattle.rvs_machine.specs.Traces.{word_of}
 use Rattle.rvs_count.specs.Counting.{aims_in, hits_insn}
 use Rattle.rvs_count.specs.State.{added}
@@ -9,13 +8,10 @@ pub returns : goal.returns
 returns c =
     let cs = c.args.counts.now.items in
     let aims = aims_in c.args.self.now in
-    let r = c.take_facts-facts.result in
     let words = c.args.before.now in
-    c.add_lists.ensures
-    ∙ ap (λ (i : Fields). added (λ a. hits_insn a (Some i) r.first r.second) aims cs)
-    (c.take_facts-facts.ensures.insn ∙ c.facts_of.ensures.insn)
-    ∙ ap (λ v. added (λ a. hits_insn a (Some c.args.insn.now) v r.second) aims cs)
-    (c.take_facts-facts.ensures.first ∙ c.facts_of.ensures.first)
+    c.add_shaped.ensures
+    ∙ ap (λ v. added (λ a. hits_insn a (Some c.args.insn.now) v c.facts_of-facts.result.second)
+    aims cs) c.facts_of-facts.ensures.first
     ∙ ap (λ v. added
     (λ a. hits_insn a (Some c.args.insn.now) (word_of words c.args.insn.now.rs1) v) aims cs)
-    (c.take_facts-facts.ensures.second ∙ c.facts_of.ensures.second)
+    c.facts_of-facts.ensures.second
