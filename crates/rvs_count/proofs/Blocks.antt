@@ -1,9 +1,9 @@
 -- Mnemonics whose cells are alike.
-use Rattle.std.proofs.Common.{◌≡◌, ℕ, ℤ, ◌+◌, ◌*◌, ◌<◌, Bool, true, false, cond, ◌&&◌, not, List, []}
+use Rattle.std.proofs.Common.{◌≡◌, ℕ, ℤ, ◌+◌, ◌*◌, ◌<◌, Bool, true, false, ◌&&◌, List, []}
 use Rattle.std.proofs.Common.{◌∷◌, ◌++◌, refl, sym, ap, subst, ◌∙◌, arith, length, get_or}
 use Rattle.std.proofs.lemmas.Bool.Decides.{nat_tests, Decides-int_eq}
 use Rattle.std.specs.Ordering.{int_eq}
-use Rattle.std.specs.Prelude.{◌==◌, nat_lt}
+use Rattle.std.specs.Prelude.{◌==◌}
 use Rattle.rvs_count.specs.Cells.{asked_bucket, HasCells, IsCell}
 use Rattle.rvs_count.specs.Shared.{agree, is_same, AreAlike, HasBlocks}
 use Rattle.rvs_count.specs.declared.asked.Asked.{Asked}

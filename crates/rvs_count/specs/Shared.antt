@@ -1,6 +1,6 @@
 -- Mnemonics whose cells are alike.
-use Rattle.std.specs.Prelude.{◌≡◌, ℕ, ◌+◌, ◌*◌, ◌<◌, ◌==◌, ◌&&◌, not, Bool, if◌then◌else◌, List, length}
-use Rattle.std.specs.Prelude.{slice_index_or}
+use Rattle.std.specs.Prelude.{◌≡◌, ℕ, ◌+◌, ◌*◌, ◌<◌, ◌==◌, ◌&&◌, not, Bool, if◌then◌else◌}
+use Rattle.std.specs.Prelude.{List, length, slice_index_or}
 use Rattle.std.specs.Ordering.{int_eq}
 use Rattle.rvs_count.specs.declared.cell.Cell.{Cell}
 

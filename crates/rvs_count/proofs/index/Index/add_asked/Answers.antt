@@ -8,7 +8,7 @@ use Rattle.rvs_count.specs.Buckets.{is_seen}
 use Rattle.rvs_count.specs.Cells.{sight}
 use Rattle.rvs_count.specs.Counting.{aims_in, hits_insn}
 use Rattle.rvs_count.specs.State.{added}
-use Rattle.rvs_count.specs.Wanted.{wants, IsWanted}
+use Rattle.rvs_count.specs.Wanted.{IsWanted}
 use Rattle.rvs_count.specs.declared.wanted.Wanted.{Wanted}
 use Rattle.rvs_count.proofs.Wants.{unwanted}
 use Rattle.rvs_count.proofs.index.Index.add_asked.Goals as goal
