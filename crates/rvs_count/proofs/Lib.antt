@@ -1,3 +1,4 @@
+pub mod Blocks
 pub mod Built
 pub mod Cells
 pub mod Counts
@@ -17,3 +18,4 @@ pub mod Sorting
 pub mod Streams
 pub mod Sums
 pub mod Turned
+pub mod Wants

@@ -7,7 +7,9 @@ pub mod Index
 pub mod Marks
 pub mod Report
 pub mod Runs
+pub mod Shared
 pub mod Shortcuts
 pub mod Signs
 pub mod Sound
 pub mod State
+pub mod Wanted

@@ -10,6 +10,7 @@ ghost use Rattle.rvs_count.specs.Counting.{aims_in, hits_insn};
 ghost use Rattle.rvs_count.specs.Index.{IsIndex, insns_key};
 ghost use Rattle.rvs_count.specs.State.{added};
 
+use crate::alike::blocks;
 use crate::asked::{Asked, asked_bucket};
 use crate::buckets::BUCKETS;
 use crate::cell::{Cell, add_cell, cells};
@@ -19,6 +20,7 @@ use crate::known_facts::{Known, take_facts};
 use crate::mark::{Head, add_marks, heads};
 use crate::slot::Slot;
 use crate::sorted::add_lists;
+use crate::wanted::{Wanted, all_wanted};
 use rvs_base::{Items, NoMemory};
 use rvs_cgf::Label;
 use rvs_facts::number;
@@ -37,6 +39,10 @@ pub(crate) struct Index<'g> {
     cells: Items<Cell>,
     /// The first lists once more, as far as their points say signs.
     heads: Items<Head>,
+    /// For each mnemonic, one whose cells are its own.
+    blocks: Items<usize>,
+    /// For each mnemonic, which facts its points say values of.
+    wanted: Items<Wanted>,
 }
 
 impl<'g> Model for Index<'g> {
@@ -47,6 +53,8 @@ impl<'g> Model for Index<'g> {
     ghost use Rattle.rvs_count.specs.Index.{IsIndex, insns_key};
     ghost use Rattle.rvs_count.specs.Cells.{HasCells};
     ghost use Rattle.rvs_count.specs.Marks.{HasHeads};
+    ghost use Rattle.rvs_count.specs.Shared.{HasBlocks};
+    ghost use Rattle.rvs_count.specs.Wanted.{HasWanted};
 
     ghost Value = { List group.Label };
 
@@ -56,7 +64,9 @@ impl<'g> Model for Index<'g> {
 
     ghost invariant = { λ i. IsIndex insns_key i.labels.now i.lists × (length i.lists ≡ 17520)
         × HasCells i.lists i.cells × (length i.cells ≡ 17520)
-        × HasHeads i.lists i.heads × (length i.heads ≡ 48) };
+        × HasHeads i.lists i.heads × (length i.heads ≡ 48)
+        × HasBlocks i.cells i.blocks × (length i.blocks ≡ 48)
+        × HasWanted i.lists i.wanted × (length i.wanted ≡ 48) };
 }
 
 /// The lists of all mnemonics and buckets.
@@ -81,11 +91,15 @@ impl<'g> Index<'g> {
         let lists = lists(alloc, labels)?;
         let cells = cells(alloc, lists.as_slice())?;
         let heads = heads(alloc, lists.as_slice())?;
+        let blocks = blocks(alloc, cells.as_slice())?;
+        let wanted = all_wanted(alloc, lists.as_slice())?;
         Ok(Index {
             labels,
             lists,
             cells,
             heads,
+            blocks,
+            wanted,
         })
     }
 
@@ -155,7 +169,8 @@ impl<'g> Index<'g> {
     {
         let bucket = asked_bucket(asked, value);
         let insn = facts.insn;
-        let cell = &self.cells.as_slice()[number(insn.op) * BUCKETS + bucket];
+        let block = self.blocks.as_slice()[number(insn.op)];
+        let cell = &self.cells.as_slice()[block * BUCKETS + bucket];
         if cell.more {
             self.add_list(bucket, facts.insn, facts.first, facts.second, counts);
         } else {
@@ -165,7 +180,7 @@ impl<'g> Index<'g> {
 
     /// The same of a fact, where it is there.
     #[inline(always)]
-    fn add_asked(&self, asked: Asked, facts: &Known<'_>, counts: &mut Vec<u64>)
+    fn add_fact(&self, asked: Asked, facts: &Known<'_>, counts: &mut Vec<u64>)
         requires fits { Fits (aims_in self.now) (2 ^ 41) counts.old.items }
         ensures { counts.new.items ≡ added (λ a. is_seen (cell.sight asked
             (table_of facts.now.insn.now facts.now.first facts.now.second)) a.point
@@ -175,6 +190,22 @@ impl<'g> Index<'g> {
         match facts.value(asked) {
             None => {},
             Some(value) => self.add_value(asked, value, facts, counts),
+        }
+    }
+
+    /// The same of a fact, where points say its values.
+    #[inline(always)]
+    fn add_asked(&self, asked: Asked, facts: &Known<'_>, counts: &mut Vec<u64>)
+        requires fits { Fits (aims_in self.now) (2 ^ 41) counts.old.items }
+        ensures { counts.new.items ≡ added (λ a. is_seen (cell.sight asked
+            (table_of facts.now.insn.now facts.now.first facts.now.second)) a.point
+            && hits_insn a (Some facts.now.insn.now) facts.now.first facts.now.second)
+            (aims_in self.now) counts.old.items }
+    {
+        let insn = facts.insn;
+        let wanted = &self.wanted.as_slice()[number(insn.op)];
+        if wanted.has(asked) {
+            self.add_fact(asked, facts, counts);
         }
     }
 

@@ -1,6 +1,7 @@
 //! Counting how often coverage points are hit by the instructions of a log.
 #![tactic(auto)]
 
+mod alike;
 mod asked;
 mod buckets;
 mod cell;
@@ -23,6 +24,7 @@ mod slots;
 mod sorted;
 mod taken;
 mod tally;
+mod wanted;
 mod whole;
 mod window;
 mod windows;

@@ -1,20 +1,45 @@
-use Rattle.std.proofs.Common.{ℕ, Option, Some, ap, sym, ◌∙◌, ◌&&◌}
+use Rattle.std.proofs.Common.{◌≡◌, ◌&&◌, false, Some, List, sym, ap, subst, ◌∙◌, arith, length}
+use Rattle.std.proofs.Common.{get_or}
+use Rattle.rvs_cgf.specs.declared.group.Label.{Label}
 use Rattle.rvs_facts.specs.Facts.{facts_of}
+use Rattle.rvs_facts.specs.Mnemonics.{number}
+use Rattle.rvs_insn.specs.Fields.{Fields}
 use Rattle.rvs_count.specs.Buckets.{is_seen}
-use Rattle.rvs_count.specs.Counting.{Aim, aims_in, hits_insn}
+use Rattle.rvs_count.specs.Cells.{sight}
+use Rattle.rvs_count.specs.Counting.{aims_in, hits_insn}
 use Rattle.rvs_count.specs.State.{added}
-use Rattle.rvs_count.proofs.Cells.{sight_none}
-use Rattle.rvs_count.proofs.Places.{none_added}
+use Rattle.rvs_count.specs.Wanted.{IsWanted}
+use Rattle.rvs_count.specs.declared.wanted.Wanted.{Wanted}
+use Rattle.rvs_count.proofs.Wants.{unwanted}
 use Rattle.rvs_count.proofs.index.Index.add_asked.Goals as goal
 
-pub returns-in-None : goal.returns-in-None
-returns-in-None c =
-    let t = facts_of c.args.facts.now.insn.now c.args.facts.now.first c.args.facts.now.second in
-    let hit : Aim
-    → _ =
-    λ a. hits_insn a (Some c.args.facts.now.insn.now) c.args.facts.now.first
-    c.args.facts.now.second in
-    none_added (aims_in c.args.self.now) hit c.args.counts.now.items c.requires.fits.count
-    ∙ ap (λ (o : Option ℕ). added (λ a. is_seen o a.point && hit a) (aims_in c.args.self.now)
-    c.args.counts.now.items)
-    (sym (sight_none c.args.asked t (sym c.value.ensures.value ∙ c.in-None.is)))
+pub returns-else-has : goal.returns-else-has
+returns-else-has c =
+    let n = c.number.result in
+    let i = c.args.facts.now.insn.now in
+    let v1 = c.args.facts.now.first in
+    let v2 = c.args.facts.now.second in
+    let cs = c.args.counts.now.items in
+    let lists = c.self.inside.lists in
+    let blank : Wanted =
+    record {
+      rd = false;
+      rs1 = false;
+      rs2 = false;
+      rs1_val = false;
+      rs2_val = false;
+      imm_val = false;
+      ea_align = false;
+    } in
+    let w : Wanted = get_or c.as_slice.result.now n blank in
+    let is : IsWanted lists n w =
+    subst (λ (ws : List Wanted). IsWanted lists n (get_or ws n blank)) (sym c.as_slice.ensures)
+    (c.self.invariant.8.each n blank (omega (arith, c.number.ensures.low, c.self.invariant.9))) in
+    let labels : c.self.inside.labels.now ≡ c.args.self.now = c.self.view_is in
+    unwanted c.self.inside.labels.now lists i v1 v2 n c.args.asked w cs c.self.invariant.0
+    (omega (arith, c.number.ensures.low, c.self.invariant.1))
+    (c.number.ensures.place ∙ ap (λ (i : Fields). number i.op) c.insn.view_is)
+    (c.requires.fits.count ∙ sym (ap (λ (ls : List Label). length (aims_in ls)) labels)) is
+    (sym c.has.ensures ∙ c.if-has.false)
+    ∙ ap (λ (ls : List Label). added (λ a. is_seen (sight c.args.asked (facts_of i v1 v2)) a.point
+    && hits_insn a (Some i) v1 v2) (aims_in ls) cs) labels

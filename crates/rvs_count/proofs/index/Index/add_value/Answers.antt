@@ -10,7 +10,8 @@ use Rattle.rvs_count.specs.Buckets.{is_seen}
 use Rattle.rvs_count.specs.Counting.{aims_in, hits_insn}
 use Rattle.rvs_count.specs.State.{added}
 use Rattle.rvs_count.specs.declared.cell.Cell.{Cell}
-use Rattle.rvs_count.proofs.Cells.{added_cell, cell_in, low_cell}
+use Rattle.rvs_count.proofs.Blocks.{cell_in_block}
+use Rattle.rvs_count.proofs.Cells.{added_cell, low_cell}
 use Rattle.rvs_count.proofs.index.Index.add_value.Goals as goal
 
 pub add_cell-requires-clause-first : goal.add_cell-requires-clause-first
@@ -19,14 +20,17 @@ add_cell-requires-clause-first c =
     let key = c.number.result * 365 + b in
     let blank : Cell =
     record { first = pos 0; first_at = 0; second = pos 0; second_at = 0; more = false } in
-    let cell : Cell = get_or c.as_slice.result.now key blank in
+    let n = c.number.result in
+    let cell : Cell =
+    get_or c.as_slice-2.result.now (get_or c.as_slice.result.now n 0 * 365 + b) blank in
     let same : to_z w64 (of_z w64 c.args.value) ≡ c.args.value = to_z-of_z _ _ c.ranges.value in
     let at : b ≡ asked_bucket c.args.asked c.args.value =
     rw same at c.asked_bucket-bucket.ensures.value in
     let is : IsCell c.args.asked (get_or c.self.inside.lists key []) cell =
-    cell_in c.self.inside.lists c.self.inside.cells c.as_slice.result.now key b c.args.asked
-    c.args.value blank c.self.invariant.2 c.as_slice.ensures
-    (omega (arith, c.asked_bucket-bucket.ensures.low)) at
+    cell_in_block c.self.inside.lists c.self.inside.cells c.as_slice-2.result.now
+    c.self.inside.blocks c.as_slice.result.now n b c.args.asked c.args.value blank
+    c.self.invariant.2 c.self.invariant.6 c.as_slice-2.ensures c.as_slice.ensures
+    (omega (arith, c.number.ensures.low, c.self.invariant.7)) c.asked_bucket-bucket.ensures.low at
     (omega (arith, c.asked_bucket-bucket.ensures.low, c.number.ensures.low, c.self.invariant.3)) in
     (low_cell c.self.inside.labels.now c.self.inside.lists key c.args.asked cell
     (vec_len c.args.counts.now) c.self.invariant.0
@@ -41,14 +45,17 @@ add_cell-requires-clause-second c =
     let key = c.number.result * 365 + b in
     let blank : Cell =
     record { first = pos 0; first_at = 0; second = pos 0; second_at = 0; more = false } in
-    let cell : Cell = get_or c.as_slice.result.now key blank in
+    let n = c.number.result in
+    let cell : Cell =
+    get_or c.as_slice-2.result.now (get_or c.as_slice.result.now n 0 * 365 + b) blank in
     let same : to_z w64 (of_z w64 c.args.value) ≡ c.args.value = to_z-of_z _ _ c.ranges.value in
     let at : b ≡ asked_bucket c.args.asked c.args.value =
     rw same at c.asked_bucket-bucket.ensures.value in
     let is : IsCell c.args.asked (get_or c.self.inside.lists key []) cell =
-    cell_in c.self.inside.lists c.self.inside.cells c.as_slice.result.now key b c.args.asked
-    c.args.value blank c.self.invariant.2 c.as_slice.ensures
-    (omega (arith, c.asked_bucket-bucket.ensures.low)) at
+    cell_in_block c.self.inside.lists c.self.inside.cells c.as_slice-2.result.now
+    c.self.inside.blocks c.as_slice.result.now n b c.args.asked c.args.value blank
+    c.self.invariant.2 c.self.invariant.6 c.as_slice-2.ensures c.as_slice.ensures
+    (omega (arith, c.number.ensures.low, c.self.invariant.7)) c.asked_bucket-bucket.ensures.low at
     (omega (arith, c.asked_bucket-bucket.ensures.low, c.number.ensures.low, c.self.invariant.3)) in
     (low_cell c.self.inside.labels.now c.self.inside.lists key c.args.asked cell
     (vec_len c.args.counts.now) c.self.invariant.0
@@ -63,14 +70,17 @@ returns-else-cell c =
     let key = c.number.result * 365 + b in
     let blank : Cell =
     record { first = pos 0; first_at = 0; second = pos 0; second_at = 0; more = false } in
-    let cell : Cell = get_or c.as_slice.result.now key blank in
+    let n = c.number.result in
+    let cell : Cell =
+    get_or c.as_slice-2.result.now (get_or c.as_slice.result.now n 0 * 365 + b) blank in
     let same : to_z w64 (of_z w64 c.args.value) ≡ c.args.value = to_z-of_z _ _ c.ranges.value in
     let at : b ≡ asked_bucket c.args.asked c.args.value =
     rw same at c.asked_bucket-bucket.ensures.value in
     let is : IsCell c.args.asked (get_or c.self.inside.lists key []) cell =
-    cell_in c.self.inside.lists c.self.inside.cells c.as_slice.result.now key b c.args.asked
-    c.args.value blank c.self.invariant.2 c.as_slice.ensures
-    (omega (arith, c.asked_bucket-bucket.ensures.low)) at
+    cell_in_block c.self.inside.lists c.self.inside.cells c.as_slice-2.result.now
+    c.self.inside.blocks c.as_slice.result.now n b c.args.asked c.args.value blank
+    c.self.invariant.2 c.self.invariant.6 c.as_slice-2.ensures c.as_slice.ensures
+    (omega (arith, c.number.ensures.low, c.self.invariant.7)) c.asked_bucket-bucket.ensures.low at
     (omega (arith, c.asked_bucket-bucket.ensures.low, c.number.ensures.low, c.self.invariant.3)) in
     let labels : c.self.inside.labels.now ≡ c.args.self.now = c.self.view_is in
     let length_is = c.requires.fits.count

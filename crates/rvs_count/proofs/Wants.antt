@@ -1,0 +1,141 @@
+-- Facts that no point of a mnemonic says a value of.
+use Rattle.std.proofs.Common.{◌≡◌, ℕ, ℤ, ◌+◌, ◌*◌, ◌<◌, ◌≤◌, Bool, true, false, ◌&&◌, List, [], ◌∷◌}
+use Rattle.std.proofs.Common.{◌++◌, Option, Some, None, refl, sym, ap, subst, ◌∙◌, arith, length}
+use Rattle.std.proofs.Common.{get_or}
+use Rattle.std.proofs.lemmas.Bool.Decides.{nat_tests}
+use Rattle.std.specs.Prelude.{◌==◌, option_map}
+use Rattle.rvs_cgf.specs.declared.group.Label.{Label}
+use Rattle.rvs_facts.specs.Facts.{facts_of}
+use Rattle.rvs_facts.specs.Mnemonics.{number}
+use Rattle.rvs_insn.specs.Fields.{Fields}
+use Rattle.rvs_count.specs.Buckets.{is_seen}
+use Rattle.rvs_count.specs.Cells.{asked_bucket, fact, sight}
+use Rattle.rvs_count.specs.Counting.{Aim, aims_in, hits_insn}
+use Rattle.rvs_count.specs.Index.{insns_key, is_for, places, places_for, IsIndex}
+use Rattle.rvs_count.specs.State.{added}
+use Rattle.rvs_count.specs.Wanted.{from_of, to_of, wants, AreEmpty, HasWanted, IsWanted}
+use Rattle.rvs_count.specs.declared.asked.Asked.{Asked}
+use Rattle.rvs_count.specs.declared.asked.Asked.TheVariants.{Rd, Rs1, Rs2, Rs1Val, Rs2Val, ImmVal}
+use Rattle.rvs_count.specs.declared.asked.Asked.TheVariants.{EaAlign}
+use Rattle.rvs_count.specs.declared.slot.Slot.{Slot}
+use Rattle.rvs_count.specs.declared.wanted.Wanted.{Wanted}
+use Rattle.rvs_count.proofs.Marks.{pushed_each}
+use Rattle.rvs_count.proofs.Cells.{sight_none}
+use Rattle.rvs_count.proofs.Places.{added_bucket, none_added}
+use Rattle.rvs_count.proofs.Seen.{residue_low}
+
+-- lists that are empty, and one more
+pub empty_none : (lists : List (List Slot)) (from to : ℕ) → to ≤ from → AreEmpty lists from to
+empty_none lists from to h = record { each = λ k f t. absurd (omega (arith, h, f, t)) }
+
+pub empty_more : (lists : List (List Slot)) (from n : ℕ) → AreEmpty lists from n
+    → get_or lists n [] ≡ [] → AreEmpty lists from (n + 1)
+empty_more lists from n was e = record { each = λ k f t. turn k f t (k == n) refl }
+  where
+    equal : (a b : ℕ) → (a == b) ≡ true → a ≡ b
+    equal a b h = grind (arith, nat_tests)
+
+    less : (k : ℕ) → k < n + 1 → (k == n) ≡ false → k < n
+    less k h t = grind (arith, nat_tests)
+
+    turn : (k : ℕ) → from ≤ k → k < n + 1 → (b : Bool) → (k == n) ≡ b → get_or lists k [] ≡ []
+    turn k f t true h = subst (λ j. get_or lists j [] ≡ []) (sym (equal k n h)) e
+    turn k f t false h = was.each k f (less k t h)
+
+-- what seven tests say
+pub wanted_is : (lists : List (List Slot)) (m : ℕ) (a b c d e f g : Bool)
+    → (a ≡ false → AreEmpty lists (m * 365 + 1) (m * 365 + 33))
+    → (b ≡ false → AreEmpty lists (m * 365 + 33) (m * 365 + 65))
+    → (c ≡ false → AreEmpty lists (m * 365 + 65) (m * 365 + 97))
+    → (d ≡ false → AreEmpty lists (m * 365 + 97) (m * 365 + 164))
+    → (e ≡ false → AreEmpty lists (m * 365 + 164) (m * 365 + 231))
+    → (f ≡ false → AreEmpty lists (m * 365 + 231) (m * 365 + 298))
+    → (g ≡ false → AreEmpty lists (m * 365 + 298) (m * 365 + 365))
+    → IsWanted lists m (record {
+      rd = a;
+      rs1 = b;
+      rs2 = c;
+      rs1_val = d;
+      rs2_val = e;
+      imm_val = f;
+      ea_align = g;
+    })
+wanted_is lists m a b c d e f g at bt ct dt et ft gt = record { each = each }
+  where
+    w : Wanted
+    w = record { rd = a; rs1 = b; rs2 = c; rs1_val = d; rs2_val = e; imm_val = f; ea_align = g }
+
+    each : (q : Asked) → wants w q ≡ false
+        → AreEmpty lists (m * 365 + from_of q) (m * 365 + to_of q)
+    each Rd h = at h
+    each Rs1 h = bt h
+    each Rs2 h = ct h
+    each Rs1Val h = dt h
+    each Rs2Val h = et h
+    each ImmVal h = ft h
+    each EaAlign h = gt h
+
+-- one more mnemonic
+pub more_wanted : (lists : List (List Slot)) (ws ws' : List Wanted) (n : ℕ) (w : Wanted)
+    → HasWanted lists ws → length ws ≡ n → IsWanted lists n w → ws' ≡ ws ++ w ∷ []
+    → HasWanted lists ws'
+more_wanted lists ws ws' n w has len is e =
+    subst (HasWanted lists) (sym e) (record {
+      each = λ m d h. pushed_each (IsWanted lists) ws w (λ m d h. has.each m d h)
+          (subst (λ m. IsWanted lists m w) (sym len) is) m d h;
+    })
+
+-- a value's list is among those for its fact
+in_range : (q : Asked) (z : ℤ) → (from_of q ≤ asked_bucket q z) × (asked_bucket q z < to_of q)
+in_range Rd z = (omega arith, omega arith)
+in_range Rs1 z = (omega arith, omega arith)
+in_range Rs2 z = (omega arith, omega arith)
+in_range Rs1Val z = (omega arith, omega (arith, residue_low z))
+in_range Rs2Val z = (omega arith, omega (arith, residue_low z))
+in_range ImmVal z = (omega arith, omega (arith, residue_low z))
+in_range EaAlign z = (omega arith, omega (arith, residue_low z))
+
+top : (q : Asked) → to_of q ≤ 365
+top Rd = omega arith
+top Rs1 = omega arith
+top Rs2 = omega arith
+top Rs1Val = omega arith
+top Rs2Val = omega arith
+top ImmVal = omega arith
+top EaAlign = omega arith
+
+-- what isn't wanted adds nothing
+pub unwanted : (labels : List Label) (lists : List (List Slot)) (i : Fields) (v1 v2 n : ℕ)
+    (q : Asked) (w : Wanted) (cs : List ℕ)
+    → IsIndex insns_key labels lists → n * 365 + 365 ≤ length lists → n ≡ number i.op
+    → length cs ≡ length (aims_in labels) → IsWanted lists n w → wants w q ≡ false
+    → cs ≡ added (λ a. is_seen (sight q (facts_of i v1 v2)) a.point && hits_insn a (Some i) v1 v2)
+    (aims_in labels) cs
+unwanted labels lists i v1 v2 n q w cs index all same l is un =
+    turn (fact q (facts_of i v1 v2)) refl
+  where
+    hit : Aim → Bool
+    hit a = hits_insn a (Some i) v1 v2
+
+    seen : Option ℕ → List ℕ
+    seen o = added (λ a. is_seen o a.point && hit a) (aims_in labels) cs
+
+    turn : (o : Option ℤ) → fact q (facts_of i v1 v2) ≡ o
+        → cs ≡ seen (sight q (facts_of i v1 v2))
+    turn None e =
+        none_added (aims_in labels) hit cs l
+        ∙ ap seen (sym (sight_none q (facts_of i v1 v2) e))
+    turn (Some z) e =
+        let b = asked_bucket q z in
+        let range = in_range q z in
+        let low : b < 365 = omega (arith, range, top q) in
+        let empty : get_or lists (n * 365 + b) [] ≡ [] =
+        (is.each q un).each (n * 365 + b) (omega (arith, range)) (omega (arith, range)) in
+        let mine : places [] ≡ places_for (is_for (insns_key (n * 365 + b))) 0 (aims_in labels) =
+        ap places (sym empty) ∙ index.each (n * 365 + b) [] (omega (arith, low, all)) in
+        added_bucket labels i v1 v2 n b [] cs cs same low mine l refl
+        ∙ ap seen (sym (sight_some e))
+      where
+        sight_some : {z : ℤ} → fact q (facts_of i v1 v2) ≡ Some z
+            → sight q (facts_of i v1 v2) ≡ Some (asked_bucket q z)
+        sight_some e = ap (option_map (asked_bucket q)) e
