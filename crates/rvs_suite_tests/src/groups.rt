@@ -1,7 +1,8 @@
 // Group files, as they are printed or refused.
 use crate::stage::{number, plain};
-use rvs_base::{NoMemory, Text};
+use rvs_base::{Items, NoMemory, Text};
 use rvs_cgf::{Groups, normal_text, read_groups, refusal_text};
+use rvs_count::count_log;
 use rvs_insn::IsaSpec;
 use std::alloc::Global;
 use std::test::Fail;
@@ -58,6 +59,29 @@ pub fn tell_counts(alloc: Global, row: &str, report: &mut String) -> Result<(), 
     let text = normal_text(alloc, &groups).map_err(|_| "no memory")?;
     let again = groups_of(alloc, text.as_str())?;
     tell_first(&again, report)
+}
+
+fn tell_hits(alloc: Global, groups: &Groups, log: &[u8], report: &mut String) -> Result<(), Fail> {
+    if log.len() > 1_000_000 {
+        return Err(Fail::new("a long log"));
+    }
+    let counted = count_log(alloc, groups, Items::new(alloc), log).map_err(|_| "no memory")?;
+    write!(report, "{} instructions", counted.instructions)?;
+    for count in counted.counts.as_slice() {
+        write!(report, ", {count}")?;
+    }
+    report.push_str("\n")?;
+    Ok(())
+}
+
+/// Adds how many instructions a log has, and how often it hits each point of a group file. A `|`
+/// stands between the log and the file.
+pub fn tell_log(alloc: Global, row: &str, report: &mut String) -> Result<(), Fail> {
+    let (log, file) = row.split_once('|').ok_or("no log")?;
+    let file = plain(alloc, file)?;
+    let groups = groups_of(alloc, file.as_str())?;
+    let log = plain(alloc, log)?;
+    tell_hits(alloc, &groups, log.as_bytes(), report)
 }
 
 fn many_points(alloc: Global, count: u64) -> Result<String, Fail> {

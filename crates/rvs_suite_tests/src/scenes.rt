@@ -23,6 +23,8 @@
 //     points COUNT                how many points a label has with so many and one, or why its
 //                                 file is refused
 //     labels COUNT                the same of a file with so many labels
+//     hits LOG|TEXT               how many instructions a log has, and how often it hits each
+//                                 point of a group file
 use crate::groups;
 use crate::runs::{NO_FAULTS, fault, faulty, run_on, spell};
 use crate::slow::slow;
@@ -137,6 +139,9 @@ fn look(
     }
     if verb == "count" {
         groups::tell_counts(alloc, row, report)?;
+    }
+    if verb == "hits" {
+        groups::tell_log(alloc, row, report)?;
     }
     if verb == "points" {
         groups::tell_points(alloc, row, report)?;
