@@ -278,11 +278,6 @@ pub then_all : (hit : Aim → Bool) (aims : List Aim) (o : Option ℕ) (os : Lis
     → cs'' ≡ added_all hit (o ∷ os) aims cs
 then_all hit aims o os cs cs' cs'' e rest = rest ∙ ap (λ l. added_all hit os aims l) e
 
--- the sight of a fact that is there, and of one that isn't
-pub sight_some : (q : Asked) (t : Table) (z : ℤ) → fact q t ≡ Some z
-    → sight q t ≡ Some (asked_bucket q z)
-sight_some q t z e = ap (λ o. option_map (asked_bucket q) o) e
-
 pub sight_none : (q : Asked) (t : Table) → fact q t ≡ None → sight q t ≡ None
 sight_none q t e = ap (λ o. option_map (asked_bucket q) o) e
 

@@ -119,10 +119,6 @@ HasFed-front h = record {
       (o.0, inner file (h.bytes ++ o.0) (sym e ∙ h.rest files o.0 told o.1));
 }
 
-pub FeedsFront-none : (name : List ℕ) (old : HostState) (c : CountState) → FeedsFront name old c c
-FeedsFront-none name old c =
-    record { bytes = []; fed = Fed-none c; front = λ files file told e. (file, refl) }
-
 -- one piece too much
 pub HasFed-long : {name buffer : List ℕ} {old now next : HostState} {c c' : CountState} {n : ℕ}
     → HasFed name old now c c' → ReadsOnly now next → Takes buffer now next n

@@ -1,5 +1,5 @@
 -- Marks add what the points of their list add.
-use Rattle.std.proofs.Common.{◌≡◌, ℕ, zero, suc, ◌+◌, ◌*◌, ◌<◌, ◌≤◌, Bool, true, false, ◌&&◌, List}
+use Rattle.std.proofs.Common.{◌≡◌, ℕ, zero, suc, ◌+◌, ◌*◌, ◌<◌, ◌≤◌, true, false, ◌&&◌, List}
 use Rattle.std.proofs.Common.{[]}
 use Rattle.std.proofs.Common.{◌∷◌, ◌++◌, Some, refl, sym, ap, subst, ◌∙◌, All, arith, length, drop}
 use Rattle.std.proofs.Common.{get_or}
@@ -120,13 +120,6 @@ marks_next signs (m ∷ ms) (suc k) d cs h =
     marks_next signs ms k d cs (omega arith)
     ∙ ap (λ n. raised_marks signs (drop n (m ∷ ms))
     (raised (has_all signs (get_or ms k d).mask) (get_or ms k d).at cs)) (sym e)
-
-pub marks_over : (signs : ℕ) (ms : List Mark) (k : ℕ) (cs : List ℕ) → length ms ≤ k
-    → raised_marks signs (drop k ms) cs ≡ cs
-marks_over signs [] zero cs h = refl
-marks_over signs [] (suc k) cs h = refl
-marks_over signs (m ∷ ms) zero cs h = absurd (omega arith)
-marks_over signs (m ∷ ms) (suc k) cs h = marks_over signs ms k cs (omega arith)
 
 -- ---- the marks of a list of the index
 pub added_marks : (labels : List Label) (lists : List (List Slot)) (i : Fields) (v1 v2 n : ℕ)

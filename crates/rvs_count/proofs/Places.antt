@@ -95,15 +95,6 @@ pub slots_at : (key_of : ℕ → ListKey) (labels : List Label) (lists got : Lis
 slots_at key_of labels lists got key d slots index h all s at =
     ap places (s ∙ at ∙ ap (λ ls. get_or ls key d) all) ∙ index.each key d h
 
--- the same of a list that is told for any default
-pub slots_in : (key_of : ℕ → ListKey) (labels : List Label) (lists got : List (List Slot)) (key : ℕ)
-    (slots : List Slot)
-    → IsIndex key_of labels lists → key < length lists → got ≡ lists
-    → ((d : List Slot) → slots ≡ get_or got key d)
-    → places slots ≡ places_for (is_for (key_of key)) 0 (aims_in labels)
-slots_in key_of labels lists got key slots index h all at =
-    ap places (at [] ∙ ap (λ ls. get_or ls key []) all) ∙ index.each key [] h
-
 -- what the points of a bucket add
 fits_hit : (m : Meaning) (k : Kind) (op : Op) (t : Table) → is_meant k m op t ≡ true
     → meaning_fits (number op) m ≡ true

@@ -1,16 +1,11 @@
 -- Lines of points, of entries that aren't counted and of labels, one after another.
-use Rattle.std.proofs.Common.{◌≡◌, ℕ, zero, suc, ◌+◌, ◌<◌, Bool, true, false, cond, List, [], ◌∷◌}
-use Rattle.std.proofs.Common.{◌++◌, length, map, take, drop, get_or, flat_map, refl, sym, ap, ◌∙◌}
-use Rattle.std.proofs.Common.{arith, append_assoc, append-nil, length-append}
-use Rattle.std.proofs.lemmas.List.{length-map}
-use Rattle.rvs_cgf.specs.GroupView.{label_view, point_view, skipped_view}
-use Rattle.rvs_cgf.specs.declared.group.Label.{Label}
+use Rattle.std.proofs.Common.{◌≡◌, ℕ, zero, suc, ◌+◌, ◌<◌, List, [], ◌∷◌}
+use Rattle.std.proofs.Common.{◌++◌, length, map, drop, get_or, flat_map, refl, sym, ap, ◌∙◌}
+use Rattle.std.proofs.Common.{arith, append_assoc, append-nil}
+use Rattle.rvs_cgf.specs.GroupView.{point_view, skipped_view}
 use Rattle.rvs_cgf.specs.declared.group.Point.{Point}
 use Rattle.rvs_cgf.specs.declared.group.Skipped.{Skipped}
-use Rattle.rvs_count.specs.Counting.{aims_in, aims_of_label, aims_of_points}
-use Rattle.rvs_count.specs.Report.{point_line, points_text, skipped_line, label_text, width}
-use Rattle.rvs_count.specs.Report.{labels_text}
-use Rattle.rvs_count.proofs.Built.{aims_more}
+use Rattle.rvs_count.specs.Report.{point_line, points_text, skipped_line}
 
 drop-at : {A : Type 0} (xs : List A) (i : ℕ) (d : A) → i < length xs
     → drop i xs ≡ get_or xs i d ∷ drop (i + 1) xs
@@ -56,41 +51,4 @@ skipped_more text ss i d h =
 pub skipped_all : (text : List ℕ) (ss : List Skipped)
     → text ++ flat_map skipped_line (map skipped_view (drop (length ss) ss)) ≡ text
 skipped_all text ss = ap (λ xs. text ++ flat_map skipped_line (map skipped_view xs)) (drop-all ss)
-    ∙ append-nil text
-
--- a label's counts are as many as its points that count
-width_is : (label : Label) → length (aims_of_label (label_view label)) ≡ width (label_view label)
-width_is label = turn label.selected refl
-  where
-    turn : (b : Bool) → label.selected ≡ b
-        → length (cond b (aims_of_points label.ops (map point_view label.points)) [])
-        ≡ cond b (length (map point_view label.points)) 0
-    turn true e =
-        length-map (map point_view label.points) (λ p. record { ops = label.ops; point = p })
-    turn false e = refl
-
-pub labels_more : (text rest : List ℕ) (ls : List Label) (i : ℕ) (d : Label) → i < length ls
-    → (text
-    ++ label_text (take (width (label_view (get_or ls i d))) rest) (label_view (get_or ls i d)))
-    ++ labels_text (drop (width (label_view (get_or ls i d))) rest)
-    (map label_view (drop (i + 1) ls))
-    ≡ text ++ labels_text rest (map label_view (drop i ls))
-labels_more text rest ls i d h =
-    let l = label_view (get_or ls i d) in
-    append_assoc text (label_text (take (width l) rest) l)
-    (labels_text (drop (width l) rest) (map label_view (drop (i + 1) ls)))
-    ∙ sym (ap (λ xs. text ++ labels_text rest (map label_view xs)) (drop-at ls i d h))
-
-pub widths_more : (ls : List Label) (i : ℕ) (d : Label) → i < length ls
-    → length (aims_in (drop i ls))
-    ≡ width (label_view (get_or ls i d)) + length (aims_in (drop (i + 1) ls))
-widths_more ls i d h =
-    let l = label_view (get_or ls i d) in
-    ap (λ l. length l) (aims_more ls i d h)
-    ∙ length-append (aims_of_label l) (aims_in (drop (i + 1) ls))
-    ∙ ap (λ n. n + length (aims_in (drop (i + 1) ls))) (width_is (get_or ls i d))
-
-pub labels_all : (text rest : List ℕ) (ls : List Label)
-    → text ++ labels_text rest (map label_view (drop (length ls) ls)) ≡ text
-labels_all text rest ls = ap (λ xs. text ++ labels_text rest (map label_view xs)) (drop-all ls)
     ∙ append-nil text

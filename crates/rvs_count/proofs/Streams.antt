@@ -112,17 +112,6 @@ held_more_held t (c ∷ cs) = turn (nat_le (length t) 4096) refl
     turn true h = refl
     turn false h = held_long t (c ∷ cs) h
 
-held_more_none : (c : List ℕ) → held_more None c ≡ None
-held_more_none [] = refl
-held_more_none (x ∷ c) = refl
-
-held_more_twice : (w : Option (List ℕ)) (a c : List ℕ)
-    → held_more (held_more w a) c ≡ held_more w (a ++ c)
-held_more_twice w [] c = refl
-held_more_twice None (x ∷ a) c = held_more_none c
-held_more_twice (Some bytes) (x ∷ a) c = held_more_held (bytes ++ x ∷ a) c
-    ∙ ap held (append_assoc bytes (x ∷ a) c)
-
 held_reads : (t : List ℕ) → held_says (held t) ≡ line_says t
 held_reads t = turn (nat_le (length t) 4096)
   where

@@ -1,13 +1,12 @@
 -- What expressions say by signs.
-use Rattle.std.proofs.Common.{◌≡◌, ℕ, ℤ, Bool, true, false, ◌&&◌, Option, Some, None, option_map}
-use Rattle.std.proofs.Common.{IfSome, refl, sym, ap, ◌∙◌, length, arith}
+use Rattle.std.proofs.Common.{◌≡◌, ℕ, Bool, true, false, ◌&&◌, Option, Some, None, option_map}
+use Rattle.std.proofs.Common.{IfSome, refl, sym, ap, ◌∙◌, arith}
 use Rattle.std.specs.Prelude.{◌==◌, not}
 use Rattle.std.proofs.lemmas.Bool.Decides.{nat_tests}
 use Rattle.rvs_expr_text.specs.declared.lexeme.RegName.{RegName}
-use Rattle.rvs_expr.specs.declared.formula.Comparison.{Comparison}
 use Rattle.rvs_expr.specs.Typed.{Formula, conjunction, registers, Reg, reg_pair, reg_more}
-use Rattle.rvs_expr.specs.Meaning.{Table, both, compare, equation, holds, is_true, reg_value, truth}
-use Rattle.rvs_count.specs.Signs.{compares, relates, sign_at, signs_of}
+use Rattle.rvs_expr.specs.Meaning.{Table, both, equation, holds, is_true, reg_value, truth}
+use Rattle.rvs_count.specs.Signs.{relates, sign_at, signs_of}
 
 same_turned : (x y : ℕ) → (x == y) ≡ (y == x)
 same_turned x y = grind (arith, nat_tests)
@@ -37,13 +36,6 @@ both_true (Some x) (Some y) = refl
 
 pub both_hold : (t : Table) (f g : Formula) → holds t (conjunction f g) ≡ (holds t f && holds t g)
 both_hold t f g = both_true (truth t f) (truth t g)
-
-pub pair_says : (op : Comparison) (a b : Option ℤ)
-    → is_true (option_map (λ (p : Bool × ℤ). p.0) (both (λ x y. (compare op x y, y)) a b))
-    ≡ compares op a b
-pair_says op None b = refl
-pair_says op (Some x) None = refl
-pair_says op (Some x) (Some y) = refl
 
 pub reg_pair_says : (equal : Bool) (a b : Option ℕ)
     → is_true (option_map (λ (p : Bool × ℕ). p.0) (both (λ x y. (equation equal x y, y)) a b))

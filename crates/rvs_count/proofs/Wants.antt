@@ -1,9 +1,8 @@
 -- Facts that no point of a mnemonic says a value of.
-use Rattle.std.proofs.Common.{◌≡◌, ℕ, ℤ, ◌+◌, ◌*◌, ◌<◌, ◌≤◌, Bool, true, false, ◌&&◌, List, [], ◌∷◌}
+use Rattle.std.proofs.Common.{◌≡◌, ℕ, ℤ, ◌+◌, ◌*◌, ◌<◌, ◌≤◌, Bool, false, ◌&&◌, List, [], ◌∷◌}
 use Rattle.std.proofs.Common.{◌++◌, Option, Some, None, refl, sym, ap, subst, ◌∙◌, arith, length}
 use Rattle.std.proofs.Common.{get_or}
-use Rattle.std.proofs.lemmas.Bool.Decides.{nat_tests}
-use Rattle.std.specs.Prelude.{◌==◌, option_map}
+use Rattle.std.specs.Prelude.{option_map}
 use Rattle.rvs_cgf.specs.declared.group.Label.{Label}
 use Rattle.rvs_facts.specs.Facts.{facts_of}
 use Rattle.rvs_facts.specs.Mnemonics.{number}
@@ -23,24 +22,6 @@ use Rattle.rvs_count.proofs.Marks.{pushed_each}
 use Rattle.rvs_count.proofs.Cells.{sight_none}
 use Rattle.rvs_count.proofs.Places.{added_bucket, none_added}
 use Rattle.rvs_count.proofs.Seen.{residue_low}
-
--- lists that are empty, and one more
-pub empty_none : (lists : List (List Slot)) (from to : ℕ) → to ≤ from → AreEmpty lists from to
-empty_none lists from to h = record { each = λ k f t. absurd (omega (arith, h, f, t)) }
-
-pub empty_more : (lists : List (List Slot)) (from n : ℕ) → AreEmpty lists from n
-    → get_or lists n [] ≡ [] → AreEmpty lists from (n + 1)
-empty_more lists from n was e = record { each = λ k f t. turn k f t (k == n) refl }
-  where
-    equal : (a b : ℕ) → (a == b) ≡ true → a ≡ b
-    equal a b h = grind (arith, nat_tests)
-
-    less : (k : ℕ) → k < n + 1 → (k == n) ≡ false → k < n
-    less k h t = grind (arith, nat_tests)
-
-    turn : (k : ℕ) → from ≤ k → k < n + 1 → (b : Bool) → (k == n) ≡ b → get_or lists k [] ≡ []
-    turn k f t true h = subst (λ j. get_or lists j [] ≡ []) (sym (equal k n h)) e
-    turn k f t false h = was.each k f (less k t h)
 
 -- what seven tests say
 pub wanted_is : (lists : List (List Slot)) (m : ℕ) (a b c d e f g : Bool)

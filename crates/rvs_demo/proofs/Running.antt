@@ -99,12 +99,3 @@ Running-stops limit i first now old mid new less r stops fed =
     ∙ ap (λ l. r.done ++ l) (log_stops now.setup left now.state stops) in
     subst (Fed old new) (sym all)
     (Fed-more old mid new r.done (piece_of now.setup now.state) r.fed fed)
-
--- and where it comes to its limit
-pub Running-ends : (limit i : ℕ) (first now : Whole) (old new : CountState) → limit ≤ i
-    → Running limit i first now old new → Fed old new (log_from first.setup limit first.state)
-Running-ends limit i first now old new over r =
-    let e : limit - i ≡ 0 = omega arith in
-    let all : log_from first.setup limit first.state ≡ r.done =
-    r.log ∙ ap (λ n. r.done ++ log_from now.setup n now.state) e ∙ append-nil r.done in
-    subst (Fed old new) (sym all) r.fed

@@ -5,7 +5,7 @@ use Rattle.std.proofs.Common.{take, drop, get_or, arith, append_assoc, append-ni
 use Rattle.std.proofs.Common.{length-drop}
 use Rattle.std.proofs.lemmas.Bool.Decides.{nat_tests}
 use Rattle.std.specs.Prelude.{◌==◌, nat_le}
-use Rattle.rvs_log.specs.Lines.{held, held_more, without_return}
+use Rattle.rvs_log.specs.Lines.{held, held_more}
 use Rattle.rvs_log.specs.Cutting.{held_after, lines_held, lines_after}
 
 -- ---- bytes that wait
@@ -235,22 +235,6 @@ lines_rest w w0 piece used e l none =
     ∙ ap (λ w. lines_after w (drop used piece)) (sym e)
     ∙ ap (λ l. lines_after w l) (sym (append-nil (drop used piece)))
     ∙ lines_feedless w (drop used piece) [] (whole_free (drop used piece) none)
-
--- ---- a line that ends at once
-short : (line : List ℕ) → length line ≤ 4096 → nat_le (length line) 4096 ≡ true
-short line h = grind (arith, nat_tests)
-
-long : (line : List ℕ) → 4096 < length line → nat_le (length line) 4096 ≡ false
-long line h = grind (arith, nat_tests)
-
-pub ends_here : (line : List ℕ) → length line ≤ 4096
-    → lines_held (held_more (Some []) line) ≡ without_return line ∷ []
-ends_here [] h = refl
-ends_here (b ∷ bs) h = ap (λ t. lines_held (cond t (Some (b ∷ bs)) None)) (short (b ∷ bs) h)
-
-pub ends_over : (line : List ℕ) → 4096 < length line → lines_held (held_more (Some []) line) ≡ []
-ends_over [] h = absurd (omega arith)
-ends_over (b ∷ bs) h = ap (λ t. lines_held (cond t (Some (b ∷ bs)) None)) (long (b ∷ bs) h)
 
 -- the same for a rest and a line that were cut by calls
 pub step_at : (w w0 : Option (List ℕ)) (piece rest line : List ℕ) (used end : ℕ)

@@ -50,10 +50,6 @@ merged-owned (scalar t l) h = tt
 merged-owned (sequence is l) h = pairs-in-owned is h
 merged-owned (mapping es l) h = from-entries es h.1
 
--- ---- keys that differ
-key-has : List ℕ → Pairs → Bool
-key-has k ps = has_key k (keys_of ps)
-
 -- none of these keys is among the pairs
 abbrev pub NoneIn : List (List ℕ) → Pairs → Type 0
 NoneIn [] ps = Unit {0}
@@ -68,10 +64,6 @@ has-pushed : (k : List ℕ) (ps : Pairs) (p : List ℕ × Data) → has_key k (k
 has-pushed k ps p h e = ap (has_key k) (keys-append ps (p ∷ []))
     ∙ list_any-append (λ l. bytes_eq l k) (keys_of ps) (p.0 ∷ [])
     ∙ or-last (has_key k (keys_of ps)) (bytes_eq p.0 k) h e
-
-same-has : (k : List ℕ) (ps : Pairs) → list_any (λ f. bytes_eq f.0 k) ps ≡ has_key k (keys_of ps)
-same-has k [] = refl
-same-has k (p ∷ ps) = ap (λ b. bytes_eq p.0 k || b) (same-has k ps)
 
 any-pushed : (k : List ℕ) (ps : Pairs) (p : List ℕ × Data)
     → list_any (λ f. bytes_eq f.0 k) ps ≡ false → bytes_eq p.0 k ≡ false

@@ -1,10 +1,9 @@
 -- The words of printed groups are those of parts in parts.
 use Rattle.std.proofs.Common.{◌≡◌, ℕ, suc, Bool, true, false, List, [], ◌∷◌, ◌++◌, refl, sym, ap}
 use Rattle.std.proofs.Common.{◌∙◌, append_assoc, append-nil, Option, Some, None}
-use Rattle.std.specs.Prelude.{◌||◌, not, if◌then◌else◌, map, filter, codes}
+use Rattle.std.specs.Prelude.{if◌then◌else◌, map, filter, codes}
 use Rattle.rvs_yaml_text.specs.Word.{Word}
-use Rattle.rvs_yaml_text.specs.Scalar.{is_blank}
-use Rattle.rvs_yaml_text.specs.Text.{words_of, line_words}
+use Rattle.rvs_yaml_text.specs.Text.{line_words}
 use Rattle.rvs_cgf.specs.Groups.{Point, Skipped, Label, same_kind}
 use Rattle.rvs_cgf.specs.declared.group.Kind.{Kind}
 use Rattle.rvs_cgf.specs.declared.group.Kind.TheVariants.{Mnemonic, Rs1, Rs2, Rd, OpComb, ValComb}
@@ -13,7 +12,7 @@ use Rattle.rvs_cgf.specs.Print.{kind_name, goes_on}
 use Rattle.rvs_cgf.specs.Spelled.{Block, joined, blocks, selected}
 use Rattle.rvs_normal.proofs.Lines.{inked-utf8}
 use Rattle.rvs_normal.proofs.Rows.{Row, label_row, node_row, point_row, note_row, inner_note_row}
-use Rattle.rvs_normal.proofs.Rows.{row_text, IsRow, row_words, line-words}
+use Rattle.rvs_normal.proofs.Rows.{IsRow, row_words}
 use Rattle.rvs_normal.proofs.Columns.{Col, words, Part, opener, parts_cols, point_col, points_cols}
 use Rattle.rvs_normal.proofs.Printed.{head_rows, points_rows, skipped_row, label_rows, rows}
 
@@ -27,15 +26,6 @@ rows_words n (r ∷ rs) = row_words n r ++ rows_words (suc n) rs
 
 pub no-words : (n : ℕ) (started : Bool) → line_words n started [] ≡ []
 no-words n started = rw (inked-utf8 [] refl, line_words) refl
-
-pub words-of-rows : (n : ℕ) (started : Bool) (rs : List Row) → AreRows rs
-    → words_of n started (map row_text rs ++ ([] ∷ [])) ≡ rows_words n rs
-words-of-rows n started [] good = ap (λ ws. ws ++ []) (no-words n started)
-words-of-rows n started (r ∷ rs) good =
-    ap (λ ws. ws ++ words_of (suc n) (started || not (is_blank true (row_text r)))
-    (map row_text rs ++ ([] ∷ []))) (line-words n started r good.0)
-    ∙ ap (λ ws. row_words n r ++ ws)
-    (words-of-rows (suc n) (started || not (is_blank true (row_text r))) rs good.1)
 
 -- ---- columns
 abbrev pub row_cols : Row → List Col

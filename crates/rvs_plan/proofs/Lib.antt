@@ -5,5 +5,4 @@ pub mod Listing
 pub mod Putting
 pub mod Stepping
 pub mod Answering
-pub mod Progress
 pub mod FoundInputs

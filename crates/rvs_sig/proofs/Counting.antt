@@ -29,14 +29,6 @@ pub record HasWords (bytes left : List ℕ) (line : ℕ) (words : List ℕ) : Ty
   pub spelt : filter_map word_of_line lines ≡ words
   pub few : line ≤ 262144
 
-pub HasWords-none : (bytes : List ℕ) → HasWords bytes bytes 0 []
-HasWords-none bytes = record {
-  lines = [];
-  split = refl;
-  count = refl;
-  good = record { each = λ k below. absurd (omega (arith, below)) };
-  spelt = refl;
-  few = omega arith;
 }
 
 pub good_word : (o : Option ℕ) (word : ℕ) → o ≡ Some word → is_none o ≡ false

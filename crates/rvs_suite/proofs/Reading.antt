@@ -1,13 +1,13 @@
 -- What comes of a signature file.
-use Rattle.std.proofs.Common.{◌≡◌, ◌≤◌, ◌<◌, inl, inr, ℕ, Bool, true, false, List, ◌∷◌, length}
-use Rattle.std.proofs.Common.{nat_lt, Option, Some, None, Result, Ok, Err, if◌then◌else◌, refl, sym}
+use Rattle.std.proofs.Common.{◌≡◌, ◌≤◌, inl, inr, ℕ, Bool, true, false, List, ◌∷◌, length}
+use Rattle.std.proofs.Common.{nat_lt, Option, Some, None, Result, Ok, Err, refl, sym}
 use Rattle.std.proofs.Common.{ap, ◌∙◌}
 use Rattle.std.proofs.lemmas.Bool.{ltb-true, ltb-false}
 use Rattle.rvs_base.specs.Host.{Files}
 use Rattle.rvs_plan.specs.Effect.{Answer, Read}
 use Rattle.rvs_plan.specs.Plan.{Plan, Ends, ◌>>=◌, followed}
 use Rattle.rvs_plan.specs.Performed.{performed, end_of}
-use Rattle.rvs_plan.specs.Inputs.{part_end, too_long_text}
+use Rattle.rvs_plan.specs.Inputs.{too_long_text}
 use Rattle.rvs_plan.specs.declared.stop.Stop.{Stop}
 use Rattle.rvs_plan.specs.declared.stop.Stop.TheVariants.{NoFile, Refused}
 use Rattle.rvs_plan.proofs.FoundInputs.{found-none, found-long, found-whole}
@@ -16,10 +16,6 @@ use Rattle.rvs_sig.specs.declared.words.SigRefusal.{SigRefusal}
 use Rattle.rvs_suite.specs.Texts.{refusal_text}
 use Rattle.rvs_suite.specs.Compare.{signature_limit, words, words_end, signature}
 use Rattle.rvs_suite.specs.Spells.{Spells, IsRefused}
-
--- the bytes of a file, checked
-file_end : List ℕ → Option (List ℕ) → Result (List ℕ) Stop
-file_end name found = part_end signature_limit name name signature_limit found
 
 -- where the file isn't there
 pub end-missing : {A : Type 0} (files : Files) (answers : List Answer) (name : List ℕ)

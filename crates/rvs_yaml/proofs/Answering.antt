@@ -54,9 +54,6 @@ pub record HasRead (lines : List (List ℕ)) (number : ℕ) (started : Bool) (bl
   pub begun : started ≡ started_after false lines
   pub open_blocks : steps [] (words_of 1 false lines) ≡ Ok blocks
 
-pub HasRead-none : HasRead [] 0 false []
-HasRead-none = record { count = refl; begun = refl; open_blocks = refl }
-
 abbrev line_steps : List Open → ℕ → Bool → List ℕ → Checked (List Open)
 line_steps blocks number started l = steps blocks (line_words (number + 1) started l)
 
@@ -197,10 +194,6 @@ pub record Reads (bytes : List ℕ) (number : ℕ) (started : Bool) (blocks : Li
   pub kept : checked_front blocks ≡ Ok tt
   pub same : answer_after lines (lines_left rest) ≡ answer bytes
   pub small : number + size_left rest ≤ length bytes + 1
-
-pub Reads-start : (bytes : Bor (List ℕ)) → Reads bytes.now 0 false [] (Some bytes)
-Reads-start bytes =
-    record { lines = []; so_far = HasRead-none; kept = refl; same = refl; small = omega arith }
 
 lines-split : (text raw : List ℕ) (behind : Option (Bor (List ℕ)))
     → cut text ≡ raw ∷ cut_behind (option_map (λ r. r.now) behind)

@@ -67,14 +67,6 @@ pub record Looked (bs : List code.Open) (at root end : ℕ) : Type 0 where
   pub passing : in_chain (stack_view (take at bs)) ≡ true → AreAround bs at end
   pub rooted : AreAround bs root end
 
-pub looked-first : (bs : List code.Open) (end : ℕ) → Looked bs end end end
-looked-first bs end = record {
-  inside = omega arith;
-  small = omega arith;
-  all = omega arith;
-  more = λ k h. h;
-  passing = λ e j b l u is. absurd (omega arith);
-  rooted = λ j b l u is. absurd (omega arith);
 }
 
 by-test : {X : Type 0} (m j : ℕ) → m ≤ j → (b : Bool) → eqb j m ≡ b → (j ≡ m → X)

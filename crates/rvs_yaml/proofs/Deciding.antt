@@ -1,6 +1,6 @@
 -- What is decided before memory is taken.
 use Rattle.std.proofs.Common.{◌≡◌, ℕ, Bool, true, false, List, [], ◌∷◌, ◌++◌, Result, Ok, Err, refl}
-use Rattle.std.proofs.Common.{length, take, subst}
+use Rattle.std.proofs.Common.{length, take}
 use Rattle.std.proofs.Common.{sym, ap, ◌∙◌}
 use Rattle.std.specs.Prelude.{◌||◌, ◌==◌, if◌then◌else◌, Option, Some, None}
 use Rattle.rvs_tree.specs.Value.{Value, Written, has_key, explicit_keys}
@@ -128,39 +128,10 @@ placed-refused (b ∷ bs) w kind h = refused-by (is_below b.head w) (opens_block
     (looked_up (known_of (b ∷ bs)) (own_content w.shape)) (begins (b ∷ bs) w)
     (settled (own_found b) b bs w) kind (begins-refused (b ∷ bs) w kind) h
 
-good-by : (o : Bool) (l : Checked (Unit {0})) (m : Checked (List Open))
-    → (check o Unsupported >> l) ≡ Ok tt → (check o Unsupported >> m) ≡ m
-good-by true l m h = refl
-good-by false l m h = cc
-
 placed-under : (b : Open) (bs : List Open) (w : Word) → is_below b.head w ≡ true
     → placed (b ∷ bs) w ≡ (check (opens_block b.head.sort) Unsupported
     >> looked_up (known_of (b ∷ bs)) (own_content w.shape))
 placed-under b bs w e = rw e refl
-
-step-under : (b : Open) (bs : List Open) (w : Word) → is_below b.head w ≡ true
-    → step (b ∷ bs) w ≡ (check (opens_block b.head.sort) Unsupported >> begins (b ∷ bs) w)
-step-under b bs w e = rw e refl
-
-placed-over : (b : Open) (bs : List Open) (w : Word) → is_below b.head w ≡ false
-    → placed (b ∷ bs) w ≡ Ok tt
-placed-over b bs w e = rw e refl
-
--- a word that has its place below the last one begins a block
-step-begins : (b : Open) (bs : List Open) (w : Word) → is_below b.head w ≡ true
-    → placed (b ∷ bs) w ≡ Ok tt → step (b ∷ bs) w ≡ begins (b ∷ bs) w
-step-begins b bs w e h = step-under b bs w e ∙ good-by (opens_block b.head.sort)
-    (looked_up (known_of (b ∷ bs)) (own_content w.shape)) (begins (b ∷ bs) w)
-    (sym (placed-under b bs w e) ∙ h)
-
--- the same of the open blocks of the code
-pub step-placed : (all : List Anchor) (bs : List code.Open) (o : code.Open) (w : Word)
-    → is_below (head_view o.head) w ≡ true → placed (anchored all (bs ++ o ∷ [])) w ≡ Ok tt
-    → step (anchored all (bs ++ o ∷ [])) w ≡ begins (anchored all (bs ++ o ∷ [])) w
-step-placed all bs o w e h =
-    let split = anchored-push all bs o in
-    subst (λ xs. step xs w ≡ begins xs w) (sym split) (step-begins (open_at all o)
-    (anchored (take o.block.before all) bs) w e (sym (ap (λ xs. placed xs w) split) ∙ h))
 
 pub placed-none : (all : List Anchor) (bs : List code.Open) (w : Word) → bs ≡ []
     → Rises (length all) (befores bs)
@@ -169,11 +140,6 @@ placed-none all bs w e h =
     ap (λ xs. placed (anchored all xs) w) e
     ∙ ap (λ xs. looked_up (known_of (anchored all xs)) (own_content w.shape)) (sym e)
     ∙ ap (λ xs. looked_up xs (own_content w.shape)) (known-all all bs h)
-
-pub placed-above : (all : List Anchor) (bs : List code.Open) (o : code.Open) (w : Word)
-    → is_below (head_view o.head) w ≡ false → placed (anchored all (bs ++ o ∷ [])) w ≡ Ok tt
-placed-above all bs o w e = ap (λ xs. placed xs w) (anchored-push all bs o)
-    ∙ placed-over (open_at all o) (anchored (take o.block.before all) bs) w e
 
 pub placed-below : (all : List Anchor) (bs : List code.Open) (o : code.Open) (w : Word)
     → is_below (head_view o.head) w ≡ true → Rises (length all) (befores (bs ++ o ∷ []))

@@ -5,8 +5,8 @@ use Rattle.rvs_yaml.specs.Checks.{Checked, ◌>>=◌}
 use Rattle.rvs_tree.specs.Data.{Data}
 use Rattle.rvs_tree.specs.Value.{Value}
 use Rattle.rvs_yaml.specs.Stack.{Open}
-use Rattle.rvs_yaml.specs.Front.{front_value, checked_front}
-use Rattle.rvs_yaml.specs.Parsed.{Parsed, within_limits, answer}
+use Rattle.rvs_yaml.specs.Front.{front_value}
+use Rattle.rvs_yaml.specs.Parsed.{Parsed, answer}
 use Rattle.rvs_yaml.specs.Reader.{Refuses, whole}
 use Rattle.rvs_yaml.specs.Gives.{Fails}
 use Rattle.rvs_yaml_text.specs.declared.kind.YamlKind.{YamlKind}
@@ -26,22 +26,6 @@ pub refused-line : {A : Type 0} (told kind : YamlKind) (line n : ℕ) (a : Parse
     → Refuses told line a
 refused-line told kind line n a m same to h f memory =
     subst (λ k. Refuses k line a) (sym same) (line_refused kind line n a m to h f memory)
-
-never-fails : (m : Checked Value) (kind : YamlKind) → (m >>= within_limits) ≡ Ok tt
-    → (m >>= λ v. let r : Checked Data = Ok v.tree in r) ≡ Err kind → ⊥
-never-fails (Ok v) kind k e = cc
-never-fails (Err x) kind k e = cc
-
-last_refused : (kind : YamlKind) (line : ℕ) (a : Parsed) (bs : List Open) → checked_front bs ≡ Ok tt
-    → Fails kind (whole bs) → (kind ≡ NoMemory → line ≡ 0) → Refuses kind line a
-last_refused NoMemory line a bs k h memory = memory refl
-last_refused kind line a bs k h memory = absurd (never-fails (front_value bs) kind k h)
-
-pub refused-last : (told kind : YamlKind) (line : ℕ) (a : Parsed) (bs : List Open) → told ≡ kind
-    → checked_front bs ≡ Ok tt → Fails kind (whole bs) → (kind ≡ NoMemory → line ≡ 0)
-    → Refuses told line a
-refused-last told kind line a bs same k h memory =
-    subst (λ x. Refuses x line a) (sym same) (last_refused kind line a bs k h memory)
 
 abbrev good_answer : Data → Parsed
 good_answer d = Ok d

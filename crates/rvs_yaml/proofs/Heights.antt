@@ -316,9 +316,6 @@ first-within : (b : Bracket) (n : ℕ) → 1 ≤ n → Within (first_reading b) 
 first-within square n h = (omega (arith, h), tt)
 first-within curly n h = (omega (arith, h), tt)
 
-first-level : (b : Bracket) → level_of (first_reading b) ≡ 1
-first-level b = refl
-
 pub flow-height : (known : Anchors) (line : ℕ) (b : Bracket) (ms : List Token) (v : Value)
     → flow_value known line b ms ≡ Ok v → depth v.tree ≤ max 1 (height known 1 ms)
 flow-height known line b ms v h =

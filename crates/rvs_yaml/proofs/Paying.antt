@@ -1,25 +1,20 @@
 -- Refusing a line for its front before the value of its flow collection is made.
-use Rattle.std.proofs.Common.{◌≡◌, ◌<◌, ◌≤◌, Bool, true, false, List, [], ◌∷◌, ◌++◌, Some, Result}
-use Rattle.std.proofs.Common.{Ok, Err, refl, sym, ap, ◌∙◌, arith}
-use Rattle.std.specs.Prelude.{if◌then◌else◌, not, nat_lt}
-use Rattle.rvs_tree.specs.Data.{depth}
+use Rattle.std.proofs.Common.{◌≡◌, Bool, true, false, List, [], ◌∷◌, ◌++◌, Some, Result}
+use Rattle.std.proofs.Common.{Ok, Err, refl, sym, ap, ◌∙◌}
+use Rattle.std.specs.Prelude.{if◌then◌else◌}
 use Rattle.rvs_tree.specs.Value.{Value, scalar_value}
 use Rattle.rvs_tree.specs.Standin.{standin}
 use Rattle.rvs_yaml_text.specs.Word.{Bracket, Token, opens_block}
-use Rattle.rvs_yaml.specs.Checks.{Checked, ◌>>=◌, ◌>>◌, check, mapped}
+use Rattle.rvs_yaml.specs.Checks.{Checked, ◌>>=◌, ◌>>◌, mapped}
 use Rattle.rvs_yaml.specs.Flow.{flow_value}
 use Rattle.rvs_yaml.specs.Stack.{Open, known_of}
 use Rattle.rvs_yaml.specs.Filling.{with_own, filled}
 use Rattle.rvs_yaml.specs.Front.{ends}
 use Rattle.rvs_yaml.specs.Parsed.{within_limits}
 use Rattle.rvs_yaml.specs.Reader.{kept, DeniesFront, Denies}
-use Rattle.rvs_yaml.specs.Sketched.{SketchedAs}
 use Rattle.rvs_yaml.specs.Gives.{Fails}
-use Rattle.rvs_yaml.specs.declared.sketch.Sketch.{Sketch}
 use Rattle.rvs_yaml_text.specs.declared.kind.YamlKind.{YamlKind}
-use Rattle.rvs_yaml_text.specs.declared.kind.YamlKind.TheVariants.{TooDeep, TooManyNodes}
 use Rattle.rvs_yaml.proofs.Giving.{fails_to}
-use Rattle.rvs_yaml.proofs.Sketching.{lt_test, ge_test}
 
 -- a value is there where what stands for it is
 pub stood-for : (m : Checked Value) (thin : Value) → mapped standin m ≡ Ok thin
@@ -30,22 +25,6 @@ stood-for (Err k) thin h = cc
 stood-err : (m : Checked Value) (kind : YamlKind) → mapped standin m ≡ Err kind → m ≡ Err kind
 stood-err (Ok v) kind h = cc
 stood-err (Err k) kind h = let e : k ≡ kind = cc in ap Err e
-
-over : (v : Value) → depth v.tree ≤ 32 → 500000 < v.nodes → within_limits v ≡ Err TooManyNodes
-over v d n =
-    ap (λ b. check (not b) TooDeep >> check (not (nat_lt 500000 v.nodes)) TooManyNodes)
-    (sym (ge_test 32 (depth v.tree) d))
-    ∙ ap (λ b. check (not b) TooManyNodes) (sym (lt_test 500000 v.nodes n))
-
--- the front has too many nodes, and isn't too deep
-pub over-nodes : (m : Checked Value) (sk : Sketch) → SketchedAs (Ok sk) m → sk.depth ≤ 32
-    → 500000 < sk.nodes → (m >>= within_limits) ≡ Err TooManyNodes
-over-nodes m sk (w, e, s) d n =
-    ap (λ r. r >>= within_limits) e ∙ over w (omega (arith, s.bounded)) (omega (arith, s.counted))
-
-pub front-err : (m : Checked Value) (kind : YamlKind) → m ≡ Err kind
-    → (m >>= within_limits) ≡ Err kind
-front-err m kind e = ap (λ r. r >>= within_limits) e
 
 then_kept : (m : Checked (Unit {0})) (kind : YamlKind) (cs : List Open) → m ≡ Err kind
     → (m >> (let r : Checked (List Open) = Ok cs in r)) ≡ Err kind

@@ -1,9 +1,8 @@
 -- What is new in open blocks, from the innermost outwards.
-use Rattle.std.proofs.Common.{◌≡◌, ℕ, ◌≤◌, max, min, Bool, true, false, cond, List, [], ◌∷◌}
+use Rattle.std.proofs.Common.{◌≡◌, ℕ, ◌≤◌, min, Bool, true, false, cond, List, [], ◌∷◌}
 use Rattle.std.proofs.Common.{◌++◌, ◌+◌, ◌-◌, ◌<◌, refl, sym, ap, ◌∙◌, arith, length, take, get_or}
-use Rattle.std.proofs.Common.{slice_get, Some, None, zero, suc, append-nil, subst, true≢false}
+use Rattle.std.proofs.Common.{slice_get, Some, suc, append-nil, subst, true≢false}
 use Rattle.std.proofs.Common.{Vec, Global}
-use Rattle.std.proofs.lemmas.Option.{slice_get-get_or}
 use Rattle.rvs_tree.specs.Data.{depth}
 use Rattle.std.specs.Prelude.{◌||◌}
 use Rattle.rvs_tree.specs.Value.{Value, Written, has_key, keys_of, pairs_in, trees}
@@ -11,7 +10,7 @@ use Rattle.rvs_tree.specs.Value.{explicit_keys, resolved}
 use Rattle.rvs_tree.specs.ShownView.{depths_view}
 use Rattle.rvs_tree.specs.declared.key_depth.KeyDepth.{KeyDepth}
 use Rattle.rvs_yaml.specs.Chain.{in_chain, chain_keys}
-use Rattle.rvs_yaml.specs.Stack.{done_items, done_entries, alone}
+use Rattle.rvs_yaml.specs.Stack.{done_items, done_entries}
 use Rattle.rvs_yaml_text.specs.Word.{Key}
 use Rattle.rvs_tree.specs.Shown.{Shown, Holds, shown_by, at_key, keys_so_far, left_by, visible}
 use Rattle.rvs_yaml.specs.Front.{own_value}
@@ -123,46 +122,14 @@ map-step ws k m inside keys none s new d e f n t =
     subst (λ b. TellsIn inside keys new (λ T. cond b (left_by ws f T) (at_key k.name n T))
     (cond b (suc (f A)) (suc n))) (sym m) (map-told ws inside keys s new none d e f n u)
 
--- and of what is new at its open key
-pub plain-step : (ws : List Written) (k : Key) → k.merges ≡ false → (inside : Bool) (keys : Keys)
-    (s at new : Seen) → ((n : ℕ) → min n 33 ≤ s.depth → Tells at (at_key k.name n) (suc n))
-    → ((f : Shown) (n : ℕ) → Tells at f n → TellsIn inside keys new f n)
-    → Steps (done_entries ws k) inside keys s new
-plain-step ws k m inside keys s at new g h f n t =
-    subst (λ b. TellsIn inside keys new (λ T. cond b (left_by ws f T) (at_key k.name n T))
-    (cond b (suc (f (keys_so_far ws))) (suc n))) (sym m)
-    (h (at_key k.name n) (suc n) (g n (t.deep m)))
-
-pub alone-step : (inside : Bool) (keys : Keys) (s : Seen) → Steps alone inside keys s s
-alone-step true keys s f n t = t
-alone-step false keys s f n t = record {
-  deep = t.deep;
-  shown = λ T h. t.shown T (λ k i. cc);
 }
 
--- what isn't taken is as new as it was
-pub told-in : (inside : Bool) (keys : Keys) (s new : Seen) (f : Shown) (n : ℕ)
-    → new.depth ≡ s.depth → ((T : Keys) → Holds keys T
-    → visible (depths_view s.depths.items) T ≤ visible (depths_view new.depths.items) T)
-    → Tells s f n → TellsIn inside keys new f n
-told-in inside keys s new f n d h t = record {
-  deep = λ i. omega (arith, t.deep, d);
-  shown = λ T i. omega (arith, t.shown T, h T i);
 }
 
 -- a key that is taken brings nothing
 pub at-taken : (b : Bool) (n : ℕ) → b ≡ true → cond b 0 n ≡ 0
 at-taken true n e = refl
 at-taken false n e = absurd (true≢false (sym e))
-
--- a value at a key
-at-shown-by : (b : Bool) (n d : ℕ) → min n 33 ≤ d → min (cond b 0 n) 33 ≤ max (cond b 0 d) 0
-at-shown-by true n d h = omega arith
-at-shown-by false n d h = omega (arith, h)
-
-pub at-shown : (k : List ℕ) (n d : ℕ) (T : List (List ℕ)) → min n 33 ≤ d
-    → min (at_key k n T) 33 ≤ visible ((k, d) ∷ []) T
-at-shown k n d T h = at-shown-by (has_key k T) n d h
 
 -- one open block more is passed
 pub tells-next : (bs : List code.Open) (m : ℕ) (b : code.Open) (s new : Seen) (t : ℕ)
@@ -197,16 +164,3 @@ tells-first bs top s new h k g =
           ∙ ap (seen (shown_by d) (depth d)) (stack-top bs top h)
           ∙ sym (ap sight (stack-top bs top h)),
     )
-
-pub tells-last : (bs : List code.Open) (m : ℕ) (s : Seen) (t : ℕ) → m ≡ 0
-    → ((f : Shown) × (n : ℕ) × TellsAt (stack_view (take m bs)) s f n
-    × (seen f n (stack_view (take m bs)) ≡ t)) → min t 33 ≤ s.depth
-tells-last bs zero s t z (f, n, k, e) = omega (arith, k.deep refl, e)
-tells-last bs (suc m) s t z g = absurd (omega arith)
-
-pub no-sight : (bs : List code.Open) → None ≡ slice_get bs (length bs - 1)
-    → sight (stack_view bs) ≡ 1
-no-sight [] h = refl
-no-sight (x ∷ bs) h = let there : slice_get (x ∷ bs) (length (x ∷ bs) - 1)
-    ≡ Some (get_or (x ∷ bs) (length (x ∷ bs) - 1) x) =
-    slice_get-get_or (x ∷ bs) _ x (omega arith) in cc
