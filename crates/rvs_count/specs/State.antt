@@ -25,7 +25,7 @@ pub record Tallied : Type 0 where
 
 pub record CountState : Type 0 where
   pub tally : Tallied
-  -- the bytes after the last line feed, or a mark where they are more than 4,096
+  -- what has come of the line that is still open, or none where that is over 4,096 bytes
   pub waiting : Option (List ℕ)
   -- how many bytes were fed
   pub fed : ℕ

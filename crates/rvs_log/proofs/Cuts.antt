@@ -195,6 +195,20 @@ lines_step w w0 piece used end fits e l within none here =
     ∙ ap (λ w. lines_after w (take (end + 1) (drop used piece))) (sym e)
     ∙ lines_line w (drop used piece) end within none here
 
+-- no line ends before its line feed
+lines_before : (w0 : Option (List ℕ)) (piece : List ℕ) (used end : ℕ) → used ≤ length piece
+    → lines_after w0 (take used piece) ≡ []
+    → ((k : ℕ) → 0 ≤ k → k < end → (get_or (drop used piece) k 0 == 10) ≡ true → ⊥)
+    → lines_after w0 (take (used + end) piece) ≡ []
+lines_before w0 piece used end fits e none =
+    let w = held_after w0 (take used piece) in
+    let more = take end (drop used piece) in
+    ap (λ l. lines_after w0 l) (take_twice used end piece fits)
+    ∙ lines_join w0 (take used piece) more
+    ∙ ap (λ p. p ++ lines_after w more) e
+    ∙ ap (λ l. lines_after w l) (sym (append-nil more))
+    ∙ lines_feedless w more [] (feedless_take (drop used piece) end none)
+
 take_all : (xs : List ℕ) → take (length xs) xs ≡ xs
 take_all [] = refl
 take_all (x ∷ xs) = ap (λ l. x ∷ l) (take_all xs)
@@ -244,19 +258,20 @@ pub step_at : (w w0 : Option (List ℕ)) (piece rest line : List ℕ) (used end 
     → (get_or rest end 0 == 10) ≡ true
     → (held_after w0 (take (used + (end + 1)) piece) ≡ Some [])
     × (lines_after w0 (take (used + (end + 1)) piece) ≡ lines_held (held_more w line))
-    × (used + (end + 1) ≤ length piece)
+    × (used + (end + 1) ≤ length piece) × (lines_after w0 (take (used + end) piece) ≡ [])
 step_at w w0 piece rest line used end r l fits e none within before here =
     let P : List ℕ → Type 0 = λ rest. line ≡ take end rest → end < length rest
     → ((k : ℕ) → 0 ≤ k → k < end → (get_or rest k 0 == 10) ≡ true → ⊥)
     → (get_or rest end 0 == 10) ≡ true
     → (held_after w0 (take (used + (end + 1)) piece) ≡ Some [])
     × (lines_after w0 (take (used + (end + 1)) piece) ≡ lines_held (held_more w line))
-    × (used + (end + 1) ≤ length piece) in
+    × (used + (end + 1) ≤ length piece) × (lines_after w0 (take (used + end) piece) ≡ []) in
     let base : P (drop used piece) = λ l within before here. (
       held_step w w0 piece used end fits e within before here,
       lines_step w w0 piece used end fits e none within before here
           ∙ ap (λ l. lines_held (held_more w l)) (sym l),
       omega (arith, within, length-drop used piece),
+      lines_before w0 piece used end fits none before,
     ) in
     subst P (sym r) base l within before here
 

@@ -57,9 +57,11 @@ IsNextLine w piece too_long bytes (Here start end) =
     × (lines_after w (take (end + 1) piece) ≡ without_return (take (end - start) (drop start piece))
     ∷ [])
     × (held_after w (take (end + 1) piece) ≡ Some []) × (waiting too_long bytes ≡ Some [])
+    × (lines_after w (take (end + 1 - 1) piece) ≡ [])
 IsNextLine w piece too_long bytes (Held used) =
     (used ≤ length piece) × (lines_after w (take used piece) ≡ without_return bytes ∷ [])
     × (held_after w (take used piece) ≡ Some []) × (too_long ≡ false)
+    × (lines_after w (take (used - 1) piece) ≡ [])
 IsNextLine w piece too_long bytes Nowhere = (lines_after w piece ≡ [])
     × (held_after w piece ≡ waiting too_long bytes)
 

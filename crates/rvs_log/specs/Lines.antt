@@ -3,7 +3,7 @@ use Rattle.std.specs.Prelude.{ℕ, ◌==◌, nat_le, Bool, true, false, if◌the
 use Rattle.std.specs.Prelude.{◌++◌, length, Option, Some, None}
 use Rattle.rvs_log.specs.Grammar.{Reading, Nothing, reading_of}
 
--- the lines that a line feed ends, where the first goes on from a front
+-- the ended lines, of which the first has this front already
 abbrev pub whole_from : List ℕ → List ℕ → List (List ℕ)
 whole_from front [] = []
 whole_from front (b ∷ bs) =
@@ -42,12 +42,12 @@ without_return [] = []
 without_return (b ∷ []) = if b == 13 then [] else b ∷ []
 without_return (b ∷ c ∷ bs) = b ∷ without_return (c ∷ bs)
 
--- what a line of a log says; one of more than 4,096 bytes, its carriage return counted, says
--- nothing
+-- what a line of a log says, which is nothing where it has over 4,096 bytes with its carriage
+-- return
 abbrev pub line_says : List ℕ → Reading
 line_says line = if nat_le (length line) 4096 then reading_of (without_return line) else Nothing
 
--- bytes that wait for the rest of their line, or a mark where they are more than 4,096
+-- the front of a line whose end hasn't come, or none where it is over 4,096 bytes
 abbrev pub held : List ℕ → Option (List ℕ)
 held bytes = if nat_le (length bytes) 4096 then Some bytes else None
 

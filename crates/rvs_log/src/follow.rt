@@ -1,5 +1,5 @@
 // Lines cut out of pieces, and lent.
-ghost use Rattle.std.specs.Prelude.{◌≡◌, ◌+◌, ◌<◌, ◌≤◌, ⊤, [], IfNone, IfSome, Some, drop, false};
+ghost use Rattle.std.specs.Prelude.{◌≡◌, ◌+◌, ◌-◌, ◌<◌, ◌≤◌, ⊤, [], IfNone, IfSome, Some, drop, false};
 ghost use Rattle.std.specs.Prelude.{length, take};
 ghost use Rattle.std.specs.Borrow.{follows_so, sem};
 ghost use Rattle.std.specs.Option.{option_copied};
@@ -187,9 +187,9 @@ impl Follow {
         }
     }
 
-    /// The next whole line of at most 4,096 bytes that ends in the piece, without a carriage return
-    /// at its end, and how many bytes of the piece were used, up to and with its line feed. Longer
-    /// lines are passed over. Where no line ends, all of the piece is used. It takes no memory.
+    /// The next line that ends in the piece, without its carriage return, and how many bytes of the
+    /// piece were used: those up to its line feed, and that. A line of more than 4,096 bytes is
+    /// passed over. Where none ends, all of the piece is used. It takes no memory.
     #[inline(always)]
     pub fn next<'f>(&'f mut self, piece: &'f [u8]) -> Cut<'f>
         ensures* leaves { sem 𝓛 (follows_so the_row the_row self.entry.ghost_name none (λ _ _. ⊤)
@@ -197,6 +197,8 @@ impl Follow {
         ensures used { result.used ≤ length piece.now }
         ensures line { lines_after self.old (take result.used piece.now)
             ≡ one_or_none (option_copied result.line) }
+        ensures ends { IfSome result.line
+            (λ _. lines_after self.old (take (result.used - 1) piece.now) ≡ []) }
         ensures whole { IfNone result.line (result.used ≡ length piece.now) }
     {
         begin(&mut self.bytes, &mut self.too_long, &mut self.given);
@@ -222,8 +224,8 @@ impl Follow {
         }
     }
 
-    /// What waits at the end, without a carriage return at its end; nothing where no byte waits or
-    /// they are more than 4,096. Nothing waits after it. It takes no memory.
+    /// The line that the log ends with, without its carriage return, where it lacks a line feed and
+    /// has 1 to 4,096 bytes. Nothing waits after it. It takes no memory.
     pub fn last(&mut self) -> Option<&[u8]>
         ensures* leaves { sem 𝓛 (follows_so the_row the_row self.entry.ghost_name none (λ _ _. ⊤)
             (λ v. v ≡ Some [])) }

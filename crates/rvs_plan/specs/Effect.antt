@@ -56,7 +56,7 @@ abbrev pub after : List Effect → Contents → Contents
 after [] c = c
 after (effect ∷ effects) c = after effects (after_one effect c)
 
--- a read finds what the file holds at that moment, where files are told
+-- where files are told, a read found what they then held
 abbrev pub SawOne : Effect → Contents → Type 0
 SawOne (Read name found) c = (files : Files) → c.files ≡ Some files → files name ≡ found
 SawOne (Device words test signature answer) c = Unit {0}

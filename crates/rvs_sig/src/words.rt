@@ -15,7 +15,7 @@ pub enum SigRefusal {
         /// The first such line, counted from 1.
         line: u32,
     },
-    /// The first 262,144 lines are good, and more follow.
+    /// More than 262,144 lines, none of the first so many malformed.
     TooLong,
     /// The allocator refused.
     NoMemory,

@@ -1,8 +1,8 @@
 // What is known of a value without looking through it.
 ghost use Rattle.std.specs.Prelude.{◌≤◌};
 
-/// A bound on the depth, from 33 on counted as 33, a depth that it has at least, the number of
-/// nodes, whether it is a map or an empty scalar, and whether it can be merged.
+/// Bounds on its depth from above (33 for all from 33 on) and from below, how many nodes it counts
+/// for, whether it is a map or empty, and whether a map may merge it.
 #[derive(Drop)]
 pub(crate) struct Sketch {
     pub depth: u64,

@@ -1,5 +1,5 @@
--- The words of a line: each dash of an item is a word of its own, and the last word is a key with
--- what is behind it, or a leaf.
+-- The words of a line: a word for each dash, and behind them one for the rest, which is a leaf or a
+-- key with its text.
 use Rattle.std.specs.Prelude.{ℕ, Bool, true, false, ◌&&◌, ◌||◌, ◌==◌, nat_lt, List, Option, None}
 use Rattle.rvs_yaml_text.specs.declared.kind.YamlKind.{YamlKind}
 

@@ -21,6 +21,7 @@ returns-in-Here c =
     c.lines.invariant.none
     c.in-Some.ensures.within c.in-Some.ensures.first.0.before c.in-Some.ensures.first.1 in
     let k : c.lines.used + c.in-Some.end + 1 ≡ c.lines.used + (c.in-Some.end + 1) = omega arith in
+    let less : c.lines.used + c.in-Some.end + 1 - 1 ≡ c.lines.used + c.in-Some.end = omega arith in
     let n : c.in-Some.end ≡ c.lines.used + c.in-Some.end - c.lines.used = omega arith in
     let fits = t.2 in (
       omega arith,
@@ -33,6 +34,8 @@ returns-in-Here c =
       ap (λ n. held_after (waiting c.args.too_long.now c.args.bytes.now.items)
           (take n c.args.piece.now)) k ∙ t.0,
       c.in-Here.ensures.1,
+      ap (λ n. lines_after (waiting c.args.too_long.now c.args.bytes.now.items)
+          (take n c.args.piece.now)) less ∙ t.3,
     )
 
 pub returns-in-Waited : goal.returns-in-Waited
@@ -44,6 +47,7 @@ returns-in-Waited c =
     c.lines.invariant.none
     c.in-Some.ensures.within c.in-Some.ensures.first.0.before c.in-Some.ensures.first.1 in
     let k : c.lines.used + c.in-Some.end + 1 ≡ c.lines.used + (c.in-Some.end + 1) = omega arith in
+    let less : c.lines.used + c.in-Some.end + 1 - 1 ≡ c.lines.used + c.in-Some.end = omega arith in
     let fits = t.2 in (
       omega (arith, fits),
       ap (λ n. lines_after (waiting c.args.too_long.now c.args.bytes.now.items)
@@ -51,6 +55,8 @@ returns-in-Waited c =
       ap (λ n. held_after (waiting c.args.too_long.now c.args.bytes.now.items)
           (take n c.args.piece.now)) k ∙ t.0,
       c.in-Waited.ensures.1,
+      ap (λ n. lines_after (waiting c.args.too_long.now c.args.bytes.now.items)
+          (take n c.args.piece.now)) less ∙ t.3,
     )
 
 pub lines-preserved : goal.lines-preserved
