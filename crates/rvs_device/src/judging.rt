@@ -44,8 +44,8 @@ impl From<NoMemory> for JudgeFault {
 
 /// Makes the file `signature` empty, runs the device on the file `test`, and compares the words
 /// that it leaves in `signature` with the reference's. In the device's words `{test}` and
-/// `{signature}` stand for these names and `{self}` for `program`. At most one byte past 2,621,440
-/// is read.
+/// `{signature}` stand for these names and `{self}` for `program`. A file of more than 2,621,440
+/// bytes is too long.
 ///
 /// # Errors
 ///
