@@ -10,5 +10,5 @@ mod stop;
 pub use laws::plans_are_lists;
 pub use reports::{conclude, report};
 pub use status::{Finish, Status};
-pub use steps::{print, read_input, read_part, run_device, too_long, write_output};
+pub use steps::{print, read_input, read_part, too_long, write_output};
 pub use stop::Stop;

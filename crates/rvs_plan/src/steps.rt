@@ -1,9 +1,9 @@
 // The steps that commands are made of. Each says what it did by the plan of that step.
-ghost use Rattle.std.specs.Prelude.{◌≡◌, ◌<◌, ◌^◌, length, IfOk};
-ghost use Rattle.rvs_base.specs.Host.{HostState, device_words};
+ghost use Rattle.std.specs.Prelude.{◌≡◌, ◌<◌, ◌^◌, IfOk};
+ghost use Rattle.rvs_base.specs.Host.{HostState};
 ghost use Rattle.rvs_base.specs.Sink.{SinkState};
 ghost use Rattle.rvs_plan.specs.World.{world};
-ghost use Rattle.rvs_plan.specs.Plan.{prints, writes, device};
+ghost use Rattle.rvs_plan.specs.Plan.{prints, writes};
 ghost use Rattle.rvs_plan.specs.Inputs.{part, input, too_long_text};
 ghost use Rattle.rvs_plan.specs.Meets.{Meets};
 
@@ -98,27 +98,5 @@ pub fn write_output<H: Host>(host: &mut H, name: Text, bytes: &[u8]) -> Result<(
     match host.write_file(name.as_str(), bytes) {
         Ok(()) => Ok(()),
         Err(_) => Err(Stop::CannotWrite(name)),
-    }
-}
-
-/// Runs a device on a test file, and gives its exit status, or -1 where a signal ended it. The test
-/// file's name is owned, since it is the stop's where the run fails.
-///
-/// # Errors
-///
-/// [`Stop::CannotRun`]; no file but the signature file is changed.
-pub fn run_device<H: Host>(
-    host: &mut H,
-    words: &[String],
-    test: Text,
-    signature: &str,
-) -> Result<i32, Stop>
-    requires { 0 < length words.now }
-    ensures { (out : SinkState) → Meets (device (device_words words.now) test signature.now)
-        (world (H.state host.old) out) (world (H.state host.new) out) result }
-{
-    match host.run_device(words, test.as_str(), signature) {
-        Ok(status) => Ok(status),
-        Err(_) => Err(Stop::CannotRun(test)),
     }
 }
