@@ -44,8 +44,8 @@ pub enum AsmKind {
     NoMemory,
 }
 
-/// A refusal, with the number of its line from 1; 0 for the last of `AsmKind` but `NotInIsa`, and
-/// for a missing symbol.
+/// A refusal, with the number of its line from 1; 0 where no line is at fault: for a missing symbol,
+/// bad regions and want of memory.
 #[derive(Debug, Drop)]
 pub struct AsmRefusal {
     pub line: u64,

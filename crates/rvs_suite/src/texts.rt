@@ -49,7 +49,8 @@ fn differs_line(
     differing: usize,
 ) -> Result<Text, NoMemory>
     ensures { (left_word right_word : ℕ) → left.now ≡ hex_word_of left_word
-        → right.now ≡ hex_word_of right_word → IfOk result (λ line. line ≡ differs_line n at left_word right_word differing) }
+        → right.now ≡ hex_word_of right_word
+        → IfOk result (λ line. line ≡ differs_line n at left_word right_word differing) }
 {
     Ok(Text::from(format!(in alloc;
         "FAIL word {at} is {left} and {right}, {differing} of {n} words differ\n"
