@@ -1,13 +1,14 @@
 #!/usr/bin/env bash
-# Measures `rvsuite coverage` on a long log against a C program that only parses it: seconds of user time, best of
-# five. Files are made once and kept in the folder that the second argument names.
+# Measures `rvsuite coverage` on a long log against a C program that only parses it: seconds of user
+# time, best of five, of the program that `./rvsuite` has built. Files are made once and kept in the
+# folder that the second argument names.
 #
 # usage: coverage.sh [BYTES] [FOLDER]
 set -eu
 here=$(cd "$(dirname "$0")" && pwd)
 bytes=${1:-200000000}
 folder=${2:-/tmp/rvsuite-bench}
-program=${RVSUITE:-$here/../rvsuite}
+program=${RVSUITE:-$here/../crates/rvsuite/out/rvsuite}
 mkdir -p "$folder"
 log=$folder/log-$bytes
 [ -f "$log" ] || python3 "$here/log.py" "$bytes" >"$log"
