@@ -29,8 +29,6 @@ pub record HasWords (bytes left : List ℕ) (line : ℕ) (words : List ℕ) : Ty
   pub spelt : filter_map word_of_line lines ≡ words
   pub few : line ≤ 262144
 
-}
-
 pub good_word : (o : Option ℕ) (word : ℕ) → o ≡ Some word → is_none o ≡ false
 good_word o word is = rw is refl
 

@@ -59,7 +59,8 @@ one-count windows l p e selected single none hit =
     let a : Aim = record { ops = l.ops; point = p } in
     let chosen : l.selected ≡ true = selected in
     ap (λ (ws : List Window). report-on (l ∷ []) (kept ws (e ∷ []))) none
-    ∙ ap (λ (as : List Aim). report_of (l ∷ []) (map (count (e ∷ [])) as) 1) (aims l p chosen single)
+    ∙ ap (λ (found : List Aim). report_of (l ∷ []) (map (count (e ∷ [])) found) 1)
+    (aims l p chosen single)
     ∙ ap (λ (n : ℕ). report_of (l ∷ []) (n ∷ []) 1) (counted-for p.meaning a e refl hit)
   where
     aims : (l : Label) (p : Point) → l.selected ≡ true → l.points ≡ p ∷ []

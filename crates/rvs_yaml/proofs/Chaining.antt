@@ -67,8 +67,6 @@ pub record Looked (bs : List code.Open) (at root end : ℕ) : Type 0 where
   pub passing : in_chain (stack_view (take at bs)) ≡ true → AreAround bs at end
   pub rooted : AreAround bs root end
 
-}
-
 by-test : {X : Type 0} (m j : ℕ) → m ≤ j → (b : Bool) → eqb j m ≡ b → (j ≡ m → X)
     → (m + 1 ≤ j → X) → X
 by-test m j l true e same above = same (eqb-true j m e)

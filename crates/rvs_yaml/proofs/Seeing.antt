@@ -122,10 +122,6 @@ map-step ws k m inside keys none s new d e f n t =
     subst (λ b. TellsIn inside keys new (λ T. cond b (left_by ws f T) (at_key k.name n T))
     (cond b (suc (f A)) (suc n))) (sym m) (map-told ws inside keys s new none d e f n u)
 
-}
-
-}
-
 -- a key that is taken brings nothing
 pub at-taken : (b : Bool) (n : ℕ) → b ≡ true → cond b 0 n ≡ 0
 at-taken true n e = refl
