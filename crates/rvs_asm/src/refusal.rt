@@ -9,8 +9,8 @@ use rvs_base::{NoMemory, Text};
 /// Why no image stands to a text.
 #[derive(Debug, Drop)]
 pub enum AsmKind {
-    /// The line itself is malformed: a byte that only a comment may hold, no symbol before a
-    /// colon, nothing at one side of a comma, or an instruction while in data.
+    /// A byte that may not stand outside a comment, a label that isn't a symbol, an empty operand
+    /// beside a comma, or an instruction in data.
     BadLine,
     /// A first word that is no mnemonic and no directive.
     UnknownInstruction,
@@ -44,8 +44,8 @@ pub enum AsmKind {
     NoMemory,
 }
 
-/// A refusal, with the number of its line from 1; 0 where no line is at fault: for a missing symbol,
-/// bad regions and want of memory.
+/// A refusal, with the number of its line from 1; 0 for the last of `AsmKind` but `NotInIsa`, and
+/// for a missing symbol.
 #[derive(Debug, Drop)]
 pub struct AsmRefusal {
     pub line: u64,

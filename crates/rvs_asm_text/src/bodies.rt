@@ -54,8 +54,8 @@ pub struct Line<'t> {
 /// What is wrong with a line by itself.
 #[derive(Debug, Drop, Clone, Copy, PartialEq, Eq)]
 pub enum LineFault {
-    /// The line itself is malformed: a byte that only a comment may hold, no symbol before a
-    /// colon, nothing at one side of a comma, or an instruction while in data.
+    /// A byte that may not stand outside a comment, a label that isn't a symbol, an empty operand
+    /// beside a comma, or an instruction in data.
     BadLine,
     /// A first word that is no mnemonic and no directive.
     UnknownInstruction,

@@ -39,8 +39,8 @@ fn line_steps(line: &[u8]) -> Option<u64>
     }
 }
 
-/// What a test says of its steps: the n of the first of its lines that are `#! steps n`, where n has
-/// at most seven digits and is 1 to 2,000,000. A line with another n is like any other comment.
+/// The number n of a test's first line `#! steps n`, with n of one to seven digits and from 1 to
+/// 2,000,000. Other lines are passed over, also those with another n.
 #[tactic(auto, unfolding(crate::specs::Header::header_steps))]
 pub fn steps_of_header(text: &[u8]) -> Option<u64>
     ensures { result ≡ header_steps text.now }

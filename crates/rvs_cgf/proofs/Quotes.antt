@@ -1,6 +1,7 @@
 -- Keys with each single quote twice.
 use Rattle.std.proofs.Common.{◌≡◌, ℕ, suc, ◌+◌, ◌<◌, Bool, true, false, List, [], ◌∷◌, ◌++◌, length}
 use Rattle.std.proofs.Common.{take, drop, refl, sym, ap, ◌∙◌, arith, append_assoc, cond, not}
+use Rattle.std.proofs.Common.{length-drop}
 use Rattle.std.specs.Prelude.{◌==◌, if◌then◌else◌}
 use Rattle.std.specs.List.{before_first, after_first, position_or_len}
 use Rattle.rvs_cgf.specs.Print.{doubled}
@@ -43,3 +44,8 @@ pub doubled_all : (s : List ℕ) → position_or_len (λ b. b == 39) s ≡ lengt
 doubled_all [] h = refl
 doubled_all (c ∷ cs) h =
     all-by (c == 39) c cs (position_or_len (λ b. b == 39) cs) (doubled_all cs) h
+
+-- what is behind the first quote is shorter
+pub shorter : (s : List ℕ) → position_or_len (λ b. b == 39) s < length s
+    → length (after_first (λ b. b == 39) s) < length s
+shorter s h = simp length-drop (omega arith)

@@ -102,7 +102,7 @@ registers few form =
     flat_map (λ rd. flat_map (λ rs1. map (λ rs2. record { rd = rd; rs1 = rs1; rs2 = rs2 }) (rs2s few
     form)) (rs1s few form)) (rds few form)
 
--- x0 holds 0, and a register that is read twice holds the same word both times
+-- x0 has the word 0, and one register has one word
 abbrev pub has_one_word : Bool → Bool → Bool → ℕ → ℕ → Bool
 has_one_word zero1 zero2 same w1 w2 =
     (not zero1 || w1 == 0) && (not zero2 || w2 == 0) && (not same || w1 == w2)
@@ -124,7 +124,7 @@ choices spec op constants =
 abbrev pub fields_of : ChoiceValue → Fields
 fields_of c = record { op = c.op; rd = c.rd; rs1 = c.rs1; rs2 = c.rs2; imm = c.imm }
 
--- a test sets the base of jalr from a label, so it has no value to choose
+-- jalr has no rs1_val, since its base is set from a label
 abbrev pub base_value : Format → Option ℤ → Option ℤ
 base_value JumpReg value = None
 base_value _ value = value

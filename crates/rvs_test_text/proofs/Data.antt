@@ -81,6 +81,10 @@ data_read n h =
     (reads_join false false false (slots 0 n) last (slots_read 0 n (omega arith))
     (cons (label_line false EndSignature tt) none))
 
+-- ---- places
+fixed_after : (t : ℕ) → after fixed_data (text_at t 0) ≡ data_at t 32
+fixed_after t = refl
+
 slots_after : (k n t m : ℕ) → after (slots k n) (data_at t m) ≡ data_at t (m + 8 * n)
 slots_after k zero t m = ap (data_at t) (omega arith)
 slots_after k (suc n) t m = slots_after (k + 1) n t (m + 0 + 8) ∙ ap (data_at t) (omega arith)
@@ -322,6 +326,11 @@ fixed_bytes =
 abbrev pub slot_bytes : ℕ → List ℕ
 slot_bytes zero = []
 slot_bytes (suc n) = 0xef ∷ 0xbe ∷ 0xad ∷ 0xde ∷ 0xef ∷ 0xbe ∷ 0xad ∷ 0xde ∷ slot_bytes n
+
+fixed_made : (env : List ℕ → ℕ) (t : ℕ)
+    → section false env (read_as fixed_data) (text_at t 0) ≡ fixed_bytes
+unfolding digits_of
+fixed_made env t = refl
 
 slots_made : (env : List ℕ → ℕ) (k n t m : ℕ)
     → section false env (read_as (slots k n)) (data_at t m) ≡ slot_bytes n

@@ -51,11 +51,19 @@ pub write_twice : (regs : List ℕ) (r v w : ℕ)
 write_twice regs zero v w = refl
 write_twice regs (suc r) v w = set-set regs (suc r) v w
 
+-- x0 stays 0
+pub read_zero : (regs : List ℕ) → read_reg regs (Some 0) ≡ 0
+read_zero regs = refl
+
 -- runs join
 pub join : (setup : Setup) (s t u : State) (es fs : List Executed) → Runs setup s es t
     → Runs setup t fs u → Runs setup s (es ++ fs) u
 join setup s t u [] fs r q = let P : State → Type 0 = λ x. Runs setup x fs u in subst P (sym r) q
 join setup s t u (e ∷ es) fs r q = (r.0, r.1, join setup r.0 t u es fs r.2 q)
+
+pub one : (setup : Setup) (s t : State) (e : Executed) → step_of setup s ≡ (Ran e, t)
+    → Runs setup s (e ∷ []) t
+one setup s t e h = (t, h, refl)
 
 -- lui and addi
 abbrev pub lui : ℕ → ℕ → Fields

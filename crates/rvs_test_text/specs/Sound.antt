@@ -68,7 +68,7 @@ pub record WritesScratch (isa : Isa) (c : ChoiceValue) : Type 0 where
   pub address : add32 c.w1 (imm_word (fields_of c)) ≡ data_base + c.align
   pub aligned : (c.align % access_size c.op ≡ 0) ⊎ (isa.misaligned ≡ true)
 
--- how far a test's branch or jal goes: 4 to 2048 bytes, in words, either way
+-- the distance of a branch or of jal is a multiple of 4, from 4 to 2048 either way
 pub record IsNearby (z : ℤ) : Type 0 where
   pub words : unsigned_abs z % 4 ≡ 0
   pub some : 4 ≤ unsigned_abs z

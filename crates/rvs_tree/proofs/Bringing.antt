@@ -162,7 +162,7 @@ all-keys T ws k =
     ∙ sym (has_key-append k (merged_keys ws) (T ++ E))
     ∙ ap (λ ks. has_key k (ks ++ (T ++ E))) (sym (kept-merged T ws))
 
--- THE STEP: an entry that merges a map is as good as the entries which are kept of that map
+-- THE STEP: in place of an entry that merges a map stand the entries of that map that are kept
 pub enters : (T : Keys) (ws rest : List Written) →
     sift T (resolved (explicit_keys ws) [] ws)
     ++ later (keys_of (resolved (explicit_keys ws) [] ws) ++ T) rest
