@@ -33,6 +33,7 @@ mod BaseCores
 mod Listings
 mod GenerateEnds
 mod Runnable
+mod Tested
 mod RunSteps
 mod RunReads
 mod DemoEnds

@@ -1,0 +1,24 @@
+-- What holds of the tests that are made of accepted inputs, whichever command makes them.
+use Rattle.std.specs.Prelude.{◌≡◌, ◌<◌, List, ℕ, length, map, Contains, Some, IsTrue}
+use Rattle.rvs_cgf.specs.Groups.{Label}
+use Rattle.rvs_test.specs.Made.{claims_of, unsolved_of, cases_of, text_of_label}
+use Rattle.rvs_test.specs.Named.{claims_read, named_claim}
+use Rattle.rvs_test.specs.Claimed.{TestRuns, IsAccounted}
+use Rattle.rvs_test_text.specs.TestText.{step_limit}
+use Rattle.rvs_suite.specs.GroupFiles.{Inputs}
+
+pub record AreTested (inputs : Inputs) : Type 0 where
+  -- One image stands to the text of each test; its run halts within the header's steps, hits each
+  -- point that is claimed, and leaves the outcome of each case and no other words. The claims are
+  -- those of all points that a choice hits.
+  pub runs : (l : Label) (text : List ℕ) → Contains inputs.groups l → IsTrue l.selected
+      → text_of_label inputs.isa l ≡ Some text
+      → TestRuns inputs.isa l text (claims_of inputs.isa l) (step_limit (cases_of inputs.isa l))
+  -- these claims, by case, kind and key, are what is read back from the bytes of the text alone
+  pub read : (l : Label) (text : List ℕ) → Contains inputs.groups l → IsTrue l.selected
+      → text_of_label inputs.isa l ≡ Some text
+      → claims_read text ≡ Some (map (named_claim l) (claims_of inputs.isa l))
+  -- each point of a label is claimed, where a choice of the datasets hits it, or is listed as
+  -- unsolved, where none does
+  pub accounted : (l : Label) (k : ℕ) → Contains inputs.groups l → k < length l.points
+      → IsAccounted inputs.isa l (claims_of inputs.isa l) (unsolved_of inputs.isa l) k
