@@ -23,6 +23,7 @@ use Rattle.rvs_suite.specs.declared.command.Command.TheVariants.{Coverage}
 use Rattle.rvs_suite.proofs.Answered.{Works, RunsOn, answered}
 use Rattle.rvs_suite.proofs.LogReads.{reads-reported, finds-reported}
 use Rattle.rvs_suite.proofs.Keeping.{WritesNone, WritesNone-then, reads-none, keeps}
+use Rattle.rvs_suite.proofs.Tested.{good-inputs, valid-good}
 
 abbrev works : (files : Files) (isa : List ℕ) (names : List (List ℕ)) (log : List ℕ)
     (windows : List Window) → Works (Coverage isa names log windows) files
@@ -82,6 +83,8 @@ covers {call} files isa names log windows r =
           (report_on inputs.groups windows is_log.0)
           (found-report files isa names log windows inputs is_log.0 given is_log.1 is_log.2)
           (a.done done));
+      valid = λ inputs l given there selected. valid-good inputs l
+          (good-inputs files isa names inputs given) there selected;
       files_kept = keeps r.ran files (Coverage isa names log windows) r.told r.asks
           (writes-coverage isa names log windows);
     }

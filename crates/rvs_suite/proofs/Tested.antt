@@ -65,7 +65,7 @@ pub good-inputs : (files : Files) (isa : List ℕ) (names : List (List ℕ)) (in
 good-inputs files isa names inputs given = subst (λ (r : Result Inputs Stop). IfOk r IsGood) given
     (good-said files names (said_in files isa) (base_said files isa))
 
-valid-good : (inputs : Inputs) (l : Label) → IsGood inputs → Contains inputs.groups l
+pub valid-good : (inputs : Inputs) (l : Label) → IsGood inputs → Contains inputs.groups l
     → IsTrue l.selected → IsValid inputs.isa l
 valid-good inputs l good there selected =
     All-contains (IsValidIfSelected inputs.isa) inputs.groups l good.valid there selected
@@ -92,6 +92,7 @@ reads-label isa l text base valid is = back_there isa l base valid text (claims_
 -- ---- of all that is made of accepted inputs
 tested-good : (inputs : Inputs) → IsGood inputs → AreTested inputs
 tested-good inputs good = record {
+  valid = λ l there selected. valid-good inputs l good there selected;
   runs = λ l text there selected is.
       runs-label inputs.isa l text good.base (valid-good inputs l good there selected) is;
   read = λ l text there selected is.

@@ -1,9 +1,11 @@
 -- What every call of `coverage` promises.
-use Rattle.std.specs.Prelude.{◌≡◌, ◌≤◌, List, ℕ, map, length, Some, Ok}
+use Rattle.std.specs.Prelude.{◌≡◌, ◌≤◌, List, ℕ, map, length, Contains, Some, Ok, IsTrue}
 use Rattle.rvs_base.specs.Host.{Files, Tells}
 use Rattle.rvs_base.specs.Sink.{appended}
 use Rattle.rvs_plan.specs.declared.status.Status.TheVariants.{Done}
 use Rattle.rvs_log.specs.Entries.{Entry, entries_of}
+use Rattle.rvs_cgf.specs.Groups.{Label}
+use Rattle.rvs_cgf.specs.Valid.{IsValid}
 use Rattle.rvs_count.specs.Counting.{aims_of, count, kept}
 use Rattle.rvs_count.specs.Report.{report_of}
 use Rattle.rvs_count.specs.declared.window.Window.{Window}
@@ -35,6 +37,10 @@ pub record Covers (call : Call) (files : Files) (isa : List ℕ) (names : List (
       → HasReported call (report_of inputs.groups
       (map (count (kept windows entries)) (aims_of inputs.groups))
       (length (kept windows entries)))
+  -- A selected label of the groups is valid for the core. So no two of the lines of its points name
+  -- one kind and key, and what each of these points means is what its key says.
+  pub valid : (inputs : Inputs) (l : Label) → inputs_in files isa names ≡ Ok inputs
+      → Contains inputs.groups l → IsTrue l.selected → IsValid inputs.isa l
   -- it writes no file, however it ends
   pub files_kept : call.new.host.files ≡ call.old.host.files
 

@@ -1,6 +1,7 @@
 -- What holds of the tests that are made of accepted inputs, whichever command makes them.
 use Rattle.std.specs.Prelude.{◌≡◌, ◌<◌, List, ℕ, length, map, Contains, Some, IsTrue}
 use Rattle.rvs_cgf.specs.Groups.{Label}
+use Rattle.rvs_cgf.specs.Valid.{IsValid}
 use Rattle.rvs_test.specs.Made.{claims_of, unsolved_of, cases_of, text_of_label}
 use Rattle.rvs_test.specs.Named.{claims_read, named_claim}
 use Rattle.rvs_test.specs.Claimed.{TestRuns, IsAccounted}
@@ -8,6 +9,9 @@ use Rattle.rvs_test_text.specs.TestText.{step_limit}
 use Rattle.rvs_suite.specs.GroupFiles.{Inputs}
 
 pub record AreTested (inputs : Inputs) : Type 0 where
+  -- A selected label is valid for the core. So no two of its points have one kind and key, and what
+  -- each of them means is what its key says.
+  pub valid : (l : Label) → Contains inputs.groups l → IsTrue l.selected → IsValid inputs.isa l
   -- One image stands to the text of each test; its run halts within the header's steps, hits each
   -- point that is claimed, and leaves the outcome of each case and no other words. The claims are
   -- those of all points that a choice hits.
