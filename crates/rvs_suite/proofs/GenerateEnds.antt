@@ -28,6 +28,7 @@ use Rattle.rvs_suite.specs.declared.command.Command.TheVariants.{Generate}
 use Rattle.rvs_suite.proofs.Answered.{Works, RunsOn, answered}
 use Rattle.rvs_suite.proofs.Finding.{Deeds, left, deeds-then, left-then}
 use Rattle.rvs_suite.proofs.GroupInputs.{finds-inputs}
+use Rattle.rvs_suite.proofs.NoTest.{no-point, listing-none}
 use Rattle.rvs_suite.proofs.OneTest.{one-point, file-there}
 use Rattle.rvs_suite.proofs.Sparing.{generate-spares}
 use Rattle.rvs_suite.proofs.Tested.{good-inputs, runs-label, tested}
@@ -123,16 +124,30 @@ one-test {call} work isa l p base valid selected one solvable files =
           found.claims (runs-label isa l found.text base (valid selected) found.is);
     }
 
-one-left : {call : Call} (work : List ℕ) (found : Result Inputs Stop) (isa : Isa) (l : Label)
-    (p : Point) → found ≡ Ok (record { isa = isa; groups = l ∷ [] }) → isa.e ≡ false
-    → IsValidIfSelected isa l → IsTrue l.selected → l.points ≡ p ∷ [] → IsSolvableAt isa l 0
-    → HasLeft found (generating.HasGenerated call work) → generating.HasOneTest call work isa l
-one-left {call} work found isa l p given base valid selected one solvable left =
-    let both : Ok left.given ≡ Ok (record { isa = isa; groups = l ∷ [] }) =
-    sym left.accepted ∙ given in
-    let same : left.given ≡ record { isa = isa; groups = l ∷ [] } = cc in
-    one-test work isa l p base valid selected one solvable (left.left.files
-    ∙ ap (λ (i : Inputs). generating.with_tests work i.isa i.groups call.old.host.files) same)
+-- ---- no point
+none-test : {call : Call} (work : List ℕ) (isa : Isa) (l : Label) (p : Point) → IsTrue l.selected
+    → l.points ≡ p ∷ [] → l.skipped ≡ [] → (IsSolvableAt isa l 0 → ⊥)
+    → generating.HasGenerated call work (record { isa = isa; groups = l ∷ [] })
+    → generating.HasNoTest call l p
+none-test {call} work isa l p selected one skipped never made =
+    let chosen : l.selected ≡ true = selected in
+    let left = no-point isa l p one never in
+    let kept : generating.with_tests work isa (l ∷ []) call.old.host.files ≡ call.old.host.files =
+    λ i. files-one work (chosen i) l.name (left.text i) call.old.host.files in
+    record {
+      files = made.files ∙ kept;
+      out = made.out ∙ ap (appended call.old.out.bytes)
+          (listing-none isa l p chosen one skipped left);
+    }
+
+-- what a call has left of inputs that are these
+generated : {call : Call} (work : List ℕ) (found : Result Inputs Stop) (inputs : Inputs)
+    → found ≡ Ok inputs → HasLeft found (generating.HasGenerated call work)
+    → generating.HasGenerated call work inputs
+generated {call} work found inputs given left =
+    let both : Ok left.given ≡ Ok inputs = sym left.accepted ∙ given in
+    let same : left.given ≡ inputs = cc in
+    subst (λ (i : Inputs). generating.HasGenerated call work i) same left.left
 
 -- ---- the promise
 abbrev works : (files : Files) (isa : List ℕ) (names : List (List ℕ)) (work : List ℕ)
@@ -158,10 +173,17 @@ pub makes : {call : Call} (files : Files) (isa : List ℕ) (names : List (List �
 makes {call} files isa names work r = record {
   answered = answers-generate files isa names work r;
   one = λ isa' l p given selected single solvable is.
-      let good = good-inputs files isa names (record { isa = isa'; groups = l ∷ [] }) given in
-      one-left work (inputs_in files isa names) isa' l p given good.base
-      (All-head (IsValidIfSelected isa') l [] good.valid) selected single solvable
-      ((answers-generate files isa names work r).done is);
+      let inputs : Inputs = record { isa = isa'; groups = l ∷ [] } in
+      let good = good-inputs files isa names inputs given in
+      let made = generated {call = call} work (inputs_in files isa names) inputs given
+      ((answers-generate files isa names work r).done is) in
+      one-test work isa' l p good.base (All-head (IsValidIfSelected isa') l [] good.valid) selected
+      single solvable made.files;
+  none = λ isa' l p given selected single skipped never is.
+      none-test work isa' l p selected single skipped never
+      (generated {call = call} work (inputs_in files isa names)
+      (record { isa = isa'; groups = l ∷ [] }) given
+      ((answers-generate files isa names work r).done is));
   tested = tested files isa names;
   others_kept =
       λ files' other. generate-spares r.ran files files' isa names work other r.told r.asks;

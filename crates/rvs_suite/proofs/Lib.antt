@@ -34,6 +34,8 @@ mod Listings
 mod GenerateEnds
 mod Runnable
 mod Tested
+mod PointLines
+mod NoTest
 mod RunSteps
 mod RunReads
 mod DemoEnds

@@ -32,6 +32,7 @@ use Rattle.rvs_suite.specs.Judging.{run_inputs_in}
 use Rattle.rvs_suite.specs.Tested.{AreTested}
 use Rattle.rvs_suite.specs.declared.gathering.Test.{Test}
 use Rattle.rvs_suite.proofs.BaseCores.{IsBase, base_said}
+use Rattle.rvs_suite.proofs.PointLines.{has-lines}
 use Rattle.rvs_suite.proofs.Runnable.{runnable}
 
 -- ---- the labels that are read are valid, for a core that tests are made for
@@ -98,6 +99,7 @@ tested-good inputs good = record {
   read = λ l text there selected is.
       reads-label inputs.isa l text good.base (valid-good inputs l good there selected) is;
   accounted = λ l k there within. accounted inputs.isa l k within;
+  lines = λ l there selected. has-lines inputs.isa l;
 }
 
 pub tested : (files : Files) (isa : List ℕ) (names : List (List ℕ)) (inputs : Inputs)

@@ -1,6 +1,6 @@
 -- What every call of `generate` promises.
-use Rattle.std.specs.Prelude.{◌≡◌, ◌≢◌, ℕ, IsTrue, if◌then◌else◌, List, [], ◌∷◌, Option, Some, None}
-use Rattle.std.specs.Prelude.{Ok}
+use Rattle.std.specs.Prelude.{◌≡◌, ◌≢◌, ℕ, IsTrue, if◌then◌else◌, List, [], ◌∷◌, ◌++◌, Option, Some}
+use Rattle.std.specs.Prelude.{None, Ok, codes}
 use Rattle.rvs_base.specs.Host.{Files, Tells, written}
 use Rattle.rvs_base.specs.Sink.{appended}
 use Rattle.rvs_plan.specs.declared.status.Status.TheVariants.{Done}
@@ -12,7 +12,7 @@ use Rattle.rvs_test_text.specs.TestText.{step_limit}
 use Rattle.rvs_test.specs.Claimed.{TestRuns}
 use Rattle.rvs_suite.specs.Answered.{Answered}
 use Rattle.rvs_suite.specs.Call.{Call, Asks}
-use Rattle.rvs_suite.specs.GenerateTexts.{listing}
+use Rattle.rvs_suite.specs.GenerateTexts.{unsolved_line, name_line, listing}
 use Rattle.rvs_suite.specs.Generate.{path_of}
 use Rattle.rvs_suite.specs.GroupFiles.{Inputs, inputs_in}
 use Rattle.rvs_suite.specs.Tested.{AreTested}
@@ -46,6 +46,12 @@ pub record HasOneTest (call : Call) (work : List ℕ) (isa : Isa) (l : Label) : 
       → files' (path_of work l.name) ≡ Some text
   pub runs : TestRuns isa l text (record { case = 0; point = 0 } ∷ []) (step_limit (cases_of isa l))
 
+-- no file is written, and this point of the label is put as unsolved
+pub record HasNoTest (call : Call) (l : Label) (p : Point) : Type 0 where
+  pub files : call.new.host.files ≡ call.old.host.files
+  pub out : call.new.out.bytes ≡ appended call.old.out.bytes (name_line l.name ++ (unsolved_line p
+      ++ codes "total 0 tests, 0 cases, 1 unsolved, 0 skipped\n"))
+
 -- a call of `generate` on these of these files, for this folder
 pub record Generates (call : Call) (files : Files) (isa : List ℕ) (names : List (List ℕ))
     (work : List ℕ) : Type 0 where
@@ -59,6 +65,11 @@ pub record Generates (call : Call) (files : Files) (isa : List ℕ) (names : Lis
       → inputs_in files isa names ≡ Ok (record { isa = isa'; groups = l ∷ [] })
       → IsTrue l.selected → l.points ≡ p ∷ [] → IsSolvableAt isa' l 0 → call.status ≡ Done
       → HasOneTest call work isa' l
+  -- and one with a point that no choice hits leaves no test
+  pub none : (isa' : Isa) (l : Label) (p : Point)
+      → inputs_in files isa names ≡ Ok (record { isa = isa'; groups = l ∷ [] })
+      → IsTrue l.selected → l.points ≡ p ∷ [] → l.skipped ≡ [] → (IsSolvableAt isa' l 0 → ⊥)
+      → call.status ≡ Done → HasNoTest call l p
   -- it changes no file but those of tests, however it ends
   pub others_kept : (files' : Files) (other : List ℕ)
       → ((name : List ℕ) → other ≢ path_of work name) → call.new.host.files ≡ Some files'
