@@ -1,6 +1,7 @@
 -- What every call of `coverage` promises.
-use Rattle.std.proofs.Common.{◌≡◌, ◌≤◌, ℕ, Bool, false, List, map, length, nat_lt, Option, Some}
-use Rattle.std.proofs.Common.{Result, Ok, Err, if◌then◌else◌, refl, sym, ap, subst, ◌∙◌}
+use Rattle.std.proofs.Common.{◌≡◌, ◌≤◌, ℕ, Bool, false, List, [], ◌∷◌, map, length, nat_lt}
+use Rattle.std.proofs.Common.{Option, Some, Result, Ok, Err, if◌then◌else◌, refl, sym, ap, subst}
+use Rattle.std.proofs.Common.{◌∙◌}
 use Rattle.std.proofs.lemmas.Bool.{le-ltb}
 use Rattle.rvs_base.specs.Host.{Files, Tells}
 use Rattle.rvs_plan.specs.World.{Contents}
@@ -21,6 +22,7 @@ use Rattle.rvs_suite.specs.Coverage.{print_report, coverage}
 use Rattle.rvs_suite.specs.Covering as covering
 use Rattle.rvs_suite.specs.declared.command.Command.TheVariants.{Coverage}
 use Rattle.rvs_suite.proofs.Answered.{Works, RunsOn, answered}
+use Rattle.rvs_suite.proofs.OneCount.{one-count}
 use Rattle.rvs_suite.proofs.LogReads.{reads-reported, finds-reported}
 use Rattle.rvs_suite.proofs.Keeping.{WritesNone, WritesNone-then, reads-none, keeps}
 use Rattle.rvs_suite.proofs.Tested.{good-inputs, valid-good}
@@ -67,6 +69,20 @@ counted-report : (call : Call) (found : Result (List ℕ) Stop) (report : List �
 counted-report call found report is left = let same : left.given ≡ report = cc in
     subst (covering.HasReported call) same left.left
 
+reported-counts : {call : Call} (files : Files) (isa : List ℕ) (names : List (List ℕ))
+    (log : List ℕ) (windows : List Window)
+    → Answered call (report_in files isa names log windows) (covering.HasReported call)
+    → (inputs : Inputs) (entries : List Entry) → inputs_in files isa names ≡ Ok inputs
+    → covering.IsLogOf files log entries → call.status ≡ Done → covering.HasReported call
+    (report_of inputs.groups (map (count (kept windows entries)) (aims_of inputs.groups))
+    (length (kept windows entries)))
+reported-counts {call} files isa names log windows a inputs entries given is_log done =
+    subst (covering.HasReported call) (the-report inputs.groups windows is_log.0 entries is_log.3)
+    (counted-report call (report_in files isa names log windows)
+    (report_on inputs.groups windows is_log.0)
+    (found-report files isa names log windows inputs is_log.0 given is_log.1 is_log.2)
+    (a.done done))
+
 pub covers : {call : Call} (files : Files) (isa : List ℕ) (names : List (List ℕ)) (log : List ℕ)
     (windows : List Window) → RunsOn call files (Coverage isa names log windows) → covering.Covers
     call files isa names log windows
@@ -76,13 +92,11 @@ covers {call} files isa names log windows r =
     (λ report left. ap (λ (c : Contents). c.out) left) in
     record {
       answered = a;
-      counts = λ inputs entries given is_log done.
-          subst (covering.HasReported call)
-          (the-report inputs.groups windows is_log.0 entries is_log.3)
-          (counted-report call (report_in files isa names log windows)
-          (report_on inputs.groups windows is_log.0)
-          (found-report files isa names log windows inputs is_log.0 given is_log.1 is_log.2)
-          (a.done done));
+      counts = reported-counts files isa names log windows a;
+      one = λ isa' l p e given selected single none is_log hit done.
+          subst (covering.HasReported call) (one-count windows l p e selected single none hit)
+          (reported-counts files isa names log windows a
+          (record { isa = isa'; groups = l ∷ [] }) (e ∷ []) given is_log done);
       valid = λ inputs l given there selected. valid-good inputs l
           (good-inputs files isa names inputs given) there selected;
       files_kept = keeps r.ran files (Coverage isa names log windows) r.told r.asks

@@ -164,3 +164,11 @@ says-nothing status err err' (Err reason) c is = elim c.outcome [
   | inl whole ↦ absurd (not-stopped reason status is whole.0)
   | inr lost ↦ absurd (unsaid status is lost.0)
 ]
+
+pub unfaulted-line : (status : Status) (err err' : SinkState) (result : Result Finish Stop)
+    → Concludes result status err err' → status ≢ answer.SinkFault → err'.faults ≡ err.faults
+unfaulted-line status err err' (Ok end) c never = ap (λ (s : SinkState). s.faults) c.1
+unfaulted-line status err err' (Err reason) c never = elim c.outcome [
+  | inl whole ↦ whole.2
+  | inr lost ↦ absurd (never lost.0)
+]

@@ -31,7 +31,7 @@ use Rattle.rvs_suite.proofs.ReferenceRuns.{reference-refused, reference-refuses,
 use Rattle.rvs_suite.proofs.ReferenceRuns.{reference-misses}
 use Rattle.rvs_suite.proofs.LogEntries.{halting_entries}
 use Rattle.rvs_suite.proofs.Lines.{says-usage, says-no_memory, says-refused, says-host}
-use Rattle.rvs_suite.proofs.Lines.{says-nothing}
+use Rattle.rvs_suite.proofs.Lines.{says-nothing, unfaulted-line}
 use Rattle.rvs_suite.proofs.Untouched.{untouched, untouched-absent}
 use Rattle.rvs_suite.proofs.Keeping.{compare-keeps, validate-keeps}
 use Rattle.rvs_suite.proofs.Sparing.{reference-spares}
@@ -80,6 +80,8 @@ causes-promise {call} r =
       line_host_fault =
           says-host call.status call.old.err call.new.err r.ran.result r.ran.concludes;
       quiet = says-nothing call.status call.old.err call.new.err r.ran.result r.ran.concludes;
+      errors_unfaulted =
+          unfaulted-line call.status call.old.err call.new.err r.ran.result r.ran.concludes;
       later = (answers r.ran).later;
       errors_later = (answers r.ran).errors_later;
     }

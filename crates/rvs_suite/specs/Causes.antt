@@ -39,6 +39,9 @@ pub record Promise (call : Call) : Type 0 where
   pub missing : call.status ≡ answer.HostFault → is_told call.old.host ≡ true → HostRose call ⊎
       NoneChanged (absence_of (command_of call.words)) (world_of call.old) (world_of call.new)
       call.old.err call.new.err
+  -- a line for errors was put without a fault, but where the status says otherwise
+  pub errors_unfaulted : call.status ≢ answer.SinkFault
+      → call.new.err.faults ≡ call.old.err.faults
   -- no count falls, and what was told is told
   pub later : Later (world_of call.old) (world_of call.new)
   pub errors_later : LaterSink call.old.err call.new.err

@@ -1,12 +1,14 @@
 -- What every call of `coverage` promises.
-use Rattle.std.specs.Prelude.{◌≡◌, ◌≤◌, List, ℕ, map, length, Contains, Some, Ok, IsTrue}
+use Rattle.std.specs.Prelude.{◌≡◌, ◌≤◌, List, [], ◌∷◌, ℕ, map, length, Contains, Some, Ok}
+use Rattle.std.specs.Prelude.{IsTrue}
 use Rattle.rvs_base.specs.Host.{Files, Tells}
 use Rattle.rvs_base.specs.Sink.{appended}
 use Rattle.rvs_plan.specs.declared.status.Status.TheVariants.{Done}
+use Rattle.rvs_insn.specs.Isa.{Isa}
 use Rattle.rvs_log.specs.Entries.{Entry, entries_of}
-use Rattle.rvs_cgf.specs.Groups.{Label}
+use Rattle.rvs_cgf.specs.Groups.{Label, Point}
 use Rattle.rvs_cgf.specs.Valid.{IsValid}
-use Rattle.rvs_count.specs.Counting.{aims_of, count, kept}
+use Rattle.rvs_count.specs.Counting.{aims_of, count, hits, kept}
 use Rattle.rvs_count.specs.Report.{report_of}
 use Rattle.rvs_count.specs.declared.window.Window.{Window}
 use Rattle.rvs_suite.specs.Answered.{Answered}
@@ -37,6 +39,13 @@ pub record Covers (call : Call) (files : Files) (isa : List ℕ) (names : List (
       → HasReported call (report_of inputs.groups
       (map (count (kept windows entries)) (aims_of inputs.groups))
       (length (kept windows entries)))
+  -- so where one instruction is all that the log has, and it hits the one point of the one label,
+  -- the report counts one
+  pub one : (isa' : Isa) (l : Label) (p : Point) (e : Entry)
+      → inputs_in files isa names ≡ Ok (record { isa = isa'; groups = l ∷ [] })
+      → IsTrue l.selected → l.points ≡ p ∷ [] → windows ≡ [] → IsLogOf files log (e ∷ [])
+      → IsTrue (hits (record { ops = l.ops; point = p }) e) → call.status ≡ Done
+      → HasReported call (report_of (l ∷ []) (1 ∷ []) 1)
   -- A selected label of the groups is valid for the core. So no two of the lines of its points name
   -- one kind and key, and what each of these points means is what its key says.
   pub valid : (inputs : Inputs) (l : Label) → inputs_in files isa names ≡ Ok inputs

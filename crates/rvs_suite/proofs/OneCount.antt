@@ -1,0 +1,68 @@
+-- The report on a log of one instruction, which hits the only point of the only label.
+use Rattle.std.proofs.Common.{◌≡◌, ℕ, Bool, true, false, ◌+◌, ◌&&◌, cond, List, [], ◌∷◌, map, length}
+use Rattle.std.proofs.Common.{Option, Some, None, refl, ap, ◌∙◌, IsTrue, sym}
+use Rattle.std.specs.Prelude.{count_by}
+use Rattle.std.proofs.lemmas.List.Sums.{sum_by-cons}
+use Rattle.rvs_insn.specs.Fields.{Fields}
+use Rattle.rvs_facts.specs.Facts.{facts_of}
+use Rattle.rvs_cross.specs.Cross.{Place}
+use Rattle.rvs_log.specs.Entries.{Entry}
+use Rattle.rvs_cgf.specs.Groups.{Meaning, op_is, reg_is, regs, nums, window, Label, Point}
+use Rattle.rvs_cgf.specs.Hits.{has_op, is_meant}
+use Rattle.rvs_count.specs.Counting.{Aim, aims_of, count, count_for, decoded, hits, hits_insn, kept}
+use Rattle.rvs_count.specs.Report.{report_of}
+use Rattle.rvs_count.specs.declared.window.Window.{Window}
+use Rattle.rvs_suite.proofs.OptionPairs.{and-right}
+
+-- no instruction alone hits a cross point
+no-window : (a : Aim) (i : Option Fields) (v1 v2 : ℕ) (ps : List Place)
+    → a.point.meaning ≡ window ps → hits_insn a i v1 v2 ≡ true → ⊥
+no-window a None v1 v2 ps is hit = cc
+no-window a (Some i) v1 v2 ps is hit =
+    let meant = and-right (has_op a.ops i.op)
+    (is_meant a.point.kind a.point.meaning i.op (facts_of i v1 v2)) hit in
+    let none : is_meant a.point.kind a.point.meaning i.op (facts_of i v1 v2) ≡ false =
+    ap (λ (m : Meaning). is_meant a.point.kind m i.op (facts_of i v1 v2)) is in
+    let both : true ≡ false = sym meant ∙ none in cc
+
+counts-one : (test : Entry → Bool) (e : Entry) → test e ≡ true → count_by test (e ∷ []) ≡ 1
+counts-one test e hit = sum_by-cons (λ (x : Entry). cond (test x) 1 0) e []
+    ∙ ap (λ (b : Bool). cond b 1 0 + 0) hit
+
+counted-for : (m : Meaning) (a : Aim) (e : Entry) → a.point.meaning ≡ m → hits a e ≡ true
+    → count_for m (e ∷ []) a ≡ 1
+counted-for (op_is op) a e is hit = counts-one (hits a) e hit
+counted-for (reg_is number) a e is hit = counts-one (hits a) e hit
+counted-for (regs formula) a e is hit = counts-one (hits a) e hit
+counted-for (nums formula) a e is hit = counts-one (hits a) e hit
+counted-for (window ps) a e is hit = absurd (no-window a (decoded e) e.v1 e.v2 ps is hit)
+
+-- what the report says of these entries
+abbrev report-on : List Label → List Entry → List ℕ
+report-on groups entries = report_of groups (map (count entries) (aims_of groups)) (length entries)
+
+-- a label in which these parts stand
+abbrev label-with : Label → Bool → List Point → Label
+label-with l b points = record {
+  name = l.name;
+  ops = l.ops;
+  selected = b;
+  points = points;
+  skipped = l.skipped;
+}
+
+pub one-count : (windows : List Window) (l : Label) (p : Point) (e : Entry) → IsTrue l.selected
+    → l.points ≡ p ∷ [] → windows ≡ [] → IsTrue (hits (record { ops = l.ops; point = p }) e)
+    → report_of (l ∷ []) (map (count (kept windows (e ∷ []))) (aims_of (l ∷ [])))
+    (length (kept windows (e ∷ []))) ≡ report_of (l ∷ []) (1 ∷ []) 1
+one-count windows l p e selected single none hit =
+    let a : Aim = record { ops = l.ops; point = p } in
+    let chosen : l.selected ≡ true = selected in
+    ap (λ (ws : List Window). report-on (l ∷ []) (kept ws (e ∷ []))) none
+    ∙ ap (λ (as : List Aim). report_of (l ∷ []) (map (count (e ∷ [])) as) 1) (aims l p chosen single)
+    ∙ ap (λ (n : ℕ). report_of (l ∷ []) (n ∷ []) 1) (counted-for p.meaning a e refl hit)
+  where
+    aims : (l : Label) (p : Point) → l.selected ≡ true → l.points ≡ p ∷ []
+        → aims_of (l ∷ []) ≡ record { ops = l.ops; point = p } ∷ []
+    aims l p chosen single =
+        (λ i. aims_of (label-with l (chosen i) (single i) ∷ []))
