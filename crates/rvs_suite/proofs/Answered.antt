@@ -17,7 +17,7 @@ use Rattle.rvs_plan.specs.declared.status.Status.TheVariants as answer
 use Rattle.rvs_plan.specs.declared.status.Finish.{Finish}
 use Rattle.rvs_plan.specs.declared.status.Finish.TheVariants.{Done, NotPassed}
 use Rattle.rvs_suite.specs.Plans.{plan_of}
-use Rattle.rvs_suite.specs.Commands.{command_of}
+use Rattle.rvs_words.specs.Commands.{command_of}
 use Rattle.rvs_suite.specs.Call.{Call, world_of}
 use Rattle.rvs_suite.specs.Answered.{HasLeft, HasRefused, HasMissed, Answered}
 use Rattle.rvs_suite.proofs.Ends.{same_end, means-end, WasRefused, was_refused, WasMissing}
@@ -25,7 +25,7 @@ use Rattle.rvs_suite.proofs.Ends.{was_missing}
 use Rattle.rvs_suite.proofs.Finding.{Finds, end-found, Behind, behind, Deeds, left, end-deeds}
 use Rattle.rvs_suite.proofs.Finding.{left-after}
 use Rattle.rvs_suite.proofs.Running.{Ran, at_status, asked_means}
-use Rattle.rvs_suite.specs.declared.command.Command.{Command}
+use Rattle.rvs_words.specs.declared.command.Command.{Command}
 
 -- a command reads its inputs, which over these files come to this, and then does its deeds
 pub record Works {A : Type 0} (command : Command) (files : Files) (found : Result A Stop) : Type

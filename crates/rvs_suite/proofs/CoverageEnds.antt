@@ -20,7 +20,7 @@ use Rattle.rvs_suite.specs.GroupFiles.{Inputs, and_then, inputs_in}
 use Rattle.rvs_suite.specs.Coverage.{log_limit, report_on, report_found, report_in, reported}
 use Rattle.rvs_suite.specs.Coverage.{print_report, coverage}
 use Rattle.rvs_suite.specs.Covering as covering
-use Rattle.rvs_suite.specs.declared.command.Command.TheVariants.{Coverage}
+use Rattle.rvs_words.specs.declared.command.Command.TheVariants.{Coverage}
 use Rattle.rvs_suite.proofs.Answered.{Works, RunsOn, answered}
 use Rattle.rvs_suite.proofs.OneCount.{one-count}
 use Rattle.rvs_suite.proofs.LogReads.{reads-reported, finds-reported}

@@ -13,7 +13,7 @@ use Rattle.rvs_suite.specs.Call.{Call}
 use Rattle.rvs_suite.specs.Answered.{Answered, HasRefused}
 use Rattle.rvs_suite.specs.Demonstrate.{demonstrate}
 use Rattle.rvs_suite.specs.Demonstrating.{Demonstrates}
-use Rattle.rvs_suite.specs.declared.command.Command.TheVariants.{Demo}
+use Rattle.rvs_words.specs.declared.command.Command.TheVariants.{Demo}
 use Rattle.rvs_suite.proofs.Answered.{Works, RunsOn, answered}
 use Rattle.rvs_suite.proofs.Keeping.{keeps}
 

@@ -24,7 +24,7 @@ use Rattle.rvs_suite.specs.GenerateTexts.{listing}
 use Rattle.rvs_suite.specs.Generate.{path_of, writes_text, writes_test, writes_tests, written_tests}
 use Rattle.rvs_suite.specs.Generate.{generates, generate}
 use Rattle.rvs_suite.specs.Generating as generating
-use Rattle.rvs_suite.specs.declared.command.Command.TheVariants.{Generate}
+use Rattle.rvs_words.specs.declared.command.Command.TheVariants.{Generate}
 use Rattle.rvs_suite.proofs.Answered.{Works, RunsOn, answered}
 use Rattle.rvs_suite.proofs.Finding.{Deeds, left, deeds-then, left-then}
 use Rattle.rvs_suite.proofs.GroupInputs.{finds-inputs}

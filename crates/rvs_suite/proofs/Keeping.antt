@@ -20,8 +20,8 @@ use Rattle.rvs_suite.specs.Specification.{isa_limit, checks, specification}
 use Rattle.rvs_suite.specs.Plans.{plan_of}
 use Rattle.rvs_suite.proofs.Readers.{OnlyReads}
 use Rattle.rvs_suite.proofs.Running.{Ran, answers}
-use Rattle.rvs_suite.specs.declared.command.Command.{Command}
-use Rattle.rvs_suite.specs.declared.command.Command.TheVariants.{Compare, Validate}
+use Rattle.rvs_words.specs.declared.command.Command.{Command}
+use Rattle.rvs_words.specs.declared.command.Command.TheVariants.{Compare, Validate}
 
 abbrev pub WritesNone : {A : Type 0} → Plan A → Type 0
 WritesNone (Ends end) = ⊤

@@ -11,7 +11,6 @@ mod Reading
 mod ValidateEnds
 mod ValidateRuns
 mod Verdicts
-mod WordRows
 mod CompareEnds
 mod Untouched
 mod Keeping
@@ -42,10 +41,3 @@ mod DemoEnds
 mod RunEnds
 mod OneTest
 mod Saying
-mod OptionPairs
-mod CommandWords
-mod OptionOrder
-mod CommandNumbers
-mod FirstCuts
-mod OptionNames
-mod WindowTexts

@@ -6,7 +6,7 @@ use Rattle.rvs_suite.specs.Call.{Call, Asks}
 use Rattle.rvs_suite.specs.GroupFiles.{Inputs, group_inputs, inputs_in}
 use Rattle.rvs_suite.specs.Normalize.{print_normal, normalize}
 use Rattle.rvs_suite.specs.Normalizing as normalizing
-use Rattle.rvs_suite.specs.declared.command.Command.TheVariants.{Normalize}
+use Rattle.rvs_words.specs.declared.command.Command.TheVariants.{Normalize}
 use Rattle.rvs_suite.proofs.Answered.{Works, RunsOn, answered}
 use Rattle.rvs_suite.proofs.GroupInputs.{reads-inputs, finds-inputs}
 use Rattle.rvs_suite.proofs.NormalAgain.{normal-again}

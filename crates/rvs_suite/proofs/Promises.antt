@@ -8,7 +8,7 @@ use Rattle.rvs_plan.specs.declared.stop.Stop.{Stop}
 use Rattle.rvs_plan.specs.declared.status.Status.{Status}
 use Rattle.rvs_plan.specs.declared.status.Finish.{Finish}
 use Rattle.rvs_suite.specs.Plans.{Performs}
-use Rattle.rvs_suite.specs.Commands.{command_of}
+use Rattle.rvs_words.specs.Commands.{command_of}
 use Rattle.rvs_suite.specs.Call.{Call, call, world_of}
 use Rattle.rvs_suite.specs.Comparing as comparing
 use Rattle.rvs_suite.specs.Validating as validating

@@ -13,8 +13,8 @@ use Rattle.rvs_suite.proofs.ReferenceEnds.{Asked, records-done, no_verdict, turn
 use Rattle.rvs_suite.proofs.ReferenceEnds.{lacks_input, halting-status, refused-status}
 use Rattle.rvs_suite.proofs.ReferenceEnds.{missing-status}
 use Rattle.rvs_suite.specs.declared.test_run.Run.{Run}
-use Rattle.rvs_suite.specs.declared.command.Command.{Command}
-use Rattle.rvs_suite.specs.declared.command.Command.TheVariants.{Reference}
+use Rattle.rvs_words.specs.declared.command.Command.{Command}
+use Rattle.rvs_words.specs.declared.command.Command.TheVariants.{Reference}
 
 abbrev asked : List ℕ → List ℕ → List ℕ → Option (List ℕ) → Option ℕ → Asked
 asked isa test signature log steps =

@@ -30,7 +30,7 @@ use Rattle.rvs_suite.specs.RunTests.{RunInputs, run_inputs, bench_of, runs, run}
 use Rattle.rvs_suite.specs.RunLeft.{verdict_lines, passed_onto, with_all_judged}
 use Rattle.rvs_suite.specs.Judging.{run_inputs_in, tests_in, task_of, HasJudged, Runs}
 use Rattle.rvs_suite.specs.declared.gathering.Test.{Test}
-use Rattle.rvs_suite.specs.declared.command.Command.TheVariants.{Run}
+use Rattle.rvs_words.specs.declared.command.Command.TheVariants.{Run}
 use Rattle.rvs_suite.proofs.Answered.{RunsOn, ran-command}
 use Rattle.rvs_suite.proofs.Ends.{means-end, was_refused, was_missing}
 use Rattle.rvs_suite.proofs.Finding.{Behind, behind, end-found}

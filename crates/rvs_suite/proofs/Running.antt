@@ -20,8 +20,8 @@ use Rattle.rvs_suite.specs.Spells.{Passes, Fails, BothSpell, FirstRefused, First
 use Rattle.rvs_suite.specs.Spells.{Misses}
 use Rattle.rvs_suite.proofs.CompareEnds.{passes, fails, refuses, misses, refused-status}
 use Rattle.rvs_suite.proofs.CompareEnds.{missing-status, spelt-status}
-use Rattle.rvs_suite.specs.declared.command.Command.{Command}
-use Rattle.rvs_suite.specs.declared.command.Command.TheVariants.{Unknown, Compare}
+use Rattle.rvs_words.specs.declared.command.Command.{Command}
+use Rattle.rvs_words.specs.declared.command.Command.TheVariants.{Unknown, Compare}
 
 -- a command that met its plan
 pub Performs-meets : {command : Command} {old new : World} {result : Result Finish Stop}

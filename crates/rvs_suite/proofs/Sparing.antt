@@ -38,8 +38,8 @@ use Rattle.rvs_suite.proofs.Readers.{OnlyReads}
 use Rattle.rvs_suite.proofs.GroupInputs.{reads-inputs}
 use Rattle.rvs_suite.proofs.RunReads.{reads-run}
 use Rattle.rvs_suite.proofs.Running.{Ran, answers}
-use Rattle.rvs_suite.specs.declared.command.Command.{Command}
-use Rattle.rvs_suite.specs.declared.command.Command.TheVariants.{Generate, Reference, Run}
+use Rattle.rvs_words.specs.declared.command.Command.{Command}
+use Rattle.rvs_words.specs.declared.command.Command.TheVariants.{Generate, Reference, Run}
 use Rattle.rvs_suite.specs.declared.gathering.Test.{Test}
 use Rattle.rvs_suite.specs.declared.test_run.Run.{Run as TestRun}
 

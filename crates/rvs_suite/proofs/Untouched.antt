@@ -41,10 +41,10 @@ use Rattle.rvs_suite.proofs.GroupInputs.{reads-specification, reads-inputs}
 use Rattle.rvs_suite.proofs.LogReads.{reads-reported}
 use Rattle.rvs_suite.proofs.RunReads.{reads-run}
 use Rattle.rvs_suite.proofs.Running.{Ran, answers}
-use Rattle.rvs_suite.specs.declared.command.Command.{Command}
-use Rattle.rvs_suite.specs.declared.command.Command.TheVariants.{Unknown, Compare, Validate}
-use Rattle.rvs_suite.specs.declared.command.Command.TheVariants.{Normalize, Generate, Reference}
-use Rattle.rvs_suite.specs.declared.command.Command.TheVariants.{Coverage, Run, Demo}
+use Rattle.rvs_words.specs.declared.command.Command.{Command}
+use Rattle.rvs_words.specs.declared.command.Command.TheVariants.{Unknown, Compare, Validate}
+use Rattle.rvs_words.specs.declared.command.Command.TheVariants.{Normalize, Generate, Reference}
+use Rattle.rvs_words.specs.declared.command.Command.TheVariants.{Coverage, Run, Demo}
 use Rattle.rvs_suite.specs.declared.test_run.Run.{Run as TestRun}
 use Rattle.rvs_suite.specs.declared.gathering.Test.{Test}
 

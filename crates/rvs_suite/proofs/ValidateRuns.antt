@@ -11,8 +11,8 @@ use Rattle.rvs_suite.specs.Says.{Says, IsRefused, Validates, Rejects, Lacks}
 use Rattle.rvs_suite.proofs.Running.{Ran, at_status, asked_means}
 use Rattle.rvs_suite.proofs.ValidateEnds.{validates, no_verdict, rejects, lacks, accepted-status}
 use Rattle.rvs_suite.proofs.ValidateEnds.{rejected-status, absent-status}
-use Rattle.rvs_suite.specs.declared.command.Command.{Command}
-use Rattle.rvs_suite.specs.declared.command.Command.TheVariants.{Validate}
+use Rattle.rvs_words.specs.declared.command.Command.{Command}
+use Rattle.rvs_words.specs.declared.command.Command.TheVariants.{Validate}
 
 pub validate-done : {command : Command} {old new : World} {err err' : SinkState} {status : Status}
     → Ran command old new err err' status → (files : Files) (isa : List ℕ) → Tells old.host files

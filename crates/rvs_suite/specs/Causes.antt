@@ -6,10 +6,10 @@ use Rattle.rvs_plan.specs.World.{Later, LaterSink}
 use Rattle.rvs_base.specs.Sink.{appended}
 use Rattle.rvs_plan.specs.Account.{NoneChanged, fault_line}
 use Rattle.rvs_plan.specs.declared.status.Status.TheVariants as answer
-use Rattle.rvs_suite.specs.Commands.{command_of}
+use Rattle.rvs_words.specs.Commands.{command_of}
 use Rattle.rvs_suite.specs.Plans.{absence_of}
 use Rattle.rvs_suite.specs.Call.{Call, world_of, Asks, HostRose}
-use Rattle.rvs_suite.specs.declared.command.Command.TheVariants.{Unknown}
+use Rattle.rvs_words.specs.declared.command.Command.TheVariants.{Unknown}
 
 -- the sink for errors has this line more
 abbrev pub HasLine : Call → List ℕ → List ℕ → Type 0

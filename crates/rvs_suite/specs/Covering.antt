@@ -15,7 +15,7 @@ use Rattle.rvs_suite.specs.Answered.{Answered}
 use Rattle.rvs_suite.specs.Call.{Call, Asks}
 use Rattle.rvs_suite.specs.Coverage.{log_limit, report_in}
 use Rattle.rvs_suite.specs.GroupFiles.{Inputs, inputs_in}
-use Rattle.rvs_suite.specs.declared.command.Command.TheVariants.{Coverage}
+use Rattle.rvs_words.specs.declared.command.Command.TheVariants.{Coverage}
 
 -- the output has this report
 abbrev pub HasReported : Call → List ℕ → Type 0

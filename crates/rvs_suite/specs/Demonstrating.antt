@@ -5,7 +5,7 @@ use Rattle.rvs_base.specs.Sink.{appended}
 use Rattle.rvs_plan.specs.declared.status.Status.TheVariants.{Done, NotPassed, Refused}
 use Rattle.rvs_demo.specs.Demo.{demo_text, IsWhole}
 use Rattle.rvs_suite.specs.Call.{Call, Asks, NothingFailed, AnswersOnly}
-use Rattle.rvs_suite.specs.declared.command.Command.TheVariants.{Demo}
+use Rattle.rvs_words.specs.declared.command.Command.TheVariants.{Demo}
 
 -- a call of `demo` for so many generated instructions
 pub record Demonstrates (call : Call) (count : ℕ) : Type 0 where

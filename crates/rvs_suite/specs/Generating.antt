@@ -16,7 +16,7 @@ use Rattle.rvs_suite.specs.GenerateTexts.{unsolved_line, name_line, listing}
 use Rattle.rvs_suite.specs.Generate.{path_of}
 use Rattle.rvs_suite.specs.GroupFiles.{Inputs, inputs_in}
 use Rattle.rvs_suite.specs.Tested.{AreTested}
-use Rattle.rvs_suite.specs.declared.command.Command.TheVariants.{Generate}
+use Rattle.rvs_words.specs.declared.command.Command.TheVariants.{Generate}
 
 -- the files with a text more, where there is one
 abbrev pub with_text : List ℕ → Option (List ℕ) → Option Files → Option Files

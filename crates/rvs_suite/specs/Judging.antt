@@ -25,7 +25,7 @@ use Rattle.rvs_suite.specs.RunTests.{RunInputs, bench_of}
 use Rattle.rvs_suite.specs.RunLeft.{AreRunsOf, verdict_by, verdict_lines, passed_onto}
 use Rattle.rvs_suite.specs.RunLeft.{with_all_judged}
 use Rattle.rvs_suite.specs.declared.gathering.Test.{Test}
-use Rattle.rvs_suite.specs.declared.command.Command.TheVariants.{Run}
+use Rattle.rvs_words.specs.declared.command.Command.TheVariants.{Run}
 
 -- what the ISA file, the group files and the device file give, or the first of them that isn't
 -- there or is refused

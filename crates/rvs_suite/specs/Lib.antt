@@ -1,5 +1,3 @@
-pub mod Words
-pub mod Commands
 pub mod Texts
 pub mod Compare
 pub mod Specification
@@ -25,7 +23,6 @@ pub mod Seen
 pub mod GroupsView
 pub mod Normalize
 pub mod Normalizing
-pub mod Windows
 pub mod Coverage
 pub mod Covering
 pub mod GenerateTexts
@@ -41,4 +38,3 @@ pub mod RunLeft
 pub mod Judging
 pub mod Demonstrate
 pub mod Demonstrating
-pub mod CommandLaws

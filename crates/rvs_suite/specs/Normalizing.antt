@@ -7,7 +7,7 @@ use Rattle.rvs_cgf.specs.Spelled.{bare, selected}
 use Rattle.rvs_suite.specs.Answered.{Answered}
 use Rattle.rvs_suite.specs.Call.{Call, Asks}
 use Rattle.rvs_suite.specs.GroupFiles.{Inputs, groups_limit, inputs_in}
-use Rattle.rvs_suite.specs.declared.command.Command.TheVariants.{Normalize}
+use Rattle.rvs_words.specs.declared.command.Command.TheVariants.{Normalize}
 
 -- the output has the groups with all points written out
 abbrev pub HasPrinted : Call → Inputs → Type 0

@@ -6,7 +6,7 @@ use Rattle.rvs_plan.specs.Meets.{Obeys}
 use Rattle.rvs_plan.specs.declared.stop.Stop.{Stop}
 use Rattle.rvs_plan.specs.declared.stop.Stop.TheVariants as why
 use Rattle.rvs_plan.specs.declared.status.Finish.{Finish}
-use Rattle.rvs_suite.specs.Commands.{command_of}
+use Rattle.rvs_words.specs.Commands.{command_of}
 use Rattle.rvs_suite.specs.Compare as comparing
 use Rattle.rvs_suite.specs.Validate as validating
 use Rattle.rvs_suite.specs.Coverage as covering
@@ -15,10 +15,10 @@ use Rattle.rvs_suite.specs.Normalize as normalizing
 use Rattle.rvs_suite.specs.Reference as running
 use Rattle.rvs_suite.specs.RunTests as judging
 use Rattle.rvs_suite.specs.Demonstrate as demonstrating
-use Rattle.rvs_suite.specs.declared.command.Command.{Command}
-use Rattle.rvs_suite.specs.declared.command.Command.TheVariants.{Unknown, Compare, Validate}
-use Rattle.rvs_suite.specs.declared.command.Command.TheVariants.{Normalize, Generate, Reference}
-use Rattle.rvs_suite.specs.declared.command.Command.TheVariants.{Coverage, Run, Demo}
+use Rattle.rvs_words.specs.declared.command.Command.{Command}
+use Rattle.rvs_words.specs.declared.command.Command.TheVariants.{Unknown, Compare, Validate}
+use Rattle.rvs_words.specs.declared.command.Command.TheVariants.{Normalize, Generate, Reference}
+use Rattle.rvs_words.specs.declared.command.Command.TheVariants.{Coverage, Run, Demo}
 
 -- the plan of a command
 abbrev pub plan_of : Command → Plan Finish

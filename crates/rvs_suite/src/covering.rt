@@ -13,11 +13,11 @@ ghost use Rattle.rvs_suite.specs.Coverage.{report_on, report_found, reported, pr
 ghost use Rattle.rvs_suite.specs.Coverage.{coverage};
 
 use crate::group_files::read_inputs;
-use crate::words::owned;
 use rvs_base::{Host, Items, NoMemory, Sink, Text};
 use rvs_cgf::Groups;
 use rvs_count::{Counter, LogFault, Window, count_file};
 use rvs_plan::{Finish, Stop, print, too_long};
+use rvs_words::owned;
 use std::alloc::Global;
 
 /// The greatest length of a log in bytes: 2^40.

@@ -11,10 +11,10 @@ ghost use Rattle.rvs_suite.specs.Tests.{IsRunnable, test_with, tests_of_label, t
 use crate::group_files::Inputs;
 use crate::listing::{push_total, push_unselected};
 use crate::making::{Said, say_made};
-use crate::words::owned;
 use rvs_base::{Items, NoMemory, Text};
 use rvs_cgf::Label;
 use rvs_insn::IsaSpec;
+use rvs_words::owned;
 use std::alloc::Global;
 
 /// The test of a label.

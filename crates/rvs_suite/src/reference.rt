@@ -13,13 +13,13 @@ ghost use Rattle.rvs_suite.specs.Reference.{trial, writes_log, announces_run, re
 use crate::isa_file::read_isa;
 use crate::test_file::run_bytes;
 use crate::test_run::Run;
-use crate::words::owned;
 use rvs_base::{Bytes, Host, Items, NoMemory, Sink, Text};
 use rvs_insn::IsaSpec;
 use rvs_log::log_line;
 use rvs_machine::Executed;
 use rvs_plan::{Finish, Stop, print, read_input, write_output};
 use rvs_sig::print_words;
+use rvs_words::owned;
 use std::alloc::Global;
 
 /// The greatest length of a test file in bytes: 64 MiB.

@@ -14,11 +14,11 @@ use crate::device_file::read_device_file;
 use crate::gathering::{Test, gather_tests};
 use crate::group_files::read_inputs;
 use crate::judging::{Bench, judge_one};
-use crate::words::owned;
 use rvs_base::{Host, NoMemory, Sink, Text};
 use rvs_device::Device;
 use rvs_insn::IsaSpec;
 use rvs_plan::{Finish, Stop, print};
+use rvs_words::owned;
 use std::alloc::Global;
 
 /// Reads coverage group files for the core of an ISA file, and a device file; writes a test for

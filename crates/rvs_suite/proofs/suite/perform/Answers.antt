@@ -1,10 +1,10 @@
 use Rattle.std.proofs.lemmas.Result.{err_from_is_err_and}
 use Rattle.std.proofs.Common.{subst}
 use Rattle.rvs_plan.specs.World.{world}
-use Rattle.rvs_suite.specs.Words.{texts}
-use Rattle.rvs_suite.specs.Commands.{command_of}
+use Rattle.rvs_words.specs.Words.{texts}
+use Rattle.rvs_words.specs.Commands.{command_of}
 use Rattle.rvs_suite.specs.Plans.{Performs}
-use Rattle.rvs_suite.specs.declared.command.Command.{Command}
+use Rattle.rvs_words.specs.declared.command.Command.{Command}
 use Rattle.rvs_suite.proofs.Running.{Performs-no_memory}
 use Rattle.rvs_suite.proofs.suite.perform.Goals as goal
 

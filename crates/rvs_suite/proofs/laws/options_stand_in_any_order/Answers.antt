@@ -1,9 +1,0 @@
-use Rattle.rvs_suite.proofs.laws.options_stand_in_any_order.Goals as goal
-use Rattle.rvs_suite.proofs.OptionNames.{options_are_pairs}
-use Rattle.rvs_suite.proofs.OptionOrder.{options_change_places}
-
-pub returns-clause-pairs : goal.returns-clause-pairs
-returns-clause-pairs c = options_are_pairs
-
-pub returns-clause-places : goal.returns-clause-places
-returns-clause-places c = options_change_places

@@ -1,6 +1,0 @@
-use Rattle.std.proofs.Common.{◌≡◌, take}
-use Rattle.rvs_suite.specs.Words.{values_of}
-use Rattle.rvs_suite.proofs.words.values.Given as goal
-
-abbrev pub invariant-loop-pair : goal.invariant-loop-pair
-invariant-loop-pair l = l.values ≡ values_of l.name (take l.pair-index l.pairs)

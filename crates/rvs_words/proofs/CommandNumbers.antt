@@ -1,0 +1,44 @@
+-- The text of a number gives it.
+use Rattle.std.proofs.Common.{◌≡◌, ℕ, ◌+◌, ◌*◌, ◌-◌, ◌/◌, ◌%◌, ◌^◌, ◌<◌, ◌≤◌, Bool, true, false}
+use Rattle.std.proofs.Common.{cond, List, [], ◌∷◌, ◌++◌, length, get_or, Option, Some, None, refl}
+use Rattle.std.proofs.Common.{ap, ◌∙◌, arith}
+use Rattle.std.proofs.lemmas.Bool.Decides.{nat_tests}
+use Rattle.std.proofs.lemmas.Bool.{le-leb}
+use Rattle.std.proofs.lemmas.Fmt.{length-decimal-le, first_decimal}
+use Rattle.std.specs.Prelude.{◌&&◌, nat_le, option_map, option_and_then}
+use Rattle.std.specs.Fmt.{decimal}
+use Rattle.rvs_words.specs.Words.{is_positional}
+use Rattle.rvs_demo.specs.Sizes.{size_of}
+use Rattle.rvs_base.specs.Digits.{digits_of}
+use Rattle.rvs_base.proofs.Readings.{digits_of-decimal}
+use Rattle.rvs_words.specs.Commands.{number_of, within_steps, given}
+use Rattle.rvs_words.specs.declared.command.Command.TheVariants.{Demo}
+use Rattle.rvs_words.specs.CommandLaws.{StepsAreRead, CountsAreRead}
+
+number-read : (n : ℕ) → n ≤ 9999999 → number_of (decimal n) ≡ Some n
+number-read n h =
+    let few = le-leb (length (decimal n)) 7
+    (length-decimal-le 7 n (omega arith) (omega arith) (omega arith)) in
+    ap (λ (t : Bool). cond t (digits_of 10 (decimal n)) None) few
+    ∙ digits_of-decimal n (omega arith)
+
+above-dash : (text : List ℕ) → 48 < get_or text 0 0 → is_positional text ≡ true
+above-dash [] h = absurd (omega arith)
+above-dash (byte ∷ text) h = grind (arith, nat_tests)
+
+within : (n most : ℕ) → 1 ≤ n → n ≤ most → (nat_le 1 n && nat_le n most) ≡ true
+within n most low high = grind (arith, nat_tests)
+
+pub steps_are_read : StepsAreRead
+steps_are_read n low high = (
+  above-dash (decimal n) (first_decimal n (omega arith) (omega arith)),
+  ap (λ (o : Option ℕ). option_map Some (within_steps o)) (number-read n (omega arith))
+      ∙ ap (λ (t : Bool). option_map Some (cond t (Some n) None)) (within n 2000000 low high),
+)
+
+pub counts_are_read : CountsAreRead
+counts_are_read program n low high =
+    ap (λ (o : Option ℕ). given (option_and_then size_of o) (λ count. Demo count))
+    (number-read n (omega arith))
+    ∙ ap (λ (t : Bool). given (cond t (Some n) None) (λ count. Demo count))
+    (within n 1000000 low high)

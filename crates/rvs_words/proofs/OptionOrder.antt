@@ -1,0 +1,154 @@
+-- Options in any order ask for the same.
+use Rattle.std.proofs.Common.{◌≡◌, ℕ, Bool, true, false, cond, List, [], ◌∷◌, ◌++◌, Option, Some}
+use Rattle.std.proofs.Common.{refl, sym, ap, subst, ◌∙◌, bytes_eq, codes}
+use Rattle.std.proofs.lemmas.Slice.Eq.{bytes_eq-Decides}
+use Rattle.std.specs.Prelude.{◌&&◌, ◌||◌, map, filter}
+use Rattle.std.specs.List.{list_all, list_any}
+use Rattle.rvs_words.specs.Words.{pairs_of, values_of, are_known, only, at_most_one}
+use Rattle.rvs_words.specs.Windows.{windows_of}
+use Rattle.rvs_words.specs.Commands.{given, some_of, steps_of, validate_options, validate_of}
+use Rattle.rvs_words.specs.Commands.{normalize_options, normalize_of, generate_options, generate_of}
+use Rattle.rvs_words.specs.Commands.{reference_options, reference_of, coverage_options, coverage_of}
+use Rattle.rvs_words.specs.Commands.{run_options, run_of, command_of}
+use Rattle.rvs_words.specs.declared.words.Pair.{Pair}
+use Rattle.rvs_words.specs.declared.command.Command.{Command}
+use Rattle.rvs_words.specs.declared.command.Command.TheVariants.{Unknown, Validate, Normalize}
+use Rattle.rvs_words.specs.declared.command.Command.TheVariants.{Generate, Reference, Coverage, Run}
+use Rattle.rvs_words.specs.CommandLaws.{option_commands, OptionsChangePlaces}
+
+-- a filter that doesn't take both of two neighbours
+two-kept : (x y : Bool) (a b : Pair) (rest : List Pair) → (x ≡ true → y ≡ true → ⊥)
+    → cond x (a ∷ cond y (b ∷ rest) rest) (cond y (b ∷ rest) rest)
+    ≡ cond y (b ∷ cond x (a ∷ rest) rest) (cond x (a ∷ rest) rest)
+two-kept true true a b rest apart = absurd (apart refl refl)
+two-kept true false a b rest apart = refl
+two-kept false true a b rest apart = refl
+two-kept false false a b rest apart = refl
+
+kept-swapped : (test : Pair → Bool) (front behind : List Pair) (a b : Pair)
+    → (test a ≡ true → test b ≡ true → ⊥)
+    → filter test (front ++ a ∷ b ∷ behind) ≡ filter test (front ++ b ∷ a ∷ behind)
+kept-swapped test [] behind a b apart = two-kept (test a) (test b) a b (filter test behind) apart
+kept-swapped test (p ∷ front) behind a b apart =
+    ap (λ ps. cond (test p) (p ∷ ps) ps) (kept-swapped test front behind a b apart)
+
+-- each option has the same values
+abbrev SameValues : List Pair → List Pair → Type 0
+SameValues ps others = (name : List ℕ) → values_of name ps ≡ values_of name others
+
+values-swapped : (front behind : List Pair) (a b : Pair) → (a.name ≡ b.name → ⊥)
+    → SameValues (front ++ a ∷ b ∷ behind) (front ++ b ∷ a ∷ behind)
+values-swapped front behind a b apart name =
+    ap (map (λ (p : Pair). p.value))
+    (kept-swapped (λ (p : Pair). bytes_eq p.name name) front behind a b
+    (λ one two. apart
+    ((bytes_eq-Decides a.name name).0 one ∙ sym ((bytes_eq-Decides b.name name).0 two))))
+
+both-known : (x y rest : Bool) → (x && (y && rest)) ≡ (y && (x && rest))
+both-known true true rest = refl
+both-known true false rest = refl
+both-known false true rest = refl
+both-known false false rest = refl
+
+all-swapped : (test : Pair → Bool) (front behind : List Pair) (a b : Pair)
+    → list_all test (front ++ a ∷ b ∷ behind) ≡ list_all test (front ++ b ∷ a ∷ behind)
+all-swapped test [] behind a b = both-known (test a) (test b) (list_all test behind)
+all-swapped test (p ∷ front) behind a b =
+    ap (λ (rest : Bool). test p && rest) (all-swapped test front behind a b)
+
+-- a command depends on the values alone
+validate-same : (ps others : List Pair) → SameValues ps others → validate_of ps ≡ validate_of others
+validate-same ps others e = λ k. given (only (e (codes "--isa") k)) (λ isa. Validate isa)
+
+normalize-same : (ps others : List Pair) → SameValues ps others
+    → normalize_of ps ≡ normalize_of others
+normalize-same ps others e =
+    λ k. given (only (e (codes "--isa") k))
+    (λ isa. given (some_of 64 (e (codes "--cgf") k)) (λ groups. Normalize isa groups))
+
+generate-same : (ps others : List Pair) → SameValues ps others → generate_of ps ≡ generate_of others
+generate-same ps others e =
+    λ k. given (only (e (codes "--isa") k))
+    (λ isa. given (some_of 64 (e (codes "--cgf") k)) (λ groups.
+    given (only (e (codes "--work") k)) (λ work. Generate isa groups work)))
+
+reference-same : (ps others : List Pair) → SameValues ps others
+    → reference_of ps ≡ reference_of others
+reference-same ps others e =
+    λ k. given (only (e (codes "--isa") k)) (λ isa. given (only (e (codes "--test") k)) (λ test.
+    given (only (e (codes "--signature") k))
+    (λ signature. given (at_most_one (e (codes "--log") k)) (λ log.
+    given (steps_of (e (codes "--steps") k)) (λ steps. Reference isa test signature log steps)))))
+
+coverage-same : (ps others : List Pair) → SameValues ps others → coverage_of ps ≡ coverage_of others
+coverage-same ps others e =
+    λ k. given (only (e (codes "--isa") k))
+    (λ isa. given (some_of 64 (e (codes "--cgf") k)) (λ groups.
+    given (only (e (codes "--log") k)) (λ log. given (windows_of (e (codes "--window") k))
+    (λ windows. Coverage isa groups log windows))))
+
+run-same : (program : List ℕ) (ps others : List Pair) → SameValues ps others
+    → run_of program ps ≡ run_of program others
+run-same program ps others e =
+    λ k. given (only (e (codes "--isa") k))
+    (λ isa. given (some_of 64 (e (codes "--cgf") k)) (λ groups.
+    given (only (e (codes "--device") k)) (λ device. given (only (e (codes "--work") k))
+    (λ work. Run program isa groups device work))))
+
+of-same : (names : List (List ℕ)) (f : List Pair → Command) (words others : List (List ℕ))
+    (ps qs : List Pair)
+    → pairs_of words ≡ Some ps → pairs_of others ≡ Some qs → are_known names ps ≡ are_known names qs
+    → f ps ≡ f qs
+    → given (pairs_of words) (λ ps. cond (are_known names ps) (f ps) Unknown)
+    ≡ given (pairs_of others) (λ ps. cond (are_known names ps) (f ps) Unknown)
+of-same names f words others ps qs e e2 known same =
+    ap (λ (o : Option (List Pair)). given o (λ ps. cond (are_known names ps) (f ps) Unknown)) e
+    ∙ (λ k. cond (known k) (same k) Unknown)
+    ∙ sym (ap (λ (o : Option (List Pair)). given o (λ ps. cond (are_known names ps) (f ps) Unknown))
+    e2)
+
+-- what holds of each of some names holds of a name among them
+abbrev HoldsOfAll : (List ℕ → Type 0) → List (List ℕ) → Type 0
+HoldsOfAll P [] = Unit {0}
+HoldsOfAll P (name ∷ names) = P name × HoldsOfAll P names
+
+one-name : (P : List ℕ → Type 0) (name known : List ℕ) (same : Bool) (names : List (List ℕ))
+    → bytes_eq name known ≡ same → P known
+    → (list_any (λ (k : List ℕ). bytes_eq name k) names ≡ true → P name)
+    → (same || list_any (λ (k : List ℕ). bytes_eq name k) names) ≡ true → P name
+one-name P name known true names e here later is =
+    subst P (sym ((bytes_eq-Decides name known).0 e)) here
+one-name P name known false names e here later is = later is
+
+among : (P : List ℕ → Type 0) (name : List ℕ) (names : List (List ℕ)) → HoldsOfAll P names
+    → list_any (λ (k : List ℕ). bytes_eq name k) names ≡ true → P name
+among P name [] all is = absurd cc
+among P name (known ∷ names) all is =
+    one-name P name known (bytes_eq name known) names refl all.0 (among P name names all.1) is
+
+pub options_change_places : OptionsChangePlaces
+options_change_places program name words others front behind a b is apart e e2 =
+    let ps = front ++ a ∷ b ∷ behind in
+    let qs = front ++ b ∷ a ∷ behind in
+    let same = values-swapped front behind a b apart in
+    let of = λ (names : List (List ℕ)) (f : List Pair → Command) (h : f ps ≡ f qs).
+    of-same names f words others ps qs e e2
+    (all-swapped (λ (p : Pair). list_any (λ (known : List ℕ). bytes_eq p.name known) names) front
+    behind a b) h in
+    among (λ name. command_of (program ∷ name ∷ words) ≡ command_of (program ∷ name ∷ others)) name
+    option_commands (
+      of validate_options validate_of (validate-same ps qs same),
+      (
+        of normalize_options normalize_of (normalize-same ps qs same),
+        (
+          of generate_options generate_of (generate-same ps qs same),
+          (
+            of reference_options reference_of (reference-same ps qs same),
+            (
+              of coverage_options coverage_of (coverage-same ps qs same),
+              (of run_options (run_of program) (run-same program ps qs same), tt),
+            ),
+          ),
+        ),
+      ),
+    ) is

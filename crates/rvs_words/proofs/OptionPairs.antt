@@ -1,0 +1,125 @@
+-- The pairs that options with their values are.
+use Rattle.std.proofs.Common.{◌≡◌, ℕ, Bool, true, false, cond, List, [], ◌∷◌, ◌++◌, length, Option}
+use Rattle.std.proofs.Common.{Some, None, refl, sym, ap, ◌∙◌, bytes_eq, append_assoc, append-nil}
+use Rattle.std.specs.Prelude.{◌&&◌, nat_le, map, filter, option_map}
+use Rattle.std.specs.List.{list_any, list_all}
+use Rattle.rvs_words.specs.Words.{is_positional, pair_in, with_pair, with_two_words, pairs_of}
+use Rattle.rvs_words.specs.Words.{values_of, are_known}
+use Rattle.rvs_words.specs.declared.words.Pair.{Pair}
+use Rattle.rvs_words.specs.CommandLaws.{Value, option, options, may_stand, AllMayStand, text_of}
+
+-- a name that is told from what is joined to it
+pub record IsName (name : List ℕ) : Type 0 where
+  pub alone : pair_in name ≡ None
+  pub joined : (byte : ℕ) (text : List ℕ)
+      → pair_in (name ++ 61 ∷ byte ∷ text) ≡ Some (record { name = name; value = byte ∷ text })
+  pub same : bytes_eq name name ≡ true
+
+abbrev pub pair : List ℕ → Value → Pair
+pair name value = record { name = name; value = value.text }
+
+abbrev pub pairs : List ℕ → List Value → List Pair
+pairs name values = map (pair name) values
+
+-- what two words begin with, by what the first of them says alone
+abbrev first-word : List ℕ → List ℕ → List (List ℕ) → Option Pair → Option (List Pair)
+first-word word value words None = with_two_words word value (pairs_of words)
+first-word word value words (Some pair) = with_pair pair (pairs_of (value ∷ words))
+
+one-word : (word : List ℕ) (first : Pair) (words : List (List ℕ)) (more : List Pair)
+    → pair_in word ≡ Some first
+    → pairs_of words ≡ Some more → pairs_of (word ∷ words) ≡ Some (first ∷ more)
+one-word word first [] more p e =
+    ap (λ (o : Option Pair). option_map (λ (q : Pair). q ∷ []) o) p ∙ ap (with_pair first) e
+one-word word first (value ∷ words) more p e =
+    ap (first-word word value words) p
+    ∙ ap (with_pair first) e
+
+two-words : (name value : List ℕ) (words : List (List ℕ)) (more : List Pair) → pair_in name ≡ None
+    → is_positional value ≡ true → pairs_of words ≡ Some more
+    → pairs_of (name ∷ value ∷ words) ≡ Some (record { name = name; value = value } ∷ more)
+two-words name value words more n p e =
+    ap (first-word name value words) n
+    ∙ ap (λ (b : Bool). cond b (with_pair (record { name = name; value = value }) (pairs_of words))
+    None) p
+    ∙ ap (with_pair (record { name = name; value = value })) e
+
+one-option : (name : List ℕ) → IsName name
+    → (joined : Bool) (text : List ℕ) (words : List (List ℕ)) (more : List Pair)
+    → cond joined (nat_le 1 (length text)) (is_positional text) ≡ true → pairs_of words ≡ Some more
+    → pairs_of (option name (record { joined = joined; text = text }) ++ words)
+    ≡ Some (record { name = name; value = text } ∷ more)
+one-option name is true [] words more m e = absurd cc
+one-option name is true (byte ∷ text) words more m e =
+    one-word (name ++ 61 ∷ byte ∷ text) (record { name = name; value = byte ∷ text }) words more
+    (is.joined byte text) e
+one-option name is false text words more m e = two-words name text words more is.alone m e
+
+pub option_read : (name : List ℕ) → IsName name
+    → (value : Value) (words : List (List ℕ)) (more : List Pair)
+    → may_stand value ≡ true → pairs_of words ≡ Some more
+    → pairs_of (option name value ++ words) ≡ Some (pair name value ∷ more)
+option_read name is value words more m e = one-option name is value.joined value.text words more m e
+
+pub and-left : (a b : Bool) → (a && b) ≡ true → a ≡ true
+and-left true b e = refl
+and-left false b e = absurd cc
+
+pub and-right : (a b : Bool) → (a && b) ≡ true → b ≡ true
+and-right true b e = e
+and-right false b e = absurd cc
+
+pub options_read : (name : List ℕ) → IsName name
+    → (values : List Value) (words : List (List ℕ)) (more : List Pair) → AllMayStand values
+    → pairs_of words ≡ Some more
+    → pairs_of (options name values ++ words) ≡ Some (pairs name values ++ more)
+options_read name is [] words more m e = e
+options_read name is (value ∷ values) words more m e =
+    let rest = options_read name is values words more
+    (and-right (may_stand value) (list_all may_stand values) m) e in
+    ap pairs_of (append_assoc (option name value) (options name values) words)
+    ∙ option_read name is value (options name values ++ words) (pairs name values ++ more)
+    (and-left (may_stand value) (list_all may_stand values) m) rest
+
+pub option_alone : (name : List ℕ) → IsName name → (value : Value) → may_stand value ≡ true
+    → pairs_of (option name value) ≡ Some (pair name value ∷ [])
+option_alone name is value m =
+    ap pairs_of (sym (append-nil (option name value))) ∙ option_read name is value [] [] m refl
+
+pub options_alone : (name : List ℕ) → IsName name → (values : List Value) → AllMayStand values
+    → pairs_of (options name values) ≡ Some (pairs name values ++ [])
+options_alone name is values m =
+    ap pairs_of (sym (append-nil (options name values))) ∙ options_read name is values [] [] m refl
+
+-- the values of an option, by whether the first pair is its own
+abbrev own : List ℕ → List Pair → List Pair
+own name ps = filter (λ (p : Pair). bytes_eq p.name name) ps
+
+abbrev first-value : List ℕ → Pair → List Pair → Bool → List (List ℕ)
+first-value name first more same =
+    map (λ (p : Pair). p.value) (cond same (first ∷ own name more) (own name more))
+
+-- the values of an option among its own pairs, and among those of another
+pub values_same : (name : List ℕ) → IsName name → (values : List Value) (more : List Pair)
+    → values_of name (pairs name values ++ more) ≡ map text_of values ++ values_of name more
+values_same name is [] more = refl
+values_same name is (value ∷ values) more =
+    ap (first-value name (pair name value) (pairs name values ++ more)) is.same
+    ∙ ap (λ vs. value.text ∷ vs) (values_same name is values more)
+
+pub values_other : (name other : List ℕ) → bytes_eq other name ≡ false
+    → (values : List Value) (more : List Pair)
+    → values_of name (pairs other values ++ more) ≡ values_of name more
+values_other name other e [] more = refl
+values_other name other e (value ∷ values) more =
+    ap (first-value name (pair other value) (pairs other values ++ more)) e
+    ∙ values_other name other e values more
+
+pub known_pairs : (names : List (List ℕ)) (name : List ℕ)
+    → list_any (λ (known : List ℕ). bytes_eq name known) names ≡ true
+    → (values : List Value) (more : List Pair)
+    → are_known names (pairs name values ++ more) ≡ are_known names more
+known_pairs names name e [] more = refl
+known_pairs names name e (value ∷ values) more =
+    ap (λ (b : Bool). b && are_known names (pairs name values ++ more)) e
+    ∙ known_pairs names name e values more

@@ -1,0 +1,29 @@
+use Rattle.rvs_words.proofs.laws.commands_are_read.Goals as goal
+use Rattle.rvs_words.proofs.CommandWords.{compares_are_read, validates_are_read}
+use Rattle.rvs_words.proofs.CommandWords.{normalizes_are_read, generates_are_read}
+use Rattle.rvs_words.proofs.CommandWords.{references_are_read, coverages_are_read, runs_are_read}
+use Rattle.rvs_words.proofs.CommandWords.{demos_are_read}
+
+pub returns-clause-compare : goal.returns-clause-compare
+returns-clause-compare c = compares_are_read
+
+pub returns-clause-validate : goal.returns-clause-validate
+returns-clause-validate c = validates_are_read
+
+pub returns-clause-normalize : goal.returns-clause-normalize
+returns-clause-normalize c = normalizes_are_read
+
+pub returns-clause-generate : goal.returns-clause-generate
+returns-clause-generate c = generates_are_read
+
+pub returns-clause-reference : goal.returns-clause-reference
+returns-clause-reference c = references_are_read
+
+pub returns-clause-coverage : goal.returns-clause-coverage
+returns-clause-coverage c = coverages_are_read
+
+pub returns-clause-run : goal.returns-clause-run
+returns-clause-run c = runs_are_read
+
+pub returns-clause-demo : goal.returns-clause-demo
+returns-clause-demo c = demos_are_read

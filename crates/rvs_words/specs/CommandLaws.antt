@@ -1,0 +1,166 @@
+-- What a command line asks for, by what stands in it.
+use Rattle.std.specs.Prelude.{◌≡◌, ◌<◌, ◌≤◌, ◌^◌, ℕ, Bool, true, false, not, ◌==◌, nat_le}
+use Rattle.std.specs.Prelude.{if◌then◌else◌, List, [], ◌∷◌, ◌++◌, length, map, Option, Some, None}
+use Rattle.std.specs.Prelude.{option_map, option_and_then, codes, bytes_eq}
+use Rattle.std.specs.Fmt.{decimal}
+use Rattle.std.specs.List.{flat_map, list_all, list_any}
+use Rattle.rvs_base.specs.Number.{hex_word_of}
+use Rattle.rvs_words.specs.Words.{pairs_of}
+use Rattle.rvs_words.specs.Commands.{number_of, steps_of, command_of}
+use Rattle.rvs_words.specs.Windows.{windows_of}
+use Rattle.rvs_words.specs.declared.words.Pair.{Pair}
+use Rattle.rvs_count.specs.declared.window.Window.{Window}
+use Rattle.rvs_words.specs.declared.command.Command.TheVariants.{Compare, Validate, Normalize}
+use Rattle.rvs_words.specs.declared.command.Command.TheVariants.{Generate, Reference, Coverage, Run}
+use Rattle.rvs_words.specs.declared.command.Command.TheVariants.{Demo}
+use Rattle.rvs_demo.specs.Sizes.{size_of}
+
+-- a word that isn't empty and doesn't begin with a dash
+abbrev pub stands_alone : List ℕ → Bool
+stands_alone [] = false
+stands_alone (byte ∷ text) = not (byte == 45)
+
+-- the value of an option: joined to its name by `=`, or the next word
+pub record Value : Type 0 where
+  pub joined : Bool
+  pub text : List ℕ
+
+abbrev pub option : List ℕ → Value → List (List ℕ)
+option name value =
+    if value.joined then (name ++ 61 ∷ value.text) ∷ [] else name ∷ value.text ∷ []
+
+-- an option with each of these values, in order
+abbrev pub options : List ℕ → List Value → List (List ℕ)
+options name values = flat_map (option name) values
+
+-- a value that is joined to its name isn't empty, and any other stands alone
+abbrev pub may_stand : Value → Bool
+may_stand value = if value.joined then nat_le 1 (length value.text) else stands_alone value.text
+
+abbrev pub AllMayStand : List Value → Type 0
+AllMayStand values = list_all may_stand values ≡ true
+
+abbrev pub text_of : Value → List ℕ
+text_of value = value.text
+
+-- the values of an option that needn't stand
+abbrev pub listed : Option Value → List Value
+listed None = []
+listed (Some value) = value ∷ []
+
+-- a command that is given group files has one to 64 of them
+abbrev pub AreGroups : List Value → Type 0
+AreGroups groups = (1 ≤ length groups) × (length groups ≤ 64)
+
+abbrev pub ComparesAreRead : Type 0
+ComparesAreRead =
+    (program left right : List ℕ) → stands_alone left ≡ true → stands_alone right ≡ true
+    → command_of (program ∷ codes "compare" ∷ left ∷ right ∷ []) ≡ Compare left right
+
+abbrev pub ValidatesAreRead : Type 0
+ValidatesAreRead =
+    (program : List ℕ) (isa : Value) → AllMayStand (isa ∷ [])
+    → command_of (program ∷ codes "validate" ∷ option (codes "--isa") isa) ≡ Validate isa.text
+
+abbrev pub NormalizesAreRead : Type 0
+NormalizesAreRead =
+    (program : List ℕ) (isa : Value) (groups : List Value) → AllMayStand (isa ∷ groups)
+    → AreGroups groups → command_of (program ∷ codes "normalize"
+    ∷ option (codes "--isa") isa ++ options (codes "--cgf") groups)
+    ≡ Normalize isa.text (map text_of groups)
+
+abbrev pub GeneratesAreRead : Type 0
+GeneratesAreRead =
+    (program : List ℕ) (isa work : Value) (groups : List Value)
+    → AllMayStand (isa ∷ work ∷ groups) → AreGroups groups
+    → command_of (program ∷ codes "generate" ∷ option (codes "--isa") isa
+    ++ (options (codes "--cgf") groups ++ option (codes "--work") work))
+    ≡ Generate isa.text (map text_of groups) work.text
+
+-- the log and the steps needn't stand
+abbrev pub ReferencesAreRead : Type 0
+ReferencesAreRead =
+    (program : List ℕ) (isa test signature : Value) (log steps : Option Value) (count : Option ℕ)
+    → AllMayStand (isa ∷ test ∷ signature ∷ [])
+    → AllMayStand (listed log) → AllMayStand (listed steps)
+    → steps_of (map text_of (listed steps)) ≡ Some count
+    → command_of (program ∷ codes "reference" ∷ option (codes "--isa") isa
+    ++ (option (codes "--test") test ++ (option (codes "--signature") signature
+    ++ (options (codes "--log") (listed log) ++ options (codes "--steps") (listed steps)))))
+    ≡ Reference isa.text test.text signature.text (option_map text_of log) count
+
+-- the windows needn't stand
+abbrev pub CoveragesAreRead : Type 0
+CoveragesAreRead =
+    (program : List ℕ) (isa log : Value) (groups windows : List Value) (kept : List Window)
+    → AllMayStand (isa ∷ log ∷ groups) → AllMayStand windows → AreGroups groups
+    → windows_of (map text_of windows) ≡ Some kept
+    → command_of (program ∷ codes "coverage" ∷ option (codes "--isa") isa
+    ++ (options (codes "--cgf") groups
+    ++ (option (codes "--log") log ++ options (codes "--window") windows)))
+    ≡ Coverage isa.text (map text_of groups) log.text kept
+
+abbrev pub RunsAreRead : Type 0
+RunsAreRead =
+    (program : List ℕ) (isa device work : Value) (groups : List Value)
+    → AllMayStand (isa ∷ device ∷ work ∷ groups) → AreGroups groups
+    → command_of (program ∷ codes "run" ∷ option (codes "--isa") isa
+    ++ (options (codes "--cgf") groups
+    ++ (option (codes "--device") device ++ option (codes "--work") work)))
+    ≡ Run program isa.text (map text_of groups) device.text work.text
+
+abbrev pub DemosAreRead : Type 0
+DemosAreRead =
+    (program text : List ℕ) (count : ℕ) → option_and_then size_of (number_of text) ≡ Some count
+    → command_of (program ∷ codes "demo" ∷ text ∷ []) ≡ Demo count
+
+-- the commands whose words are options
+abbrev pub option_commands : List (List ℕ)
+option_commands =
+    codes "validate" ∷ codes "normalize" ∷ codes "generate" ∷ codes "reference" ∷ codes "coverage"
+    ∷ codes "run" ∷ []
+
+abbrev pub takes_options : List ℕ → Bool
+takes_options name = list_any (λ (known : List ℕ). bytes_eq name known) option_commands
+
+-- an option whose name has no `=` is a pair, in either form
+abbrev pub OptionsArePairs : Type 0
+OptionsArePairs =
+    (name : List ℕ) (value : Value) (words : List (List ℕ)) (pairs : List Pair)
+    → list_any (λ (byte : ℕ). byte == 61) name ≡ false → may_stand value ≡ true
+    → pairs_of words ≡ Some pairs → pairs_of (option name value ++ words)
+    ≡ Some (record { name = name; value = value.text } ∷ pairs)
+
+-- neighbouring options of different names may change places
+abbrev pub OptionsChangePlaces : Type 0
+OptionsChangePlaces =
+    (program name : List ℕ) (words others : List (List ℕ)) (front behind : List Pair)
+    (first second : Pair) → takes_options name ≡ true → (first.name ≡ second.name → ⊥)
+    → pairs_of words ≡ Some (front ++ first ∷ second ∷ behind)
+    → pairs_of others ≡ Some (front ++ second ∷ first ∷ behind)
+    → command_of (program ∷ name ∷ words) ≡ command_of (program ∷ name ∷ others)
+
+-- the texts of windows below 2^32, of eight digits an address
+abbrev pub window_text : Window → List ℕ
+window_text window = codes "0x" ++ (hex_word_of window.lo ++ (codes ":0x" ++ hex_word_of window.hi))
+
+abbrev pub AreWindows : List Window → Type 0
+AreWindows [] = Unit
+AreWindows (window ∷ windows) = (window.lo < window.hi) × (window.hi < 2 ^ 32) × AreWindows windows
+
+abbrev pub WindowsAreRead : Type 0
+WindowsAreRead =
+    (windows : List Window) → length windows ≤ 16 → AreWindows windows
+    → windows_of (map window_text windows) ≡ Some windows
+
+-- the decimal text of a number of steps, which may be the next word
+abbrev pub StepsAreRead : Type 0
+StepsAreRead =
+    (steps : ℕ) → 1 ≤ steps → steps ≤ 2000000 → (stands_alone (decimal steps) ≡ true)
+    × (steps_of (decimal steps ∷ []) ≡ Some (Some steps))
+
+-- the decimal text of a number of instructions
+abbrev pub CountsAreRead : Type 0
+CountsAreRead =
+    (program : List ℕ) (count : ℕ) → 1 ≤ count → count ≤ 1000000
+    → command_of (program ∷ codes "demo" ∷ decimal count ∷ []) ≡ Demo count

@@ -1,0 +1,35 @@
+// What command lines ask for.
+ghost use Rattle.rvs_words.specs.CommandLaws.{ComparesAreRead, ValidatesAreRead, NormalizesAreRead};
+ghost use Rattle.rvs_words.specs.CommandLaws.{GeneratesAreRead, ReferencesAreRead};
+ghost use Rattle.rvs_words.specs.CommandLaws.{CoveragesAreRead, RunsAreRead, DemosAreRead};
+ghost use Rattle.rvs_words.specs.CommandLaws.{OptionsArePairs, OptionsChangePlaces, StepsAreRead};
+ghost use Rattle.rvs_words.specs.CommandLaws.{CountsAreRead, WindowsAreRead};
+
+/// The words of each command, with its options in the usual order, ask for that command with these
+/// values, for all names: whichever form each option has, with any list of one to 64 group files,
+/// and with or without the log, the steps and the windows.
+pub fn commands_are_read()
+    ensures compare { ComparesAreRead }
+    ensures validate { ValidatesAreRead }
+    ensures normalize { NormalizesAreRead }
+    ensures generate { GeneratesAreRead }
+    ensures reference { ReferencesAreRead }
+    ensures coverage { CoveragesAreRead }
+    ensures run { RunsAreRead }
+    ensures demo { DemosAreRead }
+{}
+
+/// The order of options doesn't matter: each is one pair of a name and a value, and neighbouring
+/// pairs of different names may change places without changing the command.
+pub fn options_stand_in_any_order()
+    ensures pairs { OptionsArePairs }
+    ensures places { OptionsChangePlaces }
+{}
+
+/// The decimal text of a number within the limit gives that number, and the texts of up to 16
+/// windows give these windows.
+pub fn numbers_are_read()
+    ensures steps { StepsAreRead }
+    ensures count { CountsAreRead }
+    ensures windows { WindowsAreRead }
+{}
