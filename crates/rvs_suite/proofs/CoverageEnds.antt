@@ -25,6 +25,7 @@ use Rattle.rvs_suite.proofs.Answered.{Works, RunsOn, answered}
 use Rattle.rvs_suite.proofs.OneCount.{one-count}
 use Rattle.rvs_suite.proofs.LogReads.{reads-reported, finds-reported}
 use Rattle.rvs_suite.proofs.Keeping.{WritesNone, WritesNone-then, reads-none, keeps}
+use Rattle.rvs_suite.proofs.Tested.{good-inputs, valid-good}
 
 abbrev works : (files : Files) (isa : List ℕ) (names : List (List ℕ)) (log : List ℕ)
     (windows : List Window) → Works (Coverage isa names log windows) files
@@ -96,6 +97,8 @@ covers {call} files isa names log windows r =
           subst (covering.HasReported call) (one-count windows l p e selected single none hit)
           (reported-counts files isa names log windows a
           (record { isa = isa'; groups = l ∷ [] }) (e ∷ []) given is_log done);
+      valid = λ inputs l given there selected. valid-good inputs l
+          (good-inputs files isa names inputs given) there selected;
       files_kept = keeps r.ran files (Coverage isa names log windows) r.told r.asks
           (writes-coverage isa names log windows);
     }

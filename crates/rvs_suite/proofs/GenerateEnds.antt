@@ -1,47 +1,37 @@
 -- What every call of `generate` promises.
-use Rattle.std.proofs.Common.{◌≡◌, ℕ, Bool, true, false, if◌then◌else◌, List, [], ◌∷◌, map, All}
-use Rattle.std.proofs.Common.{Contains, Option, Some, None, Result, Ok, Err, IfOk, IsTrue, refl}
-use Rattle.std.proofs.Common.{sym, ap, subst, ◌∙◌}
-use Rattle.std.proofs.lemmas.List.Elements.{All-contains, All-head}
+use Rattle.std.proofs.Common.{◌≡◌, ℕ, Bool, true, false, if◌then◌else◌, List, [], ◌∷◌, Option, Some}
+use Rattle.std.proofs.Common.{None, Result, Ok, IsTrue, refl, sym, ap, subst, ◌∙◌}
+use Rattle.std.proofs.lemmas.List.Elements.{All-head}
 use Rattle.rvs_base.specs.Host.{Files, Tells, written}
 use Rattle.rvs_base.specs.Sink.{appended}
 use Rattle.rvs_plan.specs.World.{Contents, contents}
 use Rattle.rvs_plan.specs.Plan.{Plan, gives, writes, ◌>>=◌}
 use Rattle.rvs_plan.specs.declared.stop.Stop.{Stop}
 use Rattle.rvs_plan.specs.declared.status.Finish.TheVariants.{Done}
-use Rattle.rvs_tree.specs.Data.{Data}
 use Rattle.rvs_insn.specs.Isa.{Isa}
-use Rattle.rvs_isa.specs.declared.accepted_spec.AcceptedSpec.{AcceptedSpec}
-use Rattle.rvs_yaml.specs.Parsed.{Parsed, answer}
-use Rattle.rvs_cgf.specs.Groups.{Label, Point, Refusal, groups_of}
-use Rattle.rvs_cgf.specs.Valid.{IsValid, IsValidIfSelected}
-use Rattle.rvs_cgf.proofs.Validity.{groups_good}
+use Rattle.rvs_cgf.specs.Groups.{Label, Point}
+use Rattle.rvs_cgf.specs.Valid.{IsValidIfSelected}
 use Rattle.rvs_solver.specs.Solving.{IsSolvableAt}
-use Rattle.rvs_solver.specs.declared.solved.Solved.{Solved}
 use Rattle.rvs_test_text.specs.declared.claim.Claim.{Claim}
-use Rattle.rvs_test.specs.Made.{claims_of, cases_of, named_at, text_for, text_of_label}
-use Rattle.rvs_test_text.specs.TestText.{step_limit, test_text}
+use Rattle.rvs_test_text.specs.TestText.{step_limit}
+use Rattle.rvs_test.specs.Made.{cases_of, text_of_label}
 use Rattle.rvs_test.specs.Claimed.{TestRuns}
-use Rattle.rvs_test.specs.Named.{claims_read, named_claim}
-use Rattle.rvs_test.proofs.ReadBack.{back_there}
-use Rattle.rvs_test.proofs.Joined.{label_runs, accounted}
 use Rattle.rvs_suite.specs.Answered.{HasLeft, Answered}
 use Rattle.rvs_suite.specs.Call.{Call, Asks}
-use Rattle.rvs_suite.specs.Specification.{said_in}
 use Rattle.rvs_suite.specs.Coverage.{print_report}
-use Rattle.rvs_suite.specs.GroupFiles.{Inputs, and_then, text_in, checked_groups, tree_groups}
-use Rattle.rvs_suite.specs.GroupFiles.{groups_found, inputs_of, inputs_in, group_inputs}
+use Rattle.rvs_suite.specs.GroupFiles.{Inputs, inputs_in, group_inputs}
 use Rattle.rvs_suite.specs.GenerateTexts.{listing}
 use Rattle.rvs_suite.specs.Generate.{path_of, writes_text, writes_test, writes_tests, written_tests}
 use Rattle.rvs_suite.specs.Generate.{generates, generate}
 use Rattle.rvs_suite.specs.Generating as generating
 use Rattle.rvs_words.specs.declared.command.Command.TheVariants.{Generate}
-use Rattle.rvs_suite.proofs.BaseCores.{IsBase, base_said}
 use Rattle.rvs_suite.proofs.Answered.{Works, RunsOn, answered}
 use Rattle.rvs_suite.proofs.Finding.{Deeds, left, deeds-then, left-then}
 use Rattle.rvs_suite.proofs.GroupInputs.{finds-inputs}
+use Rattle.rvs_suite.proofs.NoTest.{no-point, listing-none}
 use Rattle.rvs_suite.proofs.OneTest.{one-point, file-there}
 use Rattle.rvs_suite.proofs.Sparing.{generate-spares}
+use Rattle.rvs_suite.proofs.Tested.{good-inputs, runs-label, tested}
 
 -- ---- the tests are deeds, and what they leave
 abbrev chosen : Bool → List ℕ → Option (List ℕ) → Plan (Unit {0})
@@ -109,68 +99,6 @@ left-generates work inputs c =
     ∙ ap (left (print_report (listing isa ls))) (left-then tt (writes_tests work isa ls)
     (λ _. gives (listing isa ls)) c (deeds-tests work isa ls) ∙ left-tests work isa ls c)
 
--- ---- the labels that are read are valid, for a core that tests are made for
-record IsGood (inputs : Inputs) : Type 0 where
-  base : inputs.isa.e ≡ false
-  valid : All (IsValidIfSelected inputs.isa) inputs.groups
-
-good-checked : (isa : Isa) (tree : Data) (r : Result (List Label) Refusal) → isa.e ≡ false
-    → groups_of isa tree ≡ r → IfOk (inputs_of isa (checked_groups r)) IsGood
-good-checked isa tree (Ok ls) base is = record { base = base; valid = groups_good isa tree ls is }
-good-checked isa tree (Err refusal) base is = tt
-
-good-tree : (isa : Isa) (a : Parsed) → isa.e ≡ false
-    → IfOk (inputs_of isa (tree_groups isa a)) IsGood
-good-tree isa (Ok tree) base = good-checked isa tree (groups_of isa tree) base refl
-good-tree isa (Err fault) base = tt
-
-good-text : (isa : Isa) (r : Result (List ℕ) Stop) → isa.e ≡ false
-    → IfOk (and_then r (λ text. inputs_of isa (groups_found isa text))) IsGood
-good-text isa (Ok text) base = good-tree isa (answer text) base
-good-text isa (Err stop) base = tt
-
-good-said : (files : Files) (names : List (List ℕ)) (r : Result AcceptedSpec Stop) → IfOk r IsBase
-    → IfOk (and_then r (λ said. and_then (text_in files None names)
-    (λ text. inputs_of said.spec (groups_found said.spec text)))) IsGood
-good-said files names (Ok said) base = good-text said.spec (text_in files None names) base
-good-said files names (Err stop) base = tt
-
-good-inputs : (files : Files) (isa : List ℕ) (names : List (List ℕ)) (inputs : Inputs)
-    → inputs_in files isa names ≡ Ok inputs → IsGood inputs
-good-inputs files isa names inputs given = subst (λ (r : Result Inputs Stop). IfOk r IsGood) given
-    (good-said files names (said_in files isa) (base_said files isa))
-
--- the text of a label's test is that of its cases
-whole : (isa : Isa) (l : Label) (cs : List Solved) (text : List ℕ) → text_for isa l cs ≡ Some text
-    → test_text l.name isa (map (λ (c : Claim). named_at l c.point) (claims_of isa l)) cs ≡ text
-whole isa l [] text is = absurd cc
-whole isa l (c ∷ cs) text is = cc
-
-runs-label : (isa : Isa) (l : Label) (text : List ℕ) → isa.e ≡ false → IsValid isa l
-    → text_of_label isa l ≡ Some text
-    → TestRuns isa l text (claims_of isa l) (step_limit (cases_of isa l))
-runs-label isa l text base valid is = subst
-    (λ (t : List ℕ). TestRuns isa l t (claims_of isa l) (step_limit (cases_of isa l)))
-    (whole isa l (cases_of isa l) text is) (label_runs isa l base valid)
-
-reads-label : (isa : Isa) (l : Label) (text : List ℕ) → isa.e ≡ false → IsValid isa l
-    → text_of_label isa l ≡ Some text
-    → claims_read text ≡ Some (map (named_claim l) (claims_of isa l))
-reads-label isa l text base valid is = back_there isa l base valid text (claims_of isa l)
-    (cases_of isa l) refl refl (sym (whole isa l (cases_of isa l) text is))
-
-reads-good : (inputs : Inputs) (l : Label) (text : List ℕ) → IsGood inputs
-    → Contains inputs.groups l → IsTrue l.selected → text_of_label inputs.isa l ≡ Some text
-    → claims_read text ≡ Some (map (named_claim l) (claims_of inputs.isa l))
-reads-good inputs l text good there selected is = reads-label inputs.isa l text good.base
-    (All-contains (IsValidIfSelected inputs.isa) inputs.groups l good.valid there selected) is
-
-runs-good : (inputs : Inputs) (l : Label) (text : List ℕ) → IsGood inputs → Contains inputs.groups l
-    → IsTrue l.selected → text_of_label inputs.isa l ≡ Some text
-    → TestRuns inputs.isa l text (claims_of inputs.isa l) (step_limit (cases_of inputs.isa l))
-runs-good inputs l text good there selected is = runs-label inputs.isa l text good.base
-    (All-contains (IsValidIfSelected inputs.isa) inputs.groups l good.valid there selected) is
-
 -- ---- one point
 abbrev files-one : List ℕ → Bool → List ℕ → Option (List ℕ) → Option Files → Option Files
 files-one work b name text files = if b then generating.with_text (path_of work name) text files
@@ -196,16 +124,30 @@ one-test {call} work isa l p base valid selected one solvable files =
           found.claims (runs-label isa l found.text base (valid selected) found.is);
     }
 
-one-left : {call : Call} (work : List ℕ) (found : Result Inputs Stop) (isa : Isa) (l : Label)
-    (p : Point) → found ≡ Ok (record { isa = isa; groups = l ∷ [] }) → isa.e ≡ false
-    → IsValidIfSelected isa l → IsTrue l.selected → l.points ≡ p ∷ [] → IsSolvableAt isa l 0
-    → HasLeft found (generating.HasGenerated call work) → generating.HasOneTest call work isa l
-one-left {call} work found isa l p given base valid selected one solvable left =
-    let both : Ok left.given ≡ Ok (record { isa = isa; groups = l ∷ [] }) =
-    sym left.accepted ∙ given in
-    let same : left.given ≡ record { isa = isa; groups = l ∷ [] } = cc in
-    one-test work isa l p base valid selected one solvable (left.left.files
-    ∙ ap (λ (i : Inputs). generating.with_tests work i.isa i.groups call.old.host.files) same)
+-- ---- no point
+none-test : {call : Call} (work : List ℕ) (isa : Isa) (l : Label) (p : Point) → IsTrue l.selected
+    → l.points ≡ p ∷ [] → l.skipped ≡ [] → (IsSolvableAt isa l 0 → ⊥)
+    → generating.HasGenerated call work (record { isa = isa; groups = l ∷ [] })
+    → generating.HasNoTest call l p
+none-test {call} work isa l p selected one skipped never made =
+    let chosen : l.selected ≡ true = selected in
+    let left = no-point isa l p one never in
+    let kept : generating.with_tests work isa (l ∷ []) call.old.host.files ≡ call.old.host.files =
+    λ i. files-one work (chosen i) l.name (left.text i) call.old.host.files in
+    record {
+      files = made.files ∙ kept;
+      out = made.out ∙ ap (appended call.old.out.bytes)
+          (listing-none isa l p chosen one skipped left);
+    }
+
+-- what a call has left of inputs that are these
+generated : {call : Call} (work : List ℕ) (found : Result Inputs Stop) (inputs : Inputs)
+    → found ≡ Ok inputs → HasLeft found (generating.HasGenerated call work)
+    → generating.HasGenerated call work inputs
+generated {call} work found inputs given left =
+    let both : Ok left.given ≡ Ok inputs = sym left.accepted ∙ given in
+    let same : left.given ≡ inputs = cc in
+    subst (λ (i : Inputs). generating.HasGenerated call work i) same left.left
 
 -- ---- the promise
 abbrev works : (files : Files) (isa : List ℕ) (names : List (List ℕ)) (work : List ℕ)
@@ -231,15 +173,18 @@ pub makes : {call : Call} (files : Files) (isa : List ℕ) (names : List (List �
 makes {call} files isa names work r = record {
   answered = answers-generate files isa names work r;
   one = λ isa' l p given selected single solvable is.
-      let good = good-inputs files isa names (record { isa = isa'; groups = l ∷ [] }) given in
-      one-left work (inputs_in files isa names) isa' l p given good.base
-      (All-head (IsValidIfSelected isa') l [] good.valid) selected single solvable
-      ((answers-generate files isa names work r).done is);
-  read = λ inputs l text given there selected is. reads-good inputs l text
-      (good-inputs files isa names inputs given) there selected is;
-  accounted = λ inputs l k given there within. accounted inputs.isa l k within;
+      let inputs : Inputs = record { isa = isa'; groups = l ∷ [] } in
+      let good = good-inputs files isa names inputs given in
+      let made = generated {call = call} work (inputs_in files isa names) inputs given
+      ((answers-generate files isa names work r).done is) in
+      one-test work isa' l p good.base (All-head (IsValidIfSelected isa') l [] good.valid) selected
+      single solvable made.files;
+  none = λ isa' l p given selected single skipped never is.
+      none-test work isa' l p selected single skipped never
+      (generated {call = call} work (inputs_in files isa names)
+      (record { isa = isa'; groups = l ∷ [] }) given
+      ((answers-generate files isa names work r).done is));
+  tested = tested files isa names;
   others_kept =
       λ files' other. generate-spares r.ran files files' isa names work other r.told r.asks;
-  runs = λ inputs l text given there selected is. runs-good inputs l text
-      (good-inputs files isa names inputs given) there selected is;
 }

@@ -32,6 +32,9 @@ mod BaseCores
 mod Listings
 mod GenerateEnds
 mod Runnable
+mod Tested
+mod PointLines
+mod NoTest
 mod RunSteps
 mod RunReads
 mod DemoEnds

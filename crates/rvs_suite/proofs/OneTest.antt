@@ -28,7 +28,7 @@ claims-by isa l b is = ap (λ (t : Bool). numbered 0 (if t then 0 ∷ [] else []
     step true = refl
     step false = refl
 
-claims-are : (isa : Isa) (l : Label) (p : Point) (b : Bool) → l.points ≡ p ∷ []
+pub claims-are : (isa : Isa) (l : Label) (p : Point) (b : Bool) → l.points ≡ p ∷ []
     → is_solved isa l 0 ≡ b → claims_of isa l ≡ (if b then only_claim ∷ [] else [])
 unfolding claims_of
 claims-are isa l p b one is =

@@ -39,6 +39,7 @@ use Rattle.rvs_suite.proofs.RunReads.{finds-run}
 use Rattle.rvs_suite.proofs.RunSteps.{FirstDid, first_did, contents_of, appended-twice, JudgedAll}
 use Rattle.rvs_suite.proofs.RunSteps.{judged-all}
 use Rattle.rvs_suite.proofs.Sparing.{run-spares}
+use Rattle.rvs_suite.proofs.Tested.{tested-run, runnable-run}
 use Rattle.rvs_suite.proofs.Untouched.{never-end, runs-on}
 
 -- ---- the end, by what the inputs come to
@@ -329,4 +330,6 @@ judges {call} files program isa names device work r =
       others_kept = λ files' other. run-spares r.ran files files' program isa names device work
           other r.told r.asks;
       passes = λ inputs test run. passing.passes _ run.status run.after;
+      tested = tested-run files isa names device;
+      runnable = runnable-run files isa names device;
     }

@@ -1,11 +1,13 @@
 -- What every call of `coverage` promises.
-use Rattle.std.specs.Prelude.{◌≡◌, ◌≤◌, List, [], ◌∷◌, ℕ, map, length, Some, Ok, IsTrue}
+use Rattle.std.specs.Prelude.{◌≡◌, ◌≤◌, List, [], ◌∷◌, ℕ, map, length, Contains, Some, Ok}
+use Rattle.std.specs.Prelude.{IsTrue}
 use Rattle.rvs_base.specs.Host.{Files, Tells}
 use Rattle.rvs_base.specs.Sink.{appended}
 use Rattle.rvs_plan.specs.declared.status.Status.TheVariants.{Done}
 use Rattle.rvs_insn.specs.Isa.{Isa}
 use Rattle.rvs_log.specs.Entries.{Entry, entries_of}
 use Rattle.rvs_cgf.specs.Groups.{Label, Point}
+use Rattle.rvs_cgf.specs.Valid.{IsValid}
 use Rattle.rvs_count.specs.Counting.{aims_of, count, hits, kept}
 use Rattle.rvs_count.specs.Report.{report_of}
 use Rattle.rvs_count.specs.declared.window.Window.{Window}
@@ -44,6 +46,10 @@ pub record Covers (call : Call) (files : Files) (isa : List ℕ) (names : List (
       → IsTrue l.selected → l.points ≡ p ∷ [] → windows ≡ [] → IsLogOf files log (e ∷ [])
       → IsTrue (hits (record { ops = l.ops; point = p }) e) → call.status ≡ Done
       → HasReported call (report_of (l ∷ []) (1 ∷ []) 1)
+  -- A selected label of the groups is valid for the core. So no two of the lines of its points name
+  -- one kind and key, and what each of these points means is what its key says.
+  pub valid : (inputs : Inputs) (l : Label) → inputs_in files isa names ≡ Ok inputs
+      → Contains inputs.groups l → IsTrue l.selected → IsValid inputs.isa l
   -- it writes no file, however it ends
   pub files_kept : call.new.host.files ≡ call.old.host.files
 

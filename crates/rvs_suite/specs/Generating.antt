@@ -1,21 +1,21 @@
 -- What every call of `generate` promises.
-use Rattle.std.specs.Prelude.{◌≡◌, ◌≢◌, ◌<◌, ℕ, length, map, IsTrue, if◌then◌else◌, List, [], ◌∷◌}
-use Rattle.std.specs.Prelude.{Contains, Option, Some, None, Ok}
+use Rattle.std.specs.Prelude.{◌≡◌, ◌≢◌, ℕ, IsTrue, if◌then◌else◌, List, [], ◌∷◌, ◌++◌, Option, Some}
+use Rattle.std.specs.Prelude.{None, Ok, codes}
 use Rattle.rvs_base.specs.Host.{Files, Tells, written}
 use Rattle.rvs_base.specs.Sink.{appended}
 use Rattle.rvs_plan.specs.declared.status.Status.TheVariants.{Done}
 use Rattle.rvs_insn.specs.Isa.{Isa}
 use Rattle.rvs_cgf.specs.Groups.{Label, Point}
 use Rattle.rvs_solver.specs.Solving.{IsSolvableAt}
-use Rattle.rvs_test.specs.Made.{claims_of, unsolved_of, cases_of, text_of_label}
+use Rattle.rvs_test.specs.Made.{cases_of, text_of_label}
 use Rattle.rvs_test_text.specs.TestText.{step_limit}
-use Rattle.rvs_test.specs.Named.{claims_read, named_claim}
-use Rattle.rvs_test.specs.Claimed.{TestRuns, IsAccounted}
+use Rattle.rvs_test.specs.Claimed.{TestRuns}
 use Rattle.rvs_suite.specs.Answered.{Answered}
 use Rattle.rvs_suite.specs.Call.{Call, Asks}
-use Rattle.rvs_suite.specs.GenerateTexts.{listing}
+use Rattle.rvs_suite.specs.GenerateTexts.{unsolved_line, name_line, listing}
 use Rattle.rvs_suite.specs.Generate.{path_of}
 use Rattle.rvs_suite.specs.GroupFiles.{Inputs, inputs_in}
+use Rattle.rvs_suite.specs.Tested.{AreTested}
 use Rattle.rvs_words.specs.declared.command.Command.TheVariants.{Generate}
 
 -- the files with a text more, where there is one
@@ -46,34 +46,30 @@ pub record HasOneTest (call : Call) (work : List ℕ) (isa : Isa) (l : Label) : 
       → files' (path_of work l.name) ≡ Some text
   pub runs : TestRuns isa l text (record { case = 0; point = 0 } ∷ []) (step_limit (cases_of isa l))
 
+-- no file is written, and this point of the label is put as unsolved
+pub record HasNoTest (call : Call) (l : Label) (p : Point) : Type 0 where
+  pub files : call.new.host.files ≡ call.old.host.files
+  pub out : call.new.out.bytes ≡ appended call.old.out.bytes (name_line l.name ++ (unsolved_line p
+      ++ codes "total 0 tests, 0 cases, 1 unsolved, 0 skipped\n"))
+
 -- a call of `generate` on these of these files, for this folder
 pub record Generates (call : Call) (files : Files) (isa : List ℕ) (names : List (List ℕ))
     (work : List ℕ) : Type 0 where
   -- it is done where the ISA file and the groups are accepted, and has written the tests and put
   -- their cases; it is refused, or the host fails, at the first file that isn't
   pub answered : Answered call (inputs_in files isa names) (HasGenerated call work)
-  -- One image stands to the text of each test; its run halts within the header's steps, hits each
-  -- point that is claimed, and leaves the outcome of each case and no other words. The claims are
-  -- those of all points that a choice hits.
-  pub runs : (inputs : Inputs) (l : Label) (text : List ℕ) → inputs_in files isa names ≡ Ok inputs
-      → Contains inputs.groups l → IsTrue l.selected
-      → text_of_label inputs.isa l ≡ Some text
-      → TestRuns inputs.isa l text (claims_of inputs.isa l) (step_limit (cases_of inputs.isa l))
-  -- these claims, by case, kind and key, are what is read back from the bytes of the text alone
-  pub read : (inputs : Inputs) (l : Label) (text : List ℕ) → inputs_in files isa names ≡ Ok inputs
-      → Contains inputs.groups l → IsTrue l.selected
-      → text_of_label inputs.isa l ≡ Some text
-      → claims_read text ≡ Some (map (named_claim l) (claims_of inputs.isa l))
-  -- each point of a selected label is claimed, where a choice of the datasets hits it, or is listed
-  -- as unsolved, where none does
-  pub accounted : (inputs : Inputs) (l : Label) (k : ℕ) → inputs_in files isa names ≡ Ok inputs
-      → Contains inputs.groups l → k < length l.points
-      → IsAccounted inputs.isa l (claims_of inputs.isa l) (unsolved_of inputs.isa l) k
+  -- the tests that it makes run as their texts claim
+  pub tested : (inputs : Inputs) → inputs_in files isa names ≡ Ok inputs → AreTested inputs
   -- so a group file with one label and one point that a choice hits leaves a test that hits it
   pub one : (isa' : Isa) (l : Label) (p : Point)
       → inputs_in files isa names ≡ Ok (record { isa = isa'; groups = l ∷ [] })
       → IsTrue l.selected → l.points ≡ p ∷ [] → IsSolvableAt isa' l 0 → call.status ≡ Done
       → HasOneTest call work isa' l
+  -- and one with a point that no choice hits leaves no test
+  pub none : (isa' : Isa) (l : Label) (p : Point)
+      → inputs_in files isa names ≡ Ok (record { isa = isa'; groups = l ∷ [] })
+      → IsTrue l.selected → l.points ≡ p ∷ [] → l.skipped ≡ [] → (IsSolvableAt isa' l 0 → ⊥)
+      → call.status ≡ Done → HasNoTest call l p
   -- it changes no file but those of tests, however it ends
   pub others_kept : (files' : Files) (other : List ℕ)
       → ((name : List ℕ) → other ≢ path_of work name) → call.new.host.files ≡ Some files'

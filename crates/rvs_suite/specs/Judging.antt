@@ -1,6 +1,6 @@
 -- What every call of `run` promises.
 use Rattle.std.specs.Prelude.{◌≡◌, ◌≢◌, ◌⊎◌, ◌↔◌, ℕ, List, [], ◌∷◌, ◌++◌, length, Some, option_map}
-use Rattle.std.specs.Prelude.{Result, Ok, Err}
+use Rattle.std.specs.Prelude.{Result, Ok, Err, Contains}
 use Rattle.rvs_base.specs.Host.{Files, Tells}
 use Rattle.rvs_base.specs.Sink.{appended}
 use Rattle.rvs_base.specs.declared.host.DeviceRun.{DeviceRun}
@@ -18,7 +18,8 @@ use Rattle.rvs_suite.specs.GenerateTexts.{listing}
 use Rattle.rvs_suite.specs.Generate.{path_of}
 use Rattle.rvs_suite.specs.GroupFiles.{and_then, inputs_in}
 use Rattle.rvs_suite.specs.DeviceInput.{device_in}
-use Rattle.rvs_suite.specs.Tests.{reference_words, tests_of}
+use Rattle.rvs_suite.specs.Tested.{AreTested}
+use Rattle.rvs_suite.specs.Tests.{IsRunnable, reference_words, tests_of}
 use Rattle.rvs_suite.specs.RunTests.{Bench, reference_path, device_path, tally_line, verdict_of_all}
 use Rattle.rvs_suite.specs.RunTests.{RunInputs, bench_of}
 use Rattle.rvs_suite.specs.RunLeft.{AreRunsOf, verdict_by, verdict_lines, passed_onto}
@@ -95,6 +96,13 @@ pub record Runs (call : Call) (files : Files) (program isa : List ℕ) (names : 
       → HasMissed call (run_inputs_in files isa names device) ⊎ HostRose call
   pub by_absence : (name : List ℕ) → run_inputs_in files isa names device ≡ Err (why.NoFile name)
       → NothingFailed call → AnswersOnly call HostFault
+  -- the tests that it makes run as their texts claim
+  pub tested : (inputs : RunInputs) → run_inputs_in files isa names device ≡ Ok inputs
+      → AreTested inputs.groups
+  -- an image stands to each test, and the reference machine halts on it within the test's steps
+  pub runnable : (inputs : RunInputs) (test : Test)
+      → run_inputs_in files isa names device ≡ Ok inputs
+      → Contains (tests_in inputs) test → IsRunnable inputs.groups.isa test
   -- a pass says that the device left the reference's words
   pub passes : (inputs : RunInputs) (test : Test) (run : DeviceRun)
       → PassesBySpelling (bench_of program work inputs) test run

@@ -27,6 +27,7 @@ pub mod Coverage
 pub mod Covering
 pub mod GenerateTexts
 pub mod GenerateView
+pub mod Tested
 pub mod Generate
 pub mod Generating
 pub mod Tests

@@ -1,0 +1,173 @@
+-- What holds of the tests that are made of accepted inputs.
+use Rattle.std.proofs.Common.{◌≡◌, ℕ, Bool, true, false, if◌then◌else◌, List, [], ◌∷◌, map, All}
+use Rattle.std.proofs.Common.{Contains, Option, Some, None, Result, Ok, Err, IfOk, IsTrue, refl}
+use Rattle.std.proofs.Common.{sym, subst}
+use Rattle.std.proofs.lemmas.List.Elements.{All-nil, All-cons, All-append, All-head, All-tail}
+use Rattle.std.proofs.lemmas.List.Elements.{All-contains}
+use Rattle.rvs_base.specs.Host.{Files}
+use Rattle.rvs_plan.specs.declared.stop.Stop.{Stop}
+use Rattle.rvs_tree.specs.Data.{Data}
+use Rattle.rvs_insn.specs.Isa.{Isa}
+use Rattle.rvs_isa.specs.declared.accepted_spec.AcceptedSpec.{AcceptedSpec}
+use Rattle.rvs_yaml.specs.Parsed.{Parsed, answer}
+use Rattle.rvs_cgf.specs.Groups.{Label, Refusal, groups_of}
+use Rattle.rvs_cgf.specs.Valid.{IsValid, IsValidIfSelected}
+use Rattle.rvs_cgf.proofs.Validity.{groups_good}
+use Rattle.rvs_solver.specs.declared.solved.Solved.{Solved}
+use Rattle.rvs_test_text.specs.declared.claim.Claim.{Claim}
+use Rattle.rvs_test_text.specs.TestText.{step_limit, test_text}
+use Rattle.rvs_test.specs.Made.{claims_of, cases_of, named_at, text_for, text_of_label}
+use Rattle.rvs_test.specs.Claimed.{TestRuns}
+use Rattle.rvs_test.specs.Named.{claims_read, named_claim}
+use Rattle.rvs_test.proofs.ReadBack.{back_there}
+use Rattle.rvs_test.proofs.Joined.{label_runs, accounted}
+use Rattle.rvs_device.specs.DeviceFile.{Told}
+use Rattle.rvs_suite.specs.Specification.{said_in}
+use Rattle.rvs_suite.specs.GroupFiles.{Inputs, and_then, text_in, checked_groups, tree_groups}
+use Rattle.rvs_suite.specs.GroupFiles.{groups_found, inputs_of, inputs_in}
+use Rattle.rvs_suite.specs.DeviceInput.{device_in}
+use Rattle.rvs_suite.specs.Tests.{IsRunnable, test_with, tests_of_label, tests_of}
+use Rattle.rvs_suite.specs.RunTests.{RunInputs}
+use Rattle.rvs_suite.specs.Judging.{run_inputs_in}
+use Rattle.rvs_suite.specs.Tested.{AreTested}
+use Rattle.rvs_suite.specs.declared.gathering.Test.{Test}
+use Rattle.rvs_suite.proofs.BaseCores.{IsBase, base_said}
+use Rattle.rvs_suite.proofs.PointLines.{has-lines}
+use Rattle.rvs_suite.proofs.Runnable.{runnable}
+
+-- ---- the labels that are read are valid, for a core that tests are made for
+pub record IsGood (inputs : Inputs) : Type 0 where
+  pub base : inputs.isa.e ≡ false
+  pub valid : All (IsValidIfSelected inputs.isa) inputs.groups
+
+good-checked : (isa : Isa) (tree : Data) (r : Result (List Label) Refusal) → isa.e ≡ false
+    → groups_of isa tree ≡ r → IfOk (inputs_of isa (checked_groups r)) IsGood
+good-checked isa tree (Ok ls) base is = record { base = base; valid = groups_good isa tree ls is }
+good-checked isa tree (Err refusal) base is = tt
+
+good-tree : (isa : Isa) (a : Parsed) → isa.e ≡ false
+    → IfOk (inputs_of isa (tree_groups isa a)) IsGood
+good-tree isa (Ok tree) base = good-checked isa tree (groups_of isa tree) base refl
+good-tree isa (Err fault) base = tt
+
+good-text : (isa : Isa) (r : Result (List ℕ) Stop) → isa.e ≡ false
+    → IfOk (and_then r (λ text. inputs_of isa (groups_found isa text))) IsGood
+good-text isa (Ok text) base = good-tree isa (answer text) base
+good-text isa (Err stop) base = tt
+
+good-said : (files : Files) (names : List (List ℕ)) (r : Result AcceptedSpec Stop) → IfOk r IsBase
+    → IfOk (and_then r (λ said. and_then (text_in files None names)
+    (λ text. inputs_of said.spec (groups_found said.spec text)))) IsGood
+good-said files names (Ok said) base = good-text said.spec (text_in files None names) base
+good-said files names (Err stop) base = tt
+
+pub good-inputs : (files : Files) (isa : List ℕ) (names : List (List ℕ)) (inputs : Inputs)
+    → inputs_in files isa names ≡ Ok inputs → IsGood inputs
+good-inputs files isa names inputs given = subst (λ (r : Result Inputs Stop). IfOk r IsGood) given
+    (good-said files names (said_in files isa) (base_said files isa))
+
+pub valid-good : (inputs : Inputs) (l : Label) → IsGood inputs → Contains inputs.groups l
+    → IsTrue l.selected → IsValid inputs.isa l
+valid-good inputs l good there selected =
+    All-contains (IsValidIfSelected inputs.isa) inputs.groups l good.valid there selected
+
+-- ---- the text of a label's test is that of its cases
+whole : (isa : Isa) (l : Label) (cs : List Solved) (text : List ℕ) → text_for isa l cs ≡ Some text
+    → test_text l.name isa (map (λ (c : Claim). named_at l c.point) (claims_of isa l)) cs ≡ text
+whole isa l [] text is = absurd cc
+whole isa l (c ∷ cs) text is = cc
+
+pub runs-label : (isa : Isa) (l : Label) (text : List ℕ) → isa.e ≡ false → IsValid isa l
+    → text_of_label isa l ≡ Some text
+    → TestRuns isa l text (claims_of isa l) (step_limit (cases_of isa l))
+runs-label isa l text base valid is = subst
+    (λ (t : List ℕ). TestRuns isa l t (claims_of isa l) (step_limit (cases_of isa l)))
+    (whole isa l (cases_of isa l) text is) (label_runs isa l base valid)
+
+reads-label : (isa : Isa) (l : Label) (text : List ℕ) → isa.e ≡ false → IsValid isa l
+    → text_of_label isa l ≡ Some text
+    → claims_read text ≡ Some (map (named_claim l) (claims_of isa l))
+reads-label isa l text base valid is = back_there isa l base valid text (claims_of isa l)
+    (cases_of isa l) refl refl (sym (whole isa l (cases_of isa l) text is))
+
+-- ---- of all that is made of accepted inputs
+tested-good : (inputs : Inputs) → IsGood inputs → AreTested inputs
+tested-good inputs good = record {
+  valid = λ l there selected. valid-good inputs l good there selected;
+  runs = λ l text there selected is.
+      runs-label inputs.isa l text good.base (valid-good inputs l good there selected) is;
+  read = λ l text there selected is.
+      reads-label inputs.isa l text good.base (valid-good inputs l good there selected) is;
+  accounted = λ l k there within. accounted inputs.isa l k within;
+  lines = λ l there selected. has-lines inputs.isa l;
+}
+
+pub tested : (files : Files) (isa : List ℕ) (names : List (List ℕ)) (inputs : Inputs)
+    → inputs_in files isa names ≡ Ok inputs → AreTested inputs
+tested files isa names inputs given =
+    tested-good inputs (good-inputs files isa names inputs given)
+
+-- ---- each test can be run
+runnable-with : (isa : Isa) (l : Label) (text : Option (List ℕ)) → isa.e ≡ false → IsValid isa l
+    → text_of_label isa l ≡ text
+    → All (IsRunnable isa) (test_with l.name (step_limit (cases_of isa l)) text)
+runnable-with isa l None base valid is = All-nil (IsRunnable isa)
+runnable-with isa l (Some text) base valid is =
+    All-cons (IsRunnable isa) (record {
+      name = l.name;
+      text = text;
+      steps = step_limit (cases_of isa l);
+    }) [] (runnable isa l l.name text (claims_of isa l) (step_limit (cases_of isa l))
+    (runs-label isa l text base valid is)) (All-nil (IsRunnable isa))
+
+runnable-by : (isa : Isa) (l : Label) (b : Bool) → isa.e ≡ false → (b ≡ true → IsValid isa l)
+    → All (IsRunnable isa)
+    (if b then test_with l.name (step_limit (cases_of isa l)) (text_of_label isa l) else [])
+runnable-by isa l true base valid =
+    runnable-with isa l (text_of_label isa l) base (valid refl) refl
+runnable-by isa l false base valid = All-nil (IsRunnable isa)
+
+runnable-all : (isa : Isa) (ls : List Label) → isa.e ≡ false → All (IsValidIfSelected isa) ls
+    → All (IsRunnable isa) (tests_of isa ls)
+runnable-all isa [] base valid = All-nil (IsRunnable isa)
+runnable-all isa (l ∷ ls) base valid =
+    All-append (IsRunnable isa) (tests_of_label isa l) (tests_of isa ls)
+    (runnable-by isa l l.selected base (All-head (IsValidIfSelected isa) l ls valid))
+    (runnable-all isa ls base (All-tail (IsValidIfSelected isa) l ls valid))
+
+-- ---- what `run` accepts, it accepts of the same files
+abbrev with_device : Inputs → Result Told Stop → Result RunInputs Stop
+with_device inputs found =
+    and_then found (λ told. Ok (record { groups = inputs; device = told }))
+
+groups-of : (groups : Result Inputs Stop) (found : Result Told Stop)
+    → IfOk (and_then groups (λ inputs. with_device inputs found))
+    (λ (i : RunInputs). groups ≡ Ok i.groups)
+groups-of (Ok inputs) (Ok told) = refl
+groups-of (Ok inputs) (Err stop) = tt
+groups-of (Err stop) found = tt
+
+groups-accepted : (files : Files) (isa : List ℕ) (names : List (List ℕ)) (device : List ℕ)
+    (inputs : RunInputs) → run_inputs_in files isa names device ≡ Ok inputs
+    → inputs_in files isa names ≡ Ok inputs.groups
+groups-accepted files isa names device inputs given = subst
+    (λ (r : Result RunInputs Stop).
+    IfOk r (λ (i : RunInputs). inputs_in files isa names ≡ Ok i.groups)) given
+    (groups-of (inputs_in files isa names) (device_in files device))
+
+pub tested-run : (files : Files) (isa : List ℕ) (names : List (List ℕ)) (device : List ℕ)
+    (inputs : RunInputs) → run_inputs_in files isa names device ≡ Ok inputs
+    → AreTested inputs.groups
+tested-run files isa names device inputs given = tested files isa names inputs.groups
+    (groups-accepted files isa names device inputs given)
+
+pub runnable-run : (files : Files) (isa : List ℕ) (names : List (List ℕ)) (device : List ℕ)
+    (inputs : RunInputs) (test : Test) → run_inputs_in files isa names device ≡ Ok inputs
+    → Contains (tests_of inputs.groups.isa inputs.groups.groups) test
+    → IsRunnable inputs.groups.isa test
+runnable-run files isa names device inputs test given there =
+    let good = good-inputs files isa names inputs.groups
+    (groups-accepted files isa names device inputs given) in
+    All-contains (IsRunnable inputs.groups.isa)
+    (tests_of inputs.groups.isa inputs.groups.groups) test
+    (runnable-all inputs.groups.isa inputs.groups.groups good.base good.valid) there
