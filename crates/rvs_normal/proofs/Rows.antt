@@ -112,14 +112,14 @@ key-of-name c cs h k =
     ) refl
 
 at-last : (line column c : ℕ) (bs : List ℕ) → (c == 32) ≡ false → (c == 45) ≡ false
-    → words_at line false column (c ∷ bs) ≡ last_words line column (c ∷ bs)
+    → words_at line false column (c ∷ bs) ≡ last_words line false column (c ∷ bs)
 at-last line column c bs s d = rw (s, d, words_at) refl
 
 not-blank : (c : ℕ) (bs : List ℕ) → is_first c ≡ true → is_blank true (c ∷ bs) ≡ false
 not-blank c bs h = let n = not-start c h in rw (n.hash, n.space, n.tab, is_blank) refl
 
 last-word : (line column c : ℕ) (bs : List ℕ) → is_blank true (c ∷ bs) ≡ false → (c == 9) ≡ false
-    → last_words line column (c ∷ bs)
+    → last_words line false column (c ∷ bs)
     ≡ word_at line column (shape_from (c ∷ bs) (key_of (c ∷ bs))) ∷ []
 last-word line column c bs b t = rw (b, t, last_words) refl
 

@@ -83,23 +83,27 @@ follows-name : (h : Head) (line column : ℕ) (o : Option Shape) → h.column < 
 follows-name h line column None l = tt
 follows-name h line column (Some s) l = (right-below h line column s l, tt)
 
-follows-last : (h : Head) (line column : ℕ) (bytes : List ℕ) → h.column < column
-    → Follows h (last_words line column bytes)
-follows-last h line column bytes l =
+-- a tab in the indentation
+abbrev tab-word : ℕ → Bool → ℕ → Word
+tab-word line item column = word_at line (if item then column else 0) (refused TabIndent)
+
+follows-last : (h : Head) (line : ℕ) (item : Bool) (column : ℕ) (bytes : List ℕ)
+    → h.column < column → Follows h (last_words line item column bytes)
+follows-last h line item column bytes l =
     choose (Follows h) (is_blank true bytes) [] (elim (starts_with 9 bytes) as (λ _. List Word) [
-      | true ↦ word_at line 0 (refused TabIndent) ∷ []
+      | true ↦ tab-word line item column ∷ []
       | false ↦ word_at line column (shape_from bytes (key_of bytes)) ∷ []
     ]) tt (
-    choose (Follows h) (starts_with 9 bytes) (word_at line 0 (refused TabIndent) ∷ [])
+    choose (Follows h) (starts_with 9 bytes) (tab-word line item column ∷ [])
     (word_at line column (shape_from bytes (key_of bytes)) ∷ [])
-    (no-below h line 0 TabIndent, tt)
+    (no-below h line (if item then column else 0) TabIndent, tt)
     (right-below h line column (shape_from bytes (key_of bytes)) l, tt)
     )
 
 abbrev named-or-last : ℕ → Bool → ℕ → ℕ → List ℕ → List Word
 named-or-last line item column b bs = elim (item && b == 38) as (λ _. List Word) [
   | true ↦ word_of line column (anchored_shape (anchor_split bs))
-  | false ↦ last_words line column (b ∷ bs)
+  | false ↦ last_words line item column (b ∷ bs)
 ]
 
 abbrev dash-or : ℕ → Bool → ℕ → ℕ → List ℕ → List Word
@@ -122,9 +126,9 @@ follows-words h line item column (b ∷ bs) l =
           (dash (item_name bs)))) line true (suc column) bs (omega arith),
     ) (
     choose (Follows h) (item && b == 38) (word_of line column (anchored_shape (anchor_split bs)))
-    (last_words line column (b ∷ bs))
+    (last_words line item column (b ∷ bs))
     (follows-name h line column (anchored_shape (anchor_split bs)) l)
-    (follows-last h line column (b ∷ bs) l)
+    (follows-last h line item column (b ∷ bs) l)
     )
     )
 
@@ -132,13 +136,14 @@ lined-name : (line column : ℕ) (o : Option Shape) → Lined (word_of line colu
 lined-name line column None = tt
 lined-name line column (Some s) = tt
 
-lined-last : (line column : ℕ) (bytes : List ℕ) → Lined (last_words line column bytes)
-lined-last line column bytes =
+lined-last : (line : ℕ) (item : Bool) (column : ℕ) (bytes : List ℕ)
+    → Lined (last_words line item column bytes)
+lined-last line item column bytes =
     choose Lined (is_blank true bytes) [] (elim (starts_with 9 bytes) as (λ _. List Word) [
-      | true ↦ word_at line 0 (refused TabIndent) ∷ []
+      | true ↦ tab-word line item column ∷ []
       | false ↦ word_at line column (shape_from bytes (key_of bytes)) ∷ []
     ]) tt (
-    choose Lined (starts_with 9 bytes) (word_at line 0 (refused TabIndent) ∷ [])
+    choose Lined (starts_with 9 bytes) (tab-word line item column ∷ [])
     (word_at line column (shape_from bytes (key_of bytes)) ∷ []) tt tt
     )
 
@@ -154,9 +159,9 @@ lined-words line item column (b ∷ bs) =
     (follows-words (head_of (word_at line column (dash (item_name bs)))) line true (suc column) bs
     (omega arith)) (
     choose Lined (item && b == 38) (word_of line column (anchored_shape (anchor_split bs)))
-    (last_words line column (b ∷ bs))
+    (last_words line item column (b ∷ bs))
     (lined-name line column (anchored_shape (anchor_split bs)))
-    (lined-last line column (b ∷ bs))
+    (lined-last line item column (b ∷ bs))
     )
     )
 

@@ -481,3 +481,8 @@ row86 : answer (97 ∷ 58 ∷ 32 ∷ 38 ∷ 97 ∷ 10 ∷ 32 ∷ 32 ∷ 120 ∷ 
     (entry (120 ∷ 51 ∷ []) (scalar (55 ∷ []) 10) (no_entries))))) 8) (no_entries)))) 1)
 unfolding is_utf8 chars encode
 row86 = refl
+
+-- '<<:\n- - \ta\n'
+row87 : answer (60 ∷ 60 ∷ 58 ∷ 10 ∷ 45 ∷ 32 ∷ 45 ∷ 32 ∷ 9 ∷ 97 ∷ 10 ∷ []) ≡ Err (2, TabIndent)
+unfolding is_utf8 chars encode
+row87 = refl

@@ -21,5 +21,5 @@ abbrev pub rest_words : ℕ → Bool → ℕ → List ℕ → List Word
 rest_words line item column bytes =
     elim (item && starts_with ampersand_byte bytes) [
       | true ↦ word_of line column (anchored_shape (anchor_split (drop 1 bytes)))
-      | false ↦ last_words line column bytes
+      | false ↦ last_words line item column bytes
     ]

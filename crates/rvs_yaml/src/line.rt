@@ -1,5 +1,6 @@
 // The words of a line.
-ghost use Rattle.std.specs.Prelude.{◌≡◌, ◌<◌, false, length, option_map, IfOk, IfSome};
+ghost use Rattle.std.specs.Prelude.{◌≡◌, ◌<◌, false, length, option_map, if◌then◌else◌};
+ghost use Rattle.std.specs.Prelude.{IfOk, IfSome};
 ghost use Rattle.rvs_yaml_text.specs.Text as text_spec;
 ghost use Rattle.rvs_yaml.specs.Stack as stack_spec;
 ghost use Rattle.rvs_yaml.specs.LineParts as parts;
@@ -50,7 +51,7 @@ fn last_word<'a>(
         let shape = anchored_item(alloc, behind_first(text))?;
         return Ok(word_with(line, column, shape));
     }
-    plain_word(alloc, line, column, text)
+    plain_word(alloc, line, column, item, text)
 }
 
 /// A word with this shape, where there is one.
@@ -71,16 +72,18 @@ fn plain_word<'a>(
     alloc: Global,
     line: u64,
     column: usize,
+    item: bool,
     text: &'a str,
 ) -> Result<Option<Word<'a>>, AllocError>
-    ensures { IfOk result
-        (λ o. parts.words_in (option_map word_view o) ≡ text_spec.last_words line column text.now) }
+    ensures { IfOk result (λ o. parts.words_in (option_map word_view o)
+        ≡ text_spec.last_words line item column text.now) }
 {
     if is_blank(true, text.as_bytes()) {
         return Ok(None);
     }
     if starts_with(b'\t', text.as_bytes()) {
-        return Ok(Some(refused(line, YamlKind::TabIndent)));
+        let place = tab_column(item, column);
+        return Ok(Some(refused(line, place, YamlKind::TabIndent)));
     }
     let shape = shape_of(alloc, text)?;
     Ok(Some(Word {
@@ -90,13 +93,20 @@ fn plain_word<'a>(
     }))
 }
 
-/// A line that is refused wherever it stands.
-fn refused<'a>(line: u64, kind: YamlKind) -> Word<'a>
-    ensures { word_view result ≡ text_spec.word_at line 0 (word_spec.refused kind) }
+/// Where a tab in the indentation is a word: behind a dash at its own column.
+fn tab_column(item: bool, column: usize) -> usize
+    ensures { result ≡ (if item then column else 0) }
+{
+    if item { column } else { 0 }
+}
+
+/// A line or an item that is refused wherever it stands.
+fn refused<'a>(line: u64, column: usize, kind: YamlKind) -> Word<'a>
+    ensures { word_view result ≡ text_spec.word_at line column (word_spec.refused kind) }
 {
     Word {
         line,
-        column: 0,
+        column,
         shape: Shape::Refused(kind),
     }
 }
@@ -191,17 +201,17 @@ pub(crate) fn read_line<'a>(
         (open_blocks stack.entry) (text_spec.line_words line started bytes.now)) }
 {
     let Ok(text) = str::from_utf8(bytes) else {
-        return step(alloc, stack, refused(line, YamlKind::NotUtf8));
+        return step(alloc, stack, refused(line, 0, YamlKind::NotUtf8));
     };
     if is_mark(b'-', bytes) {
         return if started {
-            step(alloc, stack, refused(line, YamlKind::Unsupported))
+            step(alloc, stack, refused(line, 0, YamlKind::Unsupported))
         } else {
             Ok(stack)
         };
     }
     if is_mark(b'.', bytes) {
-        return step(alloc, stack, refused(line, YamlKind::Unsupported));
+        return step(alloc, stack, refused(line, 0, YamlKind::Unsupported));
     }
     read_words(alloc, stack, line, text)
 }

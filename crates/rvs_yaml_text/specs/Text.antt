@@ -128,14 +128,15 @@ shape_from bytes (Some k) =
 abbrev pub word_at : ℕ → ℕ → Shape → Word
 word_at line column shape = record { line = line; column = column; shape = shape }
 
--- The last word of a line, which stands at this column, if there is more than a comment.
-abbrev pub last_words : ℕ → ℕ → List ℕ → List Word
-last_words line column bytes =
+-- The last word of a line, which stands at this column, if there is more than a comment. A tab in
+-- the indentation refuses the line, and behind a dash the item.
+abbrev pub last_words : ℕ → Bool → ℕ → List ℕ → List Word
+last_words line behind_dash column bytes =
     elim (is_blank true bytes) [
       | true ↦ []
       | false ↦
           elim (starts_with tab_byte bytes) [
-            | true ↦ word_at line 0 (refused TabIndent) ∷ []
+            | true ↦ word_at line (if behind_dash then column else 0) (refused TabIndent) ∷ []
             | false ↦ word_at line column (shape_from bytes (key_of bytes)) ∷ []
           ]
     ]
@@ -202,7 +203,7 @@ words_at line behind_dash column (b ∷ bs) =
                 elim (behind_dash && b == ampersand_byte) [
                   | true ↦ word_of line column (anchored_shape (anchor_split bs))
                   | false ↦
-                      last_words line column (b ∷ bs)
+                      last_words line behind_dash column (b ∷ bs)
                 ]
           ]
     ]

@@ -45,7 +45,8 @@ pub data Content : Type 0 where
 abbrev pub Name : Type 0
 Name = Option (List ℕ)
 
--- A line that is refused wherever it stands is a word too, at column 0.
+-- A line that is refused wherever it stands is a word too, at column 0. An item that is so stands
+-- at its own column, below its dash.
 pub data Shape : Type 0 where
   dash : Name → Shape
   key : Key → Name → Content → Shape
