@@ -1,7 +1,8 @@
 // Group files, as they are printed or refused.
+use crate::release::release;
 use crate::stage::{number, plain};
 use rvs_base::{Items, NoMemory, Text};
-use rvs_cgf::{Groups, normal_text, read_groups, refusal_text};
+use rvs_cgf::{CgfRefusal, Groups, normal_text, read_groups, refusal_text};
 use rvs_count::count_log;
 use rvs_insn::IsaSpec;
 use std::alloc::Global;
@@ -51,14 +52,31 @@ fn tell_first(groups: &Groups, report: &mut String) -> Result<(), Fail> {
     Ok(())
 }
 
+fn tell_again(alloc: Global, groups: &Groups, report: &mut String) -> Result<(), Fail> {
+    tell_first(groups, report)?;
+    let text = normal_text(alloc, groups).map_err(|_| "no memory")?;
+    let again = groups_of(alloc, text.as_str())?;
+    let told = tell_first(&again, report);
+    release(again);
+    told
+}
+
 /// Adds how many points the first label has and skips, and the same of the file's normal form.
 pub fn tell_counts(alloc: Global, row: &str, report: &mut String) -> Result<(), Fail> {
     let file = plain(alloc, row)?;
     let groups = groups_of(alloc, file.as_str())?;
-    tell_first(&groups, report)?;
-    let text = normal_text(alloc, &groups).map_err(|_| "no memory")?;
-    let again = groups_of(alloc, text.as_str())?;
-    tell_first(&again, report)
+    let told = tell_again(alloc, &groups, report);
+    release(groups);
+    told
+}
+
+fn tell_numbers(instructions: u64, counts: &[u64], report: &mut String) -> Result<(), Fail> {
+    write!(report, "{instructions} instructions")?;
+    for count in counts {
+        write!(report, ", {count}")?;
+    }
+    report.push_str("\n")?;
+    Ok(())
 }
 
 fn tell_hits(alloc: Global, groups: &Groups, log: &[u8], report: &mut String) -> Result<(), Fail> {
@@ -66,22 +84,21 @@ fn tell_hits(alloc: Global, groups: &Groups, log: &[u8], report: &mut String) ->
         return Err(Fail::new("a long log"));
     }
     let counted = count_log(alloc, groups, Items::new(alloc), log).map_err(|_| "no memory")?;
-    write!(report, "{} instructions", counted.instructions)?;
-    for count in counted.counts.as_slice() {
-        write!(report, ", {count}")?;
-    }
-    report.push_str("\n")?;
-    Ok(())
+    let told = tell_numbers(counted.instructions, counted.counts.as_slice(), report);
+    release(counted);
+    told
 }
 
 /// Adds how many instructions a log has, and how often it hits each point of a group file. A `|`
 /// stands between the log and the file.
 pub fn tell_log(alloc: Global, row: &str, report: &mut String) -> Result<(), Fail> {
     let (log, file) = row.split_once('|').ok_or("no log")?;
+    let log = plain(alloc, log)?;
     let file = plain(alloc, file)?;
     let groups = groups_of(alloc, file.as_str())?;
-    let log = plain(alloc, log)?;
-    tell_hits(alloc, &groups, log.as_bytes(), report)
+    let told = tell_hits(alloc, &groups, log.as_bytes(), report);
+    release(groups);
+    told
 }
 
 fn many_points(alloc: Global, count: u64) -> Result<String, Fail> {
@@ -101,15 +118,27 @@ fn many_labels(alloc: Global, count: u64) -> Result<String, Fail> {
     Ok(file)
 }
 
+fn tell_refusal(alloc: Global, refusal: &CgfRefusal, report: &mut String) -> Result<(), Fail> {
+    let why = refusal_text(alloc, refusal).map_err(|_| "no memory")?;
+    write!(report, "{}\n", why.as_str())?;
+    Ok(())
+}
+
 /// Adds how many points the first label of a file has and skips, or why the file is refused.
 fn tell_read(alloc: Global, file: &str, report: &mut String) -> Result<(), Fail> {
     let tree = rvs_yaml::parse(alloc, file.as_bytes()).map_err(|_| "no tree")?;
-    match read_groups(alloc, &tree, &CORE) {
-        Ok(groups) => tell_first(&groups, report),
+    let found = read_groups(alloc, &tree, &CORE);
+    release(tree);
+    match found {
+        Ok(groups) => {
+            let told = tell_first(&groups, report);
+            release(groups);
+            told
+        },
         Err(refusal) => {
-            let why = refusal_text(alloc, &refusal).map_err(|_| "no memory")?;
-            write!(report, "{}\n", why.as_str())?;
-            Ok(())
+            let told = tell_refusal(alloc, &refusal, report);
+            release(refusal);
+            told
         },
     }
 }

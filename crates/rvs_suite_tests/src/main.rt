@@ -4,6 +4,7 @@
 #![tactic(auto)]
 
 mod groups;
+mod release;
 mod runs;
 mod scenes;
 mod slow;

@@ -1,5 +1,6 @@
 // Runs over a host and sinks in memory. No clause says that a run has the memory that it wants, nor
 // how its lines are spelt.
+use crate::release::release;
 use crate::stage::{host_of, list};
 use rvs_base::{MemoryHost, MemorySink, Sink};
 use rvs_suite::{Status, run_suite};
@@ -57,7 +58,7 @@ pub fn status_of<O: Sink, E: Sink>(
 }
 
 /// Runs the words on a host that has its own faults.
-pub fn run_on(
+fn run_on(
     alloc: Global,
     words: &str,
     host: &mut MemoryHost,
@@ -70,11 +71,25 @@ pub fn run_on(
 }
 
 /// Adds the output, the status and what the error stream got.
-pub fn spell(report: &mut String, outcome: &Outcome) -> Result<(), Fail> {
+fn spell(report: &mut String, outcome: &Outcome) -> Result<(), Fail> {
     let out = str::from_utf8(outcome.out.bytes()).map_err(|_| "no text")?;
     let err = str::from_utf8(outcome.err.bytes()).map_err(|_| "no text")?;
     write!(report, "{out}[{:?}] {err:?}\n", outcome.status)?;
     Ok(())
+}
+
+/// Runs the words on a host, and tells what comes of it.
+pub fn tell_on(
+    alloc: Global,
+    words: &str,
+    host: &mut MemoryHost,
+    faults: Faults,
+    report: &mut String,
+) -> Result<(), Fail> {
+    let outcome = run_on(alloc, words, host, faults)?;
+    let told = spell(report, &outcome);
+    release(outcome);
+    told
 }
 
 /// The run of a scene with one fault, and the host that it leaves.
@@ -86,7 +101,11 @@ pub fn faulty(
     report: &mut String,
 ) -> Result<MemoryHost, Fail> {
     let mut host = host_of(alloc, scene, faults.host)?;
-    let outcome = run_on(alloc, words, &mut host, faults)?;
-    spell(report, &outcome)?;
-    Ok(host)
+    match tell_on(alloc, words, &mut host, faults, report) {
+        Ok(()) => Ok(host),
+        Err(fail) => {
+            release(host);
+            Err(fail)
+        },
+    }
 }

@@ -26,11 +26,13 @@
 //     hits LOG|TEXT               how many instructions a log has, and how often it hits each
 //                                 point of a group file
 use crate::groups;
-use crate::runs::{NO_FAULTS, fault, faulty, run_on, spell};
+use crate::release::release;
+use crate::runs::{NO_FAULTS, fault, faulty, tell_on};
 use crate::slow::slow;
 use crate::stage::{first_word, host_of, number};
 use rvs_base::MemoryHost;
 use std::alloc::Global;
+use std::mem;
 use std::test::Fail;
 
 /// A run for each of so many calls of a place, each of which fails in turn.
@@ -38,7 +40,7 @@ fn turns(alloc: Global, scene: &str, row: &str, report: &mut String) -> Result<(
     let (place, row) = first_word(row)?;
     let (count, words) = first_word(row)?;
     for call in 0..number(count)? {
-        let _host = faulty(alloc, scene, words, fault(place, call), report)?;
+        release(faulty(alloc, scene, words, fault(place, call), report)?);
     }
     Ok(())
 }
@@ -100,14 +102,15 @@ fn run(
     report: &mut String,
 ) -> Result<(), Fail> {
     if verb == "then" {
-        let outcome = run_on(alloc, row, host, NO_FAULTS)?;
-        return spell(report, &outcome);
+        return tell_on(alloc, row, host, NO_FAULTS, report);
     }
     if verb == "run" {
-        *host = faulty(alloc, scene, row, NO_FAULTS, report)?;
+        let left = faulty(alloc, scene, row, NO_FAULTS, report)?;
+        release(mem::replace(host, left));
     }
     if verb == "fails" {
-        *host = fails(alloc, scene, row, report)?;
+        let left = fails(alloc, scene, row, report)?;
+        release(mem::replace(host, left));
     }
     if verb == "turns" {
         turns(alloc, scene, row, report)?;
@@ -152,16 +155,37 @@ fn look(
     Ok(())
 }
 
-fn play(alloc: Global, scene: &str, report: &mut String) -> Result<(), Fail> {
-    let mut host = host_of(alloc, scene, None)?;
+fn play_line(
+    alloc: Global,
+    scene: &str,
+    line: &str,
+    host: &mut MemoryHost,
+    report: &mut String,
+) -> Result<(), Fail> {
+    let words = line.split_once(' ').unwrap_or((line, ""));
+    write!(report, "> {line}\n")?;
+    run(alloc, scene, words, host, report)?;
+    look(alloc, words, host, report)
+}
+
+fn play_on(
+    alloc: Global,
+    scene: &str,
+    host: &mut MemoryHost,
+    report: &mut String,
+) -> Result<(), Fail> {
     for line in scene.lines() {
-        let words = line.split_once(' ').unwrap_or((line, ""));
-        write!(report, "> {line}\n")?;
-        run(alloc, scene, words, &mut host, report)?;
-        look(alloc, words, &host, report)?;
+        play_line(alloc, scene, line, host, report)?;
     }
     report.push_str("\n")?;
     Ok(())
+}
+
+fn play(alloc: Global, scene: &str, report: &mut String) -> Result<(), Fail> {
+    let mut host = host_of(alloc, scene, None)?;
+    let told = play_on(alloc, scene, &mut host, report);
+    release(host);
+    told
 }
 
 /// What the scenes of a text tell.
