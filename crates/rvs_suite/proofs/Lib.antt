@@ -40,4 +40,5 @@ mod RunReads
 mod DemoEnds
 mod RunEnds
 mod OneTest
+mod OneCount
 mod Saying
