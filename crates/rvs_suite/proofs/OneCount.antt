@@ -12,7 +12,10 @@ use Rattle.rvs_cgf.specs.Hits.{has_op, is_meant}
 use Rattle.rvs_count.specs.Counting.{Aim, aims_of, count, count_for, decoded, hits, hits_insn, kept}
 use Rattle.rvs_count.specs.Report.{report_of}
 use Rattle.rvs_count.specs.declared.window.Window.{Window}
-use Rattle.rvs_words.proofs.OptionPairs.{and-right}
+
+and-right : (a b : Bool) → (a && b) ≡ true → b ≡ true
+and-right true b e = e
+and-right false b e = absurd cc
 
 -- no instruction alone hits a cross point
 no-window : (a : Aim) (i : Option Fields) (v1 v2 : ℕ) (ps : List Place)
