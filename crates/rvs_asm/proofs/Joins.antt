@@ -3,22 +3,8 @@ use Rattle.std.proofs.Common.{◌≡◌, ℕ, Bool, List, [], ◌∷◌, ◌++�
 use Rattle.std.proofs.Common.{append_assoc}
 use Rattle.std.specs.Prelude.{not}
 use Rattle.rvs_asm.specs.declared.location.Location.{Location}
-use Rattle.rvs_asm.specs.Locations.{Reading, body_of, label_of, next, location_after, own_label}
-use Rattle.rvs_asm.specs.Locations.{labels}
+use Rattle.rvs_asm.specs.Locations.{Reading, body_of, next, location_after}
 use Rattle.rvs_asm.specs.Bytes.{bytes_of, section}
-
-pub location_join : (xs ys : List Reading) (p : Location)
-    → location_after (xs ++ ys) p ≡ location_after ys (location_after xs p)
-location_join [] ys p = refl
-location_join (x ∷ xs) ys p = location_join xs ys (next p (body_of x))
-
-pub labels_join : (xs ys : List Reading) (p : Location)
-    → labels (xs ++ ys) p ≡ labels xs p ++ labels ys (location_after xs p)
-labels_join [] ys p = refl
-labels_join (x ∷ xs) ys p =
-    ap (λ l. own_label (label_of x) p ++ l) (labels_join xs ys (next p (body_of x)))
-    ∙ sym (append_assoc (own_label (label_of x) p) (labels xs (next p (body_of x)))
-    (labels ys (location_after xs (next p (body_of x)))))
 
 pub section_join : (text : Bool) (env : List ℕ → ℕ) (xs ys : List Reading) (p : Location)
     → section text env (xs ++ ys) p

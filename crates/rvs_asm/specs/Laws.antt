@@ -19,7 +19,7 @@ abbrev pub PartsMakeAddress : Type 0
 PartsMakeAddress = (address : ℕ) → address < 2 ^ 32
     → cast_unsigned w32 (pos (high address * 2 ^ 12) +ℤ low address) ≡ address
 
--- at most one image stands to a text
+-- any two images of a text are the same
 abbrev pub OneImageEach : Type 0
 OneImageEach = (text : List ℕ) (isa : Isa) (a b : ImageValue) → Assembles text isa a
     → Assembles text isa b → a ≡ b

@@ -1,5 +1,5 @@
 -- Where each line stands, and what each symbol marks.
-use Rattle.std.specs.Prelude.{◌≡◌, ◌≤◌, nat_le, is_ok, ◌&&◌, ℕ, ◌+◌, ◌-◌, ◌*◌, ◌%◌, ◌^◌, Bool, true}
+use Rattle.std.specs.Prelude.{◌≡◌, ◌≤◌, is_ok, ℕ, ◌+◌, ◌-◌, ◌*◌, ◌%◌, ◌^◌, Bool, true}
 use Rattle.std.specs.Prelude.{false}
 use Rattle.std.specs.Prelude.{Option, Some, None, Result, Ok, Err, List, [], ◌∷◌, ◌++◌, length}
 use Rattle.std.specs.Prelude.{if◌then◌else◌}
@@ -87,9 +87,6 @@ labels [] p = []
 labels (r ∷ rs) p = own_label (label_of r) p ++ labels rs (next p (body_of r))
 
 -- the sections keep their lengths
-abbrev pub is_short : Location → Bool
-is_short p = nat_le p.text text_limit && nat_le p.data_bytes data_limit
-
 pub record IsLocation (p : Location) : Type 0 where
   pub text_short : p.text ≤ text_limit
   pub data_short : p.data_bytes ≤ data_limit

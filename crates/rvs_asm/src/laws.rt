@@ -8,7 +8,7 @@ pub fn parts_make_the_address()
     ensures { PartsMakeAddress }
 {}
 
-/// At most one image stands to a text, and it is what `assemble` answers.
+/// A text has no second image: any two that stand to it are one, the one that `assemble` answers.
 pub fn one_image_each()
     ensures one { OneImageEach }
     ensures answered { ImagesAreAnswered }

@@ -9,23 +9,23 @@ use rvs_base::{NoMemory, Text};
 /// Why no image stands to a text.
 #[derive(Debug, Drop)]
 pub enum AsmKind {
-    /// A byte that may not stand outside a comment, a label that isn't a symbol, an empty operand
-    /// beside a comma, or an instruction in data.
+    /// Outside a comment stands a byte that may not, a comma has nothing at a side, a label can't be
+    /// a symbol's name, or the section of the instruction is data.
     BadLine,
-    /// A first word that is no mnemonic and no directive.
+    /// The first word names no instruction and no directive.
     UnknownInstruction,
-    /// A wrong number or sort of operands.
+    /// The operands aren't as many as are wanted, or not of the sort.
     BadOperand,
-    /// A number or a distance outside its field, or an odd distance.
+    /// A number, or a way to a label, doesn't fit into its field; or that way is odd.
     OutOfRange {
         /// The leftmost such number.
         value: i64,
     },
-    /// A symbol that no line has as its label.
+    /// No line has the symbol as its label.
     UnknownSymbol,
-    /// A label that an earlier line has.
+    /// An earlier line has the same label.
     DoubleSymbol,
-    /// A line in the text whose size isn't a multiple of 4.
+    /// A line of the text section that takes another number of bytes than whole words have.
     MisalignedCode,
     /// The text passes 16 MiB.
     TextFull,
@@ -36,7 +36,7 @@ pub enum AsmKind {
         /// The first such name.
         name: Text,
     },
-    /// An instruction that the core doesn't have.
+    /// The core lacks the instruction, or one of its registers.
     NotInIsa,
     /// The word at `tohost` or the signature doesn't lie in the data, or is not aligned.
     BadRegion,
@@ -44,8 +44,8 @@ pub enum AsmKind {
     NoMemory,
 }
 
-/// A refusal, with the number of its line from 1; 0 for the last of `AsmKind` but `NotInIsa`, and
-/// for a missing symbol.
+/// A refusal, with the number of its line from 1. Line 0 is that of the whole text: of a missing
+/// symbol, a bad region and want of memory.
 #[derive(Debug, Drop)]
 pub struct AsmRefusal {
     pub line: u64,

@@ -54,12 +54,12 @@ pub struct Line<'t> {
 /// What is wrong with a line by itself.
 #[derive(Debug, Drop, Clone, Copy, PartialEq, Eq)]
 pub enum LineFault {
-    /// A byte that may not stand outside a comment, a label that isn't a symbol, an empty operand
-    /// beside a comma, or an instruction in data.
+    /// Outside a comment stands a byte that may not, a comma has nothing at a side, a label can't be
+    /// a symbol's name, or the section of the instruction is data.
     BadLine,
-    /// A first word that is no mnemonic and no directive.
+    /// The first word names no instruction and no directive.
     UnknownInstruction,
-    /// A wrong number or sort of operands.
+    /// The operands aren't as many as are wanted, or not of the sort.
     BadOperand,
     /// A number outside its field, the leftmost such.
     OutOfRange(i64),

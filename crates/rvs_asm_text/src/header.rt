@@ -39,8 +39,8 @@ fn line_steps(line: &[u8]) -> Option<u64>
     }
 }
 
-/// The number n of a test's first line `#! steps n`, with n of one to seven digits and from 1 to
-/// 2,000,000. Other lines are passed over, also those with another n.
+/// How many steps the header line of a test (`#! steps N`) allows: from 1 to 2,000,000, in at most
+/// seven digits. Lines of another form or with another number are none.
 #[tactic(auto, unfolding(crate::specs::Header::header_steps))]
 pub fn steps_of_header(text: &[u8]) -> Option<u64>
     ensures { result ≡ header_steps text.now }

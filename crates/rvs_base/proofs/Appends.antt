@@ -1,12 +1,8 @@
 -- Putting piece after piece.
 use Rattle.std.proofs.Common.{◌≡◌, ℕ, List, [], ◌++◌, take, drop, Option, Some, None, refl, sym, ap}
 use Rattle.std.proofs.Common.{◌∙◌}
-use Rattle.std.proofs.lemmas.List.{append_assoc, append-nil, take-append-drop}
+use Rattle.std.proofs.lemmas.List.{append_assoc, take-append-drop}
 use Rattle.rvs_base.specs.Sink.{appended}
-
-pub appended-nil : (old : Option (List ℕ)) → appended old [] ≡ old
-appended-nil None = refl
-appended-nil (Some bytes) = ap Some (append-nil bytes)
 
 pub appended-appended : (old : Option (List ℕ)) (a b : List ℕ)
     → appended (appended old a) b ≡ appended old (a ++ b)
@@ -19,9 +15,6 @@ pub record HasPut (bytes left : List ℕ) (old new : Option (List ℕ)) : Type 0
   pub split : bytes ≡ front ++ left
   pub put : new ≡ appended old front
 
-pub HasPut-none : (bytes : List ℕ) (old : Option (List ℕ)) → HasPut bytes bytes old old
-HasPut-none bytes old = record { front = []; split = refl; put = sym (appended-nil old) }
-
 -- and then the next n bytes are put
 pub HasPut-more : {bytes left : List ℕ} {old mid new : Option (List ℕ)} (n : ℕ)
     → HasPut bytes left old mid → new ≡ appended mid (take n left)
@@ -33,8 +26,3 @@ HasPut-more {left = left} {old = old} n h more = record {
   put = more ∙ ap (λ mid. appended mid (take n left)) h.put
       ∙ appended-appended old h.front (take n left);
 }
-
--- nothing is left
-pub HasPut-all : {bytes : List ℕ} {old new : Option (List ℕ)} → HasPut bytes [] old new
-    → new ≡ appended old bytes
-HasPut-all {old = old} h = h.put ∙ ap (appended old) (sym (h.split ∙ append-nil h.front))

@@ -168,13 +168,3 @@ pub held-without : (files : List File) (name other : List ℕ)
 held-without [] name other = none_left (bytes_eq other name)
 held-without (file ∷ files) name other =
     without_head file files name other (is_named name file) refl (held-without files name other)
-
--- a file is left as it was
-kept_choice : (t : Bool) (a b : Option (List ℕ)) → (t ≡ true → a ≡ b) → b ≡ (if t then a else b)
-kept_choice true a b same = sym (same refl)
-kept_choice false a b same = refl
-
-pub held-kept : (files : List File) (name other : List ℕ)
-    → held files other ≡ with_left name (held files name) (held files) other
-held-kept files name other = kept_choice (bytes_eq other name) (held files name) (held files other)
-    (λ is. ap (held files) (sym ((bytes_eq-Decides other name).0 is)))

@@ -1,7 +1,7 @@
 -- What a host and a sink in memory hold.
 use Rattle.std.specs.Prelude.{◌≡◌, ◌≤◌, ◌<◌, ◌⊎◌, ℕ, ℤ, ◌+◌, ◌-◌, ◌^◌, min, Bool, false, not, List}
 use Rattle.std.specs.Prelude.{[], ◌∷◌, filter, length, slice_index_or, Option, Some, None}
-use Rattle.std.specs.Prelude.{if◌then◌else◌, bytes_eq, Contains}
+use Rattle.std.specs.Prelude.{if◌then◌else◌, bytes_eq, Contains, ⊥}
 use Rattle.rvs_base.specs.Host.{HostState, Files}
 use Rattle.rvs_base.specs.Sink.{SinkState}
 use Rattle.rvs_base.specs.declared.host.DeviceRun.{DeviceRun}
@@ -79,22 +79,27 @@ without name files = filter (λ (file : List ℕ × List ℕ). not (bytes_eq fil
 pub record IsCounted (old new : MemoryHostState) : Type 0 where
   pub numbered : new.calls ≡ raised old.calls
   pub same_list : new.fail ≡ old.fail
+  pub same_answers : new.answers ≡ old.answers
   pub fed : new.starved ≡ old.starved
 
 -- a call that may want memory was made
 pub record IsNumbered (old new : MemoryHostState) : Type 0 where
   pub numbered : new.calls ≡ raised old.calls
   pub same_list : new.fail ≡ old.fail
+  pub same_answers : new.answers ≡ old.answers
 
--- why such a call failed: its number is listed, or it wanted memory and says so
+-- why such a call failed: its number is listed, or it isn't, and the call wanted memory and says so
 abbrev pub HasReason : MemoryHostState → MemoryHostState → Type 0
 HasReason old new =
-    (Contains old.fail old.calls × (new.starved ≡ old.starved)) ⊎ (new.starved ≡ raised old.starved)
+    (Contains old.fail old.calls × (new.starved ≡ old.starved))
+    ⊎ ((Contains old.fail old.calls → ⊥) × (new.starved ≡ raised old.starved))
 
 -- why a run of a device failed: its number is listed, no answer is left for it, or it wanted memory
 -- and says so
 abbrev pub HasRunReason : MemoryHostState → MemoryHostState → Type 0
-HasRunReason old new = HasReason old new ⊎ (length old.answers ≤ length old.runs)
+HasRunReason old new =
+    HasReason old new
+    ⊎ ((length old.answers ≤ length old.runs) × (new.starved ≡ old.starved))
 
 -- a run of a device was answered by the first answer that is left
 pub record IsAnswered (signature : List ℕ) (old new : MemoryHostState) (status : ℤ) : Type 0 where
@@ -130,4 +135,5 @@ pub record IsNumberedPut (old new : MemorySinkState) : Type 0 where
 
 abbrev pub HasReasonPut : MemorySinkState → MemorySinkState → Type 0
 HasReasonPut old new =
-    (Contains old.fail old.calls × (new.starved ≡ old.starved)) ⊎ (new.starved ≡ raised old.starved)
+    (Contains old.fail old.calls × (new.starved ≡ old.starved))
+    ⊎ ((Contains old.fail old.calls → ⊥) × (new.starved ≡ raised old.starved))

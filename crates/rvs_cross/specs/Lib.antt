@@ -1,3 +1,4 @@
+pub mod Alone
 pub mod Assigned
 pub mod Choosing
 pub mod Cross

@@ -9,7 +9,7 @@ use Rattle.rvs_expr_text.specs.declared.lexeme.NumName.{NumName}
 use Rattle.rvs_expr_text.specs.declared.lexeme.NumName.TheVariants.{Rs1Val, Rs2Val, ImmVal, EaAlign}
 use Rattle.rvs_expr_text.specs.declared.lexeme.RegName.{RegName}
 use Rattle.rvs_expr_text.specs.declared.lexeme.RegName.TheVariants.{Rd, Rs1, Rs2}
-use Rattle.rvs_expr.specs.Meaning.{Table, nothing, both}
+use Rattle.rvs_expr.specs.Meaning.{Table, both}
 
 -- a word as a number, read without a sign or with one
 abbrev pub number_of : Bool → ℕ → ℤ
@@ -52,8 +52,3 @@ num_of i first second EaAlign = alignment (row i.op).form (first_value i first) 
 -- the facts of an instruction whose source registers hold these words before it
 abbrev pub facts_of : Fields → ℕ → ℕ → Table
 facts_of i first second = record { reg = register_of i; num = num_of i first second }
-
--- where there is no instruction there are no facts
-abbrev pub facts_at : Option Fields → ℕ → ℕ → Table
-facts_at None first second = nothing
-facts_at (Some i) first second = facts_of i first second

@@ -188,8 +188,9 @@ impl Follow {
     }
 
     /// The next line that ends in the piece, without its carriage return, and how many bytes of the
-    /// piece were used: those up to its line feed, and that. A line of more than 4,096 bytes is
-    /// passed over. Where none ends, all of the piece is used. It takes no memory.
+    /// piece were used: those up to its line feed, and that. Lines longer
+    /// than 4,096 bytes are passed over. Where none ends, all of the piece is used. It takes no
+    /// memory.
     #[inline(always)]
     pub fn next<'f>(&'f mut self, piece: &'f [u8]) -> Cut<'f>
         ensures* leaves { sem 𝓛 (follows_so the_row the_row self.entry.ghost_name none (λ _ _. ⊤)

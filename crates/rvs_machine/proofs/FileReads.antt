@@ -59,9 +59,6 @@ kept [] p = refl
 kept (c ∷ []) p = rw (no_return c p.0) refl
 kept (c ∷ d ∷ ds) p = ap (λ l. c ∷ l) (kept (d ∷ ds) p.1)
 
-rest_at : List ℕ → ℕ → Rest
-rest_at bytes n = record { bytes = bytes; line = n }
-
 taken_line : (l rest : List ℕ) (n : ℕ) → Plain l
     → taken_from (l ++ 10 ∷ rest) n ≡ Some (l, record { bytes = rest; line = n + 1 })
 taken_line [] rest n p = refl

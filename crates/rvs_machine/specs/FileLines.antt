@@ -1,5 +1,5 @@
--- The lines of a file. Each ends with a line feed, which the last may lack; a carriage return
--- before a line feed belongs to it.
+-- The lines of a file. A line feed ends each but perhaps the last, and takes a carriage return
+-- before it along.
 use Rattle.std.specs.Prelude.{ℕ, ◌+◌, Bool, if◌then◌else◌, Option, Some, None, is_some, unwrap_or}
 use Rattle.std.specs.Prelude.{List, [], ◌∷◌}
 use Rattle.rvs_base.specs.Lines.{before, after, without_return}

@@ -5,8 +5,8 @@ ghost use Rattle.rvs_machine.specs.FileLines.{after_feed, first_line, taken};
 use rvs_base::{cut, without_return};
 use std::marker::Model;
 
-/// What is left of a file, and the number of the line that begins there, from 1. Each line ends
-/// with a line feed, which the last may lack; a carriage return before a line feed is dropped.
+/// What is left of a file, and the number of the line that begins there, from 1. A line
+/// feed ends each line but perhaps the last, and takes a carriage return before it along.
 #[derive(Debug, Drop)]
 pub(crate) struct Lines<'a> {
     rest: &'a [u8],

@@ -44,20 +44,6 @@ pub steps : {A B : Type 0} (a : Checked A) (f : A → Checked B) (b : B) → (a 
 steps (Ok x) f b h = record { value = x; first = refl; next = h }
 steps (Err e) f b h = cc
 
-pub behind-check : {A B : Type 0} (a : Checked A) (b : Checked B) (y : B) → (a >> b) ≡ Ok y
-    → b ≡ Ok y
-behind-check (Ok x) b y h = h
-behind-check (Err e) b y h = cc
-
-check-true : (b : Bool) (kind : YamlKind) → check b kind ≡ Ok tt → b ≡ true
-check-true true kind h = refl
-check-true false kind h = cc
-
-checked-first : {B : Type 0} (t : Bool) (kind : YamlKind) (b : Checked B) (y : B)
-    → (check t kind >> b) ≡ Ok y → t ≡ true
-checked-first true kind b y h = refl
-checked-first false kind b y h = cc
-
 -- ---- anchors
 abbrev pub AnchorsOwned : Anchors → Type 0
 AnchorsOwned [] = Unit {0}

@@ -1,6 +1,6 @@
 -- One turn of a loop that searches, what it keeps and what it costs.
 use Rattle.std.proofs.Common.{◌≡◌, ℕ, ◌+◌, ◌<◌, ◌≤◌, Bool, true, false, cond, List, [], ◌∷◌}
-use Rattle.std.proofs.Common.{map, length, get_or, drop, take, Option, Some, None, refl, sym, ap}
+use Rattle.std.proofs.Common.{map, length, get_or, drop, take, Option, Some, sym, ap}
 use Rattle.std.proofs.Common.{◌∙◌, arith}
 use Rattle.std.specs.Prelude.{find, sum_by}
 use Rattle.std.specs.Option.{option_or}
@@ -8,15 +8,6 @@ use Rattle.std.proofs.lemmas.List.{map_more}
 use Rattle.std.proofs.lemmas.List.Folds.{find-append}
 use Rattle.std.proofs.lemmas.List.Sums.{sum_by_more, sum_by-take-le}
 use Rattle.rvs_cross.proofs.Searching.{rest_at}
-
-or_nothing : {X : Type 0} (o : Option X) → option_or o None ≡ o
-or_nothing None = refl
-or_nothing (Some x) = refl
-
--- what is kept stays where the next is none
-pub kept_over : {X : Type 0} (p : X → Bool) (kept : Option X) (x : X) → p x ≡ false
-    → kept ≡ option_or kept (find p (x ∷ []))
-kept_over p kept x h = sym (ap (λ t. option_or kept (cond t (Some x) None)) h ∙ or_nothing kept)
 
 pub kept_turn : {X Y : Type 0} (p : Y → Bool) (f : X → Y) (xs : List X) (i : ℕ) (d : X)
     (kept next : Option Y) → i < length xs → kept ≡ find p (map f (take i xs))

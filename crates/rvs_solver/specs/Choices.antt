@@ -124,7 +124,7 @@ choices spec op constants =
 abbrev pub fields_of : ChoiceValue → Fields
 fields_of c = record { op = c.op; rd = c.rd; rs1 = c.rs1; rs2 = c.rs2; imm = c.imm }
 
--- jalr has no rs1_val, since its base is set from a label
+-- the base of jalr is an address of the test's own, so that no choice gives rs1_val
 abbrev pub base_value : Format → Option ℤ → Option ℤ
 base_value JumpReg value = None
 base_value _ value = value

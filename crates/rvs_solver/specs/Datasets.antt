@@ -140,7 +140,8 @@ immediates form constants = map Some (immediate_numbers form constants)
 
 -- ---- addresses
 
--- 0 to 3 for bytes and wherever misaligned data is supported; else 0 and 2 for halves, 0 for words
+-- how far behind a word's address an access may begin, up to 3: anywhere on a core that supports
+-- misaligned data, and else where the access's size divides it
 abbrev pub aligned : Bool → Op → List ℕ
 aligned true op = range_with_len 0 4
 aligned false Lb = range_with_len 0 4

@@ -1,5 +1,5 @@
-// The first choice of one mnemonic for a value point. The registers don't matter to its
-// expression, so the first ones are taken, and only operands are walked.
+// The first choice of one mnemonic for a value point: its expression names no register, so those
+// of the choice are the first of their sets, and operands alone are tried in turn.
 ghost use Rattle.std.specs.Prelude.{◌≡◌, ◌+◌, ◌≤◌, true, false, [], ◌∷◌, IfOk, find, All, length};
 ghost use Rattle.std.specs.Prelude.{flat_map, map, sum_by, Some, option_map};
 ghost use Rattle.std.specs.Option.{option_or};

@@ -90,9 +90,6 @@ pub then_ok : {A E : Type 0} (r : Result A E) (P Q : Type 0) → (P → Q) → O
 then_ok (Ok x) P Q h p = h p
 then_ok (Err e) P Q h p = tt
 
-append_two : (o t u : List ℕ) → (o ++ t) ++ u ≡ o ++ (t ++ u)
-append_two o t u = append_assoc o t u
-
 pub code_there : (isa : Isa) (cs : List Solved) (o a b c d : List ℕ) → a ≡ o ++ text_of begin
     → b ≡ a ++ text_of (clear 1 (last_register isa)) → c ≡ b ++ text_of (cases 0 cs)
     → d ≡ c ++ text_of (halt ++ loop) → d ≡ o ++ text_of (begin ++ code_part isa cs)

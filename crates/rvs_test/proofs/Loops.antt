@@ -2,7 +2,7 @@
 use Rattle.std.proofs.Common.{◌≡◌, ℕ, zero, suc, ◌+◌, ◌<◌, Bool, true, false, not, cond, List, []}
 use Rattle.std.proofs.Common.{◌∷◌, ◌++◌, length, map, take, get_or, Option, Some, None, refl, sym}
 use Rattle.std.proofs.Common.{ap, ◌∙◌, arith, append_assoc, append-nil, add-one, length-take}
-use Rattle.std.specs.Prelude.{pos, ◌-◌, find, filter, flat_map, unwrap_or, is_some, option_to_list}
+use Rattle.std.specs.Prelude.{pos, ◌-◌, filter, flat_map, unwrap_or, is_some, option_to_list}
 use Rattle.std.specs.List.{range_with_len}
 use Rattle.std.proofs.lemmas.List.{take_more, map_more}
 use Rattle.std.proofs.lemmas.List.Elements.{filter-append}
@@ -15,7 +15,7 @@ use Rattle.rvs_solver.specs.Solving.{first_at}
 use Rattle.rvs_test_text.specs.declared.claim.Claim.{Claim}
 use Rattle.rvs_test_text.specs.declared.statement.Statement.{Statement}
 use Rattle.rvs_test_text.specs.Statements.{printed, addi}
-use Rattle.rvs_test_text.specs.TestText.{helpers, load_word, load_words, start_word, clear, cases}
+use Rattle.rvs_test_text.specs.TestText.{load_word, load_words, start_word, clear, cases}
 use Rattle.rvs_test_text.specs.TestText.{case_statements, slots, last_rd, ended, text_of, all_steps}
 use Rattle.rvs_test_text.specs.TestText.{case_steps}
 use Rattle.rvs_test.specs.Made.{is_solved, solved_among, unsolved_among, cases_among, numbered}
@@ -31,19 +31,6 @@ abbrev pub FoundIs : List Solved → List Claim → List ℕ → FoundValue
 FoundIs cs ds us = record { cases = cs; claims = ds; unsolved = us }
 
 -- ---- registers
-
-low_or : (t : Bool) (r : ℕ) (o : Option ℕ) → r < 32 → unwrap_or o 0 < 32
-    → unwrap_or (cond t (Some r) o) 0 < 32
-low_or true r o h k = h
-low_or false r o h k = k
-
--- what is found among the helpers is a register
-pub helper_low : (p : ℕ → Bool) → unwrap_or (find p helpers) 0 < 32
-helper_low p =
-    low_or (p 15) 15 _ (omega arith)
-    (low_or (p 14) 14 _ (omega arith)
-    (low_or (p 13) 13 _ (omega arith)
-    (low_or (p 12) 12 _ (omega arith) (low_or (p 11) 11 None (omega arith) (omega arith)))))
 
 -- ---- lists that grow at their end
 
@@ -168,10 +155,6 @@ all_same : (a b : List Solved) (d e : List Claim) (u v : List ℕ) → a ≡ b �
     → FoundIs a d u ≡ FoundIs b e v
 all_same a b d e u v h k l =
     ap (λ x. FoundIs x d u) h ∙ ap (λ x. FoundIs b x u) k ∙ ap (FoundIs b e) l
-
-kept_one : (b : Bool) (k : ℕ) → filter (λ x. b) (k ∷ []) ≡ cond b (k ∷ []) []
-kept_one true k = refl
-kept_one false k = refl
 
 one_kept : (p : ℕ → Bool) (ks : List ℕ) (k : ℕ) (b : Bool) → p k ≡ b
     → filter p (ks ++ k ∷ []) ≡ filter p ks ++ cond b (k ∷ []) []

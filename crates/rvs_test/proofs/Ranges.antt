@@ -270,9 +270,6 @@ range_below a (suc n) =
     let e : (a + 1) + n ≡ a + suc n = omega arith in
     (omega arith, subst P e (range_below (a + 1) n))
 
-below_is : (n : ℕ) → 0 + n ≡ n
-below_is n = omega arith
-
 distances_up_to : (n : ℕ) → n ≤ 1024 → Each IsDistance (distance_list n)
 unfolding distance_list
 distances_up_to n h =

@@ -410,12 +410,6 @@ ready isa op e admitted made c m kept =
       made = made;
     })
 
-none_of_system : (isa : Isa) (op : Op) (form : Format) (constants : List ℤ) (same : Bool)
-    → has_case form ≡ false → numbers isa op form constants same ≡ []
-none_of_system isa op System constants same h = refl
-none_of_system isa op R constants same h = cc
-none_of_system isa op _ constants same h = cc
-
 with_each : (isa : Isa) (op : Op) (constants : List ℤ) (r : Registers)
     → AreRegisters (row op).form r → Each (IsMadeOf isa op) (with_registers isa op constants r)
 with_each isa op constants r a =

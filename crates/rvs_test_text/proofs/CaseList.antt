@@ -1,5 +1,5 @@
 -- The cases one after the other: their lines, their symbols, and what they do.
-use Rattle.std.proofs.Common.{◌≡◌, ℕ, zero, suc, ◌+◌, ◌*◌, ◌%◌, ◌^◌, ◌<◌, ◌≤◌, List, [], ◌∷◌, ◌++◌}
+use Rattle.std.proofs.Common.{◌≡◌, ℕ, suc, ◌+◌, ◌*◌, ◌%◌, ◌^◌, ◌<◌, ◌≤◌, List, [], ◌∷◌, ◌++◌}
 use Rattle.std.proofs.Common.{length, refl, sym, ap, ◌∙◌, arith, subst}
 use Rattle.rvs_insn.specs.Isa.{Isa}
 use Rattle.rvs_machine.specs.Image.{text_base, data_base}
@@ -103,12 +103,6 @@ cases_distinct isa n k (c ∷ cs) t a m small is below =
     (case_distinct n k c t (text_at a m) (omega arith) below)
     (subst (Distinct (t ++ own) (cases (k + 1) cs))
     (sym (case_after isa k c a m (omega arith) is.0)) rest)
-
--- where the case of a number begins
-abbrev pub start_of : List Solved → ℕ → ℕ
-start_of [] j = 0
-start_of (c ∷ cs) zero = 0
-start_of (c ∷ cs) (suc j) = case_size c + start_of cs j
 
 -- all of them have their slots
 abbrev pub HasSlots : Marks → ℕ → ℕ → Type 0

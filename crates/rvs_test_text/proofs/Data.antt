@@ -81,10 +81,6 @@ data_read n h =
     (reads_join false false false (slots 0 n) last (slots_read 0 n (omega arith))
     (cons (label_line false EndSignature tt) none))
 
--- ---- places
-fixed_after : (t : ℕ) → after fixed_data (text_at t 0) ≡ data_at t 32
-fixed_after t = refl
-
 slots_after : (k n t m : ℕ) → after (slots k n) (data_at t m) ≡ data_at t (m + 8 * n)
 slots_after k zero t m = ap (data_at t) (omega arith)
 slots_after k (suc n) t m = slots_after (k + 1) n t (m + 0 + 8) ∙ ap (data_at t) (omega arith)

@@ -28,9 +28,6 @@ pub record Spells (n : ℕ) (ds : List ℕ) : Type 0 where
 pub digit_words : (ds : List ℕ) → All is_digit ds → All is_clean ds
 digit_words ds h = all_map is_digit is_clean ds (λ c e. plain_clean c (digit_plain c e)) h
 
-word_of_digits : (c : ℕ) (cs : List ℕ) → All is_digit (c ∷ cs) → IsWord (c ∷ cs)
-word_of_digits c cs h = digit_words (c ∷ cs) h
-
 extended_word : (ds : List ℕ) (c : ℕ) → IsWord ds → is_digit c ≡ true → IsWord (ds ++ c ∷ [])
 extended_word [] c w h = absurd w
 extended_word (d ∷ ds) c w h =

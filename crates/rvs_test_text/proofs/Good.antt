@@ -26,10 +26,6 @@ elsewhere_of lo hi lo' hi' at (e ∷ es) p q out w = (
   elsewhere_of lo hi lo' hi' at es p q out w.2,
 )
 
-pub case_steps : (setup : Setup) (s t : State) (start size at n : ℕ) (e : Executed)
-    → CaseRun setup s t start size at n e → List Executed
-case_steps setup s t start size at n e c = c.first.steps ++ e ∷ c.rest.steps
-
 pub once_of : (setup : Setup) (s t : State) (start size at n : ℕ) (e : Executed) → start ≤ at
     → at + 4 ≤ start + size → CaseRun setup s t start size at n e
     → (es : List Executed) × Runs setup s es t × (length es ≤ n) × Once start (start + size) e [] es

@@ -221,11 +221,6 @@ backward_made env pc n k m p d sig at done j i slot case_at done_at at_is is =
     case_at
     ∙ ap (λ l. addi m 0 (pos 1) ∷ to_place (pc + 4) at ∷ l) inner
 
--- ---- no label twice
-lacks_own : (t : Marks) (m : Name × Mark) (name : Name) → Lacks t name → Lacks (m ∷ []) name
-    → Lacks (t ++ m ∷ []) name
-lacks_own t m name a b = lacks_join t (m ∷ []) name a b
-
 lacks_more : (t own : Marks) (name : Name) → own ≡ [] → Lacks t name → Lacks (t ++ own) name
 lacks_more t own name e a =
     let e' : t ≡ t ++ own = sym (append-nil t) ∙ ap (λ l. t ++ l) (sym e) in

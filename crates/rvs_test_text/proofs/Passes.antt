@@ -28,7 +28,6 @@ use Rattle.rvs_asm.specs.Locations.{own_label, labels}
 use Rattle.rvs_asm.specs.Bytes.{high, low, distance}
 use Rattle.rvs_asm.specs.Faults.{body_fault, is_double, fault, at_line, first_fault, symbol_fault}
 use Rattle.rvs_asm.specs.Faults.{second_fault, field_fault}
-use Rattle.rvs_asm.proofs.Joins.{location_join}
 use Rattle.rvs_test_text.specs.declared.statement.Name.{Name}
 use Rattle.rvs_test_text.specs.declared.statement.Fixed.TheVariants.{NoRvc}
 use Rattle.rvs_test_text.specs.declared.statement.Statement.{Statement}
@@ -132,11 +131,6 @@ all_read isa (s ∷ ss) h =
 -- ---- places, wherever the lines begin
 abbrev pub after : List Statement → Location → Location
 after ss p = location_after (read_as ss) p
-
-pub after_join : (xs ys : List Statement) (p : Location)
-    → after (xs ++ ys) p ≡ after ys (after xs p)
-after_join xs ys p =
-    ap (λ rs. location_after rs p) (read_join xs ys) ∙ location_join (read_as xs) (read_as ys) p
 
 abbrev pub own_marks : Location → Statement → Marks
 own_marks p (Label n) = (n, record { at = address p; in_text = p.in_text }) ∷ []

@@ -51,10 +51,6 @@ pub write_twice : (regs : List ℕ) (r v w : ℕ)
 write_twice regs zero v w = refl
 write_twice regs (suc r) v w = set-set regs (suc r) v w
 
--- x0 stays 0
-pub read_zero : (regs : List ℕ) → read_reg regs (Some 0) ≡ 0
-read_zero regs = refl
-
 -- runs join
 pub join : (setup : Setup) (s t u : State) (es fs : List Executed) → Runs setup s es t
     → Runs setup t fs u → Runs setup s (es ++ fs) u

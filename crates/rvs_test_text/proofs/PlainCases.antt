@@ -1,5 +1,5 @@
 -- A case without a jump: its lines, their symbols, their instructions, and what it does.
-use Rattle.std.proofs.Common.{◌≡◌, ℕ, zero, suc, ◌+◌, ◌*◌, ◌%◌, ◌^◌, ◌<◌, ◌≤◌, true, false, List}
+use Rattle.std.proofs.Common.{◌≡◌, ℕ, zero, suc, ◌+◌, ◌%◌, ◌^◌, ◌<◌, ◌≤◌, true, false, List}
 use Rattle.std.proofs.Common.{[], ◌∷◌, ◌++◌, length, Option, Some, None, refl, ap, ◌∙◌, arith}
 use Rattle.std.proofs.Common.{subst, ◌⊎◌, inl, inr}
 use Rattle.std.specs.List.{list_all}
@@ -34,7 +34,7 @@ use Rattle.rvs_test_text.specs.Statements.{line_of, lui, addi}
 use Rattle.rvs_test_text.specs.TestText.{sw, save, source, pointer, plain_case}
 use Rattle.rvs_test_text.proofs.Runs.{StandFrom}
 use Rattle.rvs_test_text.proofs.Cases.{Case, IsGood, IsReady}
-use Rattle.rvs_test_text.proofs.Shapes.{lead, source_size, source_code, save as code_save}
+use Rattle.rvs_test_text.proofs.Shapes.{lead, source_size, source_code}
 use Rattle.rvs_test_text.proofs.Shapes.{plain_code}
 use Rattle.rvs_test_text.proofs.Shapes.{IsPlain}
 use Rattle.rvs_test_text.proofs.Good.{plain_of, plain_good}
@@ -61,9 +61,6 @@ pub source_bytes : (r : Option ℕ) (w : ℕ) (ss : List Statement)
     → bytes_all (source r w ++ ss) ≡ source_size r + bytes_all ss
 source_bytes None w ss = omega arith
 source_bytes (Some r) w ss = omega arith
-
-tail_bytes : (k p d : ℕ) (i : Fields) → bytes_all (Label (CaseName k) ∷ Plain i ∷ save p k d 0) ≡ 20
-tail_bytes k p d i = refl
 
 pub plain_bytes : (k : ℕ) (c : ChoiceValue) → bytes_all (plain_case k c) ≡ plain_size c
 plain_bytes k c =
@@ -270,10 +267,6 @@ load_kept op form ram a has low =
     size_low Lb = omega arith
     size_low _ = omega arith
 
-same_size : (op : Op) → (row op).form ≡ Load → load_size op ≡ access_size op
-same_size Lb h = refl
-same_size _ h = first_of (cc, search h)
-
 size_most : (op : Op) → load_size op ≤ 4
 size_most Lb = omega arith
 size_most _ = omega arith
@@ -367,16 +360,3 @@ plain_does setup ram0 c pc slot is there room aligned sixteen fits short halt pa
     (ready_pattern ram0 ram pattern ready) (omega (arith, ready.long)) text)
     (value_fits (row c.op).form c pc refl is.plain is.sound.encodable
     (word_low c.rs1 c.w1 is.sound.first) (word_low c.rs2 c.w2 is.sound.second))
-
-code_long : (a b : Option ℕ) (w1 w2 : ℕ) (tail : List Fields) → length tail ≡ 5
-    → 4 * length (source_code a w1 ++ (source_code b w2 ++ tail))
-    ≡ source_size a + source_size b + 20
-code_long None None w1 w2 tail h = omega arith
-code_long (Some a) None w1 w2 tail h = omega arith
-code_long None (Some b) w1 w2 tail h = omega arith
-code_long (Some a) (Some b) w1 w2 tail h = omega arith
-
-pub code_length : (i : Fields) (w1 w2 p sig : ℕ)
-    → 4 * length (plain_code i w1 w2 p sig) ≡ lead i + 20
-code_length i w1 w2 p sig =
-    code_long i.rs1 i.rs2 w1 w2 (i ∷ code_save p sig (unwrap_or i.rd 0) 0) refl

@@ -186,27 +186,3 @@ lacks_later n limit (m ∷ ms) name h a =
     not_true (same_name name m.0)
     (λ t. let e = same_stage n name m.0 t in omega (arith, e, a.0)) in
     ap (λ b. cond b (Some m.1) (find_name ms name)) other ∙ lacks_later n limit ms name h a.1
-
-abbrev pub AllFrom : ℕ → ℕ → Marks → Type 0
-AllFrom n limit [] = Unit {0}
-AllFrom n limit (m ∷ ms) = (limit ≤ stage n m.0) × AllFrom n limit ms
-
-pub from_join : (n limit : ℕ) (xs ys : Marks) → AllFrom n limit xs → AllFrom n limit ys
-    → AllFrom n limit (xs ++ ys)
-from_join n limit [] ys a b = b
-from_join n limit (x ∷ xs) ys a b = (a.0, from_join n limit xs ys a.1 b)
-
-pub from_less : (n limit limit' : ℕ) (xs : Marks) → limit' ≤ limit → AllFrom n limit xs
-    → AllFrom n limit' xs
-from_less n limit limit' [] h a = tt
-from_less n limit limit' (x ∷ xs) h a = (omega (arith, a.0), from_less n limit limit' xs h a.1)
-
--- an earlier name isn't there
-pub lacks_earlier : (n limit : ℕ) (ms : Marks) (name : Name) → stage n name < limit
-    → AllFrom n limit ms → Lacks ms name
-lacks_earlier n limit [] name h a = refl
-lacks_earlier n limit (m ∷ ms) name h a =
-    let other : same_name name m.0 ≡ false =
-    not_true (same_name name m.0)
-    (λ t. let e = same_stage n name m.0 t in omega (arith, e, a.0)) in
-    ap (λ b. cond b (Some m.1) (find_name ms name)) other ∙ lacks_earlier n limit ms name h a.1

@@ -72,8 +72,8 @@ is_taken Bltu v1 v2 = nat_lt v1 v2
 is_taken Bgeu v1 v2 = nat_le v2 v1
 is_taken _ v1 v2 = true
 
--- the marker: 3 where the distance is at least 8 either way and the jump isn't taken forwards or is
--- taken backwards
+-- the marker: 1, but 3 for a jump forwards that isn't taken and for a jump back that is, where it
+-- goes over two words or more
 abbrev pub mark_of : ℤ → Bool → ℕ
 mark_of (pos n) t = if t then 1 else (if nat_le 8 n then 3 else 1)
 mark_of (negsuc n) t = if t then (if nat_le 7 n then 3 else 1) else 1

@@ -68,7 +68,7 @@ pub record WritesScratch (isa : Isa) (c : ChoiceValue) : Type 0 where
   pub address : add32 c.w1 (imm_word (fields_of c)) ≡ data_base + c.align
   pub aligned : (c.align % access_size c.op ≡ 0) ⊎ (isa.misaligned ≡ true)
 
--- the distance of a branch or of jal is a multiple of 4, from 4 to 2048 either way
+-- a branch or jal goes over whole words, at least one and at most 512 of them
 pub record IsNearby (z : ℤ) : Type 0 where
   pub words : unsigned_abs z % 4 ≡ 0
   pub some : 4 ≤ unsigned_abs z

@@ -3,7 +3,7 @@ use Rattle.std.proofs.Common.{◌≡◌, ℕ, Bool, true, false, cond, List, [],
 use Rattle.std.proofs.Common.{ap, ◌∙◌}
 use Rattle.std.specs.Prelude.{◌&&◌}
 use Rattle.rvs_tree.specs.Data.{Data, scalar, sequence, mapping, Pairs, items_of, entries_of}
-use Rattle.rvs_tree.specs.Data.{own_pairs, line_of, is_list, is_map}
+use Rattle.rvs_tree.specs.Data.{own_pairs, line_of, is_list}
 use Rattle.rvs_tree.specs.Value.{Value, Written, trees, list_value, map_value, added, resolved}
 use Rattle.rvs_tree.specs.Value.{explicit_keys, merged_pairs, is_map_or_empty, are_maps_or_empty}
 use Rattle.rvs_tree.specs.Value.{is_mergeable}
@@ -66,9 +66,6 @@ again ws l d e = ap (λ x. mapping (entries_of (own_pairs x)) (line_of x)) e
 pub rebuilt : (d : Draft) → is_list (draft_view d) ≡ false
     → mapping (entries_of (own_pairs (draft_view d))) (line_of (draft_view d)) ≡ draft_view d
 rebuilt d h = again (map part_view d.parts.items) d.line (draft_view d) (draft-map d h)
-
-pub map-is : (d : Draft) → is_list (draft_view d) ≡ false → is_map (draft_view d) ≡ true
-map-is d h = ap is_map (draft-map d h)
 
 line-by : (b : Bool) (d : Draft) → d.is_list ≡ b → d.line ≡ line_of (draft_view d)
 line-by true d e = sym (ap line_of (view-list d e))

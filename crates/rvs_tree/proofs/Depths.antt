@@ -44,19 +44,10 @@ take-get [] (suc i) m h = cc
 take-get (d ∷ ds) zero m h = let same : d ≡ m = cc in omega (arith, ap depth same)
 take-get (d ∷ ds) (suc i) m h = omega (arith, take-get ds i m h)
 
-pub scalar-depth : (d : Data) → is_scalar d ≡ true → depth d ≡ 1
-scalar-depth (scalar text line) h = refl
-scalar-depth (sequence ds line) h = cc
-scalar-depth (mapping es line) h = cc
-
 pub some-depth : (d : Data) → 1 ≤ depth d
 some-depth (scalar text line) = omega arith
 some-depth (sequence ds line) = omega arith
 some-depth (mapping es line) = omega arith
-
-or-left : (a b c : Bool) → a ≡ true → b ≡ (a || c) → b ≡ true
-or-left true b c h k = k
-or-left false b c h k = cc
 
 -- what is sifted is visible
 sift-visible-by : (t b : Bool) (T E : List (List ℕ)) (p : List ℕ × Data) (ps : Pairs)
@@ -122,15 +113,6 @@ visible-steps E n ps qs = omega (arith, visible-append E ps qs)
 pub brought-within : (E : List (List ℕ)) (m : Bool) (d : Data) (n : ℕ) → min (depth d) 33 ≤ n
     → min (brought E m d) 33 ≤ n
 brought-within E m d n h = omega (arith, h, brought_small E m d)
-
-merged-by : (E : List (List ℕ)) (m : Bool) (d : Data) → m ≡ true
-    → brought E m d ≡ visible_depth E (merged_pairs d)
-merged-by E true d h = refl
-merged-by E false d h = cc
-
-pub brought-merged : (E : List (List ℕ)) (m : Bool) (d : Data) (n : ℕ) → m ≡ true
-    → n ≡ min (visible_depth E (merged_pairs d)) 33 → min (brought E m d) 33 ≤ n
-brought-merged E m d n h e = omega (arith, e, merged-by E m d h)
 
 inside-by : (b : Bool) (E : List (List ℕ)) (d : Data) (n : ℕ) → is_list d ≡ b → min (depth d) 33 ≤ n
     → n < 33 → min (visible_depth E (merged_pairs d)) 33 ≤ n - (if b then 2 else 1)

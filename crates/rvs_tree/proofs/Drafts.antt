@@ -1,7 +1,7 @@
 -- What drafts stand for, part by part.
-use Rattle.std.proofs.Common.{◌≡◌, ℕ, suc, ◌+◌, ◌<◌, cond, Bool, true, false, List, [], ◌∷◌, ◌++◌}
-use Rattle.std.proofs.Common.{map, reverse, refl, sym, ap, ◌∙◌, rules, arith, Global, String}
-use Rattle.std.proofs.Common.{string_bytes, zero-add, add-zero, add_assoc}
+use Rattle.std.proofs.Common.{◌≡◌, ℕ, ◌+◌, ◌<◌, cond, Bool, true, false, List, [], ◌∷◌, ◌++◌}
+use Rattle.std.proofs.Common.{map, reverse, refl, sym, ap, ◌∙◌, rules, arith, Global}
+use Rattle.std.proofs.Common.{zero-add, add-zero, add_assoc}
 use Rattle.std.specs.Borrow.{Bor}
 use Rattle.std.proofs.lemmas.List.{reverse-append}
 use Rattle.std.specs.declared.rc.Rc.{Rc}
@@ -12,16 +12,12 @@ use Rattle.rvs_tree.specs.PartsView.{refs_view, next_view, part_size, draft_size
 use Rattle.rvs_tree.proofs.Views.{list_of-items_of}
 use Rattle.rvs_tree.proofs.Sums.{map-append}
 use Rattle.rvs_tree.specs.TreeView.{rc_view}
-use Rattle.rvs_tree.specs.DraftView.{draft_view, part_view, own_entry, merging_entry, merged_trees}
+use Rattle.rvs_tree.specs.DraftView.{draft_view, part_view, merging_entry, merged_trees}
 use Rattle.rvs_tree.specs.DraftView.{data_of}
 use Rattle.rvs_tree.specs.declared.tree.Tree.{Tree}
 use Rattle.rvs_tree.specs.declared.draft.Draft.{Draft, the_lemmas as draft_lemmas}
 use Rattle.rvs_tree.specs.declared.draft.Part.{Part, the_lemmas as part_lemmas}
 use Rattle.rvs_tree.specs.declared.draft.Part.TheVariants as part
-
-pub view-pair : (p : Part) (k : String Global) (t : Rc Tree Global) → p ≡ part.Pair k t
-    → part_view p ≡ own_entry (string_bytes k) (rc_view t)
-view-pair p k t e = search (rules, part_lemmas)
 
 pub view-whole : (p : Part) (t : Rc Tree Global) → p ≡ part.Whole t
     → part_view p ≡ merging_entry (rc_view t)
@@ -57,17 +53,6 @@ draft-list d h = ap merged_pairs (view-list d (list-is d ∙ h))
 
 pub size-draft : (d : Draft) → draft_size d ≡ sizes d.parts.items
 size-draft d = search (rules, draft_lemmas)
-
-pub size-pair : (p : Part) (k : String Global) (t : Rc Tree Global) → p ≡ part.Pair k t
-    → part_size p ≡ 1
-size-pair p k t e = search (rules, part_lemmas)
-
-pub size-whole : (p : Part) (t : Rc Tree Global) → p ≡ part.Whole t → part_size p ≡ 1
-size-whole p t e = search (rules, part_lemmas)
-
-pub size-nested : (p : Part) (d : Rc Draft Global) → p ≡ part.Nested d
-    → part_size p ≡ suc (draft_size d.value)
-size-nested p d e = search (rules, part_lemmas)
 
 pub refs-push : (ps : List (Bor Part)) (p : Bor Part)
     → refs_view (ps ++ p ∷ []) ≡ refs_view ps ++ part_view p.now ∷ []

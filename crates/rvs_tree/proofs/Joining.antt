@@ -2,9 +2,9 @@
 use Rattle.std.proofs.Common.{◌≡◌, ℕ, Bool, true, false, cond, List, [], ◌∷◌, ◌++◌, refl, sym, ap}
 use Rattle.std.proofs.Common.{◌∙◌, append-nil, true≢false}
 use Rattle.std.specs.Prelude.{◌||◌}
-use Rattle.rvs_tree.specs.Data.{Data, scalar, sequence, mapping, own_pairs}
+use Rattle.rvs_tree.specs.Data.{own_pairs}
 use Rattle.rvs_tree.specs.Value.{Value, Written, has_key, keys_of, explicit_keys, resolved, trees}
-use Rattle.rvs_tree.specs.Value.{merged_pairs, pairs_in, is_map_or_empty, map_value, list_value}
+use Rattle.rvs_tree.specs.Value.{merged_pairs, pairs_in, map_value, list_value}
 use Rattle.rvs_tree.specs.Sifted.{merged_keys}
 use Rattle.rvs_tree.proofs.Sums.{map-append, has_key-append}
 use Rattle.rvs_tree.proofs.Views.{list_of-items_of, pairs_of-entries_of}
@@ -39,11 +39,6 @@ pub list-keys : (line : ℕ) (vs : List Value) (k : List ℕ)
     ≡ has_key k (keys_of (pairs_in (trees vs)))
 list-keys line vs k =
     ap (λ ds. has_key k (keys_of (pairs_in ds))) (list_of-items_of (trees vs))
-
-pub item-pairs : (d : Data) → is_map_or_empty d ≡ true → merged_pairs d ≡ own_pairs d
-item-pairs (scalar text line) e = refl
-item-pairs (sequence ds line) e = cc
-item-pairs (mapping es line) e = refl
 
 keys_of-append : (ps qs : _) → keys_of (ps ++ qs) ≡ keys_of ps ++ keys_of qs
 keys_of-append ps qs = map-append (λ p. p.0) ps qs
