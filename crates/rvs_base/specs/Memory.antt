@@ -1,7 +1,7 @@
 -- What a host and a sink in memory hold.
 use Rattle.std.specs.Prelude.{◌≡◌, ◌≤◌, ◌<◌, ◌⊎◌, ℕ, ℤ, ◌+◌, ◌-◌, ◌^◌, min, Bool, false, not, List}
 use Rattle.std.specs.Prelude.{[], ◌∷◌, filter, length, slice_index_or, Option, Some, None}
-use Rattle.std.specs.Prelude.{if◌then◌else◌, bytes_eq, Contains, ⊥}
+use Rattle.std.specs.Prelude.{if◌then◌else◌, bytes_eq, Contains}
 use Rattle.rvs_base.specs.Host.{HostState, Files}
 use Rattle.rvs_base.specs.Sink.{SinkState}
 use Rattle.rvs_base.specs.declared.host.DeviceRun.{DeviceRun}

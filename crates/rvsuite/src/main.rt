@@ -1,15 +1,12 @@
 //! The architectural test suite for RV32IM cores, over real files and streams.
 #![tactic(auto)]
 
-mod host;
-mod sink;
 #[cfg(test)]
 mod tests;
 
-use host::RealHost;
 use rvs_plan::{Status, Stop, conclude};
+use rvs_real::{RealHost, RealSink};
 use rvs_suite::run_suite;
-use sink::RealSink;
 use std::io::ErrorKind;
 use std::process::ExitCode;
 use std::{env, io};

@@ -1,8 +1,7 @@
 // Runs over real files and processes.
-use crate::host::RealHost;
-use crate::sink::RealSink;
 use rvs_base::{Items, MemorySink, Sink, put_all};
 use rvs_plan::Status;
+use rvs_real::{RealHost, RealSink};
 use rvs_suite::run_suite;
 use std::alloc::Global;
 use std::fs::{self, File};
