@@ -3,6 +3,7 @@ ghost use Rattle.std.specs.Prelude.{◌≡◌};
 ghost use Rattle.rvs_insn.specs.Table.{row, all_ops};
 
 use crate::op::{Format, Op};
+use std::marker::Model;
 
 /// The mnemonics in the table's order.
 pub fn all_ops() -> &'static [Op]
@@ -64,7 +65,7 @@ static ALL_OPS: [Op; 48] = [
 
 /// A row: the mnemonic's name, its format, the bits that its words have in common, and whether the
 /// words of `rs1` and of `rs2` are read as unsigned numbers.
-#[derive(Clone, Copy)]
+#[derive(Drop)]
 struct Row {
     name: &'static str,
     format: Format,
@@ -73,12 +74,28 @@ struct Row {
     unsigned2: bool,
 }
 
+impl Model for Row {
+    ghost use Rattle.rvs_insn.specs.Table.{Row as TableRow};
+
+    ghost Value = { TableRow };
+
+    ghost view = { λ r. record {
+      name = r.name.now;
+      form = r.format;
+      bits = r.bits;
+      unsigned1 = r.unsigned1;
+      unsigned2 = r.unsigned2;
+    } };
+}
+
 fn make_row(name: &'static str, format: Format, bits: u32, unsigned1: bool, unsigned2: bool) -> Row
-    ensures name { result.name.now ≡ name.now }
-    ensures form { result.format ≡ format }
-    ensures bits { result.bits ≡ bits }
-    ensures first { result.unsigned1 ≡ unsigned1 }
-    ensures second { result.unsigned2 ≡ unsigned2 }
+    ensures { result ≡ record {
+      name = name.now;
+      form = format;
+      bits = bits;
+      unsigned1 = unsigned1;
+      unsigned2 = unsigned2;
+    } }
 {
     Row {
         name,
@@ -91,11 +108,7 @@ fn make_row(name: &'static str, format: Format, bits: u32, unsigned1: bool, unsi
 
 /// The table: a row for each mnemonic.
 fn row_of(op: Op) -> Row
-    ensures name { result.name.now ≡ (row op).name }
-    ensures form { result.format ≡ (row op).form }
-    ensures bits { result.bits ≡ (row op).bits }
-    ensures first { result.unsigned1 ≡ (row op).unsigned1 }
-    ensures second { result.unsigned2 ≡ (row op).unsigned2 }
+    ensures { result ≡ row op }
 {
     match op {
         Op::Lui => make_row("lui", Format::Upper, 0x0000_0037, false, false),

@@ -89,11 +89,27 @@ fn count_named<H: Host>(
         (λ found. Ends (report_found (groups_view groups.now) windows.now log.now found)))
         (world (H.state host.old) out) (world (H.state host.new) out) result }
 {
-    let name = owned(alloc, log)?;
     let windows = Items::from(windows.to_vec(alloc)?);
     let mut counter = Counter::new(alloc, groups, windows)?;
-    match count_file(host, log, &mut counter) {
-        Ok(()) => Ok(report_at_end(alloc, &mut counter)?),
+    count_with(alloc, host, &mut counter, log)
+}
+
+/// Counts in the named log with a new counter, and makes the report.
+fn count_with<H: Host>(
+    alloc: Global,
+    host: &mut H,
+    counter: &mut Counter<'_>,
+    log: &str,
+) -> Result<Text, Stop>
+    ensures { (out : SinkState) (groups : List Label) (windows : List Span)
+        → counter.old ≡ state_of groups windows [] 0
+        → Meets
+        (Asks log.now (λ found. Ends (report_found (groups_view groups) windows log.now found)))
+        (world (H.state host.old) out) (world (H.state host.new) out) result }
+{
+    let name = owned(alloc, log)?;
+    match count_file(host, log, counter) {
+        Ok(()) => Ok(report_at_end(alloc, counter)?),
         Err(LogFault::NoFile) => Err(Stop::NoFile(name)),
         Err(LogFault::Failed) => Err(Stop::CannotRead(name)),
         Err(LogFault::TooLong) => Err(Stop::Refused(too_long(alloc, log, LOG_LIMIT)?)),
