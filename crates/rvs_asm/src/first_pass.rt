@@ -17,7 +17,7 @@ use rvs_insn::IsaSpec;
 use std::alloc::Global;
 
 /// A line that has its location: its label, and the location of the next line.
-#[derive(Debug, Drop)]
+#[derive(Drop)]
 struct Entered<'t> {
     label: Option<Name<'t>>,
     next: Location,

@@ -1,7 +1,7 @@
 // What symbols mark.
 
 /// The address that a symbol marks, and whether its line stands in the text.
-#[derive(Debug, Clone, Copy, PartialEq, Eq)]
+#[derive(Clone, Copy, PartialEq, Eq)]
 pub struct Mark {
     pub at: u32,
     pub in_text: bool,

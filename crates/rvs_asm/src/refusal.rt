@@ -7,7 +7,7 @@ use rvs_asm_text::LineFault;
 use rvs_base::{NoMemory, Text};
 
 /// Why no image stands to a text.
-#[derive(Debug, Drop)]
+#[derive(Drop)]
 pub enum AsmKind {
     /// Outside a comment stands a byte that may not, a comma has nothing at a side, a label can't be
     /// a symbol's name, or the section of the instruction is data.
@@ -46,7 +46,7 @@ pub enum AsmKind {
 
 /// A refusal, with the number of its line from 1. Line 0 is that of the whole text: of a missing
 /// symbol, a bad region and want of memory.
-#[derive(Debug, Drop)]
+#[derive(Drop)]
 pub struct AsmRefusal {
     pub line: u64,
     pub kind: AsmKind,

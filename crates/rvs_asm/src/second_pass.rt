@@ -20,7 +20,7 @@ use rvs_base::NoMemory;
 use std::alloc::Global;
 
 /// The bytes of the text and of the data.
-#[derive(Debug, Drop)]
+#[derive(Drop)]
 pub struct Sections {
     pub text: Vec<u8>,
     pub data_bytes: Vec<u8>,

@@ -12,7 +12,7 @@ use std::marker::Model;
 
 /// The symbols of a text. Contracts see them as a list of names with what they mark, in the order
 /// in which they were added; a look-up doesn't walk that list.
-#[derive(Debug, Drop)]
+#[derive(Drop)]
 pub struct Symbols {
     table: IndexMap<String, Mark>,
 }

@@ -10,7 +10,7 @@ use rvs_base::cut;
 use std::marker::Model;
 
 /// The operands of a statement that are left. Contracts see them as the list of their texts.
-#[derive(Debug, Drop)]
+#[derive(Drop)]
 pub struct Operands<'t> {
     rest: Option<&'t [u8]>,
 }
@@ -119,7 +119,7 @@ fn one_more_than_commas(text: &[u8]) -> usize
 
 /// An operand with brackets: what stands before the first opening one, from there to the first
 /// closing one, and after that, each without the blanks round it.
-#[derive(Debug, Drop)]
+#[derive(Drop)]
 pub struct Bracketed<'t> {
     head: &'t [u8],
     inside: &'t [u8],

@@ -4,7 +4,7 @@ use crate::names::Name;
 use rvs_insn::Insn;
 
 /// Where the number of an immediate or of a word of data comes from.
-#[derive(Debug, Drop)]
+#[derive(Drop)]
 pub enum Link<'t> {
     /// It is written.
     Own,
@@ -19,14 +19,14 @@ pub enum Link<'t> {
 }
 
 /// An immediate or a word of data: a written number, or 0 and a symbol.
-#[derive(Debug, Drop)]
+#[derive(Drop)]
 pub struct Value<'t> {
     pub number: i64,
     pub link: Link<'t>,
 }
 
 /// What a statement does.
-#[derive(Debug, Drop)]
+#[derive(Drop)]
 pub enum Body<'t> {
     /// It makes no byte.
     Nothing,
@@ -45,14 +45,14 @@ pub enum Body<'t> {
 }
 
 /// A line: its label, and what its statement does.
-#[derive(Debug, Drop)]
+#[derive(Drop)]
 pub struct Line<'t> {
     pub label: Option<Name<'t>>,
     pub body: Body<'t>,
 }
 
 /// What is wrong with a line by itself.
-#[derive(Debug, Drop, Clone, Copy, PartialEq, Eq)]
+#[derive(Drop, Clone, Copy, PartialEq, Eq)]
 pub enum LineFault {
     /// Outside a comment stands a byte that may not, a comma has nothing at a side, a label can't be
     /// a symbol's name, or the section of the instruction is data.

@@ -20,7 +20,7 @@ use crate::registers::register;
 use rvs_insn::{Format, Insn, Op, format, op_of};
 
 /// The operands of an instruction, by the places of its format.
-#[derive(Debug, Drop)]
+#[derive(Drop)]
 pub struct Draft<'t> {
     pub rd: Option<u8>,
     pub rs1: Option<u8>,
@@ -29,7 +29,7 @@ pub struct Draft<'t> {
 }
 
 /// The first word of an instruction.
-#[derive(Debug, Clone, Copy, PartialEq, Eq)]
+#[derive(Clone, Copy, PartialEq, Eq)]
 pub enum Mnemonic {
     /// A row of the instruction table.
     Row(Op),

@@ -7,7 +7,7 @@ ghost use Rattle.rvs_asm_text.specs.Operands.{is_symbol, symbol_of};
 use std::marker::Model;
 
 /// The name of a symbol, borrowed from the text. Contracts see it as its bytes.
-#[derive(Debug, Drop)]
+#[derive(Drop)]
 pub struct Name<'t> {
     text: &'t str,
 }

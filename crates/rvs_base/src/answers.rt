@@ -2,7 +2,7 @@
 use crate::Bytes;
 
 /// What a run of a device leaves in its signature file.
-#[derive(Debug, Drop)]
+#[derive(Drop)]
 pub enum Leaves {
     /// What it held before.
     Untouched,
@@ -13,7 +13,7 @@ pub enum Leaves {
 }
 
 /// What a run of a device answers.
-#[derive(Debug, Drop)]
+#[derive(Drop)]
 pub struct Answer {
     /// The exit status, or -1 where a signal ends the program.
     pub status: i32,

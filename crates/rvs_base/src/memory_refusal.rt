@@ -2,7 +2,7 @@
 use std::alloc::{AllocError, AllocFailed};
 
 /// The allocator refused.
-#[derive(Debug, Drop, Clone, Copy, PartialEq, Eq)]
+#[derive(Drop, Clone, Copy, PartialEq, Eq)]
 pub struct NoMemory;
 
 impl From<AllocError> for NoMemory {

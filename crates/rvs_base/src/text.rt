@@ -7,7 +7,7 @@ use std::fmt;
 use std::marker::Model;
 
 /// A growing UTF-8 text. Contracts see it as the list of its bytes.
-#[derive(Debug, Drop)]
+#[derive(Drop)]
 pub struct Text {
     string: String,
 }

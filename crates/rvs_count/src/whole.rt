@@ -13,7 +13,7 @@ use rvs_cgf::Groups;
 use std::alloc::Global;
 
 /// How often each point was hit, and how many instructions there were.
-#[derive(Debug, Drop)]
+#[derive(Drop)]
 pub struct Counted {
     pub counts: Items<u64>,
     pub instructions: u64,

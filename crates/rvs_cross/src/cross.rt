@@ -30,7 +30,7 @@ pub enum Field {
 }
 
 /// That a variable is the register in a field.
-#[derive(Clone, Copy, Debug)]
+#[derive(Clone, Copy)]
 pub struct Assignment {
     /// The variable.
     pub variable: Variable,

@@ -10,7 +10,7 @@ use std::marker::Model;
 
 /// The registers that the variables stand for; one that no place sets stands for none. Registers
 /// are below 32, by an invariant of the type.
-#[derive(Debug, Clone, Copy)]
+#[derive(Clone, Copy)]
 pub(crate) struct Values {
     pub(crate) first: Option<u8>,
     pub(crate) second: Option<u8>,

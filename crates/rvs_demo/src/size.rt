@@ -5,7 +5,7 @@ ghost use Rattle.rvs_demo.specs.Sizes.{size_of};
 use std::marker::Model;
 
 /// How many instructions of a demonstration are generated: 1 to 1,000,000.
-#[derive(Debug, Clone, Copy)]
+#[derive(Clone, Copy)]
 pub struct DemoSize {
     count: u64,
 }

@@ -6,7 +6,7 @@ use rvs_base::{Items, Text};
 
 /// A program that runs a test and writes a signature file. Its command isn't empty, nor is the
 /// command's first word, and each `{` in a word begins `{test}`, `{signature}` or `{self}`.
-#[derive(Debug, Drop)]
+#[derive(Drop)]
 pub struct Device {
     /// What the device is called.
     pub name: Text,

@@ -6,7 +6,7 @@ use rvs_base::{NoMemory, Text};
 use std::alloc::AllocError;
 
 /// Why a device file is refused.
-#[derive(Debug, Drop)]
+#[derive(Drop)]
 pub enum DeviceRefusal {
     /// The entry of this name is missing. The name of a device is also missing where the file is no
     /// map, or where it is no scalar.

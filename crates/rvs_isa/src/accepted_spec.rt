@@ -3,7 +3,7 @@ use rvs_base::{Items, Text};
 use rvs_insn::IsaSpec;
 
 /// An accepted ISA specification.
-#[derive(Debug, Drop)]
+#[derive(Drop)]
 pub struct AcceptedSpec {
     /// What the core has.
     pub spec: IsaSpec,

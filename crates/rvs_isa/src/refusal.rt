@@ -5,7 +5,7 @@ ghost use Rattle.rvs_isa.specs.Print.{number_of};
 use rvs_base::Text;
 
 /// Which check of an ISA specification failed.
-#[derive(Debug, Clone, Copy, PartialEq, Eq)]
+#[derive(Clone, Copy, PartialEq, Eq)]
 pub enum IsaKind {
     /// What should be a map isn't one.
     NotAMapping,
@@ -58,7 +58,7 @@ impl IsaKind {
 }
 
 /// Why an ISA specification is refused: the first check that fails, and where.
-#[derive(Debug, Drop)]
+#[derive(Drop)]
 pub struct IsaRefusal {
     /// The keys on the way to the entry that the check looks at, joined by `.`.
     pub path: Text,

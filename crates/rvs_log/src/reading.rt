@@ -17,7 +17,7 @@ use rvs_insn::{Insn, decode};
 use rvs_machine::Commit;
 
 /// A line of a log that says an instruction. It borrows the line.
-#[derive(Debug, Clone, Copy)]
+#[derive(Clone, Copy)]
 pub struct Record<'l> {
     pub line: &'l [u8],
     /// Its address.
@@ -31,7 +31,7 @@ pub struct Record<'l> {
 }
 
 /// What a line of a log is.
-#[derive(Debug, Clone, Copy)]
+#[derive(Clone, Copy)]
 pub enum Line<'l> {
     /// An instruction.
     Insn(Record<'l>),

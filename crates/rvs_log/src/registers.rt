@@ -7,7 +7,7 @@ use rvs_machine::Commit;
 use std::marker::Model;
 
 /// The 32 registers; x0 stays 0.
-#[derive(Debug, Drop)]
+#[derive(Drop)]
 pub struct Registers {
     words: [u32; 32],
 }

@@ -11,7 +11,7 @@ use rvs_facts::InsnFacts;
 use rvs_insn::Insn;
 
 /// An instruction in a log, with the registers before it. It copies neither.
-#[derive(Debug, Clone, Copy)]
+#[derive(Clone, Copy)]
 pub struct View<'t> {
     /// The instruction.
     pub entry: &'t Record<'t>,

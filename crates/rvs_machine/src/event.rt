@@ -28,7 +28,7 @@ impl Model for Commit {
 }
 
 /// An executed instruction.
-#[derive(Debug, Clone, Copy, PartialEq, Eq)]
+#[derive(Clone, Copy, PartialEq, Eq)]
 pub struct Executed {
     /// Its address.
     pub pc: u32,
@@ -43,7 +43,7 @@ pub struct Executed {
 }
 
 /// Why an instruction wasn't executed.
-#[derive(Debug, Clone, Copy, PartialEq, Eq)]
+#[derive(Clone, Copy, PartialEq, Eq)]
 pub enum TrapKind {
     /// The word is no instruction that the core has.
     Illegal { word: u32 },
@@ -76,14 +76,14 @@ impl TrapKind {
 }
 
 /// An instruction that wasn't executed: its address and the cause. Nothing was changed.
-#[derive(Debug, Clone, Copy, PartialEq, Eq)]
+#[derive(Clone, Copy, PartialEq, Eq)]
 pub struct Trap {
     pub pc: u32,
     pub kind: TrapKind,
 }
 
 /// What one step did.
-#[derive(Debug, Clone, Copy, PartialEq, Eq)]
+#[derive(Clone, Copy, PartialEq, Eq)]
 pub enum Event {
     /// An instruction was executed.
     Ran(Executed),
@@ -94,7 +94,7 @@ pub enum Event {
 }
 
 /// How a run ended.
-#[derive(Debug, Clone, Copy, PartialEq, Eq)]
+#[derive(Clone, Copy, PartialEq, Eq)]
 pub enum End {
     /// At the store of the word 1 to `tohost`, which was executed.
     Halted,

@@ -24,7 +24,7 @@ pub const DATA_LIMIT: usize = 0x10_0000;
 /// By an invariant of the type, the text has a whole number of words and at most 16 MiB, the data
 /// at most 1 MiB, the word at `tohost` lies in the data, and so does what lies from `sig_begin` to
 /// `sig_end`; all three are multiples of 4.
-#[derive(Debug, Drop)]
+#[derive(Drop)]
 pub struct Image {
     /// The bytes from 0x80000000 on, which are read and executed.
     pub text: Bytes,

@@ -18,7 +18,7 @@ use std::marker::Model;
 
 /// A core with a program in its memory: the words of x0 to x31, the pc, and the bytes of text and
 /// data. Contracts see it as what it leaves alone and what a step changes.
-#[derive(Debug, Drop)]
+#[derive(Drop)]
 pub struct Machine {
     text: Bytes,
     ram: Vec<u8>,

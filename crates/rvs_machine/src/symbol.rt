@@ -2,7 +2,7 @@
 use rvs_base::Text;
 
 /// A symbol of a program, and its address.
-#[derive(Debug, Drop)]
+#[derive(Drop)]
 pub struct Symbol {
     pub name: Text,
     pub at: u32,

@@ -6,7 +6,7 @@ use rvs_base::Text;
 use std::alloc::AllocError;
 
 /// Why a command stops before its end. A text names the file, or is the line's reason.
-#[derive(Debug, Drop)]
+#[derive(Drop)]
 pub enum Stop {
     /// The words are no command.
     Usage,

@@ -13,7 +13,7 @@ use std::marker::Model;
 /// A register or an immediate is there exactly where the mnemonic's format has it; registers are
 /// below 32, by an invariant of the type. An alignment and a word that the format doesn't use
 /// are 0.
-#[derive(Debug, Clone, Copy)]
+#[derive(Clone, Copy)]
 pub struct Choice {
     /// The mnemonic.
     pub op: Op,

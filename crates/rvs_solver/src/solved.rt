@@ -4,7 +4,7 @@ use rvs_base::Items;
 use rvs_insn::Insn;
 
 /// What solves a point.
-#[derive(Debug, Drop)]
+#[derive(Drop)]
 pub enum Solved {
     /// One instruction, whose source registers hold two words.
     One(Choice),

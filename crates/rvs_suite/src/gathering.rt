@@ -18,7 +18,7 @@ use rvs_words::owned;
 use std::alloc::Global;
 
 /// The test of a label.
-#[derive(Debug, Drop)]
+#[derive(Drop)]
 pub struct Test {
     /// The name of the label.
     pub name: Text,

@@ -13,7 +13,7 @@ use std::alloc::Global;
 
 /// How many tests, cases, points without one and skipped entries there are. A number stands at
 /// 2^64 - 1 where it would be greater.
-#[derive(Debug, Clone, Copy)]
+#[derive(Clone, Copy)]
 pub struct Totals {
     pub tests: u64,
     pub cases: u64,

@@ -11,7 +11,7 @@ use rvs_plan::Stop;
 use std::alloc::Global;
 
 /// What a run that halted leaves.
-#[derive(Debug, Drop)]
+#[derive(Drop)]
 pub struct Run {
     /// The words of the signature.
     pub words: Items<u32>,

@@ -3,7 +3,7 @@ use rvs_base::{Items, Text};
 use rvs_test_text::Claim;
 
 /// The test of a label.
-#[derive(Debug, Drop)]
+#[derive(Drop)]
 pub struct Made {
     /// The text, where a point is solved.
     pub text: Option<Text>,

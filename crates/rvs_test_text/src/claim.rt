@@ -1,7 +1,7 @@
 // What a test claims.
 
 /// That a case hits a point.
-#[derive(Debug, Clone, Copy, PartialEq, Eq)]
+#[derive(Clone, Copy, PartialEq, Eq)]
 pub struct Claim {
     /// The number of the case, from 0.
     pub case: usize,

@@ -18,7 +18,7 @@ use rvs_demo::DemoSize;
 use std::alloc::Global;
 
 /// A command with what it is given.
-#[derive(Debug, Drop)]
+#[derive(Drop)]
 pub enum Command {
     /// The words are no command.
     Unknown,

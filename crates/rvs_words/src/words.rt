@@ -8,7 +8,7 @@ use rvs_base::{Items, NoMemory, Text};
 use std::alloc::Global;
 
 /// An option and its value.
-#[derive(Debug, Drop)]
+#[derive(Drop)]
 pub struct Pair {
     pub name: Text,
     pub value: Text,
