@@ -13,7 +13,7 @@ use rvs_insn::{IsaSpec, admits};
 use rvs_machine::{DATA_BASE, DATA_LIMIT, TEXT_BASE, TEXT_LIMIT};
 
 /// How many bytes the text and the data have so far, and in which of them the next line stands.
-#[derive(Clone, Copy, PartialEq, Eq)]
+#[derive(Clone, Copy)]
 pub struct Location {
     pub in_text: bool,
     pub text: u32,

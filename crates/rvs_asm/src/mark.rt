@@ -1,7 +1,7 @@
 // What symbols mark.
 
 /// The address that a symbol marks, and whether its line stands in the text.
-#[derive(Clone, Copy, PartialEq, Eq)]
+#[derive(Clone, Copy)]
 pub struct Mark {
     pub at: u32,
     pub in_text: bool,

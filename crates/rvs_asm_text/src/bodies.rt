@@ -52,7 +52,7 @@ pub struct Line<'t> {
 }
 
 /// What is wrong with a line by itself.
-#[derive(Drop, Clone, Copy, PartialEq, Eq)]
+#[derive(Drop, Clone, Copy)]
 pub enum LineFault {
     /// Outside a comment stands a byte that may not, a comma has nothing at a side, a label can't be
     /// a symbol's name, or the section of the instruction is data.

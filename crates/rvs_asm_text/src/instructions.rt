@@ -29,7 +29,7 @@ pub struct Draft<'t> {
 }
 
 /// The first word of an instruction.
-#[derive(Clone, Copy, PartialEq, Eq)]
+#[derive(Clone, Copy)]
 pub enum Mnemonic {
     /// A row of the instruction table.
     Row(Op),

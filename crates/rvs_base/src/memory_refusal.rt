@@ -2,7 +2,7 @@
 use std::alloc::{AllocError, AllocFailed};
 
 /// The allocator refused.
-#[derive(Drop, Clone, Copy, PartialEq, Eq)]
+#[derive(Debug, Drop, Clone, Copy)]
 pub struct NoMemory;
 
 impl From<AllocError> for NoMemory {

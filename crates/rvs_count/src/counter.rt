@@ -21,7 +21,7 @@ use std::marker::Model;
 const MOST: u64 = 1 << 40;
 
 /// More than 2^40 bytes were to be fed.
-#[derive(Drop, Clone, Copy, PartialEq, Eq)]
+#[derive(Drop, Clone, Copy)]
 pub struct LogTooLong;
 
 /// The counts of points over a log that comes in pieces. It borrows the groups, and keeps no line

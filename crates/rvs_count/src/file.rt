@@ -11,7 +11,7 @@ use thiserror::Error;
 const PIECE: usize = 16_384;
 
 /// Why a log wasn't counted to its end.
-#[derive(Debug, Drop, Clone, Copy, PartialEq, Eq, Error)]
+#[derive(Debug, Drop, Clone, Copy, Error)]
 pub enum LogFault {
     /// There is no file of this name.
     #[error("no such file")]

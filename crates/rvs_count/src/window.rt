@@ -1,6 +1,6 @@
 // Windows of addresses.
 /// Addresses from `lo` on and below `hi`: none where `hi` isn't above `lo`.
-#[derive(Clone, Copy, PartialEq, Eq)]
+#[derive(Clone, Copy)]
 pub struct Window {
     /// The first address.
     pub lo: u32,

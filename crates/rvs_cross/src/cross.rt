@@ -8,7 +8,7 @@ use rvs_insn::Op;
 
 /// A name for a register that several places share. A cross point has at most three, in the order
 /// in which they appear first.
-#[derive(Clone, Copy, Debug, PartialEq, Eq)]
+#[derive(Clone, Copy, Debug)]
 pub enum Variable {
     /// The first.
     First,
@@ -19,7 +19,7 @@ pub enum Variable {
 }
 
 /// A register field of an instruction.
-#[derive(Clone, Copy, Debug, PartialEq, Eq)]
+#[derive(Clone, Copy, Debug)]
 pub enum Field {
     /// The destination register.
     Rd,

@@ -16,7 +16,7 @@ use thiserror::Error;
 const SIGNATURE_LIMIT: u64 = 2_621_440;
 
 /// Why a test has no verdict: the step that failed.
-#[derive(Debug, Drop, Clone, Copy, PartialEq, Eq, Error)]
+#[derive(Debug, Drop, Clone, Copy, Error)]
 pub enum JudgeFault {
     /// The signature file couldn't be made empty.
     #[error("writing failed")]

@@ -9,7 +9,7 @@ use std::alloc::Global;
 
 /// The verdict on the signature file that a run of a device left, beside the reference's words, and
 /// the run's exit status, -1 where a signal ended the device. Places count from 0 and lines from 1.
-#[derive(Drop, Clone, Copy, PartialEq, Eq)]
+#[derive(Drop, Clone, Copy)]
 pub enum TestVerdict {
     /// The file spells the reference's words.
     Pass {

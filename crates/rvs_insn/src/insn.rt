@@ -8,7 +8,7 @@ use std::marker::Model;
 /// The immediate is the number that the manual's semantics adds or compares: sign-extended, a
 /// distance in bytes for branches and jumps, the 20-bit field for `lui` and `auipc`, and 0 to 31
 /// for a shift.
-#[derive(Clone, Copy, PartialEq, Eq)]
+#[derive(Clone, Copy)]
 pub struct Insn {
     pub op: Op,
     pub rd: Option<u8>,

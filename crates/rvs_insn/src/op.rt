@@ -3,7 +3,7 @@
 /// The layout of a mnemonic's operands, as chapter "RV32I Base Integer Instruction Set" of the
 /// unprivileged ISA manual names them. Three formats with the I layout stand apart, since their
 /// operands are written otherwise.
-#[derive(Clone, Copy, PartialEq, Eq)]
+#[derive(Clone, Copy)]
 pub enum Format {
     /// `rd`, `rs1` and `rs2`.
     R,
@@ -30,7 +30,7 @@ pub enum Format {
 }
 
 /// The mnemonics of RV32I and of the extension M, in the table's order.
-#[derive(Clone, Copy, PartialEq, Eq)]
+#[derive(Clone, Copy)]
 pub enum Op {
     Lui,
     Auipc,

@@ -4,7 +4,7 @@ use std::marker::Model;
 /// The instruction set and the properties of a core. Contracts see it as the record of its fields.
 ///
 /// Until the base E and the extension A are built, `e` and `a` are false in every value.
-#[derive(Clone, Copy, PartialEq, Eq)]
+#[derive(Clone, Copy)]
 pub struct IsaSpec {
     /// Whether the base is RV32E, with the registers x0 to x15 alone.
     pub e: bool,

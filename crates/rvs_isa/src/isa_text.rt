@@ -15,7 +15,7 @@ const ZICSR: &[u8] = b"Zicsr";
 const ZIFENCEI: &[u8] = b"Zifencei";
 
 /// The extensions that an ISA text names.
-#[derive(Clone, Copy, PartialEq, Eq)]
+#[derive(Clone, Copy)]
 pub struct Extensions {
     pub m: bool,
     pub zicsr: bool,

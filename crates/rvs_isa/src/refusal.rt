@@ -5,7 +5,7 @@ ghost use Rattle.rvs_isa.specs.Print.{number_of};
 use rvs_base::Text;
 
 /// Which check of an ISA specification failed.
-#[derive(Clone, Copy, PartialEq, Eq)]
+#[derive(Clone, Copy)]
 pub enum IsaKind {
     /// What should be a map isn't one.
     NotAMapping,

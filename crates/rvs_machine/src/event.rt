@@ -7,7 +7,7 @@ use std::marker::Model;
 
 /// A word written to a register. A step writes no other than x1 to x31; a line of a log may name
 /// x0.
-#[derive(Debug, Clone, Copy, PartialEq, Eq)]
+#[derive(Debug, Clone, Copy)]
 pub struct Commit {
     /// The register, from 0 to 31.
     pub reg: u8,
@@ -28,7 +28,7 @@ impl Model for Commit {
 }
 
 /// An executed instruction.
-#[derive(Clone, Copy, PartialEq, Eq)]
+#[derive(Clone, Copy)]
 pub struct Executed {
     /// Its address.
     pub pc: u32,
@@ -43,7 +43,7 @@ pub struct Executed {
 }
 
 /// Why an instruction wasn't executed.
-#[derive(Clone, Copy, PartialEq, Eq)]
+#[derive(Clone, Copy)]
 pub enum TrapKind {
     /// The word is no instruction that the core has.
     Illegal { word: u32 },
@@ -76,14 +76,14 @@ impl TrapKind {
 }
 
 /// An instruction that wasn't executed: its address and the cause. Nothing was changed.
-#[derive(Clone, Copy, PartialEq, Eq)]
+#[derive(Clone, Copy)]
 pub struct Trap {
     pub pc: u32,
     pub kind: TrapKind,
 }
 
 /// What one step did.
-#[derive(Clone, Copy, PartialEq, Eq)]
+#[derive(Clone, Copy)]
 pub enum Event {
     /// An instruction was executed.
     Ran(Executed),
@@ -94,7 +94,7 @@ pub enum Event {
 }
 
 /// How a run ended.
-#[derive(Clone, Copy, PartialEq, Eq)]
+#[derive(Clone, Copy)]
 pub enum End {
     /// At the store of the word 1 to `tohost`, which was executed.
     Halted,

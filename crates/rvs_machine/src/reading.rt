@@ -11,7 +11,7 @@ use rvs_base::{Bytes, Items, short_number};
 use std::alloc::{AllocError, Global};
 
 /// Why a file is no image.
-#[derive(Clone, Copy, PartialEq, Eq)]
+#[derive(Clone, Copy)]
 pub enum ImageKind {
     /// A line isn't as the format wants it there, or is missing.
     BadLine,
@@ -38,7 +38,7 @@ impl ImageKind {
 }
 
 /// The refusal of a file: its first faulty line, from 1, or 0 where no single line is at fault.
-#[derive(Clone, Copy, PartialEq, Eq)]
+#[derive(Clone, Copy)]
 pub struct ImageRefusal {
     pub line: u64,
     pub kind: ImageKind,
@@ -96,7 +96,7 @@ pub fn read_image(alloc: Global, bytes: &[u8]) -> Result<Image, ImageRefusal>
 }
 
 /// Where a run halts, and where the signature begins and ends.
-#[derive(Clone, Copy, PartialEq, Eq)]
+#[derive(Clone, Copy)]
 struct Addresses {
     tohost: u32,
     sig_begin: u32,

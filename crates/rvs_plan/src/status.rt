@@ -31,7 +31,7 @@ impl Status {
 }
 
 /// How a command ends that isn't stopped.
-#[derive(Drop, Clone, Copy, PartialEq, Eq)]
+#[derive(Drop, Clone, Copy)]
 pub enum Finish {
     /// There is no verdict but a pass.
     Done,

@@ -4,7 +4,7 @@ ghost use Rattle.std.specs.List.{zip};
 ghost use Rattle.rvs_sig.specs.Verdicts.{FirstDiffers, differ, differing, verdict_of};
 
 /// How two lists of words differ. Places count from 0.
-#[derive(Drop, Clone, Copy, PartialEq, Eq)]
+#[derive(Drop, Clone, Copy)]
 pub enum Verdict {
     /// The lists are equal.
     Same {

@@ -8,7 +8,7 @@ use std::alloc::Global;
 const MOST_LINES: u32 = 262_144;
 
 /// Why a file is no list of words.
-#[derive(Drop, Clone, Copy, PartialEq, Eq)]
+#[derive(Drop, Clone, Copy)]
 pub enum SigRefusal {
     /// A line that isn't exactly eight hexadecimal digits.
     BadLine {

@@ -1,7 +1,7 @@
 // What a test claims.
 
 /// That a case hits a point.
-#[derive(Clone, Copy, PartialEq, Eq)]
+#[derive(Clone, Copy)]
 pub struct Claim {
     /// The number of the case, from 0.
     pub case: usize,
