@@ -1,4 +1,4 @@
-use Rattle.std.proofs.Common.{rules, w32, FitsSigned, ◌≡◌, List, [], ◌∷◌, ◌++◌, Some, ap, ◌∙◌}
+use Rattle.std.proofs.Common.{rules, w32, FitsSigned, ◌≡◌, List, [], ◌∷◌, ◌++◌, Some, ap, inl, inr, ◌∙◌}
 use Rattle.std.proofs.lemmas.Int.{to_z-of_z}
 use Rattle.rvs_base.specs.Host.{Files, device_words, with_left, run_over}
 use Rattle.rvs_base.specs.declared.host.DeviceRun.{DeviceRun}
@@ -30,3 +30,6 @@ returns-in-Ok-clause-ran c = λ files runs told_files told_runs.
           ∙ ap (λ rs. rs ++ one (held c.self.inside.files)) (runs_inside ∙ same_runs)
           ∙ ap (λ (f : Files). runs ++ one f) held_now);
     })
+
+pub returns-in-Err-clause-reason : goal.returns-in-Err-clause-reason
+returns-in-Err-clause-reason c = inl (inr (search rules, search rules))
