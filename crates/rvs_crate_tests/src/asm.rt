@@ -1,4 +1,5 @@
 // Assembler text, as the words of its image or as it is refused.
+use crate::release::release;
 use rvs_asm::{AsmKind, AsmRefusal, assemble};
 use rvs_asm_text::steps_of_header;
 use rvs_insn::IsaSpec;
@@ -45,10 +46,13 @@ pub fn tell_text(alloc: Global, text: &str, m: bool, report: &mut String) -> Res
         misaligned: false,
         address_bits: 32,
     };
-    match assemble(alloc, text.as_bytes(), &core) {
+    let made = assemble(alloc, text.as_bytes(), &core);
+    let told = match &made {
         Ok(image) => spell_words(image.text.as_slice(), report),
-        Err(refusal) => spell_refusal(&refusal, report),
-    }
+        Err(refusal) => spell_refusal(refusal, report),
+    };
+    release(made);
+    told
 }
 
 /// Adds the same of lines with the needed marks behind them.

@@ -1,4 +1,5 @@
 // Texts of cross points, each with its places or why it is refused.
+use crate::release::release;
 use rvs_cross::{Cross, CrossRead, CrossRefusal, Place, in_order, parse_cross};
 use std::alloc::Global;
 use std::test::Fail;
@@ -43,11 +44,20 @@ fn spell_refusal(why: &CrossRefusal, report: &mut String) -> Result<(), Fail> {
     Ok(())
 }
 
+fn spell_read(read: &CrossRead, report: &mut String) -> Result<(), Fail> {
+    match read {
+        CrossRead::Read(cross) => spell_places(cross, report),
+        CrossRead::Skipped => Ok(report.push_str("skipped\n")?),
+    }
+}
+
 /// Adds the places of a cross point, or why it is refused.
 pub fn tell_cross(alloc: Global, text: &str, report: &mut String) -> Result<(), Fail> {
-    match parse_cross(alloc, text) {
-        Ok(CrossRead::Read(cross)) => spell_places(&cross, report),
-        Ok(CrossRead::Skipped) => Ok(report.push_str("skipped\n")?),
-        Err(why) => spell_refusal(&why, report),
-    }
+    let read = parse_cross(alloc, text);
+    let told = match &read {
+        Ok(read) => spell_read(read, report),
+        Err(why) => spell_refusal(why, report),
+    };
+    release(read);
+    told
 }

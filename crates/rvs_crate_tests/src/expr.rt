@@ -1,4 +1,5 @@
 // Texts of expressions, as what they tell or why they are refused.
+use crate::release::release;
 use rvs_expr::{Expr, ExprRefusal, NumName, parse_num, parse_reg};
 use rvs_expr_text::{Language, read_node};
 use std::alloc::Global;
@@ -14,12 +15,21 @@ fn spell_refusal(refusal: &ExprRefusal, report: &mut String) -> Result<(), Fail>
     Ok(())
 }
 
+/// Adds that a text is read.
+fn accept(report: &mut String) -> Result<(), Fail> {
+    report.push_str("ok\n")?;
+    Ok(())
+}
+
 /// Adds whether a text is an expression, without regard to what its words mean.
 pub fn tell_node(alloc: Global, text: &str, report: &mut String) -> Result<(), Fail> {
-    match read_node(alloc, Language::Numbers, &[], text.as_bytes()) {
-        Ok(_) => Ok(report.push_str("ok\n")?),
-        Err(refusal) => spell_refusal(&refusal, report),
-    }
+    let read = read_node(alloc, Language::Numbers, &[], text.as_bytes());
+    let told = match &read {
+        Ok(_) => accept(report),
+        Err(refusal) => spell_refusal(refusal, report),
+    };
+    release(read);
+    told
 }
 
 /// Adds whether an expression uses `rs1_val` and `imm_val`, its equation and its constants.
@@ -37,32 +47,45 @@ fn spell_expr(expr: &Expr, report: &mut String) -> Result<(), Fail> {
 
 /// Adds what an expression of numbers tells.
 pub fn tell_num(alloc: Global, text: &str, report: &mut String) -> Result<(), Fail> {
-    match parse_num(alloc, text) {
-        Ok(expr) => spell_expr(&expr, report),
-        Err(refusal) => spell_refusal(&refusal, report),
-    }
+    let read = parse_num(alloc, text);
+    let told = match &read {
+        Ok(expr) => spell_expr(expr, report),
+        Err(refusal) => spell_refusal(refusal, report),
+    };
+    release(read);
+    told
 }
 
 fn spell_part(alloc: Global, expr: &Expr, report: &mut String) -> Result<(), Fail> {
-    match expr.part(alloc, &[NumName::ImmVal]) {
-        Ok(Some(part)) => spell_expr(&part, report),
-        Ok(None) => Ok(report.push_str("none\n")?),
-        Err(_) => Err(Fail::new("no memory")),
-    }
+    let part = expr
+        .part(alloc, &[NumName::ImmVal])
+        .map_err(|_| "no memory")?;
+    let told = match &part {
+        Some(part) => spell_expr(part, report),
+        None => Ok(report.push_str("none\n")?),
+    };
+    release(part);
+    told
 }
 
 /// Adds what the part of an expression tells that has `imm_val` alone.
 pub fn tell_part(alloc: Global, text: &str, report: &mut String) -> Result<(), Fail> {
-    match parse_num(alloc, text) {
-        Ok(expr) => spell_part(alloc, &expr, report),
-        Err(refusal) => spell_refusal(&refusal, report),
-    }
+    let read = parse_num(alloc, text);
+    let told = match &read {
+        Ok(expr) => spell_part(alloc, expr, report),
+        Err(refusal) => spell_refusal(refusal, report),
+    };
+    release(read);
+    told
 }
 
 /// Adds whether a text is an expression of registers.
 pub fn tell_reg(alloc: Global, text: &str, report: &mut String) -> Result<(), Fail> {
-    match parse_reg(alloc, text, &[]) {
-        Ok(_) => Ok(report.push_str("ok\n")?),
-        Err(refusal) => spell_refusal(&refusal, report),
-    }
+    let read = parse_reg(alloc, text, &[]);
+    let told = match &read {
+        Ok(_) => accept(report),
+        Err(refusal) => spell_refusal(refusal, report),
+    };
+    release(read);
+    told
 }

@@ -1,4 +1,5 @@
 // Instructions that the reference machine executes.
+use crate::release::release;
 use crate::rows::words;
 use rvs_base::{Bytes, Items};
 use rvs_insn::IsaSpec;
@@ -50,16 +51,27 @@ fn last_of_x1(trace: &[Executed]) -> Option<u32> {
     last
 }
 
+/// A machine for two words of data and the code behind them.
+fn machine_of(alloc: Global, words: &[u32]) -> Result<Machine, Fail> {
+    let (values, code) = words.split_at_checked(2).ok_or("no code")?;
+    machine(alloc, values, code)
+}
+
+fn tell_run(machine: &mut Machine, trace: &mut Trace, report: &mut String) -> Result<(), Fail> {
+    let _end = machine.run(20, trace);
+    let last = last_of_x1(trace.as_slice()).ok_or("x1 is not written")?;
+    write!(report, "{last:08x}\n")?;
+    Ok(())
+}
+
 /// Adds what x1 holds after the instructions of a row, which are words behind those of x2 and x3.
 pub fn tell_computed(alloc: Global, row: &str, report: &mut String) -> Result<(), Fail> {
     let (row, _) = row.split_once(" # ").ok_or("no text")?;
     let words = words(alloc, row)?;
-    let (values, code) = words.as_slice().split_at_checked(2).ok_or("no code")?;
-    let mut machine = machine(alloc, values, code)?;
+    let mut machine = machine_of(alloc, words.as_slice())?;
     let mut trace = Trace::new(alloc);
-    let _end = machine.run(20, &mut trace);
-    match last_of_x1(trace.as_slice()) {
-        Some(last) => Ok(write!(report, "{last:08x}\n")?),
-        None => Err(Fail::new("x1 is not written")),
-    }
+    let told = tell_run(&mut machine, &mut trace, report);
+    release(machine);
+    release(trace);
+    told
 }

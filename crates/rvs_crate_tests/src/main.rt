@@ -11,6 +11,7 @@ mod families;
 mod insn;
 mod log;
 mod machine;
+mod release;
 mod rows;
 mod tell;
 mod yaml;

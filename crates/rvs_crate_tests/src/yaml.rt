@@ -1,4 +1,5 @@
 // Texts of the YAML profile, as their trees or as they are refused.
+use crate::release::release;
 use rvs_base::number_below;
 use rvs_yaml::{Tree, YamlRefusal, parse};
 use std::alloc::Global;
@@ -37,22 +38,37 @@ fn spell(tree: &Tree, levels: u32, report: &mut String) -> Result<(), Fail> {
     Ok(())
 }
 
+fn spell_line(tree: &Tree, report: &mut String) -> Result<(), Fail> {
+    spell(tree, 33, report)?;
+    report.push_str("\n")?;
+    Ok(())
+}
+
 /// Adds the tree of a text, or why it is refused.
 pub fn tell_tree(alloc: Global, text: &str, report: &mut String) -> Result<(), Fail> {
-    match parse(alloc, text.as_bytes()) {
-        Ok(tree) => spell(&tree, 33, report)?,
-        Err(refusal) => return spell_refusal(&refusal, report),
-    }
-    report.push_str("\n")?;
+    let read = parse(alloc, text.as_bytes());
+    let told = match &read {
+        Ok(tree) => spell_line(tree, report),
+        Err(refusal) => spell_refusal(refusal, report),
+    };
+    release(read);
+    told
+}
+
+fn accept(report: &mut String) -> Result<(), Fail> {
+    report.push_str("accepted\n")?;
     Ok(())
 }
 
 /// Adds whether bytes have a tree.
 fn tell(alloc: Global, bytes: &[u8], report: &mut String) -> Result<(), Fail> {
-    match parse(alloc, bytes) {
-        Ok(_) => Ok(report.push_str("accepted\n")?),
-        Err(refusal) => spell_refusal(&refusal, report),
-    }
+    let read = parse(alloc, bytes);
+    let told = match &read {
+        Ok(_) => accept(report),
+        Err(refusal) => spell_refusal(refusal, report),
+    };
+    release(read);
+    told
 }
 
 /// Adds whether a text has a tree.
