@@ -4,3 +4,4 @@ mod Scalars
 mod Behind
 mod Leaving
 pub mod Planned
+mod Filling
