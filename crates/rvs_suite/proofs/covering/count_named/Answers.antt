@@ -1,35 +1,15 @@
-use Rattle.std.proofs.Common.{◌≡◌, ◌≤◌, ◌<◌, ℕ, ◌+◌, ◌^◌, Bool, true, false, nat_lt, List, [], ◌++◌}
-use Rattle.std.proofs.Common.{length, Option, Some, Result, Ok, Err, if◌then◌else◌, refl, sym, ap}
-use Rattle.std.proofs.Common.{subst, ◌∙◌, arith}
-use Rattle.std.proofs.lemmas.Bool.{lt-ltb, le-ltb, cond-true, cond-false}
+use Rattle.std.proofs.Common.{◌≡◌, List, [], ap, ◌∙◌}
 use Rattle.std.proofs.lemmas.Result.{err_from_is_err_and}
-use Rattle.rvs_base.specs.Host.{Files, Tells}
 use Rattle.rvs_plan.specs.World.{world}
-use Rattle.rvs_plan.specs.Plan.{Asks, Ends}
-use Rattle.rvs_plan.specs.Inputs.{too_long_text}
-use Rattle.rvs_plan.specs.declared.stop.Stop.{Stop}
-use Rattle.rvs_plan.specs.declared.stop.Stop.TheVariants.{Refused}
 use Rattle.rvs_plan.proofs.Sequence.{Meets-no_memory}
-use Rattle.rvs_plan.proofs.Stepping.{asks-accepted, asks-refused, asks-absent, asks-failed}
-use Rattle.rvs_plan.proofs.Stepping.{reads-no_memory}
-use Rattle.rvs_cgf.specs.declared.group.Label.{Label}
-use Rattle.rvs_count.specs.Feeds.{Fed, FeedsFile, IsLong}
-use Rattle.rvs_count.specs.State.{CountState, state_of, ended}
+use Rattle.rvs_count.specs.State.{state_of}
 use Rattle.rvs_count.specs.declared.window.Window.{Window as Span}
-use Rattle.rvs_count.proofs.Ends.{fed_of}
-use Rattle.rvs_suite.specs.GroupsView.{groups_view}
-use Rattle.rvs_suite.specs.Coverage.{log_limit, report_on, report_found}
 use Rattle.rvs_suite.proofs.covering.count_named.Goals as goal
-
-pub returns-in_err-name : goal.returns-in_err-name
-returns-in_err-name g c = λ out.
-    let p = err_from_is_err_and c.from_residual.result c.from_residual.ensures.1 in
-    rw (p.1, p.2) (Meets-no_memory _ (world (g.H.Host.state c.args.host.now) out))
 
 pub returns-in_err-to_vec : goal.returns-in_err-to_vec
 returns-in_err-to_vec g c = λ out.
-    let p = err_from_is_err_and c.from_residual-in_err-to_vec.result
-    c.from_residual-in_err-to_vec.ensures.1 in
+    let p = err_from_is_err_and c.from_residual.result
+    c.from_residual.ensures.1 in
     rw (p.1, p.2) (Meets-no_memory _ (world (g.H.Host.state c.args.host.now) out))
 
 pub returns-in_err-counter : goal.returns-in_err-counter
@@ -38,99 +18,12 @@ returns-in_err-counter g c = λ out.
     c.from_residual-in_err-counter.ensures.1 in
     rw (p.1, p.2) (Meets-no_memory _ (world (g.H.Host.state c.args.host.now) out))
 
-pub returns-in_err-report_at_end-in-Ok : goal.returns-in_err-report_at_end-in-Ok
-returns-in_err-report_at_end-in-Ok g c = λ out.
-    let p = err_from_is_err_and c.from_residual-in_err-report_at_end-in-Ok.result
-    c.from_residual-in_err-report_at_end-in-Ok.ensures.1 in
-    rw (p.1, p.2) (reads-no_memory out _ c.in-Ok.ensures.reads_only c.in-Ok.ensures.unfaulted)
-
-pub returns-in_err-too_long-in-Err-TooLong : goal.returns-in_err-too_long-in-Err-TooLong
-returns-in_err-too_long-in-Err-TooLong g c = λ out.
-    let p = err_from_is_err_and c.from_residual-in_err-too_long-in-Err-TooLong.result
-    c.from_residual-in_err-too_long-in-Err-TooLong.ensures.1 in
-    rw (p.1, p.2) (reads-no_memory out _ c.in-Err-TooLong.ensures.reads_only
-    (rw c.in-Err-TooLong.field-0-is at c.in-Err-TooLong.ensures.cause).1)
-
--- a log that was fed to a new counter isn't too long
-short : (groups : List Label) (windows : List Span) (bytes after : List ℕ) (c : CountState)
-    → c ≡ state_of groups windows after (0 + length bytes) → c.fed ≤ 2 ^ 40
-    → length bytes ≤ log_limit
-short groups windows bytes after c is within = let fed : c.fed ≡ 0 + length bytes =
-    ap (λ (s : CountState). s.fed) is ∙ fed_of groups windows after (0 + length bytes) in
-    omega (arith, fed, within)
-
-found : (groups : List Label) (windows : List Span) (name bytes text : List ℕ)
-    → length bytes ≤ log_limit → text ≡ report_on (groups_view groups) windows bytes
-    → report_found (groups_view groups) windows name (Some bytes) ≡ Ok text
-found groups windows name bytes text short is =
-    cond-false (nat_lt log_limit (length bytes)) _ _ (le-ltb log_limit (length bytes) short)
-    ∙ ap Ok (sym is)
-
-pub returns-in_ok-report_at_end-in-Ok : goal.returns-in_ok-report_at_end-in-Ok
-returns-in_ok-report_at_end-in-Ok g c = λ out.
+pub returns : goal.returns
+returns g c = λ out.
     let groups = c.args.groups.now in
     let windows = c.args.windows.now in
-    let name = c.args.log.now in
-    let feeds = c.in-Ok.ensures.whole in
     let same : c.from-windows.result ≡ windows =
     c.from-windows.ensures ∙ c.in_ok-to_vec.ensures.items_if_clones_equal (λ x y e. e) in
     let begun : c.in_ok-counter.counter ≡ state_of groups windows [] 0 =
     c.in_ok-counter.ensures ∙ ap (λ (w : List Span). state_of groups w [] 0) same in
-    let fed = feeds.fed.state groups windows [] 0 begun in
-    let text = c.in_ok-report_at_end-in-Ok.ensures.report groups windows feeds.bytes
-    (0 + length feeds.bytes) fed in
-    let at_end = c.in_ok-report_at_end-in-Ok.ensures.state groups windows feeds.bytes
-    (0 + length feeds.bytes) fed in
-    let within = short groups windows feeds.bytes (ended feeds.bytes) c.report_at_end.new.counter
-    at_end
-    (subst (λ (s : CountState). s.fed ≤ 2 ^ 40) c.counter.view_is c.counter.invariant.1) in
-    asks-accepted out name (report_found (groups_view groups) windows name) feeds.bytes
-    c.in_ok-report_at_end-in-Ok.field-0 c.in-Ok.ensures.reads_only feeds.whole
-    (found groups windows name feeds.bytes c.in_ok-report_at_end-in-Ok.field-0 within text)
-    c.in-Ok.ensures.unfaulted
-
-pub returns-in-Err-NoFile : goal.returns-in-Err-NoFile
-returns-in-Err-NoFile g c = λ out.
-    let name = c.args.log.now in
-    rw c.in_ok-name.ensures (asks-absent out name
-    (report_found (groups_view c.args.groups.now) c.args.windows.now name)
-    c.in-Err-NoFile.ensures.reads_only
-    (rw c.in-Err-NoFile.field-0-is at c.in-Err-NoFile.ensures.cause).0 refl)
-
-pub returns-in-Err-Failed : goal.returns-in-Err-Failed
-returns-in-Err-Failed g c = λ out.
-    let name = c.args.log.now in
-    rw c.in_ok-name.ensures (asks-failed out name
-    (report_found (groups_view c.args.groups.now) c.args.windows.now name)
-    c.in-Err-Failed.ensures.reads_only
-    (rw c.in-Err-Failed.field-0-is at c.in-Err-Failed.ensures.cause))
-
-refused : (groups : List Label) (windows : List Span) (name bytes text : List ℕ)
-    → log_limit < length bytes → text ≡ too_long_text name log_limit
-    → report_found (groups_view groups) windows name (Some bytes) ≡ Err (Refused text)
-refused groups windows name bytes text long is =
-    cond-true (nat_lt log_limit (length bytes)) _ _ (lt-ltb log_limit (length bytes) long)
-    ∙ ap (λ (t : List ℕ). Err (Refused t)) (sym is)
-
-longer : (c : CountState) (bytes : List ℕ) → c.fed ≡ 0 → 2 ^ 40 < c.fed + length bytes
-    → log_limit < length bytes
-longer c bytes new long = omega arith
-
-pub returns-in_ok-too_long-in-Err-TooLong : goal.returns-in_ok-too_long-in-Err-TooLong
-returns-in_ok-too_long-in-Err-TooLong g c = λ out.
-    let groups = c.args.groups.now in
-    let windows = c.args.windows.now in
-    let name = c.args.log.now in
-    let cause = rw c.in-Err-TooLong.field-0-is at c.in-Err-TooLong.ensures.cause in
-    let text : c.in_ok-too_long-in-Err-TooLong.field-0 ≡ too_long_text name log_limit =
-    c.in_ok-too_long-in-Err-TooLong.ensures in
-    let new = ap (λ (s : CountState). s.fed) c.in_ok-counter.ensures
-    ∙ fed_of groups c.from-windows.result [] 0 in
-    asks-refused out name (report_found (groups_view groups) windows name)
-    c.in_ok-too_long-in-Err-TooLong.field-0 c.in-Err-TooLong.ensures.reads_only
-    (λ files t. let long = cause.0.longer files t in (
-      long.0,
-      long.1,
-      refused groups windows name long.0 c.in_ok-too_long-in-Err-TooLong.field-0
-          (longer c.in_ok-counter.counter long.0 new long.2) text,
-    )) cause.1
+    c.count_with.ensures out groups windows begun
