@@ -13,3 +13,4 @@ pub mod Sums
 pub mod TreeSizes
 pub mod Views
 pub mod Within
+pub mod Single

@@ -8,6 +8,11 @@ use Rattle.rvs_tree.specs.declared.draft.Draft.{Draft}
 use Rattle.rvs_tree.proofs.Sums.{take_whole}
 use Rattle.rvs_tree.proofs.Views.{ok_more}
 use Rattle.rvs_tree.proofs.Bared.{bare-map}
+use Rattle.rvs_tree.specs.Bare.{bare}
+use Rattle.rvs_tree.specs.DraftView.{part_view}
+use Rattle.rvs_tree.specs.PartsView.{parts_view}
+use Rattle.rvs_tree.specs.ValueView.{written_view}
+use Rattle.rvs_tree.proofs.Single.{pushed, map-map-push}
 use Rattle.rvs_tree.proofs.parts.map_draft.Goals as goal
 
 pub returns : goal.returns
@@ -20,3 +25,14 @@ returns c =
     ∙ ap (λ n. bares (entries_view (take n ws))) all
     ∙ ap (λ us. bares (entries_view us)) (take_whole ws))
     ∙ bare-map c.args.line (entries_view ws))
+
+pub loop-written-init : goal.loop-written-init
+loop-written-init c = ap parts_view c.in_ok-parts.ensures.items
+
+pub loop-written-preserved : goal.loop-written-preserved
+loop-written-preserved c =
+    pushed part_view (λ ws. bares (entries_view ws)) (λ w. bare (written_view w))
+    (map-map-push written_view bare) c.loop-written.parts.items
+    c.push.new.self.items _ c.args.entries.now c.loop-written.written-index c.written-item.result
+    c.in_ok-push.ensures.items c.loop-written.invariant c.loop-written-test.true
+    (c.in_ok-entry_part.ensures ∙ ap (λ w. bare (written_view w)) c.written-item.is)

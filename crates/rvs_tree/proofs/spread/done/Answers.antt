@@ -9,6 +9,8 @@ use Rattle.rvs_tree.specs.PartsView.{next_view, brings}
 use Rattle.rvs_tree.proofs.Drafts.{view-whole}
 use Rattle.rvs_tree.proofs.Sifting.{later-same}
 use Rattle.rvs_tree.proofs.Bringing.{gathered-sift, gathered-keys}
+use Rattle.std.proofs.Common.{arith}
+use Rattle.rvs_tree.proofs.Single.{view-pair, after-own, size-pair, size-whole}
 use Rattle.rvs_tree.proofs.spread.done.Goals as goal
 
 after : (out : Pairs) (T : List (List ℕ)) (ps : Pairs) (g : Pairs × List (List ℕ))
@@ -30,3 +32,23 @@ returns-in_ok-gathered-in-Whole-clause-brought c =
     (c.in_ok-gathered-in-Whole.ensures
     ∙ ap (λ t. gathered (gathered_view g) (merged_pairs (view t))) c.deref.ensures)
     ∙ sym (ap (λ w. brings g (w ∷ rest)) (view-whole c.args.part.now c.in-Whole.tree c.in-Whole.is))
+
+pub returns-in_ok-gathered-in-Pair-clause-brought : goal.returns-in_ok-gathered-in-Pair-clause-brought
+returns-in_ok-gathered-in-Pair-clause-brought c =
+    let g = c.args.gathered in
+    let T = taken_view g.taken in
+    let rest = next_view c.args.work.items in
+    after-own (pairs_view g.pairs) T (c.as_str.result.now, view c.in-Pair.tree.value)
+    (gathered_view c.in_ok-gathered-in-Pair.gathered) rest c.in_ok-gathered-in-Pair.ensures
+    ∙ ap (λ k. pairs_view g.pairs ++ (k, view c.in-Pair.tree.value) ∷ later T rest)
+    c.as_str.ensures.value
+    ∙ sym (ap (λ w. brings g (w ∷ rest))
+    (view-pair c.args.part.now c.in-Pair.key c.in-Pair.tree c.in-Pair.is))
+
+pub returns-in_ok-gathered-in-Pair-clause-small : goal.returns-in_ok-gathered-in-Pair-clause-small
+returns-in_ok-gathered-in-Pair-clause-small c =
+    omega (arith, size-pair c.args.part.now c.in-Pair.key c.in-Pair.tree c.in-Pair.is)
+
+pub returns-in_ok-gathered-in-Whole-clause-small : goal.returns-in_ok-gathered-in-Whole-clause-small
+returns-in_ok-gathered-in-Whole-clause-small c =
+    omega (arith, size-whole c.args.part.now c.in-Whole.tree c.in-Whole.is)

@@ -8,6 +8,7 @@ use Rattle.rvs_tree.specs.GatheredView.{taken_view}
 use Rattle.rvs_tree.specs.DraftView.{draft_view, data_of}
 use Rattle.rvs_tree.specs.PartsView.{parts_view, next_view}
 use Rattle.rvs_tree.proofs.Entering.{enter-map, enter-list}
+use Rattle.std.proofs.Common.{arith}
 use Rattle.rvs_tree.proofs.spread.entered.Goals as goal
 
 pub returns-then-is_list-clause-brought : goal.returns-then-is_list-clause-brought
@@ -41,3 +42,19 @@ returns-clause-brought c =
     ∙ ap (later (takes T ws))
     (c.in_ok-work-2.ensures.next ∙ ap (λ x. x ++ rest) c.in_ok-taken.ensures.kept)
     ∙ mapped (draft_view c.args.draft.now) T ws rest (c.parts-2.ensures.map map_is))
+
+pub returns-then-is_list-clause-small : goal.returns-then-is_list-clause-small
+returns-then-is_list-clause-small c = omega (
+  arith,
+  c.in_ok-work.ensures.small,
+  c.in_ok-maps.ensures.small,
+  c.parts.ensures.size,
+)
+
+pub returns-clause-small : goal.returns-clause-small
+returns-clause-small c = omega (
+  arith,
+  c.in_ok-work-2.ensures.small,
+  c.in_ok-taken.ensures.small,
+  c.parts-2.ensures.size,
+)

@@ -6,6 +6,8 @@ use Rattle.rvs_tree.specs.TreeView.{rc_view}
 use Rattle.rvs_tree.specs.DraftView.{part_view, merged_trees}
 use Rattle.rvs_tree.specs.PartsView.{parts_view}
 use Rattle.rvs_tree.proofs.Bared.{trees-step, maps-step}
+use Rattle.std.proofs.Common.{arith, append-nil}
+use Rattle.std.proofs.lemmas.List.{drop_all}
 use Rattle.rvs_tree.proofs.whole.trees_of.Goals as goal
 
 pub with_item-requires : goal.with_item-requires
@@ -42,3 +44,19 @@ loop-part-preserved c =
           ∙ c.loop-part.invariant.same;
     }
     )
+
+pub loop-part-init : goal.loop-part-init
+loop-part-init c = record {
+  ready = c.requires;
+  same = ap (λ xs. map rc_view xs ++ merged_trees (parts_view c.args.parts.now))
+      c.in_ok-items.ensures.items;
+}
+
+pub returns : goal.returns
+returns c =
+    let ps = c.args.parts.now in
+    let none : drop c.loop-part.part-index ps ≡ [] =
+    drop_all c.loop-part.part-index ps (omega (arith, c.loop-part-test.false)) in
+    sym (append-nil (map rc_view c.loop-part.items.items))
+    ∙ sym (ap (λ us. map rc_view c.loop-part.items.items ++ merged_trees (parts_view us)) none)
+    ∙ c.loop-part.invariant.same
