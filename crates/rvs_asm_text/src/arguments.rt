@@ -78,8 +78,12 @@ impl<'t> Operands<'t> {
         ensures { MatchOption result (pair self.entry ≡ None)
             (λ p. pair self.entry ≡ Some (p.0.now, p.1.now)) }
     {
-        let first = self.next()?;
-        let second = self.next()?;
+        let Some(first) = self.next() else {
+            return None;
+        };
+        let Some(second) = self.next() else {
+            return None;
+        };
         match self.next() {
             None => Some((first, second)),
             Some(_) => None,
@@ -91,9 +95,15 @@ impl<'t> Operands<'t> {
         ensures { MatchOption result (triple self.entry ≡ None)
             (λ p. triple self.entry ≡ Some (p.0.now, p.1.now, p.2.now)) }
     {
-        let first = self.next()?;
-        let second = self.next()?;
-        let third = self.next()?;
+        let Some(first) = self.next() else {
+            return None;
+        };
+        let Some(second) = self.next() else {
+            return None;
+        };
+        let Some(third) = self.next() else {
+            return None;
+        };
         match self.next() {
             None => Some((first, second, third)),
             Some(_) => None,

@@ -20,7 +20,7 @@ use crate::names::Name;
 use crate::numbers::number;
 
 /// The first word of a directive other than `.section`.
-#[derive(Debug, Clone, Copy, PartialEq, Eq)]
+#[derive(Clone, Copy)]
 pub enum Directive {
     Text,
     Data,

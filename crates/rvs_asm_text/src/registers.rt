@@ -6,7 +6,7 @@ ghost use Rattle.rvs_asm_text.specs.Registers.{register_digits, register_of};
 use rvs_base::number_below;
 
 /// The names of the calling convention for integer registers.
-#[derive(Debug, Clone, Copy, PartialEq, Eq)]
+#[derive(Clone, Copy)]
 pub enum AbiName {
     Zero,
     Ra,
