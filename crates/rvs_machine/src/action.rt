@@ -9,7 +9,7 @@ use crate::memory::{extend, in_data, load};
 use rvs_insn::IsaSpec;
 
 /// What is done to the state.
-#[derive(Debug, Clone, Copy, PartialEq, Eq)]
+#[derive(Clone, Copy)]
 pub(crate) enum Action {
     /// Nothing: a trap.
     Refuse(TrapKind),

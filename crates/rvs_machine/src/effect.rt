@@ -8,7 +8,7 @@ ghost use Rattle.rvs_machine.specs.NextSteps.{IsSized};
 use rvs_insn::Op;
 
 /// What an instruction does, before addresses are checked.
-#[derive(Debug, Clone, Copy, PartialEq, Eq)]
+#[derive(Clone, Copy)]
 pub(crate) enum Effect {
     /// `rd` gets a word.
     Put(u32),

@@ -7,7 +7,7 @@ use std::marker::Model;
 
 /// What is left of a file, and the number of the line that begins there, from 1. A line
 /// feed ends each line but perhaps the last, and takes a carriage return before it along.
-#[derive(Debug, Drop)]
+#[derive(Drop)]
 pub(crate) struct Lines<'a> {
     rest: &'a [u8],
     number: u64,

@@ -5,7 +5,7 @@ use crate::event::{Executed, TrapKind};
 
 /// What the next step does. It is made from a machine that is only read, so that a run can put the
 /// instruction into its trace first.
-#[derive(Debug, Clone, Copy, PartialEq, Eq)]
+#[derive(Clone, Copy)]
 pub(crate) enum NextStep {
     /// Nothing: a trap.
     Stop(TrapKind),
