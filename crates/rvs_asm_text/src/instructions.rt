@@ -14,6 +14,7 @@ ghost use Rattle.rvs_asm_text.specs.Instructions.{IsReady, IsDraft};
 
 use crate::arguments::{Bracketed, Operands};
 use crate::bodies::{Body, LineFault, Link, Value};
+use crate::drafts::{compared, immediate, loaded, only_rd, registers, stored, with_base};
 use crate::names::Name;
 use crate::numbers::number;
 use crate::registers::register;
@@ -123,21 +124,32 @@ fn low_offset<'t>(brackets: &Bracketed<'t>) -> Option<Value<'t>>
     }
 }
 
+/// The register in brackets that stand alone, where the text is such.
+fn base_of(text: &[u8]) -> Option<u8>
+    ensures value { result ≡ option_and_then base_in (brackets_of text.now) }
+    ensures low { IfSome result (λ r. r < 32) }
+{
+    base_register(&Bracketed::read(text)?)
+}
+
+/// The offset and the base register of a memory operand by its brackets.
+fn memory_in<'t>(brackets: &Bracketed<'t>) -> Option<(Value<'t>, u8)>
+    ensures value { result ≡ offset_and_base brackets.now }
+    ensures low { IfSome result (λ m. m.1 < 32) }
+{
+    if brackets.rest().is_empty() {
+        with_base(read_number(brackets.head()), register(brackets.inside()))
+    } else {
+        with_base(low_offset(brackets), base_of(brackets.rest()))
+    }
+}
+
 /// A memory operand: its offset, a number or `%lo(s)`, and its base register.
 fn read_memory(text: &[u8]) -> Option<(Value<'_>, u8)>
     ensures value { result ≡ memory_of text.now }
     ensures low { IfSome result (λ m. m.1 < 32) }
 {
-    let brackets = Bracketed::read(text)?;
-    if brackets.rest().is_empty() {
-        let offset = read_number(brackets.head())?;
-        let base = register(brackets.inside())?;
-        Some((offset, base))
-    } else {
-        let offset = low_offset(&brackets)?;
-        let base = base_register(&Bracketed::read(brackets.rest())?)?;
-        Some((offset, base))
-    }
+    memory_in(&Bracketed::read(text)?)
 }
 
 /// `rd, rs1, rs2`.
@@ -146,15 +158,7 @@ fn draft_registers<'t>(operands: Operands<'t>) -> Option<Draft<'t>>
     ensures drafted { IfSome result (IsDraft Format.R) }
 {
     let (rd, rs1, rs2) = operands.triple()?;
-    let rd = register(rd)?;
-    let rs1 = register(rs1)?;
-    let rs2 = register(rs2)?;
-    Some(Draft {
-        rd: Some(rd),
-        rs1: Some(rs1),
-        rs2: Some(rs2),
-        value: None,
-    })
+    registers(register(rd), register(rs1), register(rs2))
 }
 
 /// `rd, rs1, n` or `rd, rs1, %lo(s)`.
@@ -163,15 +167,7 @@ fn draft_immediate<'t>(operands: Operands<'t>) -> Option<Draft<'t>>
     ensures drafted { IfSome result (IsDraft Format.I) }
 {
     let (rd, rs1, value) = operands.triple()?;
-    let rd = register(rd)?;
-    let rs1 = register(rs1)?;
-    let value = read_low(value)?;
-    Some(Draft {
-        rd: Some(rd),
-        rs1: Some(rs1),
-        rs2: None,
-        value: Some(value),
-    })
+    immediate(register(rd), register(rs1), read_low(value))
 }
 
 /// `rd, rs1, n`.
@@ -180,15 +176,7 @@ fn draft_shift<'t>(operands: Operands<'t>) -> Option<Draft<'t>>
     ensures drafted { IfSome result (IsDraft Format.Shift) }
 {
     let (rd, rs1, value) = operands.triple()?;
-    let rd = register(rd)?;
-    let rs1 = register(rs1)?;
-    let value = read_number(value)?;
-    Some(Draft {
-        rd: Some(rd),
-        rs1: Some(rs1),
-        rs2: None,
-        value: Some(value),
-    })
+    immediate(register(rd), register(rs1), read_number(value))
 }
 
 /// `rd, n(rs1)` or `rd, %lo(s)(rs1)`.
@@ -197,14 +185,7 @@ fn draft_load<'t>(operands: Operands<'t>) -> Option<Draft<'t>>
     ensures drafted { IfSome result (IsDraft Format.Load) }
 {
     let (rd, memory) = operands.pair()?;
-    let rd = register(rd)?;
-    let (offset, base) = read_memory(memory)?;
-    Some(Draft {
-        rd: Some(rd),
-        rs1: Some(base),
-        rs2: None,
-        value: Some(offset),
-    })
+    loaded(register(rd), read_memory(memory))
 }
 
 /// `rs2, n(rs1)` or `rs2, %lo(s)(rs1)`.
@@ -213,14 +194,7 @@ fn draft_store<'t>(operands: Operands<'t>) -> Option<Draft<'t>>
     ensures drafted { IfSome result (IsDraft Format.Store) }
 {
     let (rs2, memory) = operands.pair()?;
-    let rs2 = register(rs2)?;
-    let (offset, base) = read_memory(memory)?;
-    Some(Draft {
-        rd: None,
-        rs1: Some(base),
-        rs2: Some(rs2),
-        value: Some(offset),
-    })
+    stored(register(rs2), read_memory(memory))
 }
 
 /// `rs1, rs2, s`.
@@ -229,15 +203,7 @@ fn draft_branch<'t>(operands: Operands<'t>) -> Option<Draft<'t>>
     ensures drafted { IfSome result (IsDraft Format.Branch) }
 {
     let (rs1, rs2, target) = operands.triple()?;
-    let rs1 = register(rs1)?;
-    let rs2 = register(rs2)?;
-    let target = read_target(target)?;
-    Some(Draft {
-        rd: None,
-        rs1: Some(rs1),
-        rs2: Some(rs2),
-        value: Some(target),
-    })
+    compared(register(rs1), register(rs2), read_target(target))
 }
 
 /// `rd, n` or `rd, %hi(s)`.
@@ -246,14 +212,7 @@ fn draft_upper<'t>(operands: Operands<'t>) -> Option<Draft<'t>>
     ensures drafted { IfSome result (IsDraft Format.Upper) }
 {
     let (rd, value) = operands.pair()?;
-    let rd = register(rd)?;
-    let value = read_high(value)?;
-    Some(Draft {
-        rd: Some(rd),
-        rs1: None,
-        rs2: None,
-        value: Some(value),
-    })
+    only_rd(register(rd), read_high(value))
 }
 
 /// `rd, s`.
@@ -262,14 +221,7 @@ fn draft_jump<'t>(operands: Operands<'t>) -> Option<Draft<'t>>
     ensures drafted { IfSome result (IsDraft Format.Jump) }
 {
     let (rd, target) = operands.pair()?;
-    let rd = register(rd)?;
-    let target = read_target(target)?;
-    Some(Draft {
-        rd: Some(rd),
-        rs1: None,
-        rs2: None,
-        value: Some(target),
-    })
+    only_rd(register(rd), read_target(target))
 }
 
 /// No operand.
@@ -402,13 +354,8 @@ fn draft_j<'t>(operands: Operands<'t>) -> Option<Draft<'t>>
     ensures value { result ≡ jump_draft operands.entry }
     ensures drafted { IfSome result (IsDraft Format.Jump) }
 {
-    let target = read_target(operands.only()?)?;
-    Some(Draft {
-        rd: Some(0),
-        rs1: None,
-        rs2: None,
-        value: Some(target),
-    })
+    let target = operands.only()?;
+    only_rd(Some(0), read_target(target))
 }
 
 /// The operands of `nop`.

@@ -5,6 +5,7 @@ mod arguments;
 mod bodies;
 mod cutting;
 mod directives;
+mod drafts;
 mod header;
 mod instructions;
 mod names;

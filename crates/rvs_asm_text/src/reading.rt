@@ -5,7 +5,8 @@ ghost use Rattle.rvs_asm_text.specs.Text.{is_text_byte, trim};
 ghost use Rattle.rvs_asm_text.specs.Operands.{is_empty};
 ghost use Rattle.rvs_asm_text.specs.Instructions.{mnemonic_of, IsReady};
 ghost use Rattle.rvs_asm_text.specs.Directives.{directive_of};
-ghost use Rattle.rvs_asm_text.specs.Lines.{by_word, statement_of, statement_in, read_line};
+ghost use Rattle.rvs_asm_text.specs.Lines.{by_word, statement_of, statement_in, line_with};
+ghost use Rattle.rvs_asm_text.specs.Lines.{read_line};
 
 use crate::arguments::Operands;
 use crate::bodies::{Body, Line, LineFault};
@@ -101,6 +102,21 @@ fn read_rest<'t>(in_text: bool, text: &'t [u8]) -> Result<Body<'t>, LineFault>
     read_statement(in_text, word, Operands::new(rest))
 }
 
+/// A line of a label, where it has one, and of a statement that was read.
+fn with_label<'t>(
+    label: Option<Name<'t>>,
+    body: Result<Body<'t>, LineFault>,
+) -> Result<Line<'t>, LineFault>
+    requires { IfOk body IsReady }
+    ensures line { result ≡ line_with label.entry body.entry }
+    ensures ready { IfOk result (λ l. IsReady l.body) }
+{
+    match body {
+        Ok(body) => Ok(Line { label, body }),
+        Err(fault) => Err(fault),
+    }
+}
+
 /// What a line is, in the text or in the data. It has no line feed.
 ///
 /// # Errors
@@ -122,17 +138,11 @@ pub fn read_line<'t>(in_text: bool, line: &'t [u8]) -> Result<Line<'t>, LineFaul
     if !all_printable(text) {
         return Err(LineFault::BadLine);
     }
-    let (before, after) = cut(text, b':');
-    let Some(after) = after else {
-        let body = read_rest(in_text, text)?;
-        return Ok(Line { label: None, body });
-    };
-    let Some(label) = Name::read(trimmed(before)) else {
-        return Err(LineFault::BadLine);
-    };
-    let body = read_rest(in_text, after)?;
-    Ok(Line {
-        label: Some(label),
-        body,
-    })
+    match cut(text, b':') {
+        (_, None) => with_label(None, read_rest(in_text, text)),
+        (before, Some(after)) => match Name::read(trimmed(before)) {
+            None => Err(LineFault::BadLine),
+            Some(label) => with_label(Some(label), read_rest(in_text, after)),
+        },
+    }
 }

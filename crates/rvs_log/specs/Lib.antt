@@ -3,6 +3,7 @@ pub mod Entries
 pub mod Grammar
 pub mod Lines
 pub mod Logs
+pub mod Parts
 pub mod Read
 pub mod Registers
 pub mod Seen

@@ -9,6 +9,7 @@ ghost use Rattle.rvs_log.specs.Grammar.{commit_log};
 ghost use Rattle.rvs_log.specs.Grammar.{first_write, is_capital, is_digit, pc_and_word, reading_of};
 ghost use Rattle.rvs_log.specs.Grammar.{register_at, sail_log, Says, spaced, write_at, write_if};
 ghost use Rattle.rvs_log.specs.Grammar.{write_line};
+ghost use Rattle.rvs_log.specs.Parts as part;
 ghost use Rattle.rvs_log.specs.Read.{said, IsDecoded, IsOf};
 
 use crate::plain::{plain_core, plain_words, plain_write};
@@ -145,6 +146,18 @@ fn address_and_word(text: &[u8]) -> Option<(u32, u32, &[u8])>
     }
 }
 
+/// The word in parentheses that follows an address, and what follows both.
+#[inline(always)]
+fn word_and_end(pc: u32, text: &[u8]) -> Option<(u32, u32, &[u8])>
+    ensures { option_map (λ found. (found.0, found.1, found.2.now)) result
+        ≡ part.word_and_end pc text.now }
+{
+    let (word, rest) = word_at(text)?;
+    let rest = byte_at(rest, b')')?;
+    let rest = token_end(rest)?;
+    Some((pc, word, rest))
+}
+
 /// The same with any spaces and digits.
 #[tactic(auto, unfolding(crate::specs::Grammar::pc_and_word))]
 #[inline(never)]
@@ -154,10 +167,7 @@ fn any_address_and_word(text: &[u8]) -> Option<(u32, u32, &[u8])>
     let (pc, rest) = word_at(text)?;
     let rest = spaces(rest)?;
     let rest = byte_at(rest, b'(')?;
-    let (word, rest) = word_at(rest)?;
-    let rest = byte_at(rest, b')')?;
-    let rest = token_end(rest)?;
-    Some((pc, word, rest))
+    word_and_end(pc, rest)
 }
 
 /// A register's number, and what follows.
@@ -180,6 +190,18 @@ pub(crate) fn register(text: &[u8]) -> Option<(u8, &[u8])>
     }
 }
 
+/// The word that a register got, after spaces, up to the end of its token.
+#[inline(always)]
+fn value_after(reg: u8, text: &[u8]) -> Option<Commit>
+    requires { reg < 32 }
+    ensures { result ≡ part.value_after reg text.now }
+{
+    let rest = spaces(text)?;
+    let (value, rest) = word_at(rest)?;
+    let _ = token_end(rest)?;
+    Some(Commit { reg, value })
+}
+
 /// A register and the word written to it, at the front.
 #[tactic(auto, unfolding(crate::specs::Grammar::write_at))]
 fn write(text: &[u8]) -> Option<Commit>
@@ -187,10 +209,7 @@ fn write(text: &[u8]) -> Option<Commit>
 {
     let rest = byte_at(text, b'x')?;
     let (reg, rest) = register(without_spaces(rest))?;
-    let rest = spaces(rest)?;
-    let (value, rest) = word_at(rest)?;
-    let _ = token_end(rest)?;
-    Some(Commit { reg, value })
+    value_after(reg, rest)
 }
 
 /// The same, where a token begins there.
@@ -245,6 +264,17 @@ fn core_front(line: &[u8]) -> Option<&[u8]>
     }
 }
 
+/// What follows a colon and a privilege with spaces after each.
+#[inline(always)]
+fn colon_and_privilege(text: &[u8]) -> Option<&[u8]>
+    ensures { option_copied result ≡ part.colon_and_privilege text.now }
+{
+    let rest = byte_at(text, b':')?;
+    let rest = spaces(rest)?;
+    let rest = privilege(rest)?;
+    spaces(rest)
+}
+
 /// The same of any hart and privilege, and with any spaces.
 #[tactic(auto, unfolding(crate::specs::Grammar::after_core))]
 #[inline(never)]
@@ -254,10 +284,7 @@ fn any_core_front(line: &[u8]) -> Option<&[u8]>
     let rest = core_word(line)?;
     let rest = spaces(rest)?;
     let rest = digits(rest)?;
-    let rest = byte_at(rest, b':')?;
-    let rest = spaces(rest)?;
-    let rest = privilege(rest)?;
-    spaces(rest)
+    colon_and_privilege(rest)
 }
 
 fn core_word(line: &[u8]) -> Option<&[u8]>
@@ -296,6 +323,18 @@ fn commit_log_line(line: &[u8]) -> Option<Record<'_>>
     })
 }
 
+/// What follows capital letters in brackets, a colon and spaces.
+#[inline(always)]
+fn capitals_and_colon(text: &[u8]) -> Option<&[u8]>
+    ensures { option_copied result ≡ part.capitals_and_colon text.now }
+{
+    let rest = byte_at(text, b'[')?;
+    let rest = capitals(rest)?;
+    let rest = byte_at(rest, b']')?;
+    let rest = byte_at(rest, b':')?;
+    spaces(rest)
+}
+
 #[tactic(auto, unfolding(crate::specs::Grammar::after_brackets))]
 fn sail_front(line: &[u8]) -> Option<&[u8]>
     ensures { option_copied result ≡ after_brackets line.now }
@@ -304,11 +343,7 @@ fn sail_front(line: &[u8]) -> Option<&[u8]>
     let rest = digits(rest)?;
     let rest = byte_at(rest, b']')?;
     let rest = spaces(rest)?;
-    let rest = byte_at(rest, b'[')?;
-    let rest = capitals(rest)?;
-    let rest = byte_at(rest, b']')?;
-    let rest = byte_at(rest, b':')?;
-    spaces(rest)
+    capitals_and_colon(rest)
 }
 
 /// A line of a Sail log.
@@ -347,6 +382,19 @@ fn arrow(text: &[u8]) -> Option<&[u8]>
     }
 }
 
+/// The word that a register got, after an arrow, to the end of the line.
+#[inline(always)]
+fn arrow_and_value(reg: u8, text: &[u8]) -> Option<Commit>
+    requires { reg < 32 }
+    ensures { result ≡ part.arrow_and_value reg text.now }
+{
+    let rest = arrow(text)?;
+    let rest = spaces(rest)?;
+    let (value, rest) = word_at(rest)?;
+    let _ = only_spaces(rest)?;
+    Some(Commit { reg, value })
+}
+
 /// A line that says a write alone.
 #[tactic(auto, unfolding(crate::specs::Grammar::write_line))]
 fn commit_line(line: &[u8]) -> Option<Commit>
@@ -355,11 +403,7 @@ fn commit_line(line: &[u8]) -> Option<Commit>
     let rest = byte_at(line, b'x')?;
     let (reg, rest) = register(rest)?;
     let rest = spaces(rest)?;
-    let rest = arrow(rest)?;
-    let rest = spaces(rest)?;
-    let (value, rest) = word_at(rest)?;
-    let _ = only_spaces(rest)?;
-    Some(Commit { reg, value })
+    arrow_and_value(reg, rest)
 }
 
 /// What a line of a log says: an instruction, as Spike's commit log or a Sail log writes it; a word

@@ -2,7 +2,7 @@
 ghost use Rattle.std.specs.Prelude.{◌≡◌, ◌⊎◌, MatchOption, MatchResult, option_and_then};
 ghost use Rattle.rvs_machine.specs.ImageText.{word_in, count_in, after_name, no_memory, refusal};
 ghost use Rattle.rvs_machine.specs.ImageText.{header, word_line, count_line, word_lines, section};
-ghost use Rattle.rvs_machine.specs.ImageText.{address_lines, image_of_bytes, IsSaid};
+ghost use Rattle.rvs_machine.specs.ImageText.{address_lines, image_of_bytes, whole, IsSaid};
 ghost use Rattle.rvs_machine.specs.ImageNumbers.{image_number};
 
 use crate::image::{DATA_LIMIT, Image, TEXT_LIMIT};
@@ -75,6 +75,27 @@ pub fn read_image(alloc: Global, bytes: &[u8]) -> Result<Image, ImageRefusal>
     let text = section(alloc, &mut lines, b"text ", TEXT_LIMIT as u64 / 4)?;
     let data_bytes = section(alloc, &mut lines, b"data ", DATA_LIMIT as u64 / 4)?;
     let at = address_lines(&mut lines)?;
+    whole(alloc, &mut lines, text, data_bytes, at)
+}
+
+/// Where a run halts, and where the signature begins and ends.
+#[derive(Clone, Copy)]
+struct Addresses {
+    tohost: u32,
+    sig_begin: u32,
+    sig_end: u32,
+}
+
+/// The image of what was read, where no line follows and its regions are in order.
+fn whole(
+    alloc: Global,
+    lines: &mut Lines<'_>,
+    text: Vec<u8>,
+    data_bytes: Vec<u8>,
+    at: Addresses,
+) -> Result<Image, ImageRefusal>
+    ensures { IsSaid result (whole text.items data_bytes.items at lines.old) }
+{
     let number = lines.number();
     if lines.take().is_some() {
         return Err(bad_line(number));
@@ -93,14 +114,6 @@ pub fn read_image(alloc: Global, bytes: &[u8]) -> Result<Image, ImageRefusal>
             kind: ImageKind::BadRegion,
         }),
     }
-}
-
-/// Where a run halts, and where the signature begins and ends.
-#[derive(Clone, Copy)]
-struct Addresses {
-    tohost: u32,
-    sig_begin: u32,
-    sig_end: u32,
 }
 
 fn bad_line(line: u64) -> ImageRefusal
