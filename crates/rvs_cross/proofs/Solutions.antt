@@ -7,7 +7,7 @@ use Rattle.rvs_insn.specs.Fields.{Fields}
 use Rattle.rvs_cross.specs.declared.cross.Place.{Place}
 use Rattle.rvs_cross.specs.Cross as spec
 use Rattle.rvs_cross.specs.CrossView.{place_view}
-use Rattle.rvs_cross.specs.Windows.{Values}
+use Rattle.rvs_cross.specs.Windows.{Values, with_third}
 use Rattle.rvs_cross.specs.Sequences.{candidates, solutions, first_of, first_solutions}
 use Rattle.rvs_cross.proofs.Searching.{rest_at}
 
@@ -59,3 +59,32 @@ pub values_none : {X : Type 0} (s : Isa) (ps : List spec.Place) (f : X → List 
 values_none s ps f xs k d whole h inv e =
     inv ∙ first_turn s ps f xs k d h
     ∙ ap (λ o. first_of o (first_solutions s ps (flat_map f (drop (k + 1) xs)))) (sym e)
+
+-- ---- over values of the third variable
+
+abbrev pub at_third : Option ℕ → Option ℕ → Option ℕ → Values
+at_third a b c = record { first = a; second = b; third = c }
+
+third_turn : (s : Isa) (ps : List spec.Place) (a b : Option ℕ) (xs : List (Option ℕ)) (k : ℕ)
+    (d : Option ℕ) → k < length xs → first_solutions s ps (with_third (drop k xs) a b)
+    ≡ first_of (solutions s (at_third a b (get_or xs k d)) ps)
+    (first_solutions s ps (with_third (drop (k + 1) xs) a b))
+third_turn s ps a b xs k d h =
+    ap (λ l. first_solutions s ps (with_third l a b)) (rest_at xs k d h)
+
+pub third_found : (s : Isa) (ps : List spec.Place) (a b : Option ℕ) (xs : List (Option ℕ)) (k : ℕ)
+    (d : Option ℕ) (is : List Fields) (whole : Option (List Fields)) → k < length xs
+    → whole ≡ first_solutions s ps (with_third (drop k xs) a b)
+    → Some is ≡ solutions s (at_third a b (get_or xs k d)) ps → Some is ≡ whole
+third_found s ps a b xs k d is whole h inv e =
+    sym (inv ∙ third_turn s ps a b xs k d h
+    ∙ ap (λ o. first_of o (first_solutions s ps (with_third (drop (k + 1) xs) a b))) (sym e))
+
+pub third_none : (s : Isa) (ps : List spec.Place) (a b : Option ℕ) (xs : List (Option ℕ)) (k : ℕ)
+    (d : Option ℕ) (whole : Option (List Fields)) → k < length xs
+    → whole ≡ first_solutions s ps (with_third (drop k xs) a b)
+    → None ≡ solutions s (at_third a b (get_or xs k d)) ps
+    → whole ≡ first_solutions s ps (with_third (drop (k + 1) xs) a b)
+third_none s ps a b xs k d whole h inv e =
+    inv ∙ third_turn s ps a b xs k d h
+    ∙ ap (λ o. first_of o (first_solutions s ps (with_third (drop (k + 1) xs) a b))) (sym e)

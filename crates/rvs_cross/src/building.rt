@@ -12,6 +12,7 @@ use crate::cross::Place;
 use crate::cutting::trimmed;
 use crate::entries::ops;
 use crate::refusal::CrossRefusal;
+use crate::release::beside;
 use crate::variables::sets;
 use rvs_abstract::name_length;
 use rvs_base::{Items, Text};
@@ -108,8 +109,9 @@ fn place(
 {
     match condition(alloc, variables, trimmed(entry)) {
         Ok(condition) => {
-            let ops = ops(alloc, mnemonics)?;
-            let sets = sets(alloc, variables, assignments)?;
+            let (ops, condition) = beside(ops(alloc, mnemonics), condition)?;
+            let made = beside(sets(alloc, variables, assignments), ops);
+            let ((sets, ops), condition) = beside(made, condition)?;
             Ok(Place {
                 ops,
                 sets,

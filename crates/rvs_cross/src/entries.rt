@@ -1,5 +1,5 @@
 // The entries of the first list and of the second.
-ghost use Rattle.std.specs.Prelude.{◌≡◌, ◌||◌, [], IfOk, is_some, map, option_map};
+ghost use Rattle.std.specs.Prelude.{◌≡◌, ◌||◌, [], IfOk, bytes_eq, is_some, map, option_map};
 ghost use Rattle.std.specs.List.{list_all, find, filter_map};
 ghost use Rattle.rvs_expr_text.specs.declared.words.Language.TheVariants.{Registers};
 ghost use Rattle.rvs_expr_text.specs.Words.{field_word, number_word, word_of};
@@ -186,13 +186,21 @@ fn all_small(name: &[u8]) -> bool
         .all(|byte| is_small(*byte) || byte.is_ascii_digit())
 }
 
+/// Whether the name is this word.
+#[inline]
+fn equals(name: &[u8], word: &str) -> bool
+    ensures { result ≡ bytes_eq name.now word.now }
+{
+    name == word.as_bytes()
+}
+
 /// Whether this is a word of the language of registers.
 fn is_field_word(name: &[u8]) -> bool
     ensures { result ≡ is_some (field_word name.now) }
 {
-    name == "rd".as_bytes()
-        || name == "rs1".as_bytes()
-        || name == "rs2".as_bytes()
+    equals(name, "rd")
+        || equals(name, "rs1")
+        || equals(name, "rs2")
         || register_number(name).is_some()
 }
 
@@ -200,11 +208,11 @@ fn is_field_word(name: &[u8]) -> bool
 fn is_number_word(name: &[u8]) -> bool
     ensures { result ≡ is_some (number_word name.now) }
 {
-    name == "rs1_val".as_bytes()
-        || name == "rs2_val".as_bytes()
-        || name == "imm_val".as_bytes()
-        || name == "ea_align".as_bytes()
-        || name == "xlen".as_bytes()
+    equals(name, "rs1_val")
+        || equals(name, "rs2_val")
+        || equals(name, "imm_val")
+        || equals(name, "ea_align")
+        || equals(name, "xlen")
 }
 
 #[tactic(auto, using(crate::proofs::Words::known_field, crate::proofs::Words::known_other))]
@@ -217,10 +225,7 @@ fn is_language_word(name: &[u8]) -> bool
 fn is_word(name: &[u8]) -> bool
     ensures { result ≡ spec.is_word name.now }
 {
-    is_language_word(name)
-        || name == "and".as_bytes()
-        || name == "or".as_bytes()
-        || name == "not".as_bytes()
+    is_language_word(name) || equals(name, "and") || equals(name, "or") || equals(name, "not")
 }
 
 /// Whether a text may name a variable.

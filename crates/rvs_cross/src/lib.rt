@@ -13,6 +13,7 @@ mod lists;
 mod matching;
 mod parsing;
 mod refusal;
+mod release;
 mod solving;
 mod values;
 mod variables;

@@ -13,6 +13,7 @@ use crate::cutting::{parts, trimmed};
 use crate::entries::{first_unknown, has_class, lists_ops, lists_sets};
 use crate::lists::{Lists, split_lists};
 use crate::refusal::{CrossRead, CrossRefusal};
+use crate::release::{beside, release};
 use crate::variables::variables;
 use std::alloc::{AllocError, Global};
 
@@ -86,10 +87,32 @@ fn with_known(
                 mnemonics,
                 assignments,
                 conditions,
-            )?;
-            Ok(CrossRead::Read(Cross::new(list)))
+            );
+            release(variables);
+            Ok(CrossRead::Read(Cross::new(list?)))
         }
         Err(why) => Err(why),
+    }
+}
+
+/// The cross point of lists that name no class, by their entries.
+fn with_entries(
+    alloc: Global,
+    lists: &Lists<'_>,
+    mnemonics: &[&str],
+    assignments: &[&str],
+    conditions: &[&str],
+) -> Result<CrossRead, CrossRefusal>
+    requires even { spec.same_lengths (lists_view lists.now) ≡ true }
+    requires few { length (entries lists.now.mnemonics.now) ≤ 6 }
+    requires mnemonics { map (λ t. t.now) mnemonics.now ≡ entries lists.now.mnemonics.now }
+    requires assignments { map (λ t. t.now) assignments.now ≡ entries lists.now.assignments.now }
+    requires conditions { map (λ t. t.now) conditions.now ≡ entries lists.now.conditions.now }
+    ensures { Answers result (spec.with_names (lists_view lists.now)) }
+{
+    match first_unknown(mnemonics) {
+        Some(name) => Err(unknown(alloc, trimmed(name))),
+        None => with_known(alloc, mnemonics, assignments, conditions),
     }
 }
 
@@ -100,17 +123,20 @@ fn with_names(alloc: Global, lists: &Lists<'_>) -> Result<CrossRead, CrossRefusa
     ensures { Answers result (spec.with_names (lists_view lists.now)) }
 {
     let mnemonics = entries(alloc, lists.mnemonics)?;
-    let assignments = entries(alloc, lists.assignments)?;
-    let conditions = entries(alloc, lists.conditions)?;
-    match first_unknown(mnemonics.as_slice()) {
-        Some(name) => Err(unknown(alloc, trimmed(name))),
-        None => with_known(
-            alloc,
-            mnemonics.as_slice(),
-            assignments.as_slice(),
-            conditions.as_slice(),
-        ),
-    }
+    let (assignments, mnemonics) = beside(entries(alloc, lists.assignments), mnemonics)?;
+    let conditions = beside(entries(alloc, lists.conditions), assignments);
+    let ((conditions, assignments), mnemonics) = beside(conditions, mnemonics)?;
+    let read = with_entries(
+        alloc,
+        lists,
+        mnemonics.as_slice(),
+        assignments.as_slice(),
+        conditions.as_slice(),
+    );
+    release(conditions);
+    release(assignments);
+    release(mnemonics);
+    read
 }
 
 /// The cross point of three lists.

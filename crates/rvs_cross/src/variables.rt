@@ -8,6 +8,7 @@ use crate::cross::{Assignment, Variable};
 use crate::cutting::parts;
 use crate::entries::assignment;
 use crate::refusal::CrossRefusal;
+use crate::release::{beside, release};
 use rvs_base::{Items, Text};
 use std::alloc::{AllocError, Global};
 
@@ -25,10 +26,12 @@ fn note(alloc: Global, name: &str, variables: Items<Text>) -> Result<Items<Text>
         return Ok(variables);
     }
     if variables.as_slice().len() >= 3 {
+        release(variables);
         return Err(CrossRefusal::TooManyVariables);
     }
+    let (name, variables) = beside(String::from_str(alloc, name), variables)?;
     let mut variables = variables;
-    variables.push(Text::from(String::from_str(alloc, name)?))?;
+    variables.push(Text::from(name))?;
     Ok(variables)
 }
 
@@ -68,8 +71,10 @@ fn note_entry(
 ) -> Result<Items<Text>, CrossRefusal>
     ensures { AnswersWith (λ v. v) result (spec.note_entry entry.now variables) }
 {
-    let parts = parts(alloc, ';', entry)?;
-    note_parts(alloc, parts.as_slice(), variables)
+    let (parts, variables) = beside(parts(alloc, ';', entry), variables)?;
+    let noted = note_parts(alloc, parts.as_slice(), variables);
+    release(parts);
+    noted
 }
 
 /// The variables of these entries, at most three, in the order in which they appear first.

@@ -3,8 +3,8 @@ ghost use Rattle.std.specs.Prelude.{◌≡◌, Ok, Err, IfOk, IfErr};
 
 use std::alloc::{AllocError, Global};
 
-/// Lets a value go. A function that lets a part go itself is proved for each shape that the part may
-/// have, at each of its exits; here the drop is one call.
+/// Lets a value go. A function that lets a part go itself is proved for each shape that the part
+/// may have, at each of its exits; here the drop is one call.
 #[inline]
 pub(crate) fn release<T: Drop>(_value: T) {}
 

@@ -1,8 +1,8 @@
 // Values that are let go.
 ghost use Rattle.std.specs.Prelude.{◌≡◌, Ok, Err, IfOk, IfErr};
 
-/// Lets a value go. A function that lets a part go itself is proved for each shape that the part may
-/// have, at each of its exits; here the drop is one call.
+/// Lets a value go. A function that lets a part go itself is proved for each shape that the part
+/// may have, at each of its exits; here the drop is one call.
 #[inline]
 pub fn release<T: Drop>(_value: T) {}
 

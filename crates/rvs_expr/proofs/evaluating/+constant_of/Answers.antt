@@ -14,7 +14,11 @@ plus-requires t c =
     let fx : FitsSigned w128 c.in_ok-x-in-Sum.x = search rules in
     let fy : FitsSigned w128 c.in_ok-y-in-Sum.y = search rules in
     rw (to_z-of_z _ _ fx, to_z-of_z _ _ fy)
-    (omega (arith, c.in_ok-x-in-Sum.ensures.within, c.in_ok-y-in-Sum.ensures.within))
+    (omega (
+      arith,
+      c.in_ok-x-in-Sum.ensures.within,
+      c.in_ok-y-in-Sum.ensures.within,
+    ))
 
 pub less-requires : goal.less-requires
 less-requires t c =
@@ -24,7 +28,11 @@ less-requires t c =
     let fx : FitsSigned w128 c.in_ok-x-in-Difference.x = search rules in
     let fy : FitsSigned w128 c.in_ok-y-in-Difference.y = search rules in
     rw (to_z-of_z _ _ fx, to_z-of_z _ _ fy)
-    (omega (arith, c.in_ok-x-in-Difference.ensures.within, c.in_ok-y-in-Difference.ensures.within))
+    (omega (
+      arith,
+      c.in_ok-x-in-Difference.ensures.within,
+      c.in_ok-y-in-Difference.ensures.within,
+    ))
 
 pub times-requires : goal.times-requires
 times-requires t c =
@@ -34,4 +42,8 @@ times-requires t c =
     let fx : FitsSigned w128 c.in_ok-x-in-Product.x = search rules in
     let fy : FitsSigned w128 c.in_ok-y-in-Product.y = search rules in
     rw (to_z-of_z _ _ fx, to_z-of_z _ _ fy)
-    (omega (arith, mul-le-mul c.in_ok-x-in-Product.ensures.within c.in_ok-y-in-Product.ensures.within))
+    (omega (
+      arith,
+      mul-le-mul c.in_ok-x-in-Product.ensures.within
+          c.in_ok-y-in-Product.ensures.within,
+    ))

@@ -14,7 +14,11 @@ value_of-plus-requires t c =
     let fx : FitsSigned w128 c.operand-in-Sum.result = search rules in
     let fy : FitsSigned w128 c.operand-in-Sum-2.result = search rules in
     rw (to_z-of_z _ _ fx, to_z-of_z _ _ fy)
-    (omega (arith, c.operand-in-Sum.ensures.within, c.operand-in-Sum-2.ensures.within))
+    (omega (
+      arith,
+      c.operand-in-Sum.ensures.within,
+      c.operand-in-Sum-2.ensures.within,
+    ))
 
 pub value_of-less-requires : goal.value_of-less-requires
 value_of-less-requires t c =
@@ -24,7 +28,11 @@ value_of-less-requires t c =
     let fx : FitsSigned w128 c.operand-in-Difference.result = search rules in
     let fy : FitsSigned w128 c.operand-in-Difference-2.result = search rules in
     rw (to_z-of_z _ _ fx, to_z-of_z _ _ fy)
-    (omega (arith, c.operand-in-Difference.ensures.within, c.operand-in-Difference-2.ensures.within))
+    (omega (
+      arith,
+      c.operand-in-Difference.ensures.within,
+      c.operand-in-Difference-2.ensures.within,
+    ))
 
 pub value_of-times-requires : goal.value_of-times-requires
 value_of-times-requires t c =
@@ -34,4 +42,8 @@ value_of-times-requires t c =
     let fx : FitsSigned w128 c.operand-in-Product.result = search rules in
     let fy : FitsSigned w128 c.operand-in-Product-2.result = search rules in
     rw (to_z-of_z _ _ fx, to_z-of_z _ _ fy)
-    (omega (arith, mul-le-mul c.operand-in-Product.ensures.within c.operand-in-Product-2.ensures.within))
+    (omega (
+      arith,
+      mul-le-mul c.operand-in-Product.ensures.within
+          c.operand-in-Product-2.ensures.within,
+    ))
