@@ -1,4 +1,5 @@
-use Rattle.std.proofs.Common.{◌∙◌, sym, inl, inr}
+use Rattle.std.proofs.Common.{◌∙◌, sym, inl, inr, arith}
+use Rattle.std.proofs.lemmas.Grind.{common_steps}
 use Rattle.rvs_log.proofs.Digits.{word_refused_at}
 use Rattle.rvs_log.proofs.words.more_digits.Goals as goal
 use Rattle.rvs_log.proofs.words.more_digits.Goals.{then-value-ge268435456-via-then-value-ge268435456}
@@ -14,3 +15,10 @@ returns-then-value-ge268435456 c text run sum =
       | then-value-ge268435456-via-else-value-ge268435456+then-count-ge16 w ↦ inr
           w.if-count-ge16.true
     ])
+
+pub loop-rest-preserved : goal.loop-rest-preserved
+loop-rest-preserved c = record {
+  same = grind (arith, common_steps);
+  count = omega arith;
+  few = omega arith;
+}
