@@ -27,7 +27,7 @@ use Rattle.rvs_yaml_text.specs.declared.kind.YamlKind.TheVariants.{BadScalar, Un
 use Rattle.rvs_yaml_text.specs.declared.kind.YamlKind.TheVariants.{Unsupported, BadFlow}
 use Rattle.rvs_yaml.specs.Flow.{FlowState, member, behind_member, key_place, entry_value}
 use Rattle.rvs_yaml.specs.Flow.{behind_entry}
-use Rattle.rvs_yaml.specs.Flow.{with_alias, closes, ends_with}
+use Rattle.rvs_yaml.specs.Flow.{with_alias, with_value, closes, ends_with}
 use Rattle.rvs_yaml.specs.FlowParts.{alias_at, closed}
 use Rattle.rvs_yaml.specs.FlowSteps.{Reading, closed_by, into}
 use Rattle.rvs_tree.specs.Standin.{standin}
@@ -58,6 +58,14 @@ keyed ws k column v w =
     (explicit_keys-push ws (written k v))
     ∙ join (check_merge k v) (key_at column (explicit_keys ws ++ spelled k) w.column w.shape)
     (λ l. done_entries (ws ++ written k v ∷ []) l) (own_content w.shape)
+
+pub keyed-not : (ws : List Written) (k : Key) (column : ℕ) (v : Value) (w : Word) (kind : YamlKind)
+    → check_merge k v ≡ Err kind → next_entry ws k column v w ≡ Err kind
+keyed-not ws k column v w kind h =
+    keyed ws k column v w
+    ∙ ap (λ c. c >> (keyed_content column (explicit_keys ws ++ spelled k) w
+    >>= λ q. let s : Checked (Done × Content) =
+    Ok (done_entries (ws ++ written k v ∷ []) q.0, q.1) in s)) h
 
 -- what gives a value fails with nothing
 pub gave : {X Y : Type 0} (r : Result X YamlKind) (m : Checked Y) (y : Y) → m ≡ Ok y
@@ -196,11 +204,11 @@ keyed-as ws k column v w r good is =
     Ok (done_entries (ws ++ written k v ∷ []) q.0, q.1) in s) is
 
 -- THE END OF A FLOW COLLECTION
-has_value : {A : Type 0} (m : Checked A) → succeeds m ≡ Ok tt → (x : A) × (m ≡ Ok x)
+pub has_value : {A : Type 0} (m : Checked A) → succeeds m ≡ Ok tt → (x : A) × (m ≡ Ok x)
 has_value (Ok x) h = (x, refl)
 has_value (Err k) h = cc
 
-fails_so : {A : Type 0} (m : Checked A) (kind : YamlKind) → succeeds m ≡ Err kind → m ≡ Err kind
+pub fails_so : {A : Type 0} (m : Checked A) (kind : YamlKind) → succeeds m ≡ Err kind → m ≡ Err kind
 fails_so (Ok x) kind h = cc
 fails_so (Err k) kind h = let same : k ≡ kind = cc in ap Err same
 
@@ -237,6 +245,44 @@ closed-outer poor line good b p outer c kind h e f =
     q.1 ∙ ap (λ m. m >> into (q.0, good) outer) e
     ∙ fails_so (into (q.0, good) outer) kind (f q.0 good)
 
+closes-not : (poor : Bool) (line : ℕ) (p : FlowState) (kind : YamlKind)
+    → succeeds (closes line p) ≡ Err kind → closed_by poor line p ≡ Err kind
+closes-not false line p kind h = fails_so (closes line p) kind h
+closes-not true line p kind h =
+    ap (λ m. m >>= λ v. let r : Checked Value = Ok (standin v) in r)
+    (fails_so (closes line p) kind h)
+
+-- where the collection may not end
+pub closed-not : (poor : Bool) (line : ℕ) (good : Bool) (b : Bracket) (p : FlowState)
+    (outer : List (Bracket × FlowState)) (c : Bracket) (kind : YamlKind)
+    → succeeds (closes line p) ≡ Err kind → closed poor line good b p outer c ≡ Err kind
+closed-not poor line good b p outer c kind h =
+    ap (λ m. m >>= λ v. ends_with b (Some c) >> into (v, good) outer)
+    (closes-not poor line p kind h)
+
+pub closed-tail : (poor : Bool) (line : ℕ) (good : Bool) (b : Bracket) (p : FlowState)
+    (outer : List (Bracket × FlowState)) (c : Bracket) → succeeds (closes line p) ≡ Ok tt
+    → ends_with b (Some c) ≡ Ok tt
+    → (v : Value) × (succeeds (closed poor line good b p outer c)
+    ≡ succeeds (into (v, good) outer))
+closed-tail poor line good b p outer c h e =
+    let q = closed-as poor line good b p outer c h in
+    (q.0, ap succeeds (q.1 ∙ ap (λ m. m >> into (q.0, good) outer) e))
+
+then-well : {A : Type 0} (c : Checked (Unit {0})) (m : Checked A) → succeeds (c >> m) ≡ Ok tt
+    → (c >> m) ≡ m
+then-well (Ok u) m h = refl
+then-well (Err k) m h = cc
+
+-- what is around the collection decides, where its bracket may end it
+pub closed-into : (poor : Bool) (line : ℕ) (good : Bool) (b : Bracket) (p : FlowState)
+    (outer : List (Bracket × FlowState)) (c : Bracket) (v : Value)
+    → closed_by poor line p ≡ Ok v → succeeds (closed poor line good b p outer c) ≡ Ok tt
+    → closed poor line good b p outer c ≡ into (v, good) outer
+closed-into poor line good b p outer c v e h =
+    let q = ap (λ m. m >>= λ u. ends_with b (Some c) >> into (u, good) outer) e in
+    q ∙ then-well (ends_with b (Some c)) (into (v, good) outer) (sym (ap succeeds q) ∙ h)
+
 pub closed-well : (poor : Bool) (line : ℕ) (good : Bool) (b : Bracket) (p : FlowState)
     (outer : List (Bracket × FlowState)) (c : Bracket) → succeeds (closes line p) ≡ Ok tt
     → ends_with b (Some c) ≡ Ok tt
@@ -259,3 +305,31 @@ pub named-entry : (known : Anchors) (p : FlowState) (ws : List Written) (k : Key
     → alias_at known p name ≡ known_alias (lookup name known)
 named-entry known p ws k [] e h = absurd (cc)
 named-entry known p ws k (b ∷ bs) e h = ap (λ q. alias_at known q (b ∷ bs)) e
+
+-- where an alias has no value, it isn't taken
+pub alias-fails : (known : Anchors) (p : FlowState) (name : List ℕ) (kind : YamlKind)
+    → alias_at known p name ≡ Err kind → with_alias known p name ≡ Err kind
+alias-fails known (member vs) [] kind h = let same : BadFlow ≡ kind = cc in ap Err same
+alias-fails known (entry_value ws k) [] kind h = let same : BadFlow ≡ kind = cc in ap Err same
+alias-fails known (member vs) (n ∷ ns) kind h =
+    ap (λ m. m >>= λ v. let r : Checked FlowState = Ok (behind_member (vs ++ v ∷ [])) in r) h
+alias-fails known (entry_value ws k) (n ∷ ns) kind h =
+    ap (λ m. m >>= λ v. let r : Checked FlowState = Ok (behind_entry (ws ++ written k v ∷ [])) in r)
+    h
+alias-fails known (key_place ws) name kind h = let same : BadScalar ≡ kind = cc in ap Err same
+alias-fails known (behind_member vs) name kind h = let same : BadFlow ≡ kind = cc in ap Err same
+alias-fails known (behind_entry ws) name kind h = let same : BadFlow ≡ kind = cc in ap Err same
+
+-- where it has one, that is taken
+pub alias-found : (known : Anchors) (p : FlowState) (name : List ℕ) (v : Value)
+    → alias_at known p name ≡ Ok v → with_alias known p name ≡ with_value p v
+alias-found known (member vs) [] v h = absurd (cc)
+alias-found known (entry_value ws k) [] v h = absurd (cc)
+alias-found known (member vs) (n ∷ ns) v h =
+    ap (λ m. m >>= λ u. let r : Checked FlowState = Ok (behind_member (vs ++ u ∷ [])) in r) h
+alias-found known (entry_value ws k) (n ∷ ns) v h =
+    ap (λ m. m >>= λ u. let r : Checked FlowState = Ok (behind_entry (ws ++ written k u ∷ [])) in r)
+    h
+alias-found known (key_place ws) name v h = absurd (cc)
+alias-found known (behind_member vs) name v h = absurd (cc)
+alias-found known (behind_entry ws) name v h = absurd (cc)

@@ -1,7 +1,7 @@
 -- Results against checks that go on.
 use Rattle.std.proofs.Common.{◌≡◌, List, Result, Ok, Err, ap, subst, ◌∙◌, sym}
 use Rattle.rvs_yaml.specs.Checks.{Checked, ◌>>=◌}
-use Rattle.rvs_yaml.specs.Gives.{Agrees, Gives, Fails}
+use Rattle.rvs_yaml.specs.Gives.{Agrees, Gives, Fails, FailsWith}
 use Rattle.rvs_yaml.specs.Parsed.{within_limits}
 use Rattle.rvs_yaml.specs.Reader.{kept, Passes, RefusesFront, DeniesFront}
 use Rattle.rvs_tree.specs.Value.{Value}
@@ -54,3 +54,9 @@ pub fails_kept : (kind : YamlKind) (m t : Checked (List Open)) (f : List Open �
     → (m >>= f) ≡ t → Fails kind m → Fails kind (t >>= kept)
 fails_kept kind m t f e h =
     fails_to kind m (t >>= kept) (λ is. ap (λ n. n >>= kept) (sym e ∙ ap (λ n. n >>= f) is)) h
+
+-- what agrees with a check fails where the check does
+pub agrees_fails : {X Y : Type 0} (see : X → Y) (r : Result X YamlKind) (m : Checked Y)
+    → Agrees see r m → FailsWith r m
+agrees_fails see (Ok x) m e kind h = cc
+agrees_fails see (Err k) m e kind h = let same : k ≡ kind = cc in ap Err same

@@ -3,10 +3,13 @@ use Rattle.std.proofs.Common.{◌≡◌, ℕ, zero, suc, Bool, true, false, List
 use Rattle.std.proofs.Common.{ap, ◌∙◌, arith}
 use Rattle.std.specs.Prelude.{◌==◌, ◌&&◌}
 use Rattle.std.proofs.lemmas.Bool.Decides.{nat_tests}
-use Rattle.rvs_yaml.specs.Checks.{Checked, ◌>>=◌}
+use Rattle.std.proofs.Common.{Err}
+use Rattle.rvs_yaml_text.specs.Bytes.{space_byte}
+use Rattle.rvs_yaml_text.specs.Scalar.{starts_with}
+use Rattle.rvs_yaml.specs.Checks.{Checked, ◌>>=◌, mapped}
 use Rattle.rvs_yaml.specs.Anchors.{Anchors}
 use Rattle.rvs_yaml_text.specs.Word.{Token}
-use Rattle.rvs_yaml_text.specs.Tokens.{tokens, next_token, closes}
+use Rattle.rvs_yaml_text.specs.Tokens.{tokens, next_token, closes, FirstToken}
 use Rattle.rvs_yaml.specs.TokenParts.{Flowing, flowing, is_flow_end, next_flowing}
 use Rattle.rvs_yaml.specs.FlowSteps.{Reading, flow_step, flow_steps}
 use Rattle.rvs_yaml.proofs.Outlined.{bind_assoc}
@@ -76,3 +79,25 @@ tokens-next poor known line r n cl sp (b ∷ bs) h =
           ∙ sym (bind_assoc (flow_step poor known line r (token_here cl (b ∷ bs))) _ _)
           ∙ sym (ap (going_on poor known line n) (flowing-word poor known line r cl sp b bs e))
     ] refl
+
+mapped-bind : {A B : Type 0} (f : A → B) (m : Checked A)
+    → mapped f m ≡ (m >>= λ x. let r : Checked B = Ok (f x) in r)
+mapped-bind f (Ok x) = refl
+mapped-bind f (Err k) = refl
+
+next-false : (poor : Bool) (known : Anchors) (line : ℕ) (r : Reading) (cl sp : Bool) (bs : List ℕ)
+    → starts_with space_byte bs ≡ false → next_flowing poor known line (flowing r cl sp bs)
+    ≡ (flow_step poor known line r (next_token cl bs).0 >>= λ s.
+    Ok (flowing s (closes (next_token cl bs).0) false (next_token cl bs).1))
+next-false poor known line r cl sp bs h = rw h refl
+
+-- a token more, where no space comes next
+pub next-token : (poor : Bool) (known : Anchors) (line : ℕ) (r : Reading) (cl sp : Bool)
+    (bs : List ℕ) (t : FirstToken) → starts_with space_byte bs ≡ false → t ≡ next_token cl bs →
+    mapped (λ s. flowing s (closes t.0) false t.1) (flow_step poor known line r t.0)
+    ≡ next_flowing poor known line (flowing r cl sp bs)
+next-token poor known line r cl sp bs t h e =
+    mapped-bind (λ s. flowing s (closes t.0) false t.1) (flow_step poor known line r t.0)
+    ∙ ap (λ (u : FirstToken). flow_step poor known line r u.0 >>= λ s. let q : Checked Flowing =
+    Ok (flowing s (closes u.0) false u.1) in q) e
+    ∙ sym (next-false poor known line r cl sp bs h)

@@ -13,7 +13,8 @@ ghost use Rattle.rvs_yaml.specs.Flow.{flow_value};
 ghost use Rattle.rvs_yaml.specs.Front.{ends};
 ghost use Rattle.rvs_yaml.specs.Gives.{Gives};
 ghost use Rattle.rvs_yaml.specs.Reader.{Passes, Denies, DeniesFront, RefusesFront};
-ghost use Rattle.rvs_yaml.specs.StackView.{all_known, anchors_view, stack_view, open_blocks};
+ghost use Rattle.rvs_yaml.specs.StackView.{all_known, anchors_view, own_view, stack_view};
+ghost use Rattle.rvs_yaml.specs.StackView.{open_blocks};
 
 use crate::anchor_list::AnchorList;
 use crate::flow_text::{flow_value, thin_flow_value};
@@ -106,6 +107,21 @@ fn value_with(
     flow_value(alloc, &known, line, bracket, text)
 }
 
+/// The same as that of the last word on this line.
+fn own_with(
+    alloc: Global,
+    anchors: &AnchorList<'_>,
+    line: u64,
+    bracket: Bracket,
+    text: &str,
+) -> Result<Option<Box<Value>>, YamlKind>
+    ensures { Gives (own_view line) result (flow_value (anchors_view anchors.now.anchors.items) line
+        (bracket_view bracket) (tokens_of text.now)) }
+{
+    let own = value_with(alloc, anchors, line, bracket, text)?;
+    Ok(Some(Box::new(alloc, own)?))
+}
+
 /// Whether an alias may stand in the text.
 fn has_star(text: &str) -> bool {
     text.as_bytes().contains(&b'*')
@@ -137,10 +153,18 @@ fn fill<'a>(
         head,
         own: _,
     } = top;
-    let own = value_with(alloc, &anchors, head.line, bracket, text)?;
-    let own = Some(Box::new(alloc, own)?);
-    blocks.push(Open { block, head, own })?;
-    Ok(OpenBlocks { blocks, anchors })
+    match own_with(alloc, &anchors, head.line, bracket, text) {
+        Ok(own) => {
+            blocks.push(Open { block, head, own })?;
+            Ok(OpenBlocks { blocks, anchors })
+        }
+        Err(kind) => {
+            drop(block);
+            drop(blocks);
+            drop(anchors);
+            Err(kind)
+        },
+    }
 }
 
 /// What stands on a line without its flow collection, and that.

@@ -1,10 +1,11 @@
 // Reading flow collections from left to right.
-ghost use Rattle.std.specs.Prelude.{◌≡◌, true, Err, if◌then◌else◌};
+ghost use Rattle.std.specs.Prelude.{◌≡◌, ◌&&◌, ℕ, Bool, true, Ok};
 ghost use Rattle.rvs_tree.specs.Value as value_spec;
 ghost use Rattle.rvs_yaml.specs.Flow as spec;
 ghost use Rattle.rvs_yaml.specs.FlowSteps as steps_spec;
 ghost use Rattle.rvs_yaml.specs.FlowParts as parts;
-ghost use Rattle.rvs_yaml_text.specs.declared.kind.YamlKind.TheVariants.{BadScalar, BadFlow};
+ghost use Rattle.rvs_yaml.specs.Anchors.{Anchors};
+ghost use Rattle.rvs_yaml.specs.Checks.{succeeds};
 ghost use Rattle.rvs_yaml.specs.Gives.{Agrees, Gives, FailsWith};
 ghost use Rattle.rvs_yaml.specs.StackView.{known_view};
 ghost use Rattle.rvs_tree.specs.ValueView.{value_view, written_view, entries_view};
@@ -15,6 +16,7 @@ ghost use Rattle.rvs_yaml.specs.FlowView.{place_view, reading_view, levels_view}
 
 use crate::entry::entry_of;
 use crate::flow_places::{ends_with, may_close, may_go_on, may_open, may_take};
+use crate::flow_refusals::{colon_scalar_refused, cut_key_refused, is_new, refused, start_refused};
 use crate::known::Known;
 use crate::reading::{FlowState, Level, Pending, Reading};
 use rvs_tree::{
@@ -62,13 +64,6 @@ fn with_comma(place: FlowState) -> Result<FlowState, YamlKind>
     }
 }
 
-/// Whether the key is new among these, or merges.
-fn is_new(list: &EntryList, key: &Key) -> bool
-    ensures { result ≡ parts.is_new (entries_view list.now.entries.items) (key_view key.now) }
-{
-    key.merges || !list.has_key(key.name.as_str())
-}
-
 /// The place behind a key and its colon.
 fn with_key(alloc: Global, place: FlowState, key: Key) -> Result<FlowState, YamlKind>
     ensures given { Gives place_view result
@@ -86,55 +81,6 @@ fn with_key(alloc: Global, place: FlowState, key: Key) -> Result<FlowState, Yaml
         }
         FlowState::Member(_) | FlowState::EntryValue(_) => Err(YamlKind::BadScalar),
         _ => Err(YamlKind::BadFlow),
-    }
-}
-
-/// Why a quoted scalar with a colon and then more text is refused.
-fn cut_key_fault(place: &FlowState, key: &Key) -> YamlKind
-    ensures { spec.with_cut_key (place_view place.now) (key_view key.now) ≡ Err result }
-{
-    match place {
-        FlowState::KeyPlace(list) => {
-            if is_new(list, key) {
-                YamlKind::BadFlow
-            } else {
-                YamlKind::DuplicateKey
-            }
-        }
-        FlowState::Member(_) | FlowState::EntryValue(_) => YamlKind::BadScalar,
-        _ => YamlKind::BadFlow,
-    }
-}
-
-/// Why a plain scalar that ends in a colon is refused, where this byte ends it.
-fn colon_scalar_fault(place: &FlowState, byte: u8) -> YamlKind
-    ensures { spec.with_colon_scalar (place_view place.now) byte ≡ Err result }
-{
-    match place {
-        FlowState::Member(_) => bad_unless(byte == b',' || byte == b']'),
-        FlowState::EntryValue(_) => bad_unless(byte == b',' || byte == b'}'),
-        _ => YamlKind::BadFlow,
-    }
-}
-
-/// A scalar's fault where what ends it is in its place.
-fn bad_unless(in_place: bool) -> YamlKind
-    ensures { result ≡ (if in_place then BadScalar else BadFlow) }
-{
-    if in_place {
-        YamlKind::BadScalar
-    } else {
-        YamlKind::BadFlow
-    }
-}
-
-/// The fault of what begins here, which is the scalar's where one could begin.
-fn start_fault(place: &FlowState, kind: YamlKind) -> YamlKind
-    ensures { spec.with_fault (place_view place.now) kind ≡ Err result }
-{
-    match place {
-        FlowState::BehindMember(_) | FlowState::BehindEntry(_) => YamlKind::BadFlow,
-        _ => kind,
     }
 }
 
@@ -174,8 +120,10 @@ fn with_alias(
     ensures refused { FailsWith result
         (spec.with_alias (known_view known.now) (place_view place) name.now) }
 {
-    let value = alias_here(alloc, known, &place, name)?;
-    with_value(alloc, place, value)
+    match alias_here(alloc, known, &place, name) {
+        Ok(value) => with_value(alloc, place, value),
+        Err(kind) => refused(place, kind),
+    }
 }
 
 /// The place behind a scalar.
@@ -205,15 +153,15 @@ fn with_token(
 {
     match token {
         Token::Comma => with_comma(place),
-        Token::Colon => Err(start_fault(&place, YamlKind::BadScalar)),
+        Token::Colon => start_refused(place, YamlKind::BadScalar),
         Token::Scalar(key) => with_scalar(alloc, line, place, key),
         Token::Keyed(key) => with_key(alloc, place, key),
-        Token::CutKey(key) => Err(cut_key_fault(&place, &key)),
-        Token::ColonScalar(byte) => Err(colon_scalar_fault(&place, byte)),
+        Token::CutKey(key) => cut_key_refused(place, key),
+        Token::ColonScalar(byte) => colon_scalar_refused(place, byte),
         Token::Alias(name) => with_alias(alloc, known, place, name),
-        Token::Fault(kind) => Err(start_fault(&place, kind)),
-        Token::LateColon => Err(YamlKind::Unsupported),
-        Token::Opening(_) | Token::Closing(_) => Err(YamlKind::BadFlow),
+        Token::Fault(kind) => start_refused(place, kind),
+        Token::LateColon => refused(place, YamlKind::Unsupported),
+        Token::Opening(_) | Token::Closing(_) => refused(place, YamlKind::BadFlow),
     }
 }
 
@@ -290,6 +238,13 @@ fn entry_fits(written: &Written) -> bool
     !written.merges || written.value.mergeable
 }
 
+/// Whether all that merges can be merged, with the entry that was read last.
+fn still_good(good: bool, place: &FlowState) -> bool
+    ensures { result ≡ (good && spec.fits (place_view place.now)) }
+{
+    good && fits(place)
+}
+
 /// What is read once a value is whole.
 fn into(alloc: Global, value: Value, good: bool, mut outer: Vec<Level>) -> Result<Reading, YamlKind>
     ensures given { Gives reading_view result
@@ -301,7 +256,7 @@ fn into(alloc: Global, value: Value, good: bool, mut outer: Vec<Level>) -> Resul
         return Ok(Reading::Whole(value, good));
     };
     let place = with_value(alloc, level.place, value)?;
-    let good = good && fits(&place);
+    let good = still_good(good, &place);
     Ok(Reading::Inside(
         good,
         Level {
@@ -327,7 +282,11 @@ fn opened(
         (parts.opened good (bracket_view level.bracket)
         (place_view level.place) (levels_view outer.items) (bracket_view bracket)) }
 {
-    may_open(&level.place)?;
+    if let Err(kind) = may_open(&level.place) {
+        drop(level);
+        drop(outer);
+        return Err(kind);
+    }
     outer.push(level)?;
     Ok(Reading::Inside(
         good,
@@ -337,6 +296,40 @@ fn opened(
         },
         outer,
     ))
+}
+
+/// Whether this bracket may end the innermost collection, around which these are open.
+fn may_end(level: &Level, outer: &[Level], bracket: Bracket) -> Result<(), YamlKind>
+    ensures { (poor : Bool) → (line : ℕ) → (good : Bool) → Agrees (λ u. u) result
+        (succeeds (parts.closed poor line good (bracket_view level.now.bracket)
+        (place_view level.now.place) (levels_view outer.now) (bracket_view bracket))) }
+{
+    may_close(&level.place)?;
+    ends_with(level.bracket, bracket)?;
+    may_go_on(outer)
+}
+
+/// What is read behind a closing bracket that may stand here.
+fn ended(
+    alloc: Global,
+    poor: bool,
+    line: u64,
+    good: bool,
+    level: Level,
+    outer: Vec<Level>,
+    bracket: Bracket,
+) -> Result<Reading, YamlKind>
+    requires { succeeds (parts.closed poor line good (bracket_view level.bracket)
+        (place_view level.place) (levels_view outer.items) (bracket_view bracket)) ≡ Ok tt }
+    ensures given { Gives reading_view result
+        (parts.closed poor line good (bracket_view level.bracket)
+        (place_view level.place) (levels_view outer.items) (bracket_view bracket)) }
+    ensures refused { FailsWith result
+        (parts.closed poor line good (bracket_view level.bracket)
+        (place_view level.place) (levels_view outer.items) (bracket_view bracket)) }
+{
+    let value = closed_by(alloc, poor, line, level.place)?;
+    into(alloc, value, good, outer)
 }
 
 /// What is read behind a closing bracket.
@@ -356,11 +349,14 @@ fn closed(
         (parts.closed poor line good (bracket_view level.bracket)
         (place_view level.place) (levels_view outer.items) (bracket_view bracket)) }
 {
-    may_close(&level.place)?;
-    ends_with(level.bracket, bracket)?;
-    may_go_on(outer.as_slice())?;
-    let value = closed_by(alloc, poor, line, level.place)?;
-    into(alloc, value, good, outer)
+    match may_end(&level, outer.as_slice(), bracket) {
+        Ok(()) => ended(alloc, poor, line, good, level, outer, bracket),
+        Err(kind) => {
+            drop(level);
+            drop(outer);
+            Err(kind)
+        },
+    }
 }
 
 /// What is read behind another token.
@@ -383,7 +379,7 @@ fn moved(
         (place_view level.place) (token_view token.entry))) }
 {
     let place = with_token(alloc, known, line, level.place, token)?;
-    let good = good && fits(&place);
+    let good = still_good(good, &place);
     Ok(Reading::Inside(
         good,
         Level {
@@ -418,6 +414,18 @@ fn inside(
     }
 }
 
+/// Refuses a token behind a whole collection.
+fn behind_whole(token: Token<'_>) -> Result<Reading, YamlKind>
+    ensures { (poor : Bool) → (known : Anchors) → (line : ℕ) → (v : value_spec.Value)
+        → (good : Bool) → Agrees reading_view result (steps_spec.flow_step poor known line
+        (steps_spec.whole (v, good)) (token_view token.entry)) }
+{
+    match token {
+        Token::LateColon => Err(YamlKind::Unsupported),
+        _ => Err(YamlKind::BadFlow),
+    }
+}
+
 /// What is read behind one token more.
 pub(crate) fn flow_step(
     alloc: Global,
@@ -437,10 +445,10 @@ pub(crate) fn flow_step(
         Reading::Inside(good, level, outer) => inside(
             alloc, known, line, good, level, outer, token,
         ),
-        Reading::Whole(_, _) => match token {
-            Token::LateColon => Err(YamlKind::Unsupported),
-            _ => Err(YamlKind::BadFlow),
-        },
+        Reading::Whole(value, _) => {
+            drop(value);
+            behind_whole(token)
+        }
     }
 }
 

@@ -1,5 +1,5 @@
 // The text of flow collections.
-ghost use Rattle.std.specs.Prelude.{◌≡◌, ◌<◌, true, false, length};
+ghost use Rattle.std.specs.Prelude.{◌≡◌, ◌<◌, true, false, length, drop, slice_index};
 ghost use Rattle.rvs_yaml_text.specs.Tokens as spec;
 ghost use Rattle.rvs_yaml.specs.Flow as flow_spec;
 ghost use Rattle.rvs_yaml.specs.TokenParts as parts;
@@ -10,13 +10,15 @@ ghost use Rattle.rvs_yaml.specs.Gives.{Gives};
 ghost use Rattle.rvs_yaml.specs.StackView.{all_known, known_view};
 ghost use Rattle.rvs_tree.specs.ValueView.{value_view};
 ghost use Rattle.rvs_yaml_text.specs.WordView.{bracket_view};
-ghost use Rattle.rvs_yaml.specs.FlowView.{flowing_view};
+ghost use Rattle.rvs_yaml_text.specs.TokenView.{token_view};
+ghost use Rattle.rvs_yaml.specs.FlowSteps as steps_spec;
+ghost use Rattle.rvs_yaml.specs.FlowView.{reading_view, flowing_view};
 
 use crate::flow::{flow_end, flow_step, new_reading};
 use crate::known::Known;
-use crate::reading::Flowing;
+use crate::reading::{Flowing, Reading};
 use rvs_tree::Value;
-use rvs_yaml_text::{Bracket, YamlKind, behind_first, closes, next_token, starts_with};
+use rvs_yaml_text::{Bracket, Token, YamlKind, behind_first, closes, next_token, starts_with};
 use std::alloc::Global;
 
 /// Whether nothing or a comment comes next.
@@ -24,6 +26,51 @@ pub(crate) fn is_flow_end(spaced: bool, bytes: &[u8]) -> bool
     ensures { result ≡ parts.is_flow_end spaced bytes.now }
 {
     bytes.is_empty() || (starts_with(b'#', bytes) && spaced)
+}
+
+/// What is read behind a space.
+fn behind_space<'a>(flowing: Flowing<'a>) -> Flowing<'a>
+    requires some { 0 < length flowing.rest.now }
+    requires ascii { slice_index flowing.rest.now 0 < 128 }
+    ensures { flowing_view result ≡ parts.flowing (reading_view flowing.entry.reading)
+        flowing.entry.closed true (drop 1 flowing.entry.rest.now) }
+{
+    let Flowing {
+        reading,
+        closed,
+        spaced: _,
+        rest,
+    } = flowing;
+    Flowing {
+        reading,
+        closed,
+        spaced: true,
+        rest: behind_first(rest),
+    }
+}
+
+/// What is read behind this token, with this text behind it.
+fn behind_token<'a>(
+    alloc: Global,
+    known: &Known<'_, '_>,
+    line: u64,
+    reading: Reading,
+    token: Token<'a>,
+    behind: &'a str,
+) -> Result<Flowing<'a>, YamlKind>
+    ensures { Gives flowing_view result (mapped
+        (λ r. parts.flowing r (spec.closes (token_view token.entry)) false behind.entry.now)
+        (steps_spec.flow_step known.now.poor (known_view known.now) line (reading_view reading)
+        (token_view token.entry))) }
+{
+    let closed = closes(&token);
+    let reading = flow_step(alloc, known, line, reading, token)?;
+    Ok(Flowing {
+        reading,
+        closed,
+        spaced: false,
+        rest: behind,
+    })
 }
 
 /// Reads one space or one token more.
@@ -37,29 +84,11 @@ fn next_flowing<'a>(
     ensures { Gives flowing_view result (parts.next_flowing known.now.poor (known_view known.now)
         line (flowing_view flowing.entry)) }
 {
-    let Flowing {
-        reading,
-        closed,
-        spaced: _,
-        rest,
-    } = flowing;
-    if starts_with(b' ', rest.as_bytes()) {
-        return Ok(Flowing {
-            reading,
-            closed,
-            spaced: true,
-            rest: behind_first(rest),
-        });
+    if starts_with(b' ', flowing.rest.as_bytes()) {
+        return Ok(behind_space(flowing));
     }
-    let (token, behind) = next_token(alloc, closed, rest)?;
-    let closed = closes(&token);
-    let reading = flow_step(alloc, known, line, reading, token)?;
-    Ok(Flowing {
-        reading,
-        closed,
-        spaced: false,
-        rest: behind,
-    })
+    let (token, behind) = next_token(alloc, flowing.closed, flowing.rest)?;
+    behind_token(alloc, known, line, flowing.reading, token, behind)
 }
 
 /// The value of a flow collection from behind its first bracket, or what stands for it.

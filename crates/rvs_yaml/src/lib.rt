@@ -13,6 +13,7 @@ mod entry;
 mod fill;
 mod flow;
 mod flow_places;
+mod flow_refusals;
 mod flow_text;
 mod front;
 mod height;

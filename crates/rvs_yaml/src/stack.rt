@@ -1,6 +1,7 @@
 // Reading words with a stack of open blocks.
-ghost use Rattle.std.specs.Prelude.{◌≡◌, ◌∷◌, ◌++◌, [], length, take, if◌then◌else◌, IfOk};
+ghost use Rattle.std.specs.Prelude.{◌≡◌, ◌∷◌, ◌++◌, [], length, take, if◌then◌else◌, IfOk, Ok};
 ghost use Rattle.rvs_yaml.specs.Block as block_spec;
+ghost use Rattle.rvs_yaml.specs.Entry.{written};
 ghost use Rattle.rvs_yaml.specs.Stack as spec;
 ghost use Rattle.rvs_tree.specs.Value as value_spec;
 ghost use Rattle.rvs_tree.specs.Value.{has_key};
@@ -146,13 +147,61 @@ fn next_entry<'a>(
     ensures refused { FailsWith result (parts.next_entry (entries_view entries.entries.items)
         (key_view key) column (value_view value) (word_view word.entry)) }
 {
-    check_merge(&key, &value)?;
-    let (next, content) = key_at(column, &entries, &key, word)?;
+    match check_merge(&key, &value) {
+        Ok(()) => merged_entry(alloc, entries, key, column, value, word),
+        Err(kind) => {
+            drop(entries);
+            drop(key);
+            drop(value);
+            drop(word);
+            Err(kind)
+        },
+    }
+}
+
+/// The same, where the value can be merged if its key merges.
+fn merged_entry<'a>(
+    alloc: Global,
+    entries: EntryList,
+    key: Key,
+    column: usize,
+    value: Value,
+    word: Word<'a>,
+) -> Result<(Done, Content<'a>), YamlKind>
+    requires { block_spec.check_merge (key_view key) (value_view value) ≡ Ok tt }
+    ensures given { Gives done_content result (parts.next_entry (entries_view entries.entries.items)
+        (key_view key) column (value_view value) (word_view word.entry)) }
+    ensures refused { FailsWith result (parts.next_entry (entries_view entries.entries.items)
+        (key_view key) column (value_view value) (word_view word.entry)) }
+{
+    match key_at(column, &entries, &key, word) {
+        Ok((next, content)) => {
+            let done = with_entry(alloc, entries, key, value, next)?;
+            Ok((done, content))
+        }
+        Err(kind) => {
+            drop(entries);
+            drop(key);
+            drop(value);
+            Err(kind)
+        },
+    }
+}
+
+/// The members of a map with one entry more, and the key of the next.
+fn with_entry(
+    alloc: Global,
+    entries: EntryList,
+    key: Key,
+    value: Value,
+    next: Key,
+) -> Result<Done, AllocError>
+    ensures { IfOk result (λ d. done_view d ≡ spec.done_entries
+        (entries_view entries.entries.items ++ written (key_view key) (value_view value) ∷ [])
+        (key_view next)) }
+{
     let list = entries.with(alloc, entry_of(key, value))?;
-    Ok((
-        Done::Entries(Box::new(alloc, Pending { list, key: next })?),
-        content,
-    ))
+    Ok(Done::Entries(Box::new(alloc, Pending { list, key: next })?))
 }
 
 /// The members of a list with the value of the open one, and the word that is the next.

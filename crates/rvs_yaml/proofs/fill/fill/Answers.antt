@@ -1,5 +1,4 @@
 use Rattle.std.proofs.Common.{List, ◌∷◌, ◌∙◌, sym, ap, subst, length, take, Some, Ok}
-use Rattle.std.proofs.lemmas.Result.{err_from_is_err_and}
 use Rattle.rvs_yaml_text.specs.Tokens.{tokens_of}
 use Rattle.rvs_yaml_text.specs.WordView.{bracket_view}
 use Rattle.rvs_yaml.specs.Checks.{Checked, ◌>>=◌}
@@ -12,11 +11,10 @@ use Rattle.rvs_yaml.proofs.Giving.{fails_first}
 use Rattle.rvs_yaml.proofs.Outlined.{bind_assoc}
 use Rattle.rvs_yaml.specs.Reader.{kept}
 use Rattle.rvs_yaml.proofs.Segments.{anchored-push, befores-push, filled-all}
-use Rattle.rvs_tree.specs.ValueView.{value_view}
 use Rattle.rvs_yaml.proofs.fill.fill.Goals as goal
 
-pub returns-in_err-own : goal.returns-in_err-own
-returns-in_err-own c =
+pub returns : goal.returns
+returns c =
     let s = c.args.stack in
     let all = s.anchors.anchors.items in
     let top = c.in-Some.top in
@@ -27,17 +25,15 @@ returns-in_err-own c =
     subst (Rises (length all)) (ap befores c.in-Some.ensures.items ∙ befores-push rest top)
     s.rising in
     let split = ap (anchored all) c.in-Some.ensures.items ∙ anchored-push all rest top in
-    let p = err_from_is_err_and c.from_residual-in_err-own.result
-    c.from_residual-in_err-own.ensures.1 in
-    rw (p.1, p.2) (fails_first _ (flow_value (anchors_view all) top.head.line b ts)
+    fails_first _ (flow_value (anchors_view all) top.head.line b ts)
     (λ own. kept (with_own (open_at all top) own ∷ anchored (take top.block.before all) rest)) _
     (sym (ap (λ m. m >>= kept)
     (ap (filled (Some (b, ts))) split ∙ filled-all all top rest b ts risen)
     ∙ bind_assoc (flow_value (anchors_view all) top.head.line b ts) _ kept))
-    c.in_err-own.ensures)
+    c.in-Err.ensures
 
-pub invariant_of-result-2 : goal.invariant_of-result-2
-invariant_of-result-2 c =
+pub invariant_of-result-in-Ok : goal.invariant_of-result-in-Ok
+invariant_of-result-in-Ok c =
     let s = c.args.stack in
     let all = s.anchors.anchors.items in
     let top = c.in-Some.top in
@@ -46,12 +42,12 @@ invariant_of-result-2 c =
     subst (Rises (length all)) (ap befores c.in-Some.ensures.items ∙ befores-push rest top)
     s.rising in
     record {
-      rising = subst (Rises (length all)) (sym (ap befores c.in_ok-push.ensures.items
+      rising = subst (Rises (length all)) (sym (ap befores c.in_ok-push-in-Ok.ensures.items
           ∙ befores-push rest _)) risen;
     }
 
-pub returns : goal.returns
-returns c =
+pub returns-in-Ok : goal.returns-in-Ok
+returns-in-Ok c =
     let s = c.args.stack in
     let all = s.anchors.anchors.items in
     let top = c.in-Some.top in
@@ -66,7 +62,5 @@ returns c =
     ∙ filled-all all top rest b ts risen
     ∙ ap (λ m. m >>= λ own. let r : Checked (List Open) =
     Ok (with_own (open_at all top) own ∷ anchored (take top.block.before all) rest) in r)
-    c.in_ok-own.ensures
-    ∙ ap (λ v. Ok (with_own (open_at all top) v ∷ anchored (take top.block.before all) rest))
-    (sym (ap value_view c.in_ok-new.ensures.ok))
-    ∙ ap Ok (sym (ap (anchored all) c.in_ok-push.ensures.items ∙ anchored-push all rest _))
+    c.in-Ok.ensures
+    ∙ ap Ok (sym (ap (anchored all) c.in_ok-push-in-Ok.ensures.items ∙ anchored-push all rest _))

@@ -1,0 +1,100 @@
+// Why what comes next in a flow collection is refused.
+ghost use Rattle.std.specs.Prelude.{◌≡◌, Err, if◌then◌else◌};
+ghost use Rattle.rvs_yaml.specs.Flow as spec;
+ghost use Rattle.rvs_yaml.specs.FlowParts as parts;
+ghost use Rattle.rvs_yaml_text.specs.declared.kind.YamlKind.TheVariants.{BadScalar, BadFlow};
+ghost use Rattle.rvs_yaml.specs.Gives.{Agrees};
+ghost use Rattle.rvs_tree.specs.ValueView.{entries_view};
+ghost use Rattle.rvs_yaml_text.specs.KeyView.{key_view};
+ghost use Rattle.rvs_yaml.specs.FlowView.{place_view};
+
+use crate::reading::FlowState;
+use rvs_tree::EntryList;
+use rvs_yaml_text::{Key, YamlKind};
+
+/// Whether the key is new among these, or merges.
+pub(crate) fn is_new(list: &EntryList, key: &Key) -> bool
+    ensures { result ≡ parts.is_new (entries_view list.now.entries.items) (key_view key.now) }
+{
+    key.merges || !list.has_key(key.name.as_str())
+}
+
+/// Why a quoted scalar with a colon and then more text is refused.
+fn cut_key_fault(place: &FlowState, key: &Key) -> YamlKind
+    ensures { spec.with_cut_key (place_view place.now) (key_view key.now) ≡ Err result }
+{
+    match place {
+        FlowState::KeyPlace(list) => {
+            if is_new(list, key) {
+                YamlKind::BadFlow
+            } else {
+                YamlKind::DuplicateKey
+            }
+        }
+        FlowState::Member(_) | FlowState::EntryValue(_) => YamlKind::BadScalar,
+        _ => YamlKind::BadFlow,
+    }
+}
+
+/// Why a plain scalar that ends in a colon is refused, where this byte ends it.
+fn colon_scalar_fault(place: &FlowState, byte: u8) -> YamlKind
+    ensures { spec.with_colon_scalar (place_view place.now) byte ≡ Err result }
+{
+    match place {
+        FlowState::Member(_) => bad_unless(byte == b',' || byte == b']'),
+        FlowState::EntryValue(_) => bad_unless(byte == b',' || byte == b'}'),
+        _ => YamlKind::BadFlow,
+    }
+}
+
+/// A scalar's fault where what ends it is in its place.
+fn bad_unless(in_place: bool) -> YamlKind
+    ensures { result ≡ (if in_place then BadScalar else BadFlow) }
+{
+    if in_place {
+        YamlKind::BadScalar
+    } else {
+        YamlKind::BadFlow
+    }
+}
+
+/// The fault of what begins here, which is the scalar's where one could begin.
+fn start_fault(place: &FlowState, kind: YamlKind) -> YamlKind
+    ensures { spec.with_fault (place_view place.now) kind ≡ Err result }
+{
+    match place {
+        FlowState::BehindMember(_) | FlowState::BehindEntry(_) => YamlKind::BadFlow,
+        _ => kind,
+    }
+}
+
+/// Refuses what comes at this place, which is let go.
+pub(crate) fn refused(_place: FlowState, kind: YamlKind) -> Result<FlowState, YamlKind>
+    ensures { result ≡ Err kind }
+{
+    Err(kind)
+}
+
+/// Refuses what begins here, and lets the place go.
+pub(crate) fn start_refused(place: FlowState, kind: YamlKind) -> Result<FlowState, YamlKind>
+    ensures { Agrees place_view result (spec.with_fault (place_view place) kind) }
+{
+    let fault = start_fault(&place, kind);
+    refused(place, fault)
+}
+
+/// Refuses a quoted scalar with a colon and then more text, and lets the place go.
+pub(crate) fn cut_key_refused(place: FlowState, key: Key) -> Result<FlowState, YamlKind>
+    ensures { Agrees place_view result (spec.with_cut_key (place_view place) (key_view key)) }
+{
+    let fault = cut_key_fault(&place, &key);
+    refused(place, fault)
+}
+
+/// Refuses a plain scalar that ends in a colon, where this byte ends it, and lets the place go.
+pub(crate) fn colon_scalar_refused(place: FlowState, byte: u8) -> Result<FlowState, YamlKind>
+    ensures { Agrees place_view result (spec.with_colon_scalar (place_view place) byte) }
+{
+    let fault = colon_scalar_fault(&place, byte);
+    refused(place, fault)
+}
