@@ -12,6 +12,7 @@ mod memory_refusal;
 mod memory_run;
 mod memory_sink;
 mod number;
+mod release;
 mod sink;
 mod text;
 
@@ -25,5 +26,6 @@ pub use memory_host::{Files, MemoryHost};
 pub use memory_refusal::NoMemory;
 pub use memory_sink::MemorySink;
 pub use number::{decimal, hex_text, hex_word, signed32, unsigned32};
+pub use release::{beside, release};
 pub use sink::{Sink, put_all};
 pub use text::Text;

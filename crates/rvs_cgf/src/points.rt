@@ -7,8 +7,7 @@ ghost use Rattle.rvs_cgf.specs.PointView.{point_view};
 ghost use Rattle.rvs_cgf.specs.PointKeys.{mark, AreKeysOf};
 
 use crate::group::{Kind, Point};
-use crate::release::release;
-use rvs_base::{Items, NoMemory};
+use rvs_base::{Items, NoMemory, release};
 use std::alloc::{AllocError, Global};
 use std::collections::BTreeSet;
 

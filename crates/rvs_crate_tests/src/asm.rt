@@ -1,7 +1,7 @@
 // Assembler text, as the words of its image or as it is refused.
-use crate::release::release;
 use rvs_asm::{AsmKind, AsmRefusal, assemble};
 use rvs_asm_text::steps_of_header;
+use rvs_base::release;
 use rvs_insn::IsaSpec;
 use std::alloc::Global;
 use std::test::Fail;

@@ -1,5 +1,5 @@
 // Texts of cross points, each with its places or why it is refused.
-use crate::release::release;
+use rvs_base::release;
 use rvs_cross::{Cross, CrossRead, CrossRefusal, Place, in_order, parse_cross};
 use std::alloc::Global;
 use std::test::Fail;

@@ -1,5 +1,5 @@
 // Texts of expressions, as what they tell or why they are refused.
-use crate::release::release;
+use rvs_base::release;
 use rvs_expr::{Expr, ExprRefusal, NumName, parse_num, parse_reg};
 use rvs_expr_text::{Language, read_node};
 use std::alloc::Global;

@@ -1,7 +1,6 @@
 // Instructions that the reference machine executes.
-use crate::release::release;
 use crate::rows::words;
-use rvs_base::{Bytes, Items};
+use rvs_base::{Bytes, Items, release};
 use rvs_insn::IsaSpec;
 use rvs_machine::{Executed, Image, Machine, Trace};
 use std::alloc::Global;

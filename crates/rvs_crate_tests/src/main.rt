@@ -11,7 +11,6 @@ mod families;
 mod insn;
 mod log;
 mod machine;
-mod release;
 mod rows;
 mod tell;
 mod yaml;

@@ -12,10 +12,9 @@ use crate::cross::Place;
 use crate::cutting::trimmed;
 use crate::entries::ops;
 use crate::refusal::CrossRefusal;
-use crate::release::beside;
 use crate::variables::sets;
 use rvs_abstract::name_length;
-use rvs_base::{Items, Text};
+use rvs_base::{Items, Text, beside};
 use rvs_expr::{Expr, ExprKind, ExprRefusal, parse_reg};
 use std::alloc::Global;
 

@@ -13,7 +13,6 @@ mod lists;
 mod matching;
 mod parsing;
 mod refusal;
-mod release;
 mod solving;
 mod values;
 mod variables;

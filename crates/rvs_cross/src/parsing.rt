@@ -13,8 +13,8 @@ use crate::cutting::{parts, trimmed};
 use crate::entries::{first_unknown, has_class, lists_ops, lists_sets};
 use crate::lists::{Lists, split_lists};
 use crate::refusal::{CrossRead, CrossRefusal};
-use crate::release::{beside, release};
 use crate::variables::variables;
+use rvs_base::{beside, release};
 use std::alloc::{AllocError, Global};
 
 /// The entries of a list.

@@ -8,8 +8,7 @@ use crate::cross::{Assignment, Variable};
 use crate::cutting::parts;
 use crate::entries::assignment;
 use crate::refusal::CrossRefusal;
-use crate::release::{beside, release};
-use rvs_base::{Items, Text};
+use rvs_base::{Items, Text, beside, release};
 use std::alloc::{AllocError, Global};
 
 fn is_noted(variables: &[Text], name: &str) -> bool

@@ -1,7 +1,6 @@
 // Group files, as they are printed or refused.
-use crate::release::release;
 use crate::stage::{number, plain};
-use rvs_base::{Items, NoMemory, Text};
+use rvs_base::{Items, NoMemory, Text, release};
 use rvs_cgf::{CgfRefusal, Groups, normal_text, read_groups, refusal_text};
 use rvs_count::count_log;
 use rvs_insn::IsaSpec;

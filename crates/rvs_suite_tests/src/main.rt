@@ -4,7 +4,6 @@
 #![tactic(auto)]
 
 mod groups;
-mod release;
 mod runs;
 mod scenes;
 mod slow;

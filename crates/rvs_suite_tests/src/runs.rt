@@ -1,8 +1,7 @@
 // Runs over a host and sinks in memory. No clause says that a run has the memory that it wants, nor
 // how its lines are spelt.
-use crate::release::release;
 use crate::stage::{host_of, list};
-use rvs_base::{MemoryHost, MemorySink, Sink};
+use rvs_base::{MemoryHost, MemorySink, Sink, release};
 use rvs_suite::{Status, run_suite};
 use std::alloc::Global;
 use std::test::Fail;

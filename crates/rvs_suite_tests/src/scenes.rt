@@ -26,11 +26,10 @@
 //     hits LOG|TEXT               how many instructions a log has, and how often it hits each
 //                                 point of a group file
 use crate::groups;
-use crate::release::release;
 use crate::runs::{NO_FAULTS, fault, faulty, tell_on};
 use crate::slow::slow;
 use crate::stage::{first_word, host_of, number};
-use rvs_base::MemoryHost;
+use rvs_base::{MemoryHost, release};
 use std::alloc::Global;
 use std::mem;
 use std::test::Fail;

@@ -1,8 +1,7 @@
 // A run with an output that takes one byte at a time.
-use crate::release::release;
 use crate::runs::status_of;
 use crate::stage::host_of;
-use rvs_base::{Failed, Items, MemoryHost, MemorySink, Sink};
+use rvs_base::{Failed, Items, MemoryHost, MemorySink, Sink, release};
 use std::alloc::Global;
 use std::test::Fail;
 
