@@ -451,7 +451,8 @@ fn closed_top<'a>(
     top: Open<'a>,
     word: Word<'a>,
 ) -> Result<OpenBlocks<'a>, YamlKind>
-    requires rising { Rises (length anchors.anchors.items) (top.block.before ∷ befores blocks.items) }
+    requires rising { Rises (length anchors.anchors.items)
+        (top.block.before ∷ befores blocks.items) }
     requires above { word_spec.is_below (head_view top.head) (word_view word) ≡ false }
     ensures { Gives open_blocks result (spec.step (anchored anchors.entry.anchors.items
         (blocks.entry.items ++ top.entry ∷ [])) (word_view word.entry)) }

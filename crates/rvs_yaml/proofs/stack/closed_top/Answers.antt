@@ -22,5 +22,6 @@ returns-in-Ok-named c =
     omega (arith, c.len-known.ensures, c.args.anchors.anchors.ok.0) in
     gives_same _ _ _ _ (sym (ap (λ x. step x w) (anchored-push all rest top)
     ∙ step-own (value_view c.in-Ok.value) c.len-known.result all after top rest w same
-    (omega (arith, same, c.requires.rising.0)) c.requires.above c.in-Ok.ensures c.in-Ok-named.ensures))
+    (omega (arith, same, c.requires.rising.0)) c.requires.above c.in-Ok.ensures
+    c.in-Ok-named.ensures))
     c.settle.ensures
