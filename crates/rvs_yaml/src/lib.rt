@@ -19,6 +19,7 @@ mod front;
 mod height;
 mod known;
 mod line;
+mod next_entries;
 mod open;
 mod open_blocks;
 mod own;

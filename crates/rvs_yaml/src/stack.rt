@@ -1,7 +1,7 @@
 // Reading words with a stack of open blocks.
-ghost use Rattle.std.specs.Prelude.{◌≡◌, ◌∷◌, ◌++◌, [], length, take, if◌then◌else◌, IfOk, Ok};
+ghost use Rattle.std.specs.Prelude.{◌≡◌, ◌∷◌, ◌++◌, [], length, take, if◌then◌else◌, IfOk};
+ghost use Rattle.std.specs.Prelude.{false, Ok};
 ghost use Rattle.rvs_yaml.specs.Block as block_spec;
-ghost use Rattle.rvs_yaml.specs.Entry.{written};
 ghost use Rattle.rvs_yaml.specs.Stack as spec;
 ghost use Rattle.rvs_tree.specs.Value as value_spec;
 ghost use Rattle.rvs_tree.specs.Value.{has_key};
@@ -15,12 +15,14 @@ ghost use Rattle.rvs_tree.specs.ValueView.{value_view, values_view, entries_view
 ghost use Rattle.rvs_yaml_text.specs.KeyView.{key_view};
 ghost use Rattle.rvs_yaml_text.specs.WordView.{content_view, shape_view, word_view, head_view};
 ghost use Rattle.rvs_yaml_text.specs.Word.{opens_block};
+ghost use Rattle.rvs_yaml_text.specs.Word as word_spec;
 
 use crate::anchor_list::AnchorList;
 use crate::anchoring::{named, no_anchors};
 use crate::beginning::check_placed;
 use crate::entry::entry_of;
 use crate::known::Known;
+use crate::next_entries::next_entry;
 use crate::open::{Block, Done, Open};
 use crate::open_blocks::OpenBlocks;
 use crate::own::content_value;
@@ -104,7 +106,7 @@ fn check_new(entries: &EntryList, last: &Key, key: &Key) -> Result<(), YamlKind>
 }
 
 /// The key of a word that is an entry of the map at this column, and what is behind it.
-fn key_at<'a>(
+pub(crate) fn key_at<'a>(
     column: usize,
     entries: &EntryList,
     last: &Key,
@@ -130,78 +132,6 @@ fn key_at<'a>(
         Shape::Refused(kind) => Err(kind),
         _ => Err(YamlKind::BadIndent),
     }
-}
-
-/// The members of a map with the value of the open one, and the word that is the next. What can be
-/// refused is, before memory is taken.
-fn next_entry<'a>(
-    alloc: Global,
-    entries: EntryList,
-    key: Key,
-    column: usize,
-    value: Value,
-    word: Word<'a>,
-) -> Result<(Done, Content<'a>), YamlKind>
-    ensures given { Gives done_content result (parts.next_entry (entries_view entries.entries.items)
-        (key_view key) column (value_view value) (word_view word.entry)) }
-    ensures refused { FailsWith result (parts.next_entry (entries_view entries.entries.items)
-        (key_view key) column (value_view value) (word_view word.entry)) }
-{
-    match check_merge(&key, &value) {
-        Ok(()) => merged_entry(alloc, entries, key, column, value, word),
-        Err(kind) => {
-            drop(entries);
-            drop(key);
-            drop(value);
-            drop(word);
-            Err(kind)
-        },
-    }
-}
-
-/// The same, where the value can be merged if its key merges.
-fn merged_entry<'a>(
-    alloc: Global,
-    entries: EntryList,
-    key: Key,
-    column: usize,
-    value: Value,
-    word: Word<'a>,
-) -> Result<(Done, Content<'a>), YamlKind>
-    requires { block_spec.check_merge (key_view key) (value_view value) ≡ Ok tt }
-    ensures given { Gives done_content result (parts.next_entry (entries_view entries.entries.items)
-        (key_view key) column (value_view value) (word_view word.entry)) }
-    ensures refused { FailsWith result (parts.next_entry (entries_view entries.entries.items)
-        (key_view key) column (value_view value) (word_view word.entry)) }
-{
-    match key_at(column, &entries, &key, word) {
-        Ok((next, content)) => {
-            let done = with_entry(alloc, entries, key, value, next)?;
-            Ok((done, content))
-        }
-        Err(kind) => {
-            drop(entries);
-            drop(key);
-            drop(value);
-            Err(kind)
-        },
-    }
-}
-
-/// The members of a map with one entry more, and the key of the next.
-fn with_entry(
-    alloc: Global,
-    entries: EntryList,
-    key: Key,
-    value: Value,
-    next: Key,
-) -> Result<Done, AllocError>
-    ensures { IfOk result (λ d. done_view d ≡ spec.done_entries
-        (entries_view entries.entries.items ++ written (key_view key) (value_view value) ∷ [])
-        (key_view next)) }
-{
-    let list = entries.with(alloc, entry_of(key, value))?;
-    Ok(Done::Entries(Box::new(alloc, Pending { list, key: next })?))
 }
 
 /// The members of a list with the value of the open one, and the word that is the next.
@@ -281,9 +211,18 @@ fn put<'a>(
         (anchored (take block.before anchors.entry.anchors.items) blocks.entry.items)
         (head_view head.entry) (content_view content.entry)) }
 {
-    let own = own_of(alloc, &anchors, head.line, content)?;
-    blocks.push(Open { block, head, own })?;
-    Ok(OpenBlocks { blocks, anchors })
+    match own_of(alloc, &anchors, head.line, content) {
+        Ok(own) => {
+            blocks.push(Open { block, head, own })?;
+            Ok(OpenBlocks { blocks, anchors })
+        }
+        Err(kind) => {
+            drop(block);
+            drop(blocks);
+            drop(anchors);
+            Err(kind)
+        },
+    }
 }
 
 /// What the last word of a block is by itself, where something is behind it.
@@ -299,6 +238,7 @@ fn own_of<'a>(
         (content_view content.entry)) }
 {
     if matches!(content, Content::Nothing) {
+        drop(content);
         return Ok(None);
     }
     let known = Known {
@@ -469,7 +409,26 @@ pub(crate) fn step<'a>(
     ensures refused { FailsWith result
         (parts.placed (open_blocks stack.entry) (word_view word.entry)) }
 {
-    check_placed(&stack, &word)?;
+    match check_placed(&stack, &word) {
+        Ok(()) => placed_step(alloc, stack, word),
+        Err(kind) => {
+            drop(stack);
+            drop(word);
+            Err(kind)
+        },
+    }
+}
+
+/// Reads a word that may stand here.
+fn placed_step<'a>(
+    alloc: Global,
+    stack: OpenBlocks<'a>,
+    word: Word<'a>,
+) -> Result<OpenBlocks<'a>, YamlKind>
+    requires { parts.placed (open_blocks stack) (word_view word) ≡ Ok tt }
+    ensures { Gives open_blocks result
+        (spec.step (open_blocks stack.entry) (word_view word.entry)) }
+{
     let OpenBlocks {
         mut blocks,
         anchors,
@@ -481,9 +440,43 @@ pub(crate) fn step<'a>(
         blocks.push(top)?;
         return begin(alloc, blocks, anchors, word);
     }
+    closed_top(alloc, blocks, anchors, top, word)
+}
+
+/// Reads a word that isn't in the block on top of these.
+fn closed_top<'a>(
+    alloc: Global,
+    blocks: Vec<Open<'a>>,
+    anchors: AnchorList<'a>,
+    top: Open<'a>,
+    word: Word<'a>,
+) -> Result<OpenBlocks<'a>, YamlKind>
+    requires rising { Rises (length anchors.anchors.items)
+        (top.block.before ∷ befores blocks.items) }
+    requires above { word_spec.is_below (head_view top.head) (word_view word) ≡ false }
+    ensures { Gives open_blocks result (spec.step (anchored anchors.entry.anchors.items
+        (blocks.entry.items ++ top.entry ∷ [])) (word_view word.entry)) }
+{
     let Open { block, head, own } = top;
-    let value = own_value(alloc, &head, own)?;
+    let value = match own_value(alloc, &head, own) {
+        Ok(value) => value,
+        Err(_) => {
+            drop(word);
+            drop(block);
+            drop(anchors);
+            drop(blocks);
+            return Err(YamlKind::NoMemory);
+        },
+    };
     let known = anchors.anchors.len();
-    let anchors = named(alloc, anchors, known, head.anchor, &value)?;
-    settle(alloc, blocks, anchors, block, value, word)
+    match named(alloc, anchors, known, head.anchor, &value) {
+        Ok(anchors) => settle(alloc, blocks, anchors, block, value, word),
+        Err(_) => {
+            drop(word);
+            drop(block);
+            drop(value);
+            drop(blocks);
+            Err(YamlKind::NoMemory)
+        },
+    }
 }

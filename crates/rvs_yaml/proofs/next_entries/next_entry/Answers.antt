@@ -4,7 +4,7 @@ use Rattle.rvs_yaml_text.specs.KeyView.{key_view}
 use Rattle.rvs_yaml_text.specs.WordView.{word_view}
 use Rattle.rvs_yaml.proofs.Deciding.{keyed-not, failed}
 use Rattle.rvs_yaml.proofs.Giving.{fails_with}
-use Rattle.rvs_yaml.proofs.stack.next_entry.Goals as goal
+use Rattle.rvs_yaml.proofs.next_entries.next_entry.Goals as goal
 
 pub returns-in-Err : goal.returns-in-Err
 returns-in-Err c =

@@ -3,7 +3,7 @@ use Rattle.rvs_tree.specs.ValueView.{entries_view}
 use Rattle.rvs_yaml.specs.Stack.{done_entries}
 use Rattle.rvs_yaml.specs.declared.reading.Pending.{Pending}
 use Rattle.rvs_yaml_text.specs.KeyView.{key_view}
-use Rattle.rvs_yaml.proofs.stack.with_entry.Goals as goal
+use Rattle.rvs_yaml.proofs.next_entries.with_entry.Goals as goal
 
 pub returns : goal.returns
 returns c =

@@ -7,7 +7,7 @@ use Rattle.rvs_yaml_text.specs.Word.{Content}
 use Rattle.rvs_yaml_text.specs.WordView.{content_view, word_view}
 use Rattle.rvs_yaml.proofs.Deciding.{keyed-as, gave, failed}
 use Rattle.rvs_yaml.proofs.Giving.{fails_with}
-use Rattle.rvs_yaml.proofs.stack.merged_entry.Goals as goal
+use Rattle.rvs_yaml.proofs.next_entries.merged_entry.Goals as goal
 
 pub returns-in-Err : goal.returns-in-Err
 returns-in-Err c =
