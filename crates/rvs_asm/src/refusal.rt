@@ -9,8 +9,8 @@ use rvs_base::{NoMemory, Text};
 /// Why no image stands to a text.
 #[derive(Drop)]
 pub enum AsmKind {
-    /// Outside a comment stands a byte that may not, a comma has nothing at a side, a label can't be
-    /// a symbol's name, or the section of the instruction is data.
+    /// Outside a comment stands a byte that may not, a comma has nothing at a side, a label can't
+    /// be a symbol's name, or the section of the instruction is data.
     BadLine,
     /// The first word names no instruction and no directive.
     UnknownInstruction,

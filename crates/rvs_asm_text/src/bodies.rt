@@ -54,8 +54,8 @@ pub struct Line<'t> {
 /// What is wrong with a line by itself.
 #[derive(Drop, Clone, Copy)]
 pub enum LineFault {
-    /// Outside a comment stands a byte that may not, a comma has nothing at a side, a label can't be
-    /// a symbol's name, or the section of the instruction is data.
+    /// Outside a comment stands a byte that may not, a comma has nothing at a side, a label can't
+    /// be a symbol's name, or the section of the instruction is data.
     BadLine,
     /// The first word names no instruction and no directive.
     UnknownInstruction,

@@ -32,8 +32,8 @@ pub record HitsAlone (l : Label) (p : Point) (e : Executed) (more : List Execute
   pub hit : hits l.ops p insn.op (facts_of insn e.v1 e.v2) ≡ true
   pub left : outcome ≡ outcome_at insn e
 
--- neighbouring instructions match the cross point, and the outcome is what the first and the last of
--- them wrote to their registers
+-- neighbouring instructions match the cross point, and the outcome is what the first and the last
+-- of them wrote to their registers
 pub record HitsTogether (ps : List Place) (e : Executed) (more : List Executed)
     (outcome : ℕ × ℕ) : Type 0 where
   pub insns : List Fields

@@ -1,4 +1,5 @@
-use Rattle.std.proofs.Common.{rules, w32, FitsSigned, ◌≡◌, List, [], ◌∷◌, ◌++◌, Some, ap, inl, inr, ◌∙◌}
+use Rattle.std.proofs.Common.{rules, w32, FitsSigned, ◌≡◌, List, [], ◌∷◌, ◌++◌, Some, ap, ◌∙◌}
+use Rattle.std.proofs.Common.{inl, inr}
 use Rattle.std.proofs.lemmas.Int.{to_z-of_z}
 use Rattle.rvs_base.specs.Host.{Files, device_words, with_left, run_over}
 use Rattle.rvs_base.specs.declared.host.DeviceRun.{DeviceRun}
