@@ -14,6 +14,7 @@ use Rattle.rvs_machine.specs.Machine.{Setup, started, signature_of}
 use Rattle.rvs_machine.specs.Run.{Outcome, run_of}
 use Rattle.rvs_machine.specs.declared.reading.ImageRefusal.{ImageRefusal}
 use Rattle.rvs_machine.specs.declared.event.End.{End}
+use Rattle.rvs_machine.specs.declared.event.Executed.{Executed}
 use Rattle.rvs_machine.specs.declared.event.End.TheVariants as ended
 use Rattle.rvs_asm_text.specs.Header.{header_steps}
 use Rattle.rvs_asm.specs.Answer.{answer}
@@ -94,6 +95,11 @@ outcome_end name limit setup o = run_end name limit (left_by setup o) o.end
 unfoldable pub run_found : List ℕ → ℕ → Isa → ImageValue → Result Run (List ℕ)
 run_found name limit isa image = outcome_end name limit (started image isa).setup
     (run_of (started image isa).setup limit (started image isa).state)
+
+-- a run's words with its trace
+abbrev pub with_trace : List Executed → Result (List ℕ) Stop → Result Run Stop
+with_trace trace (Ok words) = Ok (record { words = words; trace = trace })
+with_trace trace (Err stop) = Err stop
 
 -- the run of a test file
 abbrev pub test_found : Option ℕ → Isa → List ℕ → List ℕ → Result Run (List ℕ)

@@ -1,5 +1,5 @@
 // The command `coverage`.
-ghost use Rattle.std.specs.Prelude.{◌≡◌, [], ℕ, List, IfOk};
+ghost use Rattle.std.specs.Prelude.{◌≡◌, ◌≤◌, ◌^◌, [], ℕ, List, IfOk};
 ghost use Rattle.rvs_base.specs.Host.{HostState};
 ghost use Rattle.rvs_base.specs.Sink.{SinkState};
 ghost use Rattle.rvs_plan.specs.World.{world};
@@ -102,7 +102,7 @@ fn count_with<H: Host>(
     log: &str,
 ) -> Result<Text, Stop>
     ensures { (out : SinkState) (groups : List Label) (windows : List Span)
-        → counter.old ≡ state_of groups windows [] 0
+        → counter.old ≡ state_of groups windows [] 0 → counter.new.fed ≤ 2 ^ 40
         → Meets
         (Asks log.now (λ found. Ends (report_found (groups_view groups) windows log.now found)))
         (world (H.state host.old) out) (world (H.state host.new) out) result }

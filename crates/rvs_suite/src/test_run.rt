@@ -1,8 +1,11 @@
 // The run of a test's image.
-ghost use Rattle.std.specs.Prelude.{◌≡◌, ◌++◌, ℕ, codes, IfOk};
+ghost use Rattle.std.specs.Prelude.{◌≡◌, ◌++◌, [], ℕ, codes, IfOk};
+ghost use Rattle.rvs_insn.specs.Isa.{Isa};
+ghost use Rattle.rvs_machine.specs.Image.{ImageValue};
+ghost use Rattle.rvs_machine.specs.Machine.{started};
 ghost use Rattle.rvs_base.specs.Number.{hex_word_of};
 ghost use Rattle.rvs_suite.specs.TestTexts.{trap_text, trap_detail, steps_text};
-ghost use Rattle.rvs_suite.specs.TestRun.{run_found, Accepts};
+ghost use Rattle.rvs_suite.specs.TestRun.{run_found, with_trace, Accepts};
 
 use rvs_base::{Items, NoMemory, Text, hex_text};
 use rvs_insn::IsaSpec;
@@ -36,10 +39,26 @@ pub fn run_image(
 {
     let mut machine = Machine::new(image, spec);
     let mut trace = Items::new(alloc);
-    match machine.run(limit, &mut trace) {
+    let words = run_to_end(alloc, name, limit, &mut machine, &mut trace)?;
+    Ok(Run { words, trace })
+}
+
+/// Runs a machine that has executed nothing until it halts, and gives the words of its signature.
+fn run_to_end(
+    alloc: Global,
+    name: &str,
+    limit: u64,
+    machine: &mut Machine,
+    trace: &mut Trace,
+) -> Result<Items<u32>, Stop>
+    ensures { (spec : Isa) (image : ImageValue) → machine.old ≡ started image spec
+        → trace.old ≡ [] → Accepts (run_found name.now limit spec image)
+        (with_trace trace.new result) }
+{
+    match machine.run(limit, trace) {
         End::Halted => {
             let words = machine.signature(alloc)?;
-            Ok(Run { words, trace })
+            Ok(words)
         },
         End::Trapped(trap) => Err(Stop::Refused(trap_text(alloc, name, trap)?)),
         End::StepLimit => Err(Stop::Refused(steps_text(alloc, name, limit)?)),

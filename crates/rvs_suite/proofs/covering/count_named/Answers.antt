@@ -1,8 +1,8 @@
-use Rattle.std.proofs.Common.{◌≡◌, List, [], ap, ◌∙◌}
+use Rattle.std.proofs.Common.{◌≡◌, ◌≤◌, ◌^◌, List, [], subst, ap, ◌∙◌}
 use Rattle.std.proofs.lemmas.Result.{err_from_is_err_and}
 use Rattle.rvs_plan.specs.World.{world}
 use Rattle.rvs_plan.proofs.Sequence.{Meets-no_memory}
-use Rattle.rvs_count.specs.State.{state_of}
+use Rattle.rvs_count.specs.State.{CountState, state_of}
 use Rattle.rvs_count.specs.declared.window.Window.{Window as Span}
 use Rattle.rvs_suite.proofs.covering.count_named.Goals as goal
 
@@ -27,3 +27,4 @@ returns g c = λ out.
     let begun : c.in_ok-counter.counter ≡ state_of groups windows [] 0 =
     c.in_ok-counter.ensures ∙ ap (λ (w : List Span). state_of groups w [] 0) same in
     c.count_with.ensures out groups windows begun
+    (subst (λ (s : CountState). s.fed ≤ 2 ^ 40) c.counter.view_is c.counter.invariant.1)

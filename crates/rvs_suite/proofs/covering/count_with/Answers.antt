@@ -1,6 +1,6 @@
 use Rattle.std.proofs.Common.{◌≡◌, ◌≤◌, ◌<◌, ℕ, ◌+◌, ◌^◌, Bool, true, false, nat_lt, List, [], ◌++◌}
 use Rattle.std.proofs.Common.{length, Option, Some, Result, Ok, Err, if◌then◌else◌, refl, sym, ap}
-use Rattle.std.proofs.Common.{subst, ◌∙◌, arith}
+use Rattle.std.proofs.Common.{◌∙◌, arith}
 use Rattle.std.proofs.lemmas.Bool.{lt-ltb, le-ltb, cond-true, cond-false}
 use Rattle.std.proofs.lemmas.Result.{err_from_is_err_and}
 use Rattle.rvs_base.specs.Host.{Files, Tells}
@@ -22,18 +22,18 @@ use Rattle.rvs_suite.specs.Coverage.{log_limit, report_on, report_found}
 use Rattle.rvs_suite.proofs.covering.count_with.Goals as goal
 
 pub returns-in_err-name : goal.returns-in_err-name
-returns-in_err-name g c = λ out groups windows begun.
+returns-in_err-name g c = λ out groups windows begun few.
     let p = err_from_is_err_and c.from_residual.result c.from_residual.ensures.1 in
     rw (p.1, p.2) (Meets-no_memory _ (world (g.H.Host.state c.args.host.now) out))
 
 pub returns-in_err-report_at_end-in-Ok : goal.returns-in_err-report_at_end-in-Ok
-returns-in_err-report_at_end-in-Ok g c = λ out groups windows begun.
+returns-in_err-report_at_end-in-Ok g c = λ out groups windows begun few.
     let p = err_from_is_err_and c.from_residual-in_err-report_at_end-in-Ok.result
     c.from_residual-in_err-report_at_end-in-Ok.ensures.1 in
     rw (p.1, p.2) (reads-no_memory out _ c.in-Ok.ensures.reads_only c.in-Ok.ensures.unfaulted)
 
 pub returns-in_err-too_long-in-Err-TooLong : goal.returns-in_err-too_long-in-Err-TooLong
-returns-in_err-too_long-in-Err-TooLong g c = λ out groups windows begun.
+returns-in_err-too_long-in-Err-TooLong g c = λ out groups windows begun few.
     let p = err_from_is_err_and c.from_residual-in_err-too_long-in-Err-TooLong.result
     c.from_residual-in_err-too_long-in-Err-TooLong.ensures.1 in
     rw (p.1, p.2) (reads-no_memory out _ c.in-Err-TooLong.ensures.reads_only
@@ -55,7 +55,7 @@ found groups windows name bytes text short is =
     ∙ ap Ok (sym is)
 
 pub returns-in_ok-report_at_end-in-Ok : goal.returns-in_ok-report_at_end-in-Ok
-returns-in_ok-report_at_end-in-Ok g c = λ out groups windows begun.
+returns-in_ok-report_at_end-in-Ok g c = λ out groups windows begun few.
     let name = c.args.log.now in
     let feeds = c.in-Ok.ensures.whole in
     let fed = feeds.fed.state groups windows [] 0 begun in
@@ -64,15 +64,14 @@ returns-in_ok-report_at_end-in-Ok g c = λ out groups windows begun.
     let at_end = c.in_ok-report_at_end-in-Ok.ensures.state groups windows feeds.bytes
     (0 + length feeds.bytes) fed in
     let within = short groups windows feeds.bytes (ended feeds.bytes) c.report_at_end.new.counter
-    at_end
-    (subst (λ (s : CountState). s.fed ≤ 2 ^ 40) c.counter.view_is c.counter.invariant.1) in
+    at_end few in
     asks-accepted out name (report_found (groups_view groups) windows name) feeds.bytes
     c.in_ok-report_at_end-in-Ok.field-0 c.in-Ok.ensures.reads_only feeds.whole
     (found groups windows name feeds.bytes c.in_ok-report_at_end-in-Ok.field-0 within text)
     c.in-Ok.ensures.unfaulted
 
 pub returns-in-Err-NoFile : goal.returns-in-Err-NoFile
-returns-in-Err-NoFile g c = λ out groups windows begun.
+returns-in-Err-NoFile g c = λ out groups windows begun few.
     let name = c.args.log.now in
     rw c.in_ok-name.ensures (asks-absent out name
     (report_found (groups_view groups) windows name)
@@ -80,7 +79,7 @@ returns-in-Err-NoFile g c = λ out groups windows begun.
     (rw c.in-Err-NoFile.field-0-is at c.in-Err-NoFile.ensures.cause).0 refl)
 
 pub returns-in-Err-Failed : goal.returns-in-Err-Failed
-returns-in-Err-Failed g c = λ out groups windows begun.
+returns-in-Err-Failed g c = λ out groups windows begun few.
     let name = c.args.log.now in
     rw c.in_ok-name.ensures (asks-failed out name
     (report_found (groups_view groups) windows name)
@@ -99,7 +98,7 @@ longer : (c : CountState) (bytes : List ℕ) → c.fed ≡ 0 → 2 ^ 40 < c.fed 
 longer c bytes new long = omega arith
 
 pub returns-in_ok-too_long-in-Err-TooLong : goal.returns-in_ok-too_long-in-Err-TooLong
-returns-in_ok-too_long-in-Err-TooLong g c = λ out groups windows begun.
+returns-in_ok-too_long-in-Err-TooLong g c = λ out groups windows begun few.
     let name = c.args.log.now in
     let cause = rw c.in-Err-TooLong.field-0-is at c.in-Err-TooLong.ensures.cause in
     let text : c.in_ok-too_long-in-Err-TooLong.field-0 ≡ too_long_text name log_limit =
