@@ -68,6 +68,7 @@ causes-promise {call} r =
     record {
       usage = usage r.ran;
       by_words = no_command r.ran;
+      by_words_kept = r.ran.performs.unchanged;
       host_fault = (answers r.ran).host_fault;
       sink_fault = (answers r.ran).sink_fault;
       unfaulted = (answers r.ran).unfaulted;
@@ -145,5 +146,4 @@ run-promise r files program isa names device work t is =
     judges files program isa names device work (record { ran = r.ran; told = t; asks = is })
 
 pub demo-promise : {call : Call} → RanCall call → demonstrating.Promise call
-demo-promise r files count t is =
-    demonstrates files count (record { ran = r.ran; told = t; asks = is })
+demo-promise r count is = demonstrates count r.ran is

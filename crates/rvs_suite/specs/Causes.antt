@@ -26,6 +26,7 @@ pub record Promise (call : Call) : Type 0 where
   pub usage : call.status ≡ answer.Usage → Asks call Unknown
   pub by_words : Asks call Unknown → (call.status ≡ answer.Usage) ⊎ (call.status ≡ answer.NoMemory)
       ⊎ (call.status ≡ answer.SinkFault)
+  pub by_words_kept : Asks call Unknown → world_of call.new ≡ world_of call.old
   -- a count rose where a host that doesn't tell fails, or a sink
   pub host_fault : call.status ≡ answer.HostFault → is_told call.old.host ≡ false → HostRose call
   pub sink_fault : call.status ≡ answer.SinkFault
