@@ -26,7 +26,7 @@ use Rattle.rvs_insn.specs.Isa.{Isa}
 use Rattle.rvs_cgf.specs.Groups.{Label}
 use Rattle.rvs_test.specs.Made.{cases_of, text_of_label}
 use Rattle.rvs_test_text.specs.TestText.{step_limit}
-use Rattle.rvs_suite.specs.Coverage.{print_report}
+use Rattle.rvs_suite.specs.Printing.{print_text}
 use Rattle.rvs_suite.specs.GroupFiles.{group_inputs, inputs_in}
 use Rattle.rvs_suite.specs.GenerateTexts.{listing}
 use Rattle.rvs_suite.specs.Generate.{path_of, writes_text, writes_test, writes_tests, written_tests}
@@ -296,7 +296,7 @@ spares-generate : (files : Files) (other isa : List ℕ) (names : List (List ℕ
     → SparesOver files other (generate isa names work)
 spares-generate files other isa names work apart = spares-found files other (group_inputs isa names)
     (generates work) (inputs_in files isa names) (finds-inputs files isa names) (λ inputs given.
-    Spares-then other (written_tests work inputs.isa inputs.groups) print_report (Spares-then other
+    Spares-then other (written_tests work inputs.isa inputs.groups) print_text (Spares-then other
     (writes_tests work inputs.isa inputs.groups) (λ _. gives (listing inputs.isa inputs.groups))
     (spares-tests other work inputs.isa inputs.groups
     (λ test there. apart inputs test given there)) (λ _. tt)) (λ text. tt))
