@@ -18,7 +18,8 @@ use Rattle.rvs_suite.specs.Call.{Call, Asks}
 use Rattle.rvs_suite.specs.Answered.{HasLeft, Answered}
 use Rattle.rvs_suite.specs.GroupFiles.{Inputs, and_then, inputs_in}
 use Rattle.rvs_suite.specs.Coverage.{log_limit, report_on, report_found, report_in, reported}
-use Rattle.rvs_suite.specs.Coverage.{print_report, coverage}
+use Rattle.rvs_suite.specs.Printing.{print_text}
+use Rattle.rvs_suite.specs.Coverage.{coverage}
 use Rattle.rvs_suite.specs.Covering as covering
 use Rattle.rvs_words.specs.declared.command.Command.TheVariants.{Coverage}
 use Rattle.rvs_suite.proofs.Answered.{Works, RunsOn, answered}
@@ -32,7 +33,7 @@ abbrev works : (files : Files) (isa : List ℕ) (names : List (List ℕ)) (log :
     (report_in files isa names log windows)
 works files isa names log windows = record {
   inputs = reported isa names log windows;
-  deeds = print_report;
+  deeds = print_text;
   plan = refl;
   finds = finds-reported files isa names log windows;
   does = λ report. refl;
@@ -41,7 +42,7 @@ works files isa names log windows = record {
 writes-coverage : (isa : List ℕ) (names : List (List ℕ)) (log : List ℕ) (windows : List Window)
     → WritesNone (coverage isa names log windows)
 writes-coverage isa names log windows = WritesNone-then (reported isa names log windows)
-    print_report
+    print_text
     (reads-none (reported isa names log windows) (reads-reported isa names log windows))
     (λ report. tt)
 

@@ -1,21 +1,25 @@
 -- What every call of `demo` promises.
-use Rattle.std.proofs.Common.{◌≡◌, ◌≢◌, ℕ, Result, Ok, Err, refl, ap}
-use Rattle.rvs_base.specs.Host.{Files}
+use Rattle.std.proofs.Common.{◌≡◌, ◌≢◌, ◌⊎◌, inl, inr, ℕ, false, List, [], Option, Some, None}
+use Rattle.std.proofs.Common.{Result, Ok, Err, refl, sym, ap, subst, arith}
+use Rattle.rvs_base.specs.Host.{HostState, Files}
 use Rattle.rvs_base.specs.Sink.{appended}
-use Rattle.rvs_plan.specs.World.{Contents}
+use Rattle.rvs_plan.specs.World.{world, Contents}
 use Rattle.rvs_plan.specs.Plan.{gives}
 use Rattle.rvs_plan.specs.declared.stop.Stop.{Stop}
 use Rattle.rvs_plan.specs.declared.stop.Stop.TheVariants as why
-use Rattle.rvs_plan.specs.declared.status.Status.TheVariants.{Refused}
+use Rattle.rvs_plan.specs.declared.status.Status.TheVariants.{Refused, HostFault}
 use Rattle.rvs_demo.specs.Demo.{demo_text}
 use Rattle.rvs_demo.proofs.Whole.{is_whole}
-use Rattle.rvs_suite.specs.Call.{Call}
+use Rattle.rvs_suite.specs.Call.{Call, world_of, Asks, HostRose}
 use Rattle.rvs_suite.specs.Answered.{Answered, HasRefused}
 use Rattle.rvs_suite.specs.Demonstrate.{demonstrate}
 use Rattle.rvs_suite.specs.Demonstrating.{Demonstrates}
+use Rattle.rvs_suite.specs.Plans.{Performs}
+use Rattle.rvs_words.specs.Commands.{command_of}
+use Rattle.rvs_words.specs.declared.command.Command.{Command}
 use Rattle.rvs_words.specs.declared.command.Command.TheVariants.{Demo}
 use Rattle.rvs_suite.proofs.Answered.{Works, RunsOn, answered}
-use Rattle.rvs_suite.proofs.Keeping.{keeps}
+use Rattle.rvs_suite.proofs.Running.{Ran, Performs-demo}
 
 -- it has nothing to read
 abbrev nothing_read : Result (Unit {0}) Stop
@@ -41,16 +45,75 @@ never-refused {call} Left a is =
     let r = a.refused is in
     let no : Ok tt ≡ Err (why.Refused r.text) = r.refused in cc
 
-pub demonstrates : {call : Call} (files : Files) (count : ℕ) → RunsOn call files (Demo count)
-    → Demonstrates call count
-demonstrates {call} files count r =
-    let a = answered (HasPrinted call count) r (works files count)
-    (λ given left. ap (λ (c : Contents). c.out) left) in
+-- a host that tells all that it holds, which is nothing
+abbrev bare : HostState
+bare = record {
+  is_open = false;
+  files = Some (λ name. None);
+  rest = Some [];
+  runs = Some [];
+  read_faults = 0;
+  write_faults = 0;
+  run_faults = 0;
+}
+
+-- the same call beside that host
+abbrev beside_bare : Call → Call
+beside_bare call = record {
+  words = call.words;
+  old = record { host = bare; out = call.old.out; err = call.old.err };
+  new = record { host = bare; out = call.new.out; err = call.new.err };
+  status = call.status;
+}
+
+runs-bare : {call : Call} (count : ℕ) → Ran (command_of call.words) (world_of call.old)
+    (world_of call.new) call.old.err call.new.err call.status → Asks call (Demo count)
+    → RunsOn (beside_bare call) (λ name. None) (Demo count)
+runs-bare {call} count r is =
+    let a = r.performs.apart count is in
+    let performs = Performs-demo count bare call.old.out call.new.out r.result a.beside in
     record {
-      done = λ is. (a.done is).left;
+      ran = record {
+        result = r.result;
+        performs = subst (λ (c : Command). Performs c (world bare call.old.out)
+            (world bare call.new.out) r.result) (sym is) performs;
+        concludes = r.concludes;
+      };
+      told = record { files = refl; rest = refl; runs = refl };
+      asks = is;
+    }
+
+-- no count of that host rises
+bare-stays : HostRose (beside_bare _) → ⊥
+bare-stays rose = elim rose [
+  | inl reads ↦ omega arith
+  | inr more ↦ elim more [
+    | inl writes ↦ omega arith
+    | inr devices ↦ omega arith
+  ]
+]
+
+fails-bare : {call : Call} (count : ℕ)
+    → Answered (beside_bare call) nothing_read (HasPrinted (beside_bare call) count)
+    → call.status ≢ HostFault
+fails-bare {call} count a is = elim (a.absent is) [
+  | inl missed ↦ (let no : Ok tt ≡ Err (why.NoFile missed.name) = missed.absent in cc)
+  | inr rose ↦ bare-stays rose
+]
+
+pub demonstrates : {call : Call} (count : ℕ) → Ran (command_of call.words) (world_of call.old)
+    (world_of call.new) call.old.err call.new.err call.status → Asks call (Demo count)
+    → Demonstrates call count
+demonstrates {call} count r is =
+    let a = answered (HasPrinted (beside_bare call) count) (runs-bare {call = call} count r is)
+    (works (λ name. None) count) (λ given left. ap (λ (c : Contents). c.out) left) in
+    record {
+      done = λ done. (a.done done).left;
       whole = λ low. is_whole count low;
-      by_words = λ none. a.by_inputs tt refl none;
+      by_words = λ none. a.by_inputs tt refl
+          (record { host = bare-stays; output = none.output; errors = none.errors });
       no_verdict = a.no_verdict;
-      no_refusal = never-refused (HasPrinted call count) a;
-      files_kept = keeps r.ran files (Demo count) r.told r.asks tt;
+      no_refusal = never-refused (HasPrinted (beside_bare call) count) a;
+      host_kept = (r.performs.apart count is).kept;
+      no_host_fault = fails-bare {call = call} count a;
     }

@@ -18,7 +18,7 @@ use Rattle.rvs_test.specs.Made.{cases_of, text_of_label}
 use Rattle.rvs_test.specs.Claimed.{TestRuns}
 use Rattle.rvs_suite.specs.Answered.{HasLeft, Answered}
 use Rattle.rvs_suite.specs.Call.{Call, Asks}
-use Rattle.rvs_suite.specs.Coverage.{print_report}
+use Rattle.rvs_suite.specs.Printing.{print_text}
 use Rattle.rvs_suite.specs.GroupFiles.{Inputs, inputs_in, group_inputs}
 use Rattle.rvs_suite.specs.GenerateTexts.{listing}
 use Rattle.rvs_suite.specs.Generate.{path_of, writes_text, writes_test, writes_tests, written_tests}
@@ -57,7 +57,7 @@ deeds-written work isa ls = deeds-then tt (listing isa ls) (writes_tests work is
 
 deeds-generates : (work : List ℕ) (inputs : Inputs) → Deeds Done (generates work inputs)
 deeds-generates work inputs = deeds-then (listing inputs.isa inputs.groups) Done
-    (written_tests work inputs.isa inputs.groups) print_report
+    (written_tests work inputs.isa inputs.groups) print_text
     (deeds-written work inputs.isa inputs.groups) refl
 
 abbrev with_files : Contents → Option Files → Contents
@@ -94,9 +94,9 @@ left-generates : (work : List ℕ) (inputs : Inputs) (c : Contents)
 left-generates work inputs c =
     let isa = inputs.isa in
     let ls = inputs.groups in
-    left-then (listing isa ls) (written_tests work isa ls) print_report c
+    left-then (listing isa ls) (written_tests work isa ls) print_text c
     (deeds-written work isa ls)
-    ∙ ap (left (print_report (listing isa ls))) (left-then tt (writes_tests work isa ls)
+    ∙ ap (left (print_text (listing isa ls))) (left-then tt (writes_tests work isa ls)
     (λ _. gives (listing isa ls)) c (deeds-tests work isa ls) ∙ left-tests work isa ls c)
 
 -- ---- one point

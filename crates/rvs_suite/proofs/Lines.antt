@@ -1,7 +1,12 @@
 -- The line on the sink for errors, by the status.
 use Rattle.std.proofs.Common.{◌≡◌, ◌≢◌, ◌⊎◌, inl, inr, ℕ, List, [], Result, Ok, Err, refl, sym, ap}
-use Rattle.std.proofs.Common.{codes, ◌∙◌}
+use Rattle.std.proofs.Common.{codes, ◌∙◌, subst, false}
+use Rattle.std.specs.Prelude.{IfErr}
+use Rattle.rvs_base.specs.Faults.{Rose}
+use Rattle.rvs_base.specs.Host.{is_told}
 use Rattle.rvs_base.specs.Sink.{SinkState, appended}
+use Rattle.rvs_plan.specs.World.{World}
+use Rattle.rvs_plan.specs.Meets.{HasCause}
 use Rattle.rvs_plan.specs.Account.{status_of, finish_status, line_of, fault_line, Concludes}
 use Rattle.rvs_plan.specs.declared.stop.Stop.{Stop}
 use Rattle.rvs_plan.specs.declared.stop.Stop.TheVariants as why
@@ -11,19 +16,26 @@ use Rattle.rvs_plan.specs.declared.status.Finish.{Finish}
 use Rattle.rvs_plan.specs.declared.status.Finish.TheVariants.{Done, NotPassed}
 
 -- a stop of this status, whose line was put
-pub record Stopped (wanted : Status) (err err' : SinkState) : Type 0 where
+pub record Stopped (wanted : Status) (err err' : SinkState) (result : Result Finish Stop) : Type
+    0 where
   pub reason : Stop
+  pub given : result ≡ Err reason
   pub is : status_of reason ≡ wanted
   pub line : err'.bytes ≡ appended err.bytes (line_of reason)
 
 pub stopped : (status wanted : Status) (err err' : SinkState) (result : Result Finish Stop)
     → Concludes result status err err' → status ≡ wanted → wanted ≢ answer.Done
-    → wanted ≢ answer.NotPassed → wanted ≢ answer.SinkFault → Stopped wanted err err'
+    → wanted ≢ answer.NotPassed → wanted ≢ answer.SinkFault → Stopped wanted err err' result
 stopped status wanted err err' (Ok Done) c is done not_passed sink = absurd (done (sym is ∙ c.0))
 stopped status wanted err err' (Ok NotPassed) c is done not_passed sink =
     absurd (not_passed (sym is ∙ c.0))
 stopped status wanted err err' (Err reason) c is done not_passed sink = elim c.outcome [
-  | inl whole ↦ record { reason = reason; is = sym whole.0 ∙ is; line = whole.1 }
+  | inl whole ↦ record {
+    reason = reason;
+    given = refl;
+    is = sym whole.0 ∙ is;
+    line = whole.1;
+  }
   | inr lost ↦ absurd (sink (sym is ∙ lost.0))
 ]
 
@@ -59,23 +71,40 @@ refused-line (why.CannotRun test) e = absurd cc
 refused-line why.NoMemory e = absurd cc
 refused-line why.SinkFault e = absurd cc
 
--- a line that names a file
-abbrev Names : List ℕ → List ℕ → Type 0
-Names line name = (line ≡ fault_line (codes "no file ") name) ⊎
-    (line ≡ fault_line (codes "cannot read ") name) ⊎
-    (line ≡ fault_line (codes "cannot write ") name) ⊎
-    (line ≡ fault_line (codes "cannot run ") name)
+-- the reason why a command line stopped has its cause
+abbrev pub IsCaused : World → World → Stop → Type 0
+IsCaused old new stop = (stop ≡ why.Usage) ⊎ HasCause old new stop
 
-host-line : (reason : Stop) → status_of reason ≡ answer.HostFault
-    → (name : List ℕ) × Names (line_of reason) name
-host-line why.Usage e = absurd cc
-host-line (why.Refused text) e = absurd cc
-host-line (why.NoFile name) e = (name, inl refl)
-host-line (why.CannotRead name) e = (name, inr (inl refl))
-host-line (why.CannotWrite name) e = (name, inr (inr (inl refl)))
-host-line (why.CannotRun test) e = (test, inr (inr (inr refl)))
-host-line why.NoMemory e = absurd cc
-host-line why.SinkFault e = absurd cc
+-- a line for errors that names a file, and the count of its kind rose
+abbrev pub SaysHost : World → World → SinkState → SinkState → List ℕ → Type 0
+SaysHost old new err err' name =
+    ((err'.bytes ≡ appended err.bytes (fault_line (codes "no file ") name))
+    × (is_told old.host ≡ false → Rose old.host.read_faults new.host.read_faults)) ⊎
+    ((err'.bytes ≡ appended err.bytes (fault_line (codes "cannot read ") name))
+    × Rose old.host.read_faults new.host.read_faults) ⊎
+    ((err'.bytes ≡ appended err.bytes (fault_line (codes "cannot write ") name))
+    × Rose old.host.write_faults new.host.write_faults) ⊎
+    ((err'.bytes ≡ appended err.bytes (fault_line (codes "cannot run ") name))
+    × Rose old.host.run_faults new.host.run_faults)
+
+host-line : (old new : World) (err err' : SinkState) (reason : Stop)
+    → status_of reason ≡ answer.HostFault → IsCaused old new reason
+    → err'.bytes ≡ appended err.bytes (line_of reason)
+    → (name : List ℕ) × SaysHost old new err err' name
+host-line old new err err' why.Usage e cause line = absurd cc
+host-line old new err err' (why.Refused text) e cause line = absurd cc
+host-line old new err err' (why.NoFile name) e (inl used) line = absurd cc
+host-line old new err err' (why.NoFile name) e (inr rose) line = (name, inl (line, rose))
+host-line old new err err' (why.CannotRead name) e (inl used) line = absurd cc
+host-line old new err err' (why.CannotRead name) e (inr rose) line = (name, inr (inl (line, rose)))
+host-line old new err err' (why.CannotWrite name) e (inl used) line = absurd cc
+host-line old new err err' (why.CannotWrite name) e (inr rose) line =
+    (name, inr (inr (inl (line, rose))))
+host-line old new err err' (why.CannotRun test) e (inl used) line = absurd cc
+host-line old new err err' (why.CannotRun test) e (inr rose) line =
+    (test, inr (inr (inr (line, rose))))
+host-line old new err err' why.NoMemory e cause line = absurd cc
+host-line old new err err' why.SinkFault e cause line = absurd cc
 
 -- ---- what each status says
 pub says-usage : (status : Status) (err err' : SinkState) (result : Result Finish Stop)
@@ -100,27 +129,14 @@ says-refused status err err' result c is =
     let line = refused-line s.reason s.is in
     (line.0, s.line ∙ ap (appended err.bytes) line.1)
 
-pub says-host : (status : Status) (err err' : SinkState) (result : Result Finish Stop)
+pub says-host : (old new : World) (status : Status) (err err' : SinkState)
+    (result : Result Finish Stop) → IfErr result (IsCaused old new)
     → Concludes result status err err' → status ≡ answer.HostFault
-    → (name : List ℕ) × ((err'.bytes ≡ appended err.bytes (fault_line (codes "no file ") name)) ⊎
-    (err'.bytes ≡ appended err.bytes (fault_line (codes "cannot read ") name)) ⊎
-    (err'.bytes ≡ appended err.bytes (fault_line (codes "cannot write ") name)) ⊎
-    (err'.bytes ≡ appended err.bytes (fault_line (codes "cannot run ") name)))
-says-host status err err' result c is =
+    → (name : List ℕ) × SaysHost old new err err' name
+says-host old new status err err' result cause c is =
     let s = stopped status answer.HostFault err err' result c is (λ e. cc) (λ e. cc) (λ e. cc) in
-    let line = host-line s.reason s.is in (
-      line.0,
-      elim line.1 [
-        | inl absent ↦ inl (s.line ∙ ap (appended err.bytes) absent)
-        | inr more ↦ elim more [
-          | inl read ↦ inr (inl (s.line ∙ ap (appended err.bytes) read))
-          | inr most ↦ elim most [
-            | inl write ↦ inr (inr (inl (s.line ∙ ap (appended err.bytes) write)))
-            | inr run ↦ inr (inr (inr (s.line ∙ ap (appended err.bytes) run)))
-          ]
-        ]
-      ],
-    )
+    host-line old new err err' s.reason s.is
+    (subst (λ (r : Result Finish Stop). IfErr r (IsCaused old new)) s.given cause) s.line
 
 unsaid : (end : Status) → (end ≡ answer.Done) ⊎ (end ≡ answer.NotPassed) → end ≡ answer.SinkFault
     → ⊥

@@ -7,7 +7,8 @@ use Rattle.rvs_cgf.specs.Print.{normal_text}
 use Rattle.rvs_suite.specs.Seen.{seen}
 use Rattle.rvs_suite.specs.Specification.{specification}
 use Rattle.rvs_suite.specs.GroupFiles.{joins_all, groups_found, group_files}
-use Rattle.rvs_suite.specs.Normalize.{print_text, print_normal, normal_files, normal_inputs}
+use Rattle.rvs_suite.specs.Printing.{print_text}
+use Rattle.rvs_suite.specs.Normalize.{print_normal, normal_files, normal_inputs}
 use Rattle.rvs_suite.specs.Normalize.{normalize}
 
 then-then : {A B C : Type 0} (p : Plan A) (f : A → Plan B) (g : B → Plan C)

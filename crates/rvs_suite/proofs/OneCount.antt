@@ -1,5 +1,5 @@
 -- The report on a log of one instruction, which hits the only point of the only label.
-use Rattle.std.proofs.Common.{◌≡◌, ℕ, Bool, true, false, ◌+◌, ◌&&◌, cond, List, [], ◌∷◌, map, length}
+use Rattle.std.proofs.Common.{◌≡◌, ℕ, Bool, true, false, ◌+◌, cond, List, [], ◌∷◌, map, length}
 use Rattle.std.proofs.Common.{Option, Some, None, refl, ap, ◌∙◌, IsTrue, sym}
 use Rattle.std.specs.Prelude.{count_by}
 use Rattle.std.proofs.lemmas.List.Sums.{sum_by-cons}
@@ -9,13 +9,10 @@ use Rattle.rvs_cross.specs.Cross.{Place}
 use Rattle.rvs_log.specs.Entries.{Entry}
 use Rattle.rvs_cgf.specs.Groups.{Meaning, op_is, reg_is, regs, nums, window, Label, Point}
 use Rattle.rvs_cgf.specs.Hits.{has_op, is_meant}
+use Rattle.rvs_cgf.proofs.Distinct.{and-right}
 use Rattle.rvs_count.specs.Counting.{Aim, aims_of, count, count_for, decoded, hits, hits_insn, kept}
 use Rattle.rvs_count.specs.Report.{report_of}
 use Rattle.rvs_count.specs.declared.window.Window.{Window}
-
-and-right : (a b : Bool) → (a && b) ≡ true → b ≡ true
-and-right true b e = e
-and-right false b e = absurd cc
 
 -- no instruction alone hits a cross point
 no-window : (a : Aim) (i : Option Fields) (v1 v2 : ℕ) (ps : List Place)

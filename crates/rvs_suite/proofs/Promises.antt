@@ -68,6 +68,7 @@ causes-promise {call} r =
     record {
       usage = usage r.ran;
       by_words = no_command r.ran;
+      by_words_kept = r.ran.performs.unchanged;
       host_fault = (answers r.ran).host_fault;
       sink_fault = (answers r.ran).sink_fault;
       unfaulted = (answers r.ran).unfaulted;
@@ -78,7 +79,8 @@ causes-promise {call} r =
       line_refused =
           says-refused call.status call.old.err call.new.err r.ran.result r.ran.concludes;
       line_host_fault =
-          says-host call.status call.old.err call.new.err r.ran.result r.ran.concludes;
+          says-host (world_of call.old) (world_of call.new) call.status call.old.err call.new.err
+          r.ran.result r.ran.performs.obeys.cause r.ran.concludes;
       quiet = says-nothing call.status call.old.err call.new.err r.ran.result r.ran.concludes;
       errors_unfaulted =
           unfaulted-line call.status call.old.err call.new.err r.ran.result r.ran.concludes;
@@ -145,5 +147,4 @@ run-promise r files program isa names device work t is =
     judges files program isa names device work (record { ran = r.ran; told = t; asks = is })
 
 pub demo-promise : {call : Call} → RanCall call → demonstrating.Promise call
-demo-promise r files count t is =
-    demonstrates files count (record { ran = r.ran; told = t; asks = is })
+demo-promise r count is = demonstrates count r.ran is

@@ -1,47 +1,81 @@
 -- What a command line left, and what its conclusion says of it.
 use Rattle.std.proofs.Common.{◌≡◌, ◌⊎◌, inl, inr, List, ℕ, Result, Err, refl, subst}
-use Rattle.rvs_base.specs.Host.{Files, Tells}
+use Rattle.rvs_base.specs.Host.{HostState, Files, Tells}
 use Rattle.rvs_base.specs.Sink.{SinkState}
-use Rattle.rvs_plan.specs.World.{World}
+use Rattle.rvs_plan.specs.World.{World, world}
 use Rattle.rvs_plan.specs.Performed.{NeverStops}
-use Rattle.rvs_plan.specs.Meets.{MeetsWith}
+use Rattle.rvs_plan.specs.Meets.{MeetsWith, Meets}
 use Rattle.rvs_plan.specs.Account.{Accounts, Concludes, HostRose, NoneRose, Means}
 use Rattle.rvs_plan.proofs.Answering.{Answers, Answers-of, Accounts-means, Means-never_stops}
 use Rattle.rvs_plan.proofs.Answering.{Obeys-meets}
 use Rattle.rvs_plan.proofs.Answering.{Obeys-usage, Obeys-no_memory, Meets-not_usage, usage-status}
 use Rattle.rvs_plan.proofs.Answering.{memory-status, status-usage}
+use Rattle.rvs_plan.proofs.Sequence.{Meets-no_memory}
 use Rattle.rvs_plan.specs.declared.stop.Stop.{Stop}
 use Rattle.rvs_plan.specs.declared.stop.Stop.TheVariants as why
 use Rattle.rvs_plan.specs.declared.status.Status.{Status}
 use Rattle.rvs_plan.specs.declared.status.Status.TheVariants as answer
 use Rattle.rvs_plan.specs.declared.status.Finish.{Finish}
-use Rattle.rvs_suite.specs.Plans.{plan_of, absence_of, Performs}
+use Rattle.rvs_suite.specs.Demonstrate.{demonstrate}
+use Rattle.rvs_suite.specs.Plans.{plan_of, absence_of, IsApart, Performs}
 use Rattle.rvs_suite.specs.Spells.{Passes, Fails, BothSpell, FirstRefused, FirstMissing, Refuses}
 use Rattle.rvs_suite.specs.Spells.{Misses}
 use Rattle.rvs_suite.proofs.CompareEnds.{passes, fails, refuses, misses, refused-status}
 use Rattle.rvs_suite.proofs.CompareEnds.{missing-status, spelt-status}
 use Rattle.rvs_words.specs.declared.command.Command.{Command}
-use Rattle.rvs_words.specs.declared.command.Command.TheVariants.{Unknown, Compare}
+use Rattle.rvs_words.specs.declared.command.Command.TheVariants.{Unknown, Compare, Demo}
 
 -- a command that met its plan
 pub Performs-meets : {command : Command} {old new : World} {result : Result Finish Stop}
-    → (command ≡ Unknown → ⊥) → MeetsWith (absence_of command) (plan_of command) old new result
+    → (command ≡ Unknown → ⊥) → ((count : ℕ) → command ≡ Demo count → ⊥)
+    → MeetsWith (absence_of command) (plan_of command) old new result
     → Performs command old new result
-Performs-meets known m = record {
+Performs-meets known hosted m = record {
   obeys = Obeys-meets m;
   usage = λ is. absurd (Meets-not_usage m is);
   no_command = λ is. absurd (known is);
+  unchanged = λ is. absurd (known is);
+  apart = λ count is. absurd (hosted count is);
 }
 
+pub Performs-demo : (count : ℕ) (host : HostState) (out out' : SinkState)
+    (result : Result Finish Stop)
+    → ((h : HostState) → Meets (demonstrate count) (world h out) (world h out') result)
+    → Performs (Demo count) (world host out) (world host out') result
+Performs-demo count host out out' result meets =
+    let m : Meets (demonstrate count) (world host out) (world host out') result = meets host in
+    let a : IsApart (demonstrate count) (world host out) (world host out') result =
+    record { kept = refl; beside = meets } in
+    record {
+      obeys = Obeys-meets m;
+      usage = λ is. absurd (Meets-not_usage m is);
+      no_command = λ is. absurd cc;
+      unchanged = λ is. absurd cc;
+      apart = λ n is.
+          let same : count ≡ n = cc in
+          subst (λ (k : ℕ). IsApart (demonstrate k) (world host out) (world host out') result)
+          same a;
+    }
+
 pub Performs-unknown : (w : World) → Performs Unknown w w (Err why.Usage)
-Performs-unknown w =
-    record { obeys = Obeys-usage w; usage = λ is. refl; no_command = λ is. inl refl }
+Performs-unknown w = record {
+  obeys = Obeys-usage w;
+  usage = λ is. refl;
+  no_command = λ is. inl refl;
+  unchanged = λ is. refl;
+  apart = λ count is. absurd cc;
+}
 
 pub Performs-no_memory : (command : Command) (w : World) → Performs command w w (Err why.NoMemory)
 Performs-no_memory command w = record {
   obeys = Obeys-no_memory (absence_of command) (plan_of command) w;
   usage = λ is. absurd cc;
   no_command = λ is. inr refl;
+  unchanged = λ is. refl;
+  apart = λ count is. record {
+    kept = refl;
+    beside = λ host. Meets-no_memory (demonstrate count) (world host w.out);
+  };
 }
 
 -- a command line, and the line after it

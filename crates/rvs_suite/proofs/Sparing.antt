@@ -1,14 +1,15 @@
 -- That `reference`, `generate` and `run` change no file but their own, however they end.
 use Rattle.std.proofs.Common.{◌≡◌, ◌≢◌, ℕ, Bool, true, false, List, [], ◌∷◌, length, Option, Some}
 use Rattle.std.proofs.Common.{None, Result, Ok, Err, bytes_eq, if◌then◌else◌, refl, sym, subst, ap}
-use Rattle.std.proofs.Common.{◌∙◌}
+use Rattle.std.proofs.Common.{◌∙◌, Contains, arith}
 use Rattle.std.specs.Prelude.{⊤}
 use Rattle.std.proofs.lemmas.Slice.Eq.{bytes_eq-Decides}
+use Rattle.std.proofs.lemmas.List.Elements.{Contains-append_left, Contains-append_right}
 use Rattle.rvs_base.specs.Host.{Files, Tells, MaySpoil, ChangesOne, written}
 use Rattle.rvs_base.specs.Sink.{SinkState}
 use Rattle.rvs_plan.specs.World.{World, Contents, contents}
 use Rattle.rvs_plan.specs.Effect.{Answer, Write, Out, Effect, Read, Device, Did, left_by, after}
-use Rattle.rvs_plan.specs.Effect.{after_one, after_deed}
+use Rattle.rvs_plan.specs.Effect.{Deed, after_one, after_deed, Saw}
 use Rattle.rvs_plan.specs.Plan.{Plan, Ends, Does, Asks, Runs, Goes, followed, gives, ◌>>=◌}
 use Rattle.rvs_plan.specs.Inputs.{input}
 use Rattle.rvs_plan.specs.Meets.{Reaches, Halts}
@@ -23,20 +24,22 @@ use Rattle.rvs_suite.specs.Reference.{test_limit, trial, records, reference_on, 
 use Rattle.rvs_suite.specs.TestRun.{accepted, test_found}
 use Rattle.rvs_insn.specs.Isa.{Isa}
 use Rattle.rvs_cgf.specs.Groups.{Label}
-use Rattle.rvs_test.specs.Made.{text_of_label}
-use Rattle.rvs_suite.specs.Coverage.{print_report}
-use Rattle.rvs_suite.specs.GroupFiles.{group_inputs}
+use Rattle.rvs_test.specs.Made.{cases_of, text_of_label}
+use Rattle.rvs_test_text.specs.TestText.{step_limit}
+use Rattle.rvs_suite.specs.Printing.{print_text}
+use Rattle.rvs_suite.specs.GroupFiles.{group_inputs, inputs_in}
 use Rattle.rvs_suite.specs.GenerateTexts.{listing}
 use Rattle.rvs_suite.specs.Generate.{path_of, writes_text, writes_test, writes_tests, written_tests}
 use Rattle.rvs_suite.specs.Generate.{generates, generate}
-use Rattle.rvs_suite.specs.Tests.{tests_of}
-use Rattle.rvs_suite.specs.RunTests.{Bench, judges_one, with_one, judges_all, tallies, run_inputs}
-use Rattle.rvs_suite.specs.RunTests.{bench_of, runs, run}
-use Rattle.rvs_suite.specs.Judging.{IsOther}
+use Rattle.rvs_suite.specs.Tests.{test_with, tests_of_label, tests_of}
+use Rattle.rvs_suite.specs.RunTests.{Bench, judges_one, with_one, judges_all, tallies}
+use Rattle.rvs_suite.specs.RunTests.{RunInputs, run_inputs, bench_of, runs, run}
+use Rattle.rvs_suite.specs.Generating.{IsNoTest}
+use Rattle.rvs_suite.specs.Judging.{run_inputs_in, tests_in, IsOther}
 use Rattle.rvs_suite.specs.Plans.{plan_of}
-use Rattle.rvs_suite.proofs.Readers.{OnlyReads}
-use Rattle.rvs_suite.proofs.GroupInputs.{reads-inputs}
-use Rattle.rvs_suite.proofs.RunReads.{reads-run}
+use Rattle.rvs_suite.proofs.Finding.{Finds}
+use Rattle.rvs_suite.proofs.GroupInputs.{finds-inputs}
+use Rattle.rvs_suite.proofs.RunReads.{finds-run}
 use Rattle.rvs_suite.proofs.Running.{Ran, answers}
 use Rattle.rvs_words.specs.declared.command.Command.{Command}
 use Rattle.rvs_words.specs.declared.command.Command.TheVariants.{Generate, Reference, Run}
@@ -141,52 +144,112 @@ spared other (Runs words test signature next) rest (Did deed ∷ effects) c spar
 spared other (Runs words test signature next) rest (Read name found ∷ effects) c spares goes =
     absurd goes
 
-reached : {A : Type 0} (other : List ℕ) (plan rest : Plan A) (old new : Contents)
-    → Spares other plan → Reaches plan rest old new
-    → (held other new.files ≡ held other old.files) × Spares other rest
-reached other plan rest old new spares r = let k =
-    spared other plan rest r.effects old spares r.goes in
+-- over these files, a plan that reads first, and then spares this file
+abbrev SparesOver : {A : Type 0} → Files → List ℕ → Plan A → Type 0
+SparesOver files other (Ends end) = ⊤
+SparesOver files other (Does deed plan) = Spares other (Does deed plan)
+SparesOver files other (Asks name next) = SparesOver files other (next (files name))
+SparesOver files other (Runs words test signature next) =
+    Spares other (Runs words test signature next)
+
+spares-over : {A : Type 0} (files : Files) (other : List ℕ) (plan : Plan A) → Spares other plan
+    → SparesOver files other plan
+spares-over files other (Ends end) spares = tt
+spares-over files other (Does deed plan) spares = spares
+spares-over files other (Asks name next) spares =
+    spares-over files other (next (files name)) (spares (files name))
+spares-over files other (Runs words test signature next) spares = spares
+
+spares-followed : {A B : Type 0} (files : Files) (other : List ℕ) (found : Result A Stop)
+    (next : A → Plan B) → ((a : A) → found ≡ Ok a → Spares other (next a))
+    → SparesOver files other (followed found next)
+spares-followed files other (Ok a) next rest_spares =
+    spares-over files other (next a) (rest_spares a refl)
+spares-followed files other (Err stop) next rest_spares = tt
+
+-- what comes behind reading has to spare the file for what was found alone
+spares-found : {A B : Type 0} (files : Files) (other : List ℕ) (plan : Plan A) (next : A → Plan B)
+    (found : Result A Stop) → Finds files plan found
+    → ((a : A) → found ≡ Ok a → Spares other (next a)) → SparesOver files other (plan >>= next)
+spares-found {A} files other (Ends end) next found is rest_spares =
+    subst (λ (r : Result A Stop). SparesOver files other (followed r next)) (sym is)
+    (spares-followed files other found next rest_spares)
+spares-found files other (Does deed plan) next found is rest_spares = absurd is
+spares-found files other (Asks name rest) next found is rest_spares =
+    spares-found files other (rest (files name)) next found is rest_spares
+spares-found files other (Runs words test signature rest) next found is rest_spares = absurd is
+
+spared-over : {A : Type 0} (files : Files) (other : List ℕ) (plan rest : Plan A)
+    (effects : List Effect) (c : Contents) → c.files ≡ Some files → SparesOver files other plan
+    → Saw effects c → Goes plan effects rest
+    → (held other (after effects c).files ≡ held other c.files) × SparesOver files other rest
+spared-over {A} files other plan rest [] c told spares saw goes =
+    (refl, subst (λ (p : Plan A). SparesOver files other p) goes spares)
+spared-over files other (Ends end) rest (effect ∷ effects) c told spares saw goes = absurd goes
+spared-over files other (Does deed plan) rest (effect ∷ effects) c told spares saw goes =
+    let k = spared other (Does deed plan) rest (effect ∷ effects) c spares goes in
+    (k.0, spares-over files other rest k.1)
+spared-over {A} files other (Asks name next) rest (Read n found ∷ effects) c told spares saw goes =
+    let same : files name ≡ found = ap files goes.0 ∙ saw.0 files told in
+    spared-over files other (next (files name)) rest effects c told spares saw.1
+    (subst (λ (f : Option (List ℕ)). Goes (next f) effects rest) (sym same) goes.1)
+spared-over files other (Asks name next) rest (Did deed ∷ effects) c told spares saw goes =
+    absurd goes
+spared-over files other (Asks name next) rest (Device words test signature answer ∷ effects) c told
+    spares saw goes = absurd goes
+spared-over files other (Runs words test signature next) rest (effect ∷ effects) c told spares saw
+    goes =
+    let k = spared other (Runs words test signature next) rest (effect ∷ effects) c spares goes in
+    (k.0, spares-over files other rest k.1)
+
+reached : {A : Type 0} (files : Files) (other : List ℕ) (plan rest : Plan A) (old new : Contents)
+    → old.files ≡ Some files → SparesOver files other plan → Reaches plan rest old new
+    → (held other new.files ≡ held other old.files) × SparesOver files other rest
+reached files other plan rest old new told spares r =
+    let k = spared-over files other plan rest r.effects old told spares r.saw r.goes in
     (ap (λ (c : Contents). held other c.files) r.did ∙ k.0, k.1)
 
-halted : (other : List ℕ) (plan : Plan Finish) (old new : Contents) (stop : Stop)
-    → Spares other plan → Halts plan old new stop → held other new.files ≡ held other old.files
-halted other plan old new why.Usage spares h =
-    (reached other plan (Ends (Err why.Usage)) old new spares h).0
-halted other plan old new (why.Refused text) spares h =
-    (reached other plan (Ends (Err (why.Refused text))) old new spares h).0
-halted other plan old new (why.NoFile name) spares h =
-    (reached other plan (Ends (Err (why.NoFile name))) old new spares h).0
-halted other plan old new (why.CannotRead name) spares h =
-    (reached other plan (Asks name h.next) old new spares h.reaches).0
-halted other plan old new (why.CannotWrite name) spares h =
-    let k = reached other plan (Does (Write name h.0) h.1.rest) old h.1.before spares h.1.reaches in
+halted : (files : Files) (other : List ℕ) (plan : Plan Finish) (old new : Contents) (stop : Stop)
+    → old.files ≡ Some files → SparesOver files other plan → Halts plan old new stop
+    → held other new.files ≡ held other old.files
+halted files other plan old new why.Usage told spares h =
+    (reached files other plan (Ends (Err why.Usage)) old new told spares h).0
+halted files other plan old new (why.Refused text) told spares h =
+    (reached files other plan (Ends (Err (why.Refused text))) old new told spares h).0
+halted files other plan old new (why.NoFile name) told spares h =
+    (reached files other plan (Ends (Err (why.NoFile name))) old new told spares h).0
+halted files other plan old new (why.CannotRead name) told spares h =
+    (reached files other plan (Asks name h.next) old new told spares h.reaches).0
+halted files other plan old new (why.CannotWrite name) told spares h =
+    let k = reached files other plan (Does (Write name h.0) h.1.rest) old h.1.before told spares h.1.reaches in
     unspoilt other name h.0 h.1.before.files new.files k.1.0 h.1.broke.files ∙ k.0
-halted other plan old new (why.CannotRun test) spares h =
+halted files other plan old new (why.CannotRun test) told spares h =
     let k =
-    reached other plan (Runs h.words test h.signature h.next) old h.before spares h.reaches in
+    reached files other plan (Runs h.words test h.signature h.next) old h.before told spares h.reaches in
     unchanged other h.signature h.before.files new.files k.1.0 h.broke.files ∙ k.0
-halted other plan old new why.NoMemory spares h = (reached other plan h.0 old new spares h.1).0
-halted other plan old new why.SinkFault spares h =
+halted files other plan old new why.NoMemory told spares h = (reached files other plan h.0 old new told spares h.1).0
+halted files other plan old new why.SinkFault told spares h =
     ap (λ (c : Contents). held other c.files) h.1.broke.put
-    ∙ (reached other plan (Does (Out h.0) h.1.rest) old h.1.before spares h.1.reaches).0
+    ∙ (reached files other plan (Does (Out h.0) h.1.rest) old h.1.before told spares h.1.reaches).0
 
-accounted : (other : List ℕ) (plan : Plan Finish) (old new : World) (err err' : SinkState)
-    (status : Status) → Spares other plan → Accounts plan old new err err' status → held other
-    new.host.files ≡ held other old.host.files
-accounted other plan old new err err' answer.Done spares a =
-    (reached other plan _ (contents old) (contents new) spares a.completes).0
-accounted other plan old new err err' answer.NotPassed spares a =
-    (reached other plan _ (contents old) (contents new) spares a.completes).0
-accounted other plan old new err err' answer.Usage spares a =
-    halted other plan (contents old) (contents new) a.reason spares a.halts
-accounted other plan old new err err' answer.Refused spares a =
-    halted other plan (contents old) (contents new) a.reason spares a.halts
-accounted other plan old new err err' answer.HostFault spares a =
-    halted other plan (contents old) (contents new) a.reason spares a.halts
-accounted other plan old new err err' answer.SinkFault spares a =
-    halted other plan (contents old) (contents new) a.reason spares a.halts
-accounted other plan old new err err' answer.NoMemory spares a =
-    halted other plan (contents old) (contents new) a.reason spares a.halts
+accounted : (files : Files) (other : List ℕ) (plan : Plan Finish) (old new : World)
+    (err err' : SinkState) (status : Status) → old.host.files ≡ Some files
+    → SparesOver files other plan → Accounts plan old new err err' status
+    → held other new.host.files ≡ held other old.host.files
+accounted files other plan old new err err' answer.Done told spares a =
+    (reached files other plan _ (contents old) (contents new) told spares a.completes).0
+accounted files other plan old new err err' answer.NotPassed told spares a =
+    (reached files other plan _ (contents old) (contents new) told spares a.completes).0
+accounted files other plan old new err err' answer.Usage told spares a =
+    halted files other plan (contents old) (contents new) a.reason told spares a.halts
+accounted files other plan old new err err' answer.Refused told spares a =
+    halted files other plan (contents old) (contents new) a.reason told spares a.halts
+accounted files other plan old new err err' answer.HostFault told spares a =
+    halted files other plan (contents old) (contents new) a.reason told spares a.halts
+accounted files other plan old new err err' answer.SinkFault told spares a =
+    halted files other plan (contents old) (contents new) a.reason told spares a.halts
+accounted files other plan old new err err' answer.NoMemory told spares a =
+    halted files other plan (contents old) (contents new) a.reason told spares a.halts
 
 spares-records : (other signature : List ℕ) (log : Option (List ℕ)) (run : TestRun)
     → other ≢ signature → log ≢ Some other → Spares other (records signature log run)
@@ -205,70 +268,75 @@ spares-reference other isa test signature log steps apart unlogged =
     spares-records other signature log run apart unlogged))
 
 -- ---- of commands
-spares-reads : {A : Type 0} (other : List ℕ) (plan : Plan A) → OnlyReads plan → Spares other plan
-spares-reads other (Ends end) reads = tt
-spares-reads other (Does deed plan) reads = absurd reads
-spares-reads other (Asks name next) reads = λ found. spares-reads other (next found) (reads found)
-spares-reads other (Runs words test signature next) reads = absurd reads
-
-spares-test : (other path : List ℕ) (b : Bool) (text : Option (List ℕ)) → other ≢ path
-    → Spares other (if b then writes_text path text else gives tt)
-spares-test other path true None apart = tt
-spares-test other path true (Some text) apart = (apart, tt)
-spares-test other path false text apart = tt
+spares-test : (other work name : List ℕ) (steps : ℕ) (b : Bool) (text : Option (List ℕ))
+    → ((test : Test) → Contains (if b then test_with name steps text else []) test
+    → other ≢ path_of work test.name)
+    → Spares other (if b then writes_text (path_of work name) text else gives tt)
+spares-test other work name steps true None apart = tt
+spares-test other work name steps true (Some text) apart =
+    let test : Test = record { name = name; text = text; steps = steps } in
+    (apart test (0, omega arith, refl), tt)
+spares-test other work name steps false text apart = tt
 
 spares-tests : (other work : List ℕ) (isa : Isa) (ls : List Label)
-    → ((name : List ℕ) → other ≢ path_of work name) → Spares other (writes_tests work isa ls)
+    → ((test : Test) → Contains (tests_of isa ls) test → other ≢ path_of work test.name)
+    → Spares other (writes_tests work isa ls)
 spares-tests other work isa [] apart = tt
-spares-tests other work isa (l ∷ ls) apart = Spares-then other (writes_test work isa l)
-    (λ _. writes_tests work isa ls)
-    (spares-test other (path_of work l.name) l.selected (text_of_label isa l) (apart l.name))
-    (λ _. spares-tests other work isa ls apart)
+spares-tests other work isa (l ∷ ls) apart =
+    let first = tests_of_label isa l in
+    let later = tests_of isa ls in
+    Spares-then other (writes_test work isa l) (λ _. writes_tests work isa ls)
+    (spares-test other work l.name (step_limit (cases_of isa l)) l.selected (text_of_label isa l)
+    (λ test there. apart test (Contains-append_left first later test there)))
+    (λ _. spares-tests other work isa ls
+    (λ test there. apart test (Contains-append_right first later test there)))
 
-spares-generate : (other isa : List ℕ) (names : List (List ℕ)) (work : List ℕ)
-    → ((name : List ℕ) → other ≢ path_of work name) → Spares other (generate isa names work)
-spares-generate other isa names work apart =
-    Spares-then other (group_inputs isa names) (generates work)
-    (spares-reads other (group_inputs isa names) (reads-inputs isa names)) (λ inputs.
-    Spares-then other (written_tests work inputs.isa inputs.groups) print_report (Spares-then other
+spares-generate : (files : Files) (other isa : List ℕ) (names : List (List ℕ)) (work : List ℕ)
+    → IsNoTest work (inputs_in files isa names) other
+    → SparesOver files other (generate isa names work)
+spares-generate files other isa names work apart = spares-found files other (group_inputs isa names)
+    (generates work) (inputs_in files isa names) (finds-inputs files isa names) (λ inputs given.
+    Spares-then other (written_tests work inputs.isa inputs.groups) print_text (Spares-then other
     (writes_tests work inputs.isa inputs.groups) (λ _. gives (listing inputs.isa inputs.groups))
-    (spares-tests other work inputs.isa inputs.groups apart) (λ _. tt)) (λ text. tt))
+    (spares-tests other work inputs.isa inputs.groups
+    (λ test there. apart inputs test given there)) (λ _. tt)) (λ text. tt))
 
 spares-judging : (other : List ℕ) (bench : Bench) (passed : ℕ) (tests : List Test)
-    → IsOther bench.work other → Spares other (judges_all bench passed tests)
+    → ((test : Test) → Contains tests test → IsOther bench.work other test)
+    → Spares other (judges_all bench passed tests)
 spares-judging other bench passed [] apart = tt
 spares-judging other bench passed (test ∷ tests) apart =
+    let this = apart test (0, omega arith, refl) in
     Spares-then other (judges_one bench test) (λ pass. judges_all bench
-    (with_one passed pass) tests) (
-      apart.text test.name,
-      (
-        apart.reference test.name,
-        (apart.device test.name, (apart.device test.name, λ answer found. tt)),
-      ),
-    ) (λ pass.
-    spares-judging other bench (with_one passed pass) tests apart)
+    (with_one passed pass) tests)
+    (this.text, (this.reference, (this.device, (this.device, λ answer found. tt)))) (λ pass.
+    spares-judging other bench (with_one passed pass) tests
+    (λ t there. apart t (Contains-append_right (test ∷ []) tests t there)))
 
-spares-run : (other program isa : List ℕ) (names : List (List ℕ)) (device work : List ℕ)
-    → IsOther work other → Spares other (run program isa names device work)
-spares-run other program isa names device work apart =
-    Spares-then other (run_inputs isa names device) (runs program work)
-    (spares-reads other (run_inputs isa names device) (reads-run isa names device)) (λ inputs.
+spares-run : (files : Files) (other program isa : List ℕ) (names : List (List ℕ))
+    (device work : List ℕ) → ((inputs : RunInputs) (test : Test)
+    → run_inputs_in files isa names device ≡ Ok inputs → Contains (tests_in inputs) test
+    → IsOther work other test) → SparesOver files other (run program isa names device work)
+spares-run files other program isa names device work apart = spares-found files other
+    (run_inputs isa names device) (runs program work) (run_inputs_in files isa names device)
+    (finds-run files isa names device) (λ inputs given.
     let bench = bench_of program work inputs in
-    let tests = tests_of bench.isa inputs.groups.groups in
+    let tests = tests_in inputs in
     Spares-then other (judges_all bench 0 tests) (tallies (length tests))
-    (spares-judging other bench 0 tests apart) (λ passed. tt))
+    (spares-judging other bench 0 tests (λ test there. apart inputs test given there))
+    (λ passed. tt))
 
 -- a command that spares a file leaves it as it was
 spares : {command : Command} {old new : World} {err err' : SinkState} {status : Status}
     → Ran command old new err err' status
     → (files files' : Files) (asked : Command) (other : List ℕ) → Tells old.host files
-    → command ≡ asked → Spares other (plan_of asked) → new.host.files ≡ Some files'
+    → command ≡ asked → SparesOver files other (plan_of asked) → new.host.files ≡ Some files'
     → files' other ≡ files other
 spares {command} {old} {new} {err} {err'} {status} r files files' asked other t is apart told =
     let plan = plan_of asked in
     let account = subst (λ (c : Command). Accounts (plan_of c) old new err err' status) is
     ((answers r).effects files t) in
-    let kept = accounted other plan old new err err' status apart account in
+    let kept = accounted files other plan old new err err' status t.files apart account in
     let e : Some (files' other) ≡ Some (files other) =
     ap (λ (f : Option Files). held other f) (sym told) ∙ kept
     ∙ ap (λ (f : Option Files). held other f) t.files in
@@ -281,22 +349,24 @@ pub reference-spares : {command : Command} {old new : World} {err err' : SinkSta
     → log ≢ Some other → new.host.files ≡ Some files' → files' other ≡ files other
 reference-spares r files files' isa test signature log steps other t is apart unlogged told = spares
     r files files' (Reference isa test signature log steps) other t is
-    (spares-reference other isa test signature log steps apart unlogged) told
+    (spares-over files other (reference isa test signature log steps)
+    (spares-reference other isa test signature log steps apart unlogged)) told
 
 pub generate-spares : {command : Command} {old new : World} {err err' : SinkState} {status : Status}
     → Ran command old new err err' status
     → (files files' : Files) (isa : List ℕ) (names : List (List ℕ)) (work other : List ℕ)
     → Tells old.host files → command ≡ Generate isa names work
-    → ((name : List ℕ) → other ≢ path_of work name) → new.host.files ≡ Some files'
+    → IsNoTest work (inputs_in files isa names) other → new.host.files ≡ Some files'
     → files' other ≡ files other
 generate-spares r files files' isa names work other t is apart told = spares r files files'
-    (Generate isa names work) other t is (spares-generate other isa names work apart) told
+    (Generate isa names work) other t is (spares-generate files other isa names work apart) told
 
 pub run-spares : {command : Command} {old new : World} {err err' : SinkState} {status : Status}
     → Ran command old new err err' status → (files files' : Files) (program isa : List ℕ)
     (names : List (List ℕ)) (device work other : List ℕ) → Tells old.host files → command ≡ Run
-    program isa names device work → IsOther work other → new.host.files ≡ Some files' → files' other
-    ≡ files other
+    program isa names device work → ((inputs : RunInputs) (test : Test)
+    → run_inputs_in files isa names device ≡ Ok inputs → Contains (tests_in inputs) test
+    → IsOther work other test) → new.host.files ≡ Some files' → files' other ≡ files other
 run-spares r files files' program isa names device work other t is apart told = spares r files
     files' (Run program isa names device work) other t is
-    (spares-run other program isa names device work apart) told
+    (spares-run files other program isa names device work apart) told

@@ -28,7 +28,8 @@ use Rattle.rvs_suite.specs.GenerateTexts.{listing}
 use Rattle.rvs_suite.specs.Generate.{path_of, writes_text, writes_test, writes_tests, written_tests}
 use Rattle.rvs_suite.specs.Generate.{generates}
 use Rattle.rvs_suite.specs.Normalize.{print_normal}
-use Rattle.rvs_suite.specs.Coverage.{reported, print_report}
+use Rattle.rvs_suite.specs.Printing.{print_text}
+use Rattle.rvs_suite.specs.Coverage.{reported}
 use Rattle.rvs_suite.specs.Reference.{test_limit, trial, records, reference_on}
 use Rattle.rvs_suite.specs.TestRun.{accepted, test_found}
 use Rattle.rvs_suite.specs.Tests.{tests_of}
@@ -153,7 +154,7 @@ tests-on work isa (l ∷ ls) = never-then (writes_test work isa l) (λ _. writes
     (chosen-on l.selected (path_of work l.name) (text_of_label isa l)) (λ _. tests-on work isa ls)
 
 generates-on : (work : List ℕ) (inputs : Inputs) → NeverStops (generates work inputs)
-generates-on work inputs = never-then (written_tests work inputs.isa inputs.groups) print_report
+generates-on work inputs = never-then (written_tests work inputs.isa inputs.groups) print_text
     (never-then (writes_tests work inputs.isa inputs.groups)
     (λ _. gives (listing inputs.isa inputs.groups)) (tests-on work inputs.isa inputs.groups)
     (λ _. tt)) (λ text. tt)
@@ -199,9 +200,9 @@ stops_untouched (Run program isa names device work) =
     (λ inputs effects stop c goes.
     absurd (goes-on (runs program work inputs) effects stop (runs-on program work inputs) goes))
 stops_untouched (Coverage isa names log windows) =
-    untouched-then (reported isa names log windows) print_report
+    untouched-then (reported isa names log windows) print_text
     (reads-reported isa names log windows) (λ report effects stop c goes.
-    absurd (goes-on (print_report report) effects stop tt goes))
+    absurd (goes-on (print_text report) effects stop tt goes))
 stops_untouched (Demo count) =
     λ effects stop c goes. absurd (goes-on (demonstrate count) effects stop tt goes)
 stops_untouched (Reference isa test signature log steps) =

@@ -15,17 +15,32 @@ use Rattle.rvs_words.specs.declared.command.Command.TheVariants.{Unknown}
 abbrev pub HasLine : Call → List ℕ → List ℕ → Type 0
 HasLine call what which = call.new.err.bytes ≡ appended call.old.err.bytes (fault_line what which)
 
--- the line of a host fault names a file, or the test file of a device run
+-- the host's count of reading, of writing or of devices rose
+abbrev pub ReadsRose : Call → Type 0
+ReadsRose call = Rose call.old.host.read_faults call.new.host.read_faults
+
+abbrev pub WritesRose : Call → Type 0
+WritesRose call = Rose call.old.host.write_faults call.new.host.write_faults
+
+abbrev pub DevicesRose : Call → Type 0
+DevicesRose call = Rose call.old.host.run_faults call.new.host.run_faults
+
+-- The line of a host fault names a file, or the test file of a device run, and the count of its
+-- kind rose. A told host may lack a file without that.
 abbrev pub HasHostLine : Call → Type 0
 HasHostLine call = (name : List ℕ)
-    × (HasLine call (codes "no file ") name ⊎ HasLine call (codes "cannot read ") name
-    ⊎ HasLine call (codes "cannot write ") name ⊎ HasLine call (codes "cannot run ") name)
+    × ((HasLine call (codes "no file ") name
+    × (is_told call.old.host ≡ false → ReadsRose call))
+    ⊎ (HasLine call (codes "cannot read ") name × ReadsRose call)
+    ⊎ (HasLine call (codes "cannot write ") name × WritesRose call)
+    ⊎ (HasLine call (codes "cannot run ") name × DevicesRose call))
 
 pub record Promise (call : Call) : Type 0 where
   -- it says how it is used where its words are no command
   pub usage : call.status ≡ answer.Usage → Asks call Unknown
   pub by_words : Asks call Unknown → (call.status ≡ answer.Usage) ⊎ (call.status ≡ answer.NoMemory)
       ⊎ (call.status ≡ answer.SinkFault)
+  pub by_words_kept : Asks call Unknown → world_of call.new ≡ world_of call.old
   -- a count rose where a host that doesn't tell fails, or a sink
   pub host_fault : call.status ≡ answer.HostFault → is_told call.old.host ≡ false → HostRose call
   pub sink_fault : call.status ≡ answer.SinkFault

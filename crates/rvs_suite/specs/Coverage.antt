@@ -2,17 +2,17 @@
 use Rattle.std.specs.Prelude.{ℕ, nat_lt, if◌then◌else◌, List, map, length, Option, Some, None}
 use Rattle.std.specs.Prelude.{Result, Ok, Err}
 use Rattle.rvs_base.specs.Host.{Files}
-use Rattle.rvs_plan.specs.Plan.{Plan, Ends, Asks, gives, prints, ◌>>=◌}
+use Rattle.rvs_plan.specs.Plan.{Plan, Ends, Asks, ◌>>=◌}
 use Rattle.rvs_plan.specs.Inputs.{too_long_text}
 use Rattle.rvs_plan.specs.declared.stop.Stop.{Stop}
 use Rattle.rvs_plan.specs.declared.stop.Stop.TheVariants.{Refused, NoFile}
 use Rattle.rvs_plan.specs.declared.status.Finish.{Finish}
-use Rattle.rvs_plan.specs.declared.status.Finish.TheVariants.{Done}
 use Rattle.rvs_log.specs.Entries.{entries_of}
 use Rattle.rvs_cgf.specs.Groups.{Label}
 use Rattle.rvs_count.specs.Counting.{aims_of, count, kept}
 use Rattle.rvs_count.specs.Report.{report_of}
 use Rattle.rvs_count.specs.declared.window.Window.{Window}
+use Rattle.rvs_suite.specs.Printing.{print_text}
 use Rattle.rvs_suite.specs.GroupFiles.{Inputs, and_then, inputs_in, group_inputs}
 
 -- a log has at most this many bytes: 2^40
@@ -52,13 +52,8 @@ reported isa names log windows = do
   inputs ← group_inputs isa names
   counts_log log windows inputs
 
--- the report is put
-abbrev pub print_report : List ℕ → Plan Finish
-print_report report = do
-  _ ← prints report
-  gives Done
-
+-- and then the report is put
 abbrev pub coverage : List ℕ → List (List ℕ) → List ℕ → List Window → Plan Finish
 coverage isa names log windows = do
   report ← reported isa names log windows
-  print_report report
+  print_text report

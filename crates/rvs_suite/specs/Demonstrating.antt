@@ -1,8 +1,7 @@
 -- What every call of `demo` promises.
 use Rattle.std.specs.Prelude.{◌≡◌, ◌≢◌, ◌≤◌, ℕ}
-use Rattle.rvs_base.specs.Host.{Files, Tells}
 use Rattle.rvs_base.specs.Sink.{appended}
-use Rattle.rvs_plan.specs.declared.status.Status.TheVariants.{Done, NotPassed, Refused}
+use Rattle.rvs_plan.specs.declared.status.Status.TheVariants.{Done, NotPassed, Refused, HostFault}
 use Rattle.rvs_demo.specs.Demo.{demo_text, IsWhole}
 use Rattle.rvs_suite.specs.Call.{Call, Asks, NothingFailed, AnswersOnly}
 use Rattle.rvs_words.specs.declared.command.Command.TheVariants.{Demo}
@@ -18,11 +17,10 @@ pub record Demonstrates (call : Call) (count : ℕ) : Type 0 where
   pub by_words : NothingFailed call → AnswersOnly call Done
   pub no_verdict : call.status ≢ NotPassed
   pub no_refusal : call.status ≢ Refused
-  -- it writes no file, however it ends
-  pub files_kept : call.new.host.files ≡ call.old.host.files
+  -- it asks nothing of the host, and so never fails for it
+  pub host_kept : call.new.host ≡ call.old.host
+  pub no_host_fault : call.status ≢ HostFault
 
--- the same of every call: over told files, where its words ask for `demo`
+-- the same of every call whose words ask for `demo`, over any host
 abbrev pub Promise : Call → Type 0
-Promise call =
-    (files : Files) (count : ℕ) → Tells call.old.host files → Asks call (Demo count)
-    → Demonstrates call count
+Promise call = (count : ℕ) → Asks call (Demo count) → Demonstrates call count

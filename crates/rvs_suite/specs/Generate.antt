@@ -8,7 +8,7 @@ use Rattle.rvs_plan.specs.declared.status.Finish.{Finish}
 use Rattle.rvs_insn.specs.Isa.{Isa}
 use Rattle.rvs_cgf.specs.Groups.{Label}
 use Rattle.rvs_test.specs.Made.{text_of_label}
-use Rattle.rvs_suite.specs.Coverage.{print_report}
+use Rattle.rvs_suite.specs.Printing.{print_text}
 use Rattle.rvs_suite.specs.GenerateTexts.{Totals, none, label_text, with_labels, listing}
 use Rattle.rvs_suite.specs.GroupFiles.{Inputs, group_inputs}
 
@@ -50,7 +50,7 @@ written_tests work isa groups = do
 abbrev pub generates : List ℕ → Inputs → Plan Finish
 generates work inputs = do
   text ← written_tests work inputs.isa inputs.groups
-  print_report text
+  print_text text
 
 -- the files are read and checked, and then the tests are made
 abbrev pub generate : List ℕ → List (List ℕ) → List ℕ → Plan Finish

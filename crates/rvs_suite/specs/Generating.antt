@@ -1,8 +1,9 @@
 -- What every call of `generate` promises.
 use Rattle.std.specs.Prelude.{◌≡◌, ◌≢◌, ℕ, IsTrue, if◌then◌else◌, List, [], ◌∷◌, ◌++◌, Option, Some}
-use Rattle.std.specs.Prelude.{None, Ok, codes}
+use Rattle.std.specs.Prelude.{None, Result, Ok, codes, Contains}
 use Rattle.rvs_base.specs.Host.{Files, Tells, written}
 use Rattle.rvs_base.specs.Sink.{appended}
+use Rattle.rvs_plan.specs.declared.stop.Stop.{Stop}
 use Rattle.rvs_plan.specs.declared.status.Status.TheVariants.{Done}
 use Rattle.rvs_insn.specs.Isa.{Isa}
 use Rattle.rvs_cgf.specs.Groups.{Label, Point}
@@ -16,6 +17,8 @@ use Rattle.rvs_suite.specs.GenerateTexts.{unsolved_line, name_line, listing}
 use Rattle.rvs_suite.specs.Generate.{path_of}
 use Rattle.rvs_suite.specs.GroupFiles.{Inputs, inputs_in}
 use Rattle.rvs_suite.specs.Tested.{AreTested}
+use Rattle.rvs_suite.specs.Tests.{tests_of}
+use Rattle.rvs_suite.specs.declared.gathering.Test.{Test}
 use Rattle.rvs_words.specs.declared.command.Command.TheVariants.{Generate}
 
 -- the files with a text more, where there is one
@@ -52,6 +55,11 @@ pub record HasNoTest (call : Call) (l : Label) (p : Point) : Type 0 where
   pub out : call.new.out.bytes ≡ appended call.old.out.bytes (name_line l.name ++ (unsolved_line p
       ++ codes "total 0 tests, 0 cases, 1 unsolved, 0 skipped\n"))
 
+-- a file that is none of the tests of these inputs, where they are accepted
+abbrev pub IsNoTest : List ℕ → Result Inputs Stop → List ℕ → Type 0
+IsNoTest work found other = (inputs : Inputs) (test : Test) → found ≡ Ok inputs
+    → Contains (tests_of inputs.isa inputs.groups) test → other ≢ path_of work test.name
+
 -- a call of `generate` on these of these files, for this folder
 pub record Generates (call : Call) (files : Files) (isa : List ℕ) (names : List (List ℕ))
     (work : List ℕ) : Type 0 where
@@ -70,9 +78,9 @@ pub record Generates (call : Call) (files : Files) (isa : List ℕ) (names : Lis
       → inputs_in files isa names ≡ Ok (record { isa = isa'; groups = l ∷ [] })
       → IsTrue l.selected → l.points ≡ p ∷ [] → l.skipped ≡ [] → (IsSolvableAt isa' l 0 → ⊥)
       → call.status ≡ Done → HasNoTest call l p
-  -- it changes no file but those of tests, however it ends
+  -- it changes no file but those of its tests, however it ends
   pub others_kept : (files' : Files) (other : List ℕ)
-      → ((name : List ℕ) → other ≢ path_of work name) → call.new.host.files ≡ Some files'
+      → IsNoTest work (inputs_in files isa names) other → call.new.host.files ≡ Some files'
       → files' other ≡ files other
 
 -- the same of every call: over told files, where its words ask for `generate`

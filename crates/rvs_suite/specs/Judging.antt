@@ -68,11 +68,11 @@ PassesBySpelling bench test run =
     (verdict_by bench test run ≡ Pass (length (reference_words bench.isa test)) run.status)
     ↔ Spells (task_of bench test) run.after
 
--- a file that is none of those of a test in this folder
-pub record IsOther (work other : List ℕ) : Type 0 where
-  pub text : (name : List ℕ) → other ≢ path_of work name
-  pub reference : (name : List ℕ) → other ≢ reference_path work name
-  pub device : (name : List ℕ) → other ≢ device_path work name
+-- a file that is none of those of this test in this folder
+pub record IsOther (work other : List ℕ) (test : Test) : Type 0 where
+  pub text : other ≢ path_of work test.name
+  pub reference : other ≢ reference_path work test.name
+  pub device : other ≢ device_path work test.name
 
 -- a call of `run` on these of these files, for this folder
 pub record Runs (call : Call) (files : Files) (program isa : List ℕ) (names : List (List ℕ))
@@ -113,7 +113,9 @@ pub record Runs (call : Call) (files : Files) (program isa : List ℕ) (names : 
       → Spells (task_of (bench_of program work inputs) test) run.after → NothingFailed call
       → AnswersOnly call Done
   -- it changes no file but those of its tests, however it ends
-  pub others_kept : (files' : Files) (other : List ℕ) → IsOther work other
+  pub others_kept : (files' : Files) (other : List ℕ)
+      → ((inputs : RunInputs) (test : Test) → run_inputs_in files isa names device ≡ Ok inputs
+      → Contains (tests_in inputs) test → IsOther work other test)
       → call.new.host.files ≡ Some files' → files' other ≡ files other
 
 -- the same of every call: over told files, where its words ask for `run`

@@ -1,6 +1,7 @@
 pub mod Texts
 pub mod Compare
 pub mod Specification
+pub mod Printing
 pub mod Validate
 pub mod Plans
 pub mod Limits

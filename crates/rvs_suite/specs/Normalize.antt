@@ -1,18 +1,13 @@
 -- What `normalize` does.
 use Rattle.std.specs.Prelude.{ℕ, List, None}
-use Rattle.rvs_plan.specs.Plan.{Plan, Ends, gives, prints, ◌>>=◌}
+use Rattle.rvs_plan.specs.Plan.{Plan, Ends, ◌>>=◌}
 use Rattle.rvs_plan.specs.declared.status.Finish.{Finish}
-use Rattle.rvs_plan.specs.declared.status.Finish.TheVariants.{Done}
 use Rattle.rvs_insn.specs.Isa.{Isa}
 use Rattle.rvs_cgf.specs.Print.{normal_text}
+use Rattle.rvs_suite.specs.Printing.{print_text}
 use Rattle.rvs_suite.specs.Seen.{seen}
 use Rattle.rvs_suite.specs.Specification.{specification}
 use Rattle.rvs_suite.specs.GroupFiles.{Inputs, joins_all, groups_found, group_inputs}
-
-abbrev pub print_text : List ℕ → Plan Finish
-print_text text = do
-  _ ← prints text
-  gives Done
 
 -- the groups are put, with all points written out
 abbrev pub print_normal : Inputs → Plan Finish

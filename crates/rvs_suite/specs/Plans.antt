@@ -1,8 +1,9 @@
 -- What each command line does.
 use Rattle.std.specs.Prelude.{◌≡◌, ◌⊎◌, List, ℕ, Result, Err}
-use Rattle.rvs_plan.specs.World.{World, Absence, IsFault, IsAnswer}
+use Rattle.rvs_base.specs.Host.{HostState}
+use Rattle.rvs_plan.specs.World.{World, world, Absence, IsFault, IsAnswer}
 use Rattle.rvs_plan.specs.Plan.{Plan, ends}
-use Rattle.rvs_plan.specs.Meets.{Obeys}
+use Rattle.rvs_plan.specs.Meets.{Obeys, Meets}
 use Rattle.rvs_plan.specs.declared.stop.Stop.{Stop}
 use Rattle.rvs_plan.specs.declared.stop.Stop.TheVariants as why
 use Rattle.rvs_plan.specs.declared.status.Finish.{Finish}
@@ -41,6 +42,12 @@ abbrev pub absence_of : Command → Absence
 absence_of (Run program isa groups device work) = IsAnswer
 absence_of _ = IsFault
 
+-- work that has no part in the host: it left the host as it was, and does the same beside any other
+pub record IsApart (plan : Plan Finish) (old new : World) (result : Result Finish Stop) : Type
+    0 where
+  pub kept : new.host ≡ old.host
+  pub beside : (host : HostState) → Meets plan (world host old.out) (world host new.out) result
+
 -- what was done for a command, and how it ended
 pub record Performs (command : Command) (old new : World) (result : Result Finish Stop) : Type
     0 where
@@ -48,3 +55,6 @@ pub record Performs (command : Command) (old new : World) (result : Result Finis
   -- it stops for its words where they are no command
   pub usage : result ≡ Err why.Usage → command ≡ Unknown
   pub no_command : command ≡ Unknown → (result ≡ Err why.Usage) ⊎ (result ≡ Err why.NoMemory)
+  pub unchanged : command ≡ Unknown → new ≡ old
+  -- `demo` needs no host
+  pub apart : (count : ℕ) → command ≡ Demo count → IsApart (demonstrating.demonstrate count) old new result

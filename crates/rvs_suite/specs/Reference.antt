@@ -1,13 +1,13 @@
 -- What `reference` does.
 use Rattle.std.specs.Prelude.{ℕ, List, length, Option, Some, None}
-use Rattle.rvs_plan.specs.Plan.{Plan, gives, prints, writes, ◌>>=◌}
+use Rattle.rvs_plan.specs.Plan.{Plan, gives, writes, ◌>>=◌}
 use Rattle.rvs_plan.specs.Inputs.{input}
 use Rattle.rvs_plan.specs.declared.status.Finish.{Finish}
-use Rattle.rvs_plan.specs.declared.status.Finish.TheVariants.{Done}
 use Rattle.rvs_insn.specs.Isa.{Isa}
 use Rattle.rvs_sig.specs.Words.{text_of_words}
 use Rattle.rvs_machine.specs.declared.event.Executed.{Executed}
 use Rattle.rvs_log.specs.Logs.{log_of}
+use Rattle.rvs_suite.specs.Printing.{print_text}
 use Rattle.rvs_suite.specs.Specification.{specification}
 use Rattle.rvs_suite.specs.TestTexts.{ran_line}
 use Rattle.rvs_suite.specs.TestRun.{accepted, test_found}
@@ -30,9 +30,7 @@ writes_log (Some log) trace = writes log (log_of trace)
 
 -- one line is put
 abbrev pub announces_run : Run → Plan Finish
-announces_run run = do
-  _ ← prints (ran_line (length run.trace) (length run.words))
-  gives Done
+announces_run run = print_text (ran_line (length run.trace) (length run.words))
 
 abbrev pub records_log : Option (List ℕ) → Run → Plan Finish
 records_log log run = do

@@ -1,17 +1,15 @@
 -- What `validate` does.
 use Rattle.std.specs.Prelude.{ℕ, List}
-use Rattle.rvs_plan.specs.Plan.{Plan, gives, prints, ◌>>=◌}
+use Rattle.rvs_plan.specs.Plan.{Plan, ◌>>=◌}
 use Rattle.rvs_plan.specs.declared.status.Finish.{Finish}
-use Rattle.rvs_plan.specs.declared.status.Finish.TheVariants.{Done}
 use Rattle.rvs_isa.specs.Print.{checked_text}
 use Rattle.rvs_isa.specs.declared.accepted_spec.AcceptedSpec.{AcceptedSpec}
+use Rattle.rvs_suite.specs.Printing.{print_text}
 use Rattle.rvs_suite.specs.Specification.{specification}
 
 -- what a specification says is put
 abbrev pub print_said : AcceptedSpec → Plan Finish
-print_said said = do
-  _ ← prints (checked_text said)
-  gives Done
+print_said said = print_text (checked_text said)
 
 -- the ISA file is read and checked, and then what it says is put
 abbrev pub validate : List ℕ → Plan Finish

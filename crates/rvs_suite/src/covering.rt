@@ -1,6 +1,5 @@
 // The command `coverage`.
 ghost use Rattle.std.specs.Prelude.{◌≡◌, ◌≤◌, ◌^◌, [], ℕ, List, IfOk};
-ghost use Rattle.rvs_base.specs.Host.{HostState};
 ghost use Rattle.rvs_base.specs.Sink.{SinkState};
 ghost use Rattle.rvs_plan.specs.World.{world};
 ghost use Rattle.rvs_plan.specs.Plan.{Asks, Ends};
@@ -9,14 +8,14 @@ ghost use Rattle.rvs_cgf.specs.declared.group.Label.{Label};
 ghost use Rattle.rvs_count.specs.State.{ended, state_of};
 ghost use Rattle.rvs_count.specs.declared.window.Window.{Window as Span};
 ghost use Rattle.rvs_suite.specs.GroupsView.{groups_view};
-ghost use Rattle.rvs_suite.specs.Coverage.{report_on, report_found, reported, print_report};
-ghost use Rattle.rvs_suite.specs.Coverage.{coverage};
+ghost use Rattle.rvs_suite.specs.Coverage.{report_on, report_found, reported, coverage};
 
 use crate::group_files::read_inputs;
+use crate::printing::print_text;
 use rvs_base::{Host, Items, NoMemory, Sink, Text};
 use rvs_cgf::Groups;
 use rvs_count::{Counter, LogFault, Window, count_file};
-use rvs_plan::{Finish, Stop, print, too_long};
+use rvs_plan::{Finish, Stop, too_long};
 use rvs_words::owned;
 use std::alloc::Global;
 
@@ -44,20 +43,7 @@ pub fn cover_log<H: Host, O: Sink>(
         (world (H.state host.new) (O.state out.new)) result }
 {
     let report = read_report(alloc, host, isa, names, log, windows)?;
-    print_report(&report, out)
-}
-
-/// Puts a report.
-///
-/// # Errors
-///
-/// [`Stop`].
-pub fn print_report<O: Sink>(report: &Text, out: &mut O) -> Result<Finish, Stop>
-    ensures { (host : HostState) → Meets (print_report report.now)
-        (world host (O.state out.old)) (world host (O.state out.new)) result }
-{
-    print(out, report.as_str().as_bytes())?;
-    Ok(Finish::Done)
+    print_text(&report, out)
 }
 
 /// Reads all files, and makes the report.

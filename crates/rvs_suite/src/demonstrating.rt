@@ -4,9 +4,10 @@ ghost use Rattle.rvs_plan.specs.World.{world};
 ghost use Rattle.rvs_plan.specs.Meets.{Meets};
 ghost use Rattle.rvs_suite.specs.Demonstrate.{demonstrate};
 
+use crate::printing::print_text;
 use rvs_base::Sink;
 use rvs_demo::{DemoSize, demo_text};
-use rvs_plan::{Finish, Stop, print};
+use rvs_plan::{Finish, Stop};
 use std::alloc::Global;
 
 /// Runs a generated program on the reference machine, counts its coverage as it runs, and puts the
@@ -20,6 +21,5 @@ pub fn demonstrate<O: Sink>(alloc: Global, count: DemoSize, out: &mut O) -> Resu
         (world host (O.state out.old)) (world host (O.state out.new)) result }
 {
     let text = demo_text(alloc, count)?;
-    print(out, text.as_str().as_bytes())?;
-    Ok(Finish::Done)
+    print_text(&text, out)
 }

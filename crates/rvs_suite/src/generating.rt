@@ -13,10 +13,10 @@ ghost use Rattle.rvs_suite.specs.GroupsView.{groups_view, inputs_view};
 ghost use Rattle.rvs_suite.specs.Generate.{IsSaid, done, path_of, writes_text, writes_test};
 ghost use Rattle.rvs_suite.specs.Generate.{writes_tests, written_tests, generate};
 
-use crate::covering::print_report;
 use crate::group_files::{Inputs, read_inputs};
 use crate::listing::{push_total, push_unselected};
 use crate::making::{Said, say_made};
+use crate::printing::print_text;
 use rvs_base::{Host, NoMemory, Sink, Text};
 use rvs_cgf::Label;
 use rvs_insn::IsaSpec;
@@ -44,7 +44,7 @@ pub fn generate_tests<H: Host, O: Sink>(
 {
     let inputs = read_inputs(alloc, host, isa, names)?;
     let text = write_tests(alloc, host, work, &inputs)?;
-    print_report(&text, out)
+    print_text(&text, out)
 }
 
 /// Writes the tests of all labels, and says what they are.

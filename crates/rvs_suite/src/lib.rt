@@ -13,6 +13,7 @@ mod judging;
 mod listing;
 mod making;
 mod normalizing;
+mod printing;
 mod reference;
 mod run;
 mod suite;

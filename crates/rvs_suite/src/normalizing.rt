@@ -1,6 +1,5 @@
 // The command `normalize`.
 ghost use Rattle.std.specs.Prelude.{Ok, Err};
-ghost use Rattle.rvs_base.specs.Host.{HostState};
 ghost use Rattle.rvs_base.specs.Sink.{SinkState};
 ghost use Rattle.rvs_plan.specs.World.{World, world};
 ghost use Rattle.rvs_plan.specs.Plan.{Ends};
@@ -10,14 +9,15 @@ ghost use Rattle.rvs_cgf.specs.Groups.{groups_of};
 ghost use Rattle.rvs_cgf.specs.Print.{normal_text};
 ghost use Rattle.rvs_suite.specs.Seen.{seen};
 ghost use Rattle.rvs_suite.specs.GroupFiles.{checked_groups, groups_found};
-ghost use Rattle.rvs_suite.specs.Normalize.{print_text, normal_files, normal_inputs, normalize};
+ghost use Rattle.rvs_suite.specs.Normalize.{normal_files, normal_inputs, normalize};
 
 use crate::group_files::{GROUPS_NAME, group_text, read_joined};
 use crate::isa_file::{read_isa, yaml_text};
+use crate::printing::print_text;
 use rvs_base::{Bytes, Host, Sink, Text};
 use rvs_cgf::write_groups;
 use rvs_insn::IsaSpec;
-use rvs_plan::{Finish, Stop, print};
+use rvs_plan::{Finish, Stop};
 use rvs_yaml::{Tree, parse};
 use std::alloc::Global;
 
@@ -39,14 +39,6 @@ pub fn normalize_files<H: Host, O: Sink>(
 {
     let text = read_normal(alloc, host, isa, names)?;
     print_text(&text, out)
-}
-
-fn print_text<O: Sink>(text: &Text, out: &mut O) -> Result<Finish, Stop>
-    ensures { (host : HostState) → Meets (print_text text.now)
-        (world host (O.state out.old)) (world host (O.state out.new)) result }
-{
-    print(out, text.as_str().as_bytes())?;
-    Ok(Finish::Done)
 }
 
 /// The normal text of the groups of the named files, for the core of an ISA file.

@@ -11,13 +11,14 @@ ghost use Rattle.rvs_log.specs.Logs.{log_of};
 ghost use Rattle.rvs_suite.specs.Reference.{trial, writes_log, announces_run, records, reference};
 
 use crate::isa_file::read_isa;
+use crate::printing::print_text;
 use crate::test_file::run_bytes;
 use crate::test_run::Run;
 use rvs_base::{Bytes, Host, Items, NoMemory, Sink, Text};
 use rvs_insn::IsaSpec;
 use rvs_log::log_line;
 use rvs_machine::Executed;
-use rvs_plan::{Finish, Stop, print, read_input, write_output};
+use rvs_plan::{Finish, Stop, read_input, write_output};
 use rvs_sig::print_words;
 use rvs_words::owned;
 use std::alloc::Global;
@@ -151,8 +152,7 @@ fn announce_run<O: Sink>(alloc: Global, run: &Run, out: &mut O) -> Result<Finish
         run.trace.as_slice().len(),
         run.words.as_slice().len(),
     )?;
-    print(out, line.as_str().as_bytes())?;
-    Ok(Finish::Done)
+    print_text(&line, out)
 }
 
 #[tactic(auto, unfolding(crate::specs::TestTexts::ran_line))]

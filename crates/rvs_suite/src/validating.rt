@@ -5,9 +5,10 @@ ghost use Rattle.rvs_plan.specs.Meets.{Meets};
 ghost use Rattle.rvs_suite.specs.Validate.{print_said, validate};
 
 use crate::isa_file::read_isa;
+use crate::printing::print_text;
 use rvs_base::{Host, Sink};
 use rvs_isa::{AcceptedSpec, print_checked};
-use rvs_plan::{Finish, Stop, print};
+use rvs_plan::{Finish, Stop};
 use std::alloc::Global;
 
 /// Checks an ISA file, and puts what it says of the core.
@@ -33,6 +34,5 @@ fn print_said<O: Sink>(alloc: Global, said: &AcceptedSpec, out: &mut O) -> Resul
         (world host (O.state out.new)) result }
 {
     let text = print_checked(alloc, said)?;
-    print(out, text.as_str().as_bytes())?;
-    Ok(Finish::Done)
+    print_text(&text, out)
 }

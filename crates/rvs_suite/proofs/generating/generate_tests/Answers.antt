@@ -1,6 +1,6 @@
 use Rattle.std.proofs.lemmas.Result.{err_from_is_err_and}
 use Rattle.rvs_plan.proofs.Sequence.{Meets-then, Meets-stop}
-use Rattle.rvs_suite.specs.Coverage.{print_report}
+use Rattle.rvs_suite.specs.Printing.{print_text}
 use Rattle.rvs_suite.specs.Generate.{generates}
 use Rattle.rvs_suite.proofs.generating.generate_tests.Goals as goal
 
@@ -16,11 +16,11 @@ returns-in_err-text g c =
     let p = err_from_is_err_and c.from_residual-in_err-text.result
     c.from_residual-in_err-text.ensures.1 in
     rw (p.1, p.2) (Meets-then (generates c.args.work.now) (c.in_ok-inputs.ensures.met out)
-    (Meets-stop print_report (c.in_err-text.ensures out)))
+    (Meets-stop print_text (c.in_err-text.ensures out)))
 
 pub returns : goal.returns
 returns g c =
     let out = g.O.Sink.state c.args.out.now in
     Meets-then (generates c.args.work.now) (c.in_ok-inputs.ensures.met out)
-    (Meets-then print_report (c.in_ok-text.ensures out)
-    (c.print_report.ensures (g.H.Host.state c.write_tests.new.host)))
+    (Meets-then print_text (c.in_ok-text.ensures out)
+    (c.print_text.ensures (g.H.Host.state c.write_tests.new.host)))

@@ -5,7 +5,7 @@ use Rattle.rvs_plan.specs.Plan.{Plan}
 use Rattle.rvs_plan.specs.Meets.{Meets}
 use Rattle.rvs_plan.specs.declared.status.Finish.{Finish}
 use Rattle.rvs_plan.proofs.Sequence.{Meets-then, Meets-stop}
-use Rattle.rvs_suite.specs.Normalize.{print_text}
+use Rattle.rvs_suite.specs.Printing.{print_text}
 use Rattle.rvs_suite.proofs.NormalPlan.{normal-plan}
 use Rattle.rvs_suite.proofs.normalizing.normalize_files.Goals as goal
 

@@ -1,9 +1,7 @@
 use Rattle.std.proofs.Common.{◌≡◌, ℕ, List, length, ap, ◌∙◌}
 use Rattle.std.proofs.lemmas.Result.{err_from_is_err_and}
 use Rattle.rvs_plan.specs.World.{world}
-use Rattle.rvs_plan.specs.Plan.{gives}
-use Rattle.rvs_plan.specs.declared.status.Finish.TheVariants.{Done}
-use Rattle.rvs_plan.proofs.Sequence.{Meets-then, Meets-stop, Meets-gives, Meets-no_memory}
+use Rattle.rvs_plan.proofs.Sequence.{Meets-no_memory}
 use Rattle.rvs_machine.specs.declared.event.Executed.{Executed}
 use Rattle.rvs_suite.specs.TestTexts.{ran_line}
 use Rattle.rvs_suite.specs.Reference.{announces_run}
@@ -15,25 +13,11 @@ returns-in_err-line g c = λ host.
     rw (p.1, p.2) (Meets-no_memory (announces_run c.args.run.now)
     (world host (g.O.Sink.state c.args.out.now)))
 
-pub returns-in_err-print : goal.returns-in_err-print
-returns-in_err-print g c = λ host.
-    let p = err_from_is_err_and c.from_residual-in_err-print.result
-    c.from_residual-in_err-print.ensures.1 in
-    let line : c.as_bytes.result.now ≡ ran_line (length c.args.run.now.trace)
-    (length c.args.run.now.words) = c.as_bytes.ensures.value ∙ c.as_str.ensures
-    ∙ c.in_ok-line.ensures ∙ ap
-    (λ (t : List Executed). ran_line (length t) (length c.as_slice-2.result.now))
-    c.as_slice.ensures ∙ ap (λ (w : List ℕ). ran_line (length c.args.run.now.trace) (length w))
-    c.as_slice-2.ensures in
-    rw (p.1, p.2) (Meets-stop (λ _. gives Done) (rw line at (c.in_err-print.ensures host)))
-
 pub returns : goal.returns
 returns g c = λ host.
-    let line : c.as_bytes.result.now ≡ ran_line (length c.args.run.now.trace)
-    (length c.args.run.now.words) = c.as_bytes.ensures.value ∙ c.as_str.ensures
-    ∙ c.in_ok-line.ensures ∙ ap
+    let line : c.in_ok-line.line ≡ ran_line (length c.args.run.now.trace)
+    (length c.args.run.now.words) = c.in_ok-line.ensures ∙ ap
     (λ (t : List Executed). ran_line (length t) (length c.as_slice-2.result.now))
     c.as_slice.ensures ∙ ap (λ (w : List ℕ). ran_line (length c.args.run.now.trace) (length w))
     c.as_slice-2.ensures in
-    Meets-then (λ _. gives Done) (rw line at (c.in_ok-print.ensures host))
-    (Meets-gives Done (world host (g.O.Sink.state c.print.new.out)))
+    rw line at (c.print_text.ensures host)

@@ -9,7 +9,7 @@ use Rattle.rvs_suite.specs.Generate.{generate}
 use Rattle.rvs_suite.specs.Normalize.{normalize}
 use Rattle.rvs_suite.specs.Reference.{reference}
 use Rattle.rvs_suite.specs.RunTests.{run}
-use Rattle.rvs_suite.proofs.Running.{Performs-meets, Performs-unknown}
+use Rattle.rvs_suite.proofs.Running.{Performs-meets, Performs-demo, Performs-unknown}
 use Rattle.rvs_suite.proofs.suite.run_command.Goals as goal
 
 pub returns-in-Unknown : goal.returns-in-Unknown
@@ -27,7 +27,7 @@ returns-in-Compare g c =
     c.compare_files.result) l (subst
     (λ (y : List ℕ). Meets (compare c.as_str.result.now y) old new c.compare_files.result) r
     c.compare_files.ensures) in
-    rw c.in-Compare.is (Performs-meets (λ is. cc) met)
+    rw c.in-Compare.is (Performs-meets (λ is. cc) (λ count is. cc) met)
 
 pub returns-in-Validate : goal.returns-in-Validate
 returns-in-Validate g c =
@@ -37,7 +37,7 @@ returns-in-Validate g c =
     world (g.H.Host.state c.validate_file.new.host) (g.O.Sink.state c.validate_file.new.out) in
     let met = subst (λ (isa : List ℕ). Meets (validate isa) old new c.validate_file.result) name
     c.validate_file.ensures in
-    rw c.in-Validate.is (Performs-meets (λ is. cc) met)
+    rw c.in-Validate.is (Performs-meets (λ is. cc) (λ count is. cc) met)
 
 pub returns-in-Normalize : goal.returns-in-Normalize
 returns-in-Normalize g c =
@@ -50,7 +50,7 @@ returns-in-Normalize g c =
     c.normalize_files.result) i c.normalize_files.ensures in
     let met = subst (λ (names : List (List ℕ)). Meets (normalize c.in-Normalize.isa names) old new
     c.normalize_files.result) n one in
-    rw c.in-Normalize.is (Performs-meets (λ is. cc) met)
+    rw c.in-Normalize.is (Performs-meets (λ is. cc) (λ count is. cc) met)
 
 pub returns-in-Generate : goal.returns-in-Generate
 returns-in-Generate g c =
@@ -71,7 +71,7 @@ returns-in-Generate g c =
     one in
     let met = subst (λ (work : List ℕ). Meets (generate c.in-Generate.isa c.in-Generate.groups work)
     old new result) w two in
-    rw c.in-Generate.is (Performs-meets (λ is. cc) met)
+    rw c.in-Generate.is (Performs-meets (λ is. cc) (λ count is. cc) met)
 
 pub returns-in-Reference : goal.returns-in-Reference
 returns-in-Reference g c =
@@ -94,7 +94,7 @@ returns-in-Reference g c =
     let met = subst (λ (signature : List ℕ). Meets
     (reference c.in-Reference.isa c.in-Reference.test signature log steps) old new result) s
     two in
-    rw c.in-Reference.is (Performs-meets (λ is. cc) met)
+    rw c.in-Reference.is (Performs-meets (λ is. cc) (λ count is. cc) met)
 
 pub returns-in-Coverage : goal.returns-in-Coverage
 returns-in-Coverage g c =
@@ -120,7 +120,7 @@ returns-in-Coverage g c =
     let met = subst (λ (windows : List Window). Meets
     (coverage c.in-Coverage.isa c.in-Coverage.groups c.in-Coverage.log windows) old new result)
     w three in
-    rw c.in-Coverage.is (Performs-meets (λ is. cc) met)
+    rw c.in-Coverage.is (Performs-meets (λ is. cc) (λ count is. cc) met)
 
 pub returns-in-Run : goal.returns-in-Run
 returns-in-Run g c =
@@ -147,8 +147,9 @@ returns-in-Run g c =
     let met = subst (λ (x : List ℕ). MeetsWith IsAnswer
     (run c.in-Run.program c.in-Run.isa c.in-Run.groups c.in-Run.device x) old new result) w
     four in
-    rw c.in-Run.is (Performs-meets (λ is. cc) met)
+    rw c.in-Run.is (Performs-meets (λ is. cc) (λ count is. cc) met)
 
 pub returns-in-Demo : goal.returns-in-Demo
 returns-in-Demo g c = rw c.in-Demo.is
-    (Performs-meets (λ is. cc) (c.demonstrate.ensures (g.H.Host.state c.args.host.now)))
+    (Performs-demo c.in-Demo.count (g.H.Host.state c.args.host.now) (g.O.Sink.state c.args.out.now)
+    (g.O.Sink.state c.demonstrate.new.out) c.demonstrate.result c.demonstrate.ensures)
