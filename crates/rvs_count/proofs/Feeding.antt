@@ -1,7 +1,9 @@
 -- A file that is fed piece by piece.
 use Rattle.std.proofs.Common.{◌≡◌, ℕ, ◌+◌, ◌^◌, ◌<◌, true, List, [], ◌++◌, Option, Some, None, refl}
 use Rattle.std.proofs.Common.{sym, ap, ◌∙◌, length, take, drop, arith, append_assoc, append-nil}
-use Rattle.std.proofs.Common.{length-append}
+use Rattle.std.proofs.Common.{length-append, ◌≤◌}
+use Rattle.std.proofs.lemmas.List.{length-take-le, drop_at}
+use Rattle.rvs_base.specs.File.{TakesAtMost}
 use Rattle.std.specs.Prelude.{is_some}
 use Rattle.rvs_base.specs.Host.{HostState, Files, Tells, ReadsOnly, Opens, Takes}
 use Rattle.rvs_count.specs.State.{CountState, state_of}
@@ -117,6 +119,25 @@ HasFed-front h = record {
   front = λ files file told e.
       let o = told_rest files h.reads told in
       (o.0, inner file (h.bytes ++ o.0) (sym e ∙ h.rest files o.0 told o.1));
+}
+
+-- what was fed and the piece behind it, of an open file
+pub HasFed-most : {name buffer : List ℕ} {old now next : HostState} {c c' : CountState}
+    {n most : ℕ} (h : HasFed name old now c c') → ReadsOnly now next → Takes buffer now next n
+    → length h.bytes + n ≤ most → TakesAtMost name most old next
+HasFed-most {name} {buffer} {old} {now} {next} {c} {c'} {n} h q t fits = record {
+  taken = λ files file told is opened.
+      let o = told_rest files (both_read h.reads q) told in
+      let front = h.bytes ++ take n buffer in
+      let whole : files name ≡ Some (front ++ o.0) = file_is h q t files o.0 told o.1
+      ∙ ap (λ l. Some l) (sym (append_assoc h.bytes (take n buffer) o.0)) in
+      let same : file ≡ front ++ o.0 = inner file (front ++ o.0) (sym is ∙ whole) in
+      let left : drop (length front) file ≡ o.0 = ap (drop (length front)) same
+      ∙ drop_at front o.0 (length front) refl in (
+        length front,
+        omega (arith, fits, length-append h.bytes (take n buffer), length-take-le n buffer t.fits),
+        o.1 ∙ ap (λ l. Some l) (sym left),
+      );
 }
 
 -- one piece too much

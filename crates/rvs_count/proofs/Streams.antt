@@ -7,11 +7,12 @@ use Rattle.std.proofs.lemmas.Bool.Decides.{nat_tests}
 use Rattle.std.proofs.lemmas.List.{map-append, length_push}
 use Rattle.std.proofs.lemmas.List.Elements.{filter-append}
 use Rattle.std.specs.Prelude.{◌==◌, nat_le, map}
+use Rattle.rvs_base.specs.Lines.{without_return}
 use Rattle.rvs_log.specs.Grammar.{Reading, Says, Writes, Nothing, reading_of, after_core}
 use Rattle.rvs_log.specs.Grammar.{after_brackets, write_line}
 use Rattle.rvs_log.specs.Cutting.{held_after, last_of, lines_after, lines_held}
 use Rattle.rvs_log.specs.Lines.{whole_from, tail_from, whole_lines, tail_of, line_says}
-use Rattle.rvs_log.specs.Lines.{without_return, held, held_more, held_says}
+use Rattle.rvs_log.specs.Lines.{held, held_more, held_says}
 use Rattle.rvs_log.specs.Entries.{Entry, Heard, unheard, hear, heard, entry_at, entry_in}
 use Rattle.rvs_log.specs.Entries.{entries_in}
 use Rattle.rvs_cgf.specs.declared.group.Label.{Label}

@@ -1,5 +1,6 @@
 // Counting in a file.
-ghost use Rattle.std.specs.Prelude.{◌≡◌, ◌≤◌, IfErr, OnOk, OnErr, length, take};
+ghost use Rattle.std.specs.Prelude.{◌≡◌, ◌≤◌, ◌+◌, ◌-◌, ◌^◌, IfErr, OnOk, OnErr, length, take};
+ghost use Rattle.rvs_base.specs.File.{TakesAtMost};
 ghost use Rattle.rvs_base.specs.Host.{ReadsOnly};
 ghost use Rattle.rvs_count.specs.Feeds.{FeedCause, FeedsFile, FeedsFront};
 
@@ -65,8 +66,8 @@ fn front_of(buffer: &[u8], count: usize) -> &[u8]
     &buffer[..count]
 }
 
-/// Feeds the bytes of a file to its end, in pieces of at most 16 KiB; it doesn't finish the log. It
-/// takes no memory.
+/// Feeds the bytes of a file to its end, in pieces of at most 16 KiB, and takes no more of it than
+/// may be fed and the piece that passes that; it doesn't finish the log. It takes no memory.
 ///
 /// # Errors
 ///
@@ -83,6 +84,8 @@ pub fn count_file<H: Host>(
     ensures front { OnErr result (FeedsFront name.now (H.state host.old) counter.old counter.new) }
     ensures cause { IfErr result
         (FeedCause name.now (H.state host.old) (H.state host.new) counter.old counter.new) }
+    ensures at_most { TakesAtMost name.now (2 ^ 40 - counter.old.fed + 16384)
+        (H.state host.old) (H.state host.new) }
 {
     host.open_read(name)?;
     let mut buffer = [0u8; PIECE];

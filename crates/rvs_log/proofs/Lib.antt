@@ -5,7 +5,6 @@ pub mod Digits
 pub mod Fronts
 pub mod Logs
 pub mod Octets
-pub mod Returns
 pub mod RunLogs
 pub mod RunWords
 pub mod Straight

@@ -4,12 +4,12 @@ use Rattle.std.proofs.Common.{not, ◌&&◌, List, [], ◌∷◌, ◌++◌, Opti
 use Rattle.std.proofs.Common.{◌∙◌, length, arith, append_assoc, append-nil, length-append}
 use Rattle.std.proofs.lemmas.Bool.Decides.{nat_tests}
 use Rattle.std.specs.Prelude.{◌==◌, nat_lt, nat_le, map, codes, All}
+use Rattle.rvs_base.specs.Lines.{without_return}
 use Rattle.rvs_base.specs.Number.{hex_digit_of, hex_digit_at, hex_word_of}
 use Rattle.rvs_machine.specs.Written.{Write}
 use Rattle.rvs_machine.specs.declared.event.Executed.{Executed}
 use Rattle.rvs_log.specs.Grammar.{Says, Nothing, reading_of}
 use Rattle.rvs_log.specs.Lines.{whole_from, tail_from, whole_lines, tail_of, last_line, line_says}
-use Rattle.rvs_log.specs.Lines.{without_return}
 use Rattle.rvs_machine.specs.Traces.{word_of, rs2_of_word, ReadsAt, Follows}
 use Rattle.rvs_log.specs.Entries.{Heard, unheard, hear, entry_at, entry_in, entries_in}
 use Rattle.rvs_log.specs.Written.{padded, commit_text, line_of, IsSmall, HasWords}

@@ -1,7 +1,8 @@
 -- The lines that end in a piece.
 use Rattle.std.specs.Prelude.{◌≡◌, ℕ, ◌+◌, ◌-◌, ◌<◌, ◌≤◌, ◌==◌, Bool, true, false, List, [], ◌∷◌}
 use Rattle.std.specs.Prelude.{◌++◌, length, take, drop, Option, Some, None}
-use Rattle.rvs_log.specs.Lines.{held_more, without_return}
+use Rattle.rvs_base.specs.Lines.{without_return}
+use Rattle.rvs_log.specs.Lines.{held_more}
 use Rattle.rvs_log.specs.declared.follow.NextLine.{NextLine}
 use Rattle.rvs_log.specs.declared.follow.NextLine.TheVariants.{Here, Held, Nowhere}
 use Rattle.rvs_log.specs.declared.follow.Ending.{Ending}

@@ -1,6 +1,7 @@
 -- The lines of a log.
 use Rattle.std.specs.Prelude.{ℕ, ◌==◌, nat_le, Bool, true, false, if◌then◌else◌, List, [], ◌∷◌}
 use Rattle.std.specs.Prelude.{◌++◌, length, Option, Some, None}
+use Rattle.rvs_base.specs.Lines.{without_return}
 use Rattle.rvs_log.specs.Grammar.{Reading, Nothing, reading_of}
 
 -- the ended lines, of which the first has this front already
@@ -35,12 +36,6 @@ last_line (b ∷ bs) = (b ∷ bs) ∷ []
 
 abbrev pub lines_of : List ℕ → List (List ℕ)
 lines_of bytes = whole_lines bytes ++ last_line (tail_of bytes)
-
--- without one carriage return at the end
-abbrev pub without_return : List ℕ → List ℕ
-without_return [] = []
-without_return (b ∷ []) = if b == 13 then [] else b ∷ []
-without_return (b ∷ c ∷ bs) = b ∷ without_return (c ∷ bs)
 
 -- what a line of a log says, which is nothing where it has over 4,096 bytes with its carriage
 -- return

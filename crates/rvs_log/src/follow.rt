@@ -8,10 +8,11 @@ ghost use Rattle.memchr.specs.Find.{IsFirstByte, is_byte};
 ghost use Rattle.rvs_log.specs.contracts.follow.Follow.{the_row};
 ghost use Rattle.rvs_log.specs.Cutting.{HasEnded, IsNextLine, held_after, last_of, lines_after};
 ghost use Rattle.rvs_log.specs.Cutting.{one_or_none, unless_given, waiting};
-ghost use Rattle.rvs_log.specs.Lines.{held_more, without_return};
+ghost use Rattle.rvs_log.specs.Lines.{held_more};
 
 use arrayvec::ArrayVec;
 use memchr::memchr;
+use rvs_base::without_return;
 use std::marker::Model;
 
 /// A line of more bytes, its carriage return counted, says nothing.
@@ -70,18 +71,6 @@ fn line_feed(bytes: &[u8]) -> Option<usize>
     ensures within { IfSome result (λ end. end < length bytes.now) }
 {
     memchr(b'\n', bytes)
-}
-
-/// The line without a carriage return at its end.
-fn without_carriage_return(line: &[u8]) -> &[u8]
-    ensures { result.now ≡ without_return line.now }
-{
-    let end = line.len();
-    if end > 0 && line[end - 1] == b'\r' {
-        &line[..end - 1]
-    } else {
-        line
-    }
 }
 
 /// Keeps more bytes of a line.
@@ -212,14 +201,14 @@ impl Follow {
                 let line = front_of(back_of(piece, start), end - start);
                 Cut {
                     used: end + 1,
-                    line: Some(without_carriage_return(line)),
+                    line: Some(without_return(line)),
                 }
             },
             NextLine::Held(used) => {
                 self.given = true;
                 Cut {
                     used,
-                    line: Some(without_carriage_return(self.bytes.as_slice())),
+                    line: Some(without_return(self.bytes.as_slice())),
                 }
             },
         }
@@ -237,7 +226,7 @@ impl Follow {
         if self.too_long || self.bytes.is_empty() {
             None
         } else {
-            Some(without_carriage_return(self.bytes.as_slice()))
+            Some(without_return(self.bytes.as_slice()))
         }
     }
 }

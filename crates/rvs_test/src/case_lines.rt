@@ -5,9 +5,7 @@ ghost use Rattle.rvs_solver.specs.Choices.{fields_of};
 ghost use Rattle.rvs_test_text.specs.TestText as spec;
 
 use crate::frame_lines::{add_frame, unlinked};
-use crate::shorthands::{
-    addi, copy_word, load_address, load_word, marker, number, pointer, save, sw,
-};
+use crate::shorthands::{addi, copy_word, load_word, marker, number, pointer, save, sw};
 use rvs_base::NoMemory;
 use rvs_insn::{Format, Insn, format};
 use rvs_solver::{Choice, Solved};

@@ -103,13 +103,6 @@ pub(crate) fn load_word(r: u8, word: u32) -> [Statement; 2]
     ]
 }
 
-/// A register gets the address of a symbol.
-pub(crate) fn load_address(r: u8, name: Name) -> [Statement; 2]
-    ensures { result ≡ spec.load_address r name }
-{
-    [Statement::High(r, name), Statement::Low(r, name)]
-}
-
 /// The two words of a case in the signature get those of two registers, by way of `p`.
 pub(crate) fn save(p: u8, k: u32, a: u8, b: u8) -> [Statement; 4]
     requires p { p < 32 }

@@ -5,7 +5,7 @@ use Rattle.std.specs.Prelude.{OnErr}
 use Rattle.rvs_count.specs.Feeds.{Fed, FeedsFront}
 use Rattle.rvs_count.specs.State.{CountState}
 use Rattle.rvs_count.proofs.Feeding.{HasFed-start, HasFed-more, HasFed-whole, HasFed-front}
-use Rattle.rvs_count.proofs.Feeding.{HasFed-long}
+use Rattle.rvs_count.proofs.Feeding.{HasFed-long, HasFed-most}
 use Rattle.rvs_count.proofs.file.count_file.Goals as goal
 
 on_err : {T E : Type 0} (r : Result T E) (P : Type 0) → P → OnErr r P
@@ -28,6 +28,16 @@ returns-in_err-count-clause-front g c =
 pub returns-then-count-eq0-clause-whole : goal.returns-then-count-eq0-clause-whole
 returns-then-count-eq0-clause-whole g c =
     HasFed-whole c.pieces.invariant c.in_ok-count.ensures.taken c.if-count-eq0.true
+
+pub returns-then-count-eq0-clause-at_most : goal.returns-then-count-eq0-clause-at_most
+returns-then-count-eq0-clause-at_most g c =
+    HasFed-most c.pieces.invariant c.take.ensures.reads_only c.in_ok-count.ensures.taken
+    (omega (arith, c.pieces.invariant.fed.fed, c.in_ok-count.ensures.taken.fits))
+
+pub returns-in_err-feed-clause-at_most : goal.returns-in_err-feed-clause-at_most
+returns-in_err-feed-clause-at_most g c =
+    HasFed-most c.pieces.invariant c.take.ensures.reads_only c.in_ok-count.ensures.taken
+    (omega (arith, c.pieces.invariant.fed.fed, c.in_ok-count.ensures.taken.fits))
 
 pub pieces-preserved : goal.pieces-preserved
 pieces-preserved g c =

@@ -1,5 +1,5 @@
 use Rattle.std.proofs.Common.{◌≡◌, ◌+◌, ◌-◌, ◌∷◌, [], take, drop, sym, ap, ◌∙◌, arith}
-use Rattle.rvs_log.specs.Lines.{without_return}
+use Rattle.rvs_base.specs.Lines.{without_return}
 use Rattle.rvs_log.specs.Cutting.{held_after, lines_after, waiting}
 use Rattle.rvs_log.proofs.Cuts.{step_at, rest_at}
 use Rattle.rvs_log.proofs.follow.advance.Goals as goal
