@@ -1,5 +1,5 @@
 -- The answer for lines of which each front has a tree, and for lines of rows.
-use Rattle.std.proofs.Common.{◌≡◌, ℕ, zero, suc, ◌*◌, ◌≤◌, Bool, true, false, List, [], ◌∷◌, ◌++◌}
+use Rattle.std.proofs.Common.{◌≡◌, ℕ, zero, suc, ◌+◌, ◌≤◌, Bool, true, false, List, [], ◌∷◌, ◌++◌}
 use Rattle.std.proofs.Common.{length, refl, sym, ap, subst, ◌∙◌, arith, append_assoc, append-nil}
 use Rattle.std.proofs.Common.{Ok}
 use Rattle.std.specs.Prelude.{◌||◌, map, take, nat_lt, not}
@@ -7,19 +7,21 @@ use Rattle.std.proofs.lemmas.Bool.Decides.{nat_tests}
 use Rattle.rvs_tree.specs.Data.{Data, depth}
 use Rattle.rvs_tree.specs.Value.{Value}
 use Rattle.rvs_yaml_text.specs.Scalar.{is_blank}
-use Rattle.rvs_yaml_text.specs.Text.{words_of}
-use Rattle.rvs_yaml.specs.Checks.{◌>>=◌, ◌>>◌}
+use Rattle.rvs_yaml_text.specs.Text.{lines_of, words_of}
+use Rattle.rvs_yaml.specs.Checks.{Checked, ◌>>=◌, ◌>>◌}
 use Rattle.rvs_yaml.specs.Block.{tree_of}
 use Rattle.rvs_yaml.specs.Parsed.{within_limits, front, at_end, answer_after, answer, HasTree}
+use Rattle.rvs_normal.specs.Again.{KeepsLimit}
 use Rattle.rvs_normal.proofs.Lines.{fed, AreInked, lines-fed}
 use Rattle.rvs_normal.proofs.Rows.{Row, row_text, row_words, row-inked, line-words}
 use Rattle.rvs_normal.proofs.Columns.{Col, words}
 use Rattle.rvs_normal.proofs.Placed.{AreRows, rows_words, no-words, lines, cols, row_cols}
 use Rattle.rvs_normal.proofs.Placed.{words-by-columns}
 use Rattle.rvs_normal.proofs.Apart.{Distinct}
-use Rattle.rvs_normal.proofs.Trees.{Group, all_cols, AreGroups, group_names, HasGroups, groups_cost}
-use Rattle.rvs_normal.proofs.Trees.{groups-block, groups-within}
-use Rattle.rvs_normal.proofs.Cuts.{cut_groups, groups-cut, groups-distinct, are-groups, groups-cost}
+use Rattle.rvs_normal.proofs.Trees.{Group, all_cols, AreGroups, group_names, HasGroups}
+use Rattle.rvs_normal.proofs.Trees.{groups-block, groups_count, groups-size}
+use Rattle.rvs_normal.proofs.Cuts.{cut_groups, groups-cut, groups-distinct, are-groups}
+use Rattle.rvs_normal.proofs.Cuts.{groups-count}
 
 take-none : {X : Type 0} (xs : List X) → take 0 xs ≡ []
 take-none [] = refl
@@ -62,34 +64,43 @@ words-of n started (r ∷ rs) tail good is =
     ∙ ap (λ ws. row_words n r ++ ws)
     (words-of (suc n) (started || not (is_blank true (row_text r))) rs tail good.1 is)
 
-small-enough : (v : Value) → 64 * v.nodes ≤ 32000000 → depth v.tree ≤ 4 → within_limits v ≡ Ok tt
+small-enough : (v : Value) → v.nodes ≤ 500000 → depth v.tree ≤ 4 → within_limits v ≡ Ok tt
 small-enough v n d =
     let deep : nat_lt 32 (depth v.tree) ≡ false = grind (arith, nat_tests) in
     let many : nat_lt 500000 v.nodes ≡ false = grind (arith, nat_tests) in
     rw (deep, many) refl
 
-pub record Reads (gs : List Group) (ls : List (List ℕ)) : Type 0 where
-  pub value : Value
-  pub is : front ls ≡ Ok value.tree
-  pub has : HasGroups gs value
+-- the rows are those of these groups, whose names are apart
+pub record Shows (gs : List Group) (rs : List Row) : Type 0 where
+  pub good : AreRows rs
+  pub same : cols rs ≡ all_cols gs
+  pub apart : Distinct (group_names gs)
+  pub named : AreGroups gs
 
-pub tree-of-rows : (rs : List Row) (gs : List Group) (tail : List (List ℕ)) → AreRows rs
-    → IsTail tail → cols rs ≡ all_cols gs → Distinct (group_names gs) → AreGroups gs
-    → groups_cost gs ≤ 31999936 → Reads gs (map row_text rs ++ tail)
-tree-of-rows rs gs tail good is same apart ok few =
-    let b = groups-block gs apart ok [] 1 (lines 1 rs) in
-    let w = groups-within gs b.0 b.2 in
-    let read : tree_of (words_of 1 false (map row_text rs ++ tail)) ≡ Ok b.0 =
-    ap tree_of
-    (words-of 1 false rs tail good is ∙ words-by-columns 1 rs ∙ ap (words (lines 1 rs)) same)
-    ∙ ap (λ f. f >>= (λ g. Ok g.value)) b.1 in
-    let small = small-enough b.0 (omega (arith, w.nodes, few)) w.depth in
+-- the lines have a value, and it is one of these groups
+record Reads (gs : List Group) (ls : List (List ℕ)) : Type 0 where
+  value : Value
+  is : tree_of (words_of 1 false ls) ≡ Ok value
+  has : HasGroups gs value
+
+rows-read : (rs : List Row) (gs : List Group) (tail : List (List ℕ)) → IsTail tail → Shows gs rs
+    → Reads gs (map row_text rs ++ tail)
+rows-read rs gs tail is s =
+    let b = groups-block gs s.apart s.named [] 1 (lines 1 rs) in
     record {
       value = b.0;
-      is = ap (λ r. r >>= (λ v. within_limits v >> Ok v.tree)) read
-          ∙ ap (λ u. u >> Ok b.0.tree) small;
+      is = ap tree_of (words-of 1 false rs tail s.good is ∙ words-by-columns 1 rs
+          ∙ ap (words (lines 1 rs)) s.same) ∙ ap (λ f. f >>= (λ g. Ok g.value)) b.1;
       has = b.2;
     }
+
+front-of : (gs : List Group) (ls : List (List ℕ)) (r : Reads gs ls) → 1 + groups_count gs ≤ 500000
+    → front ls ≡ Ok r.value.tree
+front-of gs ls r few =
+    let size = groups-size gs r.value r.has in
+    let small = small-enough r.value (omega (arith, size.nodes, few)) size.depth in
+    ap (λ f. f >>= (λ v. within_limits v >> Ok v.tree)) r.is
+    ∙ ap (λ u. u >> Ok r.value.tree) small
 
 -- ---- fronts of rows
 are-rows-take : (n : ℕ) (rs : List Row) → AreRows rs → AreRows (take n rs)
@@ -127,35 +138,68 @@ line-fronts P zero (r ∷ rs) p q = p 0
 line-fronts P (suc m) [] p q = subst (λ ls. P ([] ∷ ls)) (sym (take-nil m)) q
 line-fronts P (suc m) (r ∷ rs) p q = line-fronts (λ ls. P (row_text r ∷ ls)) m rs (λ k. p (suc k)) q
 
-front-tree : (k : ℕ) (rs : List Row) (gs : List Group) → AreRows rs → cols rs ≡ all_cols gs
-    → Distinct (group_names gs) → AreGroups gs → groups_cost gs ≤ 31999936
-    → HasTree (map row_text (take k rs))
-front-tree k rs gs good same apart ok few =
+front-shows : (k : ℕ) (rs : List Row) (gs : List Group) → Shows gs rs
+    → Shows (cut_groups (count k rs) gs) (take k rs)
+front-shows k rs gs s = let n = count k rs in record {
+  good = are-rows-take k rs s.good;
+  same = cols-take k rs ∙ ap (take n) s.same ∙ groups-cut n gs;
+  apart = groups-distinct n gs s.apart;
+  named = are-groups n gs s.named;
+}
+
+front-tree : (k : ℕ) (rs : List Row) (gs : List Group) → Shows gs rs
+    → 1 + groups_count gs ≤ 500000 → HasTree (map row_text (take k rs))
+front-tree k rs gs s few =
     let n = count k rs in
-    let t = tree-of-rows (take k rs) (cut_groups n gs) [] (are-rows-take k rs good) no-tail
-    (cols-take k rs ∙ ap (take n) same ∙ groups-cut n gs) (groups-distinct n gs apart)
-    (are-groups n gs ok) (omega (arith, groups-cost n gs, few)) in
-    (t.value.tree, ap front (sym (append-nil (map row_text (take k rs)))) ∙ t.is)
+    let ls = map row_text (take k rs) in
+    let r = rows-read (take k rs) (cut_groups n gs) [] no-tail (front-shows k rs gs s) in (
+      r.value.tree,
+      ap front (sym (append-nil ls))
+          ∙ front-of (cut_groups n gs) (ls ++ []) r (omega (arith, groups-count n gs, few)),
+    )
 
 inked-rows : (rs : List Row) → AreRows rs → AreInked (map row_text rs)
 inked-rows [] good = tt
 inked-rows (r ∷ rs) good = (row-inked r good.0, inked-rows rs good.1)
 
--- ---- the answer
+-- ---- the answer, where the text keeps the limit on nodes
+whole-read : (rs : List Row) (gs : List Group) → Shows gs rs
+    → Reads gs (lines_of (fed (map row_text rs)))
+whole-read rs gs s =
+    subst (Reads gs) (sym (lines-fed (map row_text rs) (inked-rows rs s.good)))
+    (rows-read rs gs ([] ∷ []) empty-line s)
+
+pub limit-few : (rs : List Row) (gs : List Group) → Shows gs rs
+    → KeepsLimit (fed (map row_text rs)) → 1 + groups_count gs ≤ 500000
+limit-few rs gs s keeps =
+    let r = whole-read rs gs s in
+    let size = groups-size gs r.value r.has in
+    omega (arith, size.nodes, keeps r.value r.is)
+
+pub few-limit : (rs : List Row) (gs : List Group) → Shows gs rs → 1 + groups_count gs ≤ 500000
+    → KeepsLimit (fed (map row_text rs))
+few-limit rs gs s few v is =
+    let r = whole-read rs gs s in
+    let size = groups-size gs r.value r.has in
+    omega (arith, size.nodes, ap (λ (u : Value). u.nodes) (same v r.value (sym is ∙ r.is)))
+  where
+    same : (v w : Value) → ◌≡◌ {A = Checked Value} (Ok v) (Ok w) → v ≡ w
+    same v w e = cc
+
 pub record Answers (gs : List Group) (bytes : List ℕ) : Type 0 where
   pub value : Value
   pub is : answer bytes ≡ Ok value.tree
   pub has : HasGroups gs value
 
-pub rows-answered : (rs : List Row) (gs : List Group) → AreRows rs → cols rs ≡ all_cols gs
-    → Distinct (group_names gs) → AreGroups gs → groups_cost gs ≤ 31999936
+pub rows-answered : (rs : List Row) (gs : List Group) → Shows gs rs → 1 + groups_count gs ≤ 500000
     → Answers gs (fed (map row_text rs))
-rows-answered rs gs good same apart ok few =
-    let t = tree-of-rows rs gs ([] ∷ []) good empty-line same apart ok few in
+rows-answered rs gs s few =
+    let r = rows-read rs gs ([] ∷ []) empty-line s in
+    let whole = front-of gs (map row_text rs ++ ([] ∷ [])) r few in
     record {
-      value = t.value;
-      is = ap (answer_after []) (lines-fed (map row_text rs) (inked-rows rs good))
-          ∙ answered [] (map row_text rs ++ ([] ∷ [])) t.value.tree (λ m. line-fronts HasTree m rs
-          (λ k. front-tree k rs gs good same apart ok few) (t.value.tree, t.is)) t.is;
-      has = t.has;
+      value = r.value;
+      is = ap (answer_after []) (lines-fed (map row_text rs) (inked-rows rs s.good))
+          ∙ answered [] (map row_text rs ++ ([] ∷ [])) r.value.tree (λ m. line-fronts HasTree m rs
+          (λ k. front-tree k rs gs s few) (r.value.tree, whole)) whole;
+      has = r.has;
     }

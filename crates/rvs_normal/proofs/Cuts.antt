@@ -5,8 +5,8 @@ use Rattle.std.specs.Prelude.{map, take}
 use Rattle.rvs_normal.proofs.Columns.{Col, opener, parts_cols, point_col, points_cols}
 use Rattle.rvs_normal.proofs.Apart.{Differs, Distinct}
 use Rattle.rvs_normal.proofs.Trees.{Node, Group, zero_text, node_part, all_cols, AreNodes}
-use Rattle.rvs_normal.proofs.Trees.{AreGroups, node_names, group_names, keys_cost, nodes_cost}
-use Rattle.rvs_normal.proofs.Trees.{groups_cost}
+use Rattle.rvs_normal.proofs.Trees.{AreGroups, node_names, group_names, keys_count, nodes_count}
+use Rattle.rvs_normal.proofs.Trees.{groups_count}
 
 -- the front of so many words, and how many words are left for what is behind
 abbrev pub left : ℕ → List (List ℕ) → ℕ
@@ -131,22 +131,22 @@ are-groups (suc n) (g ∷ gs) a = (
   are-groups (left_nodes n g.nodes) gs a.3,
 )
 
--- ---- and costs no more
-take-cost : (n : ℕ) (ks : List (List ℕ)) → keys_cost (take n ks) ≤ keys_cost ks
-take-cost zero [] = omega arith
-take-cost zero (k ∷ ks) = omega arith
-take-cost (suc n) [] = omega arith
-take-cost (suc n) (k ∷ ks) = omega (arith, take-cost n ks)
+-- ---- and no more nodes count for them
+take-count : (n : ℕ) (ks : List (List ℕ)) → keys_count (take n ks) ≤ keys_count ks
+take-count zero [] = omega arith
+take-count zero (k ∷ ks) = omega arith
+take-count (suc n) [] = omega arith
+take-count (suc n) (k ∷ ks) = omega (arith, take-count n ks)
 
-cut-cost : (n : ℕ) (xs : List Node) → nodes_cost (cut_nodes n xs) ≤ nodes_cost xs
-cut-cost zero [] = omega arith
-cut-cost (suc n) [] = omega arith
-cut-cost zero (x ∷ xs) = omega arith
-cut-cost (suc n) (x ∷ xs) = omega (arith, take-cost n x.keys, cut-cost (left n x.keys) xs)
+cut-count : (n : ℕ) (xs : List Node) → nodes_count (cut_nodes n xs) ≤ nodes_count xs
+cut-count zero [] = omega arith
+cut-count (suc n) [] = omega arith
+cut-count zero (x ∷ xs) = omega arith
+cut-count (suc n) (x ∷ xs) = omega (arith, take-count n x.keys, cut-count (left n x.keys) xs)
 
-pub groups-cost : (n : ℕ) (gs : List Group) → groups_cost (cut_groups n gs) ≤ groups_cost gs
-groups-cost zero [] = omega arith
-groups-cost (suc n) [] = omega arith
-groups-cost zero (g ∷ gs) = omega arith
-groups-cost (suc n) (g ∷ gs) =
-    omega (arith, cut-cost n g.nodes, groups-cost (left_nodes n g.nodes) gs)
+pub groups-count : (n : ℕ) (gs : List Group) → groups_count (cut_groups n gs) ≤ groups_count gs
+groups-count zero [] = omega arith
+groups-count (suc n) [] = omega arith
+groups-count zero (g ∷ gs) = omega arith
+groups-count (suc n) (g ∷ gs) =
+    omega (arith, cut-count n g.nodes, groups-count (left_nodes n g.nodes) gs)

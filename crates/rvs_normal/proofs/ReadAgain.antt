@@ -22,18 +22,18 @@ use Rattle.rvs_cgf.specs.Print.{doubled, doubled_byte, head_line, point_line, po
 use Rattle.rvs_cgf.specs.Print.{skipped_line, label_text, normal_text}
 use Rattle.rvs_cgf.specs.Valid.{IsMeant}
 use Rattle.rvs_cgf.specs.Spelled.{IsPlain, ArePlain, selected, keys_are_own, nodes_are_own}
-use Rattle.rvs_cgf.specs.Spelled.{are_admitted}
+use Rattle.rvs_cgf.specs.Spelled.{are_admitted, CanBeSpelled}
 use Rattle.rvs_cgf.specs.declared.group.Kind.{Kind}
 use Rattle.rvs_cgf.proofs.Spelling.{groups-spelled}
 use Rattle.rvs_cgf.proofs.ReadBack.{spelled_is_read}
 use Rattle.rvs_normal.specs.Once.{KeysOnce, EntriesOnce}
-use Rattle.rvs_normal.specs.Again.{names_are_apart, IsReadAgain}
+use Rattle.rvs_normal.specs.Again.{names_are_apart, IsReadAgain, KeepsLimit}
 use Rattle.rvs_normal.proofs.Truths.{both, and-true, or-both, or-false, not-true, not-false}
 use Rattle.rvs_normal.proofs.OnceRead.{Has, TreeOwned, tree-owned}
 use Rattle.rvs_normal.proofs.Notes.{AllNotes, read-well}
 use Rattle.rvs_normal.proofs.Spelling.{IsPrinted, ArePrinted, IsSome, AllSome, points_cost}
-use Rattle.rvs_normal.proofs.Spelling.{labels_cost, printed-is-read, selected-first}
-use Rattle.rvs_normal.proofs.Spelling.{selected-others}
+use Rattle.rvs_normal.proofs.Spelling.{labels_cost, whole-cost, printed-few, printed-keeps}
+use Rattle.rvs_normal.proofs.Spelling.{printed-is-read, selected-first, selected-others}
 
 -- ---- trees of texts
 tree-of-answer : (done ls : List (List ℕ)) (tree : Data) → answer_after done ls ≡ Ok tree
@@ -255,32 +255,53 @@ plain-admitted isa (l ∷ ls) h = and-true (list_all (is_admitted_op isa) l.ops)
     (list_all (λ m. list_all (is_admitted_op isa) m.ops) ls) h.0.valid.admitted
     (plain-admitted isa ls h.1)
 
-pub read-again : (isa other : Isa) (bytes : List ℕ) (d : Data) (ls : List Label)
-    → answer bytes ≡ Ok d → groups_of isa d ≡ Ok ls → length (normal_text ls) ≤ 4194304
-    → are_admitted other ls ≡ true → IsReadAgain other ls
-read-again isa other bytes d ls a g short admits =
+-- what is known of groups that were read from a text
+record WasRead (isa : Isa) (ls : List Label) : Type 0 where
+  can : CanBeSpelled isa ls
+  printed : ArePrinted ls
+  apart : names_are_apart (selected ls) ≡ true
+
+was-read : (isa : Isa) (bytes : List ℕ) (d : Data) (ls : List Label) → answer bytes ≡ Ok d
+    → groups_of isa d ≡ Ok ls → WasRead isa ls
+was-read isa bytes d ls a g =
     let owned = answer-owned bytes d a in
     let can = groups-spelled isa d ls (nodes-own d owned) g in
     let well = read-well isa d ls (top-own d owned) g in
-    let cost : labels_cost (selected ls)
-    ≤ 31999936 = omega (
-      arith,
-      labels-cost (selected ls),
-      points-few isa (selected ls) can.plain,
-      can.few_labels,
-      can.few_points,
-      text-long ls,
-      short,
-    ) in
-    let r = printed-is-read ls (all-printed isa ls can.plain well.notes)
-    (all-some isa (selected ls) can.plain) (selected-apart ls well.apart) cost in
+    record {
+      can = can;
+      printed = all-printed isa ls can.plain well.notes;
+      apart = selected-apart ls well.apart;
+    }
+
+pub read-again : (isa other : Isa) (bytes : List ℕ) (d : Data) (ls : List Label)
+    → answer bytes ≡ Ok d → groups_of isa d ≡ Ok ls → KeepsLimit (normal_text ls)
+    → are_admitted other ls ≡ true → IsReadAgain other ls
+read-again isa other bytes d ls a g keeps admits =
+    let w = was-read isa bytes d ls a g in
+    let r = printed-is-read ls w.printed (all-some isa (selected ls) w.can.plain) w.apart
+    (printed-few ls w.printed w.apart keeps) in
     record {
       tree = r.tree;
       is = r.is;
-      groups_are = spelled_is_read isa other ls r.tree can admits r.spells;
+      groups_are = spelled_is_read isa other ls r.tree w.can admits r.spells;
     }
+
+pub short-keeps : (isa : Isa) (bytes : List ℕ) (d : Data) (ls : List Label) → answer bytes ≡ Ok d
+    → groups_of isa d ≡ Ok ls → length (normal_text ls) ≤ 4194304 → KeepsLimit (normal_text ls)
+short-keeps isa bytes d ls a g short =
+    let w = was-read isa bytes d ls a g in
+    printed-keeps ls w.printed w.apart (omega (
+      arith,
+      whole-cost (selected ls),
+      labels-cost (selected ls),
+      points-few isa (selected ls) w.can.plain,
+      w.can.few_labels,
+      w.can.few_points,
+      text-long ls,
+      short,
+    ))
 
 pub own-admitted : (isa : Isa) (bytes : List ℕ) (d : Data) (ls : List Label) → answer bytes ≡ Ok d
     → groups_of isa d ≡ Ok ls → are_admitted isa ls ≡ true
-own-admitted isa bytes d ls a g = plain-admitted isa (selected ls)
-    (groups-spelled isa d ls (nodes-own d (answer-owned bytes d a)) g).plain
+own-admitted isa bytes d ls a g =
+    plain-admitted isa (selected ls) (was-read isa bytes d ls a g).can.plain

@@ -1,6 +1,6 @@
 -- Maps without merges: their pairs, how many nodes count for them, and how deep they are.
-use Rattle.std.proofs.Common.{◌≡◌, ℕ, suc, ◌+◌, ◌*◌, ◌≤◌, max, false, List, [], ◌∷◌, ◌++◌, length}
-use Rattle.std.proofs.Common.{refl, sym, ap, ◌∙◌, arith, append_assoc, append-nil}
+use Rattle.std.proofs.Common.{◌≡◌, ℕ, suc, ◌+◌, ◌≤◌, max, min, false, List, [], ◌∷◌, ◌++◌, refl}
+use Rattle.std.proofs.Common.{sym, ap, ◌∙◌, arith, append_assoc, append-nil}
 use Rattle.std.specs.Prelude.{map}
 use Rattle.rvs_tree.specs.Data.{entries_of, pairs_of, own_pairs, Pairs, depth, entries_depth}
 use Rattle.rvs_tree.specs.Value.{Written, map_value, resolved, explicit_keys, written_nodes_from}
@@ -50,28 +50,23 @@ map-depth d line ws own s = let e =
     ap (λ es. entries_depth (entries_of es)) (resolved-own (explicit_keys ws) [] ws own) in
     omega (arith, pairs-depth d ws s, e)
 
--- ---- nodes, in sixty-fourths
-abbrev pub cost : List Written → ℕ
-cost [] = 0
-cost (w ∷ ws) = (length w.key + 64 * w.value.nodes) + cost ws
+-- ---- nodes
+-- how many nodes count for the entries, their keys among them
+abbrev pub nodes_in : List Written → ℕ
+nodes_in [] = 0
+nodes_in (w ∷ ws) = (text_nodes w.key + w.value.nodes) + nodes_in ws
 
-plus-most : (a b : ℕ) → plus a b ≤ a + b
-plus-most a b = grind arith
+one-more : (k n a b : ℕ) → k ≡ min n 500001 → plus (plus k a) b ≡ min (n + (a + b)) 500001
+one-more k n a b e = omega arith
 
-text-most : (k : List ℕ) → 64 * text_nodes k ≤ length k
-text-most k = omega arith
+nodes-counted : (ws : List Written) (k n : ℕ) → k ≡ min n 500001
+    → written_nodes_from k ws ≡ min (n + nodes_in ws) 500001
+nodes-counted [] k n e = omega arith
+nodes-counted (w ∷ ws) k n e =
+    let next = plus (plus k (text_nodes w.key)) w.value.nodes in
+    let more = one-more k n (text_nodes w.key) w.value.nodes e in
+    omega (arith, nodes-counted ws next (n + (text_nodes w.key + w.value.nodes)) more)
 
-nodes-most : (n : ℕ) (ws : List Written) → 64 * written_nodes_from n ws ≤ 64 * n + cost ws
-nodes-most n [] = omega arith
-nodes-most n (w ∷ ws) =
-    let next = plus (plus n (text_nodes w.key)) w.value.nodes in
-    omega (
-      arith,
-      nodes-most next ws,
-      plus-most (plus n (text_nodes w.key)) w.value.nodes,
-      plus-most n (text_nodes w.key),
-      text-most w.key,
-    )
-
-pub map-nodes : (line : ℕ) (ws : List Written) → 64 * (map_value line ws).nodes ≤ 64 + cost ws
-map-nodes line ws = nodes-most 1 ws
+pub map-nodes : (line : ℕ) (ws : List Written)
+    → (map_value line ws).nodes ≡ min (1 + nodes_in ws) 500001
+map-nodes line ws = nodes-counted ws 1 1 refl

@@ -1,5 +1,5 @@
 -- The normal text of groups is read as a tree that spells them.
-use Rattle.std.proofs.Common.{◌≡◌, ℕ, ◌+◌, ◌≤◌, Bool, true, false, List, [], ◌∷◌, ◌++◌, length}
+use Rattle.std.proofs.Common.{◌≡◌, ℕ, ◌+◌, ◌*◌, ◌≤◌, Bool, true, false, List, [], ◌∷◌, ◌++◌, length}
 use Rattle.std.proofs.Common.{refl, sym, ap, subst, ◌∙◌, arith, Ok, None, Some, Option}
 use Rattle.std.specs.Prelude.{◌&&◌, ◌||◌, map, codes, nat_le}
 use Rattle.std.specs.List.{list_all}
@@ -19,7 +19,7 @@ use Rattle.rvs_cgf.specs.Print.{kind_name, goes_on, normal_text}
 use Rattle.rvs_cgf.specs.Spelled.{Block, joined, blocks, selected, kinds_are_apart, SpellsKeys}
 use Rattle.rvs_cgf.specs.Spelled.{SpellsNodes, SpellsLabels, SpellsAll, Spells}
 use Rattle.rvs_cgf.specs.Valid.{are_distinct}
-use Rattle.rvs_normal.specs.Again.{names_are_apart, notes_are_printable}
+use Rattle.rvs_normal.specs.Again.{names_are_apart, notes_are_printable, KeepsLimit}
 use Rattle.rvs_normal.proofs.Truths.{both, and-true}
 use Rattle.rvs_normal.proofs.Lines.{inked-append}
 use Rattle.rvs_normal.proofs.Rows.{is_first, is_next, is_plain, merges-nothing, Row, point_row}
@@ -29,13 +29,13 @@ use Rattle.rvs_normal.proofs.Sizes.{pairs, own-pairs}
 use Rattle.rvs_normal.proofs.Printed.{head_rows, points_rows, skipped_row, label_rows, rows}
 use Rattle.rvs_normal.proofs.Printed.{groups-text}
 use Rattle.rvs_normal.proofs.Placed as placed
-use Rattle.rvs_normal.proofs.Placed.{AreRows, cols, keys, groups-cols}
+use Rattle.rvs_normal.proofs.Placed.{AreRows, keys, groups-cols}
 use Rattle.rvs_normal.proofs.Apart.{Distinct, AllDistinct, distinct-blocks, node-names, label-names}
 use Rattle.rvs_normal.proofs.Trees.{Node, Group, zero_text, node_part, group_part, AreNodes}
-use Rattle.rvs_normal.proofs.Trees.{AreGroups, node_names, group_names, nodes_cost, groups_cost}
+use Rattle.rvs_normal.proofs.Trees.{AreGroups, node_names, group_names, nodes_count, groups_count}
 use Rattle.rvs_normal.proofs.Trees.{HasKeys, IsNode, HasNodes, IsGroup, HasGroups, own-of-texts}
 use Rattle.rvs_normal.proofs.Trees.{own-of-parts}
-use Rattle.rvs_normal.proofs.Answered.{rows-answered}
+use Rattle.rvs_normal.proofs.Answered.{Shows, limit-few, few-limit, rows-answered}
 
 abbrev pub node_of : Block → Node
 node_of b = record { name = kind_name b.kind; keys = keys b.points }
@@ -210,7 +210,7 @@ names-of-groups : (ls : List Label) → group_names (map group_of ls) ≡ map (�
 names-of-groups [] = refl
 names-of-groups (l ∷ ls) = ap (λ ns. l.name ∷ ns) (names-of-groups ls)
 
--- ---- costs
+-- ---- how many nodes, in sixty-fourths
 abbrev pub points_cost : List Point → ℕ
 points_cost [] = 0
 points_cost (p ∷ ps) = (138 + length p.key) + points_cost ps
@@ -225,17 +225,18 @@ kind-short ValComb = omega arith
 kind-short CrossComb = omega arith
 
 joined-cost : (p : Point) (bs : List Block)
-    → nodes_cost (map node_of (joined p bs)) ≤ (138 + length p.key) + nodes_cost (map node_of bs)
+    → 64 * nodes_count (map node_of (joined p bs))
+    ≤ (138 + length p.key) + 64 * nodes_count (map node_of bs)
 joined-cost p [] = omega (arith, kind-short p.kind)
 joined-cost p (b ∷ bs) = by-case (same_kind b.kind p.kind) refl
   where
     by-case : (s : Bool) → same_kind b.kind p.kind ≡ s
-        → nodes_cost (map node_of (joined p (b ∷ bs))) ≤ (138 + length p.key)
-        + nodes_cost (map node_of (b ∷ bs))
+        → 64 * nodes_count (map node_of (joined p (b ∷ bs)))
+        ≤ (138 + length p.key) + 64 * nodes_count (map node_of (b ∷ bs))
     by-case true e = rw (e, joined) (omega (arith, kind-short p.kind))
     by-case false e = rw (e, joined) (omega (arith, kind-short p.kind))
 
-blocks-cost : (ps : List Point) → nodes_cost (map node_of (blocks ps)) ≤ points_cost ps
+blocks-cost : (ps : List Point) → 64 * nodes_count (map node_of (blocks ps)) ≤ points_cost ps
 blocks-cost [] = omega arith
 blocks-cost (p ∷ ps) = omega (arith, joined-cost p (blocks ps), blocks-cost ps)
 
@@ -243,7 +244,7 @@ abbrev pub labels_cost : List Label → ℕ
 labels_cost [] = 0
 labels_cost (l ∷ ls) = (length l.name + (64 + points_cost l.points)) + labels_cost ls
 
-pub whole-cost : (ls : List Label) → groups_cost (map group_of ls) ≤ labels_cost ls
+pub whole-cost : (ls : List Label) → 64 * groups_count (map group_of ls) ≤ labels_cost ls
 whole-cost [] = omega arith
 whole-cost (l ∷ ls) = omega (arith, blocks-cost l.points, whole-cost ls)
 
@@ -351,16 +352,33 @@ pub record IsRead (ls : List Label) : Type 0 where
   pub is : answer (normal_text ls) ≡ Ok tree
   pub spells : Spells ls tree
 
+printed-shows : (ls : List Label) → ArePrinted ls → names_are_apart (selected ls) ≡ true
+    → Shows (map group_of (selected ls)) (rows ls)
+printed-shows ls good apart = record {
+  good = rows-good ls good;
+  same = groups-cols ls ∙ ap (parts_cols 0) (same-groups (selected ls));
+  apart = subst Distinct (sym (names-of-groups (selected ls))) (label-names (selected ls) apart);
+  named = groups-good (selected ls) (selected-printed ls good);
+}
+
+pub printed-few : (ls : List Label) → ArePrinted ls → names_are_apart (selected ls) ≡ true
+    → KeepsLimit (normal_text ls) → 1 + groups_count (map group_of (selected ls)) ≤ 500000
+printed-few ls good apart keeps =
+    limit-few (rows ls) (map group_of (selected ls)) (printed-shows ls good apart)
+    (subst KeepsLimit (groups-text ls) keeps)
+
+pub printed-keeps : (ls : List Label) → ArePrinted ls → names_are_apart (selected ls) ≡ true
+    → 1 + groups_count (map group_of (selected ls)) ≤ 500000 → KeepsLimit (normal_text ls)
+printed-keeps ls good apart few =
+    subst KeepsLimit (sym (groups-text ls))
+    (few-limit (rows ls) (map group_of (selected ls)) (printed-shows ls good apart) few)
+
 pub printed-is-read : (ls : List Label) → ArePrinted ls → AllSome (selected ls)
-    → names_are_apart (selected ls) ≡ true → labels_cost (selected ls) ≤ 31999936 → IsRead ls
+    → names_are_apart (selected ls) ≡ true
+    → 1 + groups_count (map group_of (selected ls)) ≤ 500000 → IsRead ls
 printed-is-read ls good some apart few =
-    let gs = map group_of (selected ls) in
-    let all = selected-printed ls good in
-    let a = rows-answered (rows ls) gs (rows-good ls good)
-    (groups-cols ls ∙ ap (parts_cols 0) (same-groups (selected ls)))
-    (subst Distinct (sym (names-of-groups (selected ls))) (label-names (selected ls) apart))
-    (groups-good (selected ls) all) (omega (arith, whole-cost (selected ls), few)) in
-    record {
+    let a = rows-answered (rows ls) (map group_of (selected ls)) (printed-shows ls good apart) few
+    in record {
       tree = a.value.tree;
       is = ap answer (groups-text ls) ∙ a.is;
       spells = spells-all (selected ls) a.value some a.has;

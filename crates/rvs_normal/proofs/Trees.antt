@@ -1,14 +1,14 @@
--- Maps of maps of maps: their words give their tree.
-use Rattle.std.proofs.Common.{◌≡◌, ℕ, suc, ◌+◌, ◌*◌, ◌≤◌, false, List, [], ◌∷◌, ◌++◌, length, refl}
-use Rattle.std.proofs.Common.{sym, ap, subst, ◌∙◌, arith}
+-- Maps of maps of maps: their words give their tree, of which each node is counted.
+use Rattle.std.proofs.Common.{◌≡◌, ℕ, suc, ◌+◌, ◌≤◌, min, false, List, [], ◌∷◌, ◌++◌, refl, sym}
+use Rattle.std.proofs.Common.{ap, subst, arith}
 use Rattle.std.specs.Prelude.{map, codes}
 use Rattle.rvs_tree.specs.Data.{depth}
-use Rattle.rvs_tree.specs.Value.{Value, Written, scalar_value, map_value}
+use Rattle.rvs_tree.specs.Value.{Value, Written, scalar_value, plus, text_nodes}
 use Rattle.rvs_yaml_text.specs.Scalar.{key_name}
 use Rattle.rvs_normal.proofs.Columns.{Col, Part, parts_cols, points_cols, IsDeeper}
-use Rattle.rvs_normal.proofs.Blocks.{SaysTexts, SaysParts, Maps, Blocks, AreBlocks, block-texts}
-use Rattle.rvs_normal.proofs.Blocks.{block-parts}
-use Rattle.rvs_normal.proofs.Sizes.{AreOwn, AreShallow, cost, map-depth, map-nodes}
+use Rattle.rvs_normal.proofs.Blocks.{IsText, SaysTexts, SaysParts, Maps, Blocks, AreBlocks}
+use Rattle.rvs_normal.proofs.Blocks.{block-texts, block-parts}
+use Rattle.rvs_normal.proofs.Sizes.{AreOwn, AreShallow, nodes_in, map-depth, map-nodes}
 use Rattle.rvs_normal.proofs.Apart.{Distinct, free}
 
 pub record Node : Type 0 where
@@ -33,7 +33,7 @@ all_cols gs = parts_cols 0 (map group_part gs)
 
 -- ---- values: an empty scalar where nothing stands below
 abbrev pub IsEmpty : Value → Type 0
-IsEmpty v = (l : ℕ) × (v ≡ scalar_value [] l)
+IsEmpty v = IsText [] v
 
 abbrev pub HasKeys : List (List ℕ) → Value → Type 0
 HasKeys [] v = IsEmpty v
@@ -119,144 +119,6 @@ groups-block [] d good = no-block (HasGroups []) (λ l. (l, refl))
 groups-block (g ∷ gs) d good = block-parts 0 group_part IsGroup g gs refl
     (groups-blocks (g ∷ gs) good) (free g.name (group_names gs) d)
 
--- ---- sizes
-abbrev pub keys_cost : List (List ℕ) → ℕ
-keys_cost [] = 0
-keys_cost (k ∷ ks) = (length k + 64) + keys_cost ks
-
-abbrev pub nodes_cost : List Node → ℕ
-nodes_cost [] = 0
-nodes_cost (n ∷ ns) = (length n.name + (64 + keys_cost n.keys)) + nodes_cost ns
-
-abbrev pub groups_cost : List Group → ℕ
-groups_cost [] = 0
-groups_cost (g ∷ gs) = (length g.name + (64 + nodes_cost g.nodes)) + groups_cost gs
-
--- at most so many sixty-fourths of nodes count for it, and it is at most so deep
-pub record Within (most deep : ℕ) (v : Value) : Type 0 where
-  pub nodes : 64 * v.nodes ≤ most
-  pub depth : depth v.tree ≤ deep
-
-empty-within : (most deep : ℕ) (v : Value) → IsEmpty v → 64 ≤ most → 1 ≤ deep → Within most deep v
-empty-within most deep v e m d =
-    subst (λ w. Within most deep w) (sym e.1) (record { nodes = m; depth = d })
-
-abbrev pub AreWithin : List ℕ → ℕ → List Written → Type 0
-AreWithin [] deep [] = Unit {0}
-AreWithin [] deep (w ∷ ws) = ⊥
-AreWithin (m ∷ ms) deep [] = ⊥
-AreWithin (m ∷ ms) deep (w ∷ ws) = (w.merges ≡ false) × (length w.key + 64 * w.value.nodes ≤ m)
-    × (depth w.value.tree ≤ deep) × AreWithin ms deep ws
-
-abbrev pub total : List ℕ → ℕ
-total [] = 0
-total (m ∷ ms) = m + total ms
-
-own : (ms : List ℕ) (deep : ℕ) (ws : List Written) → AreWithin ms deep ws → AreOwn ws
-own [] deep [] a = tt
-own [] deep (w ∷ ws) a = absurd a
-own (m ∷ ms) deep [] a = absurd a
-own (m ∷ ms) deep (w ∷ ws) a = (a.0, own ms deep ws a.3)
-
-shallow : (ms : List ℕ) (deep : ℕ) (ws : List Written) → AreWithin ms deep ws → AreShallow deep ws
-shallow [] deep [] a = tt
-shallow [] deep (w ∷ ws) a = absurd a
-shallow (m ∷ ms) deep [] a = absurd a
-shallow (m ∷ ms) deep (w ∷ ws) a = (a.2, shallow ms deep ws a.3)
-
-costs : (ms : List ℕ) (deep : ℕ) (ws : List Written) → AreWithin ms deep ws → cost ws ≤ total ms
-costs [] deep [] a = omega arith
-costs [] deep (w ∷ ws) a = absurd a
-costs (m ∷ ms) deep [] a = absurd a
-costs (m ∷ ms) deep (w ∷ ws) a = omega (arith, a.1, costs ms deep ws a.3)
-
-map-within : (line : ℕ) (ms : List ℕ) (deep : ℕ) (ws : List Written) → AreWithin ms deep ws
-    → Within (64 + total ms) (suc deep) (map_value line ws)
-map-within line ms deep ws a = record {
-  nodes = omega (arith, map-nodes line ws, costs ms deep ws a);
-  depth = map-depth deep line ws (own ms deep ws a) (shallow ms deep ws a);
-}
-
-abbrev pub key_costs : List (List ℕ) → List ℕ
-key_costs [] = []
-key_costs (k ∷ ks) = (length k + 64) ∷ key_costs ks
-
-total-keys : (ks : List (List ℕ)) → total (key_costs ks) ≡ keys_cost ks
-total-keys [] = refl
-total-keys (k ∷ ks) = ap (λ n. (length k + 64) + n) (total-keys ks)
-
-texts-within : (ks : List (List ℕ)) (ws : List Written) → SaysTexts zero_text ks ws
-    → AreWithin (key_costs ks) 1 ws
-texts-within [] [] s = tt
-texts-within [] (w ∷ ws) s = absurd s
-texts-within (k ∷ ks) [] s = absurd s
-texts-within (k ∷ ks) (w ∷ ws) s =
-    let e : (length w.key + 64 * w.value.nodes) ≡ length k + 64 =
-    ap (λ m. length m + 64 * w.value.nodes) s.0 ∙ ap (λ v. length k + 64 * v.nodes) s.2.1 in
-    let d : depth w.value.tree ≡ 1 = ap (λ v. depth v.tree) s.2.1 in
-    (s.1, omega (arith, e), omega (arith, d), texts-within ks ws s.3)
-
-keys-within : (ks : List (List ℕ)) (v : Value) → HasKeys ks v → Within (64 + keys_cost ks) 2 v
-keys-within [] v h = empty-within 64 2 v h (omega arith) (omega arith)
-keys-within (k ∷ ks) v h =
-    let w =
-    map-within h.line (key_costs (k ∷ ks)) 1 h.list (texts-within (k ∷ ks) h.list h.says_so) in
-    subst (λ u. Within (64 + keys_cost (k ∷ ks)) 2 u) (sym h.same)
-    (subst (λ n. Within (64 + n) 2 (map_value h.line h.list)) (total-keys (k ∷ ks)) w)
-
-abbrev pub node_costs : List Node → List ℕ
-node_costs [] = []
-node_costs (n ∷ ns) = (length n.name + (64 + keys_cost n.keys)) ∷ node_costs ns
-
-total-nodes : (ns : List Node) → total (node_costs ns) ≡ nodes_cost ns
-total-nodes [] = refl
-total-nodes (n ∷ ns) = ap (λ m. (length n.name + (64 + keys_cost n.keys)) + m) (total-nodes ns)
-
-parts-within : (ns : List Node) (ws : List Written) → SaysParts node_part IsNode ns ws
-    → AreWithin (node_costs ns) 2 ws
-parts-within [] [] s = tt
-parts-within [] (w ∷ ws) s = absurd s
-parts-within (n ∷ ns) [] s = absurd s
-parts-within (n ∷ ns) (w ∷ ws) s =
-    let k = keys-within n.keys w.value s.2 in
-    let e : length w.key ≡ length n.name = ap length s.0 in
-    (s.1, omega (arith, e, k.nodes), k.depth, parts-within ns ws s.3)
-
-nodes-within : (ns : List Node) (v : Value) → HasNodes ns v → Within (64 + nodes_cost ns) 3 v
-nodes-within [] v h = empty-within 64 3 v h (omega arith) (omega arith)
-nodes-within (n ∷ ns) v h =
-    let w =
-    map-within h.line (node_costs (n ∷ ns)) 2 h.list (parts-within (n ∷ ns) h.list h.says_so) in
-    subst (λ u. Within (64 + nodes_cost (n ∷ ns)) 3 u) (sym h.same)
-    (subst (λ m. Within (64 + m) 3 (map_value h.line h.list)) (total-nodes (n ∷ ns)) w)
-
-abbrev pub group_costs : List Group → List ℕ
-group_costs [] = []
-group_costs (g ∷ gs) = (length g.name + (64 + nodes_cost g.nodes)) ∷ group_costs gs
-
-total-groups : (gs : List Group) → total (group_costs gs) ≡ groups_cost gs
-total-groups [] = refl
-total-groups (g ∷ gs) = ap (λ m. (length g.name + (64 + nodes_cost g.nodes)) + m) (total-groups gs)
-
-outer-within : (gs : List Group) (ws : List Written) → SaysParts group_part IsGroup gs ws
-    → AreWithin (group_costs gs) 3 ws
-outer-within [] [] s = tt
-outer-within [] (w ∷ ws) s = absurd s
-outer-within (g ∷ gs) [] s = absurd s
-outer-within (g ∷ gs) (w ∷ ws) s =
-    let k = nodes-within g.nodes w.value s.2 in
-    let e : length w.key ≡ length g.name = ap length s.0 in
-    (s.1, omega (arith, e, k.nodes), k.depth, outer-within gs ws s.3)
-
-pub groups-within : (gs : List Group) (v : Value) → HasGroups gs v
-    → Within (64 + groups_cost gs) 4 v
-groups-within [] v h = empty-within 64 4 v h (omega arith) (omega arith)
-groups-within (g ∷ gs) v h =
-    let w = map-within h.line (group_costs (g ∷ gs)) 3 h.list
-    (outer-within (g ∷ gs) h.list h.says_so) in
-    subst (λ u. Within (64 + groups_cost (g ∷ gs)) 4 u) (sym h.same)
-    (subst (λ m. Within (64 + m) 4 (map_value h.line h.list)) (total-groups (g ∷ gs)) w)
-
 -- ---- nothing merges
 pub own-of-texts : (t : List ℕ) (ks : List (List ℕ)) (ws : List Written) → SaysTexts t ks ws
     → AreOwn ws
@@ -272,3 +134,96 @@ own-of-parts part is [] [] s = tt
 own-of-parts part is [] (w ∷ ws) s = absurd s
 own-of-parts part is (x ∷ xs) [] s = absurd s
 own-of-parts part is (x ∷ xs) (w ∷ ws) s = (s.1, own-of-parts part is xs ws s.3)
+
+-- ---- how many nodes count for the entries of a map, and how deep it is
+abbrev pub keys_count : List (List ℕ) → ℕ
+keys_count [] = 0
+keys_count (k ∷ ks) = (text_nodes k + 1) + keys_count ks
+
+abbrev pub nodes_count : List Node → ℕ
+nodes_count [] = 0
+nodes_count (n ∷ ns) = (text_nodes n.name + (1 + keys_count n.keys)) + nodes_count ns
+
+abbrev pub groups_count : List Group → ℕ
+groups_count [] = 0
+groups_count (g ∷ gs) = (text_nodes g.name + (1 + nodes_count g.nodes)) + groups_count gs
+
+-- so many nodes count for it, as far as they are counted, and it is at most so deep
+pub record HasSize (count deep : ℕ) (v : Value) : Type 0 where
+  pub nodes : v.nodes ≡ min count 500001
+  pub depth : depth v.tree ≤ deep
+
+-- the same of what is written in a map
+record AreSized (count deep : ℕ) (ws : List Written) : Type 0 where
+  nodes : min (nodes_in ws) 500001 ≡ min count 500001
+  shallow : AreShallow deep ws
+
+scalar-size : (t : List ℕ) (deep : ℕ) (v : Value) → IsText t v → plus 1 (text_nodes t) ≡ 1
+    → 1 ≤ deep → HasSize 1 deep v
+scalar-size t deep v is one d =
+    subst (λ u. HasSize 1 deep u) (sym is.1) (record { nodes = one; depth = d })
+
+none-sized : (deep : ℕ) → AreSized 0 deep []
+none-sized deep = record { nodes = refl; shallow = tt }
+
+one-sized : (name : List ℕ) (count rest deep : ℕ) (w : Written) (ws : List Written)
+    → w.key ≡ name → HasSize count deep w.value → AreSized rest deep ws
+    → AreSized ((text_nodes name + count) + rest) deep (w ∷ ws)
+one-sized name count rest deep w ws e first others =
+    let named : text_nodes w.key ≡ text_nodes name = ap text_nodes e in
+    record {
+      nodes = omega (arith, named, first.nodes, others.nodes);
+      shallow = (first.depth, others.shallow);
+    }
+
+map-size : (says : List Written → Type 0) (count deep : ℕ) (v : Value) (h : Maps says v)
+    → AreOwn h.list → AreSized count deep h.list → HasSize (1 + count) (suc deep) v
+map-size says count deep v h own sized =
+    subst (λ u. HasSize (1 + count) (suc deep) u) (sym h.same) (record {
+      nodes = omega (arith, map-nodes h.line h.list, sized.nodes);
+      depth = map-depth deep h.line h.list own sized.shallow;
+    })
+
+texts-sized : (ks : List (List ℕ)) (ws : List Written) → SaysTexts zero_text ks ws
+    → AreSized (keys_count ks) 1 ws
+texts-sized [] [] s = none-sized 1
+texts-sized [] (w ∷ ws) s = absurd s
+texts-sized (k ∷ ks) [] s = absurd s
+texts-sized (k ∷ ks) (w ∷ ws) s = one-sized k 1 (keys_count ks) 1 w ws s.0
+    (scalar-size zero_text 1 w.value s.2 refl (omega arith)) (texts-sized ks ws s.3)
+
+keys-size : (ks : List (List ℕ)) (v : Value) → HasKeys ks v → HasSize (1 + keys_count ks) 2 v
+keys-size [] v h = scalar-size [] 2 v h refl (omega arith)
+keys-size (k ∷ ks) v h = map-size (SaysTexts zero_text (k ∷ ks)) (keys_count (k ∷ ks)) 1 v h
+    (own-of-texts zero_text (k ∷ ks) h.list h.says_so) (texts-sized (k ∷ ks) h.list h.says_so)
+
+nodes-sized : (ns : List Node) (ws : List Written) → SaysParts node_part IsNode ns ws
+    → AreSized (nodes_count ns) 2 ws
+nodes-sized [] [] s = none-sized 2
+nodes-sized [] (w ∷ ws) s = absurd s
+nodes-sized (n ∷ ns) [] s = absurd s
+nodes-sized (n ∷ ns) (w ∷ ws) s = one-sized n.name (1 + keys_count n.keys) (nodes_count ns) 2 w ws
+    s.0 (keys-size n.keys w.value s.2) (nodes-sized ns ws s.3)
+
+nodes-size : (ns : List Node) (v : Value) → HasNodes ns v → HasSize (1 + nodes_count ns) 3 v
+nodes-size [] v h = scalar-size [] 3 v h refl (omega arith)
+nodes-size (n ∷ ns) v h =
+    map-size (SaysParts node_part IsNode (n ∷ ns)) (nodes_count (n ∷ ns)) 2 v h
+    (own-of-parts node_part IsNode (n ∷ ns) h.list h.says_so)
+    (nodes-sized (n ∷ ns) h.list h.says_so)
+
+groups-sized : (gs : List Group) (ws : List Written) → SaysParts group_part IsGroup gs ws
+    → AreSized (groups_count gs) 3 ws
+groups-sized [] [] s = none-sized 3
+groups-sized [] (w ∷ ws) s = absurd s
+groups-sized (g ∷ gs) [] s = absurd s
+groups-sized (g ∷ gs) (w ∷ ws) s =
+    one-sized g.name (1 + nodes_count g.nodes) (groups_count gs) 3 w ws s.0
+    (nodes-size g.nodes w.value s.2) (groups-sized gs ws s.3)
+
+pub groups-size : (gs : List Group) (v : Value) → HasGroups gs v → HasSize (1 + groups_count gs) 4 v
+groups-size [] v h = scalar-size [] 4 v h refl (omega arith)
+groups-size (g ∷ gs) v h =
+    map-size (SaysParts group_part IsGroup (g ∷ gs)) (groups_count (g ∷ gs)) 3 v h
+    (own-of-parts group_part IsGroup (g ∷ gs) h.list h.says_so)
+    (groups-sized (g ∷ gs) h.list h.says_so)

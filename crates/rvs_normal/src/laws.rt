@@ -7,7 +7,7 @@ ghost use Rattle.rvs_cgf.specs.Groups.{Label, groups_of};
 ghost use Rattle.rvs_cgf.specs.Print.{normal_text};
 ghost use Rattle.rvs_cgf.specs.Spelled.{are_admitted};
 ghost use Rattle.rvs_normal.specs.Once.{KeysOnce};
-ghost use Rattle.rvs_normal.specs.Again.{IsReadAgain};
+ghost use Rattle.rvs_normal.specs.Again.{KeepsLimit, IsReadAgain};
 ghost use Rattle.rvs_normal.specs.Example.{example, example_text, IsReadAs};
 
 /// Each map of an accepted text has each of its keys once, whatever it merges.
@@ -15,14 +15,18 @@ pub fn keys_stand_once()
     ensures { (bytes : List ℕ) (tree : Data) → answer bytes ≡ Ok tree → KeysOnce tree }
 {}
 
-/// The normal text of groups that were read from a text is accepted again, where it has at most
-/// 4 MiB as every file of groups, and gives the selected labels with the same mnemonics and points,
-/// and nothing skipped: for their own core, and for every other that admits their mnemonics.
+/// The normal text of groups that were read from a text is accepted again, where it keeps the limit
+/// on nodes, and gives the selected labels with the same mnemonics and points, and nothing skipped:
+/// for their own core, and for every other that admits their mnemonics. A text of at most 4 MiB, as
+/// every file of groups has, keeps the limit.
 pub fn normal_text_is_read_again()
     ensures again { (isa other : Isa) (bytes : List ℕ) (tree : Data) (groups : List Label)
         → answer bytes ≡ Ok tree → groups_of isa tree ≡ Ok groups
-        → length (normal_text groups) ≤ 4194304 → are_admitted other groups ≡ true
+        → KeepsLimit (normal_text groups) → are_admitted other groups ≡ true
         → IsReadAgain other groups }
+    ensures short { (isa : Isa) (bytes : List ℕ) (tree : Data) (groups : List Label)
+        → answer bytes ≡ Ok tree → groups_of isa tree ≡ Ok groups
+        → length (normal_text groups) ≤ 4194304 → KeepsLimit (normal_text groups) }
     ensures own_core { (isa : Isa) (bytes : List ℕ) (tree : Data) (groups : List Label)
         → answer bytes ≡ Ok tree → groups_of isa tree ≡ Ok groups
         → are_admitted isa groups ≡ true }

@@ -11,7 +11,7 @@ use Rattle.rvs_insn.specs.Isa.{Isa}
 use Rattle.rvs_cgf.specs.Groups.{Label, Refusal, groups_of}
 use Rattle.rvs_cgf.specs.Print.{normal_text}
 use Rattle.rvs_cgf.specs.Spelled.{bare, selected}
-use Rattle.rvs_normal.proofs.ReadAgain.{read-again, own-admitted}
+use Rattle.rvs_normal.proofs.ReadAgain.{read-again, short-keeps, own-admitted}
 use Rattle.rvs_plan.specs.Inputs.{part_end, too_long_text}
 use Rattle.rvs_plan.specs.declared.stop.Stop.TheVariants.{Refused}
 use Rattle.rvs_suite.specs.GroupTexts.{groups_name}
@@ -42,7 +42,8 @@ again-of isa text inputs e short = by-answer (answer text) refl e
         let is = same groups e in
         let listed : groups ≡ inputs.groups = ap (λ (i : Inputs). i.groups) is in
         let g' : groups_of isa tree ≡ Ok inputs.groups = g ∙ ap (λ ls. Ok ls) listed in
-        let r = read-again isa isa text tree inputs.groups a g' short
+        let keeps = short-keeps isa text tree inputs.groups a g' short in
+        let r = read-again isa isa text tree inputs.groups a g' keeps
         (own-admitted isa text tree inputs.groups a g') in (
           sym (ap (λ (i : Inputs). i.isa) is),
           ap (tree_groups isa) r.is
