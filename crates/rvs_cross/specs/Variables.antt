@@ -9,10 +9,10 @@ use Rattle.rvs_cross.specs.declared.cross.Assignment.{Assignment}
 use Rattle.rvs_cross.specs.declared.refusal.CrossRefusal.TheVariants.{TooManyVariables}
 use Rattle.rvs_cross.specs.Outcomes.{Outcome, for_each}
 use Rattle.rvs_cross.specs.Lists.{parts}
+use Rattle.rvs_cross.specs.Entries.{assignment}
 use Rattle.rvs_cross.specs.Once.{each_once}
 use Rattle.rvs_cross.specs.Windows.{same_variable}
 use Rattle.rvs_cross.specs.Choosing.{same_field}
-use Rattle.rvs_cross.specs.Entries.{assignment}
 
 abbrev pub is_noted : List (List ℕ) → List ℕ → Bool
 is_noted vars name = list_any (λ v. bytes_eq v name) vars
@@ -52,7 +52,7 @@ numbered vars set = record { variable = variable_named vars set.0; field = set.1
 abbrev pub set_of : List (List ℕ) → List ℕ → Option Assignment
 set_of vars part = option_map (numbered vars) (assignment part)
 
--- the same variable is the same field
+-- they say the same field of the same variable
 abbrev pub same_set : Assignment → Assignment → Bool
 same_set s t = same_variable s.variable t.variable && same_field s.field t.field
 

@@ -163,7 +163,7 @@ fn add(ops: &mut Vec<Op>, op: Op) -> Result<(), AllocError>
     Ok(())
 }
 
-/// The mnemonics, each once, so at most as many as there are instructions.
+/// The mnemonics, each once, so at most 48. Each is held against those that are kept.
 fn each_once(alloc: Global, named: &[Op]) -> Result<Vec<Op>, AllocError>
     ensures { IfOk result (λ v. v.items ≡ each_once is_same named.now) }
 {
@@ -175,6 +175,10 @@ fn each_once(alloc: Global, named: &[Op]) -> Result<Vec<Op>, AllocError>
 }
 
 /// The mnemonics of an entry, each once; none where any will do.
+///
+/// # Errors
+///
+/// Want of memory.
 pub fn ops(alloc: Global, entry: &str) -> Result<Option<Items<Op>>, AllocError>
     ensures { IfOk result (λ o. o ≡ spec.ops entry.now) }
 {

@@ -152,7 +152,7 @@ fn add(sets: &mut Vec<Assignment>, set: Assignment) -> Result<(), AllocError>
     Ok(())
 }
 
-/// The assignments, each once, so at most nine.
+/// The assignments, each once, so at most nine. Each is held against those that are kept.
 fn each_once(alloc: Global, all: &[Assignment]) -> Result<Vec<Assignment>, AllocError>
     ensures { IfOk result (λ v. v.items ≡ each_once spec.same_set all.now) }
 {
@@ -164,6 +164,10 @@ fn each_once(alloc: Global, all: &[Assignment]) -> Result<Vec<Assignment>, Alloc
 }
 
 /// The assignments of an entry, each once.
+///
+/// # Errors
+///
+/// Want of memory.
 pub fn sets(alloc: Global, variables: &[Text], entry: &str) -> Result<Items<Assignment>, AllocError>
     ensures { IfOk result (λ sets. sets ≡ spec.sets variables.now entry.now) }
 {
