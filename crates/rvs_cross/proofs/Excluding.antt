@@ -17,7 +17,7 @@ use Rattle.rvs_cross.specs.Choosing.{same_field, allows_one, allows}
 use Rattle.rvs_cross.proofs.Members.{by_test, map_in, flat_in}
 use Rattle.rvs_cross.proofs.Searching.{find_none}
 
-field_is : (f g : Field) → same_field f g ≡ true → g ≡ f
+pub field_is : (f g : Field) → same_field f g ≡ true → g ≡ f
 field_is Rd Rd h = refl
 field_is Rd Rs1 h = cc
 field_is Rd Rs2 h = cc

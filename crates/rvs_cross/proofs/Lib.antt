@@ -6,6 +6,7 @@ pub mod Few
 pub mod Members
 pub mod Names
 pub mod Noting
+pub mod Once
 pub mod Rows
 pub mod Searching
 pub mod Solutions

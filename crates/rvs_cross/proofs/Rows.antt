@@ -5,7 +5,6 @@ use Rattle.std.specs.Prelude.{◌==◌}
 use Rattle.std.proofs.Math.Seq.{drop-cons}
 use Rattle.std.proofs.lemmas.List.{length-map}
 use Rattle.std.proofs.lemmas.List.Splits.{length-slice_split}
-use Rattle.rvs_cross.specs.declared.refusal.CrossRefusal.{CrossRefusal}
 use Rattle.rvs_cross.specs.Cross.{Place}
 use Rattle.rvs_cross.specs.Lists.{entries}
 use Rattle.rvs_cross.specs.Outcomes.{Outcome, ◌>>=◌}
@@ -62,15 +61,6 @@ places_more vars a b c i d ps p h e f is =
     places vars (texts (drop (i + 1) a)) (texts (drop (i + 1) b)) (texts (drop (i + 1) c)) in
     front-one ps p rest
     ∙ sym (ap (with_front ps) (at vars a b c i d h e f ∙ ap (λ o. joined o rest) is))
-
-pub places_fail : (vars : List (List ℕ)) (a b c : Refs) (i : ℕ) (d : Bor (List ℕ)) (ps : List Place)
-    (why : CrossRefusal) → i < length a → length b ≡ length a → length c ≡ length a →
-    place vars (get_or a i d).now (get_or b i d).now (get_or c i d).now ≡ Err why →
-    with_front ps (places vars (texts (drop i a)) (texts (drop i b)) (texts (drop i c))) ≡ Err why
-places_fail vars a b c i d ps why h e f is =
-    let rest =
-    places vars (texts (drop (i + 1) a)) (texts (drop (i + 1) b)) (texts (drop (i + 1) c)) in
-    ap (with_front ps) (at vars a b c i d h e f ∙ ap (λ o. joined o rest) is)
 
 -- a list has an entry
 pub some_entry : (xs : Refs) (text : List ℕ) → texts xs ≡ entries text → 1 ≤ length xs

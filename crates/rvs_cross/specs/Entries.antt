@@ -10,10 +10,12 @@ use Rattle.rvs_expr_text.specs.declared.lexeme.Word.{Word}
 use Rattle.rvs_expr_text.specs.declared.lexeme.Word.TheVariants.{Unknown}
 use Rattle.rvs_expr_text.specs.declared.words.Language.TheVariants.{Registers}
 use Rattle.rvs_expr_text.specs.Words.{word_of}
+use Rattle.rvs_facts.specs.Mnemonics.{is_same}
 use Rattle.rvs_abstract.specs.Calls.{is_digit, is_letter, trimmed, before_last}
 use Rattle.rvs_cross.specs.declared.cross.Field.{Field}
 use Rattle.rvs_cross.specs.declared.cross.Field.TheVariants.{Rd, Rs1, Rs2}
 use Rattle.rvs_cross.specs.Lists.{behind, around, parts}
+use Rattle.rvs_cross.specs.Once.{each_once}
 
 -- the entry that asks for nothing
 abbrev pub is_any : List ℕ → Bool
@@ -66,8 +68,10 @@ abbrev pub first_unknown : List (List ℕ) → Option (List ℕ)
 first_unknown [] = None
 first_unknown (entry ∷ more) = option_or (unknown_in entry) (first_unknown more)
 
+-- the mnemonics of an entry, each once; none where any will do
 abbrev pub ops : List ℕ → Option (List Op)
-ops entry = if is_any entry then None else Some (filter_map op_named (names entry))
+ops entry =
+    if is_any entry then None else Some (each_once is_same (filter_map op_named (names entry)))
 
 -- ---- assignments
 -- a small letter or _

@@ -7,6 +7,7 @@ pub mod Entries
 pub mod First
 pub mod Lists
 pub mod ListsView
+pub mod Once
 pub mod Outcomes
 pub mod Parse
 pub mod Refusals

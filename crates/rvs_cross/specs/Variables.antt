@@ -1,6 +1,6 @@
 -- The variables of a cross point, in the order in which they appear first.
 use Rattle.std.specs.Prelude.{ℕ, zero, suc, nat_lt, Bool, if◌then◌else◌, List, [], ◌∷◌, ◌++◌}
-use Rattle.std.specs.Prelude.{length, Option, Some, None, Ok, Err, option_map, bytes_eq}
+use Rattle.std.specs.Prelude.{◌&&◌, length, Option, Some, None, Ok, Err, option_map, bytes_eq}
 use Rattle.std.specs.List.{list_any, position, filter_map}
 use Rattle.rvs_cross.specs.declared.cross.Variable.{Variable}
 use Rattle.rvs_cross.specs.declared.cross.Variable.TheVariants.{First, Second, Third}
@@ -10,6 +10,9 @@ use Rattle.rvs_cross.specs.declared.refusal.CrossRefusal.TheVariants.{TooManyVar
 use Rattle.rvs_cross.specs.Outcomes.{Outcome, for_each}
 use Rattle.rvs_cross.specs.Lists.{parts}
 use Rattle.rvs_cross.specs.Entries.{assignment}
+use Rattle.rvs_cross.specs.Once.{each_once}
+use Rattle.rvs_cross.specs.Windows.{same_variable}
+use Rattle.rvs_cross.specs.Choosing.{same_field}
 
 abbrev pub is_noted : List (List ℕ) → List ℕ → Bool
 is_noted vars name = list_any (λ v. bytes_eq v name) vars
@@ -49,6 +52,10 @@ numbered vars set = record { variable = variable_named vars set.0; field = set.1
 abbrev pub set_of : List (List ℕ) → List ℕ → Option Assignment
 set_of vars part = option_map (numbered vars) (assignment part)
 
--- the assignments of an entry
+-- they say the same field of the same variable
+abbrev pub same_set : Assignment → Assignment → Bool
+same_set s t = same_variable s.variable t.variable && same_field s.field t.field
+
+-- the assignments of an entry, each once
 abbrev pub sets : List (List ℕ) → List ℕ → List Assignment
-sets vars entry = filter_map (set_of vars) (parts 59 entry)
+sets vars entry = each_once same_set (filter_map (set_of vars) (parts 59 entry))

@@ -139,10 +139,8 @@ pub fn places(
 {
     let mut list = Items::new(alloc);
     for (i, entry) in mnemonics.iter().enumerate() {
-        match place(alloc, variables, entry, assignments[i], conditions[i]) {
-            Ok(place) => list.push(place)?,
-            Err(why) => return Err(why),
-        }
+        let place = place(alloc, variables, entry, assignments[i], conditions[i])?;
+        list.push(place)?;
     }
     Ok(list)
 }

@@ -17,7 +17,7 @@ use rvs_expr::Steps;
 use rvs_insn::{Format, Insn, IsaSpec, Op, admits_op, all_ops, format};
 use std::sync::ledger::Ledger;
 
-fn same_field(left: Field, right: Field) -> bool
+pub(crate) fn same_field(left: Field, right: Field) -> bool
     ensures { result ≡ same_field left right }
 {
     matches!(

@@ -1,15 +1,18 @@
 // The entries of the first list and of the second.
-ghost use Rattle.std.specs.Prelude.{◌≡◌, ◌||◌, [], IfOk, bytes_eq, is_some, map, option_map};
+ghost use Rattle.std.specs.Prelude.{◌≡◌, ◌||◌, [], IfOk, OnOk, bytes_eq, is_some, map, option_map};
 ghost use Rattle.std.specs.List.{list_all, find, filter_map};
 ghost use Rattle.rvs_expr_text.specs.declared.words.Language.TheVariants.{Registers};
 ghost use Rattle.rvs_expr_text.specs.Words.{field_word, number_word, word_of};
 ghost use Rattle.rvs_abstract.specs.Calls.{is_digit};
+ghost use Rattle.rvs_facts.specs.Mnemonics.{is_same};
 ghost use Rattle.rvs_cross.specs.Lists.{parts};
+ghost use Rattle.rvs_cross.specs.Once.{each_once, with_one};
 ghost use Rattle.rvs_cross.specs.Entries as spec;
 
 use crate::cross::Field;
 use crate::cutting::{around, before_parenthesis, behind, trimmed};
-use rvs_base::Items;
+use crate::fitting::is_among;
+use rvs_base::{Items, release};
 use rvs_expr_text::register_number;
 use rvs_insn::{Op, op_of};
 use std::alloc::{AllocError, Global};
@@ -61,10 +64,7 @@ fn are_names(inside: &str) -> bool
 fn parenthesised(text: &str) -> Option<&str>
     ensures { option_map (λ t. t.now) result ≡ spec.parenthesised text.now }
 {
-    match behind("(", text) {
-        Some(inside) => before_parenthesis(inside),
-        None => None,
-    }
+    before_parenthesis(behind("(", text)?)
 }
 
 /// Whether an entry is `?`, a mnemonic, or mnemonics in parentheses.
@@ -153,15 +153,42 @@ fn ops_among(alloc: Global, names: &str) -> Result<Vec<Op>, AllocError>
     names.split(',').filter_map(op_named).collect(alloc)
 }
 
-/// The mnemonics of an entry; none where any will do.
+/// Adds a mnemonic, where it isn't there yet.
+fn add(ops: &mut Vec<Op>, op: Op) -> Result<(), AllocError>
+    ensures { OnOk result (ops.new.items ≡ with_one is_same ops.old.items op) }
+{
+    if !is_among(ops.as_slice(), op) {
+        ops.push(op)?;
+    }
+    Ok(())
+}
+
+/// The mnemonics, each once, so at most 48. Each is held against those that are kept.
+fn each_once(alloc: Global, named: &[Op]) -> Result<Vec<Op>, AllocError>
+    ensures { IfOk result (λ v. v.items ≡ each_once is_same named.now) }
+{
+    let mut ops = Vec::new(alloc);
+    for op in named {
+        add(&mut ops, *op)?;
+    }
+    Ok(ops)
+}
+
+/// The mnemonics of an entry, each once; none where any will do.
+///
+/// # Errors
+///
+/// Want of memory.
 pub fn ops(alloc: Global, entry: &str) -> Result<Option<Items<Op>>, AllocError>
     ensures { IfOk result (λ o. o ≡ spec.ops entry.now) }
 {
     if is_any(entry) {
         return Ok(None);
     }
-    let ops = ops_among(alloc, listed(entry))?;
-    Ok(Some(Items::from(ops)))
+    let named = ops_among(alloc, listed(entry))?;
+    let ops = each_once(alloc, named.as_slice());
+    release(named);
+    Ok(Some(Items::from(ops?)))
 }
 
 fn is_small(byte: u8) -> bool
@@ -257,20 +284,16 @@ fn assigned<'t>(name: &'t str, field: &str) -> Option<(&'t str, Field)>
     if !is_variable(name) {
         return None;
     }
-    match field_named(trimmed(field)) {
-        Some(field) => Some((name, field)),
-        None => None,
-    }
+    let field = field_named(trimmed(field))?;
+    Some((name, field))
 }
 
 /// The variable and the field of an assignment.
 pub fn assignment(part: &str) -> Option<(&str, Field)>
     ensures { option_map (λ p. (p.0.now, p.1)) result ≡ spec.assignment part.now }
 {
-    match around('=', part) {
-        Some((name, field)) => assigned(name, field),
-        None => None,
-    }
+    let (name, field) = around('=', part)?;
+    assigned(name, field)
 }
 
 fn is_assignment(part: &str) -> bool

@@ -10,10 +10,8 @@ use rvs_insn::Op;
 fn listed(place: &Place) -> Option<&[Op]>
     ensures { option_copied result ≡ place.now.ops }
 {
-    match &place.ops {
-        None => None,
-        Some(ops) => Some(ops.as_slice()),
-    }
+    let ops = place.ops.as_ref()?;
+    Some(ops.as_slice())
 }
 
 /// The mnemonics that the first place lists; none where any will do. It takes no memory.

@@ -14,7 +14,7 @@ use rvs_facts::is_same;
 use rvs_insn::{Insn, Op};
 use std::sync::ledger::Ledger;
 
-fn is_among(ops: &[Op], op: Op) -> bool
+pub(crate) fn is_among(ops: &[Op], op: Op) -> bool
     ensures { result ≡ list_any (λ o. spec.is_same o op) ops.now }
 {
     ops.iter().any(|other| is_same(*other, op))

@@ -20,20 +20,14 @@ pub struct Lists<'t> {
 fn list_at(text: &str) -> Option<(&str, &str)>
     ensures { option_map (λ p. (p.0.now, p.1.now)) result ≡ spec.list_at text.now }
 {
-    match behind_token("[", text) {
-        Some(inside) => around(']', inside),
-        None => None,
-    }
+    around(']', behind_token("[", text)?)
 }
 
 /// The same, behind `::`.
 fn next_list(text: &str) -> Option<(&str, &str)>
     ensures { option_map (λ p. (p.0.now, p.1.now)) result ≡ spec.next_list text.now }
 {
-    match behind_token("::", text) {
-        Some(list) => list_at(list),
-        None => None,
-    }
+    list_at(behind_token("::", text)?)
 }
 
 /// The three lists of a text.

@@ -29,7 +29,7 @@ pub fn matches<L: Ledger>(cross: &Cross, window: &[Insn], steps: &mut Steps<L>) 
     all_fit(&values, places, window, steps)
 }
 
-fn same_variable(left: Variable, right: Variable) -> bool
+pub(crate) fn same_variable(left: Variable, right: Variable) -> bool
     ensures { result ≡ windows.same_variable left right }
 {
     matches!(
@@ -64,10 +64,7 @@ fn assigned_in(sets: &[Assignment], variable: Variable, insn: &Insn) -> Option<u
     ensures value { result ≡ assigned_in variable sets.now insn.now }
     ensures register { IsRegister result }
 {
-    match assigned_field(sets, variable) {
-        None => None,
-        Some(field) => register_in(insn, field),
-    }
+    register_in(insn, assigned_field(sets, variable)?)
 }
 
 /// The register that the first assignment of a variable finds.

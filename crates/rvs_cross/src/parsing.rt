@@ -158,7 +158,8 @@ fn checked(alloc: Global, lists: &Lists<'_>) -> Result<CrossRead, CrossRefusal>
     with_names(alloc, lists)
 }
 
-/// The cross point that a text is.
+/// The cross point that a text is. A place keeps each mnemonic and each assignment once, so at most
+/// 48 and nine, however often its entries repeat them.
 ///
 /// # Errors
 ///

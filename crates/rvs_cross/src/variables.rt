@@ -1,12 +1,16 @@
 // The variables of a cross point.
-ghost use Rattle.std.specs.Prelude.{◌≡◌, ◌≤◌, IfOk, bytes_eq, length, map};
-ghost use Rattle.std.specs.List.{position};
+ghost use Rattle.std.specs.Prelude.{◌≡◌, ◌≤◌, IfOk, OnOk, bytes_eq, length, map};
+ghost use Rattle.std.specs.List.{filter_map, list_any, position};
+ghost use Rattle.rvs_cross.specs.Lists.{parts};
+ghost use Rattle.rvs_cross.specs.Once.{each_once, with_one};
 ghost use Rattle.rvs_cross.specs.Outcomes.{AnswersWith, for_each};
 ghost use Rattle.rvs_cross.specs.Variables as spec;
 
+use crate::choosing::same_field;
 use crate::cross::{Assignment, Variable};
 use crate::cutting::parts;
 use crate::entries::assignment;
+use crate::matching::same_variable;
 use crate::refusal::CrossRefusal;
 use rvs_base::{Items, Text, beside, release};
 use std::alloc::{AllocError, Global};
@@ -54,10 +58,7 @@ fn note_parts(
 {
     let mut variables = variables;
     for part in parts {
-        match note_part(alloc, part, variables) {
-            Ok(next) => variables = next,
-            Err(why) => return Err(why),
-        }
+        variables = note_part(alloc, part, variables)?;
     }
     Ok(variables)
 }
@@ -84,10 +85,7 @@ pub fn variables(alloc: Global, entries: &[&str]) -> Result<Items<Text>, CrossRe
 {
     let mut variables = Items::new(alloc);
     for entry in entries {
-        match note_entry(alloc, entry, variables) {
-            Ok(next) => variables = next,
-            Err(why) => return Err(why),
-        }
+        variables = note_entry(alloc, entry, variables)?;
     }
     Ok(variables)
 }
@@ -114,17 +112,16 @@ fn variable_named(variables: &[Text], name: &str) -> Variable
 fn set_of(variables: &[Text], part: &str) -> Option<Assignment>
     ensures { result ≡ spec.set_of variables.now part.now }
 {
-    match assignment(part) {
-        Some((name, field)) => Some(Assignment {
-            variable: variable_named(variables, name),
-            field,
-        }),
-        None => None,
-    }
+    let (name, field) = assignment(part)?;
+    Some(Assignment {
+        variable: variable_named(variables, name),
+        field,
+    })
 }
 
 fn sets_among(alloc: Global, variables: &[Text], entry: &str) -> Result<Vec<Assignment>, AllocError>
-    ensures { IfOk result (λ v. v.items ≡ spec.sets variables.now entry.now) }
+    ensures { IfOk result
+        (λ v. v.items ≡ filter_map (spec.set_of variables.now) (parts 59 entry.now)) }
 {
     entry
         .split(';')
@@ -132,9 +129,50 @@ fn sets_among(alloc: Global, variables: &[Text], entry: &str) -> Result<Vec<Assi
         .collect(alloc)
 }
 
-/// The assignments of an entry.
+/// Whether two assignments say the same.
+fn same_set(left: Assignment, right: Assignment) -> bool
+    ensures { result ≡ spec.same_set left right }
+{
+    same_variable(left.variable, right.variable) && same_field(left.field, right.field)
+}
+
+fn is_among(sets: &[Assignment], set: Assignment) -> bool
+    ensures { result ≡ list_any (λ other. spec.same_set other set) sets.now }
+{
+    sets.iter().any(|other| same_set(*other, set))
+}
+
+/// Adds an assignment, where it isn't there yet.
+fn add(sets: &mut Vec<Assignment>, set: Assignment) -> Result<(), AllocError>
+    ensures { OnOk result (sets.new.items ≡ with_one spec.same_set sets.old.items set) }
+{
+    if !is_among(sets.as_slice(), set) {
+        sets.push(set)?;
+    }
+    Ok(())
+}
+
+/// The assignments, each once, so at most nine. Each is held against those that are kept.
+fn each_once(alloc: Global, all: &[Assignment]) -> Result<Vec<Assignment>, AllocError>
+    ensures { IfOk result (λ v. v.items ≡ each_once spec.same_set all.now) }
+{
+    let mut sets = Vec::new(alloc);
+    for set in all {
+        add(&mut sets, *set)?;
+    }
+    Ok(sets)
+}
+
+/// The assignments of an entry, each once.
+///
+/// # Errors
+///
+/// Want of memory.
 pub fn sets(alloc: Global, variables: &[Text], entry: &str) -> Result<Items<Assignment>, AllocError>
     ensures { IfOk result (λ sets. sets ≡ spec.sets variables.now entry.now) }
 {
-    Ok(Items::from(sets_among(alloc, variables, entry)?))
+    let all = sets_among(alloc, variables, entry)?;
+    let sets = each_once(alloc, all.as_slice());
+    release(all);
+    Ok(Items::from(sets?))
 }

@@ -1,8 +1,8 @@
-use Rattle.std.proofs.Common.{◌∷◌, [], ◌∙◌, ap, sym, map, drop, length, length-append, ◌+◌}
+use Rattle.std.proofs.Common.{◌∷◌, [], ◌∙◌, ap, map, drop, length, length-append, ◌+◌}
 use Rattle.std.proofs.lemmas.List.{map-append}
 use Rattle.rvs_cross.specs.Parse.{places}
 use Rattle.rvs_cross.specs.CrossView.{place_view}
-use Rattle.rvs_cross.proofs.Rows.{with_front, texts, places_more, places_fail}
+use Rattle.rvs_cross.proofs.Rows.{with_front, texts, places_more}
 use Rattle.rvs_cross.proofs.building.places.Goals as goal
 
 pub loop-i-preserved : goal.loop-i-preserved
@@ -15,19 +15,14 @@ loop-i-preserved c =
     let rest =
     places vars (texts (drop (i + 1) a)) (texts (drop (i + 1) b)) (texts (drop (i + 1) d)) in
     record {
-      long = ap length c.in_ok-push-in-Ok.ensures.added
-          ∙ length-append c.loop-i.list (c.in-Ok.place ∷ [])
+      long = ap length c.in_ok-push.ensures.added
+          ∙ length-append c.loop-i.list (c.in_ok-place.place ∷ [])
           ∙ ap (λ n. n + 1) c.loop-i.invariant.long;
-      same = ap (λ ps. with_front (map place_view ps) rest) c.in_ok-push-in-Ok.ensures.added
-          ∙ ap (λ ps. with_front ps rest) (map-append place_view c.loop-i.list (c.in-Ok.place ∷ []))
-          ∙ places_more vars a b d i _ (map place_view c.loop-i.list) (place_view c.in-Ok.place)
-          c.loop-i-test.true c.requires.sets c.requires.conditions c.in-Ok.ensures
+      same = ap (λ ps. with_front (map place_view ps) rest) c.in_ok-push.ensures.added
+          ∙ ap (λ ps. with_front ps rest)
+          (map-append place_view c.loop-i.list (c.in_ok-place.place ∷ []))
+          ∙ places_more vars a b d i _ (map place_view c.loop-i.list)
+          (place_view c.in_ok-place.place) c.loop-i-test.true c.requires.sets
+          c.requires.conditions c.in_ok-place.ensures
           ∙ c.loop-i.invariant.same;
     }
-
-pub returns-in-Err-clause-places : goal.returns-in-Err-clause-places
-returns-in-Err-clause-places c = λ k.
-    sym c.loop-i.invariant.same
-    ∙ places_fail c.args.variables.now c.args.mnemonics.now c.args.assignments.now
-    c.args.conditions.now c.loop-i.i _ (map place_view c.loop-i.list) c.in-Err.why
-    c.loop-i-test.true c.requires.sets c.requires.conditions (c.in-Err.ensures k)
