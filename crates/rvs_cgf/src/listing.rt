@@ -11,6 +11,7 @@ ghost use Rattle.rvs_cgf.specs.GroupView.{AnswersWith, label_view, listed_view};
 use crate::entries::is_empty_scalar;
 use crate::group::{Groups, Label};
 use crate::labelling::label_of;
+use crate::limits::{MOST_LABELS, MOST_PAIRS};
 use crate::listed::Listed;
 use crate::refusal::{CgfKind, CgfRefusal};
 use crate::walk::{holds, no_memory, refusal};
@@ -49,7 +50,7 @@ fn with_label(alloc: Global, name: &str, label: Label, listed: Listed) -> Result
         (spec.with_label name.now (label_view label) (listed_view listed)) }
 {
     let total = listed.total + size(&label);
-    if total > 65536 {
+    if total > MOST_PAIRS {
         release(label);
         return Err(refusal(alloc, name, "", "", CgfKind::TooManyPoints));
     }
@@ -62,7 +63,7 @@ fn with_label(alloc: Global, name: &str, label: Label, listed: Listed) -> Result
 fn has_room(listed: &Listed) -> bool
     ensures { result ≡ nat_lt (length (listed_view listed.now).labels) 256 }
 {
-    listed.labels.as_slice().len() < 256
+    listed.labels.as_slice().len() < MOST_LABELS
 }
 
 /// One entry of the file: `datasets` is passed over, every other is a label.
@@ -129,12 +130,13 @@ fn read_tree(alloc: Global, tree: &Tree, isa: &IsaSpec) -> Result<Groups, CgfRef
 /// Reads coverage groups, as riscv-ctg and riscv-isac have them, for a core: each label with its
 /// mnemonics, its points in the file's order, a repeated pair of kind and key at its first place
 /// only, and the entries that are listed and not counted. Of a label whose `config` doesn't hold
-/// for the core only the name is read.
+/// for the core only the name is read. There are at most 256 labels, of 2,048 points each, and
+/// 65,536 pairs of a point and a mnemonic of its label.
 ///
 /// # Errors
 ///
-/// The first rule that an entry breaks, in the file's order, with the label, the node and the key
-/// that the check looks at; or `NoMemory`.
+/// [`CgfRefusal`]: the first rule that is broken, in the order of the file, with the label, the
+/// node and the key at which it shows; or want of memory.
 pub fn read_groups(alloc: Global, tree: &Tree, isa: &IsaSpec) -> Result<Groups, CgfRefusal>
     ensures read { AnswersWith (map label_view) result
         (spec.groups_of isa.now (trees.view tree.now)) }

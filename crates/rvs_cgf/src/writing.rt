@@ -11,6 +11,7 @@ ghost use Rattle.rvs_cgf.specs.WrittenView.{written_view};
 use crate::entries::is_empty_scalar;
 use crate::group::Label;
 use crate::labelling::label_of;
+use crate::limits::{MOST_LABELS, MOST_PAIRS};
 use crate::listing::size;
 use crate::print::push_label;
 use crate::refusal::{CgfKind, CgfRefusal};
@@ -55,7 +56,7 @@ fn with_label(
         (told_of (spec.with_label name.now (label_view label.now) listed)) }
 {
     let total = written.total + size(label);
-    if total > 65536 {
+    if total > MOST_PAIRS {
         return Err(refusal(alloc, name, "", "", CgfKind::TooManyPoints));
     }
     match pushed(label, total, written) {
@@ -79,7 +80,7 @@ fn write_step(
     if name == "datasets" {
         return Ok(written);
     }
-    let few = written.count < 256;
+    let few = written.count < MOST_LABELS;
     holds(alloc, few, name, "", "", CgfKind::TooManyLabels)?;
     let label = label_of(alloc, isa, name, entries)?;
     let written = with_label(alloc, name, &label, written);
@@ -118,8 +119,7 @@ fn write_labels(alloc: Global, isa: &IsaSpec, root: &Tree) -> Result<Written, Cg
 ///
 /// # Errors
 ///
-/// The first rule that an entry breaks, in the file's order, with the label, the node and the key
-/// that the check looks at; or `NoMemory`.
+/// [`CgfRefusal`], as `read_groups` has it.
 #[tactic(auto, unfolding(crate::specs::Groups::groups_of))]
 pub fn write_groups(alloc: Global, tree: &Tree, isa: &IsaSpec) -> Result<Text, CgfRefusal>
     ensures { AnswersWith (λ text. text) result (normal_of isa.now (trees.view tree.now)) }

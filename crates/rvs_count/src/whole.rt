@@ -33,7 +33,7 @@ fn feed_whole(counter: &mut Counter<'_>, log: &[u8])
     }
 }
 
-/// Counts in a log that is there whole.
+/// Counts in a log that is there whole, of at most 2^40 bytes.
 ///
 /// # Errors
 ///
