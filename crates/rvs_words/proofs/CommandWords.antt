@@ -53,7 +53,7 @@ device-name : IsName (codes "--device")
 device-name = record { alone = refl; joined = λ byte text. refl; same = refl }
 
 -- a command of the pairs, each of whose names is known
-of-pairs : (names : List (List ℕ)) (f : List Pair → Command) (words : List (List ℕ))
+pub of-pairs : (names : List (List ℕ)) (f : List Pair → Command) (words : List (List ℕ))
     (ps : List Pair)
     → pairs_of words ≡ Some ps → are_known names ps ≡ true
     → given (pairs_of words) (λ ps. cond (are_known names ps) (f ps) Unknown) ≡ f ps
@@ -148,7 +148,7 @@ generates_are_read program isa work groups m few =
     ∙ some groups few.0 few.1)
     (ap only (values_other (codes "--work") (codes "--cgf") refl groups behind))
 
-run-of : (program : List ℕ) (ps : List Pair) (isa device work : List ℕ) (groups : List (List ℕ))
+pub run-of : (program : List ℕ) (ps : List Pair) (isa device work : List ℕ) (groups : List (List ℕ))
     → only (values_of (codes "--isa") ps) ≡ Some isa
     → some_of 64 (values_of (codes "--cgf") ps) ≡ Some groups
     → only (values_of (codes "--device") ps) ≡ Some device
@@ -185,7 +185,7 @@ runs_are_read program isa device work groups m few =
     (ap only (values_other (codes "--device") (codes "--cgf") refl groups behind))
     (ap only (values_other (codes "--work") (codes "--cgf") refl groups behind))
 
-coverage-of : (ps : List Pair) (isa log : List ℕ) (groups : List (List ℕ)) (kept : List Window)
+pub coverage-of : (ps : List Pair) (isa log : List ℕ) (groups : List (List ℕ)) (kept : List Window)
     → only (values_of (codes "--isa") ps) ≡ Some isa
     → some_of 64 (values_of (codes "--cgf") ps) ≡ Some groups
     → only (values_of (codes "--log") ps) ≡ Some log
@@ -226,7 +226,7 @@ coverages_are_read program isa log groups windows kept m w few fit =
     (ap windows_of (values_other (codes "--window") (codes "--cgf") refl groups behind
     ∙ own-values (codes "--window") window-name windows [] refl) ∙ fit)
 
-reference-of : (ps : List Pair) (isa test signature : List ℕ) (log : Option (List ℕ))
+pub reference-of : (ps : List Pair) (isa test signature : List ℕ) (log : Option (List ℕ))
     (count : Option ℕ)
     → only (values_of (codes "--isa") ps) ≡ Some isa
     → only (values_of (codes "--test") ps) ≡ Some test

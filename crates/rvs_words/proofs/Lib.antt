@@ -1,8 +1,10 @@
 mod WordRows
 mod OptionPairs
+mod OptionValues
 mod CommandWords
 mod OptionOrder
 mod CommandNumbers
 mod FirstCuts
 mod OptionNames
+mod WindowCuts
 mod WindowTexts

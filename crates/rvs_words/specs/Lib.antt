@@ -1,4 +1,5 @@
 pub mod Words
 pub mod Commands
 pub mod Windows
+pub mod Reading
 pub mod CommandLaws

@@ -1,21 +1,24 @@
 // What a command line asks for.
 ghost use Rattle.std.specs.Prelude.{◌≡◌, IfOk, codes, option_and_then};
 ghost use Rattle.rvs_demo.specs.Sizes.{size_of};
-ghost use Rattle.rvs_words.specs.Words.{texts, values_of, are_known};
-ghost use Rattle.rvs_words.specs.Commands.{compare_command, validate_options, validate_of};
-ghost use Rattle.rvs_words.specs.Commands.{validate_command, number_of, within_steps, steps_of};
-ghost use Rattle.rvs_words.specs.Commands.{reference_options, reference_run, reference_of};
-ghost use Rattle.rvs_words.specs.Commands.{reference_command, given, demo_command, named_command};
-ghost use Rattle.rvs_words.specs.Commands.{command_of};
+ghost use Rattle.rvs_words.specs.Words.{texts, values_of};
+ghost use Rattle.rvs_words.specs.Commands.{compare_command, validate_command, reference_command};
+ghost use Rattle.rvs_words.specs.Commands.{demo_command, command_of, number_of, within_steps};
+ghost use Rattle.rvs_words.specs.Commands.{steps_of};
+ghost use Rattle.rvs_words.specs.Reading.{Answers, AsksFor};
 
 use crate::group_commands::{read_coverage, read_generate, read_normalize, read_run};
+use crate::unread::Unread;
 use crate::words::{
-    Pair, are_known, is_positional, only_value, optional_value, owned, read_pairs, values,
+    Pair, check_names, is_positional, only_value, optional_value, owned, read_pairs,
 };
 use rvs_base::{Items, NoMemory, Text, short_number};
 use rvs_count::Window;
 use rvs_demo::DemoSize;
 use std::alloc::Global;
+
+/// The most steps that a run may be given.
+const MOST_STEPS: u64 = 2_000_000;
 
 /// A command with what it is given.
 #[derive(Drop)]
@@ -92,36 +95,34 @@ pub enum Command {
 pub fn read_command(alloc: Global, words: &[String]) -> Result<Command, NoMemory>
     ensures { IfOk result (λ command. command ≡ command_of (texts words.now)) }
 {
-    let [program, name, rest @ ..] = words else {
-        return Ok(Command::Unknown);
-    };
-    read_named(alloc, program.as_str(), name.as_str(), rest)
-}
-
-fn read_named(
-    alloc: Global,
-    program: &str,
-    name: &str,
-    words: &[String],
-) -> Result<Command, NoMemory>
-    ensures { IfOk result (λ command.
-        command ≡ named_command program.now name.now (texts words.now)) }
-{
-    match name {
-        "compare" => read_compare(alloc, words),
-        "validate" => read_validate(alloc, words),
-        "normalize" => read_normalize(alloc, words),
-        "generate" => read_generate(alloc, words),
-        "reference" => read_reference(alloc, words),
-        "coverage" => read_coverage(alloc, words),
-        "run" => read_run(alloc, program, words),
-        "demo" => Ok(read_demo(words)),
-        _ => Ok(Command::Unknown),
+    match read_named(alloc, words) {
+        Ok(command) => Ok(command),
+        Err(Unread::NoCommand) => Ok(Command::Unknown),
+        Err(Unread::NoMemory) => Err(NoMemory),
     }
 }
 
-fn read_compare(alloc: Global, words: &[String]) -> Result<Command, NoMemory>
-    ensures { IfOk result (λ command. command ≡ compare_command (texts words.now)) }
+fn read_named(alloc: Global, words: &[String]) -> Result<Command, Unread>
+    ensures { AsksFor result (command_of (texts words.now)) }
+{
+    let [program, name, rest @ ..] = words else {
+        return Err(Unread::NoCommand);
+    };
+    match name.as_str() {
+        "compare" => read_compare(alloc, rest),
+        "validate" => read_validate(alloc, rest),
+        "normalize" => read_normalize(alloc, rest),
+        "generate" => read_generate(alloc, rest),
+        "reference" => read_reference(alloc, rest),
+        "coverage" => read_coverage(alloc, rest),
+        "run" => read_run(alloc, program.as_str(), rest),
+        "demo" => read_demo(rest),
+        _ => Err(Unread::NoCommand),
+    }
+}
+
+fn read_compare(alloc: Global, words: &[String]) -> Result<Command, Unread>
+    ensures { AsksFor result (compare_command (texts words.now)) }
 {
     match words {
         [left, right] if is_positional(left.as_str()) && is_positional(right.as_str()) => {
@@ -130,84 +131,34 @@ fn read_compare(alloc: Global, words: &[String]) -> Result<Command, NoMemory>
                 right: owned(alloc, right.as_str())?,
             })
         },
-        _ => Ok(Command::Unknown),
+        _ => Err(Unread::NoCommand),
     }
 }
 
-fn read_validate(alloc: Global, words: &[String]) -> Result<Command, NoMemory>
-    ensures { IfOk result (λ command. command ≡ validate_command (texts words.now)) }
+fn read_validate(alloc: Global, words: &[String]) -> Result<Command, Unread>
+    ensures { AsksFor result (validate_command (texts words.now)) }
 {
-    match read_pairs(alloc, words)? {
-        Some(pairs) if are_of_validate(pairs.as_slice()) => read_checked(alloc, pairs.as_slice()),
-        _ => Ok(Command::Unknown),
-    }
-}
-
-fn are_of_validate(pairs: &[Pair]) -> bool
-    ensures { result ≡ are_known validate_options pairs.now }
-{
-    are_known(pairs, &["--isa"])
-}
-
-fn read_checked(alloc: Global, pairs: &[Pair]) -> Result<Command, NoMemory>
-    ensures { IfOk result (λ command. command ≡ validate_of pairs.now) }
-{
-    let Some(isa) = only_value(alloc, pairs, "--isa")? else {
-        return Ok(Command::Unknown);
-    };
+    let options = read_pairs(alloc, words)?;
+    let pairs = options.as_slice();
+    check_names(pairs, &["--isa"])?;
+    let isa = only_value(alloc, pairs, "--isa")?;
     Ok(Command::Validate { isa })
 }
 
-fn read_reference(alloc: Global, words: &[String]) -> Result<Command, NoMemory>
-    ensures { IfOk result (λ command. command ≡ reference_command (texts words.now)) }
+fn read_reference(alloc: Global, words: &[String]) -> Result<Command, Unread>
+    ensures { AsksFor result (reference_command (texts words.now)) }
 {
-    match read_pairs(alloc, words)? {
-        Some(pairs) if are_of_reference(pairs.as_slice()) => {
-            read_inputs(alloc, pairs.as_slice())
-        },
-        _ => Ok(Command::Unknown),
-    }
-}
-
-fn are_of_reference(pairs: &[Pair]) -> bool
-    ensures { result ≡ are_known reference_options pairs.now }
-{
-    are_known(
+    let options = read_pairs(alloc, words)?;
+    let pairs = options.as_slice();
+    check_names(
         pairs,
         &["--isa", "--test", "--signature", "--log", "--steps"],
-    )
-}
-
-fn read_inputs(alloc: Global, pairs: &[Pair]) -> Result<Command, NoMemory>
-    ensures { IfOk result (λ command. command ≡ reference_of pairs.now) }
-{
-    let Some(isa) = only_value(alloc, pairs, "--isa")? else {
-        return Ok(Command::Unknown);
-    };
-    let Some(test) = only_value(alloc, pairs, "--test")? else {
-        return Ok(Command::Unknown);
-    };
-    let Some(signature) = only_value(alloc, pairs, "--signature")? else {
-        return Ok(Command::Unknown);
-    };
-    read_reference_run(alloc, isa, test, signature, pairs)
-}
-
-fn read_reference_run(
-    alloc: Global,
-    isa: Text,
-    test: Text,
-    signature: Text,
-    pairs: &[Pair],
-) -> Result<Command, NoMemory>
-    ensures { IfOk result (λ command. command ≡ reference_run isa test signature pairs.now) }
-{
-    let Some(log) = optional_value(alloc, pairs, "--log")? else {
-        return Ok(Command::Unknown);
-    };
-    let Some(steps) = read_steps(alloc, pairs)? else {
-        return Ok(Command::Unknown);
-    };
+    )?;
+    let isa = only_value(alloc, pairs, "--isa")?;
+    let test = only_value(alloc, pairs, "--test")?;
+    let signature = only_value(alloc, pairs, "--signature")?;
+    let log = optional_value(alloc, pairs, "--log")?;
+    let steps = read_steps(alloc, pairs)?;
     Ok(Command::Reference {
         isa,
         test,
@@ -217,34 +168,29 @@ fn read_reference_run(
     })
 }
 
-/// The value of `--steps`, which needn't stand. There is none where it isn't a number of steps, or
-/// stands twice.
-fn read_steps(alloc: Global, pairs: &[Pair]) -> Result<Option<Option<u64>>, NoMemory>
-    ensures { IfOk result (λ steps. steps ≡ steps_of (values_of (codes "--steps") pairs.now)) }
+/// The value of `--steps`, which needn't stand.
+///
+/// # Errors
+///
+/// [`Unread`]: `NoCommand` where it isn't a number of steps, or stands twice.
+#[tactic(auto, using(crate::proofs::OptionValues::steps_are_at_most_one))]
+fn read_steps(alloc: Global, pairs: &[Pair]) -> Result<Option<u64>, Unread>
+    ensures { Answers result (steps_of (values_of (codes "--steps") pairs.now)) }
 {
-    match values(alloc, pairs, "--steps")?.as_slice() {
-        [] => Ok(Some(None)),
-        [text] => Ok(steps_in(text.as_str()).map(Some)),
-        _ => Ok(None),
+    match optional_value(alloc, pairs, "--steps")? {
+        None => Ok(None),
+        Some(text) => Ok(Some(steps_in(text.as_str()).ok_or(Unread::NoCommand)?)),
     }
 }
 
-fn read_demo(words: &[String]) -> Command
-    ensures { result ≡ demo_command (texts words.now) }
+fn read_demo(words: &[String]) -> Result<Command, Unread>
+    ensures { AsksFor result (demo_command (texts words.now)) }
 {
-    match words {
-        [text] => demo_of(text.as_str()),
-        _ => Command::Unknown,
-    }
-}
-
-fn demo_of(text: &str) -> Command
-    ensures { result ≡ given (option_and_then size_of (number_of text.now)) Command.Demo }
-{
-    match size_in(text) {
-        None => Command::Unknown,
-        Some(count) => Command::Demo { count },
-    }
+    let [text] = words else {
+        return Err(Unread::NoCommand);
+    };
+    let count = size_in(text.as_str()).ok_or(Unread::NoCommand)?;
+    Ok(Command::Demo { count })
 }
 
 fn size_in(text: &str) -> Option<DemoSize>
@@ -256,12 +202,7 @@ fn size_in(text: &str) -> Option<DemoSize>
 fn steps_in(text: &str) -> Option<u64>
     ensures { result ≡ within_steps (number_of text.now) }
 {
-    let steps = read_number(text)?;
-    if steps >= 1 && steps <= 2_000_000 {
-        Some(steps)
-    } else {
-        None
-    }
+    read_number(text).filter(|steps| (1..=MOST_STEPS).contains(steps))
 }
 
 /// A number of one to seven decimal digits.

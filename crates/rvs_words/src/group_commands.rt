@@ -1,16 +1,17 @@
 // The command lines that name coverage group files.
-ghost use Rattle.std.specs.Prelude.{◌≡◌, IfOk, codes};
-ghost use Rattle.rvs_words.specs.Words.{texts, values_of, are_known};
-ghost use Rattle.rvs_words.specs.Commands.{some_of, most_groups, normalize_options, normalize_of};
-ghost use Rattle.rvs_words.specs.Commands.{normalize_command, generate_options, generate_work};
-ghost use Rattle.rvs_words.specs.Commands.{generate_of, generate_command, coverage_options};
-ghost use Rattle.rvs_words.specs.Commands.{coverage_log, coverage_of, coverage_command};
-ghost use Rattle.rvs_words.specs.Commands.{run_options, run_device, run_of, run_command};
+ghost use Rattle.std.specs.Prelude.{◌≡◌, codes};
+ghost use Rattle.rvs_words.specs.Words.{texts, values_of};
+ghost use Rattle.rvs_words.specs.Commands.{some_of, most_groups, normalize_command};
+ghost use Rattle.rvs_words.specs.Commands.{generate_command, coverage_command, run_command};
+ghost use Rattle.rvs_words.specs.Windows.{windows_of};
+ghost use Rattle.rvs_words.specs.Reading.{Answers, AsksFor};
 
 use crate::command::Command;
+use crate::unread::Unread;
 use crate::windows::read_windows;
-use crate::words::{Pair, are_known, only_value, owned, read_pairs, values};
-use rvs_base::{Items, NoMemory, Text};
+use crate::words::{Pair, check_names, only_value, owned, read_pairs, values};
+use rvs_base::{Items, Text};
+use rvs_count::Window;
 use std::alloc::Global;
 
 /// The most group files that may be named.
@@ -20,47 +21,30 @@ const MOST_GROUPS: usize = 64;
 ///
 /// # Errors
 ///
-/// [`NoMemory`].
-pub fn read_normalize(alloc: Global, words: &[String]) -> Result<Command, NoMemory>
-    ensures { IfOk result (λ command. command ≡ normalize_command (texts words.now)) }
+/// [`Unread`].
+pub fn read_normalize(alloc: Global, words: &[String]) -> Result<Command, Unread>
+    ensures { AsksFor result (normalize_command (texts words.now)) }
 {
-    match read_pairs(alloc, words)? {
-        Some(pairs) if are_of_normalize(pairs.as_slice()) => {
-            read_inputs(alloc, pairs.as_slice())
-        },
-        _ => Ok(Command::Unknown),
-    }
-}
-
-fn are_of_normalize(pairs: &[Pair]) -> bool
-    ensures { result ≡ are_known normalize_options pairs.now }
-{
-    are_known(pairs, &["--isa", "--cgf"])
-}
-
-fn read_inputs(alloc: Global, pairs: &[Pair]) -> Result<Command, NoMemory>
-    ensures { IfOk result (λ command. command ≡ normalize_of pairs.now) }
-{
-    let Some(isa) = only_value(alloc, pairs, "--isa")? else {
-        return Ok(Command::Unknown);
-    };
-    let Some(groups) = group_files(alloc, pairs)? else {
-        return Ok(Command::Unknown);
-    };
+    let options = read_pairs(alloc, words)?;
+    let pairs = options.as_slice();
+    check_names(pairs, &["--isa", "--cgf"])?;
+    let isa = only_value(alloc, pairs, "--isa")?;
+    let groups = group_files(alloc, pairs)?;
     Ok(Command::Normalize { isa, groups })
 }
 
-/// The values of `--cgf`, which stands one to 64 times. There are none where it doesn't.
-fn group_files(alloc: Global, pairs: &[Pair]) -> Result<Option<Items<Text>>, NoMemory>
-    ensures { IfOk result
-        (λ files. files ≡ some_of most_groups (values_of (codes "--cgf") pairs.now)) }
+/// The values of `--cgf`.
+///
+/// # Errors
+///
+/// [`Unread`]: `NoCommand` where it doesn't stand, or stands more than 64 times.
+fn group_files(alloc: Global, pairs: &[Pair]) -> Result<Items<Text>, Unread>
+    ensures { Answers result (some_of most_groups (values_of (codes "--cgf") pairs.now)) }
 {
     let files = values(alloc, pairs, "--cgf")?;
-    let count = files.as_slice().len();
-    if count >= 1 && count <= MOST_GROUPS {
-        Ok(Some(files))
-    } else {
-        Ok(None)
+    match files.as_slice().len() {
+        1..=MOST_GROUPS => Ok(files),
+        _ => Err(Unread::NoCommand),
     }
 }
 
@@ -68,47 +52,16 @@ fn group_files(alloc: Global, pairs: &[Pair]) -> Result<Option<Items<Text>>, NoM
 ///
 /// # Errors
 ///
-/// [`NoMemory`].
-pub fn read_generate(alloc: Global, words: &[String]) -> Result<Command, NoMemory>
-    ensures { IfOk result (λ command. command ≡ generate_command (texts words.now)) }
+/// [`Unread`].
+pub fn read_generate(alloc: Global, words: &[String]) -> Result<Command, Unread>
+    ensures { AsksFor result (generate_command (texts words.now)) }
 {
-    match read_pairs(alloc, words)? {
-        Some(pairs) if are_of_generate(pairs.as_slice()) => {
-            read_generated(alloc, pairs.as_slice())
-        },
-        _ => Ok(Command::Unknown),
-    }
-}
-
-fn are_of_generate(pairs: &[Pair]) -> bool
-    ensures { result ≡ are_known generate_options pairs.now }
-{
-    are_known(pairs, &["--isa", "--cgf", "--work"])
-}
-
-fn read_generated(alloc: Global, pairs: &[Pair]) -> Result<Command, NoMemory>
-    ensures { IfOk result (λ command. command ≡ generate_of pairs.now) }
-{
-    let Some(isa) = only_value(alloc, pairs, "--isa")? else {
-        return Ok(Command::Unknown);
-    };
-    let Some(groups) = group_files(alloc, pairs)? else {
-        return Ok(Command::Unknown);
-    };
-    read_work(alloc, isa, groups, pairs)
-}
-
-fn read_work(
-    alloc: Global,
-    isa: Text,
-    groups: Items<Text>,
-    pairs: &[Pair],
-) -> Result<Command, NoMemory>
-    ensures { IfOk result (λ command. command ≡ generate_work isa groups pairs.now) }
-{
-    let Some(work) = only_value(alloc, pairs, "--work")? else {
-        return Ok(Command::Unknown);
-    };
+    let options = read_pairs(alloc, words)?;
+    let pairs = options.as_slice();
+    check_names(pairs, &["--isa", "--cgf", "--work"])?;
+    let isa = only_value(alloc, pairs, "--isa")?;
+    let groups = group_files(alloc, pairs)?;
+    let work = only_value(alloc, pairs, "--work")?;
     Ok(Command::Generate { isa, groups, work })
 }
 
@@ -116,51 +69,17 @@ fn read_work(
 ///
 /// # Errors
 ///
-/// [`NoMemory`].
-pub fn read_coverage(alloc: Global, words: &[String]) -> Result<Command, NoMemory>
-    ensures { IfOk result (λ command. command ≡ coverage_command (texts words.now)) }
+/// [`Unread`].
+pub fn read_coverage(alloc: Global, words: &[String]) -> Result<Command, Unread>
+    ensures { AsksFor result (coverage_command (texts words.now)) }
 {
-    match read_pairs(alloc, words)? {
-        Some(pairs) if are_of_coverage(pairs.as_slice()) => {
-            read_counted(alloc, pairs.as_slice())
-        },
-        _ => Ok(Command::Unknown),
-    }
-}
-
-fn are_of_coverage(pairs: &[Pair]) -> bool
-    ensures { result ≡ are_known coverage_options pairs.now }
-{
-    are_known(pairs, &["--isa", "--cgf", "--log", "--window"])
-}
-
-fn read_counted(alloc: Global, pairs: &[Pair]) -> Result<Command, NoMemory>
-    ensures { IfOk result (λ command. command ≡ coverage_of pairs.now) }
-{
-    let Some(isa) = only_value(alloc, pairs, "--isa")? else {
-        return Ok(Command::Unknown);
-    };
-    let Some(groups) = group_files(alloc, pairs)? else {
-        return Ok(Command::Unknown);
-    };
-    read_log(alloc, isa, groups, pairs)
-}
-
-fn read_log(
-    alloc: Global,
-    isa: Text,
-    groups: Items<Text>,
-    pairs: &[Pair],
-) -> Result<Command, NoMemory>
-    ensures { IfOk result (λ command. command ≡ coverage_log isa groups pairs.now) }
-{
-    let Some(log) = only_value(alloc, pairs, "--log")? else {
-        return Ok(Command::Unknown);
-    };
-    let texts = values(alloc, pairs, "--window")?;
-    let Some(windows) = read_windows(alloc, texts.as_slice())? else {
-        return Ok(Command::Unknown);
-    };
+    let options = read_pairs(alloc, words)?;
+    let pairs = options.as_slice();
+    check_names(pairs, &["--isa", "--cgf", "--log", "--window"])?;
+    let isa = only_value(alloc, pairs, "--isa")?;
+    let groups = group_files(alloc, pairs)?;
+    let log = only_value(alloc, pairs, "--log")?;
+    let windows = given_windows(alloc, pairs)?;
     Ok(Command::Coverage {
         isa,
         groups,
@@ -169,55 +88,33 @@ fn read_log(
     })
 }
 
+/// The windows that the values of `--window` spell.
+///
+/// # Errors
+///
+/// [`Unread`]: `NoCommand` where a value spells none, or where there are more than 16.
+fn given_windows(alloc: Global, pairs: &[Pair]) -> Result<Items<Window>, Unread>
+    ensures { Answers result (windows_of (values_of (codes "--window") pairs.now)) }
+{
+    let spelled = values(alloc, pairs, "--window")?;
+    read_windows(alloc, spelled.as_slice())
+}
+
 /// Reads the words behind `run`. The program's own name is kept with them.
 ///
 /// # Errors
 ///
-/// [`NoMemory`].
-pub fn read_run(alloc: Global, program: &str, words: &[String]) -> Result<Command, NoMemory>
-    ensures { IfOk result (λ command. command ≡ run_command program.now (texts words.now)) }
+/// [`Unread`].
+pub fn read_run(alloc: Global, program: &str, words: &[String]) -> Result<Command, Unread>
+    ensures { AsksFor result (run_command program.now (texts words.now)) }
 {
-    match read_pairs(alloc, words)? {
-        Some(pairs) if are_of_run(pairs.as_slice()) => {
-            read_judged(alloc, program, pairs.as_slice())
-        },
-        _ => Ok(Command::Unknown),
-    }
-}
-
-fn are_of_run(pairs: &[Pair]) -> bool
-    ensures { result ≡ are_known run_options pairs.now }
-{
-    are_known(pairs, &["--isa", "--cgf", "--device", "--work"])
-}
-
-fn read_judged(alloc: Global, program: &str, pairs: &[Pair]) -> Result<Command, NoMemory>
-    ensures { IfOk result (λ command. command ≡ run_of program.now pairs.now) }
-{
-    let Some(isa) = only_value(alloc, pairs, "--isa")? else {
-        return Ok(Command::Unknown);
-    };
-    let Some(groups) = group_files(alloc, pairs)? else {
-        return Ok(Command::Unknown);
-    };
-    read_device(alloc, program, isa, groups, pairs)
-}
-
-fn read_device(
-    alloc: Global,
-    program: &str,
-    isa: Text,
-    groups: Items<Text>,
-    pairs: &[Pair],
-) -> Result<Command, NoMemory>
-    ensures { IfOk result (λ command. command ≡ run_device program.now isa groups pairs.now) }
-{
-    let Some(device) = only_value(alloc, pairs, "--device")? else {
-        return Ok(Command::Unknown);
-    };
-    let Some(work) = only_value(alloc, pairs, "--work")? else {
-        return Ok(Command::Unknown);
-    };
+    let options = read_pairs(alloc, words)?;
+    let pairs = options.as_slice();
+    check_names(pairs, &["--isa", "--cgf", "--device", "--work"])?;
+    let isa = only_value(alloc, pairs, "--isa")?;
+    let groups = group_files(alloc, pairs)?;
+    let device = only_value(alloc, pairs, "--device")?;
+    let work = only_value(alloc, pairs, "--work")?;
     Ok(Command::Run {
         program: owned(alloc, program)?,
         isa,

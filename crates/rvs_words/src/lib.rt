@@ -4,6 +4,7 @@
 mod command;
 mod group_commands;
 mod laws;
+mod unread;
 mod windows;
 mod words;
 

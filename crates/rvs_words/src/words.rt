@@ -1,9 +1,12 @@
 // The words of a command line, and its options.
 ghost use Rattle.std.specs.Prelude.{◌≡◌, ◌≤◌, ◌∷◌, length, Some, None, IfOk, MatchOption, bytes_eq};
+ghost use Rattle.std.specs.Prelude.{MatchResult, true, false};
 ghost use Rattle.std.specs.List.{list_any, list_all};
 ghost use Rattle.rvs_words.specs.Words.{texts, is_positional, pair_in, with_pair, pairs_of};
 ghost use Rattle.rvs_words.specs.Words.{values_of, only, at_most_one};
+ghost use Rattle.rvs_words.specs.Reading.{Answers};
 
+use crate::unread::Unread;
 use rvs_base::{Items, NoMemory, Text};
 use std::alloc::Global;
 
@@ -50,52 +53,68 @@ fn owned_pair(alloc: Global, name: &str, value: &str) -> Result<Pair, NoMemory>
     Ok(Pair { name, value })
 }
 
-/// An option with its value, and the words behind it. There is none where it lacks its value.
+/// An option with its value, and the words behind it.
+///
+/// # Errors
+///
+/// [`Unread`]: `NoCommand` where the option lacks its value.
 fn first_pair<'w>(
     alloc: Global,
     word: &str,
     after: &'w [String],
-) -> Result<Option<(Pair, &'w [String])>, NoMemory>
-    ensures first { IfOk result (λ first. MatchOption first
-        (pairs_of (word.now ∷ texts after.now) ≡ None)
-        (λ x. pairs_of (word.now ∷ texts after.now) ≡ with_pair x.0 (pairs_of (texts x.1.now)))) }
-    ensures fewer { IfOk result (λ first. MatchOption first Unit
-        (λ x. length x.1.now ≤ length after.now)) }
+) -> Result<(Pair, &'w [String]), Unread>
+    ensures first { MatchResult result
+        (λ x. pairs_of (word.now ∷ texts after.now) ≡ with_pair x.0 (pairs_of (texts x.1.now)))
+        (λ e. e ≡ Unread.NoCommand → pairs_of (word.now ∷ texts after.now) ≡ None) }
+    ensures fewer { IfOk result (λ x. length x.1.now ≤ length after.now) }
 {
     if let Some((name, value)) = pair_in(word) {
-        return Ok(Some((owned_pair(alloc, name, value)?, after)));
+        return Ok((owned_pair(alloc, name, value)?, after));
     }
     match after.split_first() {
         Some((value, more)) if is_positional(value.as_str()) => {
-            Ok(Some((owned_pair(alloc, word, value.as_str())?, more)))
+            Ok((owned_pair(alloc, word, value.as_str())?, more))
         },
-        _ => Ok(None),
+        _ => Err(Unread::NoCommand),
     }
 }
 
-/// Reads words that are options, each with its value behind `=` or in the next word. There is none
-/// where one lacks its value.
+/// Reads words that are options, each with its value behind `=` or in the next word.
 ///
 /// # Errors
 ///
-/// [`NoMemory`].
-pub fn read_pairs(alloc: Global, words: &[String]) -> Result<Option<Items<Pair>>, NoMemory>
-    ensures { IfOk result (λ pairs. pairs ≡ pairs_of (texts words.now)) }
+/// [`Unread`]: `NoCommand` where an option lacks its value.
+pub fn read_pairs(alloc: Global, words: &[String]) -> Result<Items<Pair>, Unread>
+    ensures { Answers result (pairs_of (texts words.now)) }
 {
     let mut pairs = Items::new(alloc);
     let mut rest = words;
     while let Some((word, after)) = rest.split_first() {
-        let Some((pair, more)) = first_pair(alloc, word.as_str(), after)? else {
-            return Ok(None);
-        };
+        let (pair, more) = first_pair(alloc, word.as_str(), after)?;
         pairs.push(pair)?;
         rest = more;
     }
-    Ok(Some(pairs))
+    Ok(pairs)
 }
 
-/// Whether each option is one of these.
-pub fn are_known(pairs: &[Pair], names: &[&str]) -> bool
+/// Refuses options that are none of these.
+///
+/// # Errors
+///
+/// [`Unread`]: `NoCommand` where there is another.
+pub fn check_names(pairs: &[Pair], names: &[&str]) -> Result<(), Unread>
+    ensures { let known =
+        list_all (λ pair. list_any (λ name. bytes_eq pair.name name.now) names.now) pairs.now
+        in MatchResult result (λ _. known ≡ true) (λ _. known ≡ false) }
+{
+    if are_known(pairs, names) {
+        Ok(())
+    } else {
+        Err(Unread::NoCommand)
+    }
+}
+
+fn are_known(pairs: &[Pair], names: &[&str]) -> bool
     ensures { result
         ≡ list_all (λ pair. list_any (λ name. bytes_eq pair.name name.now) names.now) pairs.now }
 {
@@ -131,31 +150,26 @@ pub fn values(alloc: Global, pairs: &[Pair], name: &str) -> Result<Items<Text>, 
 ///
 /// # Errors
 ///
-/// [`NoMemory`].
-pub fn only_value(alloc: Global, pairs: &[Pair], name: &str) -> Result<Option<Text>, NoMemory>
-    ensures { IfOk result (λ value. value ≡ only (values_of name.now pairs.now)) }
+/// [`Unread`]: `NoCommand` where it doesn't stand, or stands more than once.
+#[tactic(auto, using(crate::proofs::OptionValues::only_is_at_most_one))]
+pub fn only_value(alloc: Global, pairs: &[Pair], name: &str) -> Result<Text, Unread>
+    ensures { Answers result (only (values_of name.now pairs.now)) }
 {
-    match values(alloc, pairs, name)?.as_slice() {
-        [value] => Ok(Some(owned(alloc, value.as_str())?)),
-        _ => Ok(None),
-    }
+    optional_value(alloc, pairs, name)?.ok_or(Unread::NoCommand)
 }
 
-/// The value of an option that needn't stand: there is none where it stands more than once.
+/// The value of an option that needn't stand.
 ///
 /// # Errors
 ///
-/// [`NoMemory`].
-pub fn optional_value(
-    alloc: Global,
-    pairs: &[Pair],
-    name: &str,
-) -> Result<Option<Option<Text>>, NoMemory>
-    ensures { IfOk result (λ value. value ≡ at_most_one (values_of name.now pairs.now)) }
+/// [`Unread`]: `NoCommand` where it stands more than once.
+#[tactic(auto, using(crate::proofs::OptionValues::more_than_one))]
+pub fn optional_value(alloc: Global, pairs: &[Pair], name: &str) -> Result<Option<Text>, Unread>
+    ensures { Answers result (at_most_one (values_of name.now pairs.now)) }
 {
-    match values(alloc, pairs, name)?.as_slice() {
-        [] => Ok(Some(None)),
-        [value] => Ok(Some(Some(owned(alloc, value.as_str())?))),
-        _ => Ok(None),
+    let mut values = values(alloc, pairs, name)?.into_vec();
+    if values.len() > 1 {
+        return Err(Unread::NoCommand);
     }
+    Ok(values.pop())
 }

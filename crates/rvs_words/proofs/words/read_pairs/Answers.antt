@@ -15,15 +15,14 @@ one-more pairs pair (Some ps) =
 pub loop-word-preserved : goal.loop-word-preserved
 loop-word-preserved c =
     let pairs = c.loop-word.pairs in
-    let more = texts c.in-Some-2.more.now in
-    let first = rw c.in-Some-2.is at c.in_ok-pair.ensures.first in
+    let more = texts c.in_ok-pair.more.now in
     let here : texts c.loop-word.rest.now ≡ c.as_str.result.now ∷ texts c.in-Some.after.now =
     ap texts c.in-Some.ensures.cases.0
     ∙ ap (λ (w : List ℕ). w ∷ texts c.in-Some.after.now) (sym c.as_str.ensures.value) in
     ap (λ (ps : List Pair). option_map (λ (m : List Pair). ps ++ m) (pairs_of more))
     c.in_ok-push.ensures.added
-    ∙ one-more pairs c.in-Some-2.pair (pairs_of more)
-    ∙ ap (option_map (λ (m : List Pair). pairs ++ m)) (sym first)
+    ∙ one-more pairs c.in_ok-pair.pair (pairs_of more)
+    ∙ ap (option_map (λ (m : List Pair). pairs ++ m)) (sym c.in_ok-pair.ensures.first)
     ∙ ap (λ (ws : List (List ℕ)). option_map (λ (m : List Pair). pairs ++ m) (pairs_of ws))
     (sym here)
     ∙ c.loop-word.invariant

@@ -1,0 +1,30 @@
+-- The value of an option that stands once, and of one that needn't stand.
+use Rattle.std.proofs.Common.{◌≡◌, ℕ, ◌<◌, List, [], ◌∷◌, length, Option, Some, None, refl, arith}
+use Rattle.std.specs.Prelude.{option_map, option_and_then}
+use Rattle.rvs_words.specs.Words.{only, at_most_one}
+use Rattle.rvs_words.specs.Commands.{number_of, within_steps, steps_of}
+
+abbrev pub itself : Option (List ℕ) → Option (List ℕ)
+itself value = value
+
+pub only_is_at_most_one : (values : List (List ℕ))
+    → only values ≡ option_and_then itself (at_most_one values)
+only_is_at_most_one [] = refl
+only_is_at_most_one (value ∷ []) = refl
+only_is_at_most_one (value ∷ other ∷ values) = refl
+
+-- a number of steps, where one is given
+abbrev pub steps_given : Option (List ℕ) → Option (Option ℕ)
+steps_given None = Some None
+steps_given (Some text) = option_map Some (within_steps (number_of text))
+
+pub steps_are_at_most_one : (values : List (List ℕ))
+    → steps_of values ≡ option_and_then steps_given (at_most_one values)
+steps_are_at_most_one [] = refl
+steps_are_at_most_one (value ∷ []) = refl
+steps_are_at_most_one (value ∷ other ∷ values) = refl
+
+pub more_than_one : (values : List (List ℕ)) → 1 < length values → at_most_one values ≡ None
+more_than_one [] h = absurd (omega arith)
+more_than_one (value ∷ []) h = absurd (omega arith)
+more_than_one (value ∷ other ∷ values) h = refl
