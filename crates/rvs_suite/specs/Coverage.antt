@@ -2,7 +2,7 @@
 use Rattle.std.specs.Prelude.{ℕ, nat_lt, if◌then◌else◌, List, map, length, Option, Some, None}
 use Rattle.std.specs.Prelude.{Result, Ok, Err}
 use Rattle.rvs_base.specs.Host.{Files}
-use Rattle.rvs_plan.specs.Plan.{Plan, Ends, Asks}
+use Rattle.rvs_plan.specs.Plan.{Plan, Ends, Asks, ◌>>=◌}
 use Rattle.rvs_plan.specs.Inputs.{too_long_text}
 use Rattle.rvs_plan.specs.declared.stop.Stop.{Stop}
 use Rattle.rvs_plan.specs.declared.stop.Stop.TheVariants.{Refused, NoFile}

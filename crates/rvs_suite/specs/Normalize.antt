@@ -1,6 +1,6 @@
 -- What `normalize` does.
 use Rattle.std.specs.Prelude.{ℕ, List, None}
-use Rattle.rvs_plan.specs.Plan.{Plan, Ends}
+use Rattle.rvs_plan.specs.Plan.{Plan, Ends, ◌>>=◌}
 use Rattle.rvs_plan.specs.declared.status.Finish.{Finish}
 use Rattle.rvs_insn.specs.Isa.{Isa}
 use Rattle.rvs_cgf.specs.Print.{normal_text}

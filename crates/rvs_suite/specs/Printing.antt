@@ -1,6 +1,6 @@
 -- The last thing that most commands do.
 use Rattle.std.specs.Prelude.{ℕ, List}
-use Rattle.rvs_plan.specs.Plan.{Plan, gives, prints}
+use Rattle.rvs_plan.specs.Plan.{Plan, gives, prints, ◌>>=◌}
 use Rattle.rvs_plan.specs.declared.status.Finish.{Finish}
 use Rattle.rvs_plan.specs.declared.status.Finish.TheVariants.{Done}
 

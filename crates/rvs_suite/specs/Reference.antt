@@ -1,6 +1,6 @@
 -- What `reference` does.
 use Rattle.std.specs.Prelude.{ℕ, List, length, Option, Some, None}
-use Rattle.rvs_plan.specs.Plan.{Plan, gives, writes}
+use Rattle.rvs_plan.specs.Plan.{Plan, gives, writes, ◌>>=◌}
 use Rattle.rvs_plan.specs.Inputs.{input}
 use Rattle.rvs_plan.specs.declared.status.Finish.{Finish}
 use Rattle.rvs_insn.specs.Isa.{Isa}
