@@ -1,9 +1,9 @@
 -- What every call of `coverage` promises.
-use Rattle.std.proofs.Common.{◌≡◌, ◌≤◌, ℕ, Bool, false, List, [], ◌∷◌, map, length, nat_lt}
-use Rattle.std.proofs.Common.{Option, Some, Result, Ok, Err, if◌then◌else◌, refl, sym, ap, subst}
+use Rattle.std.proofs.Common.{◌≡◌, ◌≤◌, ℕ, Bool, List, [], ◌∷◌, map, length}
+use Rattle.std.proofs.Common.{Some, Result, Ok, Err, if◌then◌else◌, refl, ap, subst}
 use Rattle.std.proofs.Common.{◌∙◌}
 use Rattle.std.proofs.lemmas.Bool.{le-ltb}
-use Rattle.rvs_base.specs.Host.{Files, Tells}
+use Rattle.rvs_base.specs.Host.{Files}
 use Rattle.rvs_plan.specs.World.{Contents}
 use Rattle.rvs_plan.specs.Inputs.{too_long_text}
 use Rattle.rvs_plan.specs.declared.stop.Stop.{Stop}
@@ -14,7 +14,7 @@ use Rattle.rvs_cgf.specs.Groups.{Label}
 use Rattle.rvs_count.specs.Counting.{aims_of, count, kept}
 use Rattle.rvs_count.specs.Report.{report_of}
 use Rattle.rvs_count.specs.declared.window.Window.{Window}
-use Rattle.rvs_suite.specs.Call.{Call, Asks}
+use Rattle.rvs_suite.specs.Call.{Call}
 use Rattle.rvs_suite.specs.Answered.{HasLeft, Answered}
 use Rattle.rvs_suite.specs.GroupFiles.{Inputs, and_then, inputs_in}
 use Rattle.rvs_suite.specs.Coverage.{log_limit, report_on, report_found, report_in, reported}

@@ -1,5 +1,5 @@
 -- What every call of `demo` promises.
-use Rattle.std.proofs.Common.{◌≡◌, ◌≢◌, ◌⊎◌, inl, inr, ℕ, false, List, [], Option, Some, None}
+use Rattle.std.proofs.Common.{◌≡◌, ◌≢◌, inl, inr, ℕ, false, [], Some, None}
 use Rattle.std.proofs.Common.{Result, Ok, Err, refl, sym, ap, subst, arith}
 use Rattle.rvs_base.specs.Host.{HostState, Files}
 use Rattle.rvs_base.specs.Sink.{appended}
@@ -11,7 +11,7 @@ use Rattle.rvs_plan.specs.declared.status.Status.TheVariants.{Refused, HostFault
 use Rattle.rvs_demo.specs.Demo.{demo_text}
 use Rattle.rvs_demo.proofs.Whole.{is_whole}
 use Rattle.rvs_suite.specs.Call.{Call, world_of, Asks, HostRose}
-use Rattle.rvs_suite.specs.Answered.{Answered, HasRefused}
+use Rattle.rvs_suite.specs.Answered.{Answered}
 use Rattle.rvs_suite.specs.Demonstrate.{demonstrate}
 use Rattle.rvs_suite.specs.Demonstrating.{Demonstrates}
 use Rattle.rvs_suite.specs.Plans.{Performs}
@@ -84,8 +84,8 @@ runs-bare {call} count r is =
     }
 
 -- no count of that host rises
-bare-stays : HostRose (beside_bare _) → ⊥
-bare-stays rose = elim rose [
+bare-stays : (call : Call) → HostRose (beside_bare call) → ⊥
+bare-stays call rose = elim rose [
   | inl reads ↦ omega arith
   | inr more ↦ elim more [
     | inl writes ↦ omega arith
@@ -93,12 +93,12 @@ bare-stays rose = elim rose [
   ]
 ]
 
-fails-bare : {call : Call} (count : ℕ)
+fails-bare : (call : Call) (count : ℕ)
     → Answered (beside_bare call) nothing_read (HasPrinted (beside_bare call) count)
     → call.status ≢ HostFault
-fails-bare {call} count a is = elim (a.absent is) [
+fails-bare call count a is = elim (a.absent is) [
   | inl missed ↦ (let no : Ok tt ≡ Err (why.NoFile missed.name) = missed.absent in cc)
-  | inr rose ↦ bare-stays rose
+  | inr rose ↦ bare-stays call rose
 ]
 
 pub demonstrates : {call : Call} (count : ℕ) → Ran (command_of call.words) (world_of call.old)
@@ -111,9 +111,9 @@ demonstrates {call} count r is =
       done = λ done. (a.done done).left;
       whole = λ low. is_whole count low;
       by_words = λ none. a.by_inputs tt refl
-          (record { host = bare-stays; output = none.output; errors = none.errors });
+          (record { host = bare-stays call; output = none.output; errors = none.errors });
       no_verdict = a.no_verdict;
       no_refusal = never-refused (HasPrinted (beside_bare call) count) a;
       host_kept = (r.performs.apart count is).kept;
-      no_host_fault = fails-bare {call = call} count a;
+      no_host_fault = fails-bare call count a;
     }

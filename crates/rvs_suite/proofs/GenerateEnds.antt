@@ -2,10 +2,10 @@
 use Rattle.std.proofs.Common.{◌≡◌, ℕ, Bool, true, false, if◌then◌else◌, List, [], ◌∷◌, Option, Some}
 use Rattle.std.proofs.Common.{None, Result, Ok, IsTrue, refl, sym, ap, subst, ◌∙◌}
 use Rattle.std.proofs.lemmas.List.Elements.{All-head}
-use Rattle.rvs_base.specs.Host.{Files, Tells, written}
+use Rattle.rvs_base.specs.Host.{Files, written}
 use Rattle.rvs_base.specs.Sink.{appended}
-use Rattle.rvs_plan.specs.World.{Contents, contents}
-use Rattle.rvs_plan.specs.Plan.{Plan, gives, writes, ◌>>=◌}
+use Rattle.rvs_plan.specs.World.{Contents}
+use Rattle.rvs_plan.specs.Plan.{Plan, gives}
 use Rattle.rvs_plan.specs.declared.stop.Stop.{Stop}
 use Rattle.rvs_plan.specs.declared.status.Finish.TheVariants.{Done}
 use Rattle.rvs_insn.specs.Isa.{Isa}
@@ -17,12 +17,12 @@ use Rattle.rvs_test_text.specs.TestText.{step_limit}
 use Rattle.rvs_test.specs.Made.{cases_of, text_of_label}
 use Rattle.rvs_test.specs.Claimed.{TestRuns}
 use Rattle.rvs_suite.specs.Answered.{HasLeft, Answered}
-use Rattle.rvs_suite.specs.Call.{Call, Asks}
+use Rattle.rvs_suite.specs.Call.{Call}
 use Rattle.rvs_suite.specs.Printing.{print_text}
 use Rattle.rvs_suite.specs.GroupFiles.{Inputs, inputs_in, group_inputs}
 use Rattle.rvs_suite.specs.GenerateTexts.{listing}
 use Rattle.rvs_suite.specs.Generate.{path_of, writes_text, writes_test, writes_tests, written_tests}
-use Rattle.rvs_suite.specs.Generate.{generates, generate}
+use Rattle.rvs_suite.specs.Generate.{generates}
 use Rattle.rvs_suite.specs.Generating as generating
 use Rattle.rvs_words.specs.declared.command.Command.TheVariants.{Generate}
 use Rattle.rvs_suite.proofs.Answered.{Works, RunsOn, answered}

@@ -7,7 +7,7 @@ use Rattle.rvs_base.specs.Host.{is_told}
 use Rattle.rvs_base.specs.Sink.{SinkState, appended}
 use Rattle.rvs_plan.specs.World.{World}
 use Rattle.rvs_plan.specs.Meets.{HasCause}
-use Rattle.rvs_plan.specs.Account.{status_of, finish_status, line_of, fault_line, Concludes}
+use Rattle.rvs_plan.specs.Account.{status_of, line_of, fault_line, Concludes}
 use Rattle.rvs_plan.specs.declared.stop.Stop.{Stop}
 use Rattle.rvs_plan.specs.declared.stop.Stop.TheVariants as why
 use Rattle.rvs_plan.specs.declared.status.Status.{Status}

@@ -9,7 +9,7 @@ use Rattle.rvs_base.specs.Host.{Files, Tells, MaySpoil, ChangesOne, written}
 use Rattle.rvs_base.specs.Sink.{SinkState}
 use Rattle.rvs_plan.specs.World.{World, Contents, contents}
 use Rattle.rvs_plan.specs.Effect.{Answer, Write, Out, Effect, Read, Device, Did, left_by, after}
-use Rattle.rvs_plan.specs.Effect.{Deed, after_one, after_deed, Saw}
+use Rattle.rvs_plan.specs.Effect.{after_one, after_deed, Saw}
 use Rattle.rvs_plan.specs.Plan.{Plan, Ends, Does, Asks, Runs, Goes, followed, gives, ◌>>=◌}
 use Rattle.rvs_plan.specs.Inputs.{input}
 use Rattle.rvs_plan.specs.Meets.{Reaches, Halts}

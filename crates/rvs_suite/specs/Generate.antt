@@ -1,5 +1,5 @@
 -- What `generate` does.
-use Rattle.std.specs.Prelude.{ℕ, Bool, true, false, if◌then◌else◌, List, [], ◌∷◌, ◌++◌, Option}
+use Rattle.std.specs.Prelude.{ℕ, if◌then◌else◌, List, [], ◌∷◌, ◌++◌, Option}
 use Rattle.std.specs.Prelude.{Some, None, Result, Ok, Err, codes, ◌≡◌}
 use Rattle.std.specs.List.{flat_map}
 use Rattle.rvs_plan.specs.Plan.{Plan, gives, writes, ◌>>=◌}
