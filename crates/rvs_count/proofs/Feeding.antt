@@ -1,7 +1,7 @@
 -- A file that is fed piece by piece.
 use Rattle.std.proofs.Common.{◌≡◌, ℕ, ◌+◌, ◌^◌, ◌<◌, true, List, [], ◌++◌, Option, Some, None, refl}
 use Rattle.std.proofs.Common.{sym, ap, ◌∙◌, length, take, drop, arith, append_assoc, append-nil}
-use Rattle.std.proofs.Common.{length-append, ◌≤◌}
+use Rattle.std.proofs.Common.{length-append, ◌≤◌, ◌-◌}
 use Rattle.std.proofs.lemmas.List.{length-take-le, drop_at}
 use Rattle.rvs_base.specs.File.{TakesAtMost}
 use Rattle.std.specs.Prelude.{is_some}
@@ -37,6 +37,7 @@ pub record HasFed (name : List ℕ) (old now : HostState) (c c' : CountState) : 
   pub opened : now.is_open ≡ true
   pub bytes : List ℕ
   pub fed : Fed c c' bytes
+  pub within : length bytes ≤ 2 ^ 40 - c.fed
   pub rest : (files : Files) (r : List ℕ) → Tells old files → now.rest ≡ Some r
       → files name ≡ Some (bytes ++ r)
 
@@ -48,6 +49,7 @@ HasFed-start c q u o = record {
   opened = o.opened;
   bytes = [];
   fed = Fed-none c;
+  within = omega arith;
   rest = λ files r t e. o.at_start files r t.files e;
 }
 
@@ -85,13 +87,15 @@ file_is {name} {buffer} {old} {now} {next} {c} {c'} {n} h q t files r told e =
 pub HasFed-more : {name buffer : List ℕ} {old now next : HostState} {c c' : CountState} {n : ℕ}
     (c'' : CountState)
     → HasFed name old now c c' → ReadsOnly now next → next.read_faults ≡ now.read_faults
-    → Takes buffer now next n → Fed c' c'' (take n buffer) → HasFed name old next c c''
-HasFed-more {name} {buffer} {old} {now} {next} {c} {c'} {n} c'' h q u t f = record {
+    → Takes buffer now next n → Fed c' c'' (take n buffer) → c''.fed ≤ 2 ^ 40
+    → HasFed name old next c c''
+HasFed-more {name} {buffer} {old} {now} {next} {c} {c'} {n} c'' h q u t f low = record {
   reads = both_read h.reads q;
   unfaulted = u ∙ h.unfaulted;
   opened = t.still_open;
   bytes = h.bytes ++ take n buffer;
   fed = Fed-more c c' c'' h.bytes (take n buffer) h.fed f;
+  within = omega (arith, h.fed.fed, f.fed, low, length-append h.bytes (take n buffer));
   rest = λ files r told e. file_is h q t files r told e
       ∙ ap (λ l. Some l) (sym (append_assoc h.bytes (take n buffer) r));
 }
