@@ -81,6 +81,8 @@ fn count_named<H: Host>(
 }
 
 /// Counts in the named log with a new counter, and makes the report.
+// The buffer for the log would lie on the stack under every command if this were inlined.
+#[inline(never)]
 fn count_with<H: Host>(
     alloc: Global,
     host: &mut H,
