@@ -12,6 +12,7 @@ use Rattle.rvs_plan.specs.declared.status.Status.TheVariants.{Done}
 use Rattle.rvs_log.specs.Entries.{Entry, entries_of}
 use Rattle.rvs_cgf.specs.Groups.{Label}
 use Rattle.rvs_count.specs.Counting.{aims_of, count, kept}
+use Rattle.rvs_log.specs.Logs.{log_of, as_entry}
 use Rattle.rvs_count.specs.Report.{report_of}
 use Rattle.rvs_count.specs.declared.window.Window.{Window}
 use Rattle.rvs_suite.specs.Call.{Call}
@@ -24,6 +25,7 @@ use Rattle.rvs_suite.specs.Covering as covering
 use Rattle.rvs_words.specs.declared.command.Command.TheVariants.{Coverage}
 use Rattle.rvs_suite.proofs.Answered.{Works, RunsOn, answered}
 use Rattle.rvs_suite.proofs.OneCount.{one-count}
+use Rattle.rvs_suite.proofs.LogEntries.{halting_entries}
 use Rattle.rvs_suite.proofs.LogReads.{reads-reported, finds-reported}
 use Rattle.rvs_suite.proofs.Keeping.{WritesNone, WritesNone-then, reads-none, keeps}
 use Rattle.rvs_suite.proofs.Tested.{good-inputs, valid-good}
@@ -98,6 +100,9 @@ covers {call} files isa names log windows r =
           subst (covering.HasReported call) (one-count windows l p e selected single none hit)
           (reported-counts files isa names log windows a
           (record { isa = isa'; groups = l ∷ [] }) (e ∷ []) given is_log done);
+      of_run = λ inputs test steps run given halts there short done.
+          reported-counts files isa names log windows a inputs (map as_entry run.trace) given
+          (log_of run.trace, there, short, halting_entries files isa test steps run halts) done;
       valid = λ inputs l given there selected. valid-good inputs l
           (good-inputs files isa names inputs given) there selected;
       files_kept = keeps r.ran files (Coverage isa names log windows) r.told r.asks

@@ -1,5 +1,5 @@
 -- What every call of `coverage` promises.
-use Rattle.std.specs.Prelude.{◌≡◌, ◌≤◌, List, [], ◌∷◌, ℕ, map, length, Contains, Some, Ok}
+use Rattle.std.specs.Prelude.{◌≡◌, ◌≤◌, List, [], ◌∷◌, ℕ, map, length, Contains, Option, Some, Ok}
 use Rattle.std.specs.Prelude.{IsTrue}
 use Rattle.rvs_base.specs.Host.{Files, Tells}
 use Rattle.rvs_base.specs.Sink.{appended}
@@ -9,12 +9,15 @@ use Rattle.rvs_log.specs.Entries.{Entry, entries_of}
 use Rattle.rvs_cgf.specs.Groups.{Label, Point}
 use Rattle.rvs_cgf.specs.Valid.{IsValid}
 use Rattle.rvs_count.specs.Counting.{aims_of, count, hits, kept}
+use Rattle.rvs_log.specs.Logs.{log_of, as_entry}
 use Rattle.rvs_count.specs.Report.{report_of}
 use Rattle.rvs_count.specs.declared.window.Window.{Window}
 use Rattle.rvs_suite.specs.Answered.{Answered}
 use Rattle.rvs_suite.specs.Call.{Call, Asks}
 use Rattle.rvs_suite.specs.Coverage.{log_limit, report_in}
 use Rattle.rvs_suite.specs.GroupFiles.{Inputs, inputs_in}
+use Rattle.rvs_suite.specs.Halting.{BothHalt}
+use Rattle.rvs_suite.specs.declared.test_run.Run.{Run}
 use Rattle.rvs_words.specs.declared.command.Command.TheVariants.{Coverage}
 
 -- the output has this report
@@ -46,6 +49,13 @@ pub record Covers (call : Call) (files : Files) (isa : List ℕ) (names : List (
       → IsTrue l.selected → l.points ≡ p ∷ [] → windows ≡ [] → IsLogOf files log (e ∷ [])
       → IsTrue (hits (record { ops = l.ops; point = p }) e) → call.status ≡ Done
       → HasReported call (report_of (l ∷ []) (1 ∷ []) 1)
+  -- so of the log that `reference` writes of a test it counts what the test's run hits
+  pub of_run : (inputs : Inputs) (test : List ℕ) (steps : Option ℕ) (run : Run)
+      → inputs_in files isa names ≡ Ok inputs → BothHalt files isa test steps run
+      → files log ≡ Some (log_of run.trace) → length (log_of run.trace) ≤ log_limit
+      → call.status ≡ Done → HasReported call (report_of inputs.groups
+      (map (count (kept windows (map as_entry run.trace))) (aims_of inputs.groups))
+      (length (kept windows (map as_entry run.trace))))
   -- A selected label of the groups is valid for the core. So no two of the lines of its points name
   -- one kind and key, and what each of these points means is what its key says.
   pub valid : (inputs : Inputs) (l : Label) → inputs_in files isa names ≡ Ok inputs
