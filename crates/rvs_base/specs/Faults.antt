@@ -1,6 +1,10 @@
 -- Counts of faults, kept in 64 bits.
 use Rattle.std.specs.Prelude.{ℕ, ◌+◌, ◌-◌, ◌^◌, ◌≤◌, min}
 
--- a count went up in a call, or stands at the greatest number that it can have
+-- a count with one more, as far as 64 bits hold it
+abbrev pub raised : ℕ → ℕ
+raised count = min (count + 1) (2 ^ 64 - 1)
+
+-- a count went up, once or more often, or stands at the greatest number that it can have
 abbrev pub Rose : ℕ → ℕ → Type 0
-Rose before now = min (before + 1) (2 ^ 64 - 1) ≤ now
+Rose before now = raised before ≤ now

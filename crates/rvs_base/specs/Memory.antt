@@ -1,17 +1,14 @@
 -- What a host and a sink in memory hold.
-use Rattle.std.specs.Prelude.{◌≡◌, ◌≤◌, ◌<◌, ◌⊎◌, ℕ, ℤ, ◌+◌, ◌-◌, ◌^◌, min, Bool, false, not, List}
-use Rattle.std.specs.Prelude.{[], ◌∷◌, filter, length, slice_index_or, Option, Some, None}
+use Rattle.std.specs.Prelude.{◌≡◌, ◌≤◌, ◌<◌, ◌⊎◌, ℕ, ℤ, Bool, false, not, List, [], ◌∷◌, filter}
+use Rattle.std.specs.Prelude.{length, slice_index_or, Option, Some, None}
 use Rattle.std.specs.Prelude.{if◌then◌else◌, bytes_eq, Contains}
+use Rattle.rvs_base.specs.Faults.{raised}
 use Rattle.rvs_base.specs.Host.{HostState, Files}
 use Rattle.rvs_base.specs.Sink.{SinkState}
 use Rattle.rvs_base.specs.declared.host.DeviceRun.{DeviceRun}
 use Rattle.rvs_base.specs.declared.answers.Answer.{Answer}
 use Rattle.rvs_base.specs.declared.answers.Leaves.{Leaves}
 use Rattle.rvs_base.specs.declared.answers.Leaves.TheVariants.{Untouched, Absent, Holds}
-
--- a count with one more, as far as 64 bits hold it
-abbrev pub raised : ℕ → ℕ
-raised count = min (count + 1) (2 ^ 64 - 1)
 
 -- the files of a list of names and bytes; of two files of one name the first counts
 abbrev pub held : List (List ℕ × List ℕ) → Files
