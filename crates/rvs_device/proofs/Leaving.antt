@@ -5,7 +5,7 @@ use Rattle.std.proofs.Common.{None, Result, Ok, Err, IfOk, bytes_eq, refl, sym, 
 use Rattle.std.proofs.Common.{arith}
 use Rattle.std.proofs.lemmas.Slice.Eq.{bytes_eq-Decides}
 use Rattle.std.proofs.lemmas.List.{append_cancel_left}
-use Rattle.rvs_base.specs.Faults.{Rose}
+use Rattle.rvs_base.specs.Faults.{raised}
 use Rattle.rvs_base.specs.Host.{Files, HostState, Tells, is_told, ReadsOnly, WritesOnly, MaySpoil}
 use Rattle.rvs_base.specs.Host.{Spoils, written, with_file, with_left, run_over, RunsOnly}
 use Rattle.rvs_base.specs.Host.{RunsDevice, LeavesRun, ChangesOne, FailsRun}
@@ -109,9 +109,6 @@ Later-reads {a} {b} r = record {
   told = λ i. is_some (r.files i) && r.told i && is_some (r.runs i);
 }
 
-Rose-behind : (a b c : ℕ) → a ≤ b → Rose b c → Rose a c
-Rose-behind a b c le rose = omega arith
-
 -- ---- nothing was done
 pub same_files : (name : List ℕ) (files : Files) → files ≡ with_left name (files name) files
 same_files name files = with_left-of name files files (λ other apart. refl)
@@ -147,11 +144,20 @@ spoilt_files name (Some f) now files is s = let same : f ≡ files = cc in
     subst (λ (g : Files). (files' : Files) × (now ≡ Some files') × Spoils name [] g files') same s
 
 pub judges-unwritten : (t : Task) (old new : HostState) → WritesOnly old new
-    → MaySpoil t.signature [] old.files new.files → Rose old.write_faults new.write_faults
+    → MaySpoil t.signature [] old.files new.files → new.write_faults ≡ raised old.write_faults
     → Judges t old new (Err Write)
-judges-unwritten t old new w s rose = record {
+judges-unwritten t old new w s once = record {
   later = Later-writes w;
-  cause = rose;
+  cause = λ out. record {
+    reads = old.read_faults;
+    before = refl;
+    once = λ i. record {
+      reads = w.reading i;
+      writes = once i;
+      devices = w.running i;
+      output = out.faults;
+    };
+  };
   left = λ files runs tells is.
       let now = spoilt_files t.signature old.files new.files files tells.files s in
       let covered = with_left-of t.signature files now.0 now.2.others in (
@@ -180,12 +186,21 @@ emptied : (t : Task) (old mid : HostState) (files : Files)
 emptied t old mid files wrote is = wrote ∙ ap (written t.signature []) is
 
 pub judges-not_run : (t : Task) (old mid new : HostState) → WritesOnly old mid
-    → mid.files ≡ written t.signature [] old.files → RunsOnly mid new → FailsRun t.signature mid new
-    → Rose mid.run_faults new.run_faults → Judges t old new (Err Run)
-judges-not_run t old mid new w wrote r failed rose = record {
+    → mid.files ≡ written t.signature [] old.files → mid.write_faults ≡ old.write_faults
+    → RunsOnly mid new → FailsRun t.signature mid new → new.run_faults ≡ raised mid.run_faults
+    → Judges t old new (Err Run)
+judges-not_run t old mid new w wrote quiet r failed once = record {
   later = Later-trans (Later-writes w) (Later-runs r);
-  cause = let same = w.running in
-      Rose-behind old.run_faults mid.run_faults new.run_faults (omega arith) rose;
+  cause = λ out. record {
+    reads = old.read_faults;
+    before = refl;
+    once = λ i. record {
+      reads = (r.reading ∙ w.reading) i;
+      writes = (r.writing ∙ quiet) i;
+      devices = (once ∙ ap raised w.running) i;
+      output = out.faults;
+    };
+  };
   left = λ files runs tells is.
       let before = with_file t.signature [] files in
       let now = changed_files t.signature mid.files new.files before
@@ -283,8 +298,16 @@ judges-read t old mid ran new status (Err Write) m back = absurd back.comes
 judges-read t old mid ran new status (Err Run) m back = absurd back.comes
 judges-read t old mid ran new status (Err Read) m back = record {
   later = Later-trans (made-later m) (Later-reads back.reads_only);
-  cause =
-      Rose-behind old.read_faults ran.read_faults new.read_faults (made-later m).reads back.comes;
+  cause = λ out. record {
+    reads = old.read_faults;
+    before = refl;
+    once = λ i. record {
+      reads = (back.comes ∙ ap raised (m.runs.reading ∙ m.wrote.reading)) i;
+      writes = (back.reads_only.writing ∙ m.runs.writing ∙ m.quiet) i;
+      devices = (back.reads_only.running ∙ m.done ∙ m.wrote.running) i;
+      output = out.faults;
+    };
+  };
   left = λ files runs tells is. let run = made-run t old mid ran status files runs m tells is in
       (run.0, RanOnce-reads back.reads_only run.1);
 }

@@ -7,14 +7,15 @@ use Rattle.rvs_base.specs.Host.{Files, HostState, Tells, MaySpoil, Spoils, writt
 use Rattle.rvs_base.specs.Host.{with_left, run_over, ChangesOne}
 use Rattle.rvs_base.specs.declared.host.DeviceRun.{DeviceRun}
 use Rattle.rvs_base.specs.Sink.{SinkState}
-use Rattle.rvs_plan.specs.World.{World, Contents, contents, world, IsAnswer}
+use Rattle.rvs_plan.specs.World.{World, Contents, contents, world, IsAnswer, Reading, Writing}
+use Rattle.rvs_plan.specs.World.{Running}
 use Rattle.rvs_plan.specs.World as plan
 use Rattle.rvs_plan.specs.Effect.{Answer, Write, Effect, Read, Device, Did, after, left_by}
 use Rattle.rvs_plan.specs.Effect.{run_added}
 use Rattle.rvs_plan.specs.Plan.{Ends}
 use Rattle.rvs_plan.specs.Meets.{Reaches, Follows, HasCause, NoFault, MeetsWith}
 use Rattle.rvs_plan.proofs.Reaching.{Reaches-start}
-use Rattle.rvs_plan.proofs.Sequence.{LaterSink-start}
+use Rattle.rvs_plan.proofs.Sequence.{LaterSink-start, FirstFault-weaker, FirstFault-rose}
 use Rattle.rvs_device.specs.Judged.{verdict_on}
 use Rattle.rvs_device.specs.Judging.{Task, RanOnce, RanNone, Left, Judges}
 use Rattle.rvs_device.specs.Plans.{judged, read_back, run_and_read, stopped}
@@ -242,13 +243,16 @@ judged-cause : (t : Task) (out : SinkState) (old new : HostState)
     (result : Result TestVerdict JudgeFault) → Judges t old new result → IfErr (stopped t result)
     (HasCause (world old out) (world new out))
 judged-cause t out old new (Ok verdict) j = tt
-judged-cause t out old new (Err fault.Write) j = j.cause
-judged-cause t out old new (Err fault.Run) j = j.cause
-judged-cause t out old new (Err fault.Read) j = j.cause
+judged-cause t out old new (Err fault.Write) j =
+    FirstFault-rose Writing (world old out) (world new out) (j.cause out)
+judged-cause t out old new (Err fault.Run) j =
+    FirstFault-rose Running (world old out) (world new out) (j.cause out)
+judged-cause t out old new (Err fault.Read) j =
+    FirstFault-rose Reading (world old out) (world new out) (j.cause out)
 judged-cause t out old new (Err fault.NoMemory) j = tt
 
--- no count changed but for a stop that tells of it, and for a signature file that isn't there on a
--- host that isn't told
+-- nothing failed but what a stop tells of, and perhaps that there is no signature file on a host
+-- that isn't told
 judged-unfaulted : (t : Task) (out : SinkState) (old new : HostState)
     (result : Result TestVerdict JudgeFault) → Judges t old new result → NoFault IsAnswer
     (world old out) (world new out) (stopped t result)
@@ -258,9 +262,12 @@ judged-unfaulted t out old new (Ok verdict) j = record {
   devices = j.cause.devices;
   output = refl;
 }
-judged-unfaulted t out old new (Err fault.Write) j = tt
-judged-unfaulted t out old new (Err fault.Run) j = tt
-judged-unfaulted t out old new (Err fault.Read) j = tt
+judged-unfaulted t out old new (Err fault.Write) j =
+    FirstFault-weaker Writing (world old out) (world new out) (j.cause out)
+judged-unfaulted t out old new (Err fault.Run) j =
+    FirstFault-weaker Running (world old out) (world new out) (j.cause out)
+judged-unfaulted t out old new (Err fault.Read) j =
+    FirstFault-weaker Reading (world old out) (world new out) (j.cause out)
 judged-unfaulted t out old new (Err fault.NoMemory) j = record {
   reads = λ told. j.cause.reads;
   writes = j.cause.writes;

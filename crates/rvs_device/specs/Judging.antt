@@ -1,9 +1,10 @@
 -- What judging a test does to a host.
 use Rattle.std.specs.Prelude.{◌≡◌, ◌≢◌, ◌≤◌, ◌⊎◌, ◌↔◌, ℕ, ℤ, true, if◌then◌else◌, List, [], ◌∷◌}
 use Rattle.std.specs.Prelude.{◌++◌, length, Option, Some, None, Result, Ok, Err, bytes_eq}
-use Rattle.rvs_base.specs.Faults.{Rose}
 use Rattle.rvs_base.specs.Host.{Files, HostState, Tells, is_told, with_left}
+use Rattle.rvs_base.specs.Sink.{SinkState}
 use Rattle.rvs_base.specs.declared.host.DeviceRun.{DeviceRun}
+use Rattle.rvs_plan.specs.World.{world, IsFault, Failing, Reading, Writing, Running, FirstFault}
 use Rattle.rvs_sig.specs.Words.{words_of}
 use Rattle.rvs_device.specs.Command.{started_with}
 use Rattle.rvs_device.specs.Judged.{signature_limit, verdict_on}
@@ -82,12 +83,17 @@ pub record Verdicts (old new : HostState) (verdict : TestVerdict) : Type 0 where
   pub writes : new.write_faults ≡ old.write_faults
   pub devices : new.run_faults ≡ old.run_faults
 
--- the count of the step that failed rose, and otherwise none changed
+-- one call failed and was counted once, and no other failed
+abbrev pub OneFault : Failing → HostState → HostState → Type 0
+OneFault failing old new =
+    (out : SinkState) → FirstFault IsFault failing (world old out) (world new out)
+
+-- the step that failed was counted once, and nothing else failed
 abbrev pub Cause : HostState → HostState → Result TestVerdict JudgeFault → Type 0
 Cause old new (Ok verdict) = Verdicts old new verdict
-Cause old new (Err Write) = Rose old.write_faults new.write_faults
-Cause old new (Err Run) = Rose old.run_faults new.run_faults
-Cause old new (Err Read) = Rose old.read_faults new.read_faults
+Cause old new (Err Write) = OneFault Writing old new
+Cause old new (Err Run) = OneFault Running old new
+Cause old new (Err Read) = OneFault Reading old new
 Cause old new (Err NoMemory) = Unfaulted old new
 
 -- no count fell, and what was told is told

@@ -1,6 +1,6 @@
 -- What reading a signature file back comes to.
 use Rattle.std.specs.Prelude.{◌≡◌, ℕ, ℤ, List, Result, Ok, Err}
-use Rattle.rvs_base.specs.Faults.{Rose}
+use Rattle.rvs_base.specs.Faults.{raised}
 use Rattle.rvs_base.specs.Host.{Files, HostState, ReadsOnly, Tells}
 use Rattle.rvs_device.specs.Judged.{verdict_on}
 use Rattle.rvs_device.specs.Judging.{Verdicts}
@@ -19,7 +19,7 @@ pub record Finds (signature : List ℕ) (status : ℤ) (reference : List ℕ)
 abbrev pub Misses : HostState → HostState → JudgeFault → Type 0
 Misses old new Write = ⊥
 Misses old new Run = ⊥
-Misses old new Read = Rose old.read_faults new.read_faults
+Misses old new Read = new.read_faults ≡ raised old.read_faults
 Misses old new NoMemory = new.read_faults ≡ old.read_faults
 
 abbrev pub Comes : List ℕ → ℤ → List ℕ → HostState → HostState → Result TestVerdict JudgeFault

@@ -52,8 +52,9 @@ pub returns-clause-judges : goal.returns-clause-judges
 returns-clause-judges g c =
     judges-not_run (task c.args.device.now.command c.args.program.now c.args.test.now
     c.args.signature.now c.args.reference.now) _ _ _
-    c.in-Ok.ensures.writes_only c.in-Ok.ensures.written c.in-Err-run_device.ensures.runs_only
-    c.in-Err-run_device.ensures.failed c.in-Err-run_device.ensures.cause
+    c.in-Ok.ensures.writes_only c.in-Ok.ensures.written c.in-Ok.ensures.unfaulted
+    c.in-Err-run_device.ensures.runs_only c.in-Err-run_device.ensures.failed
+    c.in-Err-run_device.ensures.cause
 
 pub returns-in_err-words-clause-planned : goal.returns-in_err-words-clause-planned
 returns-in_err-words-clause-planned g c = λ out.
