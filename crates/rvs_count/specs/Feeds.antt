@@ -1,6 +1,6 @@
 -- A file that was fed to a counter.
 use Rattle.std.specs.Prelude.{◌≡◌, ℕ, ◌+◌, ◌^◌, ◌<◌, List, ◌++◌, length, Some}
-use Rattle.rvs_base.specs.Faults.{Rose}
+use Rattle.rvs_base.specs.Faults.{raised}
 use Rattle.rvs_base.specs.Host.{HostState, Files, Tells, LacksFile}
 use Rattle.rvs_base.specs.declared.host.OpenFault.{OpenFault}
 use Rattle.rvs_base.specs.declared.host.OpenFault.TheVariants as fault
@@ -38,7 +38,7 @@ pub record IsLong (name : List ℕ) (old : HostState) (c : CountState) : Type 0 
 -- when a log isn't fed to its end
 abbrev pub FeedCause : List ℕ → HostState → HostState → CountState → CountState → LogFault → Type 0
 FeedCause name old new c c' NoFile = LacksFile name old new × (c' ≡ c)
-FeedCause name old new c c' Failed = Rose old.read_faults new.read_faults
+FeedCause name old new c c' Failed = new.read_faults ≡ raised old.read_faults
 FeedCause name old new c c' TooLong = IsLong name old c × (new.read_faults ≡ old.read_faults)
 
 -- the fault that a fault in opening leads to

@@ -1,5 +1,5 @@
 -- A verdict is a pass exactly where what was left spells the reference's words.
-use Rattle.std.proofs.Common.{◌≡◌, ◌↔◌, ◌≤◌, ℕ, ◌+◌, ℤ, Bool, true, false, not, cond, nat_lt, ◌==◌}
+use Rattle.std.proofs.Common.{◌≡◌, ◌↔◌, ◌≤◌, ℕ, ℤ, Bool, true, false, not, nat_lt, ◌==◌}
 use Rattle.std.proofs.Common.{◌&&◌, eq-eqb, if◌then◌else◌, List, [], ◌∷◌, length, Option, Some}
 use Rattle.std.proofs.Common.{None, Result, Ok, Err, refl, sym, ap, subst, ◌∙◌, arith}
 use Rattle.std.proofs.lemmas.Bool.{le-ltb, ltb-false}
