@@ -1,3 +1,4 @@
+pub mod Asked
 pub mod Cursor
 pub mod Digits
 pub mod Faults

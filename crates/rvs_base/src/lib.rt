@@ -2,6 +2,7 @@
 #![tactic(auto)]
 
 mod answers;
+mod asked;
 mod digits;
 mod file;
 mod host;
@@ -17,6 +18,7 @@ mod sink;
 mod text;
 
 pub use answers::{Answer, Leaves};
+pub use asked::{DemoSize, Window};
 pub use digits::{natural_below, number_below, short_number};
 pub use file::{FileRefusal, read_file};
 pub use host::{DeviceRun, Failed, Host, OpenFault};

@@ -15,7 +15,7 @@ use Rattle.rvs_count.specs.Index.{places_in}
 use Rattle.rvs_count.specs.State.{Tallied, tally_of}
 use Rattle.rvs_count.specs.declared.key.ListKey.{ListKey}
 use Rattle.rvs_count.specs.declared.slot.Slot.{Slot}
-use Rattle.rvs_count.specs.declared.window.Window.{Window}
+use Rattle.rvs_base.specs.declared.asked.Window.{Window}
 use Rattle.rvs_count.proofs.Counts.{none_counted}
 use Rattle.rvs_insn.specs.Fields.{Fields}
 use Rattle.rvs_log.specs.Registers.{zeros}

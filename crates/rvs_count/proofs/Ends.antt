@@ -8,7 +8,7 @@ use Rattle.rvs_log.specs.Lines.{held_says}
 use Rattle.rvs_log.specs.Entries.{entries_of, entries_in, unheard}
 use Rattle.rvs_cgf.specs.declared.group.Label.{Label}
 use Rattle.rvs_count.specs.Counting.{aims_in, count, kept}
-use Rattle.rvs_count.specs.declared.window.Window.{Window}
+use Rattle.rvs_base.specs.declared.asked.Window.{Window}
 use Rattle.rvs_count.specs.State.{CountState, state_of, state_with, tally_of, with_end}
 use Rattle.rvs_count.specs.State.{with_reading, ended, ended_by}
 use Rattle.rvs_count.proofs.Streams.{state_all, whole_snoc}

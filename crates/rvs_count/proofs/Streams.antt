@@ -19,7 +19,7 @@ use Rattle.rvs_cgf.specs.declared.group.Label.{Label}
 use Rattle.rvs_insn.specs.Fields.{Fields}
 use Rattle.rvs_count.specs.Counting.{aims_in, count, decoded, is_in, kept}
 use Rattle.rvs_count.specs.Runs.{run_of, run_with}
-use Rattle.rvs_count.specs.declared.window.Window.{Window}
+use Rattle.rvs_base.specs.declared.asked.Window.{Window}
 use Rattle.rvs_count.specs.Bounds.{waiting_len}
 use Rattle.rvs_count.proofs.Counts.{counts_snoc, run_more}
 use Rattle.rvs_count.proofs.Crossing.{aims_sized}

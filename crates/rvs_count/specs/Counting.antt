@@ -13,7 +13,7 @@ use Rattle.rvs_insn.specs.declared.op.Op.{Op}
 use Rattle.rvs_insn.specs.Fields.{Fields, insn_of_word}
 use Rattle.rvs_log.specs.Entries.{Entry}
 use Rattle.rvs_count.specs.Runs.{suffixes}
-use Rattle.rvs_count.specs.declared.window.Window.{Window}
+use Rattle.rvs_base.specs.declared.asked.Window.{Window}
 
 -- a point with the mnemonics of its label
 pub record Aim : Type 0 where

@@ -7,7 +7,7 @@ use Rattle.rvs_base.specs.declared.host.OpenFault.TheVariants as fault
 use Rattle.rvs_cgf.specs.declared.group.Label.{Label}
 use Rattle.rvs_count.specs.declared.file.LogFault.{LogFault}
 use Rattle.rvs_count.specs.declared.file.LogFault.TheVariants.{NoFile, Failed, TooLong}
-use Rattle.rvs_count.specs.declared.window.Window.{Window}
+use Rattle.rvs_base.specs.declared.asked.Window.{Window}
 use Rattle.rvs_count.specs.State.{CountState, state_of}
 
 -- these bytes were fed after all that came before

@@ -11,7 +11,7 @@ use Rattle.rvs_cross.specs.Windows.{matches}
 use Rattle.rvs_insn.specs.Fields.{Fields}
 use Rattle.rvs_count.specs.Counting.{Aim, aims_in, decoded, hits, count, is_in, kept}
 use Rattle.rvs_count.specs.Runs.{last, run_of, run_with}
-use Rattle.rvs_count.specs.declared.window.Window.{Window}
+use Rattle.rvs_base.specs.declared.asked.Window.{Window}
 
 -- what was counted in some lines: for these labels and windows, how often each point was hit and
 -- how many instructions there were; and what of the lines matters for those that follow

@@ -4,14 +4,13 @@ ghost use Rattle.std.specs.Prelude.{IfOk, IsErr, OnOk, OnErr, drop, length, map}
 ghost use Rattle.rvs_cgf.specs.GroupView.{label_view};
 ghost use Rattle.rvs_cgf.specs.declared.group.Label.{Label as Group};
 ghost use Rattle.rvs_count.specs.Bounds.{waiting_len};
-ghost use Rattle.rvs_count.specs.declared.window.Window.{Window as Span};
+ghost use Rattle.rvs_base.specs.declared.asked.Window.{Window as Span};
 ghost use Rattle.rvs_count.specs.Report.{report_of};
 ghost use Rattle.rvs_count.specs.State.{ended, state_of, state_with, with_all, with_reading};
 ghost use Rattle.rvs_log.specs.Lines.{held_says};
 
 use crate::tally::Tally;
-use crate::window::Window;
-use rvs_base::{Items, NoMemory, Text};
+use rvs_base::{Items, NoMemory, Text, Window};
 use rvs_cgf::Groups;
 use rvs_log::Follow;
 use std::alloc::Global;

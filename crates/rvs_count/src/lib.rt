@@ -26,7 +26,6 @@ mod taken;
 mod tally;
 mod wanted;
 mod whole;
-mod window;
 mod windows;
 mod zeros;
 
@@ -34,4 +33,3 @@ pub use counter::{Counter, LogTooLong};
 pub use file::{LogFault, count_file};
 pub use report::report_text;
 pub use whole::{Counted, count_log};
-pub use window::Window;

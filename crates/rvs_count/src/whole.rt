@@ -3,12 +3,11 @@ ghost use Rattle.std.specs.Prelude.{◌≡◌, ◌≤◌, ◌+◌, ◌^◌, ℕ,
 ghost use Rattle.rvs_log.specs.Entries.{entries_of};
 ghost use Rattle.rvs_cgf.specs.declared.group.Label.{Label as Group};
 ghost use Rattle.rvs_count.specs.Counting.{aims_in, count, kept};
-ghost use Rattle.rvs_count.specs.declared.window.Window.{Window as Span};
+ghost use Rattle.rvs_base.specs.declared.asked.Window.{Window as Span};
 ghost use Rattle.rvs_count.specs.State.{state_of};
 
 use crate::counter::Counter;
-use crate::window::Window;
-use rvs_base::{Items, NoMemory};
+use rvs_base::{Items, NoMemory, Window};
 use rvs_cgf::Groups;
 use std::alloc::Global;
 

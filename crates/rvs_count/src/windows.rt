@@ -3,7 +3,7 @@ ghost use Rattle.std.specs.Prelude.{◌≡◌};
 ghost use Rattle.std.specs.List.{list_any};
 ghost use Rattle.rvs_count.specs.Counting.{is_in, within};
 
-use crate::window::Window;
+use rvs_base::Window;
 
 fn has(window: &Window, pc: u32) -> bool
     ensures { result ≡ within pc window.now }

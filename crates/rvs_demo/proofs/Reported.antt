@@ -17,7 +17,7 @@ use Rattle.rvs_count.specs.Counting.{aims_of, count, kept}
 use Rattle.rvs_count.specs.Report.{report_of}
 use Rattle.rvs_count.specs.State.{CountState, state_of, ended}
 use Rattle.rvs_count.specs.Feeds.{Fed}
-use Rattle.rvs_count.specs.declared.window.Window.{Window}
+use Rattle.rvs_base.specs.declared.asked.Window.{Window}
 use Rattle.rvs_count.proofs.Ends.{counted_all, counted_instructions, counted_labels}
 use Rattle.rvs_demo.specs.Program.{code, core, image, program}
 use Rattle.rvs_demo.specs.Label.{label}

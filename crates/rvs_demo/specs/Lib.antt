@@ -2,4 +2,3 @@ pub mod Counted
 pub mod Demo
 pub mod Label
 pub mod Program
-pub mod Sizes

@@ -6,8 +6,6 @@ mod demo;
 mod label;
 mod laws;
 mod program;
-mod size;
 
 pub use demo::demo_text;
 pub use laws::each_key_is_a_point;
-pub use size::DemoSize;

@@ -14,7 +14,7 @@ use Rattle.rvs_cgf.specs.Groups.{Label}
 use Rattle.rvs_count.specs.Counting.{aims_of, count, kept}
 use Rattle.rvs_log.specs.Logs.{log_of, as_entry}
 use Rattle.rvs_count.specs.Report.{report_of}
-use Rattle.rvs_count.specs.declared.window.Window.{Window}
+use Rattle.rvs_base.specs.declared.asked.Window.{Window}
 use Rattle.rvs_suite.specs.Call.{Call}
 use Rattle.rvs_suite.specs.Answered.{HasLeft, Answered}
 use Rattle.rvs_suite.specs.GroupFiles.{Inputs, and_then, inputs_in}

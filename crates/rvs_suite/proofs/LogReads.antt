@@ -1,7 +1,7 @@
 -- Reading a log for `coverage`: it only reads, and what it finds over given files.
 use Rattle.std.proofs.Common.{ℕ, List, refl}
 use Rattle.rvs_base.specs.Host.{Files}
-use Rattle.rvs_count.specs.declared.window.Window.{Window}
+use Rattle.rvs_base.specs.declared.asked.Window.{Window}
 use Rattle.rvs_suite.specs.GroupFiles.{Inputs, inputs_in, group_inputs}
 use Rattle.rvs_suite.specs.Coverage.{report_found, report_in, counts_log, reported}
 use Rattle.rvs_suite.proofs.Readers.{OnlyReads, OnlyReads-then}

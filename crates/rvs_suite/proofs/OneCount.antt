@@ -12,7 +12,7 @@ use Rattle.rvs_cgf.specs.Hits.{has_op, is_meant}
 use Rattle.rvs_cgf.proofs.Distinct.{and-right}
 use Rattle.rvs_count.specs.Counting.{Aim, aims_of, count, count_for, decoded, hits, hits_insn, kept}
 use Rattle.rvs_count.specs.Report.{report_of}
-use Rattle.rvs_count.specs.declared.window.Window.{Window}
+use Rattle.rvs_base.specs.declared.asked.Window.{Window}
 
 -- no instruction alone hits a cross point
 no-window : (a : Aim) (i : Option Fields) (v1 v2 : ℕ) (ps : List Place)

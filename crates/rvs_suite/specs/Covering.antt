@@ -11,7 +11,7 @@ use Rattle.rvs_cgf.specs.Valid.{IsValid}
 use Rattle.rvs_count.specs.Counting.{aims_of, count, hits, kept}
 use Rattle.rvs_log.specs.Logs.{log_of, as_entry}
 use Rattle.rvs_count.specs.Report.{report_of}
-use Rattle.rvs_count.specs.declared.window.Window.{Window}
+use Rattle.rvs_base.specs.declared.asked.Window.{Window}
 use Rattle.rvs_suite.specs.Answered.{Answered}
 use Rattle.rvs_suite.specs.Call.{Call, Asks}
 use Rattle.rvs_suite.specs.Coverage.{log_limit, report_in}

@@ -6,15 +6,15 @@ ghost use Rattle.rvs_plan.specs.Plan.{Asks, Ends};
 ghost use Rattle.rvs_plan.specs.Meets.{Meets};
 ghost use Rattle.rvs_cgf.specs.declared.group.Label.{Label};
 ghost use Rattle.rvs_count.specs.State.{ended, state_of};
-ghost use Rattle.rvs_count.specs.declared.window.Window.{Window as Span};
+ghost use Rattle.rvs_base.specs.declared.asked.Window.{Window as Span};
 ghost use Rattle.rvs_suite.specs.GroupsView.{groups_view};
 ghost use Rattle.rvs_suite.specs.Coverage.{report_on, report_found, reported, coverage};
 
 use crate::group_files::read_inputs;
 use crate::printing::print_text;
-use rvs_base::{Host, Items, NoMemory, Sink, Text};
+use rvs_base::{Host, Items, NoMemory, Sink, Text, Window};
 use rvs_cgf::Groups;
-use rvs_count::{Counter, LogFault, Window, count_file};
+use rvs_count::{Counter, LogFault, count_file};
 use rvs_plan::{Finish, Stop, too_long};
 use rvs_words::owned;
 use std::alloc::Global;

@@ -5,8 +5,8 @@ ghost use Rattle.rvs_plan.specs.Meets.{Meets};
 ghost use Rattle.rvs_suite.specs.Demonstrate.{demonstrate};
 
 use crate::printing::print_text;
-use rvs_base::Sink;
-use rvs_demo::{DemoSize, demo_text};
+use rvs_base::{DemoSize, Sink};
+use rvs_demo::demo_text;
 use rvs_plan::{Finish, Stop};
 use std::alloc::Global;
 

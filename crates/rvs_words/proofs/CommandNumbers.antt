@@ -5,14 +5,15 @@ use Rattle.std.proofs.Common.{ap, ◌∙◌, arith}
 use Rattle.std.proofs.lemmas.Bool.Decides.{nat_tests}
 use Rattle.std.proofs.lemmas.Bool.{le-leb}
 use Rattle.std.proofs.lemmas.Fmt.{length-decimal-le, first_decimal}
-use Rattle.std.specs.Prelude.{◌&&◌, nat_le, option_map, option_and_then}
+use Rattle.std.specs.Prelude.{◌&&◌, nat_le, option_map, option_and_then, unwrap_or}
 use Rattle.std.specs.Fmt.{decimal}
 use Rattle.rvs_words.specs.Words.{is_positional}
-use Rattle.rvs_demo.specs.Sizes.{size_of}
+use Rattle.rvs_base.specs.Asked.{size_of}
 use Rattle.rvs_base.specs.Digits.{digits_of}
 use Rattle.rvs_base.proofs.Readings.{digits_of-decimal}
-use Rattle.rvs_words.specs.Commands.{number_of, within_steps, given}
-use Rattle.rvs_words.specs.declared.command.Command.TheVariants.{Demo}
+use Rattle.rvs_words.specs.Commands.{◌>>=◌, number_of, within_steps}
+use Rattle.rvs_words.specs.declared.command.Command.{Command}
+use Rattle.rvs_words.specs.declared.command.Command.TheVariants.{Unknown, Demo}
 use Rattle.rvs_words.specs.CommandLaws.{StepsAreRead, CountsAreRead}
 
 number-read : (n : ℕ) → n ≤ 9999999 → number_of (decimal n) ≡ Some n
@@ -36,9 +37,11 @@ steps_are_read n low high = (
       ∙ ap (λ (t : Bool). option_map Some (cond t (Some n) None)) (within n 2000000 low high),
 )
 
+-- a demonstration of this size, where there is one
+abbrev of_size : Option ℕ → Command
+of_size size = unwrap_or (size >>= (λ count. Some (Demo count))) Unknown
+
 pub counts_are_read : CountsAreRead
 counts_are_read program n low high =
-    ap (λ (o : Option ℕ). given (option_and_then size_of o) (λ count. Demo count))
-    (number-read n (omega arith))
-    ∙ ap (λ (t : Bool). given (cond t (Some n) None) (λ count. Demo count))
-    (within n 1000000 low high)
+    ap (λ (o : Option ℕ). of_size (option_and_then size_of o)) (number-read n (omega arith))
+    ∙ ap (λ (t : Bool). of_size (cond t (Some n) None)) (within n 1000000 low high)

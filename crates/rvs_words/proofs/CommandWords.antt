@@ -1,22 +1,24 @@
 -- The words of each command ask for it.
 use Rattle.std.proofs.Common.{◌≡◌, ◌≤◌, ℕ, Bool, true, false, cond, List, [], ◌∷◌, ◌++◌, length}
 use Rattle.std.proofs.Common.{Option, Some, None, refl, ap, ◌∙◌, bytes_eq, codes, append-nil, arith}
-use Rattle.std.specs.Prelude.{◌&&◌, nat_le, map, option_map}
+use Rattle.std.specs.Prelude.{◌&&◌, nat_le, map, option_map, option_and_then, unwrap_or}
 use Rattle.std.specs.List.{list_all}
 use Rattle.std.proofs.lemmas.Bool.Decides.{nat_tests}
 use Rattle.std.proofs.lemmas.List.{length-map}
-use Rattle.rvs_words.specs.Words.{is_positional, pairs_of, values_of, are_known, only, at_most_one}
+use Rattle.rvs_words.specs.Words.{is_positional, pairs_of, is_among, options_in, values_of, are_known, only}
+use Rattle.rvs_words.specs.Words.{at_most_one}
 use Rattle.rvs_words.specs.Windows.{windows_of}
-use Rattle.rvs_words.specs.Commands.{given, some_of, steps_of, validate_options, validate_of}
+use Rattle.rvs_words.specs.Commands.{◌>>=◌, Values, with_options, some_of, steps_of}
+use Rattle.rvs_words.specs.Commands.{validate_options, validate_of}
 use Rattle.rvs_words.specs.Commands.{normalize_options, normalize_of, generate_options, generate_of}
 use Rattle.rvs_words.specs.Commands.{reference_options, reference_of, coverage_options, coverage_of}
 use Rattle.rvs_words.specs.Commands.{run_options, run_of}
 use Rattle.rvs_words.specs.declared.words.Pair.{Pair}
-use Rattle.rvs_count.specs.declared.window.Window.{Window}
+use Rattle.rvs_base.specs.declared.asked.Window.{Window}
 use Rattle.rvs_words.specs.declared.command.Command.{Command}
-use Rattle.rvs_words.specs.declared.command.Command.TheVariants.{Unknown, Compare, Normalize}
-use Rattle.rvs_words.specs.declared.command.Command.TheVariants.{Generate, Reference, Coverage, Run}
-use Rattle.rvs_words.specs.declared.command.Command.TheVariants.{Demo}
+use Rattle.rvs_words.specs.declared.command.Command.TheVariants.{Unknown, Compare, Validate}
+use Rattle.rvs_words.specs.declared.command.Command.TheVariants.{Normalize, Generate, Reference}
+use Rattle.rvs_words.specs.declared.command.Command.TheVariants.{Coverage, Run, Demo}
 use Rattle.rvs_words.specs.CommandLaws.{Value, option, options, may_stand, AllMayStand, text_of}
 use Rattle.rvs_words.specs.CommandLaws.{listed, ComparesAreRead, ValidatesAreRead}
 use Rattle.rvs_words.specs.CommandLaws.{NormalizesAreRead, GeneratesAreRead, ReferencesAreRead}
@@ -52,20 +54,41 @@ window-name = record { alone = refl; joined = λ byte text. refl; same = refl }
 device-name : IsName (codes "--device")
 device-name = record { alone = refl; joined = λ byte text. refl; same = refl }
 
+pub options-in : (names words : List (List ℕ)) (ps : List Pair)
+    → pairs_of words ≡ Some ps → are_known names ps ≡ true → options_in (is_among names) words ≡ Some ps
+options-in names words ps e k =
+    ap (λ (o : Option (List Pair)). option_and_then
+    (λ (ps : List Pair). cond (are_known names ps) (Some ps) None) o) e
+    ∙ ap (λ (b : Bool). cond b (Some ps) None) k
+
+-- the values of each option of pairs
+abbrev pub of-values : List Pair → Values
+of-values ps name = values_of name ps
+
+-- what options ask for, by what their values do
+pub asked : (names : List (List ℕ)) (f : Values → Option Command) (words : List (List ℕ))
+    (ps : List Pair) (command : Command)
+    → options_in (is_among names) words ≡ Some ps → f (of-values ps) ≡ Some command
+    → with_options names f words ≡ Some command
+asked names f words ps command e h =
+    ap (λ (o : Option (List Pair)). o >>= (λ (ps : List Pair). f (of-values ps))) e
+    ∙ h
+
 -- a command of the pairs, each of whose names is known
-pub of-pairs : (names : List (List ℕ)) (f : List Pair → Command) (words : List (List ℕ))
-    (ps : List Pair)
+of-pairs : (names : List (List ℕ)) (f : Values → Option Command) (words : List (List ℕ))
+    (ps : List Pair) (command : Command)
     → pairs_of words ≡ Some ps → are_known names ps ≡ true
-    → given (pairs_of words) (λ ps. cond (are_known names ps) (f ps) Unknown) ≡ f ps
-of-pairs names f words ps e k =
-    ap (λ (o : Option (List Pair)). given o (λ ps. cond (are_known names ps) (f ps) Unknown)) e
-    ∙ ap (λ (b : Bool). cond b (f ps) Unknown) k
+    → f (of-values ps) ≡ Some command
+    → unwrap_or (with_options names f words) Unknown ≡ command
+of-pairs names f words ps command e k h =
+    ap (λ (o : Option Command). unwrap_or o Unknown)
+    (asked names f words ps command (options-in names words ps e k) h)
 
 pub validates_are_read : ValidatesAreRead
 validates_are_read program isa m =
     of-pairs validate_options validate_of (option (codes "--isa") isa)
-    (pair (codes "--isa") isa ∷ [])
-    (option_alone (codes "--isa") isa-name isa (and-left (may_stand isa) true m)) refl
+    (pair (codes "--isa") isa ∷ []) (Validate (record { isa = isa.text }))
+    (option_alone (codes "--isa") isa-name isa (and-left (may_stand isa) true m)) refl refl
 
 enough : (values : List Value) → 1 ≤ length values → length values ≤ 64
     → (nat_le 1 (length (map text_of values)) && nat_le (length (map text_of values)) 64) ≡ true
@@ -76,12 +99,13 @@ some : (values : List Value) → 1 ≤ length values → length values ≤ 64
 some values low high =
     ap (λ (b : Bool). cond b (Some (map text_of values)) None) (enough values low high)
 
-normalize-of : (ps : List Pair) (isa : List ℕ) (groups : List (List ℕ))
-    → only (values_of (codes "--isa") ps) ≡ Some isa
-    → some_of 64 (values_of (codes "--cgf") ps) ≡ Some groups
-    → normalize_of ps ≡ Normalize isa groups
-normalize-of ps isa groups a b =
-    λ k. given (a k) (λ isa. given (b k) (λ groups. Normalize isa groups))
+pub normalize-of : (values : Values) (isa : List ℕ) (groups : List (List ℕ))
+    → only (values (codes "--isa")) ≡ Some isa
+    → some_of 64 (values (codes "--cgf")) ≡ Some groups
+    → normalize_of values ≡ Some (Normalize (record { isa = isa; groups = groups }))
+normalize-of values isa groups a b =
+    λ k. a k >>= (λ isa. b k >>= (λ groups.
+    Some (Normalize (record { isa = isa; groups = groups }))))
 
 -- all values stand where the first does and the others do
 first-stands : (value : Value) (values : List Value) → AllMayStand (value ∷ values)
@@ -102,8 +126,9 @@ own-values name is values more none =
 
 pub compares_are_read : ComparesAreRead
 compares_are_read program left right a b =
-    ap (λ (t : Bool). cond (t && is_positional right) (Compare left right) Unknown) a
-    ∙ ap (λ (t : Bool). cond t (Compare left right) Unknown) b
+    let both = Some (Compare (record { left = left; right = right })) in
+    ap (λ (t : Bool). unwrap_or (cond (t && is_positional right) both None) Unknown) a
+    ∙ ap (λ (t : Bool). unwrap_or (cond t both None) Unknown) b
 
 pub normalizes_are_read : NormalizesAreRead
 normalizes_are_read program isa groups m few =
@@ -113,19 +138,21 @@ normalizes_are_read program isa groups m few =
     (options_alone (codes "--cgf") cgf-name groups (others-stand isa groups m)) in
     of-pairs normalize_options normalize_of
     (option (codes "--isa") isa ++ options (codes "--cgf") groups)
-    (pair (codes "--isa") isa ∷ rest) read
+    (pair (codes "--isa") isa ∷ rest) _ read
     (known_pairs normalize_options (codes "--cgf") refl groups [])
-    ∙ normalize-of (pair (codes "--isa") isa ∷ rest) isa.text (map text_of groups)
+    (normalize-of (of-values (pair (codes "--isa") isa ∷ rest)) isa.text (map text_of groups)
     (ap (λ vs. only (isa.text ∷ vs)) (values_other (codes "--isa") (codes "--cgf") refl groups []))
-    (ap (some_of 64) (own-values (codes "--cgf") cgf-name groups [] refl) ∙ some groups few.0 few.1)
+    (ap (some_of 64) (own-values (codes "--cgf") cgf-name groups [] refl)
+    ∙ some groups few.0 few.1))
 
-generate-of : (ps : List Pair) (isa work : List ℕ) (groups : List (List ℕ))
-    → only (values_of (codes "--isa") ps) ≡ Some isa
-    → some_of 64 (values_of (codes "--cgf") ps) ≡ Some groups
-    → only (values_of (codes "--work") ps) ≡ Some work
-    → generate_of ps ≡ Generate isa groups work
-generate-of ps isa work groups a b c =
-    λ k. given (a k) (λ isa. given (b k) (λ groups. given (c k) (λ work. Generate isa groups work)))
+pub generate-of : (values : Values) (isa work : List ℕ) (groups : List (List ℕ))
+    → only (values (codes "--isa")) ≡ Some isa
+    → some_of 64 (values (codes "--cgf")) ≡ Some groups
+    → only (values (codes "--work")) ≡ Some work
+    → generate_of values ≡ Some (Generate (record { isa = isa; groups = groups; work = work }))
+generate-of values isa work groups a b c =
+    λ k. a k >>= (λ isa. b k >>= (λ groups. c k >>= (λ work.
+    Some (Generate (record { isa = isa; groups = groups; work = work })))))
 
 pub generates_are_read : GeneratesAreRead
 generates_are_read program isa work groups m few =
@@ -139,24 +166,32 @@ generates_are_read program isa work groups m few =
     (others-stand work groups m1)
     (option_alone (codes "--work") work-name work (first-stands work groups m1))) in
     of-pairs generate_options generate_of (option (codes "--isa") isa ++ words)
-    (pair (codes "--isa") isa ∷ rest) read
+    (pair (codes "--isa") isa ∷ rest) _ read
     (known_pairs generate_options (codes "--cgf") refl groups behind)
-    ∙ generate-of (pair (codes "--isa") isa ∷ rest) isa.text work.text (map text_of groups)
+    (generate-of (of-values (pair (codes "--isa") isa ∷ rest)) isa.text work.text
+    (map text_of groups)
     (ap (λ vs. only (isa.text ∷ vs))
     (values_other (codes "--isa") (codes "--cgf") refl groups behind))
     (ap (some_of 64) (own-values (codes "--cgf") cgf-name groups behind refl)
     ∙ some groups few.0 few.1)
-    (ap only (values_other (codes "--work") (codes "--cgf") refl groups behind))
+    (ap only (values_other (codes "--work") (codes "--cgf") refl groups behind)))
 
-pub run-of : (program : List ℕ) (ps : List Pair) (isa device work : List ℕ) (groups : List (List ℕ))
-    → only (values_of (codes "--isa") ps) ≡ Some isa
-    → some_of 64 (values_of (codes "--cgf") ps) ≡ Some groups
-    → only (values_of (codes "--device") ps) ≡ Some device
-    → only (values_of (codes "--work") ps) ≡ Some work
-    → run_of program ps ≡ Run program isa groups device work
-run-of program ps isa device work groups a b c d =
-    λ k. given (a k) (λ isa. given (b k) (λ groups. given (c k)
-    (λ device. given (d k) (λ work. Run program isa groups device work))))
+pub run-of : (program : List ℕ) (values : Values) (isa device work : List ℕ)
+    (groups : List (List ℕ))
+    → only (values (codes "--isa")) ≡ Some isa
+    → some_of 64 (values (codes "--cgf")) ≡ Some groups
+    → only (values (codes "--device")) ≡ Some device
+    → only (values (codes "--work")) ≡ Some work
+    → run_of program values ≡ Some (Run (record {
+      program = program;
+      isa = isa;
+      groups = groups;
+      device = device;
+      work = work;
+    }))
+run-of program values isa device work groups a b c d =
+    λ k. a k >>= (λ isa. b k >>= (λ groups. c k >>= (λ device. d k >>= (λ work. Some (Run
+    (record { program = program; isa = isa; groups = groups; device = device; work = work }))))))
 
 pub runs_are_read : RunsAreRead
 runs_are_read program isa device work groups m few =
@@ -174,26 +209,28 @@ runs_are_read program isa device work groups m few =
     (first-stands device (work ∷ groups) m1)
     (option_alone (codes "--work") work-name work (first-stands work groups m2)))) in
     of-pairs run_options (run_of program) (option (codes "--isa") isa ++ words)
-    (pair (codes "--isa") isa ∷ rest) read
+    (pair (codes "--isa") isa ∷ rest) _ read
     (known_pairs run_options (codes "--cgf") refl groups behind)
-    ∙ run-of program (pair (codes "--isa") isa ∷ rest) isa.text device.text work.text
+    (run-of program (of-values (pair (codes "--isa") isa ∷ rest)) isa.text device.text work.text
     (map text_of groups)
     (ap (λ vs. only (isa.text ∷ vs))
     (values_other (codes "--isa") (codes "--cgf") refl groups behind))
     (ap (some_of 64) (own-values (codes "--cgf") cgf-name groups behind refl)
     ∙ some groups few.0 few.1)
     (ap only (values_other (codes "--device") (codes "--cgf") refl groups behind))
-    (ap only (values_other (codes "--work") (codes "--cgf") refl groups behind))
+    (ap only (values_other (codes "--work") (codes "--cgf") refl groups behind)))
 
-pub coverage-of : (ps : List Pair) (isa log : List ℕ) (groups : List (List ℕ)) (kept : List Window)
-    → only (values_of (codes "--isa") ps) ≡ Some isa
-    → some_of 64 (values_of (codes "--cgf") ps) ≡ Some groups
-    → only (values_of (codes "--log") ps) ≡ Some log
-    → windows_of (values_of (codes "--window") ps) ≡ Some kept
-    → coverage_of ps ≡ Coverage isa groups log kept
-coverage-of ps isa log groups kept a b c d =
-    λ k. given (a k) (λ isa. given (b k)
-    (λ groups. given (c k) (λ log. given (d k) (λ windows. Coverage isa groups log windows))))
+pub coverage-of : (values : Values) (isa log : List ℕ) (groups : List (List ℕ))
+    (kept : List Window)
+    → only (values (codes "--isa")) ≡ Some isa
+    → some_of 64 (values (codes "--cgf")) ≡ Some groups
+    → only (values (codes "--log")) ≡ Some log
+    → windows_of (values (codes "--window")) ≡ Some kept
+    → coverage_of values ≡ Some (Coverage
+    (record { isa = isa; groups = groups; log = log; windows = kept }))
+coverage-of values isa log groups kept a b c d =
+    λ k. a k >>= (λ isa. b k >>= (λ groups. c k >>= (λ log. d k >>= (λ windows. Some (Coverage
+    (record { isa = isa; groups = groups; log = log; windows = windows }))))))
 
 pub coverages_are_read : CoveragesAreRead
 coverages_are_read program isa log groups windows kept m w few fit =
@@ -210,10 +247,11 @@ coverages_are_read program isa log groups windows kept m w few fit =
     (first-stands log groups m1)
     (options_alone (codes "--window") window-name windows w))) in
     of-pairs coverage_options coverage_of (option (codes "--isa") isa ++ words)
-    (pair (codes "--isa") isa ∷ rest) read
+    (pair (codes "--isa") isa ∷ rest) _ read
     (known_pairs coverage_options (codes "--cgf") refl groups behind
     ∙ known_pairs coverage_options (codes "--window") refl windows [])
-    ∙ coverage-of (pair (codes "--isa") isa ∷ rest) isa.text log.text (map text_of groups) kept
+    (coverage-of (of-values (pair (codes "--isa") isa ∷ rest)) isa.text log.text
+    (map text_of groups) kept
     (ap (λ vs. only (isa.text ∷ vs))
     (values_other (codes "--isa") (codes "--cgf") refl groups behind
     ∙ values_other (codes "--isa") (codes "--window") refl windows []))
@@ -224,19 +262,31 @@ coverages_are_read program isa log groups windows kept m w few fit =
     ∙ ap (λ vs. only (log.text ∷ vs))
     (values_other (codes "--log") (codes "--window") refl windows []))
     (ap windows_of (values_other (codes "--window") (codes "--cgf") refl groups behind
-    ∙ own-values (codes "--window") window-name windows [] refl) ∙ fit)
+    ∙ own-values (codes "--window") window-name windows [] refl) ∙ fit))
 
-pub reference-of : (ps : List Pair) (isa test signature : List ℕ) (log : Option (List ℕ))
+pub reference-of : (values : Values) (isa test signature : List ℕ) (log : Option (List ℕ))
     (count : Option ℕ)
-    → only (values_of (codes "--isa") ps) ≡ Some isa
-    → only (values_of (codes "--test") ps) ≡ Some test
-    → only (values_of (codes "--signature") ps) ≡ Some signature
-    → at_most_one (values_of (codes "--log") ps) ≡ Some log
-    → steps_of (values_of (codes "--steps") ps) ≡ Some count
-    → reference_of ps ≡ Reference isa test signature log count
-reference-of ps isa test signature log count a b c d e =
-    λ k. given (a k) (λ isa. given (b k) (λ test. given (c k) (λ signature.
-    given (d k) (λ log. given (e k) (λ count. Reference isa test signature log count)))))
+    → only (values (codes "--isa")) ≡ Some isa
+    → only (values (codes "--test")) ≡ Some test
+    → only (values (codes "--signature")) ≡ Some signature
+    → at_most_one (values (codes "--log")) ≡ Some log
+    → steps_of (values (codes "--steps")) ≡ Some count
+    → reference_of values ≡ Some (Reference (record {
+      isa = isa;
+      test = test;
+      signature = signature;
+      log = log;
+      steps = count;
+    }))
+reference-of values isa test signature log count a b c d e =
+    λ k. a k >>= (λ isa. b k >>= (λ test. c k >>= (λ signature. d k >>= (λ log.
+    e k >>= (λ steps. Some (Reference (record {
+      isa = isa;
+      test = test;
+      signature = signature;
+      log = log;
+      steps = steps;
+    })))))))
 
 one-listed : (log : Option Value)
     → at_most_one (map text_of (listed log)) ≡ Some (option_map text_of log)
@@ -269,10 +319,10 @@ references_are_read program isa test signature log steps count m l s fit =
     ≡ false) (b : bytes_eq (codes "--steps") name ≡ false).
     values_other name (codes "--log") a (listed log) ends
     ∙ values_other name (codes "--steps") b (listed steps) [] in
-    of-pairs reference_options reference_of (option (codes "--isa") isa ++ second) ps read
+    of-pairs reference_options reference_of (option (codes "--isa") isa ++ second) ps _ read
     (known_pairs reference_options (codes "--log") refl (listed log) ends
     ∙ known_pairs reference_options (codes "--steps") refl (listed steps) [])
-    ∙ reference-of ps isa.text test.text signature.text (option_map text_of log) count
+    (reference-of (of-values ps) isa.text test.text signature.text (option_map text_of log) count
     (ap (λ vs. only (isa.text ∷ vs)) (without (codes "--isa") refl refl))
     (ap (λ vs. only (test.text ∷ vs)) (without (codes "--test") refl refl))
     (ap (λ vs. only (signature.text ∷ vs)) (without (codes "--signature") refl refl))
@@ -280,7 +330,8 @@ references_are_read program isa test signature log steps count m l s fit =
     (values_other (codes "--log") (codes "--steps") refl (listed steps) []))
     ∙ one-listed log)
     (ap steps_of (values_other (codes "--steps") (codes "--log") refl (listed log) ends
-    ∙ own-values (codes "--steps") steps-name (listed steps) [] refl) ∙ fit)
+    ∙ own-values (codes "--steps") steps-name (listed steps) [] refl) ∙ fit))
 
 pub demos_are_read : DemosAreRead
-demos_are_read program text count e = ap (λ (o : Option ℕ). given o (λ count. Demo count)) e
+demos_are_read program text count e =
+    ap (λ (o : Option ℕ). unwrap_or (o >>= (λ count. Some (Demo count))) Unknown) e

@@ -1,20 +1,20 @@
 -- Options in any order ask for the same.
 use Rattle.std.proofs.Common.{◌≡◌, ℕ, Bool, true, false, cond, List, [], ◌∷◌, ◌++◌, Option, Some}
+use Rattle.std.proofs.Common.{None}
 use Rattle.std.proofs.Common.{refl, sym, ap, subst, ◌∙◌, bytes_eq, codes}
 use Rattle.std.proofs.lemmas.Slice.Eq.{bytes_eq-Decides}
-use Rattle.std.specs.Prelude.{◌&&◌, ◌||◌, map, filter}
+use Rattle.std.specs.Prelude.{◌&&◌, ◌||◌, map, filter, option_and_then, unwrap_or}
 use Rattle.std.specs.List.{list_all, list_any}
-use Rattle.rvs_words.specs.Words.{pairs_of, values_of, are_known, only, at_most_one}
-use Rattle.rvs_words.specs.Windows.{windows_of}
-use Rattle.rvs_words.specs.Commands.{given, some_of, steps_of, validate_options, validate_of}
+use Rattle.rvs_words.specs.Words.{pairs_of, values_of, are_known}
+use Rattle.rvs_words.specs.Commands.{◌>>=◌, Values, with_options, validate_options, validate_of}
 use Rattle.rvs_words.specs.Commands.{normalize_options, normalize_of, generate_options, generate_of}
 use Rattle.rvs_words.specs.Commands.{reference_options, reference_of, coverage_options, coverage_of}
 use Rattle.rvs_words.specs.Commands.{run_options, run_of, command_of}
 use Rattle.rvs_words.specs.declared.words.Pair.{Pair}
 use Rattle.rvs_words.specs.declared.command.Command.{Command}
-use Rattle.rvs_words.specs.declared.command.Command.TheVariants.{Unknown, Validate, Normalize}
-use Rattle.rvs_words.specs.declared.command.Command.TheVariants.{Generate, Reference, Coverage, Run}
+use Rattle.rvs_words.specs.declared.command.Command.TheVariants.{Unknown}
 use Rattle.rvs_words.specs.CommandLaws.{option_commands, OptionsChangePlaces}
+use Rattle.rvs_words.proofs.CommandWords.{of-values}
 
 -- a filter that doesn't take both of two neighbours
 two-kept : (x y : Bool) (a b : Pair) (rest : List Pair) → (x ≡ true → y ≡ true → ⊥)
@@ -56,56 +56,39 @@ all-swapped test [] behind a b = both-known (test a) (test b) (list_all test beh
 all-swapped test (p ∷ front) behind a b =
     ap (λ (rest : Bool). test p && rest) (all-swapped test front behind a b)
 
+-- what options of these names ask for, by the pairs that they are
+abbrev in-pairs : List (List ℕ) → (Values → Option Command) → Option (List Pair) → Option Command
+in-pairs names f ps =
+    option_and_then (λ (ps : List Pair). cond (are_known names ps) (Some ps) None) ps
+    >>= (λ (ps : List Pair). f (of-values ps))
+
+abbrev asked-by : List (List ℕ) → (Values → Option Command) → List Pair → Option Command
+asked-by names f ps = in-pairs names f (Some ps)
+
+still : (known : Bool) (f : Values → Option Command) (ps others : List Pair)
+    → of-values ps ≡ of-values others
+    → (cond known (Some ps) None >>= (λ (ps : List Pair). f (of-values ps)))
+    ≡ (cond known (Some others) None >>= (λ (ps : List Pair). f (of-values ps)))
+still true f ps others same = ap f same
+still false f ps others same = refl
+
+known-same : (names : List (List ℕ)) (f : Values → Option Command) (ps others : List Pair)
+    → are_known names ps ≡ are_known names others → SameValues ps others
+    → asked-by names f ps ≡ asked-by names f others
+known-same names f ps others known same =
+    ap (λ (b : Bool). cond b (Some ps) None >>= (λ (ps : List Pair). f (of-values ps))) known
+    ∙ still (are_known names others) f ps others (λ k name. same name k)
+
 -- a command depends on the values alone
-validate-same : (ps others : List Pair) → SameValues ps others → validate_of ps ≡ validate_of others
-validate-same ps others e = λ k. given (only (e (codes "--isa") k)) (λ isa. Validate isa)
-
-normalize-same : (ps others : List Pair) → SameValues ps others
-    → normalize_of ps ≡ normalize_of others
-normalize-same ps others e =
-    λ k. given (only (e (codes "--isa") k))
-    (λ isa. given (some_of 64 (e (codes "--cgf") k)) (λ groups. Normalize isa groups))
-
-generate-same : (ps others : List Pair) → SameValues ps others → generate_of ps ≡ generate_of others
-generate-same ps others e =
-    λ k. given (only (e (codes "--isa") k))
-    (λ isa. given (some_of 64 (e (codes "--cgf") k)) (λ groups.
-    given (only (e (codes "--work") k)) (λ work. Generate isa groups work)))
-
-reference-same : (ps others : List Pair) → SameValues ps others
-    → reference_of ps ≡ reference_of others
-reference-same ps others e =
-    λ k. given (only (e (codes "--isa") k)) (λ isa. given (only (e (codes "--test") k)) (λ test.
-    given (only (e (codes "--signature") k))
-    (λ signature. given (at_most_one (e (codes "--log") k)) (λ log.
-    given (steps_of (e (codes "--steps") k)) (λ steps. Reference isa test signature log steps)))))
-
-coverage-same : (ps others : List Pair) → SameValues ps others → coverage_of ps ≡ coverage_of others
-coverage-same ps others e =
-    λ k. given (only (e (codes "--isa") k))
-    (λ isa. given (some_of 64 (e (codes "--cgf") k)) (λ groups.
-    given (only (e (codes "--log") k)) (λ log. given (windows_of (e (codes "--window") k))
-    (λ windows. Coverage isa groups log windows))))
-
-run-same : (program : List ℕ) (ps others : List Pair) → SameValues ps others
-    → run_of program ps ≡ run_of program others
-run-same program ps others e =
-    λ k. given (only (e (codes "--isa") k))
-    (λ isa. given (some_of 64 (e (codes "--cgf") k)) (λ groups.
-    given (only (e (codes "--device") k)) (λ device. given (only (e (codes "--work") k))
-    (λ work. Run program isa groups device work))))
-
-of-same : (names : List (List ℕ)) (f : List Pair → Command) (words others : List (List ℕ))
+of-same : (names : List (List ℕ)) (f : Values → Option Command) (words others : List (List ℕ))
     (ps qs : List Pair)
     → pairs_of words ≡ Some ps → pairs_of others ≡ Some qs → are_known names ps ≡ are_known names qs
-    → f ps ≡ f qs
-    → given (pairs_of words) (λ ps. cond (are_known names ps) (f ps) Unknown)
-    ≡ given (pairs_of others) (λ ps. cond (are_known names ps) (f ps) Unknown)
+    → SameValues ps qs
+    → unwrap_or (with_options names f words) Unknown ≡ unwrap_or (with_options names f others) Unknown
 of-same names f words others ps qs e e2 known same =
-    ap (λ (o : Option (List Pair)). given o (λ ps. cond (are_known names ps) (f ps) Unknown)) e
-    ∙ (λ k. cond (known k) (same k) Unknown)
-    ∙ sym (ap (λ (o : Option (List Pair)). given o (λ ps. cond (are_known names ps) (f ps) Unknown))
-    e2)
+    ap (λ (o : Option (List Pair)). unwrap_or (in-pairs names f o) Unknown) e
+    ∙ ap (λ (o : Option Command). unwrap_or o Unknown) (known-same names f ps qs known same)
+    ∙ sym (ap (λ (o : Option (List Pair)). unwrap_or (in-pairs names f o) Unknown) e2)
 
 -- what holds of each of some names holds of a name among them
 abbrev HoldsOfAll : (List ℕ → Type 0) → List (List ℕ) → Type 0
@@ -131,22 +114,22 @@ options_change_places program name words others front behind a b is apart e e2 =
     let ps = front ++ a ∷ b ∷ behind in
     let qs = front ++ b ∷ a ∷ behind in
     let same = values-swapped front behind a b apart in
-    let of = λ (names : List (List ℕ)) (f : List Pair → Command) (h : f ps ≡ f qs).
+    let of = λ (names : List (List ℕ)) (f : Values → Option Command).
     of-same names f words others ps qs e e2
     (all-swapped (λ (p : Pair). list_any (λ (known : List ℕ). bytes_eq p.name known) names) front
-    behind a b) h in
+    behind a b) same in
     among (λ name. command_of (program ∷ name ∷ words) ≡ command_of (program ∷ name ∷ others)) name
     option_commands (
-      of validate_options validate_of (validate-same ps qs same),
+      of validate_options validate_of,
       (
-        of normalize_options normalize_of (normalize-same ps qs same),
+        of normalize_options normalize_of,
         (
-          of generate_options generate_of (generate-same ps qs same),
+          of generate_options generate_of,
           (
-            of reference_options reference_of (reference-same ps qs same),
+            of reference_options reference_of,
             (
-              of coverage_options coverage_of (coverage-same ps qs same),
-              (of run_options (run_of program) (run-same program ps qs same), tt),
+              of coverage_options coverage_of,
+              (of run_options (run_of program), tt),
             ),
           ),
         ),

@@ -7,7 +7,7 @@ use Rattle.std.specs.List.{position_or_len}
 use Rattle.rvs_base.specs.Digits.{short_number}
 use Rattle.rvs_base.specs.Lines.{before, after}
 use Rattle.rvs_words.specs.Windows.{address_of, window_between, window_at, window_of}
-use Rattle.rvs_count.specs.declared.window.Window.{Window}
+use Rattle.rvs_base.specs.declared.asked.Window.{Window}
 
 -- how many bytes stand before the first colon
 abbrev ahead : List ℕ → ℕ

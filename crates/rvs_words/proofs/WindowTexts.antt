@@ -11,7 +11,7 @@ use Rattle.rvs_base.proofs.HexDigits.{length-hex_word_of}
 use Rattle.rvs_base.proofs.Readings.{digits_of-hex_word}
 use Rattle.rvs_words.specs.Windows.{address_of, window_between, window_at, window_of, with_window}
 use Rattle.rvs_words.specs.Windows.{all_windows}
-use Rattle.rvs_count.specs.declared.window.Window.{Window}
+use Rattle.rvs_base.specs.declared.asked.Window.{Window}
 use Rattle.rvs_words.specs.CommandLaws.{window_text, AreWindows, WindowsAreRead}
 use Rattle.rvs_words.proofs.FirstCuts.{first-at, take-front, drop-front}
 

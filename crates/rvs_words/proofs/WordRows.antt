@@ -5,7 +5,7 @@ use Rattle.rvs_words.specs.Commands.{command_of, number_of}
 use Rattle.rvs_words.specs.declared.command.Command.TheVariants.{Unknown, Validate, Reference}
 
 row_validate : command_of (codes "rvsuite" ∷ codes "validate" ∷ codes "--isa" ∷ codes "i.yaml" ∷ [])
-    ≡ Validate (codes "i.yaml")
+    ≡ Validate (record { isa = codes "i.yaml" })
 row_validate = refl
 
 row_isa_twice : command_of (codes "rvsuite" ∷ codes "validate" ∷ codes "--isa" ∷ codes "i.yaml"
@@ -22,14 +22,20 @@ row_dash = refl
 -- options stand in any order
 row_any_order : command_of (codes "rvsuite" ∷ codes "reference" ∷ codes "--steps" ∷ codes "0001000"
     ∷ codes "--signature" ∷ codes "s" ∷ codes "--isa" ∷ codes "i" ∷ codes "--log" ∷ codes "l"
-    ∷ codes "--test" ∷ codes "t" ∷ []) ≡ Reference (codes "i") (codes "t") (codes "s")
-    (Some (codes "l")) (Some 1000)
+    ∷ codes "--test" ∷ codes "t" ∷ []) ≡ Reference
+    (record {
+      isa = codes "i";
+      test = codes "t";
+      signature = codes "s";
+      log = Some (codes "l");
+      steps = Some 1000;
+    })
 unfolding digits_of
 row_any_order = refl
 
 row_plain : command_of (codes "rvsuite" ∷ codes "reference" ∷ codes "--isa" ∷ codes "i"
-    ∷ codes "--test" ∷ codes "t" ∷ codes "--signature" ∷ codes "s" ∷ []) ≡ Reference (codes "i")
-    (codes "t") (codes "s") None None
+    ∷ codes "--test" ∷ codes "t" ∷ codes "--signature" ∷ codes "s" ∷ []) ≡ Reference
+    (record { isa = codes "i"; test = codes "t"; signature = codes "s"; log = None; steps = None })
 row_plain = refl
 
 row_no_signature : command_of (codes "rvsuite" ∷ codes "reference" ∷ codes "--isa" ∷ codes "i"

@@ -9,11 +9,11 @@ use Rattle.rvs_words.specs.Words.{pairs_of}
 use Rattle.rvs_words.specs.Commands.{number_of, steps_of, command_of}
 use Rattle.rvs_words.specs.Windows.{windows_of}
 use Rattle.rvs_words.specs.declared.words.Pair.{Pair}
-use Rattle.rvs_count.specs.declared.window.Window.{Window}
+use Rattle.rvs_base.specs.declared.asked.Window.{Window}
 use Rattle.rvs_words.specs.declared.command.Command.TheVariants.{Compare, Validate, Normalize}
 use Rattle.rvs_words.specs.declared.command.Command.TheVariants.{Generate, Reference, Coverage, Run}
 use Rattle.rvs_words.specs.declared.command.Command.TheVariants.{Demo}
-use Rattle.rvs_demo.specs.Sizes.{size_of}
+use Rattle.rvs_base.specs.Asked.{size_of}
 
 -- a word that isn't empty and doesn't begin with a dash
 abbrev pub stands_alone : List ℕ → Bool
@@ -55,19 +55,19 @@ AreGroups groups = (1 ≤ length groups) × (length groups ≤ 64)
 abbrev pub ComparesAreRead : Type 0
 ComparesAreRead =
     (program left right : List ℕ) → stands_alone left ≡ true → stands_alone right ≡ true
-    → command_of (program ∷ codes "compare" ∷ left ∷ right ∷ []) ≡ Compare left right
+    → command_of (program ∷ codes "compare" ∷ left ∷ right ∷ []) ≡ Compare (record { left = left; right = right })
 
 abbrev pub ValidatesAreRead : Type 0
 ValidatesAreRead =
     (program : List ℕ) (isa : Value) → AllMayStand (isa ∷ [])
-    → command_of (program ∷ codes "validate" ∷ option (codes "--isa") isa) ≡ Validate isa.text
+    → command_of (program ∷ codes "validate" ∷ option (codes "--isa") isa) ≡ Validate (record { isa = isa.text })
 
 abbrev pub NormalizesAreRead : Type 0
 NormalizesAreRead =
     (program : List ℕ) (isa : Value) (groups : List Value) → AllMayStand (isa ∷ groups)
     → AreGroups groups → command_of (program ∷ codes "normalize"
     ∷ option (codes "--isa") isa ++ options (codes "--cgf") groups)
-    ≡ Normalize isa.text (map text_of groups)
+    ≡ Normalize (record { isa = isa.text; groups = map text_of groups })
 
 abbrev pub GeneratesAreRead : Type 0
 GeneratesAreRead =
@@ -75,7 +75,7 @@ GeneratesAreRead =
     → AllMayStand (isa ∷ work ∷ groups) → AreGroups groups
     → command_of (program ∷ codes "generate" ∷ option (codes "--isa") isa
     ++ (options (codes "--cgf") groups ++ option (codes "--work") work))
-    ≡ Generate isa.text (map text_of groups) work.text
+    ≡ Generate (record { isa = isa.text; groups = map text_of groups; work = work.text })
 
 -- the log and the steps needn't stand
 abbrev pub ReferencesAreRead : Type 0
@@ -87,7 +87,13 @@ ReferencesAreRead =
     → command_of (program ∷ codes "reference" ∷ option (codes "--isa") isa
     ++ (option (codes "--test") test ++ (option (codes "--signature") signature
     ++ (options (codes "--log") (listed log) ++ options (codes "--steps") (listed steps)))))
-    ≡ Reference isa.text test.text signature.text (option_map text_of log) count
+    ≡ Reference (record {
+      isa = isa.text;
+      test = test.text;
+      signature = signature.text;
+      log = option_map text_of log;
+      steps = count;
+    })
 
 -- the windows needn't stand
 abbrev pub CoveragesAreRead : Type 0
@@ -98,7 +104,12 @@ CoveragesAreRead =
     → command_of (program ∷ codes "coverage" ∷ option (codes "--isa") isa
     ++ (options (codes "--cgf") groups
     ++ (option (codes "--log") log ++ options (codes "--window") windows)))
-    ≡ Coverage isa.text (map text_of groups) log.text kept
+    ≡ Coverage (record {
+      isa = isa.text;
+      groups = map text_of groups;
+      log = log.text;
+      windows = kept;
+    })
 
 abbrev pub RunsAreRead : Type 0
 RunsAreRead =
@@ -107,7 +118,13 @@ RunsAreRead =
     → command_of (program ∷ codes "run" ∷ option (codes "--isa") isa
     ++ (options (codes "--cgf") groups
     ++ (option (codes "--device") device ++ option (codes "--work") work)))
-    ≡ Run program isa.text (map text_of groups) device.text work.text
+    ≡ Run (record {
+      program = program;
+      isa = isa.text;
+      groups = map text_of groups;
+      device = device.text;
+      work = work.text;
+    })
 
 abbrev pub DemosAreRead : Type 0
 DemosAreRead =

@@ -3,7 +3,7 @@ use Rattle.std.specs.Prelude.{ℕ, ◌+◌, ◌*◌, ◌==◌, ◌&&◌, nat_le,
 use Rattle.std.specs.Prelude.{length, take, drop, position, Option, Some, None}
 use Rattle.std.specs.Option.{option_map, option_and_then}
 use Rattle.rvs_base.specs.Digits.{short_number}
-use Rattle.rvs_count.specs.declared.window.Window.{Window}
+use Rattle.rvs_base.specs.declared.asked.Window.{Window}
 
 -- an address: `0x` and one to eight hexadecimal digits
 abbrev pub address_of : List ℕ → Option ℕ

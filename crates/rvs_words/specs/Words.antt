@@ -1,7 +1,7 @@
 -- The words of a command line.
 use Rattle.std.specs.Prelude.{ℕ, Bool, true, false, not, ◌==◌, if◌then◌else◌, List, [], ◌∷◌, map}
 use Rattle.std.specs.Prelude.{filter, string_bytes, bytes_eq, Option, Some, None, option_map}
-use Rattle.std.specs.Prelude.{String}
+use Rattle.std.specs.Prelude.{option_and_then, String}
 use Rattle.std.specs.List.{list_any, list_all, before_first, after_first}
 use Rattle.std.specs.declared.alloc.Global.{Global}
 use Rattle.rvs_words.specs.declared.words.Pair.{Pair}
@@ -49,10 +49,18 @@ abbrev pub values_of : List ℕ → List Pair → List (List ℕ)
 values_of name pairs =
     map (λ (p : Pair). p.value) (filter (λ (p : Pair). bytes_eq p.name name) pairs)
 
+abbrev pub is_among : List (List ℕ) → List ℕ → Bool
+is_among names word = list_any (λ (name : List ℕ). bytes_eq word name) names
+
 -- each option is one of these
 abbrev pub are_known : List (List ℕ) → List Pair → Bool
-are_known names pairs =
-    list_all (λ (p : Pair). list_any (λ (name : List ℕ). bytes_eq p.name name) names) pairs
+are_known names pairs = list_all (λ (p : Pair). is_among names p.name) pairs
+
+-- words that are options with known names alone
+abbrev pub options_in : (List ℕ → Bool) → List (List ℕ) → Option (List Pair)
+options_in is_known words = option_and_then
+    (λ (pairs : List Pair). if list_all (λ (p : Pair). is_known p.name) pairs then Some pairs
+    else None) (pairs_of words)
 
 -- the value of an option that stands once
 abbrev pub only : List (List ℕ) → Option (List ℕ)

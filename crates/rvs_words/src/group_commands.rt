@@ -1,17 +1,19 @@
 // The command lines that name coverage group files.
 ghost use Rattle.std.specs.Prelude.{◌≡◌, codes};
 ghost use Rattle.rvs_words.specs.Words.{texts, values_of};
-ghost use Rattle.rvs_words.specs.Commands.{some_of, most_groups, normalize_command};
-ghost use Rattle.rvs_words.specs.Commands.{generate_command, coverage_command, run_command};
+ghost use Rattle.rvs_words.specs.Commands.{some_of, most_groups, with_options, normalize_options};
+ghost use Rattle.rvs_words.specs.Commands.{normalize_of, generate_options, generate_of};
+ghost use Rattle.rvs_words.specs.Commands.{coverage_options, coverage_of, run_options, run_of};
 ghost use Rattle.rvs_words.specs.Windows.{windows_of};
-ghost use Rattle.rvs_words.specs.Reading.{Answers, AsksFor};
+ghost use Rattle.rvs_words.specs.Reading.{Answers};
 
-use crate::command::Command;
+use crate::command::{
+    Command, CoverageArguments, GenerateArguments, NormalizeArguments, RunArguments,
+};
 use crate::unread::Unread;
 use crate::windows::read_windows;
-use crate::words::{Pair, check_names, only_value, owned, read_pairs, values};
-use rvs_base::{Items, Text};
-use rvs_count::Window;
+use crate::words::{Pair, only_value, owned, read_options, values};
+use rvs_base::{Items, Text, Window};
 use std::alloc::Global;
 
 /// The most group files that may be named.
@@ -23,14 +25,14 @@ const MOST_GROUPS: usize = 64;
 ///
 /// [`Unread`].
 pub fn read_normalize(alloc: Global, words: &[String]) -> Result<Command, Unread>
-    ensures { AsksFor result (normalize_command (texts words.now)) }
+    ensures { Answers result (with_options normalize_options normalize_of (texts words.now)) }
 {
-    let options = read_pairs(alloc, words)?;
+    let options = read_options(alloc, words, &["--isa", "--cgf"])?;
     let pairs = options.as_slice();
-    check_names(pairs, &["--isa", "--cgf"])?;
-    let isa = only_value(alloc, pairs, "--isa")?;
-    let groups = group_files(alloc, pairs)?;
-    Ok(Command::Normalize { isa, groups })
+    Ok(Command::Normalize(NormalizeArguments {
+        isa: only_value(alloc, pairs, "--isa")?,
+        groups: group_files(alloc, pairs)?,
+    }))
 }
 
 /// The values of `--cgf`.
@@ -54,15 +56,15 @@ fn group_files(alloc: Global, pairs: &[Pair]) -> Result<Items<Text>, Unread>
 ///
 /// [`Unread`].
 pub fn read_generate(alloc: Global, words: &[String]) -> Result<Command, Unread>
-    ensures { AsksFor result (generate_command (texts words.now)) }
+    ensures { Answers result (with_options generate_options generate_of (texts words.now)) }
 {
-    let options = read_pairs(alloc, words)?;
+    let options = read_options(alloc, words, &["--isa", "--cgf", "--work"])?;
     let pairs = options.as_slice();
-    check_names(pairs, &["--isa", "--cgf", "--work"])?;
-    let isa = only_value(alloc, pairs, "--isa")?;
-    let groups = group_files(alloc, pairs)?;
-    let work = only_value(alloc, pairs, "--work")?;
-    Ok(Command::Generate { isa, groups, work })
+    Ok(Command::Generate(GenerateArguments {
+        isa: only_value(alloc, pairs, "--isa")?,
+        groups: group_files(alloc, pairs)?,
+        work: only_value(alloc, pairs, "--work")?,
+    }))
 }
 
 /// Reads the words behind `coverage`.
@@ -71,21 +73,16 @@ pub fn read_generate(alloc: Global, words: &[String]) -> Result<Command, Unread>
 ///
 /// [`Unread`].
 pub fn read_coverage(alloc: Global, words: &[String]) -> Result<Command, Unread>
-    ensures { AsksFor result (coverage_command (texts words.now)) }
+    ensures { Answers result (with_options coverage_options coverage_of (texts words.now)) }
 {
-    let options = read_pairs(alloc, words)?;
+    let options = read_options(alloc, words, &["--isa", "--cgf", "--log", "--window"])?;
     let pairs = options.as_slice();
-    check_names(pairs, &["--isa", "--cgf", "--log", "--window"])?;
-    let isa = only_value(alloc, pairs, "--isa")?;
-    let groups = group_files(alloc, pairs)?;
-    let log = only_value(alloc, pairs, "--log")?;
-    let windows = given_windows(alloc, pairs)?;
-    Ok(Command::Coverage {
-        isa,
-        groups,
-        log,
-        windows,
-    })
+    Ok(Command::Coverage(CoverageArguments {
+        isa: only_value(alloc, pairs, "--isa")?,
+        groups: group_files(alloc, pairs)?,
+        log: only_value(alloc, pairs, "--log")?,
+        windows: given_windows(alloc, pairs)?,
+    }))
 }
 
 /// The windows that the values of `--window` spell.
@@ -106,20 +103,20 @@ fn given_windows(alloc: Global, pairs: &[Pair]) -> Result<Items<Window>, Unread>
 ///
 /// [`Unread`].
 pub fn read_run(alloc: Global, program: &str, words: &[String]) -> Result<Command, Unread>
-    ensures { AsksFor result (run_command program.now (texts words.now)) }
+    ensures { Answers result (with_options run_options (run_of program.now) (texts words.now)) }
 {
-    let options = read_pairs(alloc, words)?;
+    let options = read_options(alloc, words, &["--isa", "--cgf", "--device", "--work"])?;
     let pairs = options.as_slice();
-    check_names(pairs, &["--isa", "--cgf", "--device", "--work"])?;
     let isa = only_value(alloc, pairs, "--isa")?;
     let groups = group_files(alloc, pairs)?;
     let device = only_value(alloc, pairs, "--device")?;
     let work = only_value(alloc, pairs, "--work")?;
-    Ok(Command::Run {
-        program: owned(alloc, program)?,
+    let program = owned(alloc, program)?;
+    Ok(Command::Run(RunArguments {
+        program,
         isa,
         groups,
         device,
         work,
-    })
+    }))
 }

@@ -4,10 +4,15 @@
 mod command;
 mod group_commands;
 mod laws;
+mod reading;
 mod unread;
 mod windows;
 mod words;
 
-pub use command::{Command, read_command};
+pub use command::{
+    Command, CompareArguments, CoverageArguments, GenerateArguments, NormalizeArguments,
+    ReferenceArguments, RunArguments, ValidateArguments,
+};
 pub use laws::{commands_are_read, numbers_are_read, options_stand_in_any_order};
+pub use reading::read_command;
 pub use words::owned;

@@ -4,8 +4,7 @@ ghost use Rattle.rvs_words.specs.Reading.{Answers};
 ghost use Rattle.rvs_words.specs.Windows.{address_of, window_of, windows_of};
 
 use crate::unread::Unread;
-use rvs_base::{Items, Text, cut, short_number};
-use rvs_count::Window;
+use rvs_base::{Items, Text, Window, cut, short_number};
 use std::alloc::Global;
 
 /// The most windows that may be given.

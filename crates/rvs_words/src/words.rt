@@ -1,9 +1,9 @@
 // The words of a command line, and its options.
-ghost use Rattle.std.specs.Prelude.{◌≡◌, ◌≤◌, ◌∷◌, length, Some, None, IfOk, MatchOption, bytes_eq};
-ghost use Rattle.std.specs.Prelude.{MatchResult, true, false};
+ghost use Rattle.std.specs.Prelude.{◌≡◌, ◌≤◌, ◌∷◌, ℕ, List, length, Some, None, IfOk};
+ghost use Rattle.std.specs.Prelude.{MatchOption, MatchResult, bytes_eq};
 ghost use Rattle.std.specs.List.{list_any, list_all};
 ghost use Rattle.rvs_words.specs.Words.{texts, is_positional, pair_in, with_pair, pairs_of};
-ghost use Rattle.rvs_words.specs.Words.{values_of, only, at_most_one};
+ghost use Rattle.rvs_words.specs.Words.{options_in, values_of, only, at_most_one};
 ghost use Rattle.rvs_words.specs.Reading.{Answers};
 
 use crate::unread::Unread;
@@ -84,7 +84,7 @@ fn first_pair<'w>(
 /// # Errors
 ///
 /// [`Unread`]: `NoCommand` where an option lacks its value.
-pub fn read_pairs(alloc: Global, words: &[String]) -> Result<Items<Pair>, Unread>
+fn read_pairs(alloc: Global, words: &[String]) -> Result<Items<Pair>, Unread>
     ensures { Answers result (pairs_of (texts words.now)) }
 {
     let mut pairs = Items::new(alloc);
@@ -97,18 +97,18 @@ pub fn read_pairs(alloc: Global, words: &[String]) -> Result<Items<Pair>, Unread
     Ok(pairs)
 }
 
-/// Refuses options that are none of these.
+/// Reads words that are options of these names alone.
 ///
 /// # Errors
 ///
-/// [`Unread`]: `NoCommand` where there is another.
-pub fn check_names(pairs: &[Pair], names: &[&str]) -> Result<(), Unread>
-    ensures { let known =
-        list_all (λ pair. list_any (λ name. bytes_eq pair.name name.now) names.now) pairs.now
-        in MatchResult result (λ _. known ≡ true) (λ _. known ≡ false) }
+/// [`Unread`]: `NoCommand` where an option lacks its value, or has another name.
+pub fn read_options(alloc: Global, words: &[String], names: &[&str]) -> Result<Items<Pair>, Unread>
+    ensures { let is_known = λ (word : List ℕ). list_any (λ name. bytes_eq word name.now) names.now
+        in Answers result (options_in is_known (texts words.now)) }
 {
-    if are_known(pairs, names) {
-        Ok(())
+    let pairs = read_pairs(alloc, words)?;
+    if are_known(pairs.as_slice(), names) {
+        Ok(pairs)
     } else {
         Err(Unread::NoCommand)
     }

@@ -3,7 +3,7 @@ use Rattle.std.proofs.lemmas.Result.{err_from_is_err_and}
 use Rattle.rvs_plan.specs.World.{world}
 use Rattle.rvs_plan.proofs.Sequence.{Meets-no_memory}
 use Rattle.rvs_count.specs.State.{CountState, state_of}
-use Rattle.rvs_count.specs.declared.window.Window.{Window as Span}
+use Rattle.rvs_base.specs.declared.asked.Window.{Window as Span}
 use Rattle.rvs_suite.proofs.covering.count_named.Goals as goal
 
 pub returns-in_err-to_vec : goal.returns-in_err-to_vec

@@ -15,7 +15,7 @@ use Rattle.rvs_plan.proofs.Stepping.{reads-no_memory}
 use Rattle.rvs_cgf.specs.declared.group.Label.{Label}
 use Rattle.rvs_count.specs.Feeds.{Fed, FeedsFile, IsLong}
 use Rattle.rvs_count.specs.State.{CountState, state_of, ended}
-use Rattle.rvs_count.specs.declared.window.Window.{Window as Span}
+use Rattle.rvs_base.specs.declared.asked.Window.{Window as Span}
 use Rattle.rvs_count.proofs.Ends.{fed_of}
 use Rattle.rvs_suite.specs.GroupsView.{groups_view}
 use Rattle.rvs_suite.specs.Coverage.{log_limit, report_on, report_found}

@@ -5,7 +5,7 @@ use Rattle.rvs_log.specs.Entries.{entries_of}
 use Rattle.rvs_count.specs.Counting.{aims_in, count, kept}
 use Rattle.rvs_count.specs.Report.{report_of}
 use Rattle.rvs_count.specs.State.{CountState, state_of, ended}
-use Rattle.rvs_count.specs.declared.window.Window.{Window as Span}
+use Rattle.rvs_base.specs.declared.asked.Window.{Window as Span}
 use Rattle.rvs_count.proofs.Ends.{counted_all, counted_instructions, counted_labels}
 use Rattle.rvs_suite.specs.GroupsView.{groups_view}
 use Rattle.rvs_suite.specs.Coverage.{report_on}

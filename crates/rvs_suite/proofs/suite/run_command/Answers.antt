@@ -3,7 +3,7 @@ use Rattle.rvs_plan.specs.World.{world, IsAnswer}
 use Rattle.rvs_plan.specs.Meets.{MeetsWith, Meets}
 use Rattle.rvs_suite.specs.Compare.{compare}
 use Rattle.rvs_suite.specs.Validate.{validate}
-use Rattle.rvs_count.specs.declared.window.Window.{Window}
+use Rattle.rvs_base.specs.declared.asked.Window.{Window}
 use Rattle.rvs_suite.specs.Coverage.{coverage}
 use Rattle.rvs_suite.specs.Generate.{generate}
 use Rattle.rvs_suite.specs.Normalize.{normalize}

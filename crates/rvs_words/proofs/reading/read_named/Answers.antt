@@ -1,13 +1,12 @@
-use Rattle.std.proofs.Common.{◌≡◌, ◌<◌, List, [], ◌∷◌, length, refl, arith}
+use Rattle.std.proofs.Common.{◌≡◌, ◌<◌, List, [], ◌∷◌, length, None, refl, arith}
 use Rattle.std.specs.Prelude.{String}
 use Rattle.std.specs.declared.alloc.Global.{Global}
 use Rattle.rvs_words.specs.Words.{texts}
-use Rattle.rvs_words.specs.Commands.{command_of}
-use Rattle.rvs_words.specs.declared.command.Command.TheVariants.{Unknown}
-use Rattle.rvs_words.proofs.command.read_named.Goals as goal
+use Rattle.rvs_words.specs.Commands.{asked_by}
+use Rattle.rvs_words.proofs.reading.read_named.Goals as goal
 
 -- fewer than two words are no command
-few-words : (words : List (String Global)) → length words < 2 → command_of (texts words) ≡ Unknown
+few-words : (words : List (String Global)) → length words < 2 → asked_by (texts words) ≡ None
 few-words [] few = refl
 few-words (program ∷ []) few = refl
 few-words (program ∷ name ∷ words) few = absurd (omega (arith, few))

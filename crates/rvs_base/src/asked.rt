@@ -1,8 +1,17 @@
-// How large a demonstration is.
+// What a command line may ask of counting and of a demonstration.
 ghost use Rattle.std.specs.Prelude.{◌≡◌, ◌≤◌};
-ghost use Rattle.rvs_demo.specs.Sizes.{size_of};
+ghost use Rattle.rvs_base.specs.Asked.{size_of};
 
 use std::marker::Model;
+
+/// Addresses from `lo` on and below `hi`: none where `hi` isn't above `lo`.
+#[derive(Clone, Copy)]
+pub struct Window {
+    /// The first address.
+    pub lo: u32,
+    /// The first address after the last.
+    pub hi: u32,
+}
 
 /// How many instructions of a demonstration are generated: 1 to 1,000,000.
 #[derive(Clone, Copy)]

@@ -1,0 +1,137 @@
+// Reading the words of a command line.
+ghost use Rattle.std.specs.Prelude.{◌≡◌, IfOk, codes, option_and_then};
+ghost use Rattle.rvs_base.specs.Asked.{size_of};
+ghost use Rattle.rvs_words.specs.Words.{texts, values_of};
+ghost use Rattle.rvs_words.specs.Commands.{compare_of, validate_options, validate_of};
+ghost use Rattle.rvs_words.specs.Commands.{reference_options, reference_of, demo_of, with_options};
+ghost use Rattle.rvs_words.specs.Commands.{asked_by, command_of, number_of, within_steps, steps_of};
+ghost use Rattle.rvs_words.specs.Reading.{Answers};
+
+use crate::command::{Command, CompareArguments, ReferenceArguments, ValidateArguments};
+use crate::group_commands::{read_coverage, read_generate, read_normalize, read_run};
+use crate::unread::Unread;
+use crate::words::{Pair, is_positional, only_value, optional_value, owned, read_options};
+use rvs_base::{DemoSize, NoMemory, short_number};
+use std::alloc::Global;
+
+/// The most steps that a run may be given.
+const MOST_STEPS: u64 = 2_000_000;
+
+/// Reads the words of a command line, the first of which is the program's own name.
+///
+/// # Errors
+///
+/// [`NoMemory`].
+pub fn read_command(alloc: Global, words: &[String]) -> Result<Command, NoMemory>
+    ensures { IfOk result (λ command. command ≡ command_of (texts words.now)) }
+{
+    match read_named(alloc, words) {
+        Ok(command) => Ok(command),
+        Err(Unread::NoCommand) => Ok(Command::Unknown),
+        Err(Unread::NoMemory) => Err(NoMemory),
+    }
+}
+
+fn read_named(alloc: Global, words: &[String]) -> Result<Command, Unread>
+    ensures { Answers result (asked_by (texts words.now)) }
+{
+    let [program, name, rest @ ..] = words else {
+        return Err(Unread::NoCommand);
+    };
+    match name.as_str() {
+        "compare" => read_compare(alloc, rest),
+        "validate" => read_validate(alloc, rest),
+        "normalize" => read_normalize(alloc, rest),
+        "generate" => read_generate(alloc, rest),
+        "reference" => read_reference(alloc, rest),
+        "coverage" => read_coverage(alloc, rest),
+        "run" => read_run(alloc, program.as_str(), rest),
+        "demo" => read_demo(rest),
+        _ => Err(Unread::NoCommand),
+    }
+}
+
+fn read_compare(alloc: Global, words: &[String]) -> Result<Command, Unread>
+    ensures { Answers result (compare_of (texts words.now)) }
+{
+    match words {
+        [left, right] if is_positional(left.as_str()) && is_positional(right.as_str()) => {
+            let left = owned(alloc, left.as_str())?;
+            let right = owned(alloc, right.as_str())?;
+            Ok(Command::Compare(CompareArguments { left, right }))
+        },
+        _ => Err(Unread::NoCommand),
+    }
+}
+
+fn read_validate(alloc: Global, words: &[String]) -> Result<Command, Unread>
+    ensures { Answers result (with_options validate_options validate_of (texts words.now)) }
+{
+    let options = read_options(alloc, words, &["--isa"])?;
+    let isa = only_value(alloc, options.as_slice(), "--isa")?;
+    Ok(Command::Validate(ValidateArguments { isa }))
+}
+
+fn read_reference(alloc: Global, words: &[String]) -> Result<Command, Unread>
+    ensures { Answers result (with_options reference_options reference_of (texts words.now)) }
+{
+    let names = ["--isa", "--test", "--signature", "--log", "--steps"];
+    let options = read_options(alloc, words, &names)?;
+    let pairs = options.as_slice();
+    let isa = only_value(alloc, pairs, "--isa")?;
+    let test = only_value(alloc, pairs, "--test")?;
+    let signature = only_value(alloc, pairs, "--signature")?;
+    let log = optional_value(alloc, pairs, "--log")?;
+    let steps = read_steps(alloc, pairs)?;
+    Ok(Command::Reference(ReferenceArguments {
+        isa,
+        test,
+        signature,
+        log,
+        steps,
+    }))
+}
+
+/// The value of `--steps`, which needn't stand.
+///
+/// # Errors
+///
+/// [`Unread`]: `NoCommand` where it isn't a number of steps, or stands twice.
+#[tactic(auto, using(crate::proofs::OptionValues::steps_are_at_most_one))]
+fn read_steps(alloc: Global, pairs: &[Pair]) -> Result<Option<u64>, Unread>
+    ensures { Answers result (steps_of (values_of (codes "--steps") pairs.now)) }
+{
+    match optional_value(alloc, pairs, "--steps")? {
+        None => Ok(None),
+        Some(text) => Ok(Some(steps_in(text.as_str()).ok_or(Unread::NoCommand)?)),
+    }
+}
+
+fn read_demo(words: &[String]) -> Result<Command, Unread>
+    ensures { Answers result (demo_of (texts words.now)) }
+{
+    let [text] = words else {
+        return Err(Unread::NoCommand);
+    };
+    let count = size_in(text.as_str()).ok_or(Unread::NoCommand)?;
+    Ok(Command::Demo(count))
+}
+
+fn size_in(text: &str) -> Option<DemoSize>
+    ensures { result ≡ option_and_then size_of (number_of text.now) }
+{
+    DemoSize::new(read_number(text)?)
+}
+
+fn steps_in(text: &str) -> Option<u64>
+    ensures { result ≡ within_steps (number_of text.now) }
+{
+    read_number(text).filter(|steps| (1..=MOST_STEPS).contains(steps))
+}
+
+/// A number of one to seven decimal digits.
+fn read_number(text: &str) -> Option<u64>
+    ensures { result ≡ number_of text.now }
+{
+    short_number(7, 10, text.as_bytes())
+}
