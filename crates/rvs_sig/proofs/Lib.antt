@@ -2,3 +2,4 @@ mod Decoding
 pub mod Differences
 mod Counting
 mod Printing
+mod Worths

@@ -1,5 +1,5 @@
 -- The words of a signature file.
-use Rattle.std.specs.Prelude.{ℕ, ◌+◌, ◌*◌, ◌==◌, ◌&&◌, nat_lt, if◌then◌else◌, List, [], ◌∷◌, ◌++◌}
+use Rattle.std.specs.Prelude.{◌≡◌, ℕ, ◌+◌, ◌*◌, ◌==◌, ◌&&◌, nat_lt, if◌then◌else◌, List, [], ◌∷◌, ◌++◌}
 use Rattle.std.specs.Prelude.{length, take, slice_index, position, Option, Some, None, is_none}
 use Rattle.std.specs.Prelude.{option_and_then, Result, Ok, Err}
 use Rattle.std.specs.List.{filter_map, flat_map}
@@ -29,6 +29,12 @@ word_of_digits digits = if length digits == 8 then value_onto 0 digits else None
 
 abbrev pub word_of_line : List ℕ → Option ℕ
 word_of_line line = word_of_digits (digits_of_line line)
+
+-- the first line of a text has this word, or none, and this text follows it
+pub record HasLine (text : List ℕ) (word : Option ℕ) (rest : List ℕ) : Type 0 where
+  pub line : List ℕ
+  pub cut : cut_lines text ≡ line ∷ cut_lines rest
+  pub reads : word_of_line line ≡ word
 
 -- the place of the first line that has no word
 abbrev pub first_bad : List (List ℕ) → Option ℕ

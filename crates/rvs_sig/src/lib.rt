@@ -2,6 +2,7 @@
 #![tactic(auto)]
 
 mod comparison;
+mod digits;
 mod words;
 
 pub use comparison::{Verdict, compare};

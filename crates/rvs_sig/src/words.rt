@@ -1,7 +1,10 @@
 // The words of a signature file.
-ghost use Rattle.std.specs.Prelude.{◌≡◌, ◌≤◌, ◌⊎◌, IfErr, IfOk, length};
-ghost use Rattle.rvs_sig.specs.Words.{digits_of_line, text_of_words, word_of_line, words_of};
+ghost use Rattle.std.specs.Prelude.{◌≡◌, ◌≤◌, ◌<◌, ◌⊎◌, [], IfErr, IfOk, MatchOption, length};
+ghost use Rattle.rvs_sig.specs.Digits.{AreWorths};
+ghost use Rattle.rvs_sig.specs.Words.{HasLine, digits_of_line, text_of_words, word_of_line};
+ghost use Rattle.rvs_sig.specs.Words.{words_of};
 
+use crate::digits::{digits_line, worths};
 use rvs_base::{Items, NoMemory, Text, first_line, hex_word};
 use std::alloc::Global;
 
@@ -42,15 +45,16 @@ pub fn read_words(alloc: Global, bytes: &[u8]) -> Result<Items<u32>, SigRefusal>
     ensures refused { IfErr result
         (λ refusal. (refusal ≡ SigRefusal.NoMemory) ⊎ (words_of bytes.now ≡ Err refusal)) }
 {
+    let worths = worths();
     let mut words = Items::new(alloc);
     let mut left = bytes;
     let mut line = 0;
-    while let Some((first, rest)) = first_line(left) {
+    while let Some((word, rest)) = next_line(&worths, left) {
         if line == MOST_LINES {
             return Err(SigRefusal::TooLong);
         }
         line += 1;
-        match read_line(first) {
+        match word {
             None => return Err(SigRefusal::BadLine { line }),
             Some(word) => words.push(word)?,
         }
@@ -75,6 +79,25 @@ pub fn print_words(alloc: Global, words: &[u32]) -> Result<Text, NoMemory>
         bytes.push(b'\n')?;
     }
     Ok(Text::from(String::from_utf8(bytes).unwrap()))
+}
+
+/// The word of the first line, where that is eight digits, and the text after the line; `None` where
+/// the text is empty.
+#[inline(always)]
+fn next_line<'a>(worths: &[u64; 256], text: &'a [u8]) -> Option<(Option<u32>, &'a [u8])>
+    requires { AreWorths worths.now }
+    ensures line { MatchOption result (text.now ≡ [])
+        (λ next. HasLine text.now next.0 next.1.now) }
+    ensures shorter { MatchOption result (text.now ≡ [])
+        (λ next. length next.1.now < length text.now) }
+{
+    if let Some((word, rest)) = digits_line(worths, text) {
+        return Some((Some(word), rest));
+    }
+    match first_line(text) {
+        Some((line, rest)) => Some((read_line(line), rest)),
+        None => None,
+    }
 }
 
 fn read_line(line: &[u8]) -> Option<u32>

@@ -1,28 +1,30 @@
-use Rattle.std.proofs.Common.{◌≡◌, [], inr, sym, arith}
+use Rattle.std.proofs.Common.{◌≡◌, ◌∙◌, [], inr, arith}
 use Rattle.rvs_sig.proofs.Counting.{HasWords-more, words_of-read, words_of-long, words_of-bad}
 use Rattle.rvs_sig.proofs.words.read_words.Goals as goal
 
 pub returns-then-line-eq-MOST_LINES-clause-refused : goal.returns-then-line-eq-MOST_LINES-clause-refused
 returns-then-line-eq-MOST_LINES-clause-refused c =
-    inr (words_of-long c.args.bytes.now c.loop-first.left.now c.loop-first.words
-    (rw c.if-line-eq-MOST_LINES.true at c.loop-first.invariant)
+    inr (words_of-long c.args.bytes.now c.loop-word.left.now c.loop-word.words
+    (rw c.if-line-eq-MOST_LINES.true at c.loop-word.invariant)
     (omega (arith, c.in-Some.ensures.shorter)))
 
 pub returns-in-None-clause-refused : goal.returns-in-None-clause-refused
 returns-in-None-clause-refused c =
-    inr (words_of-bad c.args.bytes.now c.loop-first.left.now c.in-Some.rest.now c.loop-first.line
-    c.loop-first.words c.in-Some.first.now c.loop-first.invariant c.in-Some.ensures.lines
-    (sym c.in-None.ensures) (omega (arith, c.loop-first.invariant.few)))
+    let here = c.in-Some.ensures.line in
+    inr (words_of-bad c.args.bytes.now c.loop-word.left.now c.in-Some.rest.now c.loop-word.line
+    c.loop-word.words here.line c.loop-word.invariant here.cut (here.reads ∙ c.in-None.is)
+    (omega (arith, c.loop-word.invariant.few)))
 
-pub loop-first-preserved : goal.loop-first-preserved
-loop-first-preserved c =
-    rw c.in_ok-push-in-Some-read_line.ensures.added (HasWords-more c.args.bytes.now
-    c.loop-first.left.now c.in-Some.rest.now c.loop-first.line c.loop-first.words
-    c.in-Some.first.now c.in-Some-read_line.word c.loop-first.invariant c.in-Some.ensures.lines
-    (sym c.in-Some-read_line.ensures) (omega (arith, c.loop-first.invariant.few)))
+pub loop-word-preserved : goal.loop-word-preserved
+loop-word-preserved c =
+    let here = c.in-Some.ensures.line in
+    rw c.in_ok-push-in-Some-word.ensures.added (HasWords-more c.args.bytes.now
+    c.loop-word.left.now c.in-Some.rest.now c.loop-word.line c.loop-word.words here.line
+    c.in-Some-word.word c.loop-word.invariant here.cut (here.reads ∙ c.in-Some-word.is)
+    (omega (arith, c.loop-word.invariant.few)))
 
 pub returns-clause-words : goal.returns-clause-words
 returns-clause-words c =
-    let empty : c.loop-first.left.now ≡ [] = c.in_default.ensures.lines in
-    words_of-read c.args.bytes.now c.loop-first.line c.loop-first.words
-    (rw empty at c.loop-first.invariant)
+    let empty : c.loop-word.left.now ≡ [] = c.in_default.ensures.line in
+    words_of-read c.args.bytes.now c.loop-word.line c.loop-word.words
+    (rw empty at c.loop-word.invariant)
