@@ -5,6 +5,7 @@ ghost use Rattle.rvs_count.specs.Buckets as spec;
 
 use rvs_cgf::{Kind, Meaning, Point};
 use rvs_expr::NumName;
+use rvs_free::Free;
 
 /// How many lists there are for a mnemonic.
 pub(crate) const BUCKETS: usize = 365;
@@ -63,7 +64,7 @@ pub(crate) fn bucket_of(point: &Point) -> usize
         Meaning::OpIs(_) => 0,
         Meaning::RegIs(register) => register_bucket(point.kind, *register),
         Meaning::Regs(_) => 0,
-        Meaning::Nums(expr) => equation_bucket(expr.equation()),
+        Meaning::Nums(expr) => equation_bucket(expr.equation(Free::new())),
         Meaning::Window(_) => BUCKETS,
     }
 }

@@ -8,6 +8,7 @@ ghost use Rattle.rvs_count.specs.Signs.{signs_of, signs_word};
 use crate::known_facts::Known;
 use crate::slot::Slot;
 use rvs_expr::{Facts, Steps};
+use rvs_free::Free;
 use rvs_insn::Op;
 use std::marker::Brand;
 use std::sync::ledger::{Blank, Ledger};
@@ -61,7 +62,7 @@ fn add_counted<L: Ledger>(
         (facts_of facts.now.insn.now facts.now.first facts.now.second))
         (places slots.now) counts.old.items }
 {
-    let mut steps: Steps<L> = Steps::new(blank);
+    let mut steps: Steps<L> = Steps::new(blank, Free::new());
     let insn = facts.insn;
     add_hits(slots, insn.op, facts, facts.signs, counts, &mut steps);
 }

@@ -9,6 +9,7 @@ use crate::slot::Slot;
 use rvs_cgf::{Meaning, Point};
 use rvs_cross::{matches, places};
 use rvs_expr::Steps;
+use rvs_free::Free;
 use rvs_insn::Insn;
 use std::marker::Brand;
 use std::sync::ledger::{Blank, Ledger};
@@ -55,7 +56,7 @@ fn add_counted<L: Ledger>(blank: Blank, slots: &[Slot<'_>], window: &[Insn], cou
         ≡ raised_all (λ p. is_matched p.meaning window.now) (spec.places slots.now)
         counts.old.items }
 {
-    let mut steps: Steps<L> = Steps::new(blank);
+    let mut steps: Steps<L> = Steps::new(blank, Free::new());
     add_hits(slots, window, counts, &mut steps);
 }
 

@@ -16,6 +16,7 @@ use crate::taken::{has_all, mask_of};
 use rvs_cgf::{Kind, Meaning, Point};
 use rvs_expr::{Expr, Facts, NumName, RegName};
 use rvs_facts::is_same;
+use rvs_free::Free;
 use rvs_insn::Op;
 
 /// What a point says, where no expression is worked out to see whether it is hit.
@@ -95,7 +96,7 @@ fn three_signs(expr: &Expr) -> Option<Shortcut>
     ensures { IfSome result (λ s. (op : mnemonic.Op) (t : Table) →
         holds t (view expr.now) ≡ spec.says s op t) }
 {
-    match signs_said(expr.formula()) {
+    match signs_said(expr.formula(Free::new())) {
         None => None,
         Some(signs) => Some(Shortcut::Three(signs)),
     }
@@ -109,7 +110,7 @@ pub(crate) fn shortcut_of(point: &Point) -> Option<Shortcut>
     match &point.meaning {
         Meaning::OpIs(mnemonic) => Some(Shortcut::Mnemonic(*mnemonic)),
         Meaning::RegIs(number) => register(point.kind, *number),
-        Meaning::Nums(expr) => match expr.equation() {
+        Meaning::Nums(expr) => match expr.equation(Free::new()) {
             None => three_signs(expr),
             Some((name, value)) => Some(Shortcut::Number(name, value)),
         },

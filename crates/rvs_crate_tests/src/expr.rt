@@ -2,6 +2,7 @@
 use rvs_base::release;
 use rvs_expr::{Expr, ExprRefusal, NumName, parse_num, parse_reg};
 use rvs_expr_text::{Language, read_node};
+use rvs_free::Free;
 use std::alloc::Global;
 use std::test::Fail;
 
@@ -40,7 +41,7 @@ fn spell_expr(expr: &Expr, report: &mut String) -> Result<(), Fail> {
     if expr.uses(NumName::ImmVal) {
         report.push_str("imm_val, ")?;
     }
-    write!(report, "equation {:?}, ", expr.equation())?;
+    write!(report, "equation {:?}, ", expr.equation(Free::new()))?;
     write!(report, "constants {:?}\n", expr.constants())?;
     Ok(())
 }

@@ -10,6 +10,7 @@ use crate::listing::{Totals, push_made};
 use rvs_base::{NoMemory, Text};
 use rvs_cgf::Label;
 use rvs_expr::Steps;
+use rvs_free::Free;
 use rvs_insn::IsaSpec;
 use rvs_test::{Made, make_test};
 use std::alloc::Global;
@@ -87,6 +88,6 @@ fn make_counted<L: Ledger>(
     ensures runs { IfOk result (λ m. IfSome m.text (λ text.
         TestRuns isa.now (label_view label.now) text m.claims m.steps)) }
 {
-    let mut steps: Steps<L> = Steps::new(blank);
+    let mut steps: Steps<L> = Steps::new(blank, Free::new());
     make_test(alloc, label, isa, &mut steps)
 }
