@@ -1,7 +1,6 @@
 -- The line on the sink for errors, by the status.
 use Rattle.std.proofs.Common.{◌≡◌, ◌≢◌, ◌⊎◌, inl, inr, ℕ, List, [], Result, Ok, Err, refl, sym, ap}
-use Rattle.std.proofs.Common.{codes, ◌∙◌, subst, false}
-use Rattle.std.specs.Prelude.{IfErr}
+use Rattle.std.proofs.Common.{codes, ◌∙◌, subst}
 use Rattle.rvs_base.specs.Sink.{SinkState, appended}
 use Rattle.rvs_plan.specs.World.{World, Absence, Reading, Writing, Running, FirstFault, FirstAbsence}
 use Rattle.rvs_plan.specs.Meets.{StopsUnfaulted, NoFault}
