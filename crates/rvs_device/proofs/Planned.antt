@@ -7,8 +7,8 @@ use Rattle.rvs_base.specs.Host.{Files, HostState, Tells, MaySpoil, Spoils, writt
 use Rattle.rvs_base.specs.Host.{with_left, run_over, ChangesOne}
 use Rattle.rvs_base.specs.declared.host.DeviceRun.{DeviceRun}
 use Rattle.rvs_base.specs.Sink.{SinkState}
-use Rattle.rvs_plan.specs.World.{World, Contents, contents, world, IsAnswer, Reading, Writing}
-use Rattle.rvs_plan.specs.World.{Running}
+use Rattle.rvs_plan.specs.World.{World, Contents, contents, world, IsFault, IsAnswer, Reading}
+use Rattle.rvs_plan.specs.World.{Writing, Running}
 use Rattle.rvs_plan.specs.World as plan
 use Rattle.rvs_plan.specs.Effect.{Answer, Write, Effect, Read, Device, Did, after, left_by}
 use Rattle.rvs_plan.specs.Effect.{run_added}
@@ -244,11 +244,11 @@ judged-cause : (t : Task) (out : SinkState) (old new : HostState)
     (HasCause (world old out) (world new out))
 judged-cause t out old new (Ok verdict) j = tt
 judged-cause t out old new (Err fault.Write) j =
-    FirstFault-rose Writing (world old out) (world new out) (j.cause out)
+    FirstFault-rose IsFault Writing (world old out) (world new out) (j.cause out)
 judged-cause t out old new (Err fault.Run) j =
-    FirstFault-rose Running (world old out) (world new out) (j.cause out)
+    FirstFault-rose IsFault Running (world old out) (world new out) (j.cause out)
 judged-cause t out old new (Err fault.Read) j =
-    FirstFault-rose Reading (world old out) (world new out) (j.cause out)
+    FirstFault-rose IsFault Reading (world old out) (world new out) (j.cause out)
 judged-cause t out old new (Err fault.NoMemory) j = tt
 
 -- nothing failed but what a stop tells of, and perhaps that there is no signature file on a host

@@ -1,12 +1,9 @@
 -- The line on the sink for errors, by the status.
 use Rattle.std.proofs.Common.{◌≡◌, ◌≢◌, ◌⊎◌, inl, inr, ℕ, List, [], Result, Ok, Err, refl, sym, ap}
-use Rattle.std.proofs.Common.{codes, ◌∙◌, subst, false}
-use Rattle.std.specs.Prelude.{IfErr}
-use Rattle.rvs_base.specs.Faults.{Rose}
-use Rattle.rvs_base.specs.Host.{is_told}
+use Rattle.std.proofs.Common.{codes, ◌∙◌, subst}
 use Rattle.rvs_base.specs.Sink.{SinkState, appended}
-use Rattle.rvs_plan.specs.World.{World}
-use Rattle.rvs_plan.specs.Meets.{HasCause}
+use Rattle.rvs_plan.specs.World.{World, Absence, Reading, Writing, Running, FirstFault, FirstAbsence}
+use Rattle.rvs_plan.specs.Meets.{StopsUnfaulted, NoFault}
 use Rattle.rvs_plan.specs.Account.{status_of, line_of, fault_line, Concludes}
 use Rattle.rvs_plan.specs.declared.stop.Stop.{Stop}
 use Rattle.rvs_plan.specs.declared.stop.Stop.TheVariants as why
@@ -71,40 +68,33 @@ refused-line (why.CannotRun test) e = absurd cc
 refused-line why.NoMemory e = absurd cc
 refused-line why.SinkFault e = absurd cc
 
--- the reason why a command line stopped has its cause
-abbrev pub IsCaused : World → World → Stop → Type 0
-IsCaused old new stop = (stop ≡ why.Usage) ⊎ HasCause old new stop
-
--- a line for errors that names a file, and the count of its kind rose
-abbrev pub SaysHost : World → World → SinkState → SinkState → List ℕ → Type 0
-SaysHost old new err err' name =
+-- a line for errors that names a file, and what failed
+abbrev pub SaysHost : Absence → World → World → SinkState → SinkState → List ℕ → Type 0
+SaysHost absence old new err err' name =
     ((err'.bytes ≡ appended err.bytes (fault_line (codes "no file ") name))
-    × (is_told old.host ≡ false → Rose old.host.read_faults new.host.read_faults)) ⊎
+    × FirstAbsence absence old new) ⊎
     ((err'.bytes ≡ appended err.bytes (fault_line (codes "cannot read ") name))
-    × Rose old.host.read_faults new.host.read_faults) ⊎
+    × FirstFault absence Reading old new) ⊎
     ((err'.bytes ≡ appended err.bytes (fault_line (codes "cannot write ") name))
-    × Rose old.host.write_faults new.host.write_faults) ⊎
+    × FirstFault absence Writing old new) ⊎
     ((err'.bytes ≡ appended err.bytes (fault_line (codes "cannot run ") name))
-    × Rose old.host.run_faults new.host.run_faults)
+    × FirstFault absence Running old new)
 
-host-line : (old new : World) (err err' : SinkState) (reason : Stop)
-    → status_of reason ≡ answer.HostFault → IsCaused old new reason
+host-line : (absence : Absence) (old new : World) (err err' : SinkState) (reason : Stop)
+    → status_of reason ≡ answer.HostFault → StopsUnfaulted absence old new reason
     → err'.bytes ≡ appended err.bytes (line_of reason)
-    → (name : List ℕ) × SaysHost old new err err' name
-host-line old new err err' why.Usage e cause line = absurd cc
-host-line old new err err' (why.Refused text) e cause line = absurd cc
-host-line old new err err' (why.NoFile name) e (inl used) line = absurd cc
-host-line old new err err' (why.NoFile name) e (inr rose) line = (name, inl (line, rose))
-host-line old new err err' (why.CannotRead name) e (inl used) line = absurd cc
-host-line old new err err' (why.CannotRead name) e (inr rose) line = (name, inr (inl (line, rose)))
-host-line old new err err' (why.CannotWrite name) e (inl used) line = absurd cc
-host-line old new err err' (why.CannotWrite name) e (inr rose) line =
-    (name, inr (inr (inl (line, rose))))
-host-line old new err err' (why.CannotRun test) e (inl used) line = absurd cc
-host-line old new err err' (why.CannotRun test) e (inr rose) line =
-    (test, inr (inr (inr (line, rose))))
-host-line old new err err' why.NoMemory e cause line = absurd cc
-host-line old new err err' why.SinkFault e cause line = absurd cc
+    → (name : List ℕ) × SaysHost absence old new err err' name
+host-line absence old new err err' why.Usage e first line = absurd cc
+host-line absence old new err err' (why.Refused text) e first line = absurd cc
+host-line absence old new err err' (why.NoFile name) e first line = (name, inl (line, first))
+host-line absence old new err err' (why.CannotRead name) e first line =
+    (name, inr (inl (line, first)))
+host-line absence old new err err' (why.CannotWrite name) e first line =
+    (name, inr (inr (inl (line, first))))
+host-line absence old new err err' (why.CannotRun test) e first line =
+    (test, inr (inr (inr (line, first))))
+host-line absence old new err err' why.NoMemory e first line = absurd cc
+host-line absence old new err err' why.SinkFault e first line = absurd cc
 
 -- ---- what each status says
 pub says-usage : (status : Status) (err err' : SinkState) (result : Result Finish Stop)
@@ -129,14 +119,14 @@ says-refused status err err' result c is =
     let line = refused-line s.reason s.is in
     (line.0, s.line ∙ ap (appended err.bytes) line.1)
 
-pub says-host : (old new : World) (status : Status) (err err' : SinkState)
-    (result : Result Finish Stop) → IfErr result (IsCaused old new)
+pub says-host : (absence : Absence) (old new : World) (status : Status) (err err' : SinkState)
+    (result : Result Finish Stop) → NoFault absence old new result
     → Concludes result status err err' → status ≡ answer.HostFault
-    → (name : List ℕ) × SaysHost old new err err' name
-says-host old new status err err' result cause c is =
+    → (name : List ℕ) × SaysHost absence old new err err' name
+says-host absence old new status err err' result unfaulted c is =
     let s = stopped status answer.HostFault err err' result c is (λ e. cc) (λ e. cc) (λ e. cc) in
-    host-line old new err err' s.reason s.is
-    (subst (λ (r : Result Finish Stop). IfErr r (IsCaused old new)) s.given cause) s.line
+    host-line absence old new err err' s.reason s.is
+    (subst (λ (r : Result Finish Stop). NoFault absence old new r) s.given unfaulted) s.line
 
 unsaid : (end : Status) → (end ≡ answer.Done) ⊎ (end ≡ answer.NotPassed) → end ≡ answer.SinkFault
     → ⊥

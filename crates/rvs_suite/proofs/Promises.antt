@@ -79,8 +79,8 @@ causes-promise {call} r =
       line_refused =
           says-refused call.status call.old.err call.new.err r.ran.result r.ran.concludes;
       line_host_fault =
-          says-host (world_of call.old) (world_of call.new) call.status call.old.err call.new.err
-          r.ran.result r.ran.performs.obeys.cause r.ran.concludes;
+          says-host (causes.absence_in call) (world_of call.old) (world_of call.new) call.status
+          call.old.err call.new.err r.ran.result r.ran.performs.obeys.unfaulted r.ran.concludes;
       quiet = says-nothing call.status call.old.err call.new.err r.ran.result r.ran.concludes;
       errors_unfaulted =
           unfaulted-line call.status call.old.err call.new.err r.ran.result r.ran.concludes;

@@ -1,8 +1,9 @@
 -- What every call promises of its answer, over any host and any sinks.
 use Rattle.std.specs.Prelude.{◌≡◌, ◌≢◌, ◌⊎◌, true, false, List, ℕ, [], codes}
-use Rattle.rvs_base.specs.Faults.{Rose}
+use Rattle.rvs_base.specs.Faults.{raised}
 use Rattle.rvs_base.specs.Host.{is_told}
-use Rattle.rvs_plan.specs.World.{Later, LaterSink}
+use Rattle.rvs_plan.specs.World.{Later, LaterSink, Absence, Failing, Reading, Writing, Running}
+use Rattle.rvs_plan.specs.World.{Putting, FirstFault, FirstAbsence}
 use Rattle.rvs_base.specs.Sink.{appended}
 use Rattle.rvs_plan.specs.Account.{NoneChanged, fault_line}
 use Rattle.rvs_plan.specs.declared.status.Status.TheVariants as answer
@@ -15,25 +16,27 @@ use Rattle.rvs_words.specs.declared.command.Command.TheVariants.{Unknown}
 abbrev pub HasLine : Call → List ℕ → List ℕ → Type 0
 HasLine call what which = call.new.err.bytes ≡ appended call.old.err.bytes (fault_line what which)
 
--- the host's count of reading, of writing or of devices rose
-abbrev pub ReadsRose : Call → Type 0
-ReadsRose call = Rose call.old.host.read_faults call.new.host.read_faults
+-- what it is to the command of a call that a file isn't there
+abbrev pub absence_in : Call → Absence
+absence_in call = absence_of (command_of call.words)
 
-abbrev pub WritesRose : Call → Type 0
-WritesRose call = Rose call.old.host.write_faults call.new.host.write_faults
+-- in it one call of the host or of the output failed, which was of this kind, and ended the work
+abbrev pub EndsAt : Call → Failing → Type 0
+EndsAt call failing =
+    FirstFault (absence_in call) failing (world_of call.old) (world_of call.new)
 
-abbrev pub DevicesRose : Call → Type 0
-DevicesRose call = Rose call.old.host.run_faults call.new.host.run_faults
+-- it ended at a file that isn't there
+abbrev pub EndsAtAbsence : Call → Type 0
+EndsAtAbsence call = FirstAbsence (absence_in call) (world_of call.old) (world_of call.new)
 
--- The line of a host fault names a file, or the test file of a device run, and the count of its
--- kind rose. A told host may lack a file without that.
+-- The line of a host fault names a file, or the test file of a device run, and says what failed:
+-- that was counted once, and nothing else failed.
 abbrev pub HasHostLine : Call → Type 0
 HasHostLine call = (name : List ℕ)
-    × ((HasLine call (codes "no file ") name
-    × (is_told call.old.host ≡ false → ReadsRose call))
-    ⊎ (HasLine call (codes "cannot read ") name × ReadsRose call)
-    ⊎ (HasLine call (codes "cannot write ") name × WritesRose call)
-    ⊎ (HasLine call (codes "cannot run ") name × DevicesRose call))
+    × ((HasLine call (codes "no file ") name × EndsAtAbsence call)
+    ⊎ (HasLine call (codes "cannot read ") name × EndsAt call Reading)
+    ⊎ (HasLine call (codes "cannot write ") name × EndsAt call Writing)
+    ⊎ (HasLine call (codes "cannot run ") name × EndsAt call Running))
 
 pub record Promise (call : Call) : Type 0 where
   -- it says how it is used where its words are no command
@@ -41,10 +44,11 @@ pub record Promise (call : Call) : Type 0 where
   pub by_words : Asks call Unknown → (call.status ≡ answer.Usage) ⊎ (call.status ≡ answer.NoMemory)
       ⊎ (call.status ≡ answer.SinkFault)
   pub by_words_kept : Asks call Unknown → world_of call.new ≡ world_of call.old
-  -- a count rose where a host that doesn't tell fails, or a sink
+  -- a count rose where a host that doesn't tell fails
   pub host_fault : call.status ≡ answer.HostFault → is_told call.old.host ≡ false → HostRose call
+  -- the output failed, and nothing else had, or the sink for errors did, once
   pub sink_fault : call.status ≡ answer.SinkFault
-      → Rose call.old.out.faults call.new.out.faults ⊎ Rose call.old.err.faults call.new.err.faults
+      → EndsAt call Putting ⊎ (call.new.err.faults ≡ raised call.old.err.faults)
   -- no fault is passed over: with any other status no count has changed, but that of reading by
   -- `run` where a host that doesn't tell has no signature of a device; nor has one where a told
   -- host lacks a file

@@ -1,5 +1,5 @@
 // Runs over real files and processes.
-use rvs_base::{Items, MemorySink, Sink, put_all};
+use rvs_base::{Host, Items, MemorySink, Sink, put_all, read_file};
 use rvs_plan::Status;
 use rvs_real::{RealHost, RealSink};
 use rvs_suite::run_suite;
@@ -25,11 +25,28 @@ fn run<O: Sink, E: Sink>(
 
 const RUN: &str = "rvsuite run --isa i.yaml --cgf add.cgf --device d.yaml --work .";
 
-/// The command of a device, and the status.
-const DEVICES: [(&str, Status); 2] = [
-    ("name: d\ncommand: [sh, -c, 'exit 3']\n", Status::NotPassed),
-    ("name: d\ncommand: [/no/such/program]\n", Status::HostFault),
+/// The command of a device, the status, and how the output ends: where a signal ends a device, its
+/// verdict has the status -1.
+const DEVICES: [(&str, Status, &str); 3] = [
+    (
+        "name: d\ncommand: [sh, -c, 'exit 3']\n",
+        Status::NotPassed,
+        "FAIL add no signature, status 3\ntotal 1 tests, 0 pass, 1 fail\n",
+    ),
+    (
+        "name: d\ncommand: [sh, -c, 'kill -9 $$']\n",
+        Status::NotPassed,
+        "FAIL add no signature, status -1\ntotal 1 tests, 0 pass, 1 fail\n",
+    ),
+    (
+        "name: d\ncommand: [/no/such/program]\n",
+        Status::HostFault,
+        "",
+    ),
 ];
+
+/// Bytes that are no text.
+const BYTES: &[u8] = b"\x00\xff\r\n\x80";
 
 /// Words on files that the system doesn't give or take: a file that isn't there, a folder in place
 /// of a file, and a file in a folder that isn't there.
@@ -69,13 +86,14 @@ fn write_inputs(rt: &HostRuntime) -> Result<(), Fail> {
 #[test]
 fn devices_are_processes(rt: HostRuntime) -> Result<(), Fail> {
     write_inputs(&rt)?;
-    for (device, status) in DEVICES {
+    for (device, status, end) in DEVICES {
         fs::write(&rt, "d.yaml", device)?;
         let mut host = RealHost::new(&rt);
-        let mut out = RealSink::new(rt.stdout());
-        let mut err = RealSink::new(rt.stderr());
+        let mut out = MemorySink::new(Items::new(rt.alloc()));
+        let mut err = MemorySink::new(Items::new(rt.alloc()));
         let ended = run(rt.alloc(), RUN, &mut host, &mut out, &mut err)?;
         assert_eq!(rt; ended, status);
+        assert!(rt; out.bytes().ends_with(end.as_bytes()));
     }
     Ok(())
 }
@@ -91,6 +109,15 @@ fn faults_of_files_are_told(rt: HostRuntime) -> Result<(), Fail> {
         assert_eq!(rt; ended, Status::HostFault);
         assert_eq!(rt; err.bytes(), line.as_bytes());
     }
+    Ok(())
+}
+
+#[test]
+fn bytes_are_read_as_they_were_written(rt: HostRuntime) -> Result<(), Fail> {
+    let mut host = RealHost::new(&rt);
+    assert_eq!(rt; host.write_file("bytes", BYTES), Ok(()));
+    let bytes = read_file(rt.alloc(), &mut host, "bytes", BYTES.len() as u64)?;
+    assert_eq!(rt; bytes.as_slice(), BYTES);
     Ok(())
 }
 
