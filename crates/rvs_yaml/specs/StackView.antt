@@ -1,11 +1,13 @@
 -- What the open blocks of the code stand for.
+use Rattle.std.specs.Prelude.{◌-◌, slice_get, if◌then◌else◌}
 use Rattle.std.specs.Prelude.{◌≡◌, ◌≤◌, ℕ, List, [], ◌∷◌, map, reverse, take, drop, length, Option}
-use Rattle.std.specs.Prelude.{Some, None}
+use Rattle.std.specs.Prelude.{Some, None, All}
 use Rattle.rvs_yaml.specs.Anchors as anchors_spec
 use Rattle.rvs_tree.specs.Value as value_spec
 use Rattle.rvs_yaml.specs.Block as block_spec
 use Rattle.rvs_yaml.specs.Stack as spec
 use Rattle.rvs_yaml.specs.StepParts as parts
+use Rattle.rvs_yaml_text.specs.Word.{opens_block}
 use Rattle.rvs_yaml_text.specs.WordView.{head_view}
 use Rattle.rvs_tree.specs.ValueView.{value_view, values_view, entries_view}
 use Rattle.rvs_yaml_text.specs.KeyView.{key_view}
@@ -52,6 +54,17 @@ abbrev pub kept_depth : Option (Box Value) → ℕ
 kept_depth None = 1
 kept_depth (Some v) = v.value.depth
 
+-- and that of what a last word is by itself
+abbrev pub kept_own : Open → ℕ
+kept_own b = if opens_block (head_view b.head).sort then 1 else kept_depth b.own
+
+abbrev pub kept_at : Option Open → ℕ
+kept_at None = 0
+kept_at (Some b) = kept_own b
+
+abbrev pub kept_on_top : List Open → ℕ
+kept_on_top bs = kept_at (slice_get bs (length bs - 1))
+
 abbrev pub open_view : Open → spec.Open
 open_view b = parts.opened (block_view b.block) (head_view b.head) (own_view b.head.line b.own)
 
@@ -95,6 +108,13 @@ pub record Names (name : Name) (v : value_spec.Value) (before : ℕ) (all after 
 -- the anchors that are complete
 abbrev pub all_known : Known → anchors_spec.Anchors
 all_known k = anchors_view k.anchors.now.anchors.items
+
+-- no value of a complete anchor is kept with more than this depth
+abbrev pub KeepsUpTo : ℕ → List Anchor → Type 0
+KeepsUpTo most anchors = All (λ (a : Anchor). a.value.depth ≤ most) anchors
+
+abbrev pub IsKeptUpTo : ℕ → Known → Type 0
+IsKeptUpTo most k = KeepsUpTo most k.anchors.now.anchors.items
 
 -- the anchors that are complete, or what stands for their values
 abbrev pub known_view : Known → anchors_spec.Anchors

@@ -1,10 +1,10 @@
 // Gathering anchors, and finding them by their names.
 ghost use Rattle.std.specs.Prelude.{◌≡◌, ◌≤◌, ◌∷◌, ◌++◌, [], ℕ, List, Some, bytes_eq, drop, length};
-ghost use Rattle.std.specs.Prelude.{option_map, if◌then◌else◌, IfOk};
+ghost use Rattle.std.specs.Prelude.{option_map, if◌then◌else◌, IfOk, IfSome};
 ghost use Rattle.std.specs.BTreeMap.{get_by_text};
 ghost use Rattle.rvs_yaml.specs.Anchors.{lookup};
 ghost use Rattle.rvs_yaml.specs.Stack.{has_anchor};
-ghost use Rattle.rvs_yaml.specs.StackView.{anchors_view, Names};
+ghost use Rattle.rvs_yaml.specs.StackView.{anchors_view, KeepsUpTo, Names};
 ghost use Rattle.rvs_yaml_text.specs.WordView.{name_view};
 ghost use Rattle.rvs_tree.specs.ValueView.{value_view};
 
@@ -98,8 +98,10 @@ pub(crate) fn named<'a>(
 
 /// The value of the latest of these anchors with this name.
 pub(crate) fn find_anchor<'b>(name: &str, list: &'b AnchorList<'_>) -> Option<&'b Value>
-    ensures { option_map (λ v. value_view v.now) result
+    ensures value { option_map (λ v. value_view v.now) result
         ≡ lookup name.now (anchors_view list.now.anchors.items) }
+    ensures kept { (most : ℕ) → KeepsUpTo most list.now.anchors.items
+        → IfSome result (λ v. v.now.depth ≤ most) }
 {
     match list.latest.get(name) {
         Some(place) => Some(&list.anchors[*place].value),

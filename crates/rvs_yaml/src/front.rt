@@ -41,7 +41,8 @@ pub(crate) const MOST_NODES: u64 = 500_000;
 
 /// What is known of a value without looking through it.
 fn sketch_of(value: &Value) -> Sketch
-    ensures { IsSketch (value_view value.now) result }
+    ensures sketched { IsSketch (value_view value.now) result }
+    ensures kept { result.depth ≡ value.now.depth }
 {
     Sketch {
         depth: value.depth,

@@ -3,7 +3,7 @@ ghost use Rattle.std.specs.Prelude.{◌≡◌, ◌<◌, ◌≤◌, ◌+◌, ◌^
 ghost use Rattle.rvs_yaml_text.specs.Tokens.{tokens, tokens_of};
 ghost use Rattle.rvs_yaml_text.specs.TokenView.{token_view};
 ghost use Rattle.rvs_yaml.specs.Heights as spec;
-ghost use Rattle.rvs_yaml.specs.StackView.{all_known};
+ghost use Rattle.rvs_yaml.specs.StackView.{all_known, IsKeptUpTo};
 ghost use Rattle.rvs_yaml.specs.TokenParts.{is_flow_end};
 
 use crate::flow_text::is_flow_end;
@@ -40,6 +40,8 @@ fn level_behind(level: u128, token: &Token<'_>) -> u128
 fn reach(known: &Known<'_, '_>, level: u128, token: &Token<'_>) -> u64
     ensures bound { min (spec.reach (all_known known.now) level (token_view token.now)) 33
         ≤ result }
+    ensures kept { (most : ℕ) → IsKeptUpTo most known.now
+        → result ≤ min (spec.reach_by (spec.alike most) level (token_view token.now)) 33 }
     ensures shallow { result ≤ 33 }
 {
     match token {
@@ -63,6 +65,10 @@ fn next_scan<'a>(
         (tokens (suc n) scan.entry.closed scan.entry.spaced scan.entry.rest.now))) 33 ≤ max
         s.reached (spec.height (all_known known.now) s.level (tokens n s.closed s.spaced
         s.rest.now))) }
+    ensures kept { IfOk result (λ s. (n most : ℕ) → IsKeptUpTo most known.now → max s.reached
+        (min (spec.height_by (spec.alike most) s.level (tokens n s.closed s.spaced s.rest.now)) 33)
+        ≤ max scan.entry.reached (min (spec.height_by (spec.alike most) scan.entry.level
+        (tokens (suc n) scan.entry.closed scan.entry.spaced scan.entry.rest.now)) 33)) }
     ensures level { IfOk result (λ s. s.level ≤ scan.entry.level + 1) }
     ensures shallow { scan.entry.reached ≤ 33 → IfOk result (λ s. s.reached ≤ 33) }
 {
@@ -93,7 +99,7 @@ fn next_scan<'a>(
 }
 
 /// A bound on the depth of a flow collection, from behind its first bracket. From 33 on depths are
-/// counted as 33.
+/// counted as 33. It is no more than the brackets and the depths that are kept with anchors make.
 pub(crate) fn flow_height(
     alloc: Global,
     known: &Known<'_, '_>,
@@ -101,6 +107,8 @@ pub(crate) fn flow_height(
 ) -> Result<u64, AllocError>
     ensures bound { IfOk result
         (λ n. min (max 1 (spec.height (all_known known.now) 1 (tokens_of text.now))) 33 ≤ n) }
+    ensures kept { (most : ℕ) → IsKeptUpTo most known.now → IfOk result (λ n. n ≤ max 1
+        (min (spec.height_by (spec.alike most) 1 (tokens_of text.now)) 33)) }
     ensures shallow { IfOk result (λ n. n ≤ 33) }
 {
     let mut scan = Scan {

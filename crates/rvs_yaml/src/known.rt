@@ -1,9 +1,9 @@
 // The anchors that are known at a place.
-ghost use Rattle.std.specs.Prelude.{◌≡◌, ◌≤◌, min, option_map, IfOk};
+ghost use Rattle.std.specs.Prelude.{◌≡◌, ◌≤◌, ℕ, min, option_map, IfOk, IfSome};
 ghost use Rattle.rvs_yaml.specs.Anchors as spec;
 ghost use Rattle.rvs_yaml.specs.Gives.{Gives, FailsWith};
 ghost use Rattle.rvs_yaml.specs.Heights.{found_depth};
-ghost use Rattle.rvs_yaml.specs.StackView.{all_known, known_view};
+ghost use Rattle.rvs_yaml.specs.StackView.{all_known, known_view, IsKeptUpTo};
 ghost use Rattle.rvs_tree.specs.Standin.{formed_value};
 ghost use Rattle.rvs_tree.specs.ValueView.{value_view};
 
@@ -34,8 +34,10 @@ fn formed(alloc: Global, poor: bool, value: &Value) -> Result<Value, AllocError>
 impl<'a, 'b> Known<'a, 'b> {
     /// The value of the latest anchor with this name.
     fn find(&self, name: &str) -> Option<&'b Value>
-        ensures { option_map (λ v. value_view v.now) result
+        ensures value { option_map (λ v. value_view v.now) result
             ≡ spec.lookup name.now (all_known self.now) }
+        ensures kept { (most : ℕ) → IsKeptUpTo most self.now
+            → IfSome result (λ v. v.now.depth ≤ most) }
     {
         find_anchor(name, self.anchors)
     }
@@ -44,6 +46,7 @@ impl<'a, 'b> Known<'a, 'b> {
     /// counted as 33.
     pub(crate) fn alias_depth(&self, name: &str) -> u64
         ensures bound { min (found_depth (spec.lookup name.now (all_known self.now))) 33 ≤ result }
+        ensures kept { (most : ℕ) → IsKeptUpTo most self.now → result ≤ most }
         ensures shallow { result ≤ 33 }
     {
         match self.find(name) {

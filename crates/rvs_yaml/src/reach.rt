@@ -1,11 +1,10 @@
 // How deep what the last word has brought can be.
-ghost use Rattle.std.specs.Prelude.{◌≡◌, ◌≤◌, false, min, if◌then◌else◌, IfOk};
+ghost use Rattle.std.specs.Prelude.{◌≡◌, ◌≤◌, ◌+◌, false, min, Ok, IfOk};
 ghost use Rattle.rvs_tree.specs.Data as data_spec;
 ghost use Rattle.rvs_yaml.specs.Front as front_spec;
 ghost use Rattle.rvs_yaml.specs.Reach as spec;
-ghost use Rattle.rvs_yaml.specs.StackView.{done_view, open_view, stack_view, kept_depth};
-ghost use Rattle.rvs_yaml_text.specs.Word.{opens_block};
-ghost use Rattle.rvs_yaml_text.specs.WordView.{head_view};
+ghost use Rattle.rvs_yaml.specs.StackView.{done_view, open_view, stack_view};
+ghost use Rattle.rvs_yaml.specs.StackView.{kept_own, kept_on_top};
 
 use crate::arrivals::Arrivals;
 use crate::front::MOST_DEPTH;
@@ -40,8 +39,7 @@ fn levels(blocks: &[Open<'_>]) -> u64
 fn own_depth(top: &Open<'_>) -> u64
     ensures bound { min (data_spec.depth (front_spec.own_value (open_view top.now)).tree) 33
         ≤ result }
-    ensures kept { result ≡ (if opens_block (head_view top.now.head).sort then 1
-        else kept_depth top.now.own) }
+    ensures kept { result ≡ kept_own top.now }
     ensures shallow { result ≤ 33 }
 {
     if top.head.sort.opens_block() {
@@ -60,7 +58,9 @@ pub(crate) fn may_be_deep(
     blocks: &[Open<'_>],
     arrivals: &[Arrivals],
 ) -> Result<bool, AllocError>
-    ensures { IfOk result (λ b. b ≡ false → spec.sight (stack_view blocks.now) ≤ 32) }
+    ensures far { IfOk result (λ b. b ≡ false → spec.sight (stack_view blocks.now) ≤ 32) }
+    ensures near { spec.levels (stack_view blocks.now) + kept_on_top blocks.now ≤ 32
+        → result ≡ Ok false }
 {
     let Some(top) = blocks.last() else {
         return Ok(false);
