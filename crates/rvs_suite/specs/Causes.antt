@@ -46,9 +46,10 @@ pub record Promise (call : Call) : Type 0 where
   pub by_words_kept : Asks call Unknown → world_of call.new ≡ world_of call.old
   -- a count rose where a host that doesn't tell fails
   pub host_fault : call.status ≡ answer.HostFault → is_told call.old.host ≡ false → HostRose call
-  -- the output failed, and nothing else had, or the sink for errors did, once
+  -- the output failed once, and nothing else did, or the sink for errors failed once
   pub sink_fault : call.status ≡ answer.SinkFault
-      → EndsAt call Putting ⊎ (call.new.err.faults ≡ raised call.old.err.faults)
+      → (EndsAt call Putting × (call.new.err.faults ≡ call.old.err.faults))
+      ⊎ (call.new.err.faults ≡ raised call.old.err.faults)
   -- no fault is passed over: with any other status no count has changed, but that of reading by
   -- `run` where a host that doesn't tell has no signature of a device; nor has one where a told
   -- host lacks a file
