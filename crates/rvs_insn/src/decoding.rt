@@ -13,6 +13,7 @@ use crate::rows::format;
 /// The instruction that a word spells, or `None` where the word fits no row of the table: the
 /// manual's opcode map, with the immediates of its formats I, S, B, U and J.
 #[tactic(auto, using(crate::proofs::Distinct::op_fits, crate::proofs::Distinct::none_found), unfolding(crate::specs::Fields::insn_of_word))]
+#[inline(always)]
 pub fn decode(word: u32) -> Option<Insn>
     ensures value { result ≡ insn_of_word word }
     ensures fits { IfSome result (λ insn. fits word insn.op ≡ true) }
@@ -26,6 +27,7 @@ pub fn decode(word: u32) -> Option<Insn>
 
 /// The mnemonic of the row that a word fits.
 #[tactic(auto, using(crate::proofs::Masks::op_by_shifts))]
+#[inline(always)]
 fn op_in(word: u32) -> Option<Op>
     ensures { result ≡ op_of_word word }
 {
@@ -33,6 +35,7 @@ fn op_in(word: u32) -> Option<Op>
 }
 
 /// The same, from the word's opcode, funct3 and funct7, and the word itself.
+#[inline(always)]
 fn parts_op(opcode: u32, funct3: u32, funct7: u32, word: u32) -> Option<Op>
     ensures { result ≡ op_of_parts opcode funct3 funct7 word }
 {
@@ -162,6 +165,7 @@ fn system_op(word: u32) -> Option<Op>
 }
 
 /// The operands that the mnemonic's format reads from a word.
+#[inline(always)]
 fn fields(op: Op, word: u32) -> Insn
     ensures { result ≡ fields_at word op }
 {

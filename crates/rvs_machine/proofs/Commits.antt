@@ -21,7 +21,7 @@ use Rattle.rvs_machine.specs.declared.event.TrapKind.TheVariants.{Illegal, Misal
 use Rattle.rvs_machine.specs.declared.event.TrapKind.TheVariants.{MisalignedAccess, AccessFault}
 use Rattle.rvs_machine.specs.Effects.{effect_of, add32}
 use Rattle.rvs_machine.specs.Machine.{Setup, State, commit_of, jump_action, loaded, load_bytes}
-use Rattle.rvs_machine.specs.Machine.{store_action, is_misaligned, is_in_data, action_of, imm_word}
+use Rattle.rvs_machine.specs.Machine.{is_misaligned, is_in_data, action_of, imm_word}
 use Rattle.rvs_machine.specs.Machine.{read_reg, done_of, executed, refused, with_insn, with_word}
 use Rattle.rvs_machine.specs.Machine.{fetch, step_of}
 use Rattle.rvs_machine.specs.Laws.{executed_in, is_written, destination_of, CommitsAreDestinations}

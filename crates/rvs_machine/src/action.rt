@@ -20,6 +20,7 @@ pub(crate) enum Action {
 }
 
 /// The action for an effect at a place.
+#[inline(always)]
 pub(crate) fn checked_action(
     spec: &IsaSpec,
     text: &[u8],
@@ -94,5 +95,10 @@ fn is_misaligned(spec: &IsaSpec, size: u8, addr: u32) -> bool
     requires size { IsSize size }
     ensures { result ≡ is_misaligned spec.now size addr }
 {
-    addr % u32::from(size) != 0 && !spec.misaligned
+    let past = match size {
+        1 => 0,
+        2 => addr % 2,
+        _ => addr % 4,
+    };
+    past != 0 && !spec.misaligned
 }

@@ -31,6 +31,7 @@ pub(crate) enum Effect {
 /// What a row does at a place, with the words of `rs1` and `rs2` and the immediate as a word:
 /// chapters "RV32I Base Integer Instruction Set" and "M Extension for Integer Multiplication and
 /// Division" of the unprivileged ISA manual.
+#[inline(always)]
 pub(crate) fn effect_at(op: Op, pc: u32, v1: u32, v2: u32, imm: u32) -> Effect
     ensures value { result ≡ effect_of op pc v1 v2 imm }
     ensures sized { IsSized result }

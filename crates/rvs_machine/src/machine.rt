@@ -104,6 +104,7 @@ impl Machine {
     }
 
     /// Executes one instruction, or traps and changes nothing.
+    #[inline(always)]
     pub fn step(&mut self) -> Event
         ensures event { result ≡ (step_of self.old.setup self.old.state).0 }
         ensures state { self.new
@@ -115,6 +116,7 @@ impl Machine {
 
     /// What the next step does.
     #[tactic(auto, unfolding(crate::specs::Machine::step_of))]
+    #[inline(always)]
     pub(crate) fn next_step(&self) -> NextStep
         ensures step { step_of self.now.setup self.now.state
             ≡ done_step self.now.setup self.now.state result }
@@ -137,6 +139,7 @@ impl Machine {
 
     /// The same for the instruction that its word spells.
     #[tactic(auto, using(crate::proofs::NextStepDone::next_step_does))]
+    #[inline(always)]
     fn next_step_by(&self, word: u32, insn: &Insn) -> NextStep
         ensures step { executed self.now.setup self.now.state word insn.now
             ≡ done_step self.now.setup self.now.state result }
@@ -175,6 +178,7 @@ impl Machine {
     }
 
     /// Does what was planned.
+    #[inline(always)]
     pub(crate) fn apply(&mut self, next_step: NextStep) -> Event
         requires { CanDo self.old.state.ram next_step }
         ensures event { result ≡ (done_step self.old.setup self.old.state next_step).0 }

@@ -1,7 +1,8 @@
 // The bytes of text and data.
-ghost use Rattle.std.specs.Prelude.{◌≡◌, ◌≤◌, ◌<◌, ◌+◌, ◌*◌, ◌%◌, ◌^◌, length};
+ghost use Rattle.std.specs.Prelude.{◌≡◌, ◌≤◌, ◌<◌, ◌+◌, ◌*◌, ◌%◌, ◌^◌, length, ℕ, List, Some};
 ghost use Rattle.rvs_machine.specs.Machine.{byte_at, load_bytes, is_in_data, store_bytes, extended};
 ghost use Rattle.rvs_machine.specs.Machine.{word_at, fetch};
+ghost use Rattle.rvs_machine.specs.Image.{data_base};
 ghost use Rattle.rvs_machine.specs.NextSteps.{IsSize};
 
 use crate::image::{DATA_BASE, TEXT_BASE};
@@ -35,7 +36,37 @@ pub(crate) fn word_in(bytes: &[u8], at: usize) -> u32
 }
 
 /// So many bytes from an address on, or `None` where one of them isn't in memory.
+#[inline(always)]
 pub(crate) fn load(text: &[u8], ram: &[u8], size: u8, address: u32) -> Option<u32>
+    requires size { IsSize size }
+    requires short_text { length text.now ≤ 2 ^ 24 }
+    requires short_data { length ram.now ≤ 2 ^ 20 }
+    ensures { result ≡ load_bytes size text.now ram.now address }
+{
+    if in_data(ram, size, address) {
+        Some(number_in(ram, size, (address - DATA_BASE) as usize))
+    } else {
+        load_bytewise(text, ram, size, address)
+    }
+}
+
+/// The number that so many bytes of the data make, the lowest first.
+#[inline(always)]
+fn number_in(ram: &[u8], size: u8, at: usize) -> u32
+    requires size { IsSize size }
+    requires there { at + size ≤ length ram.now }
+    ensures { (text : List ℕ) → length text ≤ 2 ^ 24
+        → load_bytes size text ram.now (data_base + at) ≡ Some result }
+{
+    match size {
+        1 => u32::from(ram[at]),
+        2 => u32::from(ram[at]) + u32::from(ram[at + 1]) * 0x100,
+        _ => word_in(ram, at),
+    }
+}
+
+/// The same as `load` does, for bytes that may lie in text and data.
+fn load_bytewise(text: &[u8], ram: &[u8], size: u8, address: u32) -> Option<u32>
     requires size { IsSize size }
     requires short_text { length text.now ≤ 2 ^ 24 }
     requires short_data { length ram.now ≤ 2 ^ 20 }

@@ -19,6 +19,7 @@ impl NextStep {
     ghost use Rattle.rvs_machine.specs.NextSteps.{executed_by};
 
     /// The instruction that is executed.
+    #[inline(always)]
     pub(crate) fn executed(&self) -> Option<Executed>
         ensures { result ≡ executed_by self.now }
     {

@@ -1,9 +1,12 @@
 // Runs.
 ghost use Rattle.std.specs.Prelude.{◌≡◌};
+ghost use Rattle.rvs_machine.specs.Machine.{step_of};
+ghost use Rattle.rvs_machine.specs.NextSteps.{CanDo, done_step};
 ghost use Rattle.rvs_machine.specs.Run.{HasRun, HasStep};
 
 use crate::event::{Commit, End, Event, Trace};
 use crate::machine::Machine;
+use crate::next_step::NextStep;
 
 impl Machine {
     /// Executes at most `limit` instructions, and puts each one that was executed at the end of the
@@ -25,10 +28,30 @@ impl Machine {
     }
 
     /// One step into the trace, and the end of the run, where the step ends it.
+    #[inline(always)]
     fn advance(&mut self, trace: &mut Trace) -> Option<End>
         ensures { HasStep self.old self.new trace.old trace.new result }
     {
-        let next_step = self.next_step();
+        // An arm each, so that what follows is compiled for each kind of step by itself.
+        match self.next_step() {
+            NextStep::Stop(kind) => self.advance_by(NextStep::Stop(kind), trace),
+            NextStep::Write(executed, next) => {
+                self.advance_by(NextStep::Write(executed, next), trace)
+            },
+            NextStep::Store(executed, size, addr, value) => {
+                self.advance_by(NextStep::Store(executed, size, addr, value), trace)
+            },
+        }
+    }
+
+    /// The same by what the step does.
+    #[inline(always)]
+    fn advance_by(&mut self, next_step: NextStep, trace: &mut Trace) -> Option<End>
+        requires step { step_of self.old.setup self.old.state
+            ≡ done_step self.old.setup self.old.state next_step }
+        requires can { CanDo self.old.state.ram next_step }
+        ensures { HasStep self.old self.new trace.old trace.new result }
+    {
         if let Some(executed) = next_step.executed() {
             let _commit: Option<Commit> = executed.commit;
             if trace.push(executed).is_err() {

@@ -1,5 +1,5 @@
 use Rattle.std.proofs.Common.{arith, rules}
-use Rattle.rvs_machine.proofs.memory.load.Goals as goal
+use Rattle.rvs_machine.proofs.memory.load_bytewise.Goals as goal
 
 pub byte-requires-clause-short_text : goal.byte-requires-clause-short_text
 byte-requires-clause-short_text c = c.requires.short_text
