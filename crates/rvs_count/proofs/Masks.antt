@@ -106,7 +106,7 @@ both_true false b p q = cc
 one_bit : (bs : List Bool) (k : ℕ) → k < 32 → has_all (signs_word bs) (shl k) ≡ get_or bs k false
 one_bit bs k l = same_truth (has_all (signs_word bs) (shl k)) (get_or bs k false) there back
   where
-    is_so : (b : Bool) → cond b 1 0 ≡ 1 → b ≡ true
+    is_so : (b : Bool) → ◌≡◌ {A = ℕ} (cond b 1 0) 1 → b ≡ true
     is_so true h = refl
     is_so false h = absurd (omega (arith, h))
 
@@ -163,6 +163,11 @@ joined_masks w m n =
 pub both_signs : (t : Table) (m n : ℕ)
     → has_signs (bit_or m n) t ≡ (has_signs m t && has_signs n t)
 both_signs t m n = joined_masks (signs_word (signs_of t)) m n
+
+pub more_signs : (b : Bool) (t : Table) (m n : ℕ)
+    → (b && has_signs (bit_or m n) t) ≡ ((b && has_signs m t) && has_signs n t)
+more_signs true t m n = both_signs t m n
+more_signs false t m n = refl
 
 pub no_signs : (t : Table) → has_signs 0 t ≡ true
 no_signs t = bits_there (signs_word (signs_of t)) 0 (λ i e. absurd (omega (arith, e, bit_at-zero i)))

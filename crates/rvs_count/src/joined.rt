@@ -7,7 +7,7 @@ ghost use Rattle.rvs_insn.specs.declared.op.Op as mnemonic;
 use crate::shortcut::Shortcut;
 
 /// What is so where both are, where that is signs and at most two numbers.
-#[tactic(auto, using(crate::proofs::Masks::both_signs, crate::proofs::Masks::no_signs))]
+#[tactic(auto, using(crate::proofs::Masks::both_signs, crate::proofs::Masks::more_signs, crate::proofs::Masks::no_signs))]
 pub(crate) fn joined(left: Shortcut, right: Shortcut) -> Option<Shortcut>
     ensures { IfSome result (λ s. (op : mnemonic.Op) (t : Table) →
         says s op t ≡ (says left op t && says right op t)) }

@@ -220,7 +220,10 @@ fn chain_said(before: &RegChain, equal: bool, right: Reg) -> Option<Shortcut>
         RegChain::Pair(left, first_equal, middle) => {
             let first = register_pair(*left, *first_equal, *middle)?;
             let second = register_pair(*middle, equal, right)?;
-            joined(Shortcut::Signs(bit_of(first)), Shortcut::Signs(bit_of(second)))
+            joined(
+                Shortcut::Signs(bit_of(first)),
+                Shortcut::Signs(bit_of(second)),
+            )
         },
         _ => None,
     }

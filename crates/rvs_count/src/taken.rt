@@ -3,7 +3,6 @@ ghost use Rattle.std.specs.Prelude.{◌≡◌, ◌<◌, ◌≤◌, Some, true};
 ghost use Rattle.rvs_count.specs.Signs as spec;
 ghost use Rattle.rvs_expr.specs.Meaning.{Table};
 
-
 /// Whether a number that is there is below, equal to and above 0, as three bits.
 #[inline(always)]
 fn three(value: Option<i64>) -> u32
