@@ -1,7 +1,8 @@
 #!/usr/bin/env bash
-# Measures `rvsuite coverage` on a long log against a C program that only parses it: seconds of user
-# time, best of five, of the program that `./rvsuite` has built. Files are made once and kept in the
-# folder that the second argument names.
+# Measures `rvsuite coverage` on long logs against a C program that only parses them: seconds of user
+# time, best of five, of the program that `./rvsuite` has built, each beside the C program in the same
+# run. The logs are in the styles of `log.py`, the groups none and those of `counted_groups.py`. Files
+# are made once and kept in the folder that the second argument names.
 #
 # usage: coverage.sh [BYTES] [FOLDER]
 set -eu
@@ -10,9 +11,7 @@ bytes=${1:-200000000}
 folder=${2:-/tmp/rvsuite-bench}
 program=${RVSUITE:-$here/../crates/rvsuite/out/rvsuite}
 mkdir -p "$folder"
-log=$folder/log-$bytes
-[ -f "$log" ] || python3 "$here/log.py" "$bytes" >"$log"
-for name in small stock; do
+for name in small stock users; do
     python3 "$here/counted_groups.py" "$name" >"$folder/$name.cgf"
 done
 : >"$folder/none.cgf"
@@ -25,12 +24,19 @@ best() {
     done | sort -n | head -1
 }
 
-size=$(stat -c %s "$log")
 report() {
-    awk -v what="$1" -v seconds="$2" -v size="$size" 'BEGIN { printf "%-28s %6.2f s %7.0f MB/s\n", what, seconds, size / 1e6 / seconds }'
+    awk -v what="$1" -v seconds="$2" -v size="$size" -v c="$3" 'BEGIN {
+        printf "%-32s %6.2f s %7.0f MB/s %4.0f %%\n", what, seconds, size / 1e6 / seconds, 100 * c / seconds }'
 }
 
-report 'C, parsing alone' "$(best "$folder/parse" "$log")"
-for name in none small stock; do
-    report "coverage, $name.cgf" "$(best "$program" coverage --isa "$folder/isa.yaml" --cgf "$folder/$name.cgf" --log "$log")"
+for style in reference spike words sail; do
+    log=$folder/log-$style-$bytes
+    [ -f "$log" ] || python3 "$here/log.py" "$bytes" "$style" >"$log"
+    size=$(stat -c %s "$log")
+    c=$(best "$folder/parse" "$log")
+    report "$style: C, parsing alone" "$c" "$c"
+    for name in none small stock users; do
+        report "$style: coverage, $name.cgf" \
+            "$(best "$program" coverage --isa "$folder/isa.yaml" --cgf "$folder/$name.cgf" --log "$log")" "$c"
+    done
 done

@@ -1,7 +1,13 @@
 #!/usr/bin/env python3
-"""Writes an execution log, as Spike's commit log has it, of about so many bytes to standard output.
+"""Writes an execution log of about so many bytes to standard output.
 
-usage: log.py BYTES [SEED]
+usage: log.py BYTES [STYLE] [SEED]
+
+STYLE is one of
+  reference: the lines that `rvsuite reference` writes
+  spike: those of `spike --log-commits`: loads and stores have their addresses and values too
+  words: those of `spike -l --log-commits`: a line with the disassembled word before each
+  sail: those of Sail's emulator: the disassembled word, and what was written on a line of its own
 
 The instructions are random ones of RV32I and M over all registers, with operand words that are small, at the
 edges or random, so that groups of corner values are hit and missed."""
@@ -50,21 +56,44 @@ def value_of(rng):
     return rng.randrange(1 << 32)
 
 
+def memory_of(rng, word):
+    """What Spike says of the memory that a load or a store touches."""
+    opcode, funct3 = word & 127, word >> 12 & 7
+    if opcode not in (0x03, 0x23):
+        return ""
+    size = 1 << (funct3 & 3)
+    address = f" mem 0x{0x80001000 + rng.randrange(1024) * size:08x}"
+    return address if opcode == 0x03 else f"{address} 0x{rng.randrange(1 << 8 * size):0{2 * size}x}"
+
+
+def block_of(style, rng):
+    """Lines of instructions, each in parts around its address."""
+    for number in range(20000):
+        word, rd = word_of(rng)
+        value = f"0x{value_of(rng):08x}"
+        said = f" (0x{word:08x})"
+        if style == "sail":
+            yield f"[{number}] [M]: 0x", f"{said} addi x1, x2, 0x10\n" + (f"x{rd} <- {value}\n" if rd else "")
+            continue
+        tail = f" x{rd:<2} {value}" if rd else ""
+        if style != "reference":
+            tail += memory_of(rng, word)
+        before = f"{said} addi    ra, sp, 16\ncore   0: 3 0x" if style == "words" else None
+        yield ("core   0: 0x" if before else "core   0: 3 0x"), before, f"{said}{tail}\n"
+
+
 def main():
     limit = int(sys.argv[1])
-    rng = random.Random(int(sys.argv[2]) if len(sys.argv) > 2 else 1)
+    style = sys.argv[2] if len(sys.argv) > 2 else "reference"
+    rng = random.Random(int(sys.argv[3]) if len(sys.argv) > 3 else 1)
     # A block of lines is made once and repeated at other addresses.
-    block = []
-    for _ in range(20000):
-        word, rd = word_of(rng)
-        tail = f" x{rd:<2} 0x{value_of(rng):08x}" if rd else ""
-        block.append((word, tail))
+    block = list(block_of(style, rng))
     written, pc = 0, 0x80000000
     out = sys.stdout.buffer
     while written < limit:
         lines = []
-        for word, tail in block:
-            lines.append(f"core   0: 3 0x{pc:08x} (0x{word:08x}){tail}\n")
+        for parts in block:
+            lines.append(f"{pc:08x}".join(part for part in parts if part))
             pc = 0x80000000 + (pc + 4) % 0x1000000
         data = "".join(lines).encode()
         out.write(data)

@@ -1,5 +1,5 @@
-/* Reads a commit log as fast as a plain C program may: each line to its address, its word and what it wrote, the
-   registers kept. It is what the rate of `rvsuite coverage` is held against.
+/* Reads a log of Spike or Sail as fast as a plain C program may: each line to its address, its word and what it wrote,
+   the registers kept. It is what the rate of `rvsuite coverage` is held against.
 
    cc -O2 -o parse parse.c && ./parse LOG */
 #include <fcntl.h>
@@ -36,28 +36,66 @@ static const char *spaces(const char *at, const char *end)
     return at;
 }
 
+/* a register and what it got, after its letter */
+static void commit(const char *at, const char *end, const char *arrow)
+{
+    uint32_t value;
+    unsigned reg = 0;
+    for (; at < end && *at >= '0' && *at <= '9'; at++)
+        reg = 10 * reg + (unsigned)(*at - '0');
+    if (reg >= 32 || !(at = spaces(at, end)))
+        return;
+    if (arrow && (end - at < 2 || memcmp(at, arrow, 2) || !(at = spaces(at + 2, end))))
+        return;
+    if (word(at, end, &value) && reg)
+        regs[reg] = value;
+}
+
+/* an address and a word in brackets */
+static const char *insn(const char *at, const char *end, uint64_t *sum)
+{
+    uint32_t pc, word_of;
+    if (!(at = word(at, end, &pc)) || !(at = spaces(at, end)) || at == end || *at++ != '('
+        || !(at = word(at, end, &word_of)) || at == end || *at++ != ')')
+        return 0;
+    *sum += pc ^ word_of ^ regs[word_of >> 15 & 31] ^ regs[word_of >> 20 & 31];
+    return at;
+}
+
+/* a line of Sail: `[N] [M]: ` and an instruction, or `xN <- ` and a word */
+static int sail_line(const char *at, const char *end, uint64_t *sum)
+{
+    if (at < end && *at == 'x') {
+        commit(at + 1, end, "<-");
+        return 0;
+    }
+    if (at == end || *at++ != '[')
+        return 0;
+    while (at < end && *at >= '0' && *at <= '9')
+        at++;
+    if (at == end || *at++ != ']' || !(at = spaces(at, end)) || at == end || *at++ != '[')
+        return 0;
+    while (at < end && *at >= 'A' && *at <= 'Z')
+        at++;
+    if (end - at < 2 || memcmp(at, "]:", 2) || !(at = spaces(at + 2, end)))
+        return 0;
+    return insn(at, end, sum) != 0;
+}
+
 static int line(const char *at, const char *end, uint64_t *sum)
 {
-    uint32_t pc, insn, value;
-    unsigned reg;
-    if (end - at < 4 || memcmp(at, "core", 4) || !(at = spaces(at + 4, end)))
+    if (end - at < 4 || memcmp(at, "core", 4))
+        return sail_line(at, end, sum);
+    if (!(at = spaces(at + 4, end)))
         return 0;
     while (at < end && *at >= '0' && *at <= '9')
         at++;
     if (at == end || *at++ != ':' || !(at = spaces(at, end)))
         return 0;
-    if (at == end || *at < '0' || *at > '3' || !(at = spaces(at + 1, end)) || !(at = word(at, end, &pc)))
+    if (at == end || *at < '0' || *at > '3' || !(at = spaces(at + 1, end)) || !(at = insn(at, end, sum)))
         return 0;
-    if (!(at = spaces(at, end)) || at == end || *at++ != '(' || !(at = word(at, end, &insn)) || at == end || *at++ != ')')
-        return 0;
-    *sum += pc ^ insn ^ regs[insn >> 15 & 31] ^ regs[insn >> 20 & 31];
-    if (at < end && (at = spaces(at, end)) && at < end && *at == 'x') {
-        reg = 0;
-        for (at++; at < end && *at >= '0' && *at <= '9'; at++)
-            reg = 10 * reg + (unsigned)(*at - '0');
-        if (reg < 32 && (at = spaces(at, end)) && word(at, end, &value) && reg)
-            regs[reg] = value;
-    }
+    if (at < end && (at = spaces(at, end)) && at < end && *at == 'x')
+        commit(at + 1, end, 0);
     return 1;
 }
 

@@ -1,26 +1,16 @@
--- Three signs as the bits of a mask.
+-- Signs as the bits of a mask.
 use Rattle.std.proofs.Common.{◌≡◌, ◌≢◌, ℕ, zero, suc, ◌+◌, ◌*◌, ◌/◌, ◌%◌, ◌^◌, ◌<◌, Bool, true}
-use Rattle.std.proofs.Common.{false, cond, ◌&&◌, List, [], ◌∷◌, Option, Some, None, refl, sym, ap}
-use Rattle.std.proofs.Common.{◌∙◌, arith, get_or, bit_and, bit_or, w32, subst, IfSome}
+use Rattle.std.proofs.Common.{false, cond, ◌&&◌, List, [], ◌∷◌, refl, sym, ap, ◌∙◌, arith, get_or}
+use Rattle.std.proofs.Common.{bit_and, bit_or}
 use Rattle.std.proofs.lemmas.Bool.Decides.{nat_tests}
 use Rattle.std.proofs.lemmas.Nat.{one_shl}
-use Rattle.std.proofs.lemmas.Nat.Bits.{bit_at_and, bit_at_lowest, bit_at-lt, bit_at-pow_other}
-use Rattle.std.proofs.lemmas.Nat.Bits.{bit_at-pow_same, bit_at_set_other, bit_at_set_same}
-use Rattle.std.proofs.lemmas.Nat.Bits.{bit_at-suc, bit_at-zero, same_from_bits}
+use Rattle.std.proofs.lemmas.Nat.Bits.{bit_at_and, bit_at_lowest, bit_at-lt, bit_at_or}
+use Rattle.std.proofs.lemmas.Nat.Bits.{bit_at-pow_other, bit_at-pow_same, bit_at-suc, bit_at-zero}
+use Rattle.std.proofs.lemmas.Nat.Bits.{same_from_bits}
 use Rattle.std.specs.Int.{bit_at}
 use Rattle.std.specs.Prelude.{◌==◌, min}
-use Rattle.rvs_cgf.specs.GroupView.{point_view}
-use Rattle.rvs_cgf.specs.Hits.{holds}
 use Rattle.rvs_expr.specs.Meaning.{Table}
-use Rattle.rvs_facts.specs.Mnemonics.{number}
-use Rattle.rvs_insn.specs.declared.op.Op.{Op}
-use Rattle.rvs_count.specs.Marks.{IsMark}
-use Rattle.rvs_count.specs.Shortcuts.{says}
-use Rattle.rvs_count.specs.Signs.{all_signs, has_all, mask, signs_of, signs_word}
-use Rattle.rvs_count.specs.declared.mark.Mark.{Mark}
-use Rattle.rvs_count.specs.declared.shortcut.Shortcut.TheVariants.{Three}
-use Rattle.rvs_count.specs.declared.signs.Signs.{Signs}
-use Rattle.rvs_count.specs.declared.slot.Slot.{Slot}
+use Rattle.rvs_count.specs.Signs.{has_all, has_signs, sign_at, sign_bit, signs_of, signs_word}
 
 equal : (a b : ℕ) → (a == b) ≡ true → a ≡ b
 equal a b h = grind (arith, nat_tests)
@@ -65,106 +55,119 @@ shl_same k h = ap (λ n. bit_at n k) (one_shl k 32 h) ∙ bit_at-pow_same k
 shl_other : (k i : ℕ) → k < 32 → i ≢ k → bit_at (shl k) i ≡ 0
 shl_other k i h o = ap (λ n. bit_at n i) (one_shl k 32 h) ∙ bit_at-pow_other k i o
 
-mask_third : (f s t : ℕ) → t < 32 → bit_at (mask f s t) t ≡ 1
-mask_third f s t h = bit_at_set_same w32 (bit_or (shl f) (shl s)) t h
-
-mask_second : (f s t : ℕ) → s < 32 → t < 32 → bit_at (mask f s t) s ≡ 1
-mask_second f s t h l =
-    apart s t (λ e. ap (λ n. bit_at (mask f s t) n) e ∙ mask_third f s t l)
-    (λ o. bit_at_set_other w32 (bit_or (shl f) (shl s)) t l s o
-    ∙ bit_at_set_same w32 (shl f) s h)
-
-mask_first : (f s t : ℕ) → f < 32 → s < 32 → t < 32 → bit_at (mask f s t) f ≡ 1
-mask_first f s t h l m =
-    apart f t (λ e. ap (λ n. bit_at (mask f s t) n) e ∙ mask_third f s t m)
-    (λ o. apart f s (λ e. ap (λ n. bit_at (mask f s t) n) e ∙ mask_second f s t l m)
-    (λ p. bit_at_set_other w32 (bit_or (shl f) (shl s)) t m f o
-    ∙ bit_at_set_other w32 (shl f) s l f p ∙ shl_same f h))
-
-mask_other : (f s t i : ℕ) → f < 32 → s < 32 → t < 32 → i ≢ f → i ≢ s → i ≢ t
-    → bit_at (mask f s t) i ≡ 0
-mask_other f s t i h l m a b c =
-    bit_at_set_other w32 (bit_or (shl f) (shl s)) t m i c
-    ∙ bit_at_set_other w32 (shl f) s l i b ∙ shl_other f i h a
-
 -- ---- a word has all of them
 one_min : (b : ℕ) → b < 2 → min 1 b ≡ b
 one_min zero h = refl
 one_min (suc zero) h = refl
 one_min (suc (suc b)) h = absurd (omega arith)
 
-min_none : (a : ℕ) → min a 0 ≡ 0
-min_none a = omega arith
+-- a bit of a mask is one of the word's
+abbrev HasBit : ℕ → ℕ → ℕ → Type 0
+HasBit w m i = bit_at m i ≡ 1 → bit_at w i ≡ 1
 
-none_min : (b : ℕ) → min 0 b ≡ 0
-none_min b = omega arith
+bit_there : (w m : ℕ) → has_all w m ≡ true → (i : ℕ) → HasBit w m i
+bit_there w m h i e =
+    let same : bit_at (bit_and w m) i ≡ bit_at m i =
+    ap (λ n. bit_at n i) (equal (bit_and w m) m h) in
+    let low : bit_at w i < 2 = bit_at-lt w i in
+    omega (arith, same, e, low, bit_at_and w m i)
 
-kept_bit : (w m i : ℕ) → bit_at w i ≡ 1 → bit_at (bit_and w m) i ≡ bit_at m i
-kept_bit w m i h =
-    bit_at_and w m i ∙ ap (λ n. min n (bit_at m i)) h ∙ one_min (bit_at m i) (bit_at-lt m i)
-
-no_bit : (w m i : ℕ) → bit_at m i ≡ 0 → bit_at (bit_and w m) i ≡ bit_at m i
-no_bit w m i h =
-    bit_at_and w m i ∙ ap (λ n. min (bit_at w i) n) h ∙ min_none (bit_at w i) ∙ sym h
-
-lost_bit : (w m i : ℕ) → bit_at w i ≡ 0 → bit_at m i ≡ 1 → has_all w m ≡ false
-lost_bit w m i h g = turn (has_all w m) refl
+kept_bit : (w m i : ℕ) → HasBit w m i → bit_at (bit_and w m) i ≡ bit_at m i
+kept_bit w m i h = turn (bit_at m i) refl (bit_at-lt m i)
   where
-    turn : (b : Bool) → has_all w m ≡ b → b ≡ false
-    turn false e = refl
-    turn true e =
-        let same : bit_at (bit_and w m) i ≡ bit_at m i =
-        ap (λ n. bit_at n i) (equal (bit_and w m) m e) in
-        let none : bit_at (bit_and w m) i ≡ 0 =
-        bit_at_and w m i ∙ ap (λ n. min n (bit_at m i)) h ∙ none_min (bit_at m i) in
-        absurd (omega (arith, same, none, g))
+    turn : (b : ℕ) → bit_at m i ≡ b → b < 2 → bit_at (bit_and w m) i ≡ bit_at m i
+    turn zero e l = omega (arith, bit_at_and w m i, e)
+    turn (suc zero) e l = omega (arith, bit_at_and w m i, e, h e)
+    turn (suc (suc b)) e l = absurd (omega (arith, l))
 
-all_kept : (w f s t : ℕ) → f < 32 → s < 32 → t < 32 → bit_at w f ≡ 1 → bit_at w s ≡ 1
-    → bit_at w t ≡ 1 → has_all w (mask f s t) ≡ true
-all_kept w f s t h l m a b c =
-    is_equal (bit_and w (mask f s t)) (mask f s t)
-    (same_from_bits (bit_and w (mask f s t)) (mask f s t) each)
+bits_there : (w m : ℕ) → ((i : ℕ) → HasBit w m i) → has_all w m ≡ true
+bits_there w m h =
+    is_equal (bit_and w m) m (same_from_bits (bit_and w m) m (λ i. kept_bit w m i (h i)))
+
+-- two truth values that follow from each other are one
+same_truth : (a b : Bool) → (a ≡ true → b ≡ true) → (b ≡ true → a ≡ true) → a ≡ b
+same_truth true b f g = sym (f refl)
+same_truth false true f g = g refl
+same_truth false false f g = refl
+
+left_true : (a b : Bool) → (a && b) ≡ true → a ≡ true
+left_true true b h = refl
+left_true false b h = cc
+
+right_true : (a b : Bool) → (a && b) ≡ true → b ≡ true
+right_true true b h = h
+right_true false b h = cc
+
+both_true : (a b : Bool) → a ≡ true → b ≡ true → (a && b) ≡ true
+both_true true b p q = q
+both_true false b p q = cc
+
+-- ---- one sign
+one_bit : (bs : List Bool) (k : ℕ) → k < 32 → has_all (signs_word bs) (shl k) ≡ get_or bs k false
+one_bit bs k l = same_truth (has_all (signs_word bs) (shl k)) (get_or bs k false) there back
   where
-    each : (i : ℕ) → bit_at (bit_and w (mask f s t)) i ≡ bit_at (mask f s t) i
-    each i =
-        apart i f (λ e. kept_bit w (mask f s t) i (ap (λ n. bit_at w n) e ∙ a))
-        (λ o. apart i s (λ e. kept_bit w (mask f s t) i (ap (λ n. bit_at w n) e ∙ b))
-        (λ p. apart i t (λ e. kept_bit w (mask f s t) i (ap (λ n. bit_at w n) e ∙ c))
-        (λ q. no_bit w (mask f s t) i (mask_other f s t i h l m o p q))))
+    is_so : (b : Bool) → ◌≡◌ {A = ℕ} (cond b 1 0) 1 → b ≡ true
+    is_so true h = refl
+    is_so false h = absurd (omega (arith, h))
 
-pub mask_says : (bs : List Bool) (f s t : ℕ) → f < 32 → s < 32 → t < 32
-    → has_all (signs_word bs) (mask f s t)
-    ≡ ((get_or bs f false && get_or bs s false) && get_or bs t false)
-mask_says bs f s t h l m =
-    turn (get_or bs f false) (get_or bs s false) (get_or bs t false) refl refl refl
-  where
-    is : (k : ℕ) (b : Bool) → get_or bs k false ≡ b → bit_at (signs_word bs) k ≡ cond b 1 0
-    is k b e = word_bit bs k ∙ ap (λ b. cond b 1 0) e
+    there : has_all (signs_word bs) (shl k) ≡ true → get_or bs k false ≡ true
+    there h = is_so (get_or bs k false)
+        (sym (word_bit bs k) ∙ bit_there (signs_word bs) (shl k) h k (shl_same k l))
 
-    turn : (x y z : Bool) → get_or bs f false ≡ x → get_or bs s false ≡ y → get_or bs t false ≡ z
-        → has_all (signs_word bs) (mask f s t) ≡ ((x && y) && z)
-    turn false y z a b c =
-        lost_bit (signs_word bs) (mask f s t) f (is f false a) (mask_first f s t h l m)
-    turn true false z a b c =
-        lost_bit (signs_word bs) (mask f s t) s (is s false b) (mask_second f s t l m)
-    turn true true false a b c =
-        lost_bit (signs_word bs) (mask f s t) t (is t false c) (mask_third f s t m)
-    turn true true true a b c =
-        all_kept (signs_word bs) f s t h l m (is f true a) (is s true b) (is t true c)
+    each : get_or bs k false ≡ true → (i : ℕ) → HasBit (signs_word bs) (shl k) i
+    each g i e =
+        apart i k (λ s. ap (λ n. bit_at (signs_word bs) n) s ∙ word_bit bs k
+        ∙ ap (λ b. cond b 1 0) g)
+        (λ o. absurd (omega (arith, e, shl_other k i l o)))
 
--- ---- what points say
-pub three_say : (t : Table) (s : Signs)
-    → has_all (signs_word (signs_of t)) (mask s.first s.second s.third) ≡ all_signs s t
-three_say t s =
-    mask_says (signs_of t) s.first s.second s.third (omega (arith, s.first_low))
-    (omega (arith, s.second_low)) (omega (arith, s.third_low))
+    back : get_or bs k false ≡ true → has_all (signs_word bs) (shl k) ≡ true
+    back g = bits_there (signs_word bs) (shl k) (each g)
+
+pub one_says : (t : Table) (k : ℕ) → k < 31 → has_signs (sign_bit k) t ≡ sign_at k t
+one_says t k l = one_bit (signs_of t) k (omega (arith, l))
 
 -- the first sign always is
 pub first_always : (t : Table) → true ≡ has_all (signs_word (signs_of t)) 1
 unfolding signs_of
-first_always t = sym (mask_says (signs_of t) 0 0 0 (omega arith) (omega arith) (omega arith))
+first_always t = sym (one_says t 0 (omega arith))
 
-pub three_masked : (s : Signs) (k : ℕ) → k ≡ mask s.first s.second s.third → (t : Table)
-    → all_signs s t ≡ has_all (signs_word (signs_of t)) k
-three_masked s k is t =
-    sym (three_say t s) ∙ ap (λ k. has_all (signs_word (signs_of t)) k) (sym is)
+-- ---- two masks
+joined_masks : (w m n : ℕ) → has_all w (bit_or m n) ≡ (has_all w m && has_all w n)
+joined_masks w m n =
+    same_truth (has_all w (bit_or m n)) (has_all w m && has_all w n) there back
+  where
+    first : has_all w (bit_or m n) ≡ true → (i : ℕ) → HasBit w m i
+    first h i e = bit_there w (bit_or m n) h i
+        (omega (arith, bit_at_or m n i, e, bit_at-lt n i))
+
+    second : has_all w (bit_or m n) ≡ true → (i : ℕ) → HasBit w n i
+    second h i e = bit_there w (bit_or m n) h i
+        (omega (arith, bit_at_or m n i, e, bit_at-lt m i))
+
+    there : has_all w (bit_or m n) ≡ true → (has_all w m && has_all w n) ≡ true
+    there h = both_true (has_all w m) (has_all w n)
+        (bits_there w m (first h)) (bits_there w n (second h))
+
+    either : (h : (has_all w m && has_all w n) ≡ true) (i a b : ℕ) → bit_at m i ≡ a
+        → bit_at n i ≡ b → a < 2 → HasBit w (bit_or m n) i
+    either h i zero b p q l e = bit_there w n (right_true (has_all w m) (has_all w n) h) i
+        (omega (arith, bit_at_or m n i, p, e))
+    either h i (suc zero) b p q l e =
+        bit_there w m (left_true (has_all w m) (has_all w n) h) i p
+    either h i (suc (suc a)) b p q l e = absurd (omega (arith, l))
+
+    back : (has_all w m && has_all w n) ≡ true → has_all w (bit_or m n) ≡ true
+    back h = bits_there w (bit_or m n)
+        (λ i. either h i (bit_at m i) (bit_at n i) refl refl (bit_at-lt m i))
+
+pub both_signs : (t : Table) (m n : ℕ)
+    → has_signs (bit_or m n) t ≡ (has_signs m t && has_signs n t)
+both_signs t m n = joined_masks (signs_word (signs_of t)) m n
+
+pub more_signs : (b : Bool) (t : Table) (m n : ℕ)
+    → (b && has_signs (bit_or m n) t) ≡ ((b && has_signs m t) && has_signs n t)
+more_signs true t m n = both_signs t m n
+more_signs false t m n = refl
+
+pub no_signs : (t : Table) → has_signs 0 t ≡ true
+no_signs t = bits_there (signs_word (signs_of t)) 0 (λ i e. absurd (omega (arith, e, bit_at-zero i)))

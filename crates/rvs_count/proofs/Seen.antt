@@ -3,7 +3,8 @@ use Rattle.std.proofs.Common.{◌≡◌, ℕ, ℤ, pos, negsuc, ◌+◌, ◌<◌
 use Rattle.std.proofs.Common.{false, cond, List, [], ◌∷◌, Option, Some, None, refl, sym, ap, ◌∙◌}
 use Rattle.std.proofs.Common.{arith}
 use Rattle.std.proofs.lemmas.Bool.Decides.{nat_tests, Decides-int_eq}
-use Rattle.std.specs.Prelude.{◌==◌, option_map}
+use Rattle.std.specs.Prelude.{◌==◌, ◌&&◌, option_map}
+use Rattle.std.specs.Ordering.{int_eq}
 use Rattle.rvs_cgf.specs.Groups.{Point, Meaning, op_is, reg_is, regs, nums, window}
 use Rattle.rvs_cgf.specs.Hits.{holds, is_meant, is_register}
 use Rattle.rvs_cgf.specs.declared.group.Kind.{Kind}
@@ -12,13 +13,16 @@ use Rattle.rvs_expr.proofs.SmallOnes.{equated_means}
 use Rattle.rvs_expr.specs.Equated.{equated, is_value}
 use Rattle.rvs_expr.specs.Meaning as expr
 use Rattle.rvs_expr.specs.Meaning.{Table}
-use Rattle.rvs_expr.specs.Typed.{Formula}
+use Rattle.rvs_expr.specs.Typed.{Formula, numbers, registers, negation, conjunction}
+use Rattle.rvs_expr.specs.Typed.{disjunction}
 use Rattle.rvs_expr_text.specs.declared.lexeme.NumName.{NumName}
 use Rattle.rvs_expr_text.specs.declared.lexeme.NumName.TheVariants.{Rs1Val, Rs2Val, ImmVal, EaAlign}
 use Rattle.rvs_expr_text.specs.declared.lexeme.RegName.TheVariants as register
 use Rattle.rvs_insn.specs.declared.op.Op.{Op}
 use Rattle.rvs_count.specs.Buckets.{residue, register_bucket, name_bucket, number_bucket}
 use Rattle.rvs_count.specs.Buckets.{equation_bucket, meaning_bucket, bucket_of, visited}
+use Rattle.rvs_count.specs.Buckets.{asked_by, but_zero, conjunct, first_there}
+use Rattle.rvs_count.proofs.Turned.{both_hold}
 
 pub residue_low : (z : ℤ) → residue z < 67
 residue_low (pos n) = omega arith
@@ -214,12 +218,62 @@ value_there : (z : ℤ) (o : Option ℤ) → is_value z o ≡ true → o ≡ Som
 value_there z None h = cc
 value_there z (Some x) h = ap (λ y. Some y) ((Decides-int_eq x z).0 h)
 
-nums_once : (f : Formula) (t : Table) (e : Option (NumName × ℤ)) → equated f ≡ e
+left_true : (a b : Bool) → (a && b) ≡ true → a ≡ true
+left_true true b h = refl
+left_true false b h = cc
+
+right_true : (a b : Bool) → (a && b) ≡ true → b ≡ true
+right_true true b h = h
+right_true false b h = cc
+
+-- a formula that is so has this value for the name
+abbrev Means : Formula → Option (NumName × ℤ) → Type 0
+Means f o = (n : NumName) (z : ℤ) → o ≡ Some (n, z) → (t : Table) → expr.holds t f ≡ true
+    → is_value z (t.num n) ≡ true
+
+equated_so : (f : Formula) → Means f (equated f)
+equated_so f n z e t h = sym (equated_means f n z e t) ∙ h
+
+not_zero : (f : Formula) (o : Option (NumName × ℤ)) → Means f o → Means f (but_zero o)
+not_zero f None m n z e t h = cc
+not_zero f (Some p) m n z e t h = turn (int_eq p.1 (pos 0)) e
+  where
+    turn : (b : Bool) → cond b None (Some p) ≡ Some (n, z) → is_value z (t.num n) ≡ true
+    turn true g = cc
+    turn false g = m n z g t h
+
+nothing_means : (f : Formula) → Means f None
+nothing_means f n z e t h = cc
+
+both_mean : (a b : Formula) (o p : Option (NumName × ℤ)) → Means a o → Means b p
+    → Means (conjunction a b) (first_there o p)
+both_mean a b None p l r n z e t h =
+    r n z e t (right_true (expr.holds t a) (expr.holds t b) (sym (both_hold t a b) ∙ h))
+both_mean a b (Some o) p l r n z e t h =
+    l n z e t (left_true (expr.holds t a) (expr.holds t b) (sym (both_hold t a b) ∙ h))
+
+conjunct_means : (f : Formula) → Means f (conjunct f)
+conjunct_means (numbers c) =
+    not_zero (numbers c) (equated (numbers c)) (equated_so (numbers c))
+conjunct_means (registers c) = nothing_means (registers c)
+conjunct_means (negation a) = nothing_means (negation a)
+conjunct_means (conjunction a b) =
+    both_mean a b (conjunct a) (conjunct b) (conjunct_means a) (conjunct_means b)
+conjunct_means (disjunction a b) = nothing_means (disjunction a b)
+
+asked_means : (f : Formula) → Means f (asked_by f)
+asked_means (numbers c) = equated_so (numbers c)
+asked_means (registers c) = nothing_means (registers c)
+asked_means (negation a) = nothing_means (negation a)
+asked_means (conjunction a b) = conjunct_means (conjunction a b)
+asked_means (disjunction a b) = nothing_means (disjunction a b)
+
+nums_once : (f : Formula) (t : Table) (e : Option (NumName × ℤ)) → asked_by f ≡ e
     → expr.holds t f ≡ true
     → seen (equation_bucket e) (visited t) ≡ 1
 nums_once f t None e h = zero_once t
 nums_once f t (Some (name, z)) e h =
-    number_once name t z (value_there z (t.num name) (sym (equated_means f name z e t) ∙ h))
+    number_once name t z (value_there z (t.num name) (asked_means f name z e t h))
 
 meant_once : (k : Kind) (m : Meaning) (op : Op) (t : Table) → is_meant k m op t ≡ true
     → seen (meaning_bucket k m) (visited t) ≡ 1
@@ -232,7 +286,7 @@ meant_once kind.OpComb (reg_is n) op t h = cc
 meant_once kind.ValComb (reg_is n) op t h = cc
 meant_once kind.CrossComb (reg_is n) op t h = cc
 meant_once k (regs f) op t h = zero_once t
-meant_once k (nums f) op t h = nums_once f t (equated f) refl h
+meant_once k (nums f) op t h = nums_once f t (asked_by f) refl h
 meant_once k (window ps) op t h = cc
 
 pub seen_once : (p : Point) (op : Op) (t : Table) → holds p op t ≡ true

@@ -1,12 +1,16 @@
 -- What expressions say by signs.
 use Rattle.std.proofs.Common.{◌≡◌, ℕ, Bool, true, false, ◌&&◌, Option, Some, None, option_map}
 use Rattle.std.proofs.Common.{IfSome, refl, sym, ap, ◌∙◌, arith}
-use Rattle.std.specs.Prelude.{◌==◌, not}
+use Rattle.std.specs.Prelude.{◌==◌, not, ℤ, pos}
 use Rattle.std.proofs.lemmas.Bool.Decides.{nat_tests}
 use Rattle.rvs_expr_text.specs.declared.lexeme.RegName.{RegName}
+use Rattle.rvs_expr_text.specs.declared.lexeme.NumName.TheVariants.{ImmVal}
+use Rattle.rvs_expr.specs.declared.formula.Comparison.TheVariants.{Equal}
 use Rattle.rvs_expr.specs.Typed.{Formula, conjunction, registers, Reg, reg_pair, reg_more}
-use Rattle.rvs_expr.specs.Meaning.{Table, both, equation, holds, is_true, reg_value, truth}
-use Rattle.rvs_count.specs.Signs.{relates, sign_at, signs_of}
+use Rattle.rvs_expr.specs.Typed.{literal, named, numbers, pair, remainder}
+use Rattle.rvs_expr.specs.Meaning.{Table, both, compare, equation, holds, is_true, reg_value}
+use Rattle.rvs_expr.specs.Meaning.{truth}
+use Rattle.rvs_count.specs.Signs.{by_four, compares, relates, sign_at}
 
 same_turned : (x y : ℕ) → (x == y) ≡ (y == x)
 same_turned x y = grind (arith, nat_tests)
@@ -68,14 +72,14 @@ three_registers t a b c e g =
     ∙ ap (λ x. holds t (registers (reg_pair a e b)) && x)
     (sym (reg_pair_says g (reg_value t b) (reg_value t c)))
 
-and_true : (b : Bool) → b ≡ (b && true)
-and_true true = refl
-and_true false = refl
+-- ---- a remainder by 4
+rest_compares : (o : Option ℤ) (z : ℤ)
+    → is_true (option_map (λ (p : Bool × ℤ). p.0) (both (λ x y. (compare Equal x y, y)) o (Some z)))
+    ≡ compares Equal o (Some z)
+rest_compares None z = refl
+rest_compares (Some x) z = refl
 
-pub one_more : (t : Table) (k : ℕ) → sign_at k t ≡ (sign_at k t && sign_at 0 t)
-unfolding signs_of
-one_more t k = and_true (sign_at k t)
-
-pub two_and_one : (t : Table) (b : Bool) → b ≡ (b && sign_at 0 t)
-unfolding signs_of
-two_and_one t b = and_true b
+pub rest_says : (t : Table) (z : ℤ)
+    → holds t (numbers (pair (remainder (named ImmVal) 4) Equal (literal z)))
+    ≡ compares Equal (by_four (t.num ImmVal)) (Some z)
+rest_says t z = rest_compares (by_four (t.num ImmVal)) z

@@ -1,12 +1,15 @@
 -- Where a point is looked for: lists of points, so that an instruction is held against few of them.
 use Rattle.std.specs.Prelude.{ℕ, ℤ, pos, ◌+◌, ◌%◌, ◌==◌, Bool, false, List, [], ◌∷◌, Option, Some}
-use Rattle.std.specs.Prelude.{None, option_map, unsigned_abs}
+use Rattle.std.specs.Prelude.{None, option_map, unsigned_abs, if◌then◌else◌}
 use Rattle.std.specs.Int.{int_rem_euclid}
+use Rattle.std.specs.Ordering.{int_eq}
 use Rattle.rvs_cgf.specs.Groups.{Point, Meaning, op_is, reg_is, regs, nums, window}
 use Rattle.rvs_cgf.specs.declared.group.Kind.{Kind}
 use Rattle.rvs_cgf.specs.declared.group.Kind.TheVariants as kind
 use Rattle.rvs_expr.specs.Equated.{equated}
 use Rattle.rvs_expr.specs.Meaning.{Table}
+use Rattle.rvs_expr.specs.Typed.{Formula, numbers, registers, negation, conjunction}
+use Rattle.rvs_expr.specs.Typed.{disjunction}
 use Rattle.rvs_expr_text.specs.declared.lexeme.NumName.{NumName}
 use Rattle.rvs_expr_text.specs.declared.lexeme.NumName.TheVariants.{Rs1Val, Rs2Val, ImmVal, EaAlign}
 use Rattle.rvs_expr_text.specs.declared.lexeme.RegName.TheVariants as register
@@ -33,6 +36,32 @@ name_bucket EaAlign = 298
 abbrev pub number_bucket : NumName → ℤ → ℕ
 number_bucket name z = name_bucket name + residue z
 
+-- the first that is there
+abbrev pub first_there : {A : Type 0} → Option A → Option A → Option A
+first_there None o = o
+first_there (Some x) o = Some x
+
+-- an equation with a number other than 0
+abbrev pub but_zero : Option (NumName × ℤ) → Option (NumName × ℤ)
+but_zero None = None
+but_zero (Some e) = if int_eq e.1 (pos 0) then None else Some e
+
+-- the first of them among the parts of a conjunction
+abbrev pub conjunct : Formula → Option (NumName × ℤ)
+conjunct (numbers c) = but_zero (equated (numbers c))
+conjunct (registers c) = None
+conjunct (negation a) = None
+conjunct (conjunction a b) = first_there (conjunct a) (conjunct b)
+conjunct (disjunction a b) = None
+
+-- the equation by whose number an expression is looked for
+abbrev pub asked_by : Formula → Option (NumName × ℤ)
+asked_by (numbers c) = equated (numbers c)
+asked_by (registers c) = None
+asked_by (negation a) = None
+asked_by (conjunction a b) = first_there (conjunct a) (conjunct b)
+asked_by (disjunction a b) = None
+
 abbrev pub equation_bucket : Option (NumName × ℤ) → ℕ
 equation_bucket None = 0
 equation_bucket (Some e) = number_bucket e.0 e.1
@@ -41,7 +70,7 @@ abbrev pub meaning_bucket : Kind → Meaning → ℕ
 meaning_bucket k (op_is op) = 0
 meaning_bucket k (reg_is n) = register_bucket k n
 meaning_bucket k (regs f) = 0
-meaning_bucket k (nums f) = equation_bucket (equated f)
+meaning_bucket k (nums f) = equation_bucket (asked_by f)
 meaning_bucket k (window ps) = 365
 
 -- the list of a point; all others are in the first list, but cross points, which are in none

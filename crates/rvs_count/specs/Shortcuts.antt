@@ -1,10 +1,10 @@
--- Points that say a mnemonic, a register, a number or signs.
-use Rattle.std.specs.Prelude.{Bool}
+-- Points that say a mnemonic, a register, or numbers and signs.
+use Rattle.std.specs.Prelude.{Bool, ◌&&◌}
 use Rattle.rvs_cgf.specs.Hits.{is_register}
 use Rattle.rvs_count.specs.declared.shortcut.Shortcut.{Shortcut}
-use Rattle.rvs_count.specs.Signs.{all_signs}
+use Rattle.rvs_count.specs.Signs.{has_signs}
 use Rattle.rvs_count.specs.declared.shortcut.Shortcut.TheVariants.{Mnemonic, Register, Number}
-use Rattle.rvs_count.specs.declared.shortcut.Shortcut.TheVariants.{Three}
+use Rattle.rvs_count.specs.declared.shortcut.Shortcut.TheVariants.{Signs, Valued, Values}
 use Rattle.rvs_expr.specs.Equated.{is_value}
 use Rattle.rvs_expr.specs.Meaning.{Table}
 use Rattle.rvs_facts.specs.Mnemonics.{is_same}
@@ -15,4 +15,7 @@ abbrev pub says : Shortcut → Op → Table → Bool
 says (Mnemonic mnemonic) op t = is_same mnemonic op
 says (Register name number) op t = is_register number (t.reg name)
 says (Number name value) op t = is_value value (t.num name)
-says (Three signs) op t = all_signs signs t
+says (Signs mask) op t = has_signs mask t
+says (Valued mask name value) op t = is_value value (t.num name) && has_signs mask t
+says (Values mask name value other second) op t =
+    (is_value value (t.num name) && is_value second (t.num other)) && has_signs mask t

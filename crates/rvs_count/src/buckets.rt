@@ -1,10 +1,12 @@
 // Where a point is looked for.
 ghost use Rattle.std.specs.Prelude.{◌≡◌, ◌<◌};
 ghost use Rattle.rvs_cgf.specs.GroupView.{point_view};
+ghost use Rattle.rvs_expr.specs.Meaning.{IsNarrowFormula};
+ghost use Rattle.rvs_expr.specs.TypedView.{view};
 ghost use Rattle.rvs_count.specs.Buckets as spec;
 
 use rvs_cgf::{Kind, Meaning, Point};
-use rvs_expr::NumName;
+use rvs_expr::{Formula, NumName, equation_of};
 use rvs_free::Free;
 
 /// How many lists there are for a mnemonic.
@@ -54,9 +56,50 @@ fn equation_bucket(equation: Option<(NumName, i64)>) -> usize
     }
 }
 
+/// An equation, where its number isn't 0: how a number compares with 0 is a sign.
+fn but_zero(equation: Option<(NumName, i64)>) -> Option<(NumName, i64)>
+    ensures { result ≡ spec.but_zero equation }
+{
+    match equation {
+        None => None,
+        Some((name, value)) => {
+            if value == 0 {
+                None
+            } else {
+                Some((name, value))
+            }
+        },
+    }
+}
+
+/// The first equation with a number other than 0 among the parts of a conjunction.
+fn conjunct(formula: &Formula) -> Option<(NumName, i64)>
+    requires { IsNarrowFormula (view formula.now) }
+    ensures { result ≡ spec.conjunct (view formula.now) }
+{
+    match formula {
+        Formula::Both(left, right) => match conjunct(left) {
+            None => conjunct(right),
+            Some(equation) => Some(equation),
+        },
+        _ => but_zero(equation_of(formula, Free::new())),
+    }
+}
+
+/// The equation by whose number an expression is looked for.
+fn asked_by(formula: &Formula) -> Option<(NumName, i64)>
+    requires { IsNarrowFormula (view formula.now) }
+    ensures { result ≡ spec.asked_by (view formula.now) }
+{
+    match formula {
+        Formula::Both(_, _) => conjunct(formula),
+        _ => equation_of(formula, Free::new()),
+    }
+}
+
 /// The list that a point stands in, by its shape: a register by its field and number, `name ==
-/// constant` by the name and the constant's remainder, and all others in the first; but a cross
-/// point stands in none.
+/// constant`, alone or in a conjunction, by the name and the constant's remainder, and all others in
+/// the first; but a cross point stands in none.
 pub(crate) fn bucket_of(point: &Point) -> usize
     ensures { result ≡ spec.bucket_of (point_view point.now) }
 {
@@ -64,7 +107,7 @@ pub(crate) fn bucket_of(point: &Point) -> usize
         Meaning::OpIs(_) => 0,
         Meaning::RegIs(register) => register_bucket(point.kind, *register),
         Meaning::Regs(_) => 0,
-        Meaning::Nums(expr) => equation_bucket(expr.equation(Free::new())),
+        Meaning::Nums(expr) => equation_bucket(asked_by(expr.formula(Free::new()))),
         Meaning::Window(_) => BUCKETS,
     }
 }

@@ -7,7 +7,7 @@ ghost use Rattle.rvs_count.specs.declared.slot.Slot.{Slot as Entry};
 
 use crate::asked::{Asked, asked_at, said};
 use crate::buckets::BUCKETS;
-use crate::hits::raise;
+use crate::hits::raise_rare;
 use crate::slot::Slot;
 use rvs_base::{Items, NoMemory};
 use std::alloc::Global;
@@ -137,6 +137,6 @@ pub(crate) fn add_cell(cell: &Cell, value: i64, counts: &mut Vec<u64>)
     requires low { All (λ n. n ≤ 2 ^ 41) counts.old.items }
     ensures { counts.new.items ≡ spec.raised_cell cell.now value counts.old.items }
 {
-    raise(counts, cell.first_at, cell.first == value);
-    raise(counts, cell.second_at, cell.second == value);
+    raise_rare(counts, cell.first_at, cell.first == value);
+    raise_rare(counts, cell.second_at, cell.second == value);
 }

@@ -111,8 +111,8 @@ impl<'g> Index<'g> {
     }
 
     /// Adds one to the counts of the points of a list that an instruction of these facts hits.
-    #[inline(always)]
-    fn add_known(&self, bucket: usize, facts: &Known<'_>, counts: &mut Vec<u64>)
+    #[inline(never)]
+    fn add_list(&self, bucket: usize, facts: &Known<'_>, counts: &mut Vec<u64>)
         requires bucket { bucket < 365 }
         requires fits { Fits (aims_in self.now) (2 ^ 41) counts.old.items }
         ensures { counts.new.items ≡ added (λ a. is_seen (Some bucket) a.point
@@ -123,19 +123,6 @@ impl<'g> Index<'g> {
         let key = number(insn.op) * BUCKETS + bucket;
         let slots = self.lists.as_slice()[key].as_slice();
         add_insn(slots, facts, counts);
-    }
-
-    /// The same of an instruction whose registers held these words before it. It takes the facts
-    /// again, so that those of the caller can stay in registers.
-    #[inline(never)]
-    fn add_list(&self, bucket: usize, insn: &Insn, first: u32, second: u32, counts: &mut Vec<u64>)
-        requires bucket { bucket < 365 }
-        requires fits { Fits (aims_in self.now) (2 ^ 41) counts.old.items }
-        ensures { counts.new.items ≡ added (λ a. is_seen (Some bucket) a.point
-            && hits_insn a (Some insn.now) first second) (aims_in self.now) counts.old.items }
-    {
-        let facts = take_facts(insn, *insn, first, second);
-        self.add_known(bucket, &facts, counts);
     }
 
     /// The same of the first list.
@@ -149,7 +136,7 @@ impl<'g> Index<'g> {
         let insn = facts.insn;
         let head = &self.heads.as_slice()[number(insn.op)];
         if head.more {
-            self.add_list(0, facts.insn, facts.first, facts.second, counts);
+            self.add_list(0, facts, counts);
         } else {
             add_marks(head.marks.as_slice(), facts.signs, counts);
         }
@@ -172,7 +159,7 @@ impl<'g> Index<'g> {
         let block = self.blocks.as_slice()[number(insn.op)];
         let cell = &self.cells.as_slice()[block * BUCKETS + bucket];
         if cell.more {
-            self.add_list(bucket, facts.insn, facts.first, facts.second, counts);
+            self.add_list(bucket, facts, counts);
         } else {
             add_cell(cell, value, counts);
         }

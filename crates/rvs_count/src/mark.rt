@@ -12,7 +12,7 @@ use crate::hits::raise;
 use crate::key::MNEMONICS;
 use crate::shortcut::Shortcut;
 use crate::slot::Slot;
-use crate::taken::{has_all, mask_of};
+use crate::taken::has_all;
 use rvs_base::{Items, NoMemory};
 use rvs_facts::number;
 use rvs_insn::Op;
@@ -47,17 +47,13 @@ fn always(mnemonic: usize, op: Op, at: usize) -> Option<Mark>
 }
 
 /// The mark of a point that says signs.
-#[tactic(auto, using(crate::proofs::Masks::three_masked))]
 fn signed(shortcut: Shortcut, at: usize) -> Option<Mark>
     ensures at { IfSome result (λ m. m.at ≡ at) }
     ensures says { IfSome result (λ m. (op : mnemonic.Op) (t : Table) →
         says shortcut op t ≡ has_all (signs_word (signs_of t)) m.mask) }
 {
     match shortcut {
-        Shortcut::Three(signs) => Some(Mark {
-            at,
-            mask: mask_of(signs),
-        }),
+        Shortcut::Signs(mask) => Some(Mark { at, mask }),
         _ => None,
     }
 }

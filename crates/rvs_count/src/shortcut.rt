@@ -1,25 +1,25 @@
-// Points that say a mnemonic, a register, a number or signs.
+// Points that say a mnemonic, a register, or numbers and signs.
 ghost use Rattle.std.specs.Prelude.{◌≡◌, IfSome};
 ghost use Rattle.rvs_cgf.specs.GroupView.{point_view};
 ghost use Rattle.rvs_cgf.specs.Groups.{reg_is};
 ghost use Rattle.rvs_cgf.specs.Hits as hit;
 ghost use Rattle.rvs_count.specs.Shortcuts as spec;
-ghost use Rattle.rvs_count.specs.Signs.{all_signs, signs_of, signs_word};
+ghost use Rattle.rvs_count.specs.Signs as sign;
+ghost use Rattle.rvs_count.specs.Signs.{signs_of, signs_word};
 ghost use Rattle.rvs_expr.specs.Equated as equated;
-ghost use Rattle.rvs_expr.specs.Meaning.{Table, holds};
-ghost use Rattle.rvs_expr.specs.TypedView.{view};
+ghost use Rattle.rvs_expr.specs.Meaning.{Table};
 ghost use Rattle.rvs_insn.specs.declared.op.Op as mnemonic;
 
-use crate::said::signs_said;
-use crate::signs::Signs;
-use crate::taken::{has_all, mask_of};
+use crate::said::said_by;
+use crate::taken::has_all;
 use rvs_cgf::{Kind, Meaning, Point};
-use rvs_expr::{Expr, Facts, NumName, RegName};
+use rvs_expr::{Facts, NumName, RegName};
 use rvs_facts::is_same;
 use rvs_free::Free;
 use rvs_insn::Op;
 
-/// What a point says, where no expression is worked out to see whether it is hit.
+/// What a point says, where no expression is worked out to see whether it is hit. Signs are the
+/// bits of a mask.
 #[derive(Clone, Copy)]
 pub enum Shortcut {
     /// The mnemonic is this one.
@@ -28,8 +28,12 @@ pub enum Shortcut {
     Register(RegName, u8),
     /// The number of this name is this one.
     Number(NumName, i64),
-    /// These three signs are so.
-    Three(Signs),
+    /// These signs are so.
+    Signs(u32),
+    /// These signs are so, and the number of this name is this one.
+    Valued(u32, NumName, i64),
+    /// The same of two numbers.
+    Values(u32, NumName, i64, NumName, i64),
 }
 
 /// Whether a number is there and is this one.
@@ -52,15 +56,14 @@ fn is_register(number: u8, found: Option<u8>) -> bool
     }
 }
 
-/// Whether three signs are so of these facts, which have these signs.
-#[tactic(auto, using(crate::proofs::Masks::three_say))]
+/// Whether these facts, which have these signs, have all of a mask.
 #[inline(always)]
-fn are_so<F: Facts>(facts: &F, signs: u32, three: Signs) -> bool
+fn has_signs<F: Facts>(facts: &F, signs: u32, mask: u32) -> bool
     requires { signs ≡ signs_word (signs_of (F.table facts.now)) }
-    ensures { result ≡ all_signs three (F.table facts.now) }
+    ensures { result ≡ sign.has_signs mask (F.table facts.now) }
 {
     let _ = facts;
-    has_all(signs, mask_of(three))
+    has_all(signs, mask)
 }
 
 impl Shortcut {
@@ -74,7 +77,15 @@ impl Shortcut {
             Shortcut::Mnemonic(mnemonic) => is_same(mnemonic, op),
             Shortcut::Register(name, number) => is_register(number, facts.reg(name)),
             Shortcut::Number(name, value) => is_value(value, facts.num(name)),
-            Shortcut::Three(three) => are_so(facts, signs, three),
+            Shortcut::Signs(mask) => has_signs(facts, signs, mask),
+            Shortcut::Valued(mask, name, value) => {
+                is_value(value, facts.num(name)) && has_signs(facts, signs, mask)
+            },
+            Shortcut::Values(mask, name, value, other, second) => {
+                is_value(value, facts.num(name))
+                    && is_value(second, facts.num(other))
+                    && has_signs(facts, signs, mask)
+            },
         }
     }
 }
@@ -91,18 +102,7 @@ fn register(kind: Kind, number: u8) -> Option<Shortcut>
     }
 }
 
-/// The signs that an expression says.
-fn three_signs(expr: &Expr) -> Option<Shortcut>
-    ensures { IfSome result (λ s. (op : mnemonic.Op) (t : Table) →
-        holds t (view expr.now) ≡ spec.says s op t) }
-{
-    match signs_said(expr.formula(Free::new())) {
-        None => None,
-        Some(signs) => Some(Shortcut::Three(signs)),
-    }
-}
-
-/// What a point says, where it is a mnemonic, a register, the number of a name or signs.
+/// What a point says, where it is a mnemonic, a register, or numbers and signs.
 pub(crate) fn shortcut_of(point: &Point) -> Option<Shortcut>
     ensures { IfSome result (λ s. (op : mnemonic.Op) (t : Table) →
         hit.holds (point_view point.now) op t ≡ spec.says s op t) }
@@ -111,10 +111,10 @@ pub(crate) fn shortcut_of(point: &Point) -> Option<Shortcut>
         Meaning::OpIs(mnemonic) => Some(Shortcut::Mnemonic(*mnemonic)),
         Meaning::RegIs(number) => register(point.kind, *number),
         Meaning::Nums(expr) => match expr.equation(Free::new()) {
-            None => three_signs(expr),
+            None => said_by(expr.formula(Free::new())),
             Some((name, value)) => Some(Shortcut::Number(name, value)),
         },
-        Meaning::Regs(expr) => three_signs(expr),
+        Meaning::Regs(expr) => said_by(expr.formula(Free::new())),
         _ => None,
     }
 }

@@ -1,14 +1,15 @@
 // Formulas that say that a name has one value.
-ghost use Rattle.std.specs.Prelude.{◌≡◌, ◌≤◌, ◌^◌, IfOk};
+ghost use Rattle.std.specs.Prelude.{◌≡◌, ◌≤◌, ◌^◌, IfOk, IfSome};
 ghost use Rattle.rvs_expr.specs.TypedView.{num_view, view};
 ghost use Rattle.rvs_expr.specs.Equated as spec;
 ghost use Rattle.rvs_expr.specs.Equation.{number_of};
-ghost use Rattle.rvs_expr.specs.Meaning.{IsNarrow, IsNarrowFormula, nothing, value};
+ghost use Rattle.rvs_expr.specs.Meaning.{IsNarrow, IsNarrowFormula, Table, holds, nothing, value};
 
 use crate::evaluating::constant_of;
 use crate::formula::{Comparison, Formula, Num, NumChain};
 use rvs_base::NoMemory;
 use rvs_expr_text::NumName;
+use rvs_free::Free;
 use std::alloc::Global;
 
 /// A number as a text spells it: one below 0 is the negation of a literal.
@@ -67,4 +68,14 @@ pub(crate) fn equation(formula: &Formula) -> Option<(NumName, i64)>
         }
         _ => None,
     }
+}
+
+/// The same of a formula that is part of an expression. It takes no memory.
+pub fn equation_of(formula: &Formula, _free: Free) -> Option<(NumName, i64)>
+    requires { IsNarrowFormula (view formula.now) }
+    ensures shape { result ≡ spec.equated (view formula.now) }
+    ensures means { IfSome result (λ e. (t : Table) →
+        holds t (view formula.now) ≡ spec.is_value e.1 (t.num e.0)) }
+{
+    equation(formula)
 }

@@ -7,8 +7,8 @@ use Rattle.rvs_count.specs.declared.slot.Slot.{Slot}
 use Rattle.rvs_count.proofs.Places.{slots_next, raised_low}
 use Rattle.rvs_count.proofs.hits.add_hits.Goals as goal
 
-pub raise-requires-clause-room : goal.raise-requires-clause-room
-raise-requires-clause-room g c = λ k d l. omega (arith, c.loop-slot.invariant.low k d l)
+pub raise_rare-requires-clause-room : goal.raise_rare-requires-clause-room
+raise_rare-requires-clause-room g c = λ k d l. omega (arith, c.loop-slot.invariant.low k d l)
 
 pub loop-slot-preserved : goal.loop-slot-preserved
 loop-slot-preserved g c =
@@ -16,10 +16,10 @@ loop-slot-preserved g c =
     let s : Slot = c.slot-item.result in
     let hit = holds (point_view s.point.now) c.args.op t in
     let rest = places (drop (c.loop-slot.slot-index + 1) c.args.slots.now) in
-    let e : c.raise.new.counts.items ≡ raised hit s.at c.loop-slot.counts.items =
-    c.raise.ensures.items ∙ ap (λ h. raised h s.at c.loop-slot.counts.items) c.holds-hit.ensures in
+    let e : c.raise_rare.new.counts.items ≡ raised hit s.at c.loop-slot.counts.items =
+    c.raise_rare.ensures.items ∙ ap (λ h. raised h s.at c.loop-slot.counts.items) c.holds-hit.ensures in
     let P : List ℕ → Type 0 = λ l. All (λ (n : ℕ). n ≤ 2 ^ 41 + c.loop-slot.slot-index + 1) l in
-    let low : P c.raise.new.counts.items =
+    let low : P c.raise_rare.new.counts.items =
     subst P (sym e) (raised_low hit c.loop-slot.counts.items s.at (2 ^ 41 + c.loop-slot.slot-index)
     c.loop-slot.invariant.low) in
     record {
@@ -31,6 +31,6 @@ loop-slot-preserved g c =
           ∙ ap (λ (s : Slot). raised_all (λ p. holds p c.args.op t) (place_of s ∷ rest)
           c.loop-slot.counts.items) (sym c.slot-item.is)
           ∙ ap (λ cs. raised_all (λ p. holds p c.args.op t) rest cs) (sym e);
-      len = c.raise.ensures.len ∙ c.loop-slot.invariant.len;
+      len = c.raise_rare.ensures.len ∙ c.loop-slot.invariant.len;
       low = λ k d l. omega (arith, low k d l);
     }

@@ -8,8 +8,12 @@ returns c = omega (
   c.three-second.ensures.value,
   c.three-third.ensures.value,
   c.order-values.ensures.value,
+  c.equality-immediate.ensures.value,
+  c.shift-second_shift.ensures.value,
+  c.shift-third_shift.ensures.value,
   c.relation-rd_rs1.ensures.value,
   c.relation-rd_rs2.ensures.value,
   c.relation-rs1_rs2.ensures.value,
   c.zero-rd_zero.ensures.value,
+  c.four-rest.ensures.value,
 )

@@ -1,22 +1,52 @@
-use Rattle.std.proofs.Common.{Some, ◌∙◌, ◌&&◌, ap}
+use Rattle.std.proofs.Common.{◌+◌, ◌*◌, sym, ap, ◌∙◌, arith, length, vec_len}
+use Rattle.rvs_facts.specs.Mnemonics.{number}
 use Rattle.rvs_insn.specs.Fields.{Fields}
-use Rattle.rvs_count.specs.Buckets.{is_seen}
-use Rattle.rvs_count.specs.Counting.{aims_in, hits_insn}
-use Rattle.rvs_count.specs.State.{added}
+use Rattle.rvs_count.specs.Counting.{aims_in}
+use Rattle.rvs_count.specs.Index.{insns_key, is_for, places_for}
+use Rattle.rvs_count.proofs.Places.{added_bucket, slots_at, slots_few, slots_low}
 use Rattle.rvs_count.proofs.index.Index.add_list.Goals as goal
+
+pub add_insn-requires-clause-within : goal.add_insn-requires-clause-within
+add_insn-requires-clause-within c =
+    let key = c.number.result * 365 + c.args.bucket in
+    let mine =
+    slots_at insns_key c.self.inside.labels.now c.self.inside.lists c.as_slice.result.now key
+    c.index-as_slice-key.result c.as_slice-slots.result.now c.self.invariant.0
+    (omega (arith, c.requires.bucket, c.number.ensures.low, c.self.invariant.1))
+    c.as_slice.ensures c.as_slice-slots.ensures c.index-as_slice-key.is in
+    slots_low (is_for (insns_key key)) (aims_in c.self.inside.labels.now)
+    c.as_slice-slots.result.now (vec_len c.args.counts.now) mine
+    (ap (λ ls. length (aims_in ls)) c.self.view_is ∙ sym c.requires.fits.count
+    ∙ sym c.args.counts.now.ok.0)
+
+pub add_insn-requires-clause-few : goal.add_insn-requires-clause-few
+add_insn-requires-clause-few c =
+    let key = c.number.result * 365 + c.args.bucket in
+    let mine =
+    slots_at insns_key c.self.inside.labels.now c.self.inside.lists c.as_slice.result.now key
+    c.index-as_slice-key.result c.as_slice-slots.result.now c.self.invariant.0
+    (omega (arith, c.requires.bucket, c.number.ensures.low, c.self.invariant.1))
+    c.as_slice.ensures c.as_slice-slots.ensures c.index-as_slice-key.is in
+    omega (
+      arith,
+      slots_few (is_for (insns_key key)) (aims_in c.self.inside.labels.now)
+          c.as_slice-slots.result.now mine,
+      ap (λ ls. length (aims_in ls)) c.self.view_is,
+      c.requires.fits.count,
+      c.args.counts.now.ok,
+    )
 
 pub returns : goal.returns
 returns c =
-    let cs = c.args.counts.now.items in
-    let aims = aims_in c.args.self.now in
-    let r = c.take_facts-facts.result in
-    let b = c.args.bucket in
-    c.add_known.ensures
-    ∙ ap (λ (i : Fields). added
-    (λ a. is_seen (Some b) a.point && hits_insn a (Some i) r.first r.second) aims cs)
-    c.take_facts-facts.ensures.insn
-    ∙ ap (λ v. added (λ a. is_seen (Some b) a.point
-    && hits_insn a (Some c.args.insn.now) v r.second) aims cs) c.take_facts-facts.ensures.first
-    ∙ ap (λ v. added (λ a. is_seen (Some b) a.point
-    && hits_insn a (Some c.args.insn.now) c.args.first v) aims cs)
-    c.take_facts-facts.ensures.second
+    let key = c.number.result * 365 + c.args.bucket in
+    let mine =
+    slots_at insns_key c.self.inside.labels.now c.self.inside.lists c.as_slice.result.now key
+    c.index-as_slice-key.result c.as_slice-slots.result.now c.self.invariant.0
+    (omega (arith, c.requires.bucket, c.number.ensures.low, c.self.invariant.1))
+    c.as_slice.ensures c.as_slice-slots.ensures c.index-as_slice-key.is in
+    added_bucket c.args.self.now c.args.facts.now.insn.now c.args.facts.now.first
+    c.args.facts.now.second c.number.result c.args.bucket c.as_slice-slots.result.now
+    c.args.counts.now.items c.add_insn.new.counts.items
+    (c.number.ensures.place ∙ ap (λ (i : Fields). number i.op) c.insn.view_is) c.requires.bucket
+    (mine ∙ ap (λ ls. places_for (is_for (insns_key key)) 0 (aims_in ls)) c.self.view_is)
+    c.requires.fits.count c.add_insn.ensures
