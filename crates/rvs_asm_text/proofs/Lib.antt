@@ -3,4 +3,3 @@ pub mod Symbols
 pub mod Ready
 pub mod Mnemonics
 pub mod ValueFaults
-pub mod Again

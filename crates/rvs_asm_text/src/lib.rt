@@ -11,17 +11,14 @@ mod instructions;
 mod names;
 mod numbers;
 mod reading;
-mod reading_again;
 mod registers;
 
 pub use arguments::{Bracketed, Operands};
 pub use bodies::{Body, Line, LineFault, Link, Value};
-pub use cutting::{first_line, first_word_and_rest, trimmed};
 pub use directives::read_value;
 pub use header::steps_of_header;
 pub use instructions::fits_field;
 pub use names::Name;
 pub use numbers::number;
 pub use reading::read_line;
-pub use reading_again::body_again;
 pub use registers::register;
