@@ -2,6 +2,7 @@
 ghost use Rattle.rvs_asm.specs.Laws.{PartsMakeAddress, OneImageEach, ImagesAreAnswered};
 ghost use Rattle.rvs_asm.specs.Laws.{RefusedHaveNone, FirstFaultsAreFirst, SecondFaultsAreFirst};
 ghost use Rattle.rvs_asm.specs.Standing.{LinesHaveTheirSizes, LinesStand};
+ghost use Rattle.rvs_asm.specs.Waiting.{BranchIsBegun, BranchIsMade, BranchWaits, TargetIsMissing};
 
 /// `%hi` and the signed `%lo` of every address make the address modulo 2^32.
 pub fn parts_make_the_address()
@@ -32,4 +33,13 @@ pub fn refusals_are_first()
 pub fn lines_stand_in_their_places()
     ensures sizes { LinesHaveTheirSizes }
     ensures places { LinesStand }
+{}
+
+/// A branch to a symbol that no line has had yet is taken by every core: its word has the distance
+/// 0, and its place, the first line at the start of the text, waits for the symbol.
+pub fn a_branch_waits_for_its_symbol()
+    ensures begun { BranchIsBegun }
+    ensures made { BranchIsMade }
+    ensures waits { BranchWaits }
+    ensures missing { TargetIsMissing }
 {}
