@@ -37,7 +37,7 @@ use std::sync::ledger::Ledger;
 ///
 /// # Errors
 ///
-/// [`NoMemory`] alone.
+/// [`NoMemory`] alone. The bound on evaluations holds then too.
 pub fn solve<L: Ledger>(
     alloc: Global,
     label: &Label,
