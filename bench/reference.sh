@@ -21,5 +21,7 @@ best() {
 }
 
 limit=$((2 * steps))
+run=("$program" reference --isa "$folder/isa.yaml" --test "$folder/loop.img")
+run+=(--signature "$folder/loop.sig" --steps "$limit")
 printf 'C          %6.3f s\n' "$(best "$folder/interpreter" "$folder/loop.img" "$limit")"
-printf 'reference  %6.3f s\n' "$(best "$program" reference --isa "$folder/isa.yaml" --test "$folder/loop.img" --signature "$folder/loop.sig" --steps "$limit")"
+printf 'reference  %6.3f s\n' "$(best "${run[@]}")"

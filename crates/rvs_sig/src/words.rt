@@ -81,8 +81,8 @@ pub fn print_words(alloc: Global, words: &[u32]) -> Result<Text, NoMemory>
     Ok(Text::from(String::from_utf8(bytes).unwrap()))
 }
 
-/// The word of the first line, where that is eight digits, and the text after the line; `None` where
-/// the text is empty.
+/// The word of the first line, where that is eight digits, and the text after the line; `None`
+/// where the text is empty.
 #[inline(always)]
 fn next_line<'a>(worths: &[u64; 256], text: &'a [u8]) -> Option<(Option<u32>, &'a [u8])>
     requires { AreWorths worths.now }

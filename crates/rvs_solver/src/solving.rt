@@ -37,7 +37,7 @@ use std::sync::ledger::Ledger;
 ///
 /// # Errors
 ///
-/// [`NoMemory`] alone.
+/// [`NoMemory`] alone. The bound on evaluations holds then too.
 pub fn solve<L: Ledger>(
     alloc: Global,
     label: &Label,
@@ -52,8 +52,8 @@ pub fn solve<L: Ledger>(
     ensures none { IfOk result (λ s. IfNone s (IsSolvableAt spec.now (label_view label.now) point →
         ⊥)) }
     ensures words { IfOk result (λ s. IfSome s HaveOneWordEach) }
-    ensures cost { IfOk result (λ s. steps.new ≤ steps.old + bound_at spec.now (label_view
-        label.now) point) }
+    ensures cost { steps.new ≤ steps.old + bound_at spec.now (label_view
+        label.now) point }
 {
     let point = &label.points.as_slice()[point];
     solve_meant(alloc, label.ops.as_slice(), point, spec, steps)
@@ -75,8 +75,8 @@ fn solve_meant<L: Ledger>(
     ensures none { IfOk result (λ s. IfNone s (IsSolvableAs spec.now ops.now point.now.kind
         (meaning_view point.now.meaning) → ⊥)) }
     ensures words { IfOk result (λ s. IfSome s HaveOneWordEach) }
-    ensures cost { IfOk result (λ s. steps.new ≤ steps.old + bound_meant spec.now ops.now
-        (meaning_view point.now.meaning)) }
+    ensures cost { steps.new ≤ steps.old + bound_meant spec.now ops.now
+        (meaning_view point.now.meaning) }
 {
     match window_of(&point.meaning) {
         Some(cross) => solve_window(alloc, cross, spec, steps),
@@ -108,8 +108,8 @@ fn solve_window<L: Ledger>(
     ensures none { IfOk result (λ s. IfNone s (sequences.Solvable spec.now (cross_view cross.now) →
         ⊥)) }
     ensures words { IfOk result (λ s. IfSome s HaveOneWordEach) }
-    ensures cost { IfOk result (λ s. steps.new ≤ steps.old + sequences.bound spec.now (cross_view
-        cross.now)) }
+    ensures cost { steps.new ≤ steps.old + sequences.bound spec.now (cross_view
+        cross.now) }
 {
     match solve_cross(alloc, cross, spec, steps)? {
         Some(insns) => Ok(Some(Solved::Many(insns))),
@@ -133,8 +133,8 @@ fn solve_choice<L: Ledger>(
     ensures none { IfOk result (λ s. IfNone s (Solvable spec.now ops.now point.now.kind
         (meaning_view point.now.meaning) → ⊥)) }
     ensures words { IfOk result (λ s. IfSome s HaveOneWordEach) }
-    ensures cost { IfOk result (λ s. steps.new ≤ steps.old + bound spec.now ops.now (meaning_view
-        point.now.meaning)) }
+    ensures cost { steps.new ≤ steps.old + bound spec.now ops.now (meaning_view
+        point.now.meaning) }
 {
     match solve_point(alloc, ops, point, spec, steps)? {
         Some(choice) => Ok(Some(Solved::One(choice))),
@@ -156,8 +156,8 @@ pub(crate) fn solve_point<L: Ledger>(
     ensures none { IfOk result (λ c. IfNone c (Solvable spec.now ops.now point.now.kind
         (meaning_view point.now.meaning) → ⊥)) }
     ensures words { IfOk result (λ c. IfSome c HasOneWordEach) }
-    ensures cost { IfOk result (λ c. steps.new ≤ steps.old + bound spec.now ops.now (meaning_view
-        point.now.meaning)) }
+    ensures cost { steps.new ≤ steps.old + bound spec.now ops.now (meaning_view
+        point.now.meaning) }
 {
     first_of_ops(alloc, ops, point.kind, &point.meaning, spec, steps)
 }
@@ -173,8 +173,8 @@ fn first_of_ops<L: Ledger>(
     requires { is_valid (meaning_view meaning.now) ≡ true }
     ensures first { IfOk result (λ c. c ≡ find (hits kind (meaning_view meaning.now)) (flat_map (λ
         op. choices spec.now op (constants_of (meaning_view meaning.now))) ops.now)) }
-    ensures cost { IfOk result (λ c. steps.new ≤ steps.old + sum_by (bound_of spec.now (meaning_view
-        meaning.now)) ops.now) }
+    ensures cost { steps.new ≤ steps.old + sum_by (bound_of spec.now (meaning_view
+        meaning.now)) ops.now }
 {
     for op in ops {
         match first_of_op(alloc, *op, kind, meaning, spec, steps)? {
@@ -197,8 +197,8 @@ fn first_of_op<L: Ledger>(
     requires { is_valid (meaning_view meaning.now) ≡ true }
     ensures first { IfOk result (λ c. c ≡ find (hits kind (meaning_view meaning.now)) (choices
         spec.now op (constants_of (meaning_view meaning.now)))) }
-    ensures cost { IfOk result (λ c. steps.new ≤ steps.old + bound_of spec.now (meaning_view
-        meaning.now) op) }
+    ensures cost { steps.new ≤ steps.old + bound_of spec.now (meaning_view
+        meaning.now) op }
 {
     match meaning {
         Meaning::Nums(expr) => first_value(alloc, expr, op, spec, steps),

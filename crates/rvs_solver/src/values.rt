@@ -37,8 +37,8 @@ pub(crate) fn first_value<L: Ledger>(
     requires { only_numbers (view expr.now) ≡ true }
     ensures first { IfOk result (λ c. c ≡ find (is_true_at (view expr.now)) (choices spec.now op
         (constants_in (view expr.now)))) }
-    ensures cost { IfOk result (λ c. steps.new ≤ steps.old + value_bound spec.now (view expr.now) op
-        (row op).form) }
+    ensures cost { steps.new ≤ steps.old + value_bound spec.now (view expr.now) op
+        (row op).form }
 {
     let form = format(op);
     let constants = constants(expr);

@@ -4,13 +4,15 @@ use Rattle.std.proofs.Common.{sym, ap, ◌∙◌, subst, arith}
 use Rattle.std.specs.Prelude.{slice_get, sum_by, ◌⊎◌}
 use Rattle.std.proofs.Common.{inl, inr}
 use Rattle.std.proofs.lemmas.List.{length-map}
+use Rattle.std.proofs.lemmas.List.Sums.{sum_by-take-le}
 use Rattle.std.proofs.lemmas.Option.{slice_get_cases}
 use Rattle.rvs_insn.specs.Isa.{Isa}
 use Rattle.rvs_cgf.specs.declared.group.Point.{Point as CodePoint}
 use Rattle.rvs_cgf.specs.declared.group.Label.{Label as CodeLabel}
 use Rattle.rvs_cgf.specs.GroupView.{point_view, label_view}
 use Rattle.rvs_cgf.specs.Groups.{Point, Label}
-use Rattle.rvs_solver.specs.Solving.{bound_of_point, bound_at, bound_or_none}
+use Rattle.rvs_solver.specs.Solving.{bound_of_point, bound_of_label, bound_at}
+use Rattle.rvs_solver.specs.Solving.{bound_or_none}
 use Rattle.rvs_cross.proofs.Searching.{sum_turn}
 use Rattle.rvs_test.specs.Made.{claims_of, unsolved_of, cases_of}
 use Rattle.rvs_test.specs.Found.{FoundValue, found_before}
@@ -54,6 +56,17 @@ cost_turn isa l k new before entry h b e = by ((slice_get_cases (label_view l).p
       (take (k + 1) (label_view l).points)
   by (inl (x, i, at, is)) = turn isa (label_view l) k x new before entry h at is b e
   by (inr (past, at)) = absurd (omega (arith, past, h))
+
+-- the same within the whole label
+pub cost_within : (isa : Isa) (l : CodeLabel) (k : ℕ) (new before entry : ℕ)
+    → k < length (label_view l).points
+    → before ≤ entry + sum_by (bound_of_point isa (label_view l)) (take k (label_view l).points)
+    → new ≤ before + bound_at isa (label_view l) k → new ≤ entry + bound_of_label isa (label_view l)
+cost_within isa l k new before entry h b e = omega (
+  arith,
+  cost_turn isa l k new before entry h b e,
+  sum_by-take-le (bound_of_point isa (label_view l)) (label_view l).points (k + 1),
+)
 
 pub all_cases : (isa : Isa) (l : Label) (f : FoundValue) (n : ℕ) → f ≡ found_before isa l n
     → n ≡ length l.points → f.cases ≡ cases_of isa l

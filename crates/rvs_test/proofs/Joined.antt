@@ -48,7 +48,7 @@ use Rattle.rvs_solver.proofs.OneWord.{found_hits, found_each}
 use Rattle.rvs_solver.proofs.Answer.{nothing_hits}
 use Rattle.rvs_test_text.specs.declared.claim.Claim.{Claim}
 use Rattle.rvs_test_text.specs.TestText.{step_limit, test_text}
-use Rattle.rvs_test_text.specs.Claim.{IsOnly, insns_of, IsHit, AreHit, IsTest}
+use Rattle.rvs_test_text.specs.Claim.{insns_of, IsHit, AreHit, IsTest}
 use Rattle.rvs_test.specs.Made.{places, is_solved, solved_among, cases_among, numbered, claims_of}
 use Rattle.rvs_test.specs.Made.{unsolved_of, cases_of, named_at}
 use Rattle.rvs_test.specs.Claimed.{HitsAlone, HitsTogether, HitsAs, words_of_case, IsClaimed}

@@ -1,5 +1,5 @@
 -- The test of a label: which points its cases are to hit, and what is left.
-use Rattle.std.specs.Prelude.{ℕ, ◌+◌, Bool, not, List, [], ◌∷◌, length, map, filter, flat_map}
+use Rattle.std.specs.Prelude.{◌≡◌, ℕ, ◌+◌, Bool, not, List, [], ◌∷◌, length, map, filter, flat_map}
 use Rattle.std.specs.Prelude.{Option, Some, None, option_to_list, is_some, slice_get}
 use Rattle.std.specs.List.{range_with_len}
 use Rattle.rvs_insn.specs.Isa.{Isa}
@@ -36,6 +36,17 @@ cases_among isa l ks = flat_map (λ k. option_to_list (first_at isa l k)) ks
 
 unfoldable pub claims_of : Isa → Label → List Claim
 claims_of isa l = numbered 0 (solved_among isa l (places l))
+
+-- they name the cases 0, 1, 2 and so on, and the solved points in the label's order
+abbrev pub CasesAreInOrder : Type 0
+CasesAreInOrder =
+    (isa : Isa) (l : Label)
+    → map (λ (c : Claim). c.case) (claims_of isa l) ≡ range_with_len 0 (length (claims_of isa l))
+
+abbrev pub PointsAreInOrder : Type 0
+PointsAreInOrder =
+    (isa : Isa) (l : Label)
+    → map (λ (c : Claim). c.point) (claims_of isa l) ≡ solved_among isa l (places l)
 
 unfoldable pub unsolved_of : Isa → Label → List ℕ
 unsolved_of isa l = unsolved_among isa l (places l)

@@ -74,8 +74,7 @@ pub(crate) fn find_cases<L: Ledger>(
     ensures cases { IfOk result (λ f. f.cases ≡ cases_of spec.now (label_view label.now)) }
     ensures claims { IfOk result (λ f. f.claims ≡ claims_of spec.now (label_view label.now)) }
     ensures unsolved { IfOk result (λ f. f.unsolved ≡ unsolved_of spec.now (label_view label.now)) }
-    ensures cost { IfOk result (λ f.
-        steps.new ≤ steps.old + bound_of_label spec.now (label_view label.now)) }
+    ensures cost { steps.new ≤ steps.old + bound_of_label spec.now (label_view label.now) }
 {
     let mut found = nothing(alloc);
     for point in 0..label.points.as_slice().len() {

@@ -4,12 +4,14 @@
 mod case_lines;
 mod finding;
 mod frame_lines;
+mod laws;
 mod made;
 mod making;
 mod printing;
 mod shorthands;
 mod writing;
 
+pub use laws::claims_are_in_order;
 pub use made::Made;
 pub use making::make_test;
 pub use rvs_test_text::Claim;

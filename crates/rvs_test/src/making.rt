@@ -123,7 +123,7 @@ fn text_for(
 ///
 /// # Errors
 ///
-/// [`NoMemory`] alone.
+/// [`NoMemory`] alone. The bound on evaluations holds then too.
 pub fn make_test<L: Ledger>(
     alloc: Global,
     label: &Label,
@@ -144,8 +144,7 @@ pub fn make_test<L: Ledger>(
         IsAccounted spec.now (label_view label.now) m.claims m.unsolved k) }
     ensures unsolvable { IfOk result (λ m. (k : ℕ) → Contains m.unsolved k →
         IsSolvableAt spec.now (label_view label.now) k → ⊥) }
-    ensures cost { IfOk result (λ m.
-        steps.new ≤ steps.old + bound_of_label spec.now (label_view label.now)) }
+    ensures cost { steps.new ≤ steps.old + bound_of_label spec.now (label_view label.now) }
 {
     let found = find_cases(alloc, label, spec, steps)?;
     let Found {

@@ -26,7 +26,7 @@ use Rattle.rvs_test_text.specs.Claim.{outcome_by, written_value, is_taken, mark_
 use Rattle.rvs_test_text.proofs.Frames.{forward_mark, backward_mark}
 use Rattle.rvs_test_text.proofs.Frames.{passed_mark}
 use Rattle.rvs_test_text.proofs.JalrGood.{base_of}
-use Rattle.rvs_test_text.proofs.StoreRuns.{scratch_after as scratch}
+use Rattle.rvs_test_text.proofs.StoreRuns.{zeros, scratch_after as scratch}
 use Rattle.rvs_test_text.proofs.CaseParts.{IsMade, JalrOperands, jalr_operands, imm_of, sources}
 use Rattle.rvs_test_text.proofs.CaseParts.{frame_lead}
 use Rattle.rvs_test_text.proofs.CaseNames.{lead_by}
@@ -59,15 +59,21 @@ pub record EntryIs (f : Format) (c : ChoiceValue) (pc slot : ℕ) : Type 0 where
   pub second : (case_of_by f c pc slot).second
       ≡ (outcome_by f (fields_of c) (case_of_by f c pc slot).entry).1
 
+not_below : (addr n : ℕ) → addr ≡ data_base + n → nat_le data_base addr ≡ true
+not_below addr n is = grind (arith, nat_tests)
+
 store_entry_is : (isa : Isa) (c : ChoiceValue) (pc slot : ℕ) → (row c.op).form ≡ Store
     → Accesses isa c Store → EntryIs Store c pc slot
 store_entry_is isa c pc slot form acc =
     let at : add32 c.w1 (imm_word (fields_of c)) - data_base ≡ c.align =
     omega (arith, acc.address) in
+    let addr = add32 c.w1 (imm_word (fields_of c)) in
     let same : scratch (store_size c.op) c.align c.w2
-    ≡ scratch (access_size c.op) (add32 c.w1 (imm_word (fields_of c)) - data_base) c.w2 =
+    ≡ cond (nat_le data_base addr) (scratch (access_size c.op) (addr - data_base) c.w2) zeros =
     ap (λ s. scratch s c.align c.w2) (same_access c.op form)
-    ∙ ap (λ x. scratch (access_size c.op) x c.w2) (sym at) in
+    ∙ ap (λ x. scratch (access_size c.op) x c.w2) (sym at)
+    ∙ sym (ap (λ b. cond b (scratch (access_size c.op) (addr - data_base) c.w2) zeros)
+    (not_below addr c.align acc.address)) in
     record {
       place = refl;
       word = refl;

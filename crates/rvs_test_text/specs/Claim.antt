@@ -57,10 +57,14 @@ abbrev pub written_value : Option Write → ℕ
 written_value None = 0
 written_value (Some w) = w.value
 
--- the data from the start of scratch on after a store, where there were zeros
+-- the eight bytes of scratch, which the data begin with, after a store, where there were zeros; a
+-- store below them leaves them
 abbrev pub scratch_after : Fields → Executed → List ℕ
 scratch_after i e =
-    store_bytes (access_size i.op) (replicate 8 0) (add32 e.v1 (imm_word i) - data_base) e.v2
+    let addr = add32 e.v1 (imm_word i) in
+    if nat_le data_base addr
+    then store_bytes (access_size i.op) (replicate 8 0) (addr - data_base) e.v2
+    else replicate 8 0
 
 -- whether a branch is taken
 abbrev pub is_taken : Op → ℕ → ℕ → Bool

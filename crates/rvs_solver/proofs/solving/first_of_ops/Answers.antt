@@ -22,7 +22,7 @@ pub returns-in-Some-clause-cost : goal.returns-in-Some-clause-cost
 returns-in-Some-clause-cost g c =
     within_sum (bound_of c.args.spec.now (meaning_view c.args.meaning.now)) c.args.ops.now
     c.loop-op.op-index _ c.first_of_op.new.steps c.loop-op.steps c.args.steps.now (omega arith)
-    c.loop-op.invariant.cost c.in_ok-choice.ensures.cost
+    c.loop-op.invariant.cost c.first_of_op.ensures.cost
 
 pub loop-op-preserved : goal.loop-op-preserved
 loop-op-preserved g c = record {
@@ -35,5 +35,5 @@ loop-op-preserved g c = record {
       (sym c.in-None.is ∙ c.in_ok-choice.ensures.first);
   cost = sum_turn (bound_of c.args.spec.now (meaning_view c.args.meaning.now)) c.args.ops.now
       c.loop-op.op-index _ c.first_of_op.new.steps c.loop-op.steps c.args.steps.now (omega arith)
-      c.loop-op.invariant.cost c.in_ok-choice.ensures.cost;
+      c.loop-op.invariant.cost c.first_of_op.ensures.cost;
 }

@@ -3,7 +3,7 @@ use Rattle.std.specs.Prelude.{IfSome, IfNone}
 use Rattle.rvs_insn.specs.declared.op.Op.{Op}
 use Rattle.rvs_cgf.specs.GroupView.{meaning_view, point_view, label_view}
 use Rattle.rvs_solver.specs.Solving.{first_meant, first_at, SolvesAs, IsLeastAt, IsSolvableAs}
-use Rattle.rvs_solver.specs.Solving.{IsSolvableAt, bound_meant, bound_at}
+use Rattle.rvs_solver.specs.Solving.{IsSolvableAt, bound_meant}
 use Rattle.rvs_solver.proofs.Labels.{point_there, valid_there, first_there, least_there, none_there}
 use Rattle.rvs_solver.proofs.Labels.{cost_there}
 use Rattle.rvs_solver.proofs.Meant.{ok_then}
@@ -73,8 +73,6 @@ returns-clause-cost g c =
     let m = meaning_view p.meaning in
     let old = c.args.steps.now in
     let new = c.solve_meant.new.steps in
-    ok_then (λ s. new ≤ old + bound_meant isa c.as_slice-2.result.now m)
-    (λ s. new ≤ old + bound_at isa l c.args.point)
-    (λ s h. cost_there isa l c.args.point (point_view p) new old there
-    (subst (λ (ops : List Op). new ≤ old + bound_meant isa ops m) c.as_slice-2.ensures h))
-    c.solve_meant.result c.solve_meant.ensures.cost
+    cost_there isa l c.args.point (point_view p) new old there
+    (subst (λ (ops : List Op). new ≤ old + bound_meant isa ops m) c.as_slice-2.ensures
+    c.solve_meant.ensures.cost)

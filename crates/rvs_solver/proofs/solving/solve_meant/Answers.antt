@@ -4,7 +4,6 @@ use Rattle.rvs_cgf.specs.Groups.{Meaning}
 use Rattle.rvs_cgf.specs.GroupView.{point_view}
 use Rattle.rvs_solver.specs.declared.solved.Solved.TheVariants.{One}
 use Rattle.rvs_solver.specs.First.{first_choice, Solvable}
-use Rattle.rvs_solver.specs.Bound.{bound}
 use Rattle.rvs_solver.specs.Solving.{first_meant, SolvesAs, IsLeastChoice, IsSolvableAs}
 use Rattle.rvs_solver.specs.Solving.{bound_meant}
 use Rattle.rvs_solver.proofs.Meant.{first_single, solves_single, solvable_single, bound_single}
@@ -27,8 +26,7 @@ returns-in-Some g c =
           c.solve_window.ensures.none;
       words = c.solve_window.ensures.words;
       cost = subst
-          (λ (m : Meaning). IfOk r (λ s. c.solve_window.new.steps
-          ≤ c.args.steps.now + bound_meant isa ops m)) e
+          (λ (m : Meaning). c.solve_window.new.steps ≤ c.args.steps.now + bound_meant isa ops m) e
           c.solve_window.ensures.cost;
     }
 
@@ -51,9 +49,6 @@ returns-in-None g c =
           (λ s. IfNone s (IsSolvableAs isa ops p.kind m → ⊥))
           (λ s h. solvable_single isa ops p.kind m s single h) r c.solve_choice.ensures.none;
       words = c.solve_choice.ensures.words;
-      cost = ok_then
-          (λ s. c.solve_choice.new.steps ≤ c.args.steps.now + bound isa ops m)
-          (λ s. c.solve_choice.new.steps ≤ c.args.steps.now + bound_meant isa ops m)
-          (λ s h. bound_single isa ops m c.solve_choice.new.steps c.args.steps.now single h) r
+      cost = bound_single isa ops m c.solve_choice.new.steps c.args.steps.now single
           c.solve_choice.ensures.cost;
     }

@@ -2,7 +2,8 @@ use Rattle.std.proofs.Common.{◌∙◌, arith}
 use Rattle.rvs_cgf.specs.GroupView.{label_view}
 use Rattle.rvs_test.specs.Found.{found_view}
 use Rattle.rvs_test.proofs.Loops.{found_none, found_more}
-use Rattle.rvs_test.proofs.Ends.{cost_turn, end_is, end_at, all_cases, all_claims, all_unsolved}
+use Rattle.rvs_test.proofs.Ends.{cost_turn, cost_within, end_is, end_at, all_cases, all_claims}
+use Rattle.rvs_test.proofs.Ends.{all_unsolved}
 use Rattle.rvs_test.proofs.finding.find_cases.Goals as goal
 
 pub loop-point-init : goal.loop-point-init
@@ -25,8 +26,24 @@ loop-point-preserved g c =
           cost_turn c.args.spec.now c.args.label.now k c.solve.new.steps c.loop-point.steps
           c.args.steps.now
           (end_is c.args.label.now c.as_slice-point-end.result.now k c.as_slice-point-end.ensures
-          c.loop-point-test.true) c.loop-point.invariant.cost c.in_ok-solved.ensures.cost;
+          c.loop-point-test.true) c.loop-point.invariant.cost c.solve.ensures.cost;
     }
+
+pub returns-in_err-solved-clause-cost : goal.returns-in_err-solved-clause-cost
+returns-in_err-solved-clause-cost g c =
+    cost_within c.args.spec.now c.args.label.now c.loop-point.point c.solve.new.steps
+    c.loop-point.steps c.args.steps.now
+    (end_is c.args.label.now c.as_slice-point-end.result.now c.loop-point.point
+    c.as_slice-point-end.ensures c.loop-point-test.true) c.loop-point.invariant.cost
+    c.solve.ensures.cost
+
+pub returns-in_err-found-clause-cost : goal.returns-in_err-found-clause-cost
+returns-in_err-found-clause-cost g c =
+    cost_within c.args.spec.now c.args.label.now c.loop-point.point c.solve.new.steps
+    c.loop-point.steps c.args.steps.now
+    (end_is c.args.label.now c.as_slice-point-end.result.now c.loop-point.point
+    c.as_slice-point-end.ensures c.loop-point-test.true) c.loop-point.invariant.cost
+    c.solve.ensures.cost
 
 pub returns-clause-cases : goal.returns-clause-cases
 returns-clause-cases g c =
