@@ -7,7 +7,6 @@ use Rattle.std.specs.Prelude.{map}
 use Rattle.rvs_cgf.specs.Groups as group
 use Rattle.rvs_cgf.specs.GroupView.{label_view, point_view}
 use Rattle.rvs_cgf.specs.declared.group.Label.{Label}
-use Rattle.rvs_cgf.specs.declared.group.Point.{Point}
 use Rattle.rvs_insn.specs.declared.op.Op.{Op}
 use Rattle.rvs_count.specs.Counting.{Aim, count, aims_in, aims_of_label, aims_of_points}
 use Rattle.rvs_count.specs.Index.{PlacedPoint, places, admits, is_for, stands, places_for}

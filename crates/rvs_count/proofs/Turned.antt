@@ -1,7 +1,7 @@
 -- What expressions say by signs.
 use Rattle.std.proofs.Common.{◌≡◌, ℕ, Bool, true, false, ◌&&◌, Option, Some, None, option_map}
 use Rattle.std.proofs.Common.{IfSome, refl, sym, ap, ◌∙◌, arith}
-use Rattle.std.specs.Prelude.{◌==◌, not, ℤ, pos}
+use Rattle.std.specs.Prelude.{◌==◌, not, ℤ}
 use Rattle.std.proofs.lemmas.Bool.Decides.{nat_tests}
 use Rattle.rvs_expr_text.specs.declared.lexeme.RegName.{RegName}
 use Rattle.rvs_expr_text.specs.declared.lexeme.NumName.TheVariants.{ImmVal}

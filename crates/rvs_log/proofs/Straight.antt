@@ -99,19 +99,31 @@ register_front (x ∷ xs) r e = turn (x == 32) refl
         absurd cc
     turn false h = refl
 
--- a space, a register and a word, and no more
-pub write_is : (text a b c d : List ℕ) (reg value : ℕ) → Some a ≡ after_text (32 ∷ 120 ∷ []) text
+-- digits end where a token does
+token_ends : (d e : List ℕ) (v : ℕ) → Some e ≡ at_end d → hex_run v d ≡ (v, d)
+token_ends [] e v h = refl
+token_ends (x ∷ ds) e v h = turn (x == 32) refl h
+  where
+    equal : (a b : ℕ) → (a == b) ≡ true → a ≡ b
+    equal a b h = grind (arith, nat_tests)
+
+    turn : (t : Bool) → (x == 32) ≡ t → Some e ≡ cond t (Some (x ∷ ds)) None
+        → hex_run v (x ∷ ds) ≡ (v, x ∷ ds)
+    turn true g h = subst (λ n. hex_run v (n ∷ ds) ≡ (v, n ∷ ds)) (sym (equal x 32 g)) refl
+    turn false g h = absurd cc
+
+-- a space, a register and a word, and the end of a token
+pub write_is : (text a b c d e : List ℕ) (reg value : ℕ) → Some a ≡ after_text (32 ∷ 120 ∷ []) text
     → Some (reg, b) ≡ register_at a → (after_spaces c ≡ c → spaced b ≡ Some c)
     → (hex_run value d ≡ (value, d) → hex_at c ≡ Some (value, d)) → after_spaces c ≡ c
-    → length d ≡ 0 → first_write true text ≡ Some (record { reg = reg; value = value })
+    → Some e ≡ at_end d → first_write true text ≡ Some (record { reg = reg; value = value })
 unfolding write_at
-write_is text a b c [] reg value front register gap word still end =
+write_is text a b c d e reg value front register gap word still end =
     let begins : text ≡ 32 ∷ 120 ∷ a = led_by_two 32 120 text a front in
     let spaces : after_spaces a ≡ a = register_front a (reg, b) register in
     let behind : spaced b ≡ Some c = gap still in
-    let spelled : hex_at c ≡ Some (value, []) = word refl in
+    let spelled : hex_at c ≡ Some (value, d) = word (token_ends d e value end) in
     let w : Write = record { reg = reg; value = value } in
     let written : write_at (120 ∷ a) ≡ Some w =
-    rw (spaces, sym register, behind, spelled) refl in
+    rw (spaces, sym register, behind, spelled, sym end) refl in
     sym (after_space text (120 ∷ a) w (ap (after_byte 32) (sym begins)) (sym written))
-write_is text a b c (x ∷ d) reg value front register gap word still end = absurd (omega arith)

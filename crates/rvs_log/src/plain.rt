@@ -109,7 +109,7 @@ fn after_x(text: &[u8]) -> Option<&[u8]>
     }
 }
 
-/// The write that a text says, where that is all it says.
+/// The write that a text begins with.
 #[tactic(auto, using(crate::proofs::Straight::write_is))]
 #[inline(always)]
 pub(crate) fn plain_write(text: &[u8]) -> Option<Commit>
@@ -119,9 +119,6 @@ pub(crate) fn plain_write(text: &[u8]) -> Option<Commit>
     let (reg, rest) = register(rest)?;
     let rest = after_gap(rest)?;
     let (value, rest) = eight_at(rest)?;
-    if rest.is_empty() {
-        Some(Commit { reg, value })
-    } else {
-        None
-    }
+    let _ = token_end(rest)?;
+    Some(Commit { reg, value })
 }

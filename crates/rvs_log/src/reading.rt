@@ -219,7 +219,7 @@ fn write_if_fresh(fresh: bool, text: &[u8]) -> Option<Commit>
     if fresh { write(text) } else { None }
 }
 
-/// The first write among the tokens of a text. It is mostly all that the text says.
+/// The first write among the tokens of a text. Mostly the text begins with it.
 #[inline(always)]
 fn written(text: &[u8]) -> Option<Commit>
     ensures { result ≡ first_write true text.now }

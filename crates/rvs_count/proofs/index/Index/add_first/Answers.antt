@@ -1,4 +1,4 @@
-use Rattle.std.proofs.Common.{ℕ, ◌≡◌, ◌*◌, ◌<◌, ◌&&◌, Bool, List, [], Some, sym, ap, subst, ◌∙◌}
+use Rattle.std.proofs.Common.{ℕ, ◌≡◌, ◌*◌, ◌<◌, ◌&&◌, List, [], Some, sym, ap, subst, ◌∙◌}
 use Rattle.std.proofs.Common.{All}
 use Rattle.std.proofs.Common.{arith}
 use Rattle.std.proofs.Common.{length, get_or, vec_len}
