@@ -17,5 +17,5 @@ says (Register name number) op t = is_register number (t.reg name)
 says (Number name value) op t = is_value value (t.num name)
 says (Signs mask) op t = has_signs mask t
 says (Valued mask name value) op t = is_value value (t.num name) && has_signs mask t
-says (Values mask name value other second) op t =
+says (Values mask name other value second) op t =
     (is_value value (t.num name) && is_value second (t.num other)) && has_signs mask t

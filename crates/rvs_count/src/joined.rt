@@ -21,16 +21,16 @@ pub(crate) fn joined(left: Shortcut, right: Shortcut) -> Option<Shortcut>
             Some(Shortcut::Valued(mask, name, value))
         },
         (Shortcut::Number(name, value), Shortcut::Number(other, second)) => {
-            Some(Shortcut::Values(0, name, value, other, second))
+            Some(Shortcut::Values(0, name, other, value, second))
         },
         (Shortcut::Valued(mask, name, value), Shortcut::Signs(more)) => {
             Some(Shortcut::Valued(mask | more, name, value))
         },
         (Shortcut::Valued(mask, name, value), Shortcut::Number(other, second)) => {
-            Some(Shortcut::Values(mask, name, value, other, second))
+            Some(Shortcut::Values(mask, name, other, value, second))
         },
-        (Shortcut::Values(mask, name, value, other, second), Shortcut::Signs(more)) => {
-            Some(Shortcut::Values(mask | more, name, value, other, second))
+        (Shortcut::Values(mask, name, other, value, second), Shortcut::Signs(more)) => {
+            Some(Shortcut::Values(mask | more, name, other, value, second))
         },
         _ => None,
     }

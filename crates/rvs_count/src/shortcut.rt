@@ -32,8 +32,8 @@ pub enum Shortcut {
     Signs(u32),
     /// These signs are so, and the number of this name is this one.
     Valued(u32, NumName, i64),
-    /// The same of two numbers.
-    Values(u32, NumName, i64, NumName, i64),
+    /// The same of two numbers: their names, and then their values.
+    Values(u32, NumName, NumName, i64, i64),
 }
 
 /// Whether a number is there and is this one.
@@ -81,7 +81,7 @@ impl Shortcut {
             Shortcut::Valued(mask, name, value) => {
                 is_value(value, facts.num(name)) && has_signs(facts, signs, mask)
             },
-            Shortcut::Values(mask, name, value, other, second) => {
+            Shortcut::Values(mask, name, other, value, second) => {
                 is_value(value, facts.num(name))
                     && is_value(second, facts.num(other))
                     && has_signs(facts, signs, mask)
