@@ -17,7 +17,7 @@ mod printing;
 mod reference;
 mod run;
 mod suite;
-mod test_file;
+mod test_files;
 mod test_run;
 mod texts;
 mod validating;
