@@ -1,14 +1,14 @@
 -- How a command answers that reads its inputs first, and then does its deeds.
-use Rattle.std.proofs.Common.{◌≡◌, ◌≢◌, ◌⊎◌, inl, inr, ℕ, List, [], Option, Some, Result, Ok, Err}
-use Rattle.std.proofs.Common.{refl, sym, ap, subst, ◌∙◌}
+use Rattle.std.proofs.Common.{◌≡◌, ◌⊎◌, inl, inr, List, Some, Result, Ok, Err}
+use Rattle.std.proofs.Common.{refl, ap, subst, ◌∙◌}
 use Rattle.rvs_base.specs.Host.{Files, Tells}
 use Rattle.rvs_base.specs.Sink.{SinkState}
 use Rattle.rvs_plan.specs.World.{World, Contents, contents}
 use Rattle.rvs_plan.specs.Effect.{Answer}
 use Rattle.rvs_plan.specs.Plan.{Plan, Ends, Goes, followed, ◌>>=◌}
-use Rattle.rvs_plan.specs.Performed.{end_of, ComesTo}
+use Rattle.rvs_plan.specs.Performed.{end_of}
 use Rattle.rvs_plan.specs.Meets.{Completes}
-use Rattle.rvs_plan.specs.Account.{Means, end_status, NoneRose}
+use Rattle.rvs_plan.specs.Account.{end_status, NoneRose}
 use Rattle.rvs_plan.proofs.Answering.{ComesTo-Completes}
 use Rattle.rvs_plan.specs.declared.stop.Stop.{Stop}
 use Rattle.rvs_plan.specs.declared.stop.Stop.TheVariants as why
@@ -19,8 +19,8 @@ use Rattle.rvs_plan.specs.declared.status.Finish.TheVariants.{Done, NotPassed}
 use Rattle.rvs_suite.specs.Plans.{plan_of}
 use Rattle.rvs_words.specs.Commands.{command_of}
 use Rattle.rvs_suite.specs.Call.{Call, world_of}
-use Rattle.rvs_suite.specs.Answered.{HasLeft, HasRefused, HasMissed, Answered}
-use Rattle.rvs_suite.proofs.Ends.{same_end, means-end, WasRefused, was_refused, WasMissing}
+use Rattle.rvs_suite.specs.Answered.{HasLeft, Answered}
+use Rattle.rvs_suite.proofs.Ends.{same_end, means-end, WasRefused, was_refused}
 use Rattle.rvs_suite.proofs.Ends.{was_missing}
 use Rattle.rvs_suite.proofs.Finding.{Finds, end-found, Behind, behind, Deeds, left, end-deeds}
 use Rattle.rvs_suite.proofs.Finding.{left-after}
@@ -32,29 +32,31 @@ pub record Works {A : Type 0} (command : Command) (files : Files) (found : Resul
     0 where
   pub inputs : Plan A
   pub deeds : A → Plan Finish
+  pub ends : A → Finish
   pub plan : plan_of command ≡ (inputs >>= deeds)
   pub finds : Finds files inputs found
-  pub does : (given : A) → Deeds Done (deeds given)
+  pub does : (given : A) → Deeds (ends given) (deeds given)
 
 -- its end
-abbrev end_after : {A : Type 0} → Result A Stop → Result Finish Stop
-end_after (Ok given) = Ok Done
-end_after (Err stop) = Err stop
+abbrev end_after : {A : Type 0} → (A → Finish) → Result A Stop → Result Finish Stop
+end_after ends (Ok given) = Ok (ends given)
+end_after ends (Err stop) = Err stop
 
 followed-end : {A : Type 0} (files : Files) (answers : List Answer) (found : Result A Stop)
-    (deeds : A → Plan Finish) → ((given : A) → Deeds Done (deeds given)) → end_of
-    (followed found deeds) files answers ≡ Some (end_after found)
-followed-end files answers (Ok given) deeds does =
-    end-deeds files answers Done (deeds given) (does given)
-followed-end files answers (Err stop) deeds does = refl
+    (deeds : A → Plan Finish) (ends : A → Finish)
+    → ((given : A) → Deeds (ends given) (deeds given)) → end_of
+    (followed found deeds) files answers ≡ Some (end_after ends found)
+followed-end files answers (Ok given) deeds ends does =
+    end-deeds files answers (ends given) (deeds given) (does given)
+followed-end files answers (Err stop) deeds ends does = refl
 
 works-end : {A : Type 0} {command : Command} {files : Files} {found : Result A Stop}
-    → Works command files found → (answers : List Answer)
-    → end_of (plan_of command) files answers ≡ Some (end_after found)
+    → (w : Works command files found) → (answers : List Answer)
+    → end_of (plan_of command) files answers ≡ Some (end_after w.ends found)
 works-end {files = files} {found = found} w answers =
     ap (λ (p : Plan Finish). end_of p files answers) w.plan
     ∙ end-found files answers w.inputs w.deeds found w.finds
-    ∙ followed-end files answers found w.deeds w.does
+    ∙ followed-end files answers found w.deeds w.ends w.does
 
 -- what deeds of accepted inputs leave, where the command did all of them
 works-left : {A : Type 0} {command : Command} {files : Files} (given : A) (end : Result Finish Stop)
@@ -64,46 +66,59 @@ works-left {A} {command} {files} given end old new w told r =
     let b : Behind (w.deeds given) end r.effects old = behind files w.inputs w.deeds (Ok given) end
     r.effects old w.finds told r.saw
     (subst (λ (p : Plan Finish). Goes p r.effects (Ends end)) w.plan r.goes) in
-    r.did ∙ b.same ∙ left-after Done end (w.deeds given) b.later old (w.does given) b.goes
+    r.did ∙ b.same ∙ left-after (w.ends given) end (w.deeds given) b.later old (w.does given) b.goes
 
 -- an end that the command came to is the one that its inputs lead to
 works-same : {A : Type 0} {command : Command} {files : Files} {found : Result A Stop}
-    (end : Result Finish Stop) (old new : World) → Works command files found → Tells old.host files
-    → Completes (plan_of command) end (contents old) (contents new) → end ≡ end_after found
+    (end : Result Finish Stop) (old new : World) → (w : Works command files found)
+    → Tells old.host files → Completes (plan_of command) end (contents old) (contents new)
+    → end ≡ end_after w.ends found
 works-same {command = command} {files = files} {found = found} end old new w t r = same_end
-    (plan_of command) files end (end_after found)
+    (plan_of command) files end (end_after w.ends found)
     (ComesTo-Completes (plan_of command) end old new files t r) (works-end w)
 
-left-done : {A : Type 0} {command : Command} {files : Files} (found : Result A Stop)
-    (old new : World) (Left : A → Type 0) → (w : Works command files found) → Tells old.host files
-    → ((given : A) → contents new ≡ left (w.deeds given) (contents old) → Left given) → Completes
-    (plan_of command) (Ok Done) (contents old) (contents new) → HasLeft found Left
-left-done (Ok given) old new Left w t leaves r = record {
-  given = given;
-  accepted = refl;
-  left = leaves given (works-left given (Ok Done) (contents old) (contents new) w t.files r);
-}
-left-done (Err stop) old new Left w t leaves r = let no : Ok Done ≡ Err stop =
-    works-same (Ok Done) old new w t r in absurd cc
+left-ended : {A : Type 0} {command : Command} {files : Files} (found : Result A Stop)
+    (old new : World) (Left : A → Finish → Type 0) (end : Finish) → (w : Works command files found)
+    → Tells old.host files → ((given : A)
+    → contents new ≡ left (w.deeds given) (contents old) → Left given (w.ends given)) → Completes
+    (plan_of command) (Ok end) (contents old) (contents new)
+    → HasLeft found (λ given. Left given end)
+left-ended (Ok given) old new Left end w t leaves r =
+    let both : Ok end ≡ Ok (w.ends given) = works-same (Ok end) old new w t r in
+    let same : w.ends given ≡ end = cc in
+    record {
+      given = given;
+      accepted = refl;
+      left = subst (Left given) same (leaves given
+          (works-left given (Ok end) (contents old) (contents new) w t.files r));
+    }
+left-ended (Err stop) old new Left end w t leaves r = let no : Ok end ≡ Err stop =
+    works-same (Ok end) old new w t r in absurd cc
 
-no-verdict : {A : Type 0} (found : Result A Stop) → Ok NotPassed ≡ end_after found → ⊥
-no-verdict (Ok given) e = cc
-no-verdict (Err stop) e = cc
+-- a status of an end is that of one of the two
+verdict-status : (end : Finish) (status : Status)
+    → (status ≡ end_status (Ok end)) ⊎ (status ≡ answer.NoMemory)
+    → (status ≡ answer.Done) ⊎ (status ≡ answer.NotPassed) ⊎ (status ≡ answer.NoMemory)
+verdict-status Done status (inl is) = inl is
+verdict-status NotPassed status (inl is) = inr (inl is)
+verdict-status end status (inr no_memory) = inr (inr no_memory)
 
-refused-for : {A : Type 0} (found : Result A Stop) (stop : Stop) → Err stop ≡ end_after found
-    → found ≡ Err stop
-refused-for (Ok given) stop e = absurd cc
-refused-for (Err s) stop e = let same : s ≡ stop = cc in ap (λ (x : Stop). Err x) same
+refused-for : {A : Type 0} (ends : A → Finish) (found : Result A Stop) (stop : Stop)
+    → Err stop ≡ end_after ends found → found ≡ Err stop
+refused-for ends (Ok given) stop e = absurd cc
+refused-for ends (Err s) stop e = let same : s ≡ stop = cc in ap (λ (x : Stop). Err x) same
 
 -- the status of such a command, where nothing failed
 works-means : {A : Type 0} {command : Command} {files : Files} {found : Result A Stop}
-    {old new : World} {err err' : SinkState} {status : Status} (end : Result A Stop) → Works command
-    files found → Ran command old new err err' status → Tells old.host files → found ≡ end
-    → NoneRose old new err err' → (status ≡ end_status (end_after end)) ⊎ (status ≡ answer.NoMemory)
+    {old new : World} {err err' : SinkState} {status : Status} (end : Result A Stop)
+    → (w : Works command files found) → Ran command old new err err' status
+    → Tells old.host files → found ≡ end → NoneRose old new err err'
+    → (status ≡ end_status (end_after w.ends end)) ⊎ (status ≡ answer.NoMemory)
 works-means {command = command} {files = files} {found = found} {status = status} end w r t is
     none = elim (asked_means r files command t refl none) [
-      | inl m ↦ inl (means-end (plan_of command) files status (end_after end) m
-          (λ answers. works-end w answers ∙ ap (λ (f : Result _ Stop). Some (end_after f)) is))
+      | inl m ↦ inl (means-end (plan_of command) files status (end_after w.ends end) m
+          (λ answers. works-end w answers
+          ∙ ap (λ (f : Result _ Stop). Some (end_after w.ends f)) is))
       | inr no_memory ↦ inr no_memory
     ]
 
@@ -120,28 +135,29 @@ ran-command {call} r = subst (λ (c : Command). Ran c (world_of call.old) (world
     call.old.err call.new.err call.status) r.asks r.ran
 
 pub answered : {A : Type 0} {call : Call} {files : Files} {command : Command}
-    {found : Result A Stop} (Left : A → Type 0) → RunsOn call files command
+    {found : Result A Stop} (Left : A → Finish → Type 0) → RunsOn call files command
     → (w : Works command files found) → ((given : A)
     → contents (world_of call.new) ≡ left (w.deeds given) (contents (world_of call.old))
-    → Left given) → Answered call found Left
+    → Left given (w.ends given)) → Answered call found Left
 answered {A} {call} {files} {command} {found} Left r w leaves =
     let old = world_of call.old in
     let new = world_of call.new in
     let plan = plan_of command in
     let ran = ran-command r in
     record {
-      done = λ is. left-done found old new Left w r.told leaves
+      done = λ is. left-ended found old new Left Done w r.told leaves
           (at_status ran files command answer.Done r.told refl is).completes;
-      no_verdict = λ is. no-verdict found (works-same (Ok NotPassed) old new w r.told
-          (at_status ran files command answer.NotPassed r.told refl is).completes);
-      by_inputs = λ given is none. works-means (Ok given) w ran r.told is none;
+      not_passed = λ is. left-ended found old new Left NotPassed w r.told leaves
+          (at_status ran files command answer.NotPassed r.told refl is).completes;
+      by_inputs = λ given is none. verdict-status (w.ends given) call.status
+          (works-means (Ok given) w ran r.told is none);
       refused = λ is.
           let was : WasRefused plan old new call.old.err call.new.err = was_refused plan old new
           call.old.err call.new.err
           (at_status ran files command answer.Refused r.told refl is) in
           record {
             text = was.text;
-            refused = refused-for found (why.Refused was.text)
+            refused = refused-for w.ends found (why.Refused was.text)
                 (works-same (Err (why.Refused was.text)) old new w r.told was.completes);
             line = was.line;
           };
@@ -150,7 +166,7 @@ answered {A} {call} {files} {command} {found} Left r w leaves =
           (at_status ran files command answer.HostFault r.told refl is)) [
             | inl was ↦ inl (record {
               name = was.name;
-              absent = refused-for found (why.NoFile was.name)
+              absent = refused-for w.ends found (why.NoFile was.name)
                   (works-same (Err (why.NoFile was.name)) old new w r.told was.completes);
               line = was.line;
             })

@@ -1,5 +1,5 @@
 -- What every call of `demo` promises.
-use Rattle.std.proofs.Common.{◌≡◌, ◌≢◌, inl, inr, ℕ, false, [], Some, None}
+use Rattle.std.proofs.Common.{◌≡◌, ◌≢◌, ◌⊎◌, inl, inr, ℕ, false, [], Some, None}
 use Rattle.std.proofs.Common.{Result, Ok, Err, refl, sym, ap, subst, arith}
 use Rattle.rvs_base.specs.Host.{HostState, Files}
 use Rattle.rvs_base.specs.Sink.{appended}
@@ -7,11 +7,15 @@ use Rattle.rvs_plan.specs.World.{world, Contents}
 use Rattle.rvs_plan.specs.Plan.{gives}
 use Rattle.rvs_plan.specs.declared.stop.Stop.{Stop}
 use Rattle.rvs_plan.specs.declared.stop.Stop.TheVariants as why
+use Rattle.rvs_plan.specs.declared.status.Finish.{Finish}
+use Rattle.rvs_plan.specs.declared.status.Status.{Status}
+use Rattle.rvs_plan.specs.declared.status.Status.TheVariants as answer
 use Rattle.rvs_plan.specs.declared.status.Status.TheVariants.{Refused, HostFault}
 use Rattle.rvs_demo.specs.Demo.{demo_text}
 use Rattle.rvs_demo.proofs.Whole.{is_whole}
+use Rattle.rvs_plan.specs.declared.status.Finish.TheVariants as finish
 use Rattle.rvs_suite.specs.Call.{Call, world_of, Asks, HostRose}
-use Rattle.rvs_suite.specs.Answered.{Answered}
+use Rattle.rvs_suite.specs.Answered.{Answered, OnDone}
 use Rattle.rvs_suite.specs.Demonstrate.{demonstrate}
 use Rattle.rvs_suite.specs.Demonstrating.{Demonstrates}
 use Rattle.rvs_suite.specs.Plans.{Performs}
@@ -30,6 +34,7 @@ works files count =
     record {
       inputs = gives tt;
       deeds = λ _. demonstrate count;
+      ends = λ _. finish.Done;
       plan = refl;
       finds = refl;
       does = λ given. refl;
@@ -39,11 +44,18 @@ abbrev HasPrinted : Call → ℕ → Unit {0} → Type 0
 HasPrinted call count given =
     call.new.out.bytes ≡ appended call.old.out.bytes (demo_text count)
 
-never-refused : {call : Call} (Left : Unit {0} → Type 0) → Answered call nothing_read Left
+never-refused : {call : Call} (Left : Unit {0} → Finish → Type 0) → Answered call nothing_read Left
     → call.status ≢ Refused
 never-refused {call} Left a is =
     let r = a.refused is in
     let no : Ok tt ≡ Err (why.Refused r.text) = r.refused in cc
+
+done-or : {status : Status} → (status ≡ answer.Done) ⊎ (status ≡ answer.NotPassed)
+    ⊎ (status ≡ answer.NoMemory) → (status ≡ answer.NotPassed → ⊥)
+    → (status ≡ answer.Done) ⊎ (status ≡ answer.NoMemory)
+done-or (inl is) never = inl is
+done-or (inr (inl is)) never = absurd (never is)
+done-or (inr (inr is)) never = inr is
 
 -- a host that tells all that it holds, which is nothing
 abbrev bare : HostState
@@ -94,7 +106,7 @@ bare-stays call rose = elim rose [
 ]
 
 fails-bare : (call : Call) (count : ℕ)
-    → Answered (beside_bare call) nothing_read (HasPrinted (beside_bare call) count)
+    → Answered (beside_bare call) nothing_read (OnDone (HasPrinted (beside_bare call) count))
     → call.status ≢ HostFault
 fails-bare call count a is = elim (a.absent is) [
   | inl missed ↦ (let no : Ok tt ≡ Err (why.NoFile missed.name) = missed.absent in cc)
@@ -105,15 +117,17 @@ pub demonstrates : {call : Call} (count : ℕ) → Ran (command_of call.words) (
     (world_of call.new) call.old.err call.new.err call.status → Asks call (Demo count)
     → Demonstrates call count
 demonstrates {call} count r is =
-    let a = answered (HasPrinted (beside_bare call) count) (runs-bare {call = call} count r is)
+    let a = answered (OnDone (HasPrinted (beside_bare call) count))
+    (runs-bare {call = call} count r is)
     (works (λ name. None) count) (λ given left. ap (λ (c : Contents). c.out) left) in
     record {
       done = λ done. (a.done done).left;
       whole = λ low. is_whole count low;
-      by_words = λ none. a.by_inputs tt refl
-          (record { host = bare-stays call; output = none.output; errors = none.errors });
-      no_verdict = a.no_verdict;
-      no_refusal = never-refused (HasPrinted (beside_bare call) count) a;
+      by_words = λ none. done-or (a.by_inputs tt refl
+          (record { host = bare-stays call; output = none.output; errors = none.errors }))
+          (λ is. (a.not_passed is).left);
+      no_verdict = λ is. (a.not_passed is).left;
+      no_refusal = never-refused (OnDone (HasPrinted (beside_bare call) count)) a;
       host_kept = (r.performs.apart count is).kept;
       no_host_fault = fails-bare call count a;
     }

@@ -1,12 +1,14 @@
 -- What every call of `generate` promises.
 use Rattle.std.proofs.Common.{◌≡◌, ℕ, Bool, true, false, if◌then◌else◌, List, [], ◌∷◌, Option, Some}
-use Rattle.std.proofs.Common.{None, Result, Ok, IsTrue, refl, sym, ap, subst, ◌∙◌}
+use Rattle.std.proofs.Common.{None, is_some, Result, Ok, Contains, IsTrue, refl, sym, ap, subst}
+use Rattle.std.proofs.Common.{◌∙◌}
 use Rattle.std.proofs.lemmas.List.Elements.{All-head}
 use Rattle.rvs_base.specs.Host.{Files, written}
 use Rattle.rvs_base.specs.Sink.{appended}
 use Rattle.rvs_plan.specs.World.{Contents}
 use Rattle.rvs_plan.specs.Plan.{Plan, gives}
 use Rattle.rvs_plan.specs.declared.stop.Stop.{Stop}
+use Rattle.rvs_plan.specs.declared.status.Status.TheVariants as answer
 use Rattle.rvs_plan.specs.declared.status.Finish.TheVariants.{Done}
 use Rattle.rvs_insn.specs.Isa.{Isa}
 use Rattle.rvs_cgf.specs.Groups.{Label, Point}
@@ -16,7 +18,8 @@ use Rattle.rvs_test_text.specs.declared.claim.Claim.{Claim}
 use Rattle.rvs_test_text.specs.TestText.{step_limit}
 use Rattle.rvs_test.specs.Made.{cases_of, text_of_label}
 use Rattle.rvs_test.specs.Claimed.{TestRuns}
-use Rattle.rvs_suite.specs.Answered.{HasLeft, Answered}
+use Rattle.rvs_plan.specs.declared.status.Finish.TheVariants as finish
+use Rattle.rvs_suite.specs.Answered.{HasLeft, Answered, OnDone}
 use Rattle.rvs_suite.specs.Call.{Call}
 use Rattle.rvs_suite.specs.Printing.{print_text}
 use Rattle.rvs_suite.specs.GroupFiles.{Inputs, inputs_in, group_inputs}
@@ -25,13 +28,16 @@ use Rattle.rvs_suite.specs.Generate.{path_of, writes_text, writes_test, writes_t
 use Rattle.rvs_suite.specs.Generate.{generates}
 use Rattle.rvs_suite.specs.Generating as generating
 use Rattle.rvs_words.specs.declared.command.Command.TheVariants.{Generate}
+use Rattle.rvs_suite.proofs.Written.{apart-inputs, test-there}
 use Rattle.rvs_suite.proofs.Answered.{Works, RunsOn, answered}
 use Rattle.rvs_suite.proofs.Finding.{Deeds, left, deeds-then, left-then}
 use Rattle.rvs_suite.proofs.GroupInputs.{finds-inputs}
 use Rattle.rvs_suite.proofs.NoTest.{no-point, listing-none}
 use Rattle.rvs_suite.proofs.OneTest.{one-point, file-there}
 use Rattle.rvs_suite.proofs.Sparing.{generate-spares}
+use Rattle.rvs_suite.proofs.Signed.{has-test, proved, untested}
 use Rattle.rvs_suite.proofs.Tested.{good-inputs, runs-label, tested}
+use Rattle.rvs_words.specs.declared.command.GenerateArguments.{GenerateArguments}
 
 -- ---- the tests are deeds, and what they leave
 abbrev chosen : Bool → List ℕ → Option (List ℕ) → Plan (Unit {0})
@@ -150,41 +156,75 @@ generated {call} work found inputs given left =
     subst (λ (i : Inputs). generating.HasGenerated call work i) same left.left
 
 -- ---- the promise
-abbrev works : (files : Files) (isa : List ℕ) (names : List (List ℕ)) (work : List ℕ)
-    → Works (Generate isa names work) files (inputs_in files isa names)
-works files isa names work = record {
-  inputs = group_inputs isa names;
-  deeds = generates work;
+abbrev works : (files : Files) (asked : GenerateArguments)
+    → Works (Generate asked) files (inputs_in files asked.isa asked.groups)
+works files asked = record {
+  inputs = group_inputs asked.isa asked.groups;
+  deeds = generates asked.work;
+  ends = λ _. finish.Done;
   plan = refl;
-  finds = finds-inputs files isa names;
-  does = deeds-generates work;
+  finds = finds-inputs files asked.isa asked.groups;
+  does = deeds-generates asked.work;
 }
 
-answers-generate : {call : Call} (files : Files) (isa : List ℕ) (names : List (List ℕ))
-    (work : List ℕ) → RunsOn call files (Generate isa names work) → Answered call
-    (inputs_in files isa names) (generating.HasGenerated call work)
-answers-generate {call} files isa names work r =
-    answered (generating.HasGenerated call work) r (works files isa names work) (λ inputs is.
-    let all = is ∙ left-generates work inputs _ in
+answers-generate : {call : Call} (files : Files) (asked : GenerateArguments)
+    → RunsOn call files (Generate asked) → Answered call
+    (inputs_in files asked.isa asked.groups) (OnDone (generating.HasGenerated call asked.work))
+answers-generate {call} files asked r =
+    answered (OnDone (generating.HasGenerated call asked.work)) r (works files asked)
+    (λ inputs is. let all = is ∙ left-generates asked.work inputs _ in
     record { files = ap (λ (c : Contents). c.files) all; out = ap (λ (c : Contents). c.out) all })
 
-pub makes : {call : Call} (files : Files) (isa : List ℕ) (names : List (List ℕ)) (work : List ℕ)
-    → RunsOn call files (Generate isa names work) → generating.Generates call files isa names work
-makes {call} files isa names work r = record {
-  answered = answers-generate files isa names work r;
+-- where it is done, the test of a label is in its file
+there : {call : Call} (files : Files) (asked : GenerateArguments)
+    → RunsOn call files (Generate asked) → (inputs : Inputs) (l : Label) (text : List ℕ)
+    (files' : Files) → inputs_in files asked.isa asked.groups ≡ Ok inputs → Contains inputs.groups l
+    → IsTrue l.selected → text_of_label inputs.isa l ≡ Some text → call.status ≡ answer.Done
+    → call.new.host.files ≡ Some files' → files' (path_of asked.work l.name) ≡ Some text
+there {call} files asked r inputs l text files' given inside selected is done told =
+    let made = generated {call = call} asked.work
+    (inputs_in files asked.isa asked.groups) inputs given
+    ((answers-generate files asked r).done done) in
+    test-there asked.work inputs.isa inputs.groups call.old.host.files call.new.host.files files'
+    l text
+    (ap is_some r.told.files)
+    (apart-inputs files asked.isa asked.groups inputs given) made.files told inside
+    selected is
+
+pub makes : {call : Call} (files : Files) (asked : GenerateArguments)
+    → RunsOn call files (Generate asked) → generating.Generates call files asked
+makes {call} files asked r = record {
+  answered = answers-generate files asked r;
   one = λ isa' l p given selected single solvable is.
       let inputs : Inputs = record { isa = isa'; groups = l ∷ [] } in
-      let good = good-inputs files isa names inputs given in
-      let made = generated {call = call} work (inputs_in files isa names) inputs given
-      ((answers-generate files isa names work r).done is) in
-      one-test work isa' l p good.base (All-head (IsValidIfSelected isa') l [] good.valid) selected
+      let good = good-inputs files asked.isa asked.groups inputs given in
+      let made = generated {call = call} asked.work
+      (inputs_in files asked.isa asked.groups) inputs given
+      ((answers-generate files asked r).done is) in
+      one-test asked.work isa' l p good.base (All-head
+      (IsValidIfSelected isa') l [] good.valid) selected
       single solvable made.files;
   none = λ isa' l p given selected single skipped never is.
-      none-test work isa' l p selected single skipped never
-      (generated {call = call} work (inputs_in files isa names)
+      none-test asked.work isa' l p selected single skipped never
+      (generated {call = call} asked.work (inputs_in files asked.isa asked.groups)
       (record { isa = isa'; groups = l ∷ [] }) given
-      ((answers-generate files isa names work r).done is));
-  tested = tested files isa names;
+      ((answers-generate files asked r).done is));
+  apart = apart-inputs files asked.isa asked.groups;
+  each = λ inputs l k files' given inside selected solvable done told.
+      let test = has-test inputs.isa l k solvable in
+      record {
+        bytes = test.0;
+        there = there files asked r inputs l test.0 files' given inside selected test.1
+            done told;
+        proved = proved inputs l test.0
+            (tested files asked.isa asked.groups inputs given) inside selected
+            test.1;
+      };
+  proved = λ inputs l text given inside selected is.
+      proved inputs l text (tested files asked.isa asked.groups inputs given) inside selected is;
+  there = there files asked r;
+  untested = λ inputs l k given none solvable. untested inputs.isa l k none solvable;
+  tested = tested files asked.isa asked.groups;
   others_kept =
-      λ files' other. generate-spares r.ran files files' isa names work other r.told r.asks;
+      λ files' other. generate-spares r.ran files files' asked other r.told r.asks;
 }

@@ -1,15 +1,11 @@
 mod Accepting
 mod TestRuns
-mod TestEnds
-mod SpecificationReads
+pub mod TestEnds
+pub mod Meanings
 mod ReferenceEnds
-mod ReferenceRuns
 mod Ends
-mod IsaEnds
 mod Running
-mod Reading
 mod ValidateEnds
-mod ValidateRuns
 mod Verdicts
 mod CompareEnds
 mod Untouched
@@ -34,6 +30,7 @@ mod GenerateEnds
 mod Runnable
 mod Tested
 mod PointLines
+mod Written
 mod NoTest
 mod RunSteps
 mod RunReads
@@ -42,3 +39,7 @@ mod RunEnds
 mod OneTest
 mod OneCount
 mod Saying
+mod Counted
+mod Signed
+mod Standing
+mod Paths

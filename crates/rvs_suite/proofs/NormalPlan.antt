@@ -10,8 +10,9 @@ use Rattle.rvs_suite.specs.GroupFiles.{joins_all, groups_found, group_files}
 use Rattle.rvs_suite.specs.Printing.{print_text}
 use Rattle.rvs_suite.specs.Normalize.{print_normal, normal_files, normal_inputs}
 use Rattle.rvs_suite.specs.Normalize.{normalize}
+use Rattle.rvs_words.specs.declared.command.NormalizeArguments.{NormalizeArguments}
 
-then-then : {A B C : Type 0} (p : Plan A) (f : A → Plan B) (g : B → Plan C)
+pub then-then : {A B C : Type 0} (p : Plan A) (f : A → Plan B) (g : B → Plan C)
     → ((p >>= f) >>= g) ≡ (p >>= (λ a. f a >>= g))
 then-then (Ends (Ok a)) f g = refl
 then-then (Ends (Err stop)) f g = refl
@@ -20,7 +21,7 @@ then-then (Asks name next) f g = ap (Asks name) (fun_ext (λ found. then-then (n
 then-then (Runs words test signature next) f g =
     ap (Runs words test signature) (fun_ext (λ answer. then-then (next answer) f g))
 
-then-same : {A B : Type 0} (p : Plan A) (f g : A → Plan B) → ((a : A) → f a ≡ g a)
+pub then-same : {A B : Type 0} (p : Plan A) (f g : A → Plan B) → ((a : A) → f a ≡ g a)
     → (p >>= f) ≡ (p >>= g)
 then-same p f g e = ap (λ h. p >>= h) (fun_ext e)
 
@@ -43,22 +44,23 @@ files-plan isa names =
     (λ text. Ends (seen normal_text (groups_found isa text))) print_text)
 
 -- the normal text is made, and then it is put
-pub normal-plan : (isa : List ℕ) (names : List (List ℕ))
-    → normalize isa names ≡ (normal_inputs isa names >>= print_text)
-normal-plan isa names =
-    then-then (specification isa)
-    (λ said. group_files said.spec names >>= (λ groups. gives (record {
+pub normal-plan : (asked : NormalizeArguments)
+    → normalize asked ≡ (normal_inputs asked >>= print_text)
+normal-plan asked =
+    then-then (specification asked.isa)
+    (λ said. group_files said.spec asked.groups >>= (λ groups. gives (record {
       isa = said.spec;
       groups = groups;
     }))) print_normal
-    ∙ then-same (specification isa)
-    (λ said. (group_files said.spec names >>= (λ groups. gives (record {
+    ∙ then-same (specification asked.isa)
+    (λ said. (group_files said.spec asked.groups >>= (λ groups. gives (record {
       isa = said.spec;
       groups = groups;
-    }))) >>= print_normal) (λ said. normal_files said.spec names >>= print_text) (λ said.
-    then-then (group_files said.spec names) (λ groups. gives (record {
+    }))) >>= print_normal) (λ said. normal_files said.spec asked.groups >>= print_text) (λ said.
+    then-then (group_files said.spec asked.groups) (λ groups. gives (record {
       isa = said.spec;
       groups = groups;
     })) print_normal
-    ∙ files-plan said.spec names)
-    ∙ sym (then-then (specification isa) (λ said. normal_files said.spec names) print_text)
+    ∙ files-plan said.spec asked.groups)
+    ∙ sym (then-then (specification asked.isa)
+    (λ said. normal_files said.spec asked.groups) print_text)

@@ -27,7 +27,7 @@ claims-pass q (k ∷ ks) j all =
     (numbered (j + 1) ks) (All-head (λ (x : ℕ). q x ≡ true) k ks all)
     (claims-pass q ks (j + 1) (All-tail (λ (x : ℕ). q x ≡ true) k ks all))
 
-claim-solved : (isa : Isa) (l : Label) (c : Claim) → Contains (claims_of isa l) c
+pub claim-solved : (isa : Isa) (l : Label) (c : Claim) → Contains (claims_of isa l) c
     → is_solved isa l c.point ≡ true
 unfolding claims_of
 claim-solved isa l c there =

@@ -20,21 +20,14 @@ use Rattle.rvs_suite.specs.Referencing as referencing
 use Rattle.rvs_suite.specs.Judging as judging
 use Rattle.rvs_suite.specs.Planned as planned
 use Rattle.rvs_suite.specs.Causes as causes
+use Rattle.rvs_suite.specs.Promise.{Promise}
 use Rattle.rvs_suite.proofs.Running.{Ran, answers, answered, completes, usage, no_command}
-use Rattle.rvs_suite.proofs.Running.{compare-passes, compare-fails, compare-spelt, compare-refused}
-use Rattle.rvs_suite.proofs.Running.{compare-refuses, compare-missed, compare-misses}
-use Rattle.rvs_suite.proofs.ValidateRuns.{validate-done, validate-no_verdict, validate-refused}
-use Rattle.rvs_suite.proofs.ValidateRuns.{validate-missed, validate-accepts, validate-refuses}
-use Rattle.rvs_suite.proofs.ValidateRuns.{validate-misses}
-use Rattle.rvs_suite.proofs.ReferenceRuns.{reference-done, reference-halts, reference-no_verdict}
-use Rattle.rvs_suite.proofs.ReferenceRuns.{reference-refused, reference-refuses, reference-missed}
-use Rattle.rvs_suite.proofs.ReferenceRuns.{reference-misses}
-use Rattle.rvs_suite.proofs.LogEntries.{halting_entries}
+use Rattle.rvs_suite.proofs.ValidateEnds.{checks}
+use Rattle.rvs_suite.proofs.ReferenceEnds.{refers}
 use Rattle.rvs_suite.proofs.Lines.{says-usage, says-no_memory, says-refused, says-host}
 use Rattle.rvs_suite.proofs.Lines.{says-nothing, unfaulted-line}
 use Rattle.rvs_suite.proofs.Untouched.{untouched, untouched-absent}
-use Rattle.rvs_suite.proofs.Keeping.{compare-keeps, validate-keeps}
-use Rattle.rvs_suite.proofs.Sparing.{reference-spares}
+use Rattle.rvs_suite.proofs.CompareEnds.{compares}
 use Rattle.rvs_suite.proofs.GenerateEnds.{makes}
 use Rattle.rvs_suite.proofs.NormalizeEnds.{normalizes}
 use Rattle.rvs_suite.proofs.CoverageEnds.{covers}
@@ -89,62 +82,46 @@ causes-promise {call} r =
     }
 
 pub compare-promise : {call : Call} → RanCall call → comparing.Promise call
-compare-promise r files left right t is =
-    record {
-      done = compare-passes r.ran files left right t is;
-      not_passed = compare-fails r.ran files left right t is;
-      by_inputs = λ left_words right_words. compare-spelt r.ran files left right left_words
-          right_words t is;
-      refused = compare-refused r.ran files left right t is;
-      by_refusal = λ text. compare-refuses r.ran files left right text t is;
-      absent = compare-missed r.ran files left right t is;
-      by_absence = λ name. compare-misses r.ran files left right name t is;
-      files_kept = compare-keeps r.ran files left right t is;
-    }
+compare-promise r files asked t is =
+    compares files asked (record { ran = r.ran; told = t; asks = is })
 
 pub validate-promise : {call : Call} → RanCall call → validating.Promise call
-validate-promise r files isa t is =
-    record {
-      done = validate-done r.ran files isa t is;
-      no_verdict = validate-no_verdict r.ran files isa t is;
-      by_inputs = λ said. validate-accepts r.ran files isa said t is;
-      refused = validate-refused r.ran files isa t is;
-      by_refusal = λ text. validate-refuses r.ran files isa text t is;
-      absent = validate-missed r.ran files isa t is;
-      by_absence = validate-misses r.ran files isa t is;
-      files_kept = validate-keeps r.ran files isa t is;
-    }
+validate-promise r files asked t is =
+    checks files asked (record { ran = r.ran; told = t; asks = is })
 
 pub reference-promise : {call : Call} → RanCall call → referencing.Promise call
-reference-promise r files isa test signature log steps t is =
-    record {
-      done = reference-done r.ran files isa test signature log steps t is;
-      no_verdict = reference-no_verdict r.ran files isa test signature log steps t is;
-      by_inputs = λ run. reference-halts r.ran files isa test signature log steps run t is;
-      logged = halting_entries files isa test steps;
-      refused = reference-refused r.ran files isa test signature log steps t is;
-      by_refusal = λ text. reference-refuses r.ran files isa test signature log steps text t is;
-      absent = reference-missed r.ran files isa test signature log steps t is;
-      by_absence = λ name. reference-misses r.ran files isa test signature log steps name t is;
-      others_kept = λ files' other. reference-spares r.ran files files' isa test signature log steps
-          other t is;
-    }
+reference-promise r files asked t is =
+    refers files asked (record { ran = r.ran; told = t; asks = is })
 
 pub normalize-promise : {call : Call} → RanCall call → normalizing.Promise call
-normalize-promise r files isa names t is =
-    normalizes files isa names (record { ran = r.ran; told = t; asks = is })
+normalize-promise r files asked t is =
+    normalizes files asked (record { ran = r.ran; told = t; asks = is })
 
 pub generate-promise : {call : Call} → RanCall call → generating.Promise call
-generate-promise r files isa names work t is =
-    makes files isa names work (record { ran = r.ran; told = t; asks = is })
+generate-promise r files asked t is =
+    makes files asked (record { ran = r.ran; told = t; asks = is })
 
 pub coverage-promise : {call : Call} → RanCall call → covering.Promise call
-coverage-promise r files isa names log windows t is =
-    covers files isa names log windows (record { ran = r.ran; told = t; asks = is })
+coverage-promise r files asked t is =
+    covers files asked (record { ran = r.ran; told = t; asks = is })
 
 pub run-promise : {call : Call} → RanCall call → judging.Promise call
-run-promise r files program isa names device work t is =
-    judges files program isa names device work (record { ran = r.ran; told = t; asks = is })
+run-promise r files asked t is =
+    judges files asked (record { ran = r.ran; told = t; asks = is })
 
 pub demo-promise : {call : Call} → RanCall call → demonstrating.Promise call
 demo-promise r count is = demonstrates count r.ran is
+
+pub promise : {call : Call} → RanCall call → Promise call
+promise r = record {
+  planned = planned-promise r;
+  causes = causes-promise r;
+  compare = compare-promise r;
+  validate = validate-promise r;
+  normalize = normalize-promise r;
+  generate = generate-promise r;
+  reference = reference-promise r;
+  coverage = coverage-promise r;
+  run = run-promise r;
+  demo = demo-promise r;
+}

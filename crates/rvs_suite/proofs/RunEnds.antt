@@ -1,17 +1,17 @@
 -- What every call of `run` promises.
 use Rattle.std.proofs.Common.{◌≡◌, ◌⊎◌, inl, inr, ℕ, true, is_some, List, [], ◌∷◌, ◌++◌, length}
 use Rattle.std.proofs.Common.{option_map, Option, Some, None, Result, Ok, Err, refl, sym, ap, subst}
-use Rattle.std.proofs.Common.{◌∙◌}
+use Rattle.std.proofs.Common.{◌∙◌, Contains, IsTrue}
 use Rattle.std.proofs.lemmas.List.{append_cancel_left}
 use Rattle.rvs_base.specs.Host.{Files, Tells}
 use Rattle.rvs_base.specs.Sink.{appended}
 use Rattle.rvs_base.specs.declared.host.DeviceRun.{DeviceRun}
-use Rattle.rvs_plan.specs.World.{World, Contents, contents}
+use Rattle.rvs_plan.specs.World.{Contents, contents}
 use Rattle.rvs_plan.specs.Effect.{Answer, Effect, Did, Out, after, Saw}
-use Rattle.rvs_plan.specs.Plan.{Plan, Ends, Goes, followed, ◌>>=◌}
+use Rattle.rvs_plan.specs.Plan.{Plan, Ends, Goes, followed}
 use Rattle.rvs_plan.specs.Performed.{end_of, ComesTo}
 use Rattle.rvs_plan.specs.Meets.{Completes}
-use Rattle.rvs_plan.specs.Account.{Means, end_status}
+use Rattle.rvs_plan.specs.Account.{end_status}
 use Rattle.rvs_plan.proofs.Answering.{ComesTo-Completes}
 use Rattle.rvs_plan.specs.declared.stop.Stop.{Stop}
 use Rattle.rvs_plan.specs.declared.stop.Stop.TheVariants as why
@@ -22,13 +22,17 @@ use Rattle.rvs_plan.specs.declared.status.Finish.TheVariants as finish
 use Rattle.rvs_device.specs.Judging.{Spells}
 use Rattle.rvs_device.specs.declared.verdicts.TestVerdict.{TestVerdict}
 use Rattle.rvs_device.proofs.Passing as passing
-use Rattle.rvs_suite.specs.Call.{Call, world_of, NothingFailed, AnswersOnly}
+use Rattle.rvs_cgf.specs.Groups.{Label}
+use Rattle.rvs_solver.specs.Solving.{IsSolvableAt}
+use Rattle.rvs_suite.specs.Call.{Call, world_of}
+use Rattle.rvs_suite.specs.Generate.{path_of}
+use Rattle.rvs_suite.specs.Headline.{HasProvedTest}
 use Rattle.rvs_suite.specs.Answered.{HasLeft}
 use Rattle.rvs_suite.specs.GenerateTexts.{listing}
 use Rattle.rvs_suite.specs.RunTests.{Bench, tally_line, tallies, passes, with_one, verdict_of_all}
 use Rattle.rvs_suite.specs.RunTests.{RunInputs, run_inputs, bench_of, runs, run}
 use Rattle.rvs_suite.specs.RunLeft.{verdict_lines, passed_onto, with_all_judged}
-use Rattle.rvs_suite.specs.Judging.{run_inputs_in, tests_in, task_of, HasJudged, Runs}
+use Rattle.rvs_suite.specs.Judging.{run_inputs_in, tests_in, task_of, HasJudged, HasTestFiles, Runs}
 use Rattle.rvs_suite.specs.declared.gathering.Test.{Test}
 use Rattle.rvs_words.specs.declared.command.Command.TheVariants.{Run}
 use Rattle.rvs_suite.proofs.Answered.{RunsOn, ran-command}
@@ -36,22 +40,26 @@ use Rattle.rvs_suite.proofs.Ends.{means-end, was_refused, was_missing}
 use Rattle.rvs_suite.proofs.Finding.{Behind, behind, end-found}
 use Rattle.rvs_suite.proofs.Running.{at_status, asked_means}
 use Rattle.rvs_suite.proofs.RunReads.{finds-run}
-use Rattle.rvs_suite.proofs.RunSteps.{FirstDid, first_did, contents_of, appended-twice, JudgedAll}
+use Rattle.rvs_suite.proofs.RunSteps.{first_did, contents_of, appended-twice, JudgedAll}
 use Rattle.rvs_suite.proofs.RunSteps.{judged-all}
 use Rattle.rvs_suite.proofs.Sparing.{run-spares}
-use Rattle.rvs_suite.proofs.Tested.{tested-run, runnable-run}
+use Rattle.rvs_suite.proofs.Signed.{has-test, proved}
+use Rattle.rvs_suite.proofs.Standing.{files-stand, test-of}
+use Rattle.rvs_suite.proofs.Tested.{groups-accepted, tested-run, runnable-run}
 use Rattle.rvs_suite.proofs.Untouched.{never-end, runs-on}
+use Rattle.rvs_suite.proofs.Written.{apart-inputs}
+use Rattle.rvs_words.specs.declared.command.RunArguments.{RunArguments}
 
 -- ---- the end, by what the inputs come to
 abbrev rest_of : List ℕ → List ℕ → Result RunInputs Stop → Plan Finish
 rest_of program work found = followed found (runs program work)
 
-end-rest : (files : Files) (answers : List Answer) (program isa : List ℕ) (names : List (List ℕ))
-    (device work : List ℕ) → end_of (run program isa names device work) files answers ≡ end_of
-    (rest_of program work (run_inputs_in files isa names device)) files answers
-end-rest files answers program isa names device work = end-found files answers
-    (run_inputs isa names device) (runs program work) (run_inputs_in files isa names device)
-    (finds-run files isa names device)
+end-rest : (files : Files) (answers : List Answer) (asked : RunArguments)
+    → end_of (run asked) files answers ≡ end_of
+    (rest_of asked.program asked.work (run_inputs_in files asked)) files answers
+end-rest files answers asked = end-found files answers
+    (run_inputs asked) (runs asked.program asked.work) (run_inputs_in files asked)
+    (finds-run files asked)
 
 stopped-rest : (files : Files) (answers : List Answer) (program work : List ℕ)
     (found : Result RunInputs Stop) (stop : Stop) → end_of (rest_of program work found) files
@@ -62,31 +70,32 @@ stopped-rest files answers program work (Err s) stop is = let same : s ≡ stop 
     ap (λ (x : Stop). Err x) same
 
 -- a run that stopped did so at its inputs
-stopped : (files : Files) (program isa : List ℕ) (names : List (List ℕ)) (device work : List ℕ)
-    (stop : Stop) → ComesTo (run program isa names device work) files (Err stop) → run_inputs_in
-    files isa names device ≡ Err stop
-stopped files program isa names device work stop comes = stopped-rest files comes.answers program
-    work (run_inputs_in files isa names device) stop
-    (sym (end-rest files comes.answers program isa names device work) ∙ comes.is)
+stopped : (files : Files) (asked : RunArguments)
+    (stop : Stop) → ComesTo (run asked) files (Err stop) → run_inputs_in
+    files asked ≡ Err stop
+stopped files asked stop comes = stopped-rest files comes.answers asked.program
+    asked.work (run_inputs_in files asked) stop
+    (sym (end-rest files comes.answers asked) ∙ comes.is)
 
-stops : (files : Files) (program isa : List ℕ) (names : List (List ℕ)) (device work : List ℕ)
-    (stop : Stop) → run_inputs_in files isa names device ≡ Err stop → (answers : List Answer)
-    → end_of (run program isa names device work) files answers ≡ Some (Err stop)
-stops files program isa names device work stop is answers =
-    end-rest files answers program isa names device work
-    ∙ ap (λ (found : Result RunInputs Stop). end_of (rest_of program work found) files answers) is
+stops : (files : Files) (asked : RunArguments)
+    (stop : Stop) → run_inputs_in files asked ≡ Err stop → (answers : List Answer)
+    → end_of (run asked) files answers ≡ Some (Err stop)
+stops files asked stop is answers =
+    end-rest files answers asked
+    ∙ ap (λ (found : Result RunInputs Stop). end_of
+    (rest_of asked.program asked.work found) files answers) is
 
-ended : (files : Files) (program isa : List ℕ) (names : List (List ℕ)) (device work : List ℕ)
-    (inputs : RunInputs) (status : Status) (end : Result Finish Stop) → run_inputs_in files isa
-    names device ≡ Ok inputs → ComesTo (run program isa names device work) files end → status
+ended : (files : Files) (asked : RunArguments)
+    (inputs : RunInputs) (status : Status) (end : Result Finish Stop)
+    → run_inputs_in files asked ≡ Ok inputs → ComesTo (run asked) files end → status
     ≡ end_status end → (status ≡ answer.Done) ⊎ (status ≡ answer.NotPassed) ⊎
     (status ≡ answer.NoMemory)
-ended files program isa names device work inputs status (Ok finish.Done) given comes is = inl is
-ended files program isa names device work inputs status (Ok finish.NotPassed) given comes is =
+ended files asked inputs status (Ok finish.Done) given comes is = inl is
+ended files asked inputs status (Ok finish.NotPassed) given comes is =
     inr (inl is)
-ended files program isa names device work inputs status (Err stop) given comes is =
+ended files asked inputs status (Err stop) given comes is =
     let both : Ok inputs ≡ Err stop =
-    sym given ∙ stopped files program isa names device work stop comes in absurd cc
+    sym given ∙ stopped files asked stop comes in absurd cc
 
 -- ---- what is left
 record Left (program work : List ℕ) (inputs : RunInputs) (files : Files) (before : List DeviceRun)
@@ -208,16 +217,16 @@ left-by program work (Err stop) files end effects t b did = absurd (no-end b.lat
     no-end [] goes = cc
     no-end (effect ∷ later) goes = goes
 
-left : {call : Call} (files : Files) (program isa : List ℕ) (names : List (List ℕ))
-    (device work : List ℕ) (end : Finish) → Tells call.old.host files → Completes
-    (run program isa names device work) (Ok end) (contents (world_of call.old))
-    (contents (world_of call.new)) → HasLeft (run_inputs_in files isa names device)
-    (HasJudged call program work end)
-left {call} files program isa names device work end t r =
-    left-by program work (run_inputs_in files isa names device) files end r.effects t
-    (behind files (run_inputs isa names device) (runs program work)
-    (run_inputs_in files isa names device) (Ok end) r.effects (contents (world_of call.old))
-    (finds-run files isa names device) t.files r.saw r.goes) r.did
+left : {call : Call} (files : Files) (asked : RunArguments) (end : Finish)
+    → Tells call.old.host files → Completes
+    (run asked) (Ok end) (contents (world_of call.old))
+    (contents (world_of call.new)) → HasLeft (run_inputs_in files asked)
+    (HasJudged call asked.program asked.work end)
+left {call} files asked end t r =
+    left-by asked.program asked.work (run_inputs_in files asked) files end r.effects t
+    (behind files (run_inputs asked) (runs asked.program asked.work)
+    (run_inputs_in files asked) (Ok end) r.effects (contents (world_of call.old))
+    (finds-run files asked) t.files r.saw r.goes) r.did
 
 -- ---- one test that passes
 one_passes : (bench : Bench) (test : Test) (run : DeviceRun) → Spells (task_of bench test) run.after
@@ -254,82 +263,152 @@ done-only status (inl done) never = inl done
 done-only status (inr (inl not_passed)) never = absurd (never not_passed)
 done-only status (inr (inr no_memory)) never = inr no_memory
 
-given-left : {call : Call} (program work : List ℕ) (inputs : RunInputs)
+given-left : {call : Call} (program work : List ℕ) (inputs : RunInputs) (end : Finish)
     (found : Result RunInputs Stop)
-    → found ≡ Ok inputs → HasLeft found (HasJudged call program work finish.NotPassed)
-    → HasJudged call program work finish.NotPassed inputs
-given-left {call} program work inputs found is l =
+    → found ≡ Ok inputs → HasLeft found (HasJudged call program work end)
+    → HasJudged call program work end inputs
+given-left {call} program work inputs end found is l =
     let both : Ok l.given ≡ Ok inputs = sym l.accepted ∙ is in
     let same : l.given ≡ inputs = cc in
-    subst (λ (g : RunInputs). HasJudged call program work finish.NotPassed g) same l.left
+    subst (λ (g : RunInputs). HasJudged call program work end g) same l.left
+
+-- where it came to its end, all tests were judged
+abbrev WasJudged : Call → Files → RunArguments → Finish → Type 0
+WasJudged call files asked end =
+    HasLeft (run_inputs_in files asked) (HasJudged call asked.program asked.work end)
+
+judged-done : {call : Call} (files : Files) (asked : RunArguments) → RunsOn call files (Run asked)
+    → call.status ≡ answer.Done
+    → WasJudged call files asked finish.Done
+judged-done {call} files asked r is =
+    left {call = call} files asked finish.Done r.told
+    (at_status (ran-command r) files (Run asked) answer.Done r.told refl
+    is).completes
+
+judged-not_passed : {call : Call} (files : Files) (asked : RunArguments)
+    → RunsOn call files (Run asked)
+    → call.status ≡ answer.NotPassed
+    → WasJudged call files asked finish.NotPassed
+judged-not_passed {call} files asked r is =
+    left {call = call} files asked finish.NotPassed r.told
+    (at_status (ran-command r) files (Run asked) answer.NotPassed r.told
+    refl is).completes
+
+-- and the files of each are there
+there : {call : Call} (files : Files) (asked : RunArguments) → RunsOn call files (Run asked)
+    → (inputs : RunInputs) (test : Test) (files' : Files)
+    → run_inputs_in files asked ≡ Ok inputs → Contains (tests_in inputs) test
+    → (call.status ≡ answer.Done) ⊎ (call.status ≡ answer.NotPassed)
+    → call.new.host.files ≡ Some files'
+    → HasTestFiles call (bench_of asked.program asked.work inputs) test files'
+there {call} files asked r inputs test files' given inside ended told =
+    elim ended [
+      | inl is ↦ stand finish.Done (judged-done files asked r is)
+      | inr is ↦ stand finish.NotPassed
+          (judged-not_passed files asked r is)
+    ]
+  where
+    stand : (end : Finish) → WasJudged call files asked end
+        → HasTestFiles call (bench_of asked.program asked.work inputs) test files'
+    stand end was = files-stand {call = call} asked.program asked.work inputs end files files' test
+        (given-left {call = call} asked.program asked.work inputs end (run_inputs_in files asked)
+        given was) r.told.files told (apart-inputs files asked.isa asked.groups inputs.groups
+        (groups-accepted files asked inputs given)) inside
+
+-- that of a label with a solvable point has the property
+proved-there : {call : Call} (files : Files) (asked : RunArguments) → RunsOn call files (Run asked)
+    → (inputs : RunInputs) (l : Label) (k : ℕ) (files' : Files)
+    → run_inputs_in files asked ≡ Ok inputs → Contains inputs.groups.groups l
+    → IsTrue l.selected → IsSolvableAt inputs.groups.isa l k
+    → (call.status ≡ answer.Done) ⊎ (call.status ≡ answer.NotPassed)
+    → call.new.host.files ≡ Some files'
+    → HasProvedTest files' (path_of asked.work l.name) inputs.groups.isa l
+proved-there {call} files asked r inputs l k files' given inside selected
+    solvable ended told =
+    let has = has-test inputs.groups.isa l k solvable in
+    let t = test-of inputs.groups.isa inputs.groups.groups l has.0 inside selected has.1 in
+    let at = there files asked r inputs t.0 files' given t.1 ended told in
+    record {
+      bytes = has.0;
+      there = ap (λ (name : List ℕ). files' (path_of asked.work name)) (sym t.2) ∙ at.text
+          ∙ ap (λ (x : List ℕ). Some x) t.3;
+      proved = proved inputs.groups l has.0 (tested-run files asked inputs given) inside
+          selected has.1;
+    }
 
 -- ---- the promise
-pub judges : {call : Call} (files : Files) (program isa : List ℕ) (names : List (List ℕ))
-    (device work : List ℕ) → RunsOn call files (Run program isa names device work) → Runs call files
-    program isa names device work
-judges {call} files program isa names device work r =
+pub judges : {call : Call} (files : Files) (asked : RunArguments)
+    → RunsOn call files (Run asked) → Runs call files
+    asked
+judges {call} files asked r =
     let old = world_of call.old in
     let new = world_of call.new in
-    let command = Run program isa names device work in
-    let plan = run program isa names device work in
+    let command = Run asked in
+    let plan = run asked in
     let ran = ran-command r in
     record {
-      done = λ is. left files program isa names device work finish.Done r.told
-          (at_status ran files command answer.Done r.told refl is).completes;
-      not_passed = λ is. left files program isa names device work finish.NotPassed r.told
-          (at_status ran files command answer.NotPassed r.told refl is).completes;
-      by_inputs = λ inputs given none. elim (asked_means ran files command r.told refl none) [
-        | inl m ↦ ended files program isa names device work inputs call.status m.end given m.comes
-            m.status_is
-        | inr no_memory ↦ inr (inr no_memory)
-      ];
-      refused = λ is.
-          let was = was_refused plan old new call.old.err call.new.err
-          (at_status ran files command answer.Refused r.told refl is) in
-          record {
-            text = was.text;
-            refused = stopped files program isa names device work (why.Refused was.text)
-                (ComesTo-Completes plan (Err (why.Refused was.text)) old new files r.told
-                was.completes);
-            line = was.line;
-          };
-      by_refusal = λ text given none. elim (asked_means ran files command r.told refl none) [
-        | inl m ↦ inl (means-end plan files call.status (Err (why.Refused text)) m
-            (stops files program isa names device work (why.Refused text) given))
-        | inr no_memory ↦ inr no_memory
-      ];
-      absent = λ is. elim (was_missing plan old new call.old.err call.new.err
-          (at_status ran files command answer.HostFault r.told refl is)) [
-            | inl was ↦ inl (record {
-              name = was.name;
-              absent = stopped files program isa names device work (why.NoFile was.name)
-                  (ComesTo-Completes plan (Err (why.NoFile was.name)) old new files r.told
+      answered = record {
+        done = judged-done files asked r;
+        not_passed = judged-not_passed files asked r;
+        by_inputs = λ inputs given none. elim (asked_means ran files command r.told refl none) [
+          | inl m ↦ ended files asked inputs call.status m.end given m.comes
+              m.status_is
+          | inr no_memory ↦ inr (inr no_memory)
+        ];
+        refused = λ is.
+            let was = was_refused plan old new call.old.err call.new.err
+            (at_status ran files command answer.Refused r.told refl is) in
+            record {
+              text = was.text;
+              refused = stopped files asked (why.Refused was.text)
+                  (ComesTo-Completes plan (Err (why.Refused was.text)) old new files r.told
                   was.completes);
               line = was.line;
-            })
-            | inr rose ↦ inr rose
-          ];
-      by_absence = λ name given none. elim (asked_means ran files command r.told refl none) [
-        | inl m ↦ inl (means-end plan files call.status (Err (why.NoFile name)) m
-            (stops files program isa names device work (why.NoFile name) given))
-        | inr no_memory ↦ inr no_memory
-      ];
+            };
+        by_refusal = λ text given none. elim (asked_means ran files command r.told refl none) [
+          | inl m ↦ inl (means-end plan files call.status (Err (why.Refused text)) m
+              (stops files asked (why.Refused text) given))
+          | inr no_memory ↦ inr no_memory
+        ];
+        absent = λ is. elim (was_missing plan old new call.old.err call.new.err
+            (at_status ran files command answer.HostFault r.told refl is)) [
+              | inl was ↦ inl (record {
+                name = was.name;
+                absent = stopped files asked (why.NoFile was.name)
+                    (ComesTo-Completes plan (Err (why.NoFile was.name)) old new files r.told
+                    was.completes);
+                line = was.line;
+              })
+              | inr rose ↦ inr rose
+            ];
+        by_absence = λ name given none. elim (asked_means ran files command r.told refl none) [
+          | inl m ↦ inl (means-end plan files call.status (Err (why.NoFile name)) m
+              (stops files asked (why.NoFile name) given))
+          | inr no_memory ↦ inr no_memory
+        ];
+      };
       alone = λ inputs test before run given one was now spells none.
           elim (asked_means ran files command r.told refl none) [
             | inl m ↦ done-only call.status
-                (ended files program isa names device work inputs call.status m.end given m.comes
+                (ended files asked inputs call.status m.end given m.comes
                 m.status_is)
-                (λ not_passed. not-failed {call = call} program work inputs test before run
-                (given-left {call = call} program work inputs
-                (run_inputs_in files isa names device) given
-                (left {call = call} files program isa names device work finish.NotPassed r.told
-                (at_status ran files command answer.NotPassed r.told refl not_passed).completes))
+                (λ not_passed. not-failed {call = call} asked.program asked.work inputs test
+                before run
+                (given-left {call = call} asked.program asked.work inputs finish.NotPassed
+                (run_inputs_in files asked) given
+                (judged-not_passed files asked r not_passed))
                 one was now spells)
             | inr no_memory ↦ inr no_memory
           ];
-      others_kept = λ files' other. run-spares r.ran files files' program isa names device work
+      others_kept = λ files' other. run-spares r.ran files files' asked
           other r.told r.asks;
       passes = λ inputs test run. passing.passes _ run.status run.after;
-      tested = tested-run files isa names device;
-      runnable = runnable-run files isa names device;
+      tested = tested-run files asked;
+      apart = λ inputs given. apart-inputs files asked.isa asked.groups inputs.groups
+          (groups-accepted files asked inputs given);
+      each = proved-there files asked r;
+      proved = λ inputs l text given inside selected is. proved inputs.groups l text
+          (tested-run files asked inputs given) inside selected is;
+      there = there files asked r;
+      runnable = runnable-run files asked;
     }

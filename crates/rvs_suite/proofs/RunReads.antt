@@ -13,6 +13,7 @@ use Rattle.rvs_suite.specs.Judging.{run_inputs_in}
 use Rattle.rvs_suite.proofs.Readers.{OnlyReads, OnlyReads-then}
 use Rattle.rvs_suite.proofs.Finding.{Finds}
 use Rattle.rvs_suite.proofs.GroupInputs.{reads-inputs, finds-inputs, finds-and_then}
+use Rattle.rvs_words.specs.declared.command.RunArguments.{RunArguments}
 
 abbrev with_device : Inputs → Told → Plan RunInputs
 with_device inputs told = gives (record { groups = inputs; device = told })
@@ -25,10 +26,10 @@ reads-device device inputs = OnlyReads-then (device_file device) (with_device in
     (OnlyReads-then (input device_limit device) (checks device) (λ found. tt) (λ bytes. tt))
     (λ told. tt)
 
-pub reads-run : (isa : List ℕ) (names : List (List ℕ)) (device : List ℕ)
-    → OnlyReads (run_inputs isa names device)
-reads-run isa names device = OnlyReads-then (group_inputs isa names) (device_behind device)
-    (reads-inputs isa names) (reads-device device)
+pub reads-run : (asked : RunArguments)
+    → OnlyReads (run_inputs asked)
+reads-run asked = OnlyReads-then (group_inputs asked.isa asked.groups) (device_behind asked.device)
+    (reads-inputs asked.isa asked.groups) (reads-device asked.device)
 
 told-by : (files : Files) (device : List ℕ) (bytes : Result (List ℕ) Stop) → Finds files
     (followed bytes (checks device)) (and_then bytes (λ b. tree_end device (answer b)))
@@ -40,16 +41,18 @@ finds-device : (files : Files) (device : List ℕ)
 finds-device files device =
     told-by files device (part_end device_limit device device device_limit (files device))
 
-pub finds-run : (files : Files) (isa : List ℕ) (names : List (List ℕ)) (device : List ℕ)
-    → Finds files (run_inputs isa names device) (run_inputs_in files isa names device)
-finds-run files isa names device =
-    finds-and_then files (group_inputs isa names) (device_behind device) (inputs_in files isa names)
-    (λ inputs. and_then (device_in files device) (λ told. Ok (record {
+pub finds-run : (files : Files) (asked : RunArguments)
+    → Finds files (run_inputs asked) (run_inputs_in files asked)
+finds-run files asked =
+    finds-and_then files (group_inputs asked.isa asked.groups) (device_behind asked.device)
+    (inputs_in files asked.isa asked.groups)
+    (λ inputs. and_then (device_in files asked.device) (λ told. Ok (record {
       groups = inputs;
       device = told;
-    }))) (finds-inputs files isa names) (λ inputs.
-    finds-and_then files (device_file device) (with_device inputs) (device_in files device)
+    }))) (finds-inputs files asked.isa asked.groups) (λ inputs.
+    finds-and_then files (device_file asked.device) (with_device inputs)
+    (device_in files asked.device)
     (λ told. Ok (record {
       groups = inputs;
       device = told;
-    })) (finds-device files device) (λ told. refl))
+    })) (finds-device files asked.device) (λ told. refl))

@@ -1,8 +1,7 @@
 -- What the effects of `run` leave, test by test.
-use Rattle.std.proofs.Common.{◌≡◌, ◌≢◌, ℕ, ◌+◌, Bool, true, false, if◌then◌else◌, List, [], ◌∷◌}
-use Rattle.std.proofs.Common.{◌++◌, length, length-append, append_assoc, append-nil, Option, Some}
-use Rattle.std.proofs.Common.{None, Result, Ok, Err, codes, refl, sym, ap, subst, ◌∙◌, arith}
-use Rattle.std.proofs.lemmas.Slice.Eq.{bytes_eq-Decides}
+use Rattle.std.proofs.Common.{◌≡◌, ℕ, Bool, true, false, if◌then◌else◌, List, [], ◌∷◌}
+use Rattle.std.proofs.Common.{◌++◌, append_assoc, append-nil, Option, Some}
+use Rattle.std.proofs.Common.{None, Result, refl, sym, ap, subst, ◌∙◌}
 use Rattle.std.specs.Str.{bytes_eq}
 use Rattle.rvs_base.specs.Host.{Files, with_file, with_left, run_over}
 use Rattle.rvs_base.specs.Sink.{appended}
@@ -14,14 +13,14 @@ use Rattle.rvs_plan.specs.declared.stop.Stop.{Stop}
 use Rattle.rvs_plan.specs.declared.status.Finish.{Finish}
 use Rattle.rvs_sig.specs.Words.{text_of_words}
 use Rattle.rvs_device.specs.Printed.{verdict_line}
-use Rattle.rvs_suite.specs.Generate.{path_of}
 use Rattle.rvs_suite.specs.Judging.{task_of}
 use Rattle.rvs_suite.specs.Tests.{reference_words}
-use Rattle.rvs_suite.specs.RunTests.{Bench, reference_path, device_path, passes, judges_one}
-use Rattle.rvs_suite.specs.RunTests.{judges_all, with_one}
+use Rattle.rvs_suite.specs.RunTests.{Bench, files_for, passes, judges_one, judges_all, with_one}
 use Rattle.rvs_suite.specs.RunLeft.{IsRunOf, AreRunsOf, verdict_by, verdict_lines, passed_onto}
 use Rattle.rvs_suite.specs.RunLeft.{with_judged, with_all_judged}
 use Rattle.rvs_suite.specs.declared.gathering.Test.{Test}
+use Rattle.rvs_suite.proofs.Paths.{found-in, passed-by, same-bytes, other-bytes, not-reference}
+use Rattle.rvs_suite.proofs.Paths.{not-device}
 
 -- ---- the first effect of a plan that comes to its end
 pub record FirstDid (deed : Deed) (plan : Plan Finish) (end : Result Finish Stop)
@@ -79,70 +78,32 @@ first_ran words test signature next end (Device w t s answer ∷ effects) goes =
 first_ran words test signature next end (Did deed ∷ effects) goes = absurd goes
 first_ran words test signature next end (Read name found ∷ effects) goes = absurd goes
 
--- ---- names and files
-same-bytes : (name : List ℕ) → bytes_eq name name ≡ true
-same-bytes name = (bytes_eq-Decides name name).1 refl
-
-other-bytes : (one other : List ℕ) → one ≢ other → bytes_eq one other ≡ false
-other-bytes one other differ = by (bytes_eq one other) refl
-  where
-    by : (b : Bool) → bytes_eq one other ≡ b → bytes_eq one other ≡ false
-    by true is = absurd (differ ((bytes_eq-Decides one other).0 is))
-    by false is = is
-
--- names of other lengths are others
-longer : (work name : List ℕ) (one other : List ℕ) → length one ≢ length other
-    → bytes_eq (work ++ (codes "/" ++ (name ++ one))) (work ++ (codes "/" ++ (name ++ other)))
-    ≡ false
-longer work name one other differ = other-bytes _ _ (λ same.
-    let lengths : length (work ++ (codes "/" ++ (name ++ one)))
-    ≡ length (work ++ (codes "/" ++ (name ++ other))) = ap (λ (x : List ℕ). length x) same in
-    differ (omega (
-      arith,
-      lengths,
-      length-append work (codes "/" ++ (name ++ one)),
-      length-append work (codes "/" ++ (name
-          ++ other)),
-      length-append name one,
-      length-append name other,
-    )))
-
-not-reference : (work name : List ℕ)
-    → bytes_eq (path_of work name) (reference_path work name) ≡ false
-not-reference work name = longer work name (codes ".S") (codes ".reference.sig") (λ same. cc)
-
-not-device : (work name : List ℕ) → bytes_eq (path_of work name) (device_path work name) ≡ false
-not-device work name = longer work name (codes ".S") (codes ".device.sig") (λ same. cc)
-
-found-in : (b : Bool) (x y : Option (List ℕ)) → b ≡ true → (if b then x else y) ≡ x
-found-in b x y e = rw e refl
-
-passed-by : (b : Bool) (x y : Option (List ℕ)) → b ≡ false → (if b then x else y) ≡ y
-passed-by b x y e = rw e refl
-
+-- ---- files
 -- the files when the device is started
 abbrev started : Bench → Test → Files → Files
 started bench test files =
-    with_file (device_path bench.work test.name) []
-    (with_file (reference_path bench.work test.name)
+    with_file (files_for bench test).device []
+    (with_file (files_for bench test).reference
     (text_of_words (reference_words bench.isa test))
-    (with_file (path_of bench.work test.name) test.text files))
+    (with_file (files_for bench test).test test.text files))
 
 test-there : (bench : Bench) (test : Test) (files : Files)
-    → started bench test files (path_of bench.work test.name) ≡ Some test.text
+    → started bench test files (files_for bench test).test ≡ Some test.text
 test-there bench test files =
-    passed-by (bytes_eq (path_of bench.work test.name) (device_path bench.work test.name)) _ _
-    (not-device bench.work test.name)
-    ∙ passed-by (bytes_eq (path_of bench.work test.name) (reference_path bench.work test.name)) _ _
-    (not-reference bench.work test.name)
-    ∙ found-in (bytes_eq (path_of bench.work test.name) (path_of bench.work test.name)) _ _
-    (same-bytes (path_of bench.work test.name))
+    passed-by (bytes_eq (files_for bench test).test (files_for bench test).device) _ _
+    (other-bytes (files_for bench test).test (files_for bench test).device
+    (not-device bench.work test.name test.name))
+    ∙ passed-by (bytes_eq (files_for bench test).test (files_for bench test).reference) _ _
+    (other-bytes (files_for bench test).test (files_for bench test).reference
+    (not-reference bench.work test.name test.name))
+    ∙ found-in (bytes_eq (files_for bench test).test (files_for bench test).test) _ _
+    (same-bytes (files_for bench test).test)
 
 empty-there : (bench : Bench) (test : Test) (files : Files)
-    → started bench test files (device_path bench.work test.name) ≡ Some []
+    → started bench test files (files_for bench test).device ≡ Some []
 empty-there bench test files = found-in
-    (bytes_eq (device_path bench.work test.name) (device_path bench.work test.name)) _ _
-    (same-bytes (device_path bench.work test.name))
+    (bytes_eq (files_for bench test).device (files_for bench test).device) _ _
+    (same-bytes (files_for bench test).device)
 
 left-there : (name : List ℕ) (left : Option (List ℕ)) (files : Files)
     → with_left name left files name ≡ left
@@ -167,7 +128,7 @@ appended-twice (Some out) one more = ap (λ (x : List ℕ). Some x) (append_asso
 -- ---- one test
 abbrev run_with : Bench → Test → Files → Answer → DeviceRun
 run_with bench test files answer = run_over (task_of bench test).words
-    (path_of bench.work test.name) (device_path bench.work test.name) (started bench test files)
+    (files_for bench test).test (files_for bench test).device (started bench test files)
     answer.left answer.status
 
 abbrev pub contents_of : Files → List DeviceRun → Option (List ℕ) → Contents
@@ -191,13 +152,13 @@ record JudgedOne (bench : Bench) (test : Test) (next : Bool → Plan Finish) (fi
 -- these are the effects
 abbrev effects_with : Bench → Test → Files → Answer → Option (List ℕ) → List Effect → List Effect
 effects_with bench test files answer found later =
-    Did (Write (path_of bench.work test.name) test.text)
-    ∷ (Did (Write (reference_path bench.work test.name)
+    Did (Write (files_for bench test).test test.text)
+    ∷ (Did (Write (files_for bench test).reference
     (text_of_words (reference_words bench.isa test)))
-    ∷ (Did (Write (device_path bench.work test.name) [])
-    ∷ (Device (task_of bench test).words (path_of bench.work test.name)
-    (device_path bench.work test.name) answer
-    ∷ (Read (device_path bench.work test.name) found
+    ∷ (Did (Write (files_for bench test).device [])
+    ∷ (Device (task_of bench test).words (files_for bench test).test
+    (files_for bench test).device answer
+    ∷ (Read (files_for bench test).device found
     ∷ (Did (Out (verdict_line test.name (verdict_by bench test (record {
       words = [];
       test = None;
@@ -224,9 +185,9 @@ judged-with bench test next files runs out end effects answer found later is lef
     let effects-are : effects ≡ effects_with bench test files answer answer.left later =
     is ∙ ap (λ (f : Option (List ℕ)). effects_with bench test files answer f later) left in
     let put = verdict_line test.name (verdict_by bench test run) in
-    let over : with_left (device_path bench.work test.name) answer.left (started bench test files)
+    let over : with_left (files_for bench test).device answer.left (started bench test files)
     ≡ with_judged bench test run files =
-    left-over (device_path bench.work test.name) [] answer.left _ in
+    left-over (files_for bench test).device [] answer.left _ in
     let seen = subst (λ (es : List Effect). Saw es (contents_of files runs out)) effects-are saw in
     record {
       run = run;
@@ -262,10 +223,10 @@ judged-one bench test next files runs out end effects goes saw =
     let ran = first_ran _ _ _ _ end empty.rest empty.goes in
     let back = first_read _ _ end ran.rest ran.goes in
     let line = first_did _ _ end back.rest back.goes in
-    let path = path_of bench.work test.name in
-    let device = device_path bench.work test.name in
+    let path = (files_for bench test).test in
+    let device = (files_for bench test).device in
     let one = Did (Write path test.text) in
-    let two = Did (Write (reference_path bench.work test.name)
+    let two = Did (Write (files_for bench test).reference
     (text_of_words (reference_words bench.isa test))) in
     let three = Did (Write device []) in
     let four = Device (task_of bench test).words path device ran.answer in
@@ -277,7 +238,7 @@ judged-one bench test next files runs out end effects goes saw =
     (back.is ∙ ap (λ (es : List Effect). five ∷ es) line.is)))) in
     let seen = subst (λ (es : List Effect). Saw es (contents_of files runs out)) are saw in
     let left : back.found ≡ ran.answer.left = sym (seen.1.1.1.1.0 _ refl) ∙ left-there
-    (device_path bench.work test.name) ran.answer.left (started bench test files) in
+    (files_for bench test).device ran.answer.left (started bench test files) in
     judged-with bench test next files runs out end effects ran.answer back.found line.rest are left
     line.goes saw
 

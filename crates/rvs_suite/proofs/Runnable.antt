@@ -1,21 +1,25 @@
 -- A test that is made can be run: an image stands to it, and its run halts within its steps.
 use Rattle.std.proofs.Common.{◌≡◌, ℕ, List, [], ◌∷◌, ◌++◌, All, Option, Some, None, IfSome, Result}
-use Rattle.std.proofs.Common.{Ok, Err, OnOk, sym, ap, subst, ◌∙◌, arith}
+use Rattle.std.proofs.Common.{Ok, Err, OnOk, refl, sym, ap, subst, ◌∙◌, arith}
 use Rattle.std.proofs.lemmas.List.Elements.{All-append, All-from_recursion}
-use Rattle.rvs_base.specs.declared.memory_refusal.NoMemory.{NoMemory}
+use Rattle.rvs_base.specs.declared.memory_refusal.NoMemory as memory
+use Rattle.rvs_plan.specs.declared.stop.Stop.{Stop}
+use Rattle.rvs_plan.specs.declared.stop.Stop.TheVariants.{Usage, Refused, NoFile, CannotRead}
+use Rattle.rvs_plan.specs.declared.stop.Stop.TheVariants.{CannotWrite, CannotRun, NoMemory}
+use Rattle.rvs_plan.specs.declared.stop.Stop.TheVariants.{SinkFault}
 use Rattle.rvs_insn.specs.Isa.{Isa}
 use Rattle.rvs_asm.proofs.Stands.{image_answered}
 use Rattle.rvs_cgf.specs.Groups.{Label}
 use Rattle.rvs_test_text.specs.declared.claim.Claim.{Claim}
 use Rattle.rvs_test.specs.Claimed.{TestRuns}
 use Rattle.rvs_machine.specs.Image.{ImageValue}
-use Rattle.rvs_machine.specs.Machine.{Setup, Whole, started, signature_of}
-use Rattle.rvs_machine.specs.Run.{Outcome, run_of, HasRun}
-use Rattle.rvs_machine.specs.declared.event.Executed.{Executed}
-use Rattle.rvs_machine.specs.declared.event.End.TheVariants.{Halted}
-use Rattle.rvs_asm.specs.Answer.{answer}
-use Rattle.rvs_test_text.specs.Claim.{words_after}
+use Rattle.rvs_machine.specs.Machine.{started}
+use Rattle.rvs_machine.specs.declared.event.End.{End}
+use Rattle.rvs_asm.specs.declared.refusal.AsmRefusal.{AsmRefusal}
+use Rattle.rvs_suite.specs.TestRun.{Accepts, then_found, text_found, left_by, run_end, run_found}
+use Rattle.rvs_suite.specs.TestRun.{text_run}
 use Rattle.rvs_suite.specs.Tests.{IsRunnable, test_with, run_on, words_of_image, reference_words}
+use Rattle.rvs_suite.specs.declared.test_run.Run.{Run}
 use Rattle.rvs_suite.specs.declared.gathering.Test.{Test}
 
 pub runnable : (isa : Isa) (l : Label) (name text : List ℕ) (claims : List Claim) (steps : ℕ)
@@ -41,25 +45,49 @@ all-runnable isa l name claims steps (Some text) runs =
 
 -- tests that can be run, with one more
 pub more-runnable : (isa : Isa) (l : Label) (name : List ℕ) (claims : List Claim) (steps : ℕ)
-    (text : Option (List ℕ)) (tests tests' : List Test) (r : Result (Unit {0}) NoMemory) → OnOk r
-    (tests' ≡ tests ++ test_with name steps text) → IfSome text (λ t. TestRuns isa l t claims steps)
+    (text : Option (List ℕ)) (tests tests' : List Test) (r : Result (Unit {0}) memory.NoMemory)
+    → OnOk r (tests' ≡ tests ++ test_with name steps text)
+    → IfSome text (λ t. TestRuns isa l t claims steps)
     → OnOk r (All (IsRunnable isa) tests → All (IsRunnable isa) tests')
 more-runnable isa l name claims steps text tests tests' (Ok done) is runs = λ all. subst
     (λ (ts : List Test). All (IsRunnable isa) ts) (sym is) (All-append (IsRunnable isa) tests
     (test_with name steps text) all (all-runnable isa l name claims steps text runs))
 more-runnable isa l name claims steps text tests tests' (Err fault) is runs = tt
 
--- the words that a run of it that halted leaves
-pub words-left : (isa : Isa) (test : Test) (image : ImageValue) (new : Whole)
-    (trace : List Executed) → answer isa test.text ≡ Ok image → HasRun (started image isa) new
-    test.steps [] trace Halted → signature_of new ≡ reference_words isa test
-unfolding reference_words
-words-left isa test image new trace stands h =
-    let setup = (started image isa).setup in
-    let run : run_on isa image test.steps
-    ≡ record { trace = h.steps; state = new.state; end = Halted } =
-    ap (λ (n : ℕ). run_of setup n (started image isa).state) (sym (h.whole (λ e. cc)))
-    ∙ h.run in
-    ap (λ (s : Setup). signature_of (record { setup = s; state = new.state })) h.same
-    ∙ sym (ap (λ (o : Outcome). words_after image isa o) run)
-    ∙ sym (ap (words_of_image isa test.steps) stands)
+-- its run is found, and leaves the words of the reference machine
+pub runs-found : (isa : Isa) (name : List ℕ) (test : Test) → IsRunnable isa test
+    → (run : Run) × (text_run test.steps isa name test.text ≡ Ok run)
+    × (run.words ≡ reference_words isa test)
+unfolding run_found reference_words
+runs-found isa name test r =
+    let run = left_by (started r.image isa).setup (run_on isa r.image test.steps) in (
+      run,
+      ap (λ (a : Result ImageValue AsmRefusal). then_found (text_found name a)
+          (run_found name test.steps isa)) r.assembled
+          ∙ ap (λ (e : End). run_end name test.steps run e) r.halts,
+      sym (ap (words_of_image isa test.steps) r.assembled),
+    )
+
+-- where something is found, nothing is refused
+pub never-refused : {A B : Type 0} (found : Result A (List ℕ)) (a : A) (b : B) (stop : Stop)
+    → found ≡ Ok a → Accepts found (Err stop) → Accepts (Ok b) (Err stop)
+never-refused found a b Usage is h = h
+never-refused {A} found a b (Refused text) is h =
+    let no : Ok a ≡ Err text = sym is ∙ h in absurd cc
+never-refused found a b (NoFile name) is h = h
+never-refused found a b (CannotRead name) is h = h
+never-refused found a b (CannotWrite name) is h = h
+never-refused found a b (CannotRun name) is h = h
+never-refused found a b NoMemory is h = tt
+never-refused found a b SinkFault is h = h
+
+-- then only memory was wanting
+pub only-memory : {B : Type 0} (b : B) (stop : Stop) → Accepts (Ok b) (Err stop) → stop ≡ NoMemory
+only-memory b Usage h = absurd h
+only-memory b (Refused text) h = absurd cc
+only-memory b (NoFile name) h = absurd h
+only-memory b (CannotRead name) h = absurd h
+only-memory b (CannotWrite name) h = absurd h
+only-memory b (CannotRun name) h = absurd h
+only-memory b NoMemory h = refl
+only-memory b SinkFault h = absurd h

@@ -1,11 +1,11 @@
 -- What a command line left, and what its conclusion says of it.
-use Rattle.std.proofs.Common.{◌≡◌, ◌⊎◌, inl, inr, List, ℕ, Result, Err, refl, subst}
+use Rattle.std.proofs.Common.{◌≡◌, ◌⊎◌, inl, inr, ℕ, Result, Err, refl, subst}
 use Rattle.rvs_base.specs.Host.{HostState, Files, Tells}
 use Rattle.rvs_base.specs.Sink.{SinkState}
 use Rattle.rvs_plan.specs.World.{World, world}
 use Rattle.rvs_plan.specs.Performed.{NeverStops}
 use Rattle.rvs_plan.specs.Meets.{MeetsWith, Meets}
-use Rattle.rvs_plan.specs.Account.{Accounts, Concludes, HostRose, NoneRose, Means}
+use Rattle.rvs_plan.specs.Account.{Accounts, Concludes, NoneRose, Means}
 use Rattle.rvs_plan.proofs.Answering.{Answers, Answers-of, Accounts-means, Means-never_stops}
 use Rattle.rvs_plan.proofs.Answering.{Obeys-meets}
 use Rattle.rvs_plan.proofs.Answering.{Obeys-usage, Obeys-no_memory, Meets-not_usage, usage-status}
@@ -18,12 +18,8 @@ use Rattle.rvs_plan.specs.declared.status.Status.TheVariants as answer
 use Rattle.rvs_plan.specs.declared.status.Finish.{Finish}
 use Rattle.rvs_suite.specs.Demonstrate.{demonstrate}
 use Rattle.rvs_suite.specs.Plans.{plan_of, absence_of, IsApart, Performs}
-use Rattle.rvs_suite.specs.Spells.{Passes, Fails, BothSpell, FirstRefused, FirstMissing, Refuses}
-use Rattle.rvs_suite.specs.Spells.{Misses}
-use Rattle.rvs_suite.proofs.CompareEnds.{passes, fails, refuses, misses, refused-status}
-use Rattle.rvs_suite.proofs.CompareEnds.{missing-status, spelt-status}
 use Rattle.rvs_words.specs.declared.command.Command.{Command}
-use Rattle.rvs_words.specs.declared.command.Command.TheVariants.{Unknown, Compare, Demo}
+use Rattle.rvs_words.specs.declared.command.Command.TheVariants.{Unknown, Demo}
 
 -- a command that met its plan
 pub Performs-meets : {command : Command} {old new : World} {result : Result Finish Stop}
@@ -139,34 +135,6 @@ at_status {command} {old} {new} {err} {err'} {status} r files asked wanted t is 
     (λ (c : Command). Accounts (plan_of c) old new err err' status) is
     ((answers r).effects files t))
 
-pub compare-passes : {command : Command} {old new : World} {err err' : SinkState} {status : Status}
-    → Ran command old new err err' status → (files : Files) (left right : List ℕ)
-    → Tells old.host files → command ≡ Compare left right → status ≡ answer.Done
-    → Passes files left right old.out new.out
-compare-passes {command} {old} {new} r files left right t is done = passes files left right old new
-    t (at_status r files (Compare left right) answer.Done t is done).completes
-
-pub compare-fails : {command : Command} {old new : World} {err err' : SinkState} {status : Status}
-    → Ran command old new err err' status → (files : Files) (left right : List ℕ)
-    → Tells old.host files → command ≡ Compare left right → status ≡ answer.NotPassed
-    → Fails files left right old.out new.out
-compare-fails {command} {old} {new} r files left right t is done = fails files left right old new t
-    (at_status r files (Compare left right) answer.NotPassed t is done).completes
-
-pub compare-refused : {command : Command} {old new : World} {err err' : SinkState} {status : Status}
-    → Ran command old new err err' status → (files : Files) (left right : List ℕ)
-    → Tells old.host files → command ≡ Compare left right → status ≡ answer.Refused
-    → Refuses files left right err err'
-compare-refused {command} {old} {new} {err} {err'} r files left right t is done = refuses files left
-    right old new err err' t (at_status r files (Compare left right) answer.Refused t is done)
-
-pub compare-missed : {command : Command} {old new : World} {err err' : SinkState} {status : Status}
-    → Ran command old new err err' status → (files : Files) (left right : List ℕ)
-    → Tells old.host files → command ≡ Compare left right → status ≡ answer.HostFault
-    → Misses files left right err err' ⊎ HostRose old new
-compare-missed {command} {old} {new} {err} {err'} r files left right t is done = misses files left
-    right old new err err' t (at_status r files (Compare left right) answer.HostFault t is done)
-
 -- the status that a command means
 pub asked_means : {command : Command} {old new : World} {err err' : SinkState} {status : Status}
     → Ran command old new err err' status → (files : Files) (asked : Command) → Tells old.host files
@@ -175,38 +143,3 @@ pub asked_means : {command : Command} {old new : World} {err err' : SinkState} {
 asked_means {command} {old} {new} {err} {err'} {status} r files asked t is none = subst
     (λ (c : Command). Means (plan_of c) files status ⊎ (status ≡ answer.NoMemory)) is
     (answered r files t none)
-
-pub compare-refuses : {command : Command} {old new : World} {err err' : SinkState} {status : Status}
-    → Ran command old new err err' status → (files : Files) (left right text : List ℕ)
-    → Tells old.host files → command ≡ Compare left right → FirstRefused files left right text
-    → NoneRose old new err err' → (status ≡ answer.Refused) ⊎ (status ≡ answer.NoMemory)
-compare-refuses {status = status} r files left right text t is first none =
-    elim (asked_means r files (Compare left right) t is none) [
-      | inl m ↦ inl (refused-status files left right text status first m)
-      | inr no_memory ↦ inr no_memory
-    ]
-
-pub compare-misses : {command : Command} {old new : World} {err err' : SinkState} {status : Status}
-    → Ran command old new err err' status → (files : Files) (left right name : List ℕ)
-    → Tells old.host files → command ≡ Compare left right → FirstMissing files left right name
-    → NoneRose old new err err' → (status ≡ answer.HostFault) ⊎ (status ≡ answer.NoMemory)
-compare-misses {status = status} r files left right name t is first none =
-    elim (asked_means r files (Compare left right) t is none) [
-      | inl m ↦ inl (missing-status files left right name status first m)
-      | inr no_memory ↦ inr no_memory
-    ]
-
-pub compare-spelt : {command : Command} {old new : World} {err err' : SinkState} {status : Status}
-    → Ran command old new err err' status
-    → (files : Files) (left right left_words right_words : List ℕ) → Tells old.host files
-    → command ≡ Compare left right → BothSpell files left right left_words right_words
-    → NoneRose old new err err'
-    → (status ≡ answer.Done) ⊎ (status ≡ answer.NotPassed) ⊎ (status ≡ answer.NoMemory)
-compare-spelt {status = status} r files left right left_words right_words t is both none =
-    elim (asked_means r files (Compare left right) t is none) [
-      | inl m ↦ elim (spelt-status files left right left_words right_words status both m) [
-        | inl done ↦ inl done
-        | inr not_passed ↦ inr (inl not_passed)
-      ]
-      | inr no_memory ↦ inr (inr no_memory)
-    ]

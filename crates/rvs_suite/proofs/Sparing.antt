@@ -32,10 +32,11 @@ use Rattle.rvs_suite.specs.GenerateTexts.{listing}
 use Rattle.rvs_suite.specs.Generate.{path_of, writes_text, writes_test, writes_tests, written_tests}
 use Rattle.rvs_suite.specs.Generate.{generates, generate}
 use Rattle.rvs_suite.specs.Tests.{test_with, tests_of_label, tests_of}
-use Rattle.rvs_suite.specs.RunTests.{Bench, judges_one, with_one, judges_all, tallies}
+use Rattle.rvs_suite.specs.RunTests.{Bench, files_for, judges_one, with_one, judges_all, tallies}
 use Rattle.rvs_suite.specs.RunTests.{RunInputs, run_inputs, bench_of, runs, run}
 use Rattle.rvs_suite.specs.Generating.{IsNoTest}
-use Rattle.rvs_suite.specs.Judging.{run_inputs_in, tests_in, IsOther}
+use Rattle.rvs_suite.specs.TestFiles.{IsOther, files_of}
+use Rattle.rvs_suite.specs.Judging.{run_inputs_in, tests_in}
 use Rattle.rvs_suite.specs.Plans.{plan_of}
 use Rattle.rvs_suite.proofs.Finding.{Finds}
 use Rattle.rvs_suite.proofs.GroupInputs.{finds-inputs}
@@ -45,9 +46,12 @@ use Rattle.rvs_words.specs.declared.command.Command.{Command}
 use Rattle.rvs_words.specs.declared.command.Command.TheVariants.{Generate, Reference, Run}
 use Rattle.rvs_suite.specs.declared.gathering.Test.{Test}
 use Rattle.rvs_suite.specs.declared.test_run.Run.{Run as TestRun}
+use Rattle.rvs_words.specs.declared.command.GenerateArguments.{GenerateArguments}
+use Rattle.rvs_words.specs.declared.command.ReferenceArguments.{ReferenceArguments}
+use Rattle.rvs_words.specs.declared.command.RunArguments.{RunArguments}
 
 -- what the named file holds, where files are told
-abbrev held : List ℕ → Option Files → Option (Option (List ℕ))
+abbrev pub held : List ℕ → Option Files → Option (Option (List ℕ))
 held name None = None
 held name (Some files) = Some (files name)
 
@@ -55,7 +59,7 @@ unchosen : (b : Bool) (x y : Option (List ℕ)) → (b ≡ true → ⊥) → (if
 unchosen true x y never = absurd (never refl)
 unchosen false x y never = refl
 
-unwritten : (other name bytes : List ℕ) (files : Option Files) → other ≢ name
+pub unwritten : (other name bytes : List ℕ) (files : Option Files) → other ≢ name
     → held other (written name bytes files) ≡ held other files
 unwritten other name bytes None apart = refl
 unwritten other name bytes (Some files) apart = ap (λ (x : Option (List ℕ)). Some x) (unchosen
@@ -221,13 +225,15 @@ halted files other plan old new (why.NoFile name) told spares h =
 halted files other plan old new (why.CannotRead name) told spares h =
     (reached files other plan (Asks name h.next) old new told spares h.reaches).0
 halted files other plan old new (why.CannotWrite name) told spares h =
-    let k = reached files other plan (Does (Write name h.0) h.1.rest) old h.1.before told spares h.1.reaches in
+    let k = reached files other plan (Does (Write name h.0) h.1.rest) old h.1.before told spares
+    h.1.reaches in
     unspoilt other name h.0 h.1.before.files new.files k.1.0 h.1.broke.files ∙ k.0
 halted files other plan old new (why.CannotRun test) told spares h =
-    let k =
-    reached files other plan (Runs h.words test h.signature h.next) old h.before told spares h.reaches in
+    let k = reached files other plan (Runs h.words test h.signature h.next) old h.before told spares
+    h.reaches in
     unchanged other h.signature h.before.files new.files k.1.0 h.broke.files ∙ k.0
-halted files other plan old new why.NoMemory told spares h = (reached files other plan h.0 old new told spares h.1).0
+halted files other plan old new why.NoMemory told spares h =
+    (reached files other plan h.0 old new told spares h.1).0
 halted files other plan old new why.SinkFault told spares h =
     ap (λ (c : Contents). held other c.files) h.1.broke.put
     ∙ (reached files other plan (Does (Out h.0) h.1.rest) old h.1.before told spares h.1.reaches).0
@@ -257,15 +263,15 @@ spares-records other signature None run apart unlogged = (apart, tt)
 spares-records other signature (Some log) run apart unlogged =
     (apart, (λ p. unlogged (ap (λ (x : List ℕ). Some x) (sym p)), tt))
 
-spares-reference : (other isa test signature : List ℕ) (log : Option (List ℕ)) (steps : Option ℕ)
-    → other ≢ signature → log ≢ Some other → Spares other (reference isa test signature log steps)
-spares-reference other isa test signature log steps apart unlogged =
-    Spares-then other (specification isa) (λ said. reference_on test signature log steps said.spec)
-    (Spares-then other (input isa_limit isa) (checks isa) (λ found. tt) (λ bytes. tt)) (λ said.
-    Spares-then other (trial steps said.spec test) (records signature log) (Spares-then other
-    (input test_limit test) (λ bytes. accepted (test_found steps said.spec test bytes))
-    (λ found. tt) (λ bytes. tt)) (λ run.
-    spares-records other signature log run apart unlogged))
+spares-reference : (other : List ℕ) (asked : ReferenceArguments) → other ≢ asked.signature
+    → asked.log ≢ Some other → Spares other (reference asked)
+spares-reference other asked apart unlogged =
+    Spares-then other (specification asked.isa) (λ said. reference_on asked said.spec)
+    (Spares-then other (input isa_limit asked.isa) (checks asked.isa) (λ found. tt) (λ bytes. tt))
+    (λ said. Spares-then other (trial asked.steps said.spec asked.test)
+    (records asked.signature asked.log) (Spares-then other (input test_limit asked.test)
+    (λ bytes. accepted (test_found asked.steps said.spec asked.test bytes)) (λ found. tt)
+    (λ bytes. tt)) (λ run. spares-records other asked.signature asked.log run apart unlogged))
 
 -- ---- of commands
 spares-test : (other work name : List ℕ) (steps : ℕ) (b : Bool) (text : Option (List ℕ))
@@ -291,36 +297,43 @@ spares-tests other work isa (l ∷ ls) apart =
     (λ _. spares-tests other work isa ls
     (λ test there. apart test (Contains-append_right first later test there)))
 
-spares-generate : (files : Files) (other isa : List ℕ) (names : List (List ℕ)) (work : List ℕ)
-    → IsNoTest work (inputs_in files isa names) other
-    → SparesOver files other (generate isa names work)
-spares-generate files other isa names work apart = spares-found files other (group_inputs isa names)
-    (generates work) (inputs_in files isa names) (finds-inputs files isa names) (λ inputs given.
-    Spares-then other (written_tests work inputs.isa inputs.groups) print_text (Spares-then other
-    (writes_tests work inputs.isa inputs.groups) (λ _. gives (listing inputs.isa inputs.groups))
-    (spares-tests other work inputs.isa inputs.groups
+spares-generate : (files : Files) (other : List ℕ) (asked : GenerateArguments)
+    → IsNoTest asked.work (inputs_in files asked.isa asked.groups) other
+    → SparesOver files other (generate asked)
+spares-generate files other asked apart = spares-found files other
+    (group_inputs asked.isa asked.groups) (generates asked.work)
+    (inputs_in files asked.isa asked.groups) (finds-inputs files asked.isa asked.groups)
+    (λ inputs given. Spares-then other
+    (written_tests asked.work inputs.isa inputs.groups) print_text
+    (Spares-then other (writes_tests asked.work inputs.isa inputs.groups)
+    (λ _. gives (listing inputs.isa inputs.groups))
+    (spares-tests other asked.work inputs.isa inputs.groups
     (λ test there. apart inputs test given there)) (λ _. tt)) (λ text. tt))
 
 spares-judging : (other : List ℕ) (bench : Bench) (passed : ℕ) (tests : List Test)
-    → ((test : Test) → Contains tests test → IsOther bench.work other test)
+    → ((test : Test) → Contains tests test → IsOther (files_for bench test) other)
     → Spares other (judges_all bench passed tests)
 spares-judging other bench passed [] apart = tt
 spares-judging other bench passed (test ∷ tests) apart =
     let this = apart test (0, omega arith, refl) in
     Spares-then other (judges_one bench test) (λ pass. judges_all bench
     (with_one passed pass) tests)
-    (this.text, (this.reference, (this.device, (this.device, λ answer found. tt)))) (λ pass.
+    (this.test, (this.reference, (this.device, (this.device, λ answer found. tt)))) (λ pass.
     spares-judging other bench (with_one passed pass) tests
     (λ t there. apart t (Contains-append_right (test ∷ []) tests t there)))
 
-spares-run : (files : Files) (other program isa : List ℕ) (names : List (List ℕ))
-    (device work : List ℕ) → ((inputs : RunInputs) (test : Test)
-    → run_inputs_in files isa names device ≡ Ok inputs → Contains (tests_in inputs) test
-    → IsOther work other test) → SparesOver files other (run program isa names device work)
-spares-run files other program isa names device work apart = spares-found files other
-    (run_inputs isa names device) (runs program work) (run_inputs_in files isa names device)
-    (finds-run files isa names device) (λ inputs given.
-    let bench = bench_of program work inputs in
+-- a file that is none of the tests of these inputs, where they are accepted
+abbrev IsNoFile : Files → RunArguments → List ℕ → Type 0
+IsNoFile files asked other = (inputs : RunInputs) (test : Test)
+    → run_inputs_in files asked ≡ Ok inputs
+    → Contains (tests_in inputs) test → IsOther (files_of asked.work test.name) other
+
+spares-run : (files : Files) (other : List ℕ) (asked : RunArguments) → IsNoFile files asked other
+    → SparesOver files other (run asked)
+spares-run files other asked apart = spares-found files other (run_inputs asked)
+    (runs asked.program asked.work) (run_inputs_in files asked) (finds-run files asked)
+    (λ inputs given.
+    let bench = bench_of asked.program asked.work inputs in
     let tests = tests_in inputs in
     Spares-then other (judges_all bench 0 tests) (tallies (length tests))
     (spares-judging other bench 0 tests (λ test there. apart inputs test given there))
@@ -344,29 +357,26 @@ spares {command} {old} {new} {err} {err'} {status} r files files' asked other t 
 
 pub reference-spares : {command : Command} {old new : World} {err err' : SinkState}
     {status : Status} → Ran command old new err err' status → (files files' : Files)
-    (isa test signature : List ℕ) (log : Option (List ℕ)) (steps : Option ℕ) (other : List ℕ)
-    → Tells old.host files → command ≡ Reference isa test signature log steps → other ≢ signature
-    → log ≢ Some other → new.host.files ≡ Some files' → files' other ≡ files other
-reference-spares r files files' isa test signature log steps other t is apart unlogged told = spares
-    r files files' (Reference isa test signature log steps) other t is
-    (spares-over files other (reference isa test signature log steps)
-    (spares-reference other isa test signature log steps apart unlogged)) told
+    (asked : ReferenceArguments) (other : List ℕ) → Tells old.host files
+    → command ≡ Reference asked → other ≢ asked.signature → asked.log ≢ Some other
+    → new.host.files ≡ Some files' → files' other ≡ files other
+reference-spares r files files' asked other t is apart unlogged told =
+    spares r files files' (Reference asked) other t is
+    (spares-over files other (reference asked) (spares-reference other asked apart unlogged)) told
 
 pub generate-spares : {command : Command} {old new : World} {err err' : SinkState} {status : Status}
-    → Ran command old new err err' status
-    → (files files' : Files) (isa : List ℕ) (names : List (List ℕ)) (work other : List ℕ)
-    → Tells old.host files → command ≡ Generate isa names work
-    → IsNoTest work (inputs_in files isa names) other → new.host.files ≡ Some files'
-    → files' other ≡ files other
-generate-spares r files files' isa names work other t is apart told = spares r files files'
-    (Generate isa names work) other t is (spares-generate files other isa names work apart) told
+    → Ran command old new err err' status → (files files' : Files) (asked : GenerateArguments)
+    (other : List ℕ) → Tells old.host files → command ≡ Generate asked
+    → IsNoTest asked.work (inputs_in files asked.isa asked.groups) other
+    → new.host.files ≡ Some files' → files' other ≡ files other
+generate-spares r files files' asked other t is apart told =
+    spares r files files' (Generate asked) other t is (spares-generate files other asked apart) told
 
 pub run-spares : {command : Command} {old new : World} {err err' : SinkState} {status : Status}
-    → Ran command old new err err' status → (files files' : Files) (program isa : List ℕ)
-    (names : List (List ℕ)) (device work other : List ℕ) → Tells old.host files → command ≡ Run
-    program isa names device work → ((inputs : RunInputs) (test : Test)
-    → run_inputs_in files isa names device ≡ Ok inputs → Contains (tests_in inputs) test
-    → IsOther work other test) → new.host.files ≡ Some files' → files' other ≡ files other
-run-spares r files files' program isa names device work other t is apart told = spares r files
-    files' (Run program isa names device work) other t is
-    (spares-run files other program isa names device work apart) told
+    → Ran command old new err err' status → (files files' : Files) (asked : RunArguments)
+    (other : List ℕ) → Tells old.host files → command ≡ Run asked
+    → ((inputs : RunInputs) (test : Test) → run_inputs_in files asked ≡ Ok inputs
+    → Contains (tests_in inputs) test → IsOther (files_of asked.work test.name) other)
+    → new.host.files ≡ Some files' → files' other ≡ files other
+run-spares r files files' asked other t is apart told =
+    spares r files files' (Run asked) other t is (spares-run files other asked apart) told

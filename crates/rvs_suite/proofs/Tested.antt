@@ -34,6 +34,7 @@ use Rattle.rvs_suite.specs.declared.gathering.Test.{Test}
 use Rattle.rvs_suite.proofs.BaseCores.{IsBase, base_said}
 use Rattle.rvs_suite.proofs.PointLines.{has-lines}
 use Rattle.rvs_suite.proofs.Runnable.{runnable}
+use Rattle.rvs_words.specs.declared.command.RunArguments.{RunArguments}
 
 -- ---- the labels that are read are valid, for a core that tests are made for
 pub record IsGood (inputs : Inputs) : Type 0 where
@@ -147,27 +148,27 @@ groups-of (Ok inputs) (Ok told) = refl
 groups-of (Ok inputs) (Err stop) = tt
 groups-of (Err stop) found = tt
 
-groups-accepted : (files : Files) (isa : List ℕ) (names : List (List ℕ)) (device : List ℕ)
-    (inputs : RunInputs) → run_inputs_in files isa names device ≡ Ok inputs
-    → inputs_in files isa names ≡ Ok inputs.groups
-groups-accepted files isa names device inputs given = subst
+pub groups-accepted : (files : Files) (asked : RunArguments)
+    (inputs : RunInputs) → run_inputs_in files asked ≡ Ok inputs
+    → inputs_in files asked.isa asked.groups ≡ Ok inputs.groups
+groups-accepted files asked inputs given = subst
     (λ (r : Result RunInputs Stop).
-    IfOk r (λ (i : RunInputs). inputs_in files isa names ≡ Ok i.groups)) given
-    (groups-of (inputs_in files isa names) (device_in files device))
+    IfOk r (λ (i : RunInputs). inputs_in files asked.isa asked.groups ≡ Ok i.groups)) given
+    (groups-of (inputs_in files asked.isa asked.groups) (device_in files asked.device))
 
-pub tested-run : (files : Files) (isa : List ℕ) (names : List (List ℕ)) (device : List ℕ)
-    (inputs : RunInputs) → run_inputs_in files isa names device ≡ Ok inputs
+pub tested-run : (files : Files) (asked : RunArguments)
+    (inputs : RunInputs) → run_inputs_in files asked ≡ Ok inputs
     → AreTested inputs.groups
-tested-run files isa names device inputs given = tested files isa names inputs.groups
-    (groups-accepted files isa names device inputs given)
+tested-run files asked inputs given = tested files asked.isa asked.groups inputs.groups
+    (groups-accepted files asked inputs given)
 
-pub runnable-run : (files : Files) (isa : List ℕ) (names : List (List ℕ)) (device : List ℕ)
-    (inputs : RunInputs) (test : Test) → run_inputs_in files isa names device ≡ Ok inputs
+pub runnable-run : (files : Files) (asked : RunArguments)
+    (inputs : RunInputs) (test : Test) → run_inputs_in files asked ≡ Ok inputs
     → Contains (tests_of inputs.groups.isa inputs.groups.groups) test
     → IsRunnable inputs.groups.isa test
-runnable-run files isa names device inputs test given there =
-    let good = good-inputs files isa names inputs.groups
-    (groups-accepted files isa names device inputs given) in
+runnable-run files asked inputs test given there =
+    let good = good-inputs files asked.isa asked.groups inputs.groups
+    (groups-accepted files asked inputs given) in
     All-contains (IsRunnable inputs.groups.isa)
     (tests_of inputs.groups.isa inputs.groups.groups) test
     (runnable-all inputs.groups.isa inputs.groups.groups good.base good.valid) there

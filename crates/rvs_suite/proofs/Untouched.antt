@@ -35,7 +35,7 @@ use Rattle.rvs_suite.specs.TestRun.{accepted, test_found}
 use Rattle.rvs_suite.specs.Tests.{tests_of}
 use Rattle.rvs_suite.specs.RunTests.{Bench, judges_one, with_one, judges_all, tallies, RunInputs}
 use Rattle.rvs_suite.specs.RunTests.{run_inputs, bench_of, runs}
-use Rattle.rvs_suite.specs.Plans.{plan_of}
+use Rattle.rvs_suite.specs.Plans.{plan_of, ReadsFirst}
 use Rattle.rvs_suite.proofs.Ends.{was_refused, WasMissing, was_missing}
 use Rattle.rvs_suite.proofs.Readers.{OnlyReads, OnlyReads-then}
 use Rattle.rvs_suite.proofs.GroupInputs.{reads-specification, reads-inputs}
@@ -174,59 +174,63 @@ runs-on program work inputs =
     (λ passed. tt)
 
 -- no command stops once it has changed anything
-stops_untouched : (command : Command) (effects : List Effect) (stop : Stop) (c : Contents)
-    → Goes (plan_of command) effects (Ends (Err stop)) → after effects c ≡ c
-stops_untouched Unknown = untouched-end Finish why.Usage
-stops_untouched (Compare left right) =
-    untouched-then (comparing.signature left) (comparing.compare_right right) (reads-signature left)
-    (λ lw.
-    untouched-then (comparing.signature right) (comparing.announce lw) (reads-signature right)
-    (λ rw' effects stop c goes.
+stops_untouched : (command : Command) → ReadsFirst command → (effects : List Effect) (stop : Stop)
+    (c : Contents) → Goes (plan_of command) effects (Ends (Err stop)) → after effects c ≡ c
+stops_untouched Unknown first = untouched-end Finish why.Usage
+stops_untouched (Compare asked) first =
+    untouched-then (comparing.signature asked.left) (comparing.compare_right asked.right)
+    (reads-signature asked.left) (λ lw.
+    untouched-then (comparing.signature asked.right) (comparing.announce lw)
+    (reads-signature asked.right) (λ rw' effects stop c goes.
     absurd (goes-on (comparing.announce lw rw') effects stop tt goes)))
-stops_untouched (Validate isa) =
-    untouched-then (specification isa) print_said (reads-specification isa)
+stops_untouched (Validate asked) first =
+    untouched-then (specification asked.isa) print_said (reads-specification asked.isa)
     (λ said effects stop c goes.
     absurd (goes-on (print_said said) effects stop tt goes))
-stops_untouched (Normalize isa names) =
-    untouched-then (group_inputs isa names) print_normal (reads-inputs isa names)
-    (λ inputs effects stop c goes.
+stops_untouched (Normalize asked) first =
+    untouched-then (group_inputs asked.isa asked.groups) print_normal
+    (reads-inputs asked.isa asked.groups) (λ inputs effects stop c goes.
     absurd (goes-on (print_normal inputs) effects stop tt goes))
-stops_untouched (Generate isa names work) =
-    untouched-then (group_inputs isa names) (generates work) (reads-inputs isa names)
+stops_untouched (Generate asked) first =
+    untouched-then (group_inputs asked.isa asked.groups) (generates asked.work)
+    (reads-inputs asked.isa asked.groups) (λ inputs effects stop c goes.
+    absurd (goes-on (generates asked.work inputs) effects stop (generates-on asked.work inputs)
+    goes))
+stops_untouched (Run asked) first =
+    untouched-then (run_inputs asked) (runs asked.program asked.work) (reads-run asked)
     (λ inputs effects stop c goes.
-    absurd (goes-on (generates work inputs) effects stop (generates-on work inputs) goes))
-stops_untouched (Run program isa names device work) =
-    untouched-then (run_inputs isa names device) (runs program work) (reads-run isa names device)
-    (λ inputs effects stop c goes.
-    absurd (goes-on (runs program work inputs) effects stop (runs-on program work inputs) goes))
-stops_untouched (Coverage isa names log windows) =
-    untouched-then (reported isa names log windows) print_text
-    (reads-reported isa names log windows) (λ report effects stop c goes.
-    absurd (goes-on (print_text report) effects stop tt goes))
-stops_untouched (Demo count) =
+    absurd (goes-on (runs asked.program asked.work inputs) effects stop
+    (runs-on asked.program asked.work inputs) goes))
+stops_untouched (Coverage asked) first =
+    untouched-then (reported asked) print_text (reads-reported asked)
+    (λ report effects stop c goes. absurd (goes-on (print_text report) effects stop tt goes))
+stops_untouched (Demo count) first =
     λ effects stop c goes. absurd (goes-on (demonstrate count) effects stop tt goes)
-stops_untouched (Reference isa test signature log steps) =
-    untouched-then (specification isa) (λ said. reference_on test signature log steps said.spec)
-    (reads-specification isa) (λ said.
-    untouched-then (trial steps said.spec test) (records signature log)
-    (reads-trial steps said.spec test) (λ run effects stop c goes.
-    absurd (goes-on (records signature log run) effects stop (records-on signature log run) goes)))
+stops_untouched (Reference asked) first =
+    untouched-then (specification asked.isa) (λ said. reference_on asked said.spec)
+    (reads-specification asked.isa) (λ said.
+    untouched-then (trial asked.steps said.spec asked.test) (records asked.signature asked.log)
+    (reads-trial asked.steps said.spec asked.test) (λ run effects stop c goes.
+    absurd (goes-on (records asked.signature asked.log run) effects stop
+    (records-on asked.signature asked.log run) goes)))
 
-unchanged : (command : Command) (stop : Stop) (old new : Contents)
+unchanged : (command : Command) (stop : Stop) (old new : Contents) → ReadsFirst command
     → Completes (plan_of command) (Err stop) old new → new ≡ old
-unchanged command stop old new r = r.did ∙ stops_untouched command r.effects stop old r.goes
+unchanged command stop old new first r =
+    r.did ∙ stops_untouched command first r.effects stop old r.goes
 
-used : (command : Command) (old new : World) (reason : Stop)
+used : (command : Command) (old new : World) (reason : Stop) → ReadsFirst command
     → Halts (plan_of command) (contents old) (contents new) reason → answer.Usage ≡ status_of reason
     → contents new ≡ contents old
-used command old new why.Usage h is = unchanged command why.Usage (contents old) (contents new) h
-used command old new (why.Refused text) h is = absurd cc
-used command old new (why.NoFile name) h is = absurd cc
-used command old new (why.CannotRead name) h is = absurd cc
-used command old new (why.CannotWrite name) h is = absurd cc
-used command old new (why.CannotRun test) h is = absurd cc
-used command old new why.NoMemory h is = absurd cc
-used command old new why.SinkFault h is = absurd cc
+used command old new why.Usage first h is =
+    unchanged command why.Usage (contents old) (contents new) first h
+used command old new (why.Refused text) first h is = absurd cc
+used command old new (why.NoFile name) first h is = absurd cc
+used command old new (why.CannotRead name) first h is = absurd cc
+used command old new (why.CannotWrite name) first h is = absurd cc
+used command old new (why.CannotRun test) first h is = absurd cc
+used command old new why.NoMemory first h is = absurd cc
+used command old new why.SinkFault first h is = absurd cc
 
 accounts : {command : Command} {old new : World} {err err' : SinkState} {status : Status}
     → Ran command old new err err' status → (files : Files) (wanted : Status) → Tells old.host files
@@ -237,23 +241,26 @@ accounts {command} {old} {new} {err} {err'} r files wanted t is = subst
 -- a run that is refused, or whose words are no command
 pub untouched : {command : Command} {old new : World} {err err' : SinkState} {status : Status}
     → Ran command old new err err' status → (files : Files) → Tells old.host files
-    → (status ≡ answer.Usage) ⊎ (status ≡ answer.Refused) → contents new ≡ contents old
-untouched {command} {old} {new} {err} {err'} r files t (inl is) = let a =
-    accounts r files answer.Usage t is in used command old new a.reason a.halts a.status_is
-untouched {command} {old} {new} {err} {err'} r files t (inr is) = let w =
+    → ReadsFirst command → (status ≡ answer.Usage) ⊎ (status ≡ answer.Refused)
+    → contents new ≡ contents old
+untouched {command} {old} {new} {err} {err'} r files t first (inl is) = let a =
+    accounts r files answer.Usage t is in used command old new a.reason first a.halts a.status_is
+untouched {command} {old} {new} {err} {err'} r files t first (inr is) = let w =
     was_refused (plan_of command) old new err err' (accounts r files answer.Refused t is) in
-    unchanged command (why.Refused w.text) (contents old) (contents new) w.completes
+    unchanged command (why.Refused w.text) (contents old) (contents new) first w.completes
 
-absent : (command : Command) (old new : World) (err err' : SinkState)
+absent : (command : Command) (old new : World) (err err' : SinkState) → ReadsFirst command
     → WasMissing (plan_of command) old new err err' ⊎ HostRose old new
     → (contents new ≡ contents old) ⊎ HostRose old new
-absent command old new err err' (inl w) =
-    inl (unchanged command (why.NoFile w.name) (contents old) (contents new) w.completes)
-absent command old new err err' (inr rose) = inr rose
+absent command old new err err' first (inl w) =
+    inl (unchanged command (why.NoFile w.name) (contents old) (contents new) first w.completes)
+absent command old new err err' first (inr rose) = inr rose
 
 -- one that lacks an input
 pub untouched-absent : {command : Command} {old new : World} {err err' : SinkState}
     {status : Status} → Ran command old new err err' status → (files : Files) → Tells old.host files
-    → status ≡ answer.HostFault → (contents new ≡ contents old) ⊎ HostRose old new
-untouched-absent {command} {old} {new} {err} {err'} r files t is = absent command old new err err'
+    → ReadsFirst command → status ≡ answer.HostFault
+    → (contents new ≡ contents old) ⊎ HostRose old new
+untouched-absent {command} {old} {new} {err} {err'} r files t first is =
+    absent command old new err err' first
     (was_missing (plan_of command) old new err err' (accounts r files answer.HostFault t is))

@@ -12,6 +12,7 @@ use Rattle.rvs_sig.specs.declared.words.SigRefusal.{SigRefusal}
 use Rattle.rvs_sig.specs.declared.comparison.Verdict.{Verdict}
 use Rattle.rvs_sig.specs.declared.comparison.Verdict.TheVariants.{Same, Differs, Lengths}
 use Rattle.rvs_suite.specs.Texts.{verdict_line, refusal_text}
+use Rattle.rvs_words.specs.declared.command.CompareArguments.{CompareArguments}
 
 -- a signature file has at most this many bytes: 262,144 lines of ten
 abbrev pub signature_limit : ℕ
@@ -48,7 +49,7 @@ compare_right right left_words = do
   announce left_words right_words
 
 -- the left file is read and checked, then the right one, and then one line is put
-abbrev pub compare : List ℕ → List ℕ → Plan Finish
-compare left right = do
-  left_words ← signature left
-  compare_right right left_words
+abbrev pub compare : CompareArguments → Plan Finish
+compare asked = do
+  left_words ← signature asked.left
+  compare_right asked.right left_words

@@ -14,6 +14,7 @@ use Rattle.rvs_count.specs.Report.{report_of}
 use Rattle.rvs_base.specs.declared.asked.Window.{Window}
 use Rattle.rvs_suite.specs.Printing.{print_text}
 use Rattle.rvs_suite.specs.GroupFiles.{Inputs, and_then, inputs_in, group_inputs}
+use Rattle.rvs_words.specs.declared.command.CoverageArguments.{CoverageArguments}
 
 -- a log has at most this many bytes: 2^40
 abbrev pub log_limit : ℕ
@@ -35,25 +36,25 @@ report_found groups windows name (Some log) =
 
 -- ---- over given files
 -- the report on the named log, for the groups that the ISA file and the group files give
-abbrev pub report_in : Files → List ℕ → List (List ℕ) → List ℕ → List Window → Result (List ℕ) Stop
-report_in files isa names log windows =
-    and_then (inputs_in files isa names)
-    (λ inputs. report_found inputs.groups windows log (files log))
+abbrev pub report_in : Files → CoverageArguments → Result (List ℕ) Stop
+report_in files asked =
+    and_then (inputs_in files asked.isa asked.groups)
+    (λ inputs. report_found inputs.groups asked.windows asked.log (files asked.log))
 
 -- ---- as plans
 -- the log is read and counted
-abbrev pub counts_log : List ℕ → List Window → Inputs → Plan (List ℕ)
-counts_log log windows inputs =
-    Asks log (λ found. Ends (report_found inputs.groups windows log found))
+abbrev pub counts_log : CoverageArguments → Inputs → Plan (List ℕ)
+counts_log asked inputs =
+    Asks asked.log (λ found. Ends (report_found inputs.groups asked.windows asked.log found))
 
 -- the ISA file and the group files are read and checked, and then the log is counted
-abbrev pub reported : List ℕ → List (List ℕ) → List ℕ → List Window → Plan (List ℕ)
-reported isa names log windows = do
-  inputs ← group_inputs isa names
-  counts_log log windows inputs
+abbrev pub reported : CoverageArguments → Plan (List ℕ)
+reported asked = do
+  inputs ← group_inputs asked.isa asked.groups
+  counts_log asked inputs
 
 -- and then the report is put
-abbrev pub coverage : List ℕ → List (List ℕ) → List ℕ → List Window → Plan Finish
-coverage isa names log windows = do
-  report ← reported isa names log windows
+abbrev pub coverage : CoverageArguments → Plan Finish
+coverage asked = do
+  report ← reported asked
   print_text report

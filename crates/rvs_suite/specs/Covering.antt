@@ -12,13 +12,14 @@ use Rattle.rvs_count.specs.Counting.{aims_of, count, hits, kept}
 use Rattle.rvs_log.specs.Logs.{log_of, as_entry}
 use Rattle.rvs_count.specs.Report.{report_of}
 use Rattle.rvs_base.specs.declared.asked.Window.{Window}
-use Rattle.rvs_suite.specs.Answered.{Answered}
+use Rattle.rvs_suite.specs.Answered.{Answered, OnDone}
 use Rattle.rvs_suite.specs.Call.{Call, Asks}
 use Rattle.rvs_suite.specs.Coverage.{log_limit, report_in}
 use Rattle.rvs_suite.specs.GroupFiles.{Inputs, inputs_in}
 use Rattle.rvs_suite.specs.Halting.{BothHalt}
 use Rattle.rvs_suite.specs.declared.test_run.Run.{Run}
 use Rattle.rvs_words.specs.declared.command.Command.TheVariants.{Coverage}
+use Rattle.rvs_words.specs.declared.command.CoverageArguments.{CoverageArguments}
 
 -- the output has this report
 abbrev pub HasReported : Call → List ℕ → Type 0
@@ -30,35 +31,37 @@ IsLogOf files log entries = (bytes : List ℕ) × (files log ≡ Some bytes) × 
     × (entries_of bytes ≡ entries)
 
 -- a call of `coverage` on these of these files
-pub record Covers (call : Call) (files : Files) (isa : List ℕ) (names : List (List ℕ))
-    (log : List ℕ) (windows : List Window) : Type 0 where
+pub record Covers (call : Call) (files : Files) (asked : CoverageArguments) : Type 0 where
   -- it is done where all files are accepted, and has put the report; it is refused, or the host
   -- fails, at the first file that isn't
-  pub answered : Answered call (report_in files isa names log windows) (HasReported call)
+  pub answered : Answered call (report_in files asked)
+      (OnDone (HasReported call))
   -- the numbers of the report are those of the log's instructions that the windows leave: how many
   -- hit each point of the groups, and how many there are
-  pub counts : (inputs : Inputs) (entries : List Entry) → inputs_in files isa names ≡ Ok inputs
-      → IsLogOf files log entries → call.status ≡ Done
+  pub counts : (inputs : Inputs) (entries : List Entry)
+      → inputs_in files asked.isa asked.groups ≡ Ok inputs
+      → IsLogOf files asked.log entries → call.status ≡ Done
       → HasReported call (report_of inputs.groups
-      (map (count (kept windows entries)) (aims_of inputs.groups))
-      (length (kept windows entries)))
+      (map (count (kept asked.windows entries)) (aims_of inputs.groups))
+      (length (kept asked.windows entries)))
   -- so where one instruction is all that the log has, and it hits the one point of the one label,
   -- the report counts one
   pub one : (isa' : Isa) (l : Label) (p : Point) (e : Entry)
-      → inputs_in files isa names ≡ Ok (record { isa = isa'; groups = l ∷ [] })
-      → IsTrue l.selected → l.points ≡ p ∷ [] → windows ≡ [] → IsLogOf files log (e ∷ [])
+      → inputs_in files asked.isa asked.groups ≡ Ok (record { isa = isa'; groups = l ∷ [] })
+      → IsTrue l.selected → l.points ≡ p ∷ [] → asked.windows ≡ []
+      → IsLogOf files asked.log (e ∷ [])
       → IsTrue (hits (record { ops = l.ops; point = p }) e) → call.status ≡ Done
       → HasReported call (report_of (l ∷ []) (1 ∷ []) 1)
   -- so of the log that `reference` writes of a test it counts what the test's run hits
   pub of_run : (inputs : Inputs) (test : List ℕ) (steps : Option ℕ) (run : Run)
-      → inputs_in files isa names ≡ Ok inputs → BothHalt files isa test steps run
-      → files log ≡ Some (log_of run.trace) → length (log_of run.trace) ≤ log_limit
+      → inputs_in files asked.isa asked.groups ≡ Ok inputs → BothHalt files asked.isa test steps run
+      → files asked.log ≡ Some (log_of run.trace) → length (log_of run.trace) ≤ log_limit
       → call.status ≡ Done → HasReported call (report_of inputs.groups
-      (map (count (kept windows (map as_entry run.trace))) (aims_of inputs.groups))
-      (length (kept windows (map as_entry run.trace))))
+      (map (count (kept asked.windows (map as_entry run.trace))) (aims_of inputs.groups))
+      (length (kept asked.windows (map as_entry run.trace))))
   -- A selected label of the groups is valid for the core. So no two of the lines of its points name
   -- one kind and key, and what each of these points means is what its key says.
-  pub valid : (inputs : Inputs) (l : Label) → inputs_in files isa names ≡ Ok inputs
+  pub valid : (inputs : Inputs) (l : Label) → inputs_in files asked.isa asked.groups ≡ Ok inputs
       → Contains inputs.groups l → IsTrue l.selected → IsValid inputs.isa l
   -- it writes no file, however it ends
   pub files_kept : call.new.host.files ≡ call.old.host.files
@@ -66,6 +69,6 @@ pub record Covers (call : Call) (files : Files) (isa : List ℕ) (names : List (
 -- the same of every call: over told files, where its words ask for `coverage`
 abbrev pub Promise : Call → Type 0
 Promise call =
-    (files : Files) (isa : List ℕ) (names : List (List ℕ)) (log : List ℕ) (windows : List Window)
-    → Tells call.old.host files → Asks call (Coverage isa names log windows)
-    → Covers call files isa names log windows
+    (files : Files) (asked : CoverageArguments)
+    → Tells call.old.host files → Asks call (Coverage asked)
+    → Covers call files asked

@@ -11,6 +11,7 @@ use Rattle.rvs_test.specs.Made.{text_of_label}
 use Rattle.rvs_suite.specs.Printing.{print_text}
 use Rattle.rvs_suite.specs.GenerateTexts.{Totals, none, label_text, with_labels, listing}
 use Rattle.rvs_suite.specs.GroupFiles.{Inputs, group_inputs}
+use Rattle.rvs_words.specs.declared.command.GenerateArguments.{GenerateArguments}
 
 -- the test of a label is this file
 abbrev pub path_of : List ℕ → List ℕ → List ℕ
@@ -53,7 +54,7 @@ generates work inputs = do
   print_text text
 
 -- the files are read and checked, and then the tests are made
-abbrev pub generate : List ℕ → List (List ℕ) → List ℕ → Plan Finish
-generate isa names work = do
-  inputs ← group_inputs isa names
-  generates work inputs
+abbrev pub generate : GenerateArguments → Plan Finish
+generate asked = do
+  inputs ← group_inputs asked.isa asked.groups
+  generates asked.work inputs

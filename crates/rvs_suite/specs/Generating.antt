@@ -7,19 +7,22 @@ use Rattle.rvs_plan.specs.declared.stop.Stop.{Stop}
 use Rattle.rvs_plan.specs.declared.status.Status.TheVariants.{Done}
 use Rattle.rvs_insn.specs.Isa.{Isa}
 use Rattle.rvs_cgf.specs.Groups.{Label, Point}
+use Rattle.rvs_normal.specs.Again.{names_are_apart}
 use Rattle.rvs_solver.specs.Solving.{IsSolvableAt}
 use Rattle.rvs_test.specs.Made.{cases_of, text_of_label}
 use Rattle.rvs_test_text.specs.TestText.{step_limit}
 use Rattle.rvs_test.specs.Claimed.{TestRuns}
-use Rattle.rvs_suite.specs.Answered.{Answered}
+use Rattle.rvs_suite.specs.Answered.{Answered, OnDone}
 use Rattle.rvs_suite.specs.Call.{Call, Asks}
 use Rattle.rvs_suite.specs.GenerateTexts.{unsolved_line, name_line, listing}
 use Rattle.rvs_suite.specs.Generate.{path_of}
 use Rattle.rvs_suite.specs.GroupFiles.{Inputs, inputs_in}
 use Rattle.rvs_suite.specs.Tested.{AreTested}
+use Rattle.rvs_suite.specs.Headline.{IsProved, HasProvedTest}
 use Rattle.rvs_suite.specs.Tests.{tests_of}
 use Rattle.rvs_suite.specs.declared.gathering.Test.{Test}
 use Rattle.rvs_words.specs.declared.command.Command.TheVariants.{Generate}
+use Rattle.rvs_words.specs.declared.command.GenerateArguments.{GenerateArguments}
 
 -- the files with a text more, where there is one
 abbrev pub with_text : List ℕ → Option (List ℕ) → Option Files → Option Files
@@ -61,31 +64,58 @@ IsNoTest work found other = (inputs : Inputs) (test : Test) → found ≡ Ok inp
     → Contains (tests_of inputs.isa inputs.groups) test → other ≢ path_of work test.name
 
 -- a call of `generate` on these of these files, for this folder
-pub record Generates (call : Call) (files : Files) (isa : List ℕ) (names : List (List ℕ))
-    (work : List ℕ) : Type 0 where
+pub record Generates (call : Call) (files : Files) (asked : GenerateArguments) : Type 0 where
   -- it is done where the ISA file and the groups are accepted, and has written the tests and put
   -- their cases; it is refused, or the host fails, at the first file that isn't
-  pub answered : Answered call (inputs_in files isa names) (HasGenerated call work)
+  pub answered : Answered call (inputs_in files asked.isa asked.groups) (OnDone
+      (HasGenerated call asked.work))
+  -- no two labels have one name
+  pub apart : (inputs : Inputs) → inputs_in files asked.isa asked.groups ≡ Ok inputs
+      → IsTrue (names_are_apart inputs.groups)
   -- the tests that it makes run as their texts claim
-  pub tested : (inputs : Inputs) → inputs_in files isa names ≡ Ok inputs → AreTested inputs
+  pub tested : (inputs : Inputs) → inputs_in files asked.isa asked.groups ≡ Ok inputs
+      → AreTested inputs
+  -- The headline: where it is done, the file of each label with a point that a choice hits is
+  -- there, and of its bytes alone it is a test that hits each such point.
+  pub each : (inputs : Inputs) (l : Label) (k : ℕ) (files' : Files)
+      → inputs_in files asked.isa asked.groups ≡ Ok inputs → Contains inputs.groups l
+      → IsTrue l.selected
+      → IsSolvableAt inputs.isa l k → call.status ≡ Done → call.new.host.files ≡ Some files'
+      → HasProvedTest files' (path_of asked.work l.name) inputs.isa l
+  -- the same of each text that it writes, however it ends
+  pub proved : (inputs : Inputs) (l : Label) (text : List ℕ)
+      → inputs_in files asked.isa asked.groups ≡ Ok inputs → Contains inputs.groups l
+      → IsTrue l.selected
+      → text_of_label inputs.isa l ≡ Some text → IsProved inputs.isa l text
+  -- where it is done, each label that has a test has it in its file
+  pub there : (inputs : Inputs) (l : Label) (text : List ℕ) (files' : Files)
+      → inputs_in files asked.isa asked.groups ≡ Ok inputs → Contains inputs.groups l
+      → IsTrue l.selected
+      → text_of_label inputs.isa l ≡ Some text → call.status ≡ Done
+      → call.new.host.files ≡ Some files' → files' (path_of asked.work l.name) ≡ Some text
+  -- a label without a test has no point that a choice hits
+  pub untested : (inputs : Inputs) (l : Label) (k : ℕ)
+      → inputs_in files asked.isa asked.groups ≡ Ok inputs
+      → text_of_label inputs.isa l ≡ None → IsSolvableAt inputs.isa l k → ⊥
   -- so a group file with one label and one point that a choice hits leaves a test that hits it
   pub one : (isa' : Isa) (l : Label) (p : Point)
-      → inputs_in files isa names ≡ Ok (record { isa = isa'; groups = l ∷ [] })
+      → inputs_in files asked.isa asked.groups ≡ Ok (record { isa = isa'; groups = l ∷ [] })
       → IsTrue l.selected → l.points ≡ p ∷ [] → IsSolvableAt isa' l 0 → call.status ≡ Done
-      → HasOneTest call work isa' l
+      → HasOneTest call asked.work isa' l
   -- and one with a point that no choice hits leaves no test
   pub none : (isa' : Isa) (l : Label) (p : Point)
-      → inputs_in files isa names ≡ Ok (record { isa = isa'; groups = l ∷ [] })
+      → inputs_in files asked.isa asked.groups ≡ Ok (record { isa = isa'; groups = l ∷ [] })
       → IsTrue l.selected → l.points ≡ p ∷ [] → l.skipped ≡ [] → (IsSolvableAt isa' l 0 → ⊥)
       → call.status ≡ Done → HasNoTest call l p
   -- it changes no file but those of its tests, however it ends
   pub others_kept : (files' : Files) (other : List ℕ)
-      → IsNoTest work (inputs_in files isa names) other → call.new.host.files ≡ Some files'
+      → IsNoTest asked.work (inputs_in files asked.isa asked.groups) other
+      → call.new.host.files ≡ Some files'
       → files' other ≡ files other
 
 -- the same of every call: over told files, where its words ask for `generate`
 abbrev pub Promise : Call → Type 0
 Promise call =
-    (files : Files) (isa : List ℕ) (names : List (List ℕ)) (work : List ℕ)
-    → Tells call.old.host files → Asks call (Generate isa names work)
-    → Generates call files isa names work
+    (files : Files) (asked : GenerateArguments)
+    → Tells call.old.host files → Asks call (Generate asked)
+    → Generates call files asked

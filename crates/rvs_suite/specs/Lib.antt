@@ -4,8 +4,6 @@ pub mod Specification
 pub mod Printing
 pub mod Validate
 pub mod Plans
-pub mod Limits
-pub mod Spells
 pub mod TestTexts
 pub mod TestRun
 pub mod Reference
@@ -29,8 +27,10 @@ pub mod Covering
 pub mod GenerateTexts
 pub mod GenerateView
 pub mod Tested
+pub mod Headline
 pub mod Generate
 pub mod Generating
+pub mod TestFiles
 pub mod Tests
 pub mod DeviceInput
 pub mod RunTests
@@ -39,3 +39,4 @@ pub mod RunLeft
 pub mod Judging
 pub mod Demonstrate
 pub mod Demonstrating
+pub mod Promise

@@ -8,15 +8,16 @@ use Rattle.rvs_suite.specs.Printing.{print_text}
 use Rattle.rvs_suite.specs.Seen.{seen}
 use Rattle.rvs_suite.specs.Specification.{specification}
 use Rattle.rvs_suite.specs.GroupFiles.{Inputs, joins_all, groups_found, group_inputs}
+use Rattle.rvs_words.specs.declared.command.NormalizeArguments.{NormalizeArguments}
 
 -- the groups are put, with all points written out
 abbrev pub print_normal : Inputs → Plan Finish
 print_normal inputs = print_text (normal_text inputs.groups)
 
 -- the files are read and checked, and then the groups are put
-abbrev pub normalize : List ℕ → List (List ℕ) → Plan Finish
-normalize isa names = do
-  inputs ← group_inputs isa names
+abbrev pub normalize : NormalizeArguments → Plan Finish
+normalize asked = do
+  inputs ← group_inputs asked.isa asked.groups
   print_normal inputs
 
 -- ---- the normal text alone
@@ -25,7 +26,7 @@ normal_files isa names = do
   text ← joins_all None names
   Ends (seen normal_text (groups_found isa text))
 
-abbrev pub normal_inputs : List ℕ → List (List ℕ) → Plan (List ℕ)
-normal_inputs isa names = do
-  said ← specification isa
-  normal_files said.spec names
+abbrev pub normal_inputs : NormalizeArguments → Plan (List ℕ)
+normal_inputs asked = do
+  said ← specification asked.isa
+  normal_files said.spec asked.groups

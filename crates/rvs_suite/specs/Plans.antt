@@ -1,5 +1,5 @@
 -- What each command line does.
-use Rattle.std.specs.Prelude.{◌≡◌, ◌⊎◌, List, ℕ, Result, Err}
+use Rattle.std.specs.Prelude.{◌≡◌, ◌⊎◌, List, ℕ, Result, Err, ⊤}
 use Rattle.rvs_base.specs.Host.{HostState}
 use Rattle.rvs_plan.specs.World.{World, world, Absence, IsFault, IsAnswer}
 use Rattle.rvs_plan.specs.Plan.{Plan, ends}
@@ -24,13 +24,13 @@ use Rattle.rvs_words.specs.declared.command.Command.TheVariants.{Coverage, Run, 
 -- the plan of a command
 abbrev pub plan_of : Command → Plan Finish
 plan_of Unknown = ends why.Usage
-plan_of (Compare left right) = comparing.compare left right
-plan_of (Validate isa) = validating.validate isa
-plan_of (Normalize isa groups) = normalizing.normalize isa groups
-plan_of (Generate isa groups work) = generating.generate isa groups work
-plan_of (Reference isa test signature log steps) = running.reference isa test signature log steps
-plan_of (Coverage isa groups log windows) = covering.coverage isa groups log windows
-plan_of (Run program isa groups device work) = judging.run program isa groups device work
+plan_of (Compare asked) = comparing.compare asked
+plan_of (Validate asked) = validating.validate asked
+plan_of (Normalize asked) = normalizing.normalize asked
+plan_of (Generate asked) = generating.generate asked
+plan_of (Reference asked) = running.reference asked
+plan_of (Coverage asked) = covering.coverage asked
+plan_of (Run asked) = judging.run asked
 plan_of (Demo count) = demonstrating.demonstrate count
 
 -- the effects that the words of a command line mean, and the status that they lead to
@@ -39,8 +39,12 @@ effects_of words = plan_of (command_of words)
 
 -- `run` takes it for an answer that the signature file of a device isn't there
 abbrev pub absence_of : Command → Absence
-absence_of (Run program isa groups device work) = IsAnswer
+absence_of (Run asked) = IsAnswer
 absence_of _ = IsFault
+
+-- a command that reads all of its inputs before its first deed
+abbrev pub ReadsFirst : Command → Type 0
+ReadsFirst _ = ⊤
 
 -- work that has no part in the host: it left the host as it was, and does the same beside any other
 pub record IsApart (plan : Plan Finish) (old new : World) (result : Result Finish Stop) : Type
@@ -57,4 +61,5 @@ pub record Performs (command : Command) (old new : World) (result : Result Finis
   pub no_command : command ≡ Unknown → (result ≡ Err why.Usage) ⊎ (result ≡ Err why.NoMemory)
   pub unchanged : command ≡ Unknown → new ≡ old
   -- `demo` needs no host
-  pub apart : (count : ℕ) → command ≡ Demo count → IsApart (demonstrating.demonstrate count) old new result
+  pub apart : (count : ℕ) → command ≡ Demo count
+      → IsApart (demonstrating.demonstrate count) old new result

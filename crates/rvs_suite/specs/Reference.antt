@@ -12,6 +12,7 @@ use Rattle.rvs_suite.specs.Specification.{specification}
 use Rattle.rvs_suite.specs.TestTexts.{ran_line}
 use Rattle.rvs_suite.specs.TestRun.{accepted, test_found}
 use Rattle.rvs_suite.specs.declared.test_run.Run.{Run}
+use Rattle.rvs_words.specs.declared.command.ReferenceArguments.{ReferenceArguments}
 
 -- a test file has at most this many bytes: 64 MiB
 abbrev pub test_limit : ℕ
@@ -44,13 +45,13 @@ records signature log run = do
   records_log log run
 
 -- a test is run on a core, and what a run that halted leaves is written
-abbrev pub reference_on : List ℕ → List ℕ → Option (List ℕ) → Option ℕ → Isa → Plan Finish
-reference_on test signature log steps isa = do
-  run ← trial steps isa test
-  records signature log run
+abbrev pub reference_on : ReferenceArguments → Isa → Plan Finish
+reference_on asked isa = do
+  run ← trial asked.steps isa asked.test
+  records asked.signature asked.log run
 
 -- the ISA file is read and checked, then the test is read and run, and then the files are written
-abbrev pub reference : List ℕ → List ℕ → List ℕ → Option (List ℕ) → Option ℕ → Plan Finish
-reference isa test signature log steps = do
-  said ← specification isa
-  reference_on test signature log steps said.spec
+abbrev pub reference : ReferenceArguments → Plan Finish
+reference asked = do
+  said ← specification asked.isa
+  reference_on asked said.spec

@@ -15,10 +15,12 @@ use Rattle.rvs_device.specs.declared.verdicts.TestVerdict.{TestVerdict}
 use Rattle.rvs_device.specs.declared.verdicts.TestVerdict.TheVariants.{Pass}
 use Rattle.rvs_suite.specs.GroupFiles.{Inputs, group_inputs}
 use Rattle.rvs_suite.specs.GenerateTexts.{listing}
-use Rattle.rvs_suite.specs.Generate.{path_of}
+use Rattle.rvs_suite.specs.TestFiles.{files_of}
 use Rattle.rvs_suite.specs.Tests.{reference_words, tests_of}
 use Rattle.rvs_suite.specs.DeviceInput.{device_file}
 use Rattle.rvs_suite.specs.declared.gathering.Test.{Test}
+use Rattle.rvs_suite.specs.declared.test_files.TestFiles.{TestFiles}
+use Rattle.rvs_words.specs.declared.command.RunArguments.{RunArguments}
 
 -- what tests are judged with: the program's own name, a device, the folder of the files, and a core
 pub record Bench : Type 0 where
@@ -27,13 +29,9 @@ pub record Bench : Type 0 where
   pub work : List ℕ
   pub isa : Isa
 
--- the file of the words that the reference machine leaves
-abbrev pub reference_path : List ℕ → List ℕ → List ℕ
-reference_path work name = work ++ (codes "/" ++ (name ++ codes ".reference.sig"))
-
--- the file that the device writes
-abbrev pub device_path : List ℕ → List ℕ → List ℕ
-device_path work name = work ++ (codes "/" ++ (name ++ codes ".device.sig"))
+-- the files of a test
+abbrev pub files_for : Bench → Test → TestFiles
+files_for bench test = files_of bench.work test.name
 
 -- how many tests there are, passed, and didn't pass
 unfoldable pub tally_line : ℕ → ℕ → List ℕ
@@ -41,19 +39,21 @@ tally_line tests passed =
     codes "total " ++ (decimal tests ++ (codes " tests, " ++ (decimal passed ++ (codes " pass, "
     ++ (decimal (tests - passed) ++ codes " fail\n")))))
 
--- the device is run on the test of this name, and judged by these words
-abbrev pub judges_by : Bench → List ℕ → List ℕ → Plan TestVerdict
-judges_by bench name words =
-    judged (task bench.device.command bench.program (path_of bench.work name)
-    (device_path bench.work name) words)
+-- the device is run on the test in these files, and judged by these words
+abbrev pub judges_by : Bench → TestFiles → List ℕ → Plan TestVerdict
+judges_by bench files words =
+    judged (task bench.device.command bench.program files.test files.device words)
 
 -- a test is written, and then the words that it leaves on the reference machine; the device is run
 -- on it and judged by these
+abbrev pub judges_in : Bench → TestFiles → Test → Plan TestVerdict
+judges_in bench files test = do
+  _ ← writes files.test test.text
+  _ ← writes files.reference (text_of_words (reference_words bench.isa test))
+  judges_by bench files (reference_words bench.isa test)
+
 abbrev pub judges : Bench → Test → Plan TestVerdict
-judges bench test = do
-  _ ← writes (path_of bench.work test.name) test.text
-  _ ← writes (reference_path bench.work test.name) (text_of_words (reference_words bench.isa test))
-  judges_by bench test.name (reference_words bench.isa test)
+judges bench test = judges_in bench (files_for bench test) test
 
 abbrev pub passes : TestVerdict → Bool
 passes (Pass n status) = true
@@ -101,10 +101,10 @@ pub record RunInputs : Type 0 where
   pub device : Told
 
 -- the ISA file and the group files are read and checked, and then the device file is
-abbrev pub run_inputs : List ℕ → List (List ℕ) → List ℕ → Plan RunInputs
-run_inputs isa names device = do
-  inputs ← group_inputs isa names
-  told ← device_file device
+abbrev pub run_inputs : RunArguments → Plan RunInputs
+run_inputs asked = do
+  inputs ← group_inputs asked.isa asked.groups
+  told ← device_file asked.device
   gives (record { groups = inputs; device = told })
 
 abbrev pub bench_of : List ℕ → List ℕ → RunInputs → Bench
@@ -115,7 +115,7 @@ abbrev pub runs : List ℕ → List ℕ → RunInputs → Plan Finish
 runs program work inputs = runs_tests (bench_of program work inputs) inputs.groups.groups
 
 -- all inputs are read and checked, and then the tests are made, run and judged
-abbrev pub run : List ℕ → List ℕ → List (List ℕ) → List ℕ → List ℕ → Plan Finish
-run program isa names device work = do
-  inputs ← run_inputs isa names device
-  runs program work inputs
+abbrev pub run : RunArguments → Plan Finish
+run asked = do
+  inputs ← run_inputs asked
+  runs asked.program asked.work inputs

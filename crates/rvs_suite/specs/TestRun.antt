@@ -101,6 +101,11 @@ abbrev pub with_trace : List Executed → Result (List ℕ) Stop → Result Run 
 with_trace trace (Ok words) = Ok (record { words = words; trace = trace })
 with_trace trace (Err stop) = Err stop
 
+-- the run of assembler text, of at most so many instructions
+abbrev pub text_run : ℕ → Isa → List ℕ → List ℕ → Result Run (List ℕ)
+text_run limit isa name bytes =
+    then_found (text_found name (answer isa bytes)) (run_found name limit isa)
+
 -- the run of a test file
 abbrev pub test_found : Option ℕ → Isa → List ℕ → List ℕ → Result Run (List ℕ)
 test_found steps isa name bytes =

@@ -6,13 +6,14 @@ use Rattle.rvs_isa.specs.Print.{checked_text}
 use Rattle.rvs_isa.specs.declared.accepted_spec.AcceptedSpec.{AcceptedSpec}
 use Rattle.rvs_suite.specs.Printing.{print_text}
 use Rattle.rvs_suite.specs.Specification.{specification}
+use Rattle.rvs_words.specs.declared.command.ValidateArguments.{ValidateArguments}
 
 -- what a specification says is put
 abbrev pub print_said : AcceptedSpec → Plan Finish
 print_said said = print_text (checked_text said)
 
 -- the ISA file is read and checked, and then what it says is put
-abbrev pub validate : List ℕ → Plan Finish
-validate isa = do
-  said ← specification isa
+abbrev pub validate : ValidateArguments → Plan Finish
+validate asked = do
+  said ← specification asked.isa
   print_said said

@@ -7,9 +7,10 @@ ghost use Rattle.rvs_plan.specs.Meets.{Meets};
 ghost use Rattle.rvs_suite.specs.Compare.{words, signature, verdict_finish, announce, compare};
 
 use crate::texts;
-use rvs_base::{Host, Items, Sink};
+use rvs_base::{Host, Items, Sink, Text};
 use rvs_plan::{Finish, Stop, print, read_input};
 use rvs_sig::{SigRefusal, Verdict, compare, read_words};
+use rvs_words::CompareArguments;
 use std::alloc::Global;
 
 /// The greatest length of a signature file in bytes: 262,144 lines of ten.
@@ -23,16 +24,15 @@ pub const SIGNATURE_LIMIT: u64 = 2_621_440;
 /// [`Stop`]; nothing is put before both files are accepted.
 pub fn compare_files<H: Host, O: Sink>(
     alloc: Global,
-    left: &str,
-    right: &str,
+    asked: &CompareArguments,
     host: &mut H,
     out: &mut O,
 ) -> Result<Finish, Stop>
-    ensures { Meets (compare left.now right.now) (world (H.state host.old) (O.state out.old))
+    ensures { Meets (compare asked.now) (world (H.state host.old) (O.state out.old))
         (world (H.state host.new) (O.state out.new)) result }
 {
-    let left_words = read_signature(alloc, host, left)?;
-    let right_words = read_signature(alloc, host, right)?;
+    let left_words = read_signature(alloc, host, &asked.left)?;
+    let right_words = read_signature(alloc, host, &asked.right)?;
     print_verdict(alloc, left_words.as_slice(), right_words.as_slice(), out)
 }
 
@@ -41,12 +41,12 @@ pub fn compare_files<H: Host, O: Sink>(
 /// # Errors
 ///
 /// [`Stop`].
-pub fn read_signature<H: Host>(alloc: Global, host: &mut H, name: &str) -> Result<Items<u32>, Stop>
+pub fn read_signature<H: Host>(alloc: Global, host: &mut H, name: &Text) -> Result<Items<u32>, Stop>
     ensures { (out : SinkState) → Meets (signature name.now) (world (H.state host.old) out)
         (world (H.state host.new) out) result }
 {
-    let bytes = read_input(alloc, host, name, SIGNATURE_LIMIT)?;
-    check_words(alloc, name, bytes.as_slice())
+    let bytes = read_input(alloc, host, name.as_str(), SIGNATURE_LIMIT)?;
+    check_words(alloc, name.as_str(), bytes.as_slice())
 }
 
 fn check_words(alloc: Global, name: &str, bytes: &[u8]) -> Result<Items<u32>, Stop>

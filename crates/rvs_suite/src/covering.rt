@@ -16,7 +16,7 @@ use rvs_base::{Host, Items, NoMemory, Sink, Text, Window};
 use rvs_cgf::Groups;
 use rvs_count::{Counter, LogFault, count_file};
 use rvs_plan::{Finish, Stop, too_long};
-use rvs_words::owned;
+use rvs_words::{CoverageArguments, owned};
 use std::alloc::Global;
 
 /// The greatest length of a log in bytes: 2^40.
@@ -31,18 +31,15 @@ const LOG_LIMIT: u64 = 1 << 40;
 /// [`Stop`]; nothing is put before the log has been read to its end.
 pub fn cover_log<H: Host, O: Sink>(
     alloc: Global,
-    isa: &str,
-    names: &[Text],
-    log: &str,
-    windows: &[Window],
+    asked: &CoverageArguments,
     host: &mut H,
     out: &mut O,
 ) -> Result<Finish, Stop>
-    ensures { Meets (coverage isa.now names.now log.now windows.now)
+    ensures { Meets (coverage asked.now)
         (world (H.state host.old) (O.state out.old))
         (world (H.state host.new) (O.state out.new)) result }
 {
-    let report = read_report(alloc, host, isa, names, log, windows)?;
+    let report = read_report(alloc, host, asked)?;
     print_text(&report, out)
 }
 
@@ -50,16 +47,13 @@ pub fn cover_log<H: Host, O: Sink>(
 fn read_report<H: Host>(
     alloc: Global,
     host: &mut H,
-    isa: &str,
-    names: &[Text],
-    log: &str,
-    windows: &[Window],
+    asked: &CoverageArguments,
 ) -> Result<Text, Stop>
-    ensures { (out : SinkState) → Meets (reported isa.now names.now log.now windows.now)
+    ensures { (out : SinkState) → Meets (reported asked.now)
         (world (H.state host.old) out) (world (H.state host.new) out) result }
 {
-    let inputs = read_inputs(alloc, host, isa, names)?;
-    count_named(alloc, host, &inputs.groups, windows, log)
+    let inputs = read_inputs(alloc, host, &asked.isa, &asked.groups)?;
+    count_named(alloc, host, &inputs.groups, asked)
 }
 
 /// Counts in the named log, and makes the report.
@@ -67,17 +61,16 @@ fn count_named<H: Host>(
     alloc: Global,
     host: &mut H,
     groups: &Groups,
-    windows: &[Window],
-    log: &str,
+    asked: &CoverageArguments,
 ) -> Result<Text, Stop>
     ensures { (out : SinkState) → Meets
-        (Asks log.now
-        (λ found. Ends (report_found (groups_view groups.now) windows.now log.now found)))
+        (Asks asked.now.log (λ found.
+        Ends (report_found (groups_view groups.now) asked.now.windows asked.now.log found)))
         (world (H.state host.old) out) (world (H.state host.new) out) result }
 {
-    let windows = Items::from(windows.to_vec(alloc)?);
+    let windows = Items::from(asked.windows.as_slice().to_vec(alloc)?);
     let mut counter = Counter::new(alloc, groups, windows)?;
-    count_with(alloc, host, &mut counter, log)
+    count_with(alloc, host, &mut counter, asked.log.as_str())
 }
 
 /// Counts in the named log with a new counter, and makes the report.

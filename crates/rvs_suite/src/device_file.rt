@@ -26,12 +26,12 @@ const DEVICE_LIMIT: u64 = 65_536;
 ///
 /// [`Stop`]: the file isn't there, can't be read, has more than 65,536 bytes, has no tree, or tells
 /// no device.
-pub fn read_device_file<H: Host>(alloc: Global, host: &mut H, name: &str) -> Result<Device, Stop>
+pub fn read_device_file<H: Host>(alloc: Global, host: &mut H, name: &Text) -> Result<Device, Stop>
     ensures { (out : SinkState) → Meets (device_file name.now)
         (world (H.state host.old) out) (world (H.state host.new) out) (seen told result) }
 {
-    let bytes = read_input(alloc, host, name, DEVICE_LIMIT)?;
-    check_bytes(alloc, name, bytes.as_slice())
+    let bytes = read_input(alloc, host, name.as_str(), DEVICE_LIMIT)?;
+    check_bytes(alloc, name.as_str(), bytes.as_slice())
 }
 
 fn check_bytes(alloc: Global, name: &str, bytes: &[u8]) -> Result<Device, Stop>

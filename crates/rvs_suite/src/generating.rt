@@ -17,10 +17,12 @@ use crate::group_files::{Inputs, read_inputs};
 use crate::listing::{push_total, push_unselected};
 use crate::making::{Said, say_made};
 use crate::printing::print_text;
-use rvs_base::{Host, NoMemory, Sink, Text};
+use crate::test_files::test_path;
+use rvs_base::{Host, Sink, Text};
 use rvs_cgf::Label;
 use rvs_insn::IsaSpec;
 use rvs_plan::{Finish, Stop, write_output};
+use rvs_words::GenerateArguments;
 use std::alloc::Global;
 
 /// Reads coverage group files for the core of an ISA file, writes a test for each label that has a
@@ -32,18 +34,16 @@ use std::alloc::Global;
 /// are written.
 pub fn generate_tests<H: Host, O: Sink>(
     alloc: Global,
-    isa: &str,
-    names: &[Text],
-    work: &str,
+    asked: &GenerateArguments,
     host: &mut H,
     out: &mut O,
 ) -> Result<Finish, Stop>
-    ensures { Meets (generate isa.now names.now work.now)
+    ensures { Meets (generate asked.now)
         (world (H.state host.old) (O.state out.old))
         (world (H.state host.new) (O.state out.new)) result }
 {
-    let inputs = read_inputs(alloc, host, isa, names)?;
-    let text = write_tests(alloc, host, work, &inputs)?;
+    let inputs = read_inputs(alloc, host, &asked.isa, &asked.groups)?;
+    let text = write_tests(alloc, host, &asked.work, &inputs)?;
     print_text(&text, out)
 }
 
@@ -51,7 +51,7 @@ pub fn generate_tests<H: Host, O: Sink>(
 fn write_tests<H: Host>(
     alloc: Global,
     host: &mut H,
-    work: &str,
+    work: &Text,
     inputs: &Inputs,
 ) -> Result<Text, Stop>
     requires { All (λ l. IsValidIfSelected inputs.now.isa (label_view l)) inputs.now.groups }
@@ -69,7 +69,7 @@ fn write_tests<H: Host>(
 fn write_labels<H: Host>(
     alloc: Global,
     host: &mut H,
-    work: &str,
+    work: &Text,
     isa: &IsaSpec,
     labels: &[Label],
 ) -> Result<Said, Stop>
@@ -91,7 +91,7 @@ fn write_labels<H: Host>(
 fn write_test<H: Host>(
     alloc: Global,
     host: &mut H,
-    work: &str,
+    work: &Text,
     isa: &IsaSpec,
     label: &Label,
     said: &mut Said,
@@ -114,7 +114,7 @@ fn write_test<H: Host>(
 fn write_selected<H: Host>(
     alloc: Global,
     host: &mut H,
-    work: &str,
+    work: &Text,
     isa: &IsaSpec,
     label: &Label,
     said: &mut Said,
@@ -130,14 +130,14 @@ fn write_selected<H: Host>(
         ≡ texts.with_selected isa.now (totals_view said.old.totals) (label_view label.now)) }
 {
     let made = say_made(alloc, isa, label, said)?;
-    write_text(alloc, host, work, label.name.as_str(), &made.text)
+    write_text(alloc, host, work, &label.name, &made.text)
 }
 
 fn write_text<H: Host>(
     alloc: Global,
     host: &mut H,
-    work: &str,
-    name: &str,
+    work: &Text,
+    name: &Text,
     text: &Option<Text>,
 ) -> Result<(), Stop>
     ensures { (out : SinkState) → Meets (writes_text (path_of work.now name.now) text.now)
@@ -150,11 +150,4 @@ fn write_text<H: Host>(
             write_output(host, path, text.as_str().as_bytes())
         },
     }
-}
-
-/// The file of a label's test.
-pub fn test_path(alloc: Global, work: &str, name: &str) -> Result<Text, NoMemory>
-    ensures { IfOk result (λ path. path ≡ path_of work.now name.now) }
-{
-    Ok(Text::from(format!(in alloc; "{work}/{name}.S")?))
 }

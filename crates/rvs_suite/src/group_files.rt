@@ -45,8 +45,8 @@ pub struct Inputs {
 pub fn read_inputs<H: Host>(
     alloc: Global,
     host: &mut H,
-    isa: &str,
-    names: &[Text],
+    isa: &Text,
+    names: &Items<Text>,
 ) -> Result<Inputs, Stop>
     ensures met { (out : SinkState) → Meets (group_inputs isa.now names.now)
         (world (H.state host.old) out) (world (H.state host.new) out) (seen inputs_view result) }
@@ -69,13 +69,13 @@ fn read_group_files<H: Host>(
     alloc: Global,
     host: &mut H,
     isa: &IsaSpec,
-    names: &[Text],
+    names: &Items<Text>,
 ) -> Result<Groups, Stop>
     ensures met { (out : SinkState) → Meets (group_files isa.now names.now)
         (world (H.state host.old) out) (world (H.state host.new) out) (seen groups_view result) }
     ensures valid { IfOk result (All (λ l. IsValidIfSelected isa.now (label_view l))) }
 {
-    let text = read_joined(alloc, host, names)?;
+    let text = read_joined(alloc, host, names.as_slice())?;
     check_text(alloc, isa, text)
 }
 

@@ -25,12 +25,12 @@ pub const ISA_LIMIT: u64 = 65_536;
 ///
 /// [`Stop`]: the file isn't there, can't be read, is longer than [`ISA_LIMIT`], has no tree, or
 /// fails a check.
-pub fn read_isa<H: Host>(alloc: Global, host: &mut H, name: &str) -> Result<AcceptedSpec, Stop>
+pub fn read_isa<H: Host>(alloc: Global, host: &mut H, name: &Text) -> Result<AcceptedSpec, Stop>
     ensures { (out : SinkState) → Meets (specification name.now) (world (H.state host.old) out)
         (world (H.state host.new) out) result }
 {
-    let bytes = read_input(alloc, host, name, ISA_LIMIT)?;
-    check_bytes(alloc, name, bytes.as_slice())
+    let bytes = read_input(alloc, host, name.as_str(), ISA_LIMIT)?;
+    check_bytes(alloc, name.as_str(), bytes.as_slice())
 }
 
 fn check_bytes(alloc: Global, name: &str, bytes: &[u8]) -> Result<AcceptedSpec, Stop>

@@ -1,6 +1,7 @@
 //! The whole of what the program does: words in, effects and a status out.
 #![tactic(auto)]
 
+mod assembling;
 mod comparing;
 mod covering;
 mod demonstrating;
@@ -17,10 +18,11 @@ mod printing;
 mod reference;
 mod run;
 mod suite;
-mod test_file;
+mod test_files;
 mod test_run;
 mod texts;
 mod validating;
 
+pub use assembling::assemble;
 pub use rvs_plan::Status;
 pub use suite::run_suite;

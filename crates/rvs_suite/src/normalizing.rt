@@ -14,10 +14,11 @@ ghost use Rattle.rvs_suite.specs.Normalize.{normal_files, normal_inputs, normali
 use crate::group_files::{GROUPS_NAME, group_text, read_joined};
 use crate::isa_file::{read_isa, yaml_text};
 use crate::printing::print_text;
-use rvs_base::{Bytes, Host, Sink, Text};
+use rvs_base::{Bytes, Host, Items, Sink, Text};
 use rvs_cgf::write_groups;
 use rvs_insn::IsaSpec;
 use rvs_plan::{Finish, Stop};
+use rvs_words::NormalizeArguments;
 use rvs_yaml::{Tree, parse};
 use std::alloc::Global;
 
@@ -29,15 +30,14 @@ use std::alloc::Global;
 /// [`Stop`]; nothing is put before all files are accepted.
 pub fn normalize_files<H: Host, O: Sink>(
     alloc: Global,
-    isa: &str,
-    names: &[Text],
+    asked: &NormalizeArguments,
     host: &mut H,
     out: &mut O,
 ) -> Result<Finish, Stop>
-    ensures { Meets (normalize isa.now names.now) (world (H.state host.old) (O.state out.old))
+    ensures { Meets (normalize asked.now) (world (H.state host.old) (O.state out.old))
         (world (H.state host.new) (O.state out.new)) result }
 {
-    let text = read_normal(alloc, host, isa, names)?;
+    let text = read_normal(alloc, host, asked)?;
     print_text(&text, out)
 }
 
@@ -45,14 +45,13 @@ pub fn normalize_files<H: Host, O: Sink>(
 fn read_normal<H: Host>(
     alloc: Global,
     host: &mut H,
-    isa: &str,
-    names: &[Text],
+    asked: &NormalizeArguments,
 ) -> Result<Text, Stop>
-    ensures { (out : SinkState) → Meets (normal_inputs isa.now names.now)
+    ensures { (out : SinkState) → Meets (normal_inputs asked.now)
         (world (H.state host.old) out) (world (H.state host.new) out) result }
 {
-    let said = read_isa(alloc, host, isa)?;
-    read_normal_files(alloc, host, &said.spec, names)
+    let said = read_isa(alloc, host, &asked.isa)?;
+    read_normal_files(alloc, host, &said.spec, &asked.groups)
 }
 
 /// The normal text of the groups of the named files, for a core.
@@ -60,12 +59,12 @@ fn read_normal_files<H: Host>(
     alloc: Global,
     host: &mut H,
     isa: &IsaSpec,
-    names: &[Text],
+    names: &Items<Text>,
 ) -> Result<Text, Stop>
     ensures { (out : SinkState) → Meets (normal_files isa.now names.now)
         (world (H.state host.old) out) (world (H.state host.new) out) result }
 {
-    let text = read_joined(alloc, host, names)?;
+    let text = read_joined(alloc, host, names.as_slice())?;
     write_text(alloc, isa, text)
 }
 

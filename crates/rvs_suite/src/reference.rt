@@ -12,15 +12,14 @@ ghost use Rattle.rvs_suite.specs.Reference.{trial, writes_log, announces_run, re
 
 use crate::isa_file::read_isa;
 use crate::printing::print_text;
-use crate::test_file::run_bytes;
-use crate::test_run::Run;
+use crate::test_run::{Run, run_bytes};
 use rvs_base::{Bytes, Host, Items, NoMemory, Sink, Text};
 use rvs_insn::IsaSpec;
 use rvs_log::log_line;
 use rvs_machine::Executed;
 use rvs_plan::{Finish, Stop, read_input, write_output};
 use rvs_sig::print_words;
-use rvs_words::owned;
+use rvs_words::{ReferenceArguments, owned};
 use std::alloc::Global;
 
 /// The greatest length of a test file in bytes: 64 MiB.
@@ -37,21 +36,17 @@ pub const TEST_LIMIT: u64 = 67_108_864;
 /// written, or the output failed.
 pub fn run_reference<H: Host, O: Sink>(
     alloc: Global,
-    isa: &str,
-    test: &str,
-    signature: &str,
-    log: &Option<Text>,
-    steps: Option<u64>,
+    asked: &ReferenceArguments,
     host: &mut H,
     out: &mut O,
 ) -> Result<Finish, Stop>
-    ensures { Meets (reference isa.now test.now signature.now log.now steps)
+    ensures { Meets (reference asked.now)
         (world (H.state host.old) (O.state out.old)) (world (H.state host.new) (O.state out.new))
         result }
 {
-    let said = read_isa(alloc, host, isa)?;
-    let run = run_test(alloc, steps, said.spec, test, host)?;
-    record_run(alloc, signature, log, &run, host, out)
+    let said = read_isa(alloc, host, &asked.isa)?;
+    let run = run_test(alloc, asked.steps, said.spec, &asked.test, host)?;
+    record_run(alloc, asked, &run, host, out)
 }
 
 /// Reads a test file, and runs it on a core until it halts.
@@ -59,38 +54,37 @@ fn run_test<H: Host>(
     alloc: Global,
     steps: Option<u64>,
     spec: IsaSpec,
-    test: &str,
+    test: &Text,
     host: &mut H,
 ) -> Result<Run, Stop>
     ensures { (out : SinkState) → Meets (trial steps spec test.now) (world (H.state host.old) out)
         (world (H.state host.new) out) result }
 {
-    let bytes = read_input(alloc, host, test, TEST_LIMIT)?;
-    run_bytes(alloc, steps, spec, test, bytes.as_slice())
+    let bytes = read_input(alloc, host, test.as_str(), TEST_LIMIT)?;
+    run_bytes(alloc, steps, spec, test.as_str(), bytes.as_slice())
 }
 
 /// Writes what a run has left: its signature, and then its log, where one is asked for. Puts the
 /// line that counts both.
 fn record_run<H: Host, O: Sink>(
     alloc: Global,
-    signature: &str,
-    log: &Option<Text>,
+    asked: &ReferenceArguments,
     run: &Run,
     host: &mut H,
     out: &mut O,
 ) -> Result<Finish, Stop>
-    ensures { Meets (records signature.now log.now run.now)
+    ensures { Meets (records asked.now.signature asked.now.log run.now)
         (world (H.state host.old) (O.state out.old)) (world (H.state host.new) (O.state out.new))
         result }
 {
-    write_signature(alloc, signature, run.words.as_slice(), host)?;
-    write_log(alloc, log, run.trace.as_slice(), host)?;
+    write_signature(alloc, &asked.signature, run.words.as_slice(), host)?;
+    write_log(alloc, &asked.log, run.trace.as_slice(), host)?;
     announce_run(alloc, run, out)
 }
 
 fn write_signature<H: Host>(
     alloc: Global,
-    signature: &str,
+    signature: &Text,
     words: &[u32],
     host: &mut H,
 ) -> Result<(), Stop>
@@ -98,7 +92,7 @@ fn write_signature<H: Host>(
         (world (H.state host.old) out) (world (H.state host.new) out) result }
 {
     let text = print_words(alloc, words)?;
-    let name = owned(alloc, signature)?;
+    let name = owned(alloc, signature.as_str())?;
     write_output(host, name, text.as_str().as_bytes())
 }
 
@@ -113,13 +107,13 @@ fn write_log<H: Host>(
 {
     match log {
         None => Ok(()),
-        Some(log) => write_lines(alloc, log.as_str(), trace, host),
+        Some(log) => write_lines(alloc, log, trace, host),
     }
 }
 
 fn write_lines<H: Host>(
     alloc: Global,
-    log: &str,
+    log: &Text,
     trace: &[Executed],
     host: &mut H,
 ) -> Result<(), Stop>
@@ -127,7 +121,7 @@ fn write_lines<H: Host>(
         (world (H.state host.old) out) (world (H.state host.new) out) result }
 {
     let lines = log_lines(alloc, trace)?;
-    let name = owned(alloc, log)?;
+    let name = owned(alloc, log.as_str())?;
     write_output(host, name, lines.as_slice())
 }
 

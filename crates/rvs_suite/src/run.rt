@@ -18,7 +18,7 @@ use rvs_base::{Host, NoMemory, Sink, Text};
 use rvs_device::Device;
 use rvs_insn::IsaSpec;
 use rvs_plan::{Finish, Stop, print};
-use rvs_words::owned;
+use rvs_words::{RunArguments, owned};
 use std::alloc::Global;
 
 /// Reads coverage group files for the core of an ISA file, and a device file; writes a test for
@@ -30,44 +30,39 @@ use std::alloc::Global;
 /// [`Stop`]; nothing is written and nothing is put before all files are accepted.
 pub fn run_tests<H: Host, O: Sink>(
     alloc: Global,
-    program: &str,
-    isa: &str,
-    names: &[Text],
-    device: &str,
-    work: &str,
+    asked: &RunArguments,
     host: &mut H,
     out: &mut O,
 ) -> Result<Finish, Stop>
-    ensures { MeetsWith IsAnswer (run program.now isa.now names.now device.now work.now)
+    ensures { MeetsWith IsAnswer (run asked.now)
         (world (H.state host.old) (O.state out.old))
         (world (H.state host.new) (O.state out.new)) result }
 {
-    let inputs = read_inputs(alloc, host, isa, names)?;
-    let device = read_device_file(alloc, host, device)?;
+    let inputs = read_inputs(alloc, host, &asked.isa, &asked.groups)?;
+    let device = read_device_file(alloc, host, &asked.device)?;
     let gathered = gather_tests(alloc, &inputs)?;
-    let bench = bench_of(alloc, program, device, work, inputs.isa)?;
+    let bench = bench_of(alloc, asked, device, inputs.isa)?;
     print(out, gathered.text.as_str().as_bytes())?;
     judge_tests(alloc, host, out, &bench, gathered.tests.as_slice())
 }
 
 fn bench_of(
     alloc: Global,
-    program: &str,
+    asked: &RunArguments,
     device: Device,
-    work: &str,
     isa: IsaSpec,
 ) -> Result<Bench, NoMemory>
     ensures { IfOk result (λ bench. bench_view bench ≡ record {
-      program = program.now;
+      program = asked.now.program;
       device = told device;
-      work = work.now;
+      work = asked.now.work;
       isa = isa;
     }) }
 {
     Ok(Bench {
-        program: owned(alloc, program)?,
+        program: owned(alloc, asked.program.as_str())?,
         device,
-        work: owned(alloc, work)?,
+        work: owned(alloc, asked.work.as_str())?,
         isa,
     })
 }

@@ -1,17 +1,30 @@
-// The run of a test's image.
-ghost use Rattle.std.specs.Prelude.{◌≡◌, ◌++◌, [], ℕ, codes, IfOk};
+// The image of a test, and its run.
+ghost use Rattle.std.specs.Prelude.{◌≡◌, ◌≢◌, ◌++◌, [], ℕ, codes, IfOk};
+ghost use Rattle.rvs_base.specs.Number.{hex_word_of};
 ghost use Rattle.rvs_insn.specs.Isa.{Isa};
 ghost use Rattle.rvs_machine.specs.Image.{ImageValue};
+ghost use Rattle.rvs_machine.specs.ImageText.{image_of_bytes};
 ghost use Rattle.rvs_machine.specs.Machine.{started};
-ghost use Rattle.rvs_base.specs.Number.{hex_word_of};
-ghost use Rattle.rvs_suite.specs.TestTexts.{trap_text, trap_detail, steps_text};
-ghost use Rattle.rvs_suite.specs.TestRun.{run_found, with_trace, Accepts};
+ghost use Rattle.rvs_asm.specs.Answer.{answer};
+ghost use Rattle.rvs_suite.specs.TestTexts.{image_text, asm_text, asm_detail, trap_text};
+ghost use Rattle.rvs_suite.specs.TestTexts.{trap_detail, steps_text};
+ghost use Rattle.rvs_suite.specs.TestRun.{is_image_name, file_found, text_found, image_found};
+ghost use Rattle.rvs_suite.specs.TestRun.{limit_of, run_found, with_trace, text_run, test_found};
+ghost use Rattle.rvs_suite.specs.TestRun.{Accepts};
 
+use crate::assembling::assemble;
+use rvs_asm::{AsmKind, AsmRefusal};
+use rvs_asm_text::steps_of_header;
 use rvs_base::{Items, NoMemory, Text, hex_text};
 use rvs_insn::IsaSpec;
-use rvs_machine::{End, Image, Machine, Trace, Trap, TrapKind};
+use rvs_machine::{
+    End, Image, ImageKind, ImageRefusal, Machine, Trace, Trap, TrapKind, read_image,
+};
 use rvs_plan::Stop;
 use std::alloc::Global;
+
+/// How many instructions a test may have, where nothing says it.
+const USUAL_LIMIT: u64 = 1_000_000;
 
 /// What a run that halted leaves.
 #[derive(Drop)]
@@ -22,13 +35,93 @@ pub struct Run {
     pub trace: Trace,
 }
 
-/// Runs the image of the named test on a core until it halts, for at most `limit` instructions.
+/// Runs the named test on a core until it halts. It may have `steps` instructions, or where that is
+/// `None` as many as the header of its text says, or else 1,000,000.
 ///
 /// # Errors
 ///
-/// [`Stop::Refused`] where an instruction traps, and where the run doesn't halt;
-/// [`Stop::NoMemory`].
-pub fn run_image(
+/// [`Stop::Refused`] where the bytes have no image, where an instruction traps, and where the run
+/// doesn't halt; [`Stop::NoMemory`].
+pub fn run_bytes(
+    alloc: Global,
+    steps: Option<u64>,
+    spec: IsaSpec,
+    name: &str,
+    bytes: &[u8],
+) -> Result<Run, Stop>
+    ensures { Accepts (test_found steps spec name.now bytes.now) result }
+{
+    let image = image_of(alloc, spec, name, bytes)?;
+    run_image(alloc, name, limit_of(steps, name, bytes), spec, image)
+}
+
+/// Runs assembler text on a core until it halts, for at most `limit` instructions. A refusal names
+/// it so.
+///
+/// # Errors
+///
+/// [`Stop::Refused`] where no image stands to the text, where an instruction traps, and where the
+/// run doesn't halt; [`Stop::NoMemory`].
+pub fn run_text(
+    alloc: Global,
+    limit: u64,
+    spec: IsaSpec,
+    name: &str,
+    text: &[u8],
+) -> Result<Run, Stop>
+    ensures { Accepts (text_run limit spec name.now text.now) result }
+{
+    let image = image_of_text(alloc, spec, name, text)?;
+    run_image(alloc, name, limit, spec, image)
+}
+
+fn limit_of(steps: Option<u64>, name: &str, bytes: &[u8]) -> u64
+    ensures { result ≡ limit_of steps name.now bytes.now }
+{
+    match steps {
+        Some(steps) => steps,
+        None if is_image_name(name) => USUAL_LIMIT,
+        None => steps_of_header(bytes).unwrap_or(USUAL_LIMIT),
+    }
+}
+
+fn is_image_name(name: &str) -> bool
+    ensures { result ≡ is_image_name name.now }
+{
+    name.as_bytes().ends_with(b".img")
+}
+
+/// The image of a test file, which is an image file or assembler text.
+fn image_of(alloc: Global, spec: IsaSpec, name: &str, bytes: &[u8]) -> Result<Image, Stop>
+    ensures { Accepts (image_found spec name.now bytes.now) result }
+{
+    if is_image_name(name) {
+        image_of_file(alloc, name, bytes)
+    } else {
+        image_of_text(alloc, spec, name, bytes)
+    }
+}
+
+fn image_of_file(alloc: Global, name: &str, bytes: &[u8]) -> Result<Image, Stop>
+    ensures { Accepts (file_found name.now (image_of_bytes bytes.now)) result }
+{
+    match read_image(alloc, bytes) {
+        Ok(image) => Ok(image),
+        Err(refusal) => Err(Stop::Refused(image_text(alloc, name, &refusal)?)),
+    }
+}
+
+fn image_of_text(alloc: Global, spec: IsaSpec, name: &str, bytes: &[u8]) -> Result<Image, Stop>
+    ensures { Accepts (text_found name.now (answer spec bytes.now)) result }
+{
+    match assemble(alloc, bytes, &spec) {
+        Ok(image) => Ok(image),
+        Err(refusal) => Err(Stop::Refused(asm_text(alloc, name, &refusal)?)),
+    }
+}
+
+/// Runs the image of the named test on a core until it halts, for at most `limit` instructions.
+fn run_image(
     alloc: Global,
     name: &str,
     limit: u64,
@@ -63,6 +156,60 @@ fn run_to_end(
         End::Trapped(trap) => Err(Stop::Refused(trap_text(alloc, name, trap)?)),
         End::StepLimit => Err(Stop::Refused(steps_text(alloc, name, limit)?)),
         End::NoMemory => Err(Stop::NoMemory),
+    }
+}
+
+/// Why the named file is no image. There is no text where memory was wanting.
+fn image_text(alloc: Global, name: &str, refusal: &ImageRefusal) -> Result<Text, NoMemory>
+    ensures fault { IfOk result (λ _. refusal.now.kind ≢ ImageKind.NoMemory) }
+    ensures text { IfOk result (λ text. text ≡ image_text name.now refusal.now) }
+{
+    match refusal.kind {
+        ImageKind::NoMemory => Err(NoMemory),
+        kind => image_line(alloc, name, refusal.line, kind),
+    }
+}
+
+#[tactic(auto, unfolding(crate::specs::TestTexts::image_text))]
+fn image_line(alloc: Global, name: &str, line: u64, kind: ImageKind) -> Result<Text, NoMemory>
+    ensures { IfOk result
+        (λ text. text ≡ image_text name.now (record { line = line; kind = kind })) }
+{
+    let number = kind.number();
+    Ok(Text::from(format!(in alloc; "{name}: image {number} line {line}")?))
+}
+
+/// Why no image stands to the named text. There is no text where memory was wanting.
+fn asm_text(alloc: Global, name: &str, refusal: &AsmRefusal) -> Result<Text, NoMemory>
+    ensures fault { IfOk result (λ _. refusal.now.kind ≢ AsmKind.NoMemory) }
+    ensures text { IfOk result (λ text. text ≡ asm_text name.now refusal.now) }
+{
+    match refusal.kind {
+        AsmKind::NoMemory => Err(NoMemory),
+        _ => asm_line(alloc, name, refusal),
+    }
+}
+
+#[tactic(auto, unfolding(crate::specs::TestTexts::asm_text))]
+fn asm_line(alloc: Global, name: &str, refusal: &AsmRefusal) -> Result<Text, NoMemory>
+    ensures { IfOk result (λ text. text ≡ asm_text name.now refusal.now) }
+{
+    let number = refusal.kind.number();
+    let line = refusal.line;
+    let detail = asm_detail(alloc, &refusal.kind)?;
+    Ok(Text::from(format!(in alloc; "{name}: asm {number} line {line}{detail}")?))
+}
+
+fn asm_detail(alloc: Global, kind: &AsmKind) -> Result<Text, NoMemory>
+    ensures { IfOk result (λ text. text ≡ asm_detail kind.now) }
+{
+    match kind {
+        AsmKind::OutOfRange { value } => {
+            let value = *value;
+            Ok(Text::from(format!(in alloc; " value {value}")?))
+        },
+        AsmKind::MissingSymbol { name } => Ok(Text::from(format!(in alloc; " name {name}")?)),
+        _ => Ok(Text::new(alloc)),
     }
 }
 

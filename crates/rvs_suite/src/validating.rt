@@ -9,6 +9,7 @@ use crate::printing::print_text;
 use rvs_base::{Host, Sink};
 use rvs_isa::{AcceptedSpec, print_checked};
 use rvs_plan::{Finish, Stop};
+use rvs_words::ValidateArguments;
 use std::alloc::Global;
 
 /// Checks an ISA file, and puts what it says of the core.
@@ -18,14 +19,14 @@ use std::alloc::Global;
 /// [`Stop`]; nothing is put before the file is accepted.
 pub fn validate_file<H: Host, O: Sink>(
     alloc: Global,
-    isa: &str,
+    asked: &ValidateArguments,
     host: &mut H,
     out: &mut O,
 ) -> Result<Finish, Stop>
-    ensures { Meets (validate isa.now) (world (H.state host.old) (O.state out.old))
+    ensures { Meets (validate asked.now) (world (H.state host.old) (O.state out.old))
         (world (H.state host.new) (O.state out.new)) result }
 {
-    let said = read_isa(alloc, host, isa)?;
+    let said = read_isa(alloc, host, &asked.isa)?;
     print_said(alloc, &said, out)
 }
 

@@ -21,10 +21,11 @@ returns-in_err-counter g c = λ out.
 pub returns : goal.returns
 returns g c = λ out.
     let groups = c.args.groups.now in
-    let windows = c.args.windows.now in
+    let windows = c.args.asked.now.windows in
     let same : c.from-windows.result ≡ windows =
-    c.from-windows.ensures ∙ c.in_ok-to_vec.ensures.items_if_clones_equal (λ x y e. e) in
+    c.from-windows.ensures ∙ c.in_ok-to_vec.ensures.items_if_clones_equal (λ x y e. e)
+    ∙ c.as_slice.ensures in
     let begun : c.in_ok-counter.counter ≡ state_of groups windows [] 0 =
     c.in_ok-counter.ensures ∙ ap (λ (w : List Span). state_of groups w [] 0) same in
-    c.count_with.ensures out groups windows begun
-    (subst (λ (s : CountState). s.fed ≤ 2 ^ 40) c.counter.view_is c.counter.invariant.1)
+    rw c.as_str.ensures at (c.count_with.ensures out groups windows begun
+    (subst (λ (s : CountState). s.fed ≤ 2 ^ 40) c.counter.view_is c.counter.invariant.1))

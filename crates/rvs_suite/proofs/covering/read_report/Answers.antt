@@ -6,9 +6,9 @@ use Rattle.rvs_suite.proofs.covering.read_report.Goals as goal
 pub returns-in_err-inputs : goal.returns-in_err-inputs
 returns-in_err-inputs g c = λ out.
     let p = err_from_is_err_and c.from_residual.result c.from_residual.ensures.1 in
-    rw (p.1, p.2) (Meets-stop (counts_log c.args.log.now c.args.windows.now)
+    rw (p.1, p.2) (Meets-stop (counts_log c.args.asked.now)
     (c.in_err-inputs.ensures.met out))
 
 pub returns : goal.returns
-returns g c = λ out. Meets-then (counts_log c.args.log.now c.args.windows.now)
+returns g c = λ out. Meets-then (counts_log c.args.asked.now)
     (c.in_ok-inputs.ensures.met out) (c.count_named.ensures out)

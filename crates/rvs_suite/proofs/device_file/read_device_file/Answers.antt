@@ -11,11 +11,13 @@ use Rattle.rvs_suite.proofs.device_file.read_device_file.Goals as goal
 pub returns-in_err-bytes : goal.returns-in_err-bytes
 returns-in_err-bytes g c = λ out.
     let p = err_from_is_err_and c.from_residual.result c.from_residual.ensures.1 in
-    rw (p.1, p.2) (Meets-stop (checks c.args.name.now) (c.in_err-bytes.ensures out))
+    rw (p.1, p.2) (Meets-stop (checks c.args.name.now) (rw c.as_str.ensures at
+    (c.in_err-bytes.ensures out)))
 
 pub returns : goal.returns
 returns g c = λ out.
     let w = world (g.H.Host.state c.read_input.new.host) out in
     let last = subst (λ (bytes : List ℕ). Meets (checks c.args.name.now bytes) w w
-    (seen told c.check_bytes.result)) c.as_slice.ensures (c.check_bytes.ensures w) in
-    Meets-then (checks c.args.name.now) (c.in_ok-bytes.ensures out) last
+    (seen told c.check_bytes.result)) c.as_slice.ensures
+    (rw c.as_str-2.ensures at (c.check_bytes.ensures w)) in
+    Meets-then (checks c.args.name.now) (rw c.as_str.ensures at (c.in_ok-bytes.ensures out)) last

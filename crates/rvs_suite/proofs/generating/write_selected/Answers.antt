@@ -20,12 +20,9 @@ returns-clause-met g c = λ out.
     let old = world (g.H.Host.state c.args.host.now) out in
     let new = world (g.H.Host.state c.write_text.new.host) out in
     let result = c.write_text.result in
-    let named = subst (λ (name : List ℕ). Meets
-    (writes_text (path_of c.args.work.now name) c.in_ok-made.made.text) old new result)
-    c.as_str.ensures (c.write_text.ensures out) in
     subst (λ (text : Option (List ℕ)). Meets
     (writes_text (path_of c.args.work.now c.args.label.now.name) text) old new result)
-    c.in_ok-made.ensures.made.text named
+    c.in_ok-made.ensures.made.text (c.write_text.ensures out)
 
 pub returns-clause-text : goal.returns-clause-text
 returns-clause-text g c = OnOk-always _ c.write_text.result c.in_ok-made.ensures.text

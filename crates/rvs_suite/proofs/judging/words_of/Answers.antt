@@ -1,14 +1,28 @@
-use Rattle.std.proofs.Common.{◌≡◌, ℕ, List, [], IfOk, subst}
-use Rattle.rvs_machine.specs.Machine.{started}
-use Rattle.rvs_suite.proofs.Runnable.{words-left}
+use Rattle.std.proofs.Common.{◌≡◌, List, ℕ, Result, Ok, Err, sym, ap, subst, ◌∙◌}
+use Rattle.std.proofs.lemmas.Result.{err_from_is_err_and}
+use Rattle.rvs_suite.specs.TestRun.{Accepts, text_run}
+use Rattle.rvs_suite.specs.declared.test_run.Run.{Run}
+use Rattle.rvs_suite.proofs.Runnable.{runs-found, never-refused}
 use Rattle.rvs_suite.proofs.judging.words_of.Goals as goal
 
-pub returns-in-Halted : goal.returns-in-Halted
-returns-in-Halted c =
-    let isa = c.args.isa.now in
-    let machine : c.new-machine.result ≡ started c.in_ok-image.image isa = c.new-machine.ensures in
-    let empty : c.new-trace.result ≡ [] = c.new-trace.ensures in
-    let run = rw (machine, empty, c.in-Halted.is) at c.run.ensures in
-    subst (λ (words : List ℕ). IfOk c.signature.result (λ w. w ≡ words)) (words-left isa
-    c.args.test.now c.in_ok-image.image c.run.new.self c.run.new.trace c.in_ok-image.ensures
-    run) c.signature.ensures.words
+abbrev words_in : Result Run (List ℕ) → Result (List ℕ) (List ℕ)
+words_in (Ok run) = Ok run.words
+words_in (Err text) = Err text
+
+pub returns-in_err-run : goal.returns-in_err-run
+returns-in_err-run c =
+    let p = err_from_is_err_and c.from_residual.result c.from_residual.ensures.1 in
+    let found = runs-found c.args.isa c.as_str-2.result.now c.args.test.now c.requires in
+    let text : c.as_bytes-text.result.now ≡ c.args.test.now.text =
+    c.as_bytes-text.ensures.value ∙ c.as_str.ensures in
+    rw (p.1, p.2) (never-refused _ found.0 _ c.in_err-run.field-0.0 found.1
+    (subst (λ (bytes : List ℕ). Accepts (text_run c.args.test.now.steps c.args.isa
+    c.as_str-2.result.now bytes) (Err c.in_err-run.field-0.0)) text c.in_err-run.ensures))
+
+pub returns : goal.returns
+returns c =
+    let found = runs-found c.args.isa c.as_str-2.result.now c.args.test.now c.requires in
+    let text : c.as_bytes-text.result.now ≡ c.args.test.now.text =
+    c.as_bytes-text.ensures.value ∙ c.as_str.ensures in
+    let run = rw text at c.in_ok-run.ensures in
+    ap (λ (words : List ℕ). Ok words) (sym found.2) ∙ ap words_in (sym found.1 ∙ run)

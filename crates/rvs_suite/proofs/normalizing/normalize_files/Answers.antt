@@ -13,7 +13,7 @@ pub returns-in_err-text : goal.returns-in_err-text
 returns-in_err-text g c =
     let p = err_from_is_err_and c.from_residual.result c.from_residual.ensures.1 in
     let out = g.O.Sink.state c.args.out.now in
-    rw (p.1, p.2, normal-plan c.args.isa.now c.args.names.now)
+    rw (p.1, p.2, normal-plan c.args.asked.now)
     (Meets-stop print_text (c.in_err-text.ensures out))
 
 pub returns : goal.returns
@@ -21,6 +21,6 @@ returns g c =
     let old = world (g.H.Host.state c.args.host.now) (g.O.Sink.state c.args.out.now) in
     let new = world (g.H.Host.state c.read_normal.new.host) (g.O.Sink.state c.print_text.new.out) in
     subst (λ (plan : Plan Finish). Meets plan old new c.print_text.result) (sym
-    (normal-plan c.args.isa.now c.args.names.now)) (Meets-then print_text
+    (normal-plan c.args.asked.now)) (Meets-then print_text
     (c.in_ok-text.ensures (g.O.Sink.state c.args.out.now))
     (c.print_text.ensures (g.H.Host.state c.read_normal.new.host)))

@@ -8,7 +8,7 @@ returns-in_err-write_signature g c =
     let p = err_from_is_err_and c.from_residual.result c.from_residual.ensures.1 in
     let first = rw c.as_slice.ensures at
     (c.in_err-write_signature.ensures (g.O.Sink.state c.args.out.now)) in
-    rw (p.1, p.2) (Meets-stop (λ _. records_log c.args.log.now c.args.run.now) first)
+    rw (p.1, p.2) (Meets-stop (λ _. records_log c.args.asked.now.log c.args.run.now) first)
 
 pub returns-in_err-write_log : goal.returns-in_err-write_log
 returns-in_err-write_log g c =
@@ -18,7 +18,7 @@ returns-in_err-write_log g c =
     (c.in_ok-write_signature.ensures (g.O.Sink.state c.args.out.now)) in
     let second =
     rw c.as_slice-2.ensures at (c.in_err-write_log.ensures (g.O.Sink.state c.args.out.now)) in
-    rw (p.1, p.2) (Meets-then (λ _. records_log c.args.log.now c.args.run.now) first
+    rw (p.1, p.2) (Meets-then (λ _. records_log c.args.asked.now.log c.args.run.now) first
     (Meets-stop (λ _. announces_run c.args.run.now) second))
 
 pub returns : goal.returns
@@ -28,5 +28,5 @@ returns g c =
     let second =
     rw c.as_slice-2.ensures at (c.in_ok-write_log.ensures (g.O.Sink.state c.args.out.now)) in
     let third = c.announce_run.ensures (g.H.Host.state c.write_log.new.host) in
-    Meets-then (λ _. records_log c.args.log.now c.args.run.now) first
+    Meets-then (λ _. records_log c.args.asked.now.log c.args.run.now) first
     (Meets-then (λ _. announces_run c.args.run.now) second third)

@@ -12,7 +12,7 @@ returns-in_err-bytes g c = λ out.
     let p = err_from_is_err_and c.from_residual.result c.from_residual.ensures.1 in
     rw (p.1, p.2) (Meets-stop
     (λ (bytes : List ℕ). accepted (test_found c.args.steps c.args.spec c.args.test.now bytes))
-    (c.in_err-bytes.ensures out))
+    (rw c.as_str.ensures at (c.in_err-bytes.ensures out)))
 
 pub returns : goal.returns
 returns g c = λ out.
@@ -22,5 +22,5 @@ returns g c = λ out.
     let last = subst (λ (bytes : List ℕ). Meets (plan bytes) w w c.run_bytes.result)
     c.as_slice.ensures (Meets-accepts
     (test_found c.args.steps c.args.spec c.args.test.now c.as_slice.result.now)
-    c.run_bytes.result w c.run_bytes.ensures) in
-    Meets-then plan (c.in_ok-bytes.ensures out) last
+    c.run_bytes.result w (rw c.as_str-2.ensures at c.run_bytes.ensures)) in
+    Meets-then plan (rw c.as_str.ensures at (c.in_ok-bytes.ensures out)) last

@@ -29,4 +29,4 @@ returns g c = λ out.
     subst (λ (bytes : List ℕ). Meets (writes c.args.log.now bytes) old new c.write_output.result)
     text (subst
     (λ (name : List ℕ). Meets (writes name c.as_slice.result.now) old new c.write_output.result)
-    c.in_ok-name.ensures (c.write_output.ensures out))
+    (c.in_ok-name.ensures ∙ c.as_str.ensures) (c.write_output.ensures out))

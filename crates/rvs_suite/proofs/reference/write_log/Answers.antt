@@ -11,9 +11,4 @@ returns-in-None g c =
     λ out. rw c.in-None.is (Meets-gives tt (world (g.H.Host.state c.args.host.now) out))
 
 pub returns-in-Some : goal.returns-in-Some
-returns-in-Some g c = λ out.
-    let old = world (g.H.Host.state c.args.host.now) out in
-    let new = world (g.H.Host.state c.write_lines.new.host) out in
-    let met = subst (λ (name : List ℕ). Meets (writes name (log_of c.args.trace.now)) old new
-    c.write_lines.result) c.as_str.ensures (c.write_lines.ensures out) in
-    rw c.in-Some.is met
+returns-in-Some g c = λ out. rw c.in-Some.is (c.write_lines.ensures out)

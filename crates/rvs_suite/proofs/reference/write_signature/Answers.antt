@@ -23,10 +23,10 @@ returns-in_err-name g c = λ out.
 pub returns : goal.returns
 returns g c = λ out.
     let text : c.as_bytes.result.now ≡ text_of_words c.args.words.now =
-    c.as_bytes.ensures.value ∙ c.as_str.ensures ∙ c.in_ok-text.ensures.text in
+    c.as_bytes.ensures.value ∙ c.as_str-2.ensures ∙ c.in_ok-text.ensures.text in
     let old = world (g.H.Host.state c.args.host.now) out in
     let new = world (g.H.Host.state c.write_output.new.host) out in
     subst (λ (bytes : List ℕ). Meets (writes c.args.signature.now bytes) old new
     c.write_output.result) text (subst
     (λ (name : List ℕ). Meets (writes name c.as_bytes.result.now) old new c.write_output.result)
-    c.in_ok-name.ensures (c.write_output.ensures out))
+    (c.in_ok-name.ensures ∙ c.as_str.ensures) (c.write_output.ensures out))

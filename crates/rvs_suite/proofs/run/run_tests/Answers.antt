@@ -34,8 +34,8 @@ pub returns-in_err-inputs : goal.returns-in_err-inputs
 returns-in_err-inputs g c =
     let out = g.O.Sink.state c.args.out.now in
     let p = err_from_is_err_and c.from_residual.result c.from_residual.ensures.1 in
-    rw (p.1, p.2) (Meets-weaker (Meets-stop (runs c.args.program.now c.args.work.now)
-    (Meets-stop (device_behind c.args.device.now) (c.in_err-inputs.ensures.met out))))
+    rw (p.1, p.2) (Meets-weaker (Meets-stop (runs c.args.asked.now.program c.args.asked.now.work)
+    (Meets-stop (device_behind c.args.asked.now.device) (c.in_err-inputs.ensures.met out))))
 
 pub returns-in_err-device : goal.returns-in_err-device
 returns-in_err-device g c =
@@ -43,8 +43,8 @@ returns-in_err-device g c =
     let inputs = inputs_view c.in_ok-inputs.inputs in
     let p = err_from_is_err_and c.from_residual-in_err-device.result
     c.from_residual-in_err-device.ensures.1 in
-    rw (p.1, p.2) (Meets-weaker (Meets-stop (runs c.args.program.now c.args.work.now)
-    (Meets-then (device_behind c.args.device.now) (c.in_ok-inputs.ensures.met out)
+    rw (p.1, p.2) (Meets-weaker (Meets-stop (runs c.args.asked.now.program c.args.asked.now.work)
+    (Meets-then (device_behind c.args.asked.now.device) (c.in_ok-inputs.ensures.met out)
     (Meets-stop (with_device inputs) (c.in_err-device.ensures out)))))
 
 pub returns-in_err-gathered : goal.returns-in_err-gathered
@@ -53,10 +53,10 @@ returns-in_err-gathered g c =
     let inputs = inputs_view c.in_ok-inputs.inputs in
     let device = told c.in_ok-device.device in
     let w = world (g.H.Host.state c.read_device_file.new.host) out in
-    let next = runs c.args.program.now c.args.work.now in
+    let next = runs c.args.asked.now.program c.args.asked.now.work in
     let p = err_from_is_err_and c.from_residual-in_err-gathered.result
     c.from_residual-in_err-gathered.ensures.1 in
-    rw (p.1, p.2) (Meets-weaker (Meets-then next (Meets-then (device_behind c.args.device.now)
+    rw (p.1, p.2) (Meets-weaker (Meets-then next (Meets-then (device_behind c.args.asked.now.device)
     (c.in_ok-inputs.ensures.met out) (Meets-then (with_device inputs)
     (c.in_ok-device.ensures out) (Meets-gives (inputs_with inputs device) w))) (Meets-no_memory
     (next (inputs_with inputs device)) w)))
@@ -67,10 +67,10 @@ returns-in_err-bench g c =
     let inputs = inputs_view c.in_ok-inputs.inputs in
     let device = told c.in_ok-device.device in
     let w = world (g.H.Host.state c.read_device_file.new.host) out in
-    let next = runs c.args.program.now c.args.work.now in
+    let next = runs c.args.asked.now.program c.args.asked.now.work in
     let p = err_from_is_err_and c.from_residual-in_err-bench.result
     c.from_residual-in_err-bench.ensures.1 in
-    rw (p.1, p.2) (Meets-weaker (Meets-then next (Meets-then (device_behind c.args.device.now)
+    rw (p.1, p.2) (Meets-weaker (Meets-then next (Meets-then (device_behind c.args.asked.now.device)
     (c.in_ok-inputs.ensures.met out) (Meets-then (with_device inputs)
     (c.in_ok-device.ensures out) (Meets-gives (inputs_with inputs device) w))) (Meets-no_memory
     (next (inputs_with inputs device)) w)))
@@ -82,14 +82,15 @@ returns-in_err-print g c =
     let device = told c.in_ok-device.device in
     let host = g.H.Host.state c.read_device_file.new.host in
     let w = world host out in
-    let next = runs c.args.program.now c.args.work.now in
-    let bench = bench_of c.args.program.now c.args.work.now (inputs_with inputs device) in
+    let next = runs c.args.asked.now.program c.args.asked.now.work in
+    let bench = bench_of c.args.asked.now.program c.args.asked.now.work
+    (inputs_with inputs device) in
     let line : c.as_bytes.result.now ≡ listing inputs.isa inputs.groups =
     c.as_bytes.ensures.value ∙ c.as_str.ensures ∙ c.in_ok-gathered.ensures.text in
     let p = err_from_is_err_and c.from_residual-in_err-print.result
     c.from_residual-in_err-print.ensures.1 in
     rw (p.1, p.2) (Meets-weaker (Meets-then next
-    (Meets-then (device_behind c.args.device.now) (c.in_ok-inputs.ensures.met out)
+    (Meets-then (device_behind c.args.asked.now.device) (c.in_ok-inputs.ensures.met out)
     (Meets-then (with_device inputs) (c.in_ok-device.ensures out)
     (Meets-gives (inputs_with inputs device) w)))
     (Meets-stop (judging bench inputs) (rw line at (c.in_err-print.ensures host)))))
@@ -101,8 +102,9 @@ returns g c =
     let device = told c.in_ok-device.device in
     let host = g.H.Host.state c.read_device_file.new.host in
     let w = world host out in
-    let next = runs c.args.program.now c.args.work.now in
-    let bench = bench_of c.args.program.now c.args.work.now (inputs_with inputs device) in
+    let next = runs c.args.asked.now.program c.args.asked.now.work in
+    let bench = bench_of c.args.asked.now.program c.args.asked.now.work
+    (inputs_with inputs device) in
     let old = world host (g.O.Sink.state c.print.new.out) in
     let new =
     world (g.H.Host.state c.judge_tests.new.host) (g.O.Sink.state c.judge_tests.new.out) in
@@ -114,7 +116,7 @@ returns g c =
     new c.judge_tests.result) c.in_ok-bench.ensures c.judge_tests.ensures in
     let judged = subst (λ (ts : List Test). MeetsWith IsAnswer (judges_tests bench ts) old new
     c.judge_tests.result) tests one in
-    Meets-then next (Meets-weaker (Meets-then (device_behind c.args.device.now)
+    Meets-then next (Meets-weaker (Meets-then (device_behind c.args.asked.now.device)
     (c.in_ok-inputs.ensures.met out) (Meets-then (with_device inputs)
     (c.in_ok-device.ensures out) (Meets-gives (inputs_with inputs device) w))))
     (Meets-then (judging bench inputs) (Meets-weaker (rw line at (c.in_ok-print.ensures host)))

@@ -1,13 +1,11 @@
 -- What the files of `compare` spell, and when they are refused.
-use Rattle.std.specs.Prelude.{◌≡◌, ◌≢◌, ◌≤◌, ◌⊎◌, ℕ, List, [], length, Some, None, Ok, Err}
-use Rattle.std.specs.Prelude.{codes}
+use Rattle.std.specs.Prelude.{◌≡◌, ◌≢◌, ◌≤◌, ◌⊎◌, ℕ, List, length, Some, None, Ok, Err}
 use Rattle.rvs_base.specs.Host.{Files}
 use Rattle.rvs_base.specs.Sink.{SinkState, appended}
-use Rattle.rvs_plan.specs.Account.{fault_line}
 use Rattle.rvs_sig.specs.Words.{words_of}
 use Rattle.rvs_sig.specs.Verdicts.{verdict_of}
 use Rattle.rvs_sig.specs.declared.words.SigRefusal.{SigRefusal}
-use Rattle.rvs_suite.specs.Limits.{PassesLimit}
+use Rattle.rvs_uses.specs.Limits.{PassesLimit}
 use Rattle.rvs_suite.specs.Texts.{same_line, verdict_line, refusal_text}
 use Rattle.rvs_suite.specs.Compare.{signature_limit}
 
@@ -60,15 +58,3 @@ pub record Fails (files : Files) (left right : List ℕ) (out out' : SinkState) 
   pub differ : left_words ≢ right_words
   pub printed : out'.bytes
       ≡ appended out.bytes (verdict_line (length left_words) (verdict_of left_words right_words))
-
--- a file is refused, and the sink for errors has the line that says why
-pub record Refuses (files : Files) (left right : List ℕ) (err err' : SinkState) : Type 0 where
-  pub text : List ℕ
-  pub first : FirstRefused files left right text
-  pub printed : err'.bytes ≡ appended err.bytes (fault_line text [])
-
--- a file isn't there, and the sink for errors has the line that names it
-pub record Misses (files : Files) (left right : List ℕ) (err err' : SinkState) : Type 0 where
-  pub name : List ℕ
-  pub first : FirstMissing files left right name
-  pub printed : err'.bytes ≡ appended err.bytes (fault_line (codes "no file ") name)

@@ -1,0 +1,250 @@
+-- That the three files of each test stand when all tests were judged, since no two labels have one
+-- name.
+use Rattle.std.proofs.Common.{◌≡◌, ◌≢◌, inl, inr, ℕ, zero, suc, Bool, true, false, List, []}
+use Rattle.std.proofs.Common.{◌∷◌, ◌++◌, Contains, Option, Some, None, option_map}
+use Rattle.std.proofs.Common.{if◌then◌else◌, bytes_eq, refl, sym, ap, subst, ◌∙◌}
+use Rattle.std.proofs.Common.{arith}
+use Rattle.std.specs.Prelude.{not, ⊤}
+use Rattle.std.specs.List.{list_any}
+use Rattle.std.proofs.lemmas.List.Elements.{Contains-append_left, Contains-append_right}
+use Rattle.std.proofs.lemmas.List.Elements.{Contains-append_cases}
+use Rattle.std.proofs.lemmas.Slice.Eq.{bytes_eq-Decides}
+use Rattle.rvs_base.specs.Host.{Files}
+use Rattle.rvs_base.specs.declared.host.DeviceRun.{DeviceRun}
+use Rattle.rvs_sig.specs.Words.{text_of_words}
+use Rattle.rvs_plan.specs.declared.status.Finish.{Finish}
+use Rattle.rvs_insn.specs.Isa.{Isa}
+use Rattle.rvs_cgf.specs.Groups.{Label}
+use Rattle.rvs_normal.specs.Again.{names_are_apart}
+use Rattle.rvs_normal.proofs.Truths.{both, or-both, not-true}
+use Rattle.rvs_test_text.specs.TestText.{step_limit}
+use Rattle.rvs_test.specs.Made.{cases_of, text_of_label}
+use Rattle.rvs_suite.specs.Call.{Call}
+use Rattle.rvs_suite.specs.Tests.{reference_words, test_with, tests_of_label, tests_of}
+use Rattle.rvs_suite.specs.TestFiles.{IsOther, files_of}
+use Rattle.rvs_suite.specs.RunTests.{Bench, RunInputs, files_for, bench_of}
+use Rattle.rvs_suite.specs.RunLeft.{IsRunOf, AreRunsOf, with_judged, with_all_judged}
+use Rattle.rvs_suite.specs.Judging.{tests_in, HasJudged, HasTestFiles}
+use Rattle.rvs_suite.specs.declared.gathering.Test.{Test}
+use Rattle.rvs_suite.proofs.Paths.{found-in, passed-by, same-bytes, other-bytes, not-reference}
+use Rattle.rvs_suite.proofs.Paths.{not-device, apart-signatures, test-other, reference-other}
+use Rattle.rvs_suite.proofs.Paths.{device-other}
+
+-- ---- tests of labels
+abbrev AreApart : List Test → Type 0
+AreApart [] = ⊤
+AreApart (t ∷ ts) = ((u : Test) → Contains ts u → t.name ≢ u.name) × AreApart ts
+
+none-in : {A : Type 0} (x : A) → Contains [] x → ⊥
+none-in x (i, within, at) = omega (arith, within)
+
+named-with : (name : List ℕ) (steps : ℕ) (b : Bool) (text : Option (List ℕ)) (t : Test)
+    → Contains (if b then test_with name steps text else []) t → t.name ≡ name
+named-with name steps true None t there = absurd (none-in t there)
+named-with name steps true (Some text) t (zero, within, at) =
+    sym (ap (λ (x : Test). x.name) at)
+named-with name steps true (Some text) t (suc i, within, at) = absurd (omega (arith, within))
+named-with name steps false text t there = absurd (none-in t there)
+
+label-of : (isa : Isa) (ls : List Label) (t : Test) → Contains (tests_of isa ls) t
+    → (l : Label) × Contains ls l × (t.name ≡ l.name)
+label-of isa [] t there = absurd (none-in t there)
+label-of isa (l ∷ ls) t there =
+    elim (Contains-append_cases (tests_of_label isa l) (tests_of isa ls) t there) [
+      | inl here ↦ (
+        l,
+        (0, omega arith, refl),
+        named-with l.name (step_limit (cases_of isa l)) l.selected (text_of_label isa l) t here,
+      )
+      | inr behind ↦ let r = label-of isa ls t behind in
+          (r.0, Contains-append_right (l ∷ []) ls r.0 r.1, r.2)
+    ]
+
+not-any : (name : List ℕ) (ls : List Label) (l : Label)
+    → list_any (λ (m : Label). bytes_eq name m.name) ls ≡ false → Contains ls l → name ≢ l.name
+not-any name [] l none there = absurd (none-in l there)
+not-any name (m ∷ ms) l none (zero, within, at) =
+    let p = or-both (bytes_eq name m.name) (list_any (λ (x : Label). bytes_eq name x.name) ms)
+    none in
+    λ same. let yes : bytes_eq name m.name ≡ true =
+    (bytes_eq-Decides name m.name).1 (same ∙ sym (ap (λ (x : Label). x.name) at)) in cc
+not-any name (m ∷ ms) l none (suc i, within, at) =
+    let p = or-both (bytes_eq name m.name) (list_any (λ (x : Label). bytes_eq name x.name) ms)
+    none in
+    not-any name ms l p.1 (i, omega (arith, within), at)
+
+apart-with : (name : List ℕ) (steps : ℕ) (b : Bool) (text : Option (List ℕ)) (rest : List Test)
+    → ((u : Test) → Contains rest u → name ≢ u.name) → AreApart rest
+    → AreApart ((if b then test_with name steps text else []) ++ rest)
+apart-with name steps true None rest others apart = apart
+apart-with name steps true (Some text) rest others apart = (others, apart)
+apart-with name steps false text rest others apart = apart
+
+apart-tests : (isa : Isa) (ls : List Label) → names_are_apart ls ≡ true
+    → AreApart (tests_of isa ls)
+apart-tests isa [] apart = tt
+apart-tests isa (l ∷ ls) apart =
+    let later = list_any (λ (m : Label). bytes_eq l.name m.name) ls in
+    let p = both (not later) (names_are_apart ls) apart in
+    apart-with l.name (step_limit (cases_of isa l)) l.selected (text_of_label isa l)
+    (tests_of isa ls) (λ u there. let m = label-of isa ls u there in
+    λ same. not-any l.name ls m.0 (not-true later p.0) m.1 (same ∙ m.2))
+    (apart-tests isa ls p.1)
+
+-- a label that has a text has it as a test
+test-with : (name : List ℕ) (steps : ℕ) (b : Bool) (text : Option (List ℕ)) (t : List ℕ)
+    → b ≡ true → text ≡ Some t
+    → Contains (if b then test_with name steps text else [])
+    (record { name = name; text = t; steps = steps })
+test-with name steps true (Some text) t chosen is = (
+  0,
+  omega arith,
+  ap (λ (x : Option (List ℕ)). record {
+    name = name;
+    text = text_or x;
+    steps = steps;
+  }) is,
+)
+  where
+    text_or : Option (List ℕ) → List ℕ
+    text_or (Some x) = x
+    text_or None = []
+test-with name steps true None t chosen is = absurd cc
+test-with name steps false text t chosen is = absurd cc
+
+abbrev test_by : Isa → Label → List ℕ → Test
+test_by isa l text =
+    record { name = l.name; text = text; steps = step_limit (cases_of isa l) }
+
+pub test-of : (isa : Isa) (ls : List Label) (l : Label) (text : List ℕ) → Contains ls l
+    → l.selected ≡ true → text_of_label isa l ≡ Some text
+    → (t : Test) × Contains (tests_of isa ls) t × (t.name ≡ l.name) × (t.text ≡ text)
+test-of isa ls l text there selected is = (test_by isa l text, inside ls there, refl, refl)
+  where
+    here : (k : Label) → k ≡ l → Contains (tests_of_label isa k) (test_by isa l text)
+    here k same = subst (λ (m : Label). Contains (tests_of_label isa m) (test_by isa l text))
+        (sym same) (test-with l.name (step_limit (cases_of isa l)) l.selected (text_of_label isa l)
+        text selected is)
+
+    inside : (ls : List Label) → Contains ls l → Contains (tests_of isa ls) (test_by isa l text)
+    inside [] (i, within, at) = absurd (omega (arith, within))
+    inside (k ∷ ks) (zero, within, at) =
+        Contains-append_left (tests_of_label isa k) (tests_of isa ks) (test_by isa l text)
+        (here k at)
+    inside (k ∷ ks) (suc i, within, at) = Contains-append_right (tests_of_label isa k)
+        (tests_of isa ks) (test_by isa l text) (inside ks (i, omega (arith, within), at))
+
+-- ---- what is left of each test
+kept-one : (bench : Bench) (t : Test) (run : DeviceRun) (files : Files) (other : List ℕ)
+    → IsOther (files_for bench t) other → with_judged bench t run files other ≡ files other
+kept-one bench t run files other apart =
+    passed-by (bytes_eq other (files_for bench t).device) _ _
+    (other-bytes other (files_for bench t).device apart.device)
+    ∙ passed-by (bytes_eq other (files_for bench t).reference) _ _
+    (other-bytes other (files_for bench t).reference apart.reference)
+    ∙ passed-by (bytes_eq other (files_for bench t).test) _ _
+    (other-bytes other (files_for bench t).test apart.test)
+
+kept-all : (bench : Bench) (ts : List Test) (runs : List DeviceRun) (files : Files)
+    (other : List ℕ) → ((u : Test) → Contains ts u → IsOther (files_for bench u) other)
+    → with_all_judged bench ts runs files other ≡ files other
+kept-all bench [] runs files other apart = refl
+kept-all bench (t ∷ ts) [] files other apart = refl
+kept-all bench (t ∷ ts) (run ∷ runs) files other apart =
+    kept-all bench ts runs (with_judged bench t run files) other
+    (λ u there. apart u (Contains-append_right (t ∷ []) ts u there))
+    ∙ kept-one bench t run files other (apart t (0, omega arith, refl))
+
+record Stands (bench : Bench) (t : Test) (runs : List DeviceRun) (files : Files) : Type 0 where
+  test : files (files_for bench t).test ≡ Some t.text
+  reference : files (files_for bench t).reference
+      ≡ Some (text_of_words (reference_words bench.isa t))
+  run : DeviceRun
+  is_run : IsRunOf bench t run
+  among : Contains runs run
+  device : files (files_for bench t).device ≡ run.after
+
+stands-first : (bench : Bench) (t : Test) (ts : List Test) (run : DeviceRun)
+    (runs : List DeviceRun) (files : Files) → IsRunOf bench t run
+    → ((u : Test) → Contains ts u → t.name ≢ u.name)
+    → Stands bench t (run ∷ runs) (with_all_judged bench ts runs (with_judged bench t run files))
+stands-first bench t ts run runs files is apart =
+    let work = bench.work in
+    let name = t.name in
+    let own = files_for bench t in
+    let now = with_judged bench t run files in
+    record {
+      test = kept-all bench ts runs now own.test
+          (λ u there. test-other work name u.name (apart u there))
+          ∙ passed-by (bytes_eq own.test own.device) _ _
+          (other-bytes own.test own.device (not-device work name name))
+          ∙ passed-by (bytes_eq own.test own.reference) _ _
+          (other-bytes own.test own.reference (not-reference work name name))
+          ∙ found-in (bytes_eq own.test own.test) _ _ (same-bytes own.test);
+      reference = kept-all bench ts runs now own.reference
+          (λ u there. reference-other work name u.name (apart u there))
+          ∙ passed-by (bytes_eq own.reference own.device) _ _
+          (other-bytes own.reference own.device (apart-signatures work name name))
+          ∙ found-in (bytes_eq own.reference own.reference) _ _ (same-bytes own.reference);
+      run = run;
+      is_run = is;
+      among = (0, omega arith, refl);
+      device = kept-all bench ts runs now own.device
+          (λ u there. device-other work name u.name (apart u there))
+          ∙ found-in (bytes_eq own.device own.device) _ _ (same-bytes own.device);
+    }
+
+all-stand : (bench : Bench) (ts : List Test) (runs : List DeviceRun) (files : Files) (u : Test)
+    → AreRunsOf bench ts runs → AreApart ts → Contains ts u
+    → Stands bench u runs (with_all_judged bench ts runs files)
+all-stand bench [] runs files u each apart there = absurd (none-in u there)
+all-stand bench (t ∷ ts) [] files u each apart there = absurd each
+all-stand bench (t ∷ ts) (run ∷ runs) files u each apart (zero, within, at) =
+    subst (λ (x : Test). Stands bench x (run ∷ runs)
+    (with_all_judged bench ts runs (with_judged bench t run files))) at
+    (stands-first bench t ts run runs files each.0 apart.0)
+all-stand bench (t ∷ ts) (run ∷ runs) files u each apart (suc i, within, at) =
+    let s = all-stand bench ts runs (with_judged bench t run files) u each.1 apart.1
+    (i, omega (arith, within), at) in
+    record {
+      test = s.test;
+      reference = s.reference;
+      run = s.run;
+      is_run = s.is_run;
+      among = Contains-append_right (run ∷ []) runs s.run s.among;
+      device = s.device;
+    }
+
+-- ---- what a call has left
+among-runs : (news after : List DeviceRun) (run : DeviceRun) (before : Option (List DeviceRun))
+    → Contains news run → Some after ≡ option_map (λ (b : List DeviceRun). b ++ news) before
+    → Contains after run
+among-runs news after run None there is = absurd cc
+among-runs news after run (Some before) there is =
+    let same : after ≡ before ++ news = cc in
+    subst (λ (rs : List DeviceRun). Contains rs run) (sym same)
+    (Contains-append_right before news run there)
+
+pub files-stand : {call : Call} (program work : List ℕ) (inputs : RunInputs) (end : Finish)
+    (files files' : Files) (test : Test) → HasJudged call program work end inputs
+    → call.old.host.files ≡ Some files → call.new.host.files ≡ Some files'
+    → names_are_apart inputs.groups.groups ≡ true → Contains (tests_in inputs) test
+    → HasTestFiles call (bench_of program work inputs) test files'
+files-stand {call} program work inputs end files files' test judged old new apart there =
+    let bench = bench_of program work inputs in
+    let tests = tests_in inputs in
+    let both : Some files' ≡ Some (with_all_judged bench tests judged.runs files) =
+    sym new ∙ judged.files
+    ∙ ap (λ (f : Option Files). option_map (with_all_judged bench tests judged.runs) f) old in
+    let same : files' ≡ with_all_judged bench tests judged.runs files = cc in
+    let s = all-stand bench tests judged.runs files test judged.each
+    (apart-tests inputs.groups.isa inputs.groups.groups apart) there in
+    record {
+      text = ap (λ (f : Files). f (files_of work test.name).test) same ∙ s.test;
+      reference = ap (λ (f : Files). f (files_of work test.name).reference) same ∙ s.reference;
+      run = s.run;
+      is_run = s.is_run;
+      made = λ runs is. among-runs judged.runs runs s.run call.old.host.runs s.among
+          (sym is ∙ judged.made);
+      device = ap (λ (f : Files). f (files_of work test.name).device) same ∙ s.device;
+    }

@@ -1,0 +1,143 @@
+-- That each label's test is in its own file, since no two labels have one name.
+use Rattle.std.proofs.Common.{◌≡◌, ◌≢◌, ℕ, Bool, true, false, true≢false, if◌then◌else◌, List, []}
+use Rattle.std.proofs.Common.{◌∷◌, All, Contains, Option, Some, None, is_some, Result, Ok, Err}
+use Rattle.std.proofs.Common.{IfOk, codes, bytes_eq, refl, sym, ap, subst, ◌∙◌}
+use Rattle.std.specs.Prelude.{not}
+use Rattle.std.specs.List.{list_any}
+use Rattle.std.proofs.lemmas.List.Elements.{All-nil, All-cons, All-contains}
+use Rattle.std.proofs.lemmas.Slice.Eq.{bytes_eq-Decides}
+use Rattle.rvs_base.specs.Host.{Files}
+use Rattle.rvs_plan.specs.declared.stop.Stop.{Stop}
+use Rattle.rvs_tree.specs.Data.{Data, scalar, sequence, mapping, own_pairs}
+use Rattle.rvs_yaml.specs.Parsed.{Parsed, answer}
+use Rattle.rvs_insn.specs.Isa.{Isa}
+use Rattle.rvs_isa.specs.declared.accepted_spec.AcceptedSpec.{AcceptedSpec}
+use Rattle.rvs_cgf.specs.Groups.{Label, Refusal, groups_of}
+use Rattle.rvs_cgf.specs.Spelled.{keys_are_own}
+use Rattle.rvs_normal.specs.Again.{names_are_apart}
+use Rattle.rvs_normal.specs.Once.{KeysOnce}
+use Rattle.rvs_normal.proofs.ReadAgain.{answer-owned}
+use Rattle.rvs_normal.proofs.Notes.{read-well}
+use Rattle.rvs_normal.proofs.Truths.{both, or-both, not-true}
+use Rattle.rvs_test.specs.Made.{text_of_label}
+use Rattle.rvs_suite.specs.Specification.{said_in}
+use Rattle.rvs_suite.specs.GroupFiles.{Inputs, and_then, text_in, checked_groups, tree_groups}
+use Rattle.rvs_suite.specs.GroupFiles.{groups_found, inputs_of, inputs_in}
+use Rattle.rvs_suite.specs.Generate.{path_of}
+use Rattle.rvs_suite.specs.Generating.{with_text, with_test, with_tests}
+use Rattle.rvs_suite.proofs.Paths.{same-ending}
+use Rattle.rvs_suite.proofs.Sparing.{held, unwritten}
+
+-- ---- no two labels have one name
+top-own : (d : Data) → KeysOnce d → keys_are_own (own_pairs d) ≡ true
+top-own (scalar t l) o = refl
+top-own (sequence is l) o = refl
+top-own (mapping es l) o = o.0
+
+abbrev AreApart : Inputs → Type 0
+AreApart inputs = names_are_apart inputs.groups ≡ true
+
+apart-checked : (isa : Isa) (text : List ℕ) (tree : Data) (r : Result (List Label) Refusal)
+    → answer text ≡ Ok tree → groups_of isa tree ≡ r
+    → IfOk (inputs_of isa (checked_groups r)) AreApart
+apart-checked isa text tree (Ok ls) a is =
+    (read-well isa tree ls (top-own tree (answer-owned text tree a)) is).apart
+apart-checked isa text tree (Err refusal) a is = tt
+
+apart-tree : (isa : Isa) (text : List ℕ) (r : Parsed) → answer text ≡ r
+    → IfOk (inputs_of isa (tree_groups isa r)) AreApart
+apart-tree isa text (Ok tree) a = apart-checked isa text tree (groups_of isa tree) a refl
+apart-tree isa text (Err fault) a = tt
+
+apart-text : (isa : Isa) (r : Result (List ℕ) Stop)
+    → IfOk (and_then r (λ text. inputs_of isa (groups_found isa text))) AreApart
+apart-text isa (Ok text) = apart-tree isa text (answer text) refl
+apart-text isa (Err stop) = tt
+
+apart-said : (files : Files) (names : List (List ℕ)) (r : Result AcceptedSpec Stop)
+    → IfOk (and_then r (λ said. and_then (text_in files None names)
+    (λ text. inputs_of said.spec (groups_found said.spec text)))) AreApart
+apart-said files names (Ok said) = apart-text said.spec (text_in files None names)
+apart-said files names (Err stop) = tt
+
+pub apart-inputs : (files : Files) (isa : List ℕ) (names : List (List ℕ)) (inputs : Inputs)
+    → inputs_in files isa names ≡ Ok inputs → names_are_apart inputs.groups ≡ true
+apart-inputs files isa names inputs given =
+    subst (λ (r : Result Inputs Stop). IfOk r AreApart) given
+    (apart-said files names (said_in files isa))
+
+-- ---- so their tests are different files
+apart-paths : (work a b : List ℕ) → bytes_eq a b ≡ false → path_of work a ≢ path_of work b
+apart-paths work a b apart same =
+    same-ending work a b (codes ".S")
+    (λ one. true≢false (sym ((bytes_eq-Decides a b).1 one) ∙ apart)) same
+
+kept-chosen : (b : Bool) (other path : List ℕ) (text : Option (List ℕ)) (files : Option Files)
+    → other ≢ path
+    → held other (if b then with_text path text files else files) ≡ held other files
+kept-chosen true other path None files apart = refl
+kept-chosen true other path (Some text) files apart = unwritten other path text files apart
+kept-chosen false other path text files apart = refl
+
+told-chosen : (b : Bool) (path : List ℕ) (text : Option (List ℕ)) (files : Option Files)
+    → is_some (if b then with_text path text files else files) ≡ is_some files
+told-chosen true path None files = refl
+told-chosen true path (Some text) None = refl
+told-chosen true path (Some text) (Some files) = refl
+told-chosen false path text files = refl
+
+here-chosen : (b : Bool) (path : List ℕ) (text : Option (List ℕ)) (t : List ℕ)
+    (files : Option Files) → is_some files ≡ true → b ≡ true → text ≡ Some t
+    → held path (if b then with_text path text files else files) ≡ Some (Some t)
+here-chosen false path text t files told chosen is = absurd cc
+here-chosen true path None t files told chosen is = absurd cc
+here-chosen true path (Some s) t None told chosen is = absurd cc
+here-chosen true path (Some s) t (Some files) told chosen is =
+    ap (λ (x : Option (List ℕ)). Some x) (found (bytes_eq path path) (Some s) (files path)
+    ((bytes_eq-Decides path path).1 refl) ∙ is)
+  where
+    found : (b : Bool) (x y : Option (List ℕ)) → b ≡ true → (if b then x else y) ≡ x
+    found b x y e = rw e refl
+
+kept-tests : (work name : List ℕ) (isa : Isa) (ls : List Label) (files : Option Files)
+    → list_any (λ (m : Label). bytes_eq name m.name) ls ≡ false
+    → held (path_of work name) (with_tests work isa ls files) ≡ held (path_of work name) files
+kept-tests work name isa [] files apart = refl
+kept-tests work name isa (l ∷ ls) files apart =
+    let p = or-both (bytes_eq name l.name) (list_any (λ (m : Label). bytes_eq name m.name) ls)
+    apart in
+    kept-tests work name isa ls (with_test work isa l files) p.1
+    ∙ kept-chosen l.selected (path_of work name) (path_of work l.name) (text_of_label isa l) files
+    (apart-paths work name l.name p.0)
+
+-- the file of a label's test has its text
+abbrev Stands : List ℕ → Isa → Option Files → Label → Type 0
+Stands work isa files l = l.selected ≡ true → (text : List ℕ) → text_of_label isa l ≡ Some text
+    → held (path_of work l.name) files ≡ Some (Some text)
+
+all-there : (work : List ℕ) (isa : Isa) (ls : List Label) (files : Option Files)
+    → is_some files ≡ true → names_are_apart ls ≡ true
+    → All (Stands work isa (with_tests work isa ls files)) ls
+all-there work isa [] files told apart = All-nil (Stands work isa files)
+all-there work isa (l ∷ ls) files told apart =
+    let later = list_any (λ (m : Label). bytes_eq l.name m.name) ls in
+    let p = both (not later) (names_are_apart ls) apart in
+    let after = with_test work isa l files in
+    All-cons (Stands work isa (with_tests work isa ls after)) l ls
+    (λ selected text is. kept-tests work l.name isa ls after (not-true later p.0)
+    ∙ here-chosen l.selected (path_of work l.name) (text_of_label isa l) text files told selected
+    is)
+    (all-there work isa ls after
+    (told-chosen l.selected (path_of work l.name) (text_of_label isa l) files ∙ told) p.1)
+
+pub test-there : (work : List ℕ) (isa : Isa) (ls : List Label) (old new : Option Files)
+    (files' : Files) (l : Label) (text : List ℕ) → is_some old ≡ true
+    → names_are_apart ls ≡ true → new ≡ with_tests work isa ls old → new ≡ Some files'
+    → Contains ls l → l.selected ≡ true → text_of_label isa l ≡ Some text
+    → files' (path_of work l.name) ≡ Some text
+test-there work isa ls old new files' l text told apart made is there selected has =
+    let stands = All-contains (Stands work isa (with_tests work isa ls old)) ls l
+    (all-there work isa ls old told apart) there selected text has in
+    let e : Some (files' (path_of work l.name)) ≡ Some (Some text) =
+    ap (λ (f : Option Files). held (path_of work l.name) f) (sym is ∙ made) ∙ stands in
+    cc

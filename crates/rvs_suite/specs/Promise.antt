@@ -1,0 +1,38 @@
+-- What every call of the program promises.
+use Rattle.rvs_suite.specs.Call.{Call}
+use Rattle.rvs_suite.specs.Planned as following
+use Rattle.rvs_suite.specs.Causes as answering
+use Rattle.rvs_suite.specs.Comparing as comparing
+use Rattle.rvs_suite.specs.Validating as validating
+use Rattle.rvs_suite.specs.Normalizing as normalizing
+use Rattle.rvs_suite.specs.Generating as generating
+use Rattle.rvs_suite.specs.Referencing as referencing
+use Rattle.rvs_suite.specs.Covering as covering
+use Rattle.rvs_suite.specs.Judging as judging
+use Rattle.rvs_suite.specs.Demonstrating as demonstrating
+
+-- The first fact is of every call over told files, and the second of every call over any host and
+-- any sinks. Each other is of the calls whose words ask for its command: what the answer means,
+-- what leads to it, and what is left.
+pub record Promise (call : Call) : Type 0 where
+  -- what was done is a beginning of the effects that the words mean, and the status is theirs
+  pub planned : following.Promise call
+  -- each answer has its cause and its line, and no fault is passed over
+  pub causes : answering.Promise call
+  -- it passes where both files spell the same words, and fails where they differ
+  pub compare : comparing.Promise call
+  -- it is done where the checks accept the ISA file, and puts what this says
+  pub validate : validating.Promise call
+  -- it puts the groups so that they are read again as the same
+  pub normalize : normalizing.Promise call
+  -- each label with a point that a choice hits has a test, which of its bytes alone hits each such
+  -- point; every other point is listed
+  pub generate : generating.Promise call
+  -- it writes the signature and the log of a test that halts
+  pub reference : referencing.Promise call
+  -- it counts the log's instructions that hit each point
+  pub coverage : covering.Promise call
+  -- it makes the same tests, and passes where the device leaves the reference's words on each
+  pub run : judging.Promise call
+  -- it puts the report of the run of the stated program
+  pub demo : demonstrating.Promise call

@@ -1,0 +1,5 @@
+mod Files
+mod Compares
+mod Validates
+mod References
+mod Generates

@@ -1,0 +1,10 @@
+pub mod Limits
+pub mod Refusals
+pub mod Spells
+pub mod Says
+pub mod Halting
+pub mod Comparing
+pub mod Validating
+pub mod Referencing
+pub mod Testing
+pub mod Laws
