@@ -12,7 +12,7 @@ ghost use Rattle.rvs_suite.specs.Coverage.{report_on, report_found, reported, co
 
 use crate::group_files::read_inputs;
 use crate::printing::print_text;
-use rvs_base::{Host, Items, NoMemory, Sink, Text, Window};
+use rvs_base::{Host, Items, NoMemory, Sink, Text};
 use rvs_cgf::Groups;
 use rvs_count::{Counter, LogFault, count_file};
 use rvs_plan::{Finish, Stop, too_long};
