@@ -9,7 +9,7 @@ riscv64-unknown-elf-ld -m elf32lriscv -n --no-relax -e 0x80000000 -Ttext=0x80000
 address() { riscv64-unknown-elf-nm "$work/test.elf" | awk -v name="$1" '$3 == name { print "0x" $1 }'; }
 begin=$(address begin_signature) end=$(address end_signature)
 # The simulator runs the executable, and then the memory from begin to end is written out. QEMU isn't told when the test
-# has stored 1 to `tohost`, so it is given half a second.
-{ sleep 0.5; echo "pmemsave $begin $((end - begin)) \"$work/memory\""; echo quit; } |
+# has stored 1 to `tohost`, so it is given a second.
+{ sleep 1; echo "pmemsave $begin $((end - begin)) \"$work/memory\""; echo quit; } |
     qemu-system-riscv32 -M virt -bios none -display none -monitor stdio -kernel "$work/test.elf" >"$work/said"
 od -An -v -t x4 -w4 "$work/memory" | tr -d ' ' >"$2"
