@@ -1,9 +1,7 @@
 -- Cross points among the points, and what the ends of a run add to their counts.
-use Rattle.std.proofs.Common.{◌≡◌, ◌≢◌, ℕ, zero, suc, ◌+◌, ◌<◌, ◌≤◌, ◌⊎◌, inl, inr, Bool, true}
+use Rattle.std.proofs.Common.{◌≡◌, ◌≢◌, ℕ, ◌+◌, ◌≤◌, Bool, true}
 use Rattle.std.proofs.Common.{false, cond, ◌||◌, List, [], ◌∷◌, ◌++◌, Option, Some, refl, sym, ap}
-use Rattle.std.proofs.Common.{◌∙◌, length, drop, arith}
-use Rattle.std.proofs.Math.ListN.{drop_of_length-le}
-use Rattle.std.proofs.lemmas.Bool.{cases_lt}
+use Rattle.std.proofs.Common.{◌∙◌, length, arith}
 use Rattle.std.proofs.lemmas.List.{length-map}
 use Rattle.std.proofs.lemmas.List.Folds.{list_any-append}
 use Rattle.std.specs.List.{list_any}
@@ -14,17 +12,15 @@ use Rattle.rvs_cgf.specs.declared.group.Label.{Label}
 use Rattle.rvs_cgf.specs.declared.group.Meaning as code
 use Rattle.rvs_cgf.specs.declared.group.Meaning.TheVariants.{OpIs, RegIs, Regs, Nums, Window}
 use Rattle.rvs_cgf.specs.declared.group.Point.{Point}
-use Rattle.rvs_cross.specs.Cross.{Place}
 use Rattle.rvs_cross.specs.CrossView.{place_view}
 use Rattle.rvs_cross.specs.Windows.{matches}
 use Rattle.rvs_insn.specs.Fields.{Fields}
 use Rattle.rvs_insn.specs.declared.op.Op.{Op}
 use Rattle.rvs_count.specs.Counting.{Aim, aims_in, aims_of_label, aims_of_points}
-use Rattle.rvs_count.specs.Index.{is_matched, is_window}
-use Rattle.rvs_count.specs.Runs.{last}
+use Rattle.rvs_count.specs.Index.{has_places}
 use Rattle.rvs_count.specs.State.{added, ends_run}
 use Rattle.rvs_count.proofs.Matching.{length_matches}
-use Rattle.rvs_count.proofs.Sequels.{last_all, last_back}
+use Rattle.rvs_count.proofs.Sequels.{last_all}
 
 abbrev pub bit : Bool → ℕ
 bit b = cond b 1 0
@@ -69,37 +65,39 @@ aims_sized [] = tt
 aims_sized (l ∷ labels) =
     sized_both (aims_of_label (label_view l)) (aims_in labels) (sized_label l) (aims_sized labels)
 
--- ---- whether there is one
-abbrev is_cross : Aim → Bool
-is_cross a = is_window a.point.meaning
+-- ---- whether there is one of so many places
+abbrev has : ℕ → Aim → Bool
+has count a = has_places count a.point.meaning
 
-cross_points : (ops : List Op) (points : List Point)
-    → list_any (λ (p : Point). is_window (meaning_view p.meaning)) points
-    ≡ list_any is_cross (aims_of_points ops (map point_view points))
-cross_points ops [] = refl
-cross_points ops (p ∷ ps) =
-    ap (λ b. is_window (meaning_view p.meaning) || b) (cross_points ops ps)
+cross_points : (count : ℕ) (ops : List Op) (points : List Point)
+    → list_any (λ (p : Point). has_places count (meaning_view p.meaning)) points
+    ≡ list_any (has count) (aims_of_points ops (map point_view points))
+cross_points count ops [] = refl
+cross_points count ops (p ∷ ps) =
+    ap (λ b. has_places count (meaning_view p.meaning) || b) (cross_points count ops ps)
 
-pub selected_label : (l : Label) (points : List Point) (has : Bool) → l.selected ≡ true
+pub selected_label : (count : ℕ) (l : Label) (points : List Point) (answer : Bool)
+    → l.selected ≡ true
     → points ≡ l.points
-    → has ≡ list_any (λ (p : Point). is_window (meaning_view p.meaning)) points
-    → has ≡ list_any (λ (a : Aim). is_window a.point.meaning) (aims_of_label (label_view l))
-selected_label l points has s e h =
+    → answer ≡ list_any (λ (p : Point). has_places count (meaning_view p.meaning)) points
+    → answer ≡ list_any (λ (a : Aim). has_places count a.point.meaning)
+    (aims_of_label (label_view l))
+selected_label count l points answer s e h =
     let aims = aims_of_points l.ops (map point_view l.points) in
     h
-    ∙ ap (λ ps. list_any (λ (p : Point). is_window (meaning_view p.meaning)) ps) e
-    ∙ cross_points l.ops l.points
-    ∙ ap (λ b. list_any is_cross (cond b aims [])) (sym s)
+    ∙ ap (λ ps. list_any (λ (p : Point). has_places count (meaning_view p.meaning)) ps) e
+    ∙ cross_points count l.ops l.points
+    ∙ ap (λ b. list_any (has count) (cond b aims [])) (sym s)
 
-pub cross_labels : (labels : List Label)
-    → list_any (λ (l : Label). list_any (λ (a : Aim). is_window a.point.meaning)
+pub cross_labels : (count : ℕ) (labels : List Label)
+    → list_any (λ (l : Label). list_any (λ (a : Aim). has_places count a.point.meaning)
     (aims_of_label (label_view l))) labels
-    ≡ list_any (λ (a : Aim). is_window a.point.meaning) (aims_in labels)
-cross_labels [] = refl
-cross_labels (l ∷ labels) =
+    ≡ list_any (λ (a : Aim). has_places count a.point.meaning) (aims_in labels)
+cross_labels count [] = refl
+cross_labels count (l ∷ labels) =
     let here = aims_of_label (label_view l) in
-    ap (λ b. list_any is_cross here || b) (cross_labels labels)
-    ∙ sym (list_any-append is_cross here (aims_in labels))
+    ap (λ b. list_any (has count) here || b) (cross_labels count labels)
+    ∙ sym (list_any-append (has count) here (aims_in labels))
 
 -- ---- counts that two passes add to
 pub added_sum : (p q r : Aim → Bool) → ((a : Aim) → bit (p a) + bit (q a) ≡ bit (r a))
@@ -112,7 +110,7 @@ added_sum p q r h (a ∷ aims) (c ∷ cs) =
     ∙ ap (λ l. (c + bit (r a)) ∷ l) (added_sum p q r h aims cs)
 
 -- ---- the ends of a run
-abbrev some : Fields → Option Fields
+abbrev pub some : Fields → Option Fields
 some i = Some i
 
 -- no instructions end with a window
@@ -135,95 +133,3 @@ none_added (a ∷ aims) (c ∷ cs) h =
     (none_end a.point.meaning h.0)
     ∙ ap (λ n. n ∷ added (λ a. ends_run a.point.meaning []) aims cs) z
     ∙ ap (λ l. c ∷ l) (none_added aims cs h.1)
-
--- a window that ends a run is the whole of it, or it ends what comes after the first
-window_ends : (ps : List Place) (i : Fields) (is : List Fields)
-    → bit (matches ps (map some (i ∷ is))) + bit (matches ps (last (length ps) (map some is)))
-    ≡ bit (matches ps (last (length ps) (map some (i ∷ is))))
-window_ends ps i is = cases (cases_lt (length is) (length ps)) (length-map is some)
-  where
-    cases : (length is < length ps) ⊎ (length ps ≤ length is)
-        → length (map some is) ≡ length is
-        → bit (matches ps (map some (i ∷ is))) + bit (matches ps (last (length ps) (map some is)))
-        ≡ bit (matches ps (last (length ps) (map some (i ∷ is))))
-    cases (inl over) size =
-        let other : length (map some is) ≢ length ps = omega (arith, size) in
-        let none : matches ps (last (length ps) (map some is)) ≡ false =
-        ap (λ l. matches ps l) (last_all (length ps) (map some is) (omega (arith, size)))
-        ∙ length_matches ps (map some is) other in
-        omega (
-          arith,
-          ap bit none,
-          ap (λ l. bit (matches ps l))
-              (last_all (length ps) (map some (i ∷ is)) (omega (arith, size))),
-        )
-    cases (inr within) size =
-        let other : length (map some (i ∷ is)) ≢ length ps = omega (arith, size) in
-        omega (
-          arith,
-          ap bit (length_matches ps (map some (i ∷ is)) other),
-          ap (λ l. bit (matches ps l))
-              (last_back (length ps) (Some i ∷ []) (map some is) (omega (arith, size))),
-        )
-
-bit_ends : (m : Meaning) (i : Fields) (is : List Fields)
-    → bit (is_matched m (i ∷ is)) + bit (ends_run m is) ≡ bit (ends_run m (i ∷ is))
-bit_ends (op_is op) i is = omega arith
-bit_ends (reg_is r) i is = omega arith
-bit_ends (regs f) i is = omega arith
-bit_ends (nums f) i is = omega arith
-bit_ends (window ps) i is = window_ends ps i is
-
--- what each end of a run adds, from the whole run on
-abbrev pub added_ends : List Fields → List Aim → List ℕ → List ℕ
-added_ends [] aims cs = cs
-added_ends (i ∷ is) aims cs =
-    added_ends is aims (added (λ a. is_matched a.point.meaning (i ∷ is)) aims cs)
-
-pub ends_added : (run : List Fields) (aims : List Aim) (cs : List ℕ) → AllSized aims
-    → added_ends run aims cs ≡ added (λ a. ends_run a.point.meaning run) aims cs
-ends_added [] aims cs h = sym (none_added aims cs h)
-ends_added (i ∷ is) aims cs h =
-    ends_added is aims (added (λ a. is_matched a.point.meaning (i ∷ is)) aims cs) h
-    ∙ added_sum (λ a. is_matched a.point.meaning (i ∷ is)) (λ a. ends_run a.point.meaning is)
-    (λ a. ends_run a.point.meaning (i ∷ is))
-    (λ a. bit_ends a.point.meaning i is) aims cs
-
--- one end more
-pub ends_more : (run : List Fields) (aims : List Aim) (cs cs' : List ℕ) (k : ℕ) → k < length run
-    → cs' ≡ added (λ a. is_matched a.point.meaning (drop k run)) aims cs
-    → added_ends (drop (k + 1) run) aims cs' ≡ added_ends (drop k run) aims cs
-ends_more [] aims cs cs' k h e = absurd (omega arith)
-ends_more (i ∷ is) aims cs cs' zero h e = ap (λ cs. added_ends is aims cs) e
-ends_more (i ∷ is) aims cs cs' (suc k) h e =
-    let n : suc k + 1 ≡ suc (k + 1) = omega arith in
-    ap (λ n. added_ends (drop n (i ∷ is)) aims cs') n ∙ ends_more is aims cs cs' k (omega arith) e
-
-pub ends_done : (run : List Fields) (aims : List Aim) (cs : List ℕ) (k : ℕ) → length run ≤ k
-    → added_ends (drop k run) aims cs ≡ cs
-ends_done run aims cs k h = ap (λ l. added_ends l aims cs) (drop_of_length-le run h)
-
--- where there is no cross point
-no_end : (m : Meaning) (run : List Fields) → is_window m ≡ false → ends_run m run ≡ false
-no_end (op_is op) run h = refl
-no_end (reg_is r) run h = refl
-no_end (regs f) run h = refl
-no_end (nums f) run h = refl
-no_end (window ps) run h = cc
-
-both_false : (a b : Bool) → (a || b) ≡ false → (a ≡ false) × (b ≡ false)
-both_false true b h = cc
-both_false false b h = (refl, h)
-
-pub no_added : (aims : List Aim) (run : List Fields) (cs : List ℕ)
-    → list_any (λ (a : Aim). is_window a.point.meaning) aims ≡ false
-    → added (λ a. ends_run a.point.meaning run) aims cs ≡ cs
-no_added [] run cs h = refl
-no_added (a ∷ aims) run [] h = refl
-no_added (a ∷ aims) run (c ∷ cs) h =
-    let z : c + 0 ≡ c = omega arith in
-    let both = both_false (is_window a.point.meaning) (list_any is_cross aims) h in
-    ap (λ b. (c + bit b) ∷ added (λ a. ends_run a.point.meaning run) aims cs)
-    (no_end a.point.meaning run both.0)
-    ∙ ap (λ n. n ∷ added (λ a. ends_run a.point.meaning run) aims cs) z
-    ∙ ap (λ l. c ∷ l) (no_added aims run cs both.1)

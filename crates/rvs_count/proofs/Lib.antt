@@ -6,6 +6,7 @@ pub mod Crossing
 pub mod Ends
 pub mod Feeding
 pub mod Hitting
+pub mod Lengths
 pub mod Marks
 pub mod Masks
 pub mod Matching

@@ -20,7 +20,7 @@ pub last_all : {X : Type 0} (n : ℕ) (xs : List X) → length xs ≤ n → last
 last_all n xs h =
     let e : length xs - n ≡ 0 = omega arith in ap (λ k. drop k xs) e ∙ drop_zero xs
 
-pub last_back : {X : Type 0} (n : ℕ) (xs ys : List X) → n ≤ length ys
+last_back : {X : Type 0} (n : ℕ) (xs ys : List X) → n ≤ length ys
     → last n (xs ++ ys) ≡ last n ys
 last_back n xs ys h =
     let e : length (xs ++ ys) - n ≡ length xs + (length ys - n) =

@@ -1,5 +1,6 @@
 -- The points by mnemonic.
-use Rattle.std.specs.Prelude.{◌≡◌, ℕ, ◌+◌, ◌/◌, ◌%◌, ◌<◌, ◌==◌, ◌&&◌, Bool, true, false, List, []}
+use Rattle.std.specs.Prelude.{◌≡◌, ℕ, zero, suc, ◌+◌, ◌/◌, ◌%◌, ◌<◌, ◌==◌, ◌&&◌, ◌++◌, Bool}
+use Rattle.std.specs.Prelude.{nat_le, true, false, cond, List, []}
 use Rattle.std.specs.Prelude.{◌∷◌, length, map, Option, Some, None, slice_index, slice_index_or}
 use Rattle.std.specs.Prelude.{slice_set}
 use Rattle.std.specs.List.{list_any}
@@ -12,6 +13,7 @@ use Rattle.rvs_cross.specs.Windows.{matches}
 use Rattle.rvs_insn.specs.Fields.{Fields}
 use Rattle.rvs_insn.specs.declared.op.Op.{Op}
 use Rattle.rvs_count.specs.Buckets.{bucket_of, is_seen}
+use Rattle.rvs_count.specs.Runs.{last}
 use Rattle.rvs_count.specs.State.{added}
 use Rattle.rvs_count.specs.Counting.{Aim, aims_in}
 use Rattle.rvs_count.specs.declared.key.ListKey.{ListKey}
@@ -103,21 +105,39 @@ pub record IsIndex (key_of : ℕ → ListKey) (labels : List Label) (lists : Lis
   pub each : (n : ℕ) (d : List Slot) → n < length lists
       → places (slice_index_or lists n d) ≡ places_for (is_for (key_of n)) 0 (aims_in labels)
 
--- a point of this meaning is a cross point
-abbrev pub is_window : Meaning → Bool
-is_window (window ps) = true
-is_window _ = false
+-- a point of this meaning is a cross point of so many places
+abbrev pub has_places : ℕ → Meaning → Bool
+has_places count (window ps) = length ps == count
+has_places count _ = false
 
--- lists for all cross points, and whether there is one
-pub record IsCrossIndex (labels : List Label) (lists : List (List Slot)) (has : Bool) : Type 0 where
-  pub index : IsIndex windows_key labels lists
-  pub count : length lists ≡ 288
-  pub same : has ≡ list_any (λ a. is_window a.point.meaning) (aims_in labels)
+-- the numbers up to one of places that there are cross points of
+abbrev pub lengths_to : List Aim → ℕ → List ℕ
+lengths_to aims zero = []
+lengths_to aims (suc n) =
+    lengths_to aims n
+    ++ cond (list_any (λ a. has_places (suc n) a.point.meaning) aims) (suc n ∷ []) []
+
+-- lists for all cross points, and the numbers of places that there are
+pub record IsCrossIndex (labels : List Label) (lists : List (List Slot)) (numbers : List ℕ) : Type 0
+  where
+    pub index : IsIndex windows_key labels lists
+    pub count : length lists ≡ 288
+    pub lengths : numbers ≡ lengths_to (aims_in labels) 6
 
 -- a point of this meaning is a cross point that these instructions match
 abbrev pub is_matched : Meaning → List Fields → Bool
 is_matched (window ps) run = matches ps (map (λ i. Some i) run)
 is_matched _ run = false
+
+-- so many instructions with which a run ends match it
+abbrev pub is_last : ℕ → Meaning → List Fields → Bool
+is_last count m run = is_matched m (last count run) && nat_le count (length run)
+
+-- one more for each point that as many instructions match as one of these numbers
+abbrev pub added_lasts : List ℕ → List Fields → List Aim → List ℕ → List ℕ
+added_lasts [] run aims cs = cs
+added_lasts (n ∷ ns) run aims cs =
+    added_lasts ns run aims (added (λ a. is_last n a.point.meaning run) aims cs)
 
 -- one more at a place
 abbrev pub raised : Bool → ℕ → List ℕ → List ℕ

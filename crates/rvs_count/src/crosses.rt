@@ -1,9 +1,11 @@
 // The cross points by their number of places and their first mnemonic.
-ghost use Rattle.std.specs.Prelude.{◌≡◌, ◌≤◌, ◌<◌, ◌^◌, All, IfOk, drop, length};
+ghost use Rattle.std.specs.Prelude.{◌≡◌, ◌≤◌, ◌<◌, ◌^◌, ◌++◌, ◌∷◌, [], All, IfOk, OnOk, cond, drop};
+ghost use Rattle.std.specs.Prelude.{length};
 ghost use Rattle.std.specs.List.{list_any};
 ghost use Rattle.rvs_cgf.specs.GroupView.{label_view, meaning_view};
 ghost use Rattle.rvs_count.specs.Counting.{aims_in, aims_of_label};
-ghost use Rattle.rvs_count.specs.Index.{IsIndex, is_matched, is_window, windows_key};
+ghost use Rattle.rvs_count.specs.Index.{IsIndex, added_lasts, has_places, is_last, is_matched};
+ghost use Rattle.rvs_count.specs.Index.{lengths_to, windows_key};
 ghost use Rattle.rvs_count.specs.State.{added, ends_run};
 
 use crate::key::{ListKey, MNEMONICS};
@@ -12,6 +14,7 @@ use crate::slot::Slot;
 use crate::slots::slots_of;
 use rvs_base::{Items, NoMemory};
 use rvs_cgf::{Label, Meaning, Point};
+use rvs_cross::places;
 use rvs_facts::number;
 use rvs_insn::Insn;
 use std::alloc::Global;
@@ -21,12 +24,13 @@ use std::marker::Model;
 const LISTS: usize = 6 * MNEMONICS;
 
 /// The cross points of the selected labels by how many places they have and by the mnemonics of
-/// the first: neighbours are held against those alone that their first instruction may begin.
+/// the first: neighbours are held against those alone that their first instruction may begin, and
+/// only as many neighbours as some cross point has places.
 #[derive(Drop)]
 pub(crate) struct Crosses<'g> {
     labels: &'g [Label],
     lists: Items<Items<Slot<'g>>>,
-    has_points: bool,
+    lengths: Items<usize>,
 }
 
 impl<'g> Model for Crosses<'g> {
@@ -42,44 +46,68 @@ impl<'g> Model for Crosses<'g> {
 
     ghost view = { λ c. c.labels.now };
 
-    ghost invariant = { λ c. IsCrossIndex c.labels.now c.lists c.has_points };
+    ghost invariant = { λ c. IsCrossIndex c.labels.now c.lists c.lengths };
 }
 
-fn is_cross(point: &Point) -> bool
-    ensures { result ≡ is_window (meaning_view point.now.meaning) }
+/// Whether a point is a cross point of so many places.
+fn has_places(point: &Point, count: usize) -> bool
+    ensures { result ≡ has_places count (meaning_view point.now.meaning) }
 {
     match &point.meaning {
-        Meaning::Window(_) => true,
+        Meaning::Window(cross) => places(cross) == count,
         _ => false,
     }
 }
 
-fn any_cross(points: &[Point]) -> bool
-    ensures { result ≡ list_any (λ p. is_window (meaning_view p.meaning)) points.now }
+fn any_has_places(points: &[Point], count: usize) -> bool
+    ensures { result ≡ list_any (λ p. has_places count (meaning_view p.meaning)) points.now }
 {
-    points.iter().any(|point| is_cross(point))
+    points.iter().any(|point| has_places(point, count))
 }
 
-/// Whether a label that is selected has a cross point.
-fn has_cross(label: &Label) -> bool
+/// Whether a label that is selected has a cross point of so many places.
+fn has_cross(label: &Label, count: usize) -> bool
     ensures { result
-        ≡ list_any (λ a. is_window a.point.meaning) (aims_of_label (label_view label.now)) }
+        ≡ list_any (λ a. has_places count a.point.meaning) (aims_of_label (label_view label.now)) }
 {
-    label.selected && any_cross(label.points.as_slice())
+    label.selected && any_has_places(label.points.as_slice(), count)
 }
 
-fn any_has_cross(labels: &[Label]) -> bool
-    ensures { result ≡ list_any (λ l. list_any (λ a. is_window a.point.meaning)
+fn any_has_cross(labels: &[Label], count: usize) -> bool
+    ensures { result ≡ list_any (λ l. list_any (λ a. has_places count a.point.meaning)
         (aims_of_label (label_view l))) labels.now }
 {
-    labels.iter().any(|label| has_cross(label))
+    labels.iter().any(|label| has_cross(label, count))
 }
 
 /// Whether one of the labels has.
-fn have_crosses(labels: &[Label]) -> bool
-    ensures { result ≡ list_any (λ a. is_window a.point.meaning) (aims_in labels.now) }
+fn have_crosses(labels: &[Label], count: usize) -> bool
+    ensures { result ≡ list_any (λ a. has_places count a.point.meaning) (aims_in labels.now) }
 {
-    any_has_cross(labels)
+    any_has_cross(labels, count)
+}
+
+/// Adds a number of places to others where the labels have cross points of so many.
+fn add_length(lengths: &mut Items<usize>, labels: &[Label], count: usize) -> Result<(), NoMemory>
+    ensures { OnOk result (lengths.new ≡ lengths.old ++ cond
+        (list_any (λ a. has_places count a.point.meaning) (aims_in labels.now)) (count ∷ []) []) }
+{
+    if have_crosses(labels, count) {
+        lengths.push(count)
+    } else {
+        Ok(())
+    }
+}
+
+/// The numbers of places that there are cross points of, from the least.
+fn lengths(alloc: Global, labels: &[Label]) -> Result<Items<usize>, NoMemory>
+    ensures { IfOk result (λ lengths. lengths ≡ lengths_to (aims_in labels.now) 6) }
+{
+    let mut lengths = Items::new(alloc);
+    for shorter in 0..6 {
+        add_length(&mut lengths, labels, shorter + 1)?;
+    }
+    Ok(lengths)
 }
 
 /// The lists of all numbers of places and mnemonics.
@@ -110,11 +138,11 @@ impl<'g> Crosses<'g> {
         ensures { IfOk result (λ c. c ≡ labels.now) }
     {
         let lists = lists(alloc, labels)?;
-        let has_points = have_crosses(labels);
+        let lengths = lengths(alloc, labels)?;
         Ok(Crosses {
             labels,
             lists,
-            has_points,
+            lengths,
         })
     }
 
@@ -134,17 +162,35 @@ impl<'g> Crosses<'g> {
         add_matched(slots, window, counts);
     }
 
-    /// The same for every end of a run.
+    /// Adds one to the counts of the cross points of so many places that the last instructions of
+    /// a run match.
+    fn add_last(&self, count: usize, run: &[Insn], counts: &mut Vec<u64>)
+        requires some { 1 ≤ count }
+        requires few { length run.now ≤ 6 }
+        requires count { length counts.old.items ≡ length (aims_in self.now) }
+        requires low { All (λ n. n ≤ 2 ^ 42) counts.old.items }
+        ensures { counts.new.items
+            ≡ added (λ a. is_last count a.point.meaning run.now) (aims_in self.now)
+            counts.old.items }
+    {
+        if count <= run.len() {
+            self.add_window(back_of(run, run.len() - count), counts);
+        }
+    }
+
+    /// The same for some numbers of places.
     #[inline(never)]
-    fn add_ends(&self, run: &[Insn], counts: &mut Vec<u64>)
+    fn add_lasts(&self, lengths: &[usize], run: &[Insn], counts: &mut Vec<u64>)
+        requires some { All (λ n. 1 ≤ n) lengths.now }
+        requires short { length lengths.now ≤ 6 }
         requires few { length run.now ≤ 6 }
         requires count { length counts.old.items ≡ length (aims_in self.now) }
         requires low { All (λ n. n ≤ 2 ^ 41) counts.old.items }
         ensures { counts.new.items
-            ≡ added (λ a. ends_run a.point.meaning run.now) (aims_in self.now) counts.old.items }
+            ≡ added_lasts lengths.now run.now (aims_in self.now) counts.old.items }
     {
-        for start in 0..run.len() {
-            self.add_window(back_of(run, start), counts);
+        for count in lengths {
+            self.add_last(*count, run, counts);
         }
     }
 
@@ -157,8 +203,9 @@ impl<'g> Crosses<'g> {
         ensures { counts.new.items
             ≡ added (λ a. ends_run a.point.meaning run.now) (aims_in self.now) counts.old.items }
     {
-        if self.has_points {
-            self.add_ends(run, counts);
+        let lengths = self.lengths.as_slice();
+        if !lengths.is_empty() {
+            self.add_lasts(lengths, run, counts);
         }
     }
 }
