@@ -25,7 +25,6 @@ mod LogEntries
 mod CoverageEnds
 mod PropagateEnds
 mod Lines
-mod BaseCores
 mod Listings
 mod GenerateEnds
 mod Runnable
