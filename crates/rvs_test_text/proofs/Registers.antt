@@ -1,6 +1,6 @@
 -- The registers that a core has, and that a test's own instructions over them are of that core.
 use Rattle.std.proofs.Common.{◌≡◌, ℕ, ◌<◌, Bool, true, false, Option, Some, None, refl, ap, ◌∙◌}
-use Rattle.std.proofs.Common.{arith}
+use Rattle.std.proofs.Common.{◌≤◌, arith}
 use Rattle.std.proofs.lemmas.Bool.Decides.{nat_tests}
 use Rattle.std.specs.Prelude.{nat_lt, ◌&&◌, ◌||◌, not, ℤ, pos, unwrap_or}
 use Rattle.rvs_insn.specs.declared.op.Op.{Op}
