@@ -9,7 +9,7 @@ use Rattle.rvs_cgf.specs.Groups.{reg_is, nums}
 use Rattle.rvs_solver.specs.Truth.{holds, constants_in}
 use Rattle.rvs_solver.specs.Datasets.{dataset, joined, is_between, is_there, around}
 use Rattle.rvs_solver.specs.Datasets.{rds, rs1s, rs2s}
-use Rattle.rvs_solver.specs.Choices.{choices}
+use Rattle.rvs_solver.specs.Choices.{choices, ChoiceValue}
 use Rattle.rvs_solver.specs.Point.{hits}
 use Rattle.rvs_solver.specs.First.{first_choice}
 use Rattle.rvs_solver.specs.Least.{at_rd}
@@ -37,7 +37,7 @@ at_no_address isa =
 
 -- ---- under the base E the registers end with x15
 
-of_few : (isa : Isa) (r : ℕ) (o : Option ℕ) → isa.e ≡ true
+of_few : (isa : Isa) (r : ℕ) (o : Option ChoiceValue) → isa.e ≡ true
     → find (hits Rd (reg_is r)) (flat_map (at_rd Add R (rs1s true R) (rs2s true R)) (rds true R)) ≡ o
     → first_choice isa (Add ∷ []) Rd (reg_is r) ≡ o
 of_few isa r o e h =
