@@ -1,15 +1,17 @@
 #!/usr/bin/env bash
 # Compares generated tests with the GNU tools and QEMU, outside the gate. For each test that
-# `rvsuite generate` writes for the groups CGF (by default over all of RV32IM, gnu_groups.py):
+# `rvsuite generate` writes for the groups CGF (by default over all mnemonics, gnu_groups.py) under
+# the specification ISA (by default of RV32IM), a file or an ISA text such as RV32IMA:
 #   1. each word that `rvsuite reference` executes stands at its address in the executable that GNU
 #      as and ld make of the test;
 #   2. the whole image, text and data, executed or not, has the same words (gnu_words.py dump);
-#   3. the signature is the one that the executable leaves on QEMU (qemu-device.sh).
+#   3. the signature is the one that the executable leaves on QEMU (qemu-device.sh). QEMU has the
+#      registers of the base I, of which those of E are a part; under E no text names x16 to x31.
 # Needs riscv64-unknown-elf-as, -ld, -nm and -objcopy, qemu-system-riscv32 and python3. RVSUITE
 # names the program, else it is the repository's. WORK is a folder that isn't there yet; it is kept.
 # What differs has a line DIFFERS, and then the exit status is 1. The last line has the counts.
 #
-# usage: gnu.sh [CGF [ISA [WORK]]]
+# usage: gnu.sh [CGF [ISA [WORK]]], where an empty CGF is the default
 set -u
 here=$(cd "$(dirname "$0")" && pwd)
 program=${RVSUITE:-$here/../rvsuite}
@@ -21,9 +23,14 @@ else
     trap 'rm -rf "$work"' EXIT
 fi
 cgf=${1:-$work/groups.cgf}
-[ $# -ge 1 ] || python3 "$here/gnu_groups.py" >"$cgf" || exit 2
-isa=${2:-$work/isa.yaml}
-[ $# -ge 2 ] || printf 'hart_ids: [0]\nhart0:\n  ISA: RV32IM\n' >"$isa"
+[ -n "${1:-}" ] || python3 "$here/gnu_groups.py" >"$cgf" || exit 2
+isa=${2:-RV32IM}
+case $isa in RV32*)
+    printf 'hart_ids: [0]\nhart0:\n  ISA: %s\n' "$isa" >"$work/isa.yaml"
+    isa=$work/isa.yaml
+esac
+MARCH=$("$program" validate --isa "$isa" | sed -n 's/^isa //p' | tr '[:upper:]' '[:lower:]')
+export MARCH
 "$program" generate --isa "$isa" --cgf "$cgf" --work "$work" >"$work/generate.out" || exit 2
 
 differs() {
@@ -39,7 +46,12 @@ section() { # the bytes of section $1 of the executable of the test $name
     riscv64-unknown-elf-objcopy -O binary -j ".$1" "$name.elf" "$name.$1"
 }
 
+named() { # whether a text under E names a register above x15
+    case $MARCH in rv32e*) grep -Eq '[ ,(]x(1[6-9]|2[0-9]|3[01])\b' "$test" ;; *) false ;; esac
+}
+
 executed() {
+    ! named || differs "$test: a register above x15"
     reference --test "$test" --log "$name.log" || { differs "$test: not run"; return; }
     "$here/qemu-device.sh" "$test" "$name.qemu" "$name.elf" || { differs "$test: QEMU"; return; }
     section text

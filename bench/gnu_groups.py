@@ -1,7 +1,9 @@
 #!/usr/bin/env python3
-"""Writes coverage groups for all of RV32IM, for gnu.sh: a label for each mnemonic, one for all.
+"""Writes coverage groups for gnu.sh: a label for each mnemonic of RV32I, M and A, and two for many.
 
 usage: gnu_groups.py > FILE
+
+The labels of A are selected by a specification that has A, all others by one that has M.
 
 Each label has all registers in each place, comparisons of registers, edge values and families of
 each operand, pairs of signs, and immediates at the edges of their fields; loads and stores have
@@ -15,6 +17,8 @@ LOADS = "lb lh lw lbu lhu".split()
 STORES = "sb sh sw".split()
 BRANCHES = "beq bne blt bge bltu bgeu".split()
 UPPER = "lui auipc".split()
+ATOMIC = """sc.w amoswap.w amoadd.w amoxor.w amoand.w amoor.w amomin.w amomax.w amominu.w
+    amomaxu.w""".split()
 FAR = [s * d for d in [4, 8, 12, 16, 32, 64, 128, 256, 512, 1024, 2044, 2048] for s in (1, -1)]
 EDGES = ["(-2**(xlen-1))", "(-2**(xlen-1))+1", "-2", "-1", "0", "1", "2", "(2**(xlen-1)-1)",
          "(2**xlen)-1", "2**31"]
@@ -39,9 +43,9 @@ def families(*calls):
     return [f'{name}("{var}", {size})' for var, size in calls for name in names]
 
 
-def label(name, ops, places, regs, keys, calls):
+def label(name, ops, places, regs, keys, calls, extension="M"):
     print(f"{name}:")
-    print("  config:\n    - check ISA:=regex(.*I.*M.*)")
+    print(f"  config:\n    - check ISA:=regex(.*{extension}.*)")
     node("mnemonics", ops)
     for place in places:
         node(place, [f"x{r}" for r in range(32)])
@@ -88,6 +92,14 @@ def main():
     jumps = [0, 1, -1, 2, 3, 4, -4, 2046, 2047, -2047, -2048]
     label("jalr", ["jalr"], ["rs1", "rd"], two, [f"imm_val == {v}" for v in jumps],
           [("imm_val", 12)])
+    word = "rs1_val == -2130706432"
+    for op in ATOMIC:
+        label(op, [op], ["rs1", "rs2", "rd"], three + pair,
+              edges2 + [word, "rs1_val == 5", "rs1_val == rs2_val", "rs1_val < rs2_val"],
+              [("rs2_val", "xlen")], "A")
+    label("lr.w", ["lr.w"], ["rs1", "rd"], two, [word, "rs1_val == 5"], [], "A")
+    label("atomic", ["lr.w"] + ATOMIC, ["rs1", "rs2", "rd"], three + pair, edges2 + [word],
+          [("rs2_val", "xlen")], "A")
     print("fence:\n  mnemonics: {fence: 0}")
     ops = R + I + SHIFTS + LOADS + STORES + BRANCHES + UPPER + ["jal", "jalr", "fence"]
     label("all.in-one_1", ops, ["rs1", "rs2", "rd"], three + pair,

@@ -1,16 +1,16 @@
 -- What no step and no run changes.
-use Rattle.std.specs.Prelude.{◌≡◌, ◌≤◌, ℕ, zero, suc, ◌-◌, ◌^◌, Bool, true, false, length}
+use Rattle.std.specs.Prelude.{◌≡◌, ◌≢◌, ◌≤◌, ℕ, zero, suc, ◌-◌, ◌^◌, Bool, true, false, length}
 use Rattle.std.specs.Prelude.{slice_index, Option, Some, None, is_some}
 use Rattle.std.specs.Option.{option_and_then}
 use Rattle.rvs_insn.specs.Fields.{Fields, insn_of_word}
-use Rattle.rvs_insn.specs.declared.op.Op.TheVariants.{Div, Divu, Rem, Remu}
+use Rattle.rvs_insn.specs.declared.op.Op.TheVariants.{Div, Divu, Rem, Remu, LrW, ScW}
 use Rattle.rvs_machine.specs.declared.effect.Effect.TheVariants.{Put}
 use Rattle.rvs_machine.specs.declared.event.Executed.{Executed}
 use Rattle.rvs_machine.specs.declared.event.Event.{Event}
 use Rattle.rvs_machine.specs.declared.event.Trap.{Trap}
 use Rattle.rvs_machine.specs.declared.event.Event.TheVariants.{Ran, Halted, Trapped}
 use Rattle.rvs_machine.specs.declared.event.End.TheVariants.{StepLimit}
-use Rattle.rvs_machine.specs.Machine.{Setup, State, step_of}
+use Rattle.rvs_machine.specs.Machine.{Setup, State, step_of, executed, is_reserved, read_reg}
 use Rattle.rvs_machine.specs.Effects.{effect_of}
 use Rattle.rvs_machine.specs.Run.{run_of}
 
@@ -75,3 +75,14 @@ QuotientsOverflow =
     (pc imm : ℕ)
     → (effect_of Div pc (2 ^ 31) (2 ^ 32 - 1) imm ≡ Put (2 ^ 31))
     × (effect_of Rem pc (2 ^ 31) (2 ^ 32 - 1) imm ≡ Put 0)
+
+-- only `lr.w` and `sc.w` change what is reserved: no store does
+abbrev pub OthersKeepReservations : Type 0
+OthersKeepReservations = (setup : Setup) (s : State) (word : ℕ) (i : Fields)
+    → i.op ≢ LrW → i.op ≢ ScW → (executed setup s word i).1.reserved ≡ s.reserved
+
+-- `sc.w` stores nothing where its address isn't reserved
+abbrev pub UnreservedStoresNothing : Type 0
+UnreservedStoresNothing = (setup : Setup) (s : State) (word : ℕ) (i : Fields)
+    → i.op ≡ ScW → is_reserved s.reserved (read_reg s.regs i.rs1) ≡ false
+    → (executed setup s word i).1.ram ≡ s.ram

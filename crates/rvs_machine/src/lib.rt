@@ -19,7 +19,7 @@ pub use event::{Commit, End, Event, Executed, Trace, Trap, TrapKind};
 pub use image::{DATA_BASE, DATA_LIMIT, Image, TEXT_BASE, TEXT_LIMIT};
 pub use laws::{
     commits_are_destinations, divisions_are_defined, files_read_back, image_faults_are_first,
-    runs_keep, steps_keep, traces_follow,
+    reservations_are_kept, runs_keep, steps_keep, traces_follow,
 };
 pub use machine::Machine;
 pub use reading::{ImageKind, ImageRefusal, read_image};

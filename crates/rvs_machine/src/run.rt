@@ -41,6 +41,9 @@ impl Machine {
             NextStep::Store(executed, size, addr, value) => {
                 self.advance_by(NextStep::Store(executed, size, addr, value), trace)
             },
+            NextStep::Atomic(executed, addr, stored, reserved) => {
+                self.advance_by(NextStep::Atomic(executed, addr, stored, reserved), trace)
+            },
         }
     }
 

@@ -110,11 +110,11 @@ abbrev files-one : List ℕ → Bool → List ℕ → Option (List ℕ) → Opti
 files-one work b name text files = if b then generating.with_text (path_of work name) text files
     else files
 
-one-test : {call : Call} (work : List ℕ) (isa : Isa) (l : Label) (p : Point) → isa.e ≡ false
+one-test : {call : Call} (work : List ℕ) (isa : Isa) (l : Label) (p : Point)
     → IsValidIfSelected isa l → IsTrue l.selected → l.points ≡ p ∷ [] → IsSolvableAt isa l 0
     → call.new.host.files ≡ generating.with_tests work isa (l ∷ []) call.old.host.files
     → generating.HasOneTest call work isa l
-one-test {call} work isa l p base valid selected one solvable files =
+one-test {call} work isa l p valid selected one solvable files =
     let found = one-point isa l p one solvable in
     let chosen : l.selected ≡ true = selected in
     let left : call.new.host.files ≡ written (path_of work l.name) found.text call.old.host.files =
@@ -127,7 +127,7 @@ one-test {call} work isa l p base valid selected one solvable files =
       there = λ files' told. file-there (path_of work l.name) found.text call.old.host.files files'
           (sym left ∙ told);
       runs = subst (λ (cs : List Claim). TestRuns isa l found.text cs (step_limit (cases_of isa l)))
-          found.claims (runs-label isa l found.text base (valid selected) found.is);
+          found.claims (runs-label isa l found.text (valid selected) found.is);
     }
 
 -- ---- no point
@@ -201,7 +201,7 @@ makes {call} files asked r = record {
       let made = generated {call = call} asked.work
       (inputs_in files asked.isa asked.groups) inputs given
       ((answers-generate files asked r).done is) in
-      one-test asked.work isa' l p good.base (All-head
+      one-test asked.work isa' l p (All-head
       (IsValidIfSelected isa') l [] good.valid) selected
       single solvable made.files;
   none = λ isa' l p given selected single skipped never is.

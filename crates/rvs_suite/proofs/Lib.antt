@@ -24,7 +24,6 @@ mod ImageBytes
 mod LogEntries
 mod CoverageEnds
 mod Lines
-mod BaseCores
 mod Listings
 mod GenerateEnds
 mod Runnable

@@ -31,41 +31,38 @@ use Rattle.rvs_suite.specs.RunTests.{RunInputs}
 use Rattle.rvs_suite.specs.Judging.{run_inputs_in}
 use Rattle.rvs_suite.specs.Tested.{AreTested}
 use Rattle.rvs_suite.specs.declared.gathering.Test.{Test}
-use Rattle.rvs_suite.proofs.BaseCores.{IsBase, base_said}
 use Rattle.rvs_suite.proofs.PointLines.{has-lines}
 use Rattle.rvs_suite.proofs.Runnable.{runnable}
 use Rattle.rvs_words.specs.declared.command.RunArguments.{RunArguments}
 
--- ---- the labels that are read are valid, for a core that tests are made for
+-- ---- the labels that are read are valid
 pub record IsGood (inputs : Inputs) : Type 0 where
-  pub base : inputs.isa.e ≡ false
   pub valid : All (IsValidIfSelected inputs.isa) inputs.groups
 
-good-checked : (isa : Isa) (tree : Data) (r : Result (List Label) Refusal) → isa.e ≡ false
+good-checked : (isa : Isa) (tree : Data) (r : Result (List Label) Refusal)
     → groups_of isa tree ≡ r → IfOk (inputs_of isa (checked_groups r)) IsGood
-good-checked isa tree (Ok ls) base is = record { base = base; valid = groups_good isa tree ls is }
-good-checked isa tree (Err refusal) base is = tt
+good-checked isa tree (Ok ls) is = record { valid = groups_good isa tree ls is }
+good-checked isa tree (Err refusal) is = tt
 
-good-tree : (isa : Isa) (a : Parsed) → isa.e ≡ false
-    → IfOk (inputs_of isa (tree_groups isa a)) IsGood
-good-tree isa (Ok tree) base = good-checked isa tree (groups_of isa tree) base refl
-good-tree isa (Err fault) base = tt
+good-tree : (isa : Isa) (a : Parsed) → IfOk (inputs_of isa (tree_groups isa a)) IsGood
+good-tree isa (Ok tree) = good-checked isa tree (groups_of isa tree) refl
+good-tree isa (Err fault) = tt
 
-good-text : (isa : Isa) (r : Result (List ℕ) Stop) → isa.e ≡ false
+good-text : (isa : Isa) (r : Result (List ℕ) Stop)
     → IfOk (and_then r (λ text. inputs_of isa (groups_found isa text))) IsGood
-good-text isa (Ok text) base = good-tree isa (answer text) base
-good-text isa (Err stop) base = tt
+good-text isa (Ok text) = good-tree isa (answer text)
+good-text isa (Err stop) = tt
 
-good-said : (files : Files) (names : List (List ℕ)) (r : Result AcceptedSpec Stop) → IfOk r IsBase
+good-said : (files : Files) (names : List (List ℕ)) (r : Result AcceptedSpec Stop)
     → IfOk (and_then r (λ said. and_then (text_in files None names)
     (λ text. inputs_of said.spec (groups_found said.spec text)))) IsGood
-good-said files names (Ok said) base = good-text said.spec (text_in files None names) base
-good-said files names (Err stop) base = tt
+good-said files names (Ok said) = good-text said.spec (text_in files None names)
+good-said files names (Err stop) = tt
 
 pub good-inputs : (files : Files) (isa : List ℕ) (names : List (List ℕ)) (inputs : Inputs)
     → inputs_in files isa names ≡ Ok inputs → IsGood inputs
 good-inputs files isa names inputs given = subst (λ (r : Result Inputs Stop). IfOk r IsGood) given
-    (good-said files names (said_in files isa) (base_said files isa))
+    (good-said files names (said_in files isa))
 
 pub valid-good : (inputs : Inputs) (l : Label) → IsGood inputs → Contains inputs.groups l
     → IsTrue l.selected → IsValid inputs.isa l
@@ -78,17 +75,17 @@ whole : (isa : Isa) (l : Label) (cs : List Solved) (text : List ℕ) → text_fo
 whole isa l [] text is = absurd cc
 whole isa l (c ∷ cs) text is = cc
 
-pub runs-label : (isa : Isa) (l : Label) (text : List ℕ) → isa.e ≡ false → IsValid isa l
+pub runs-label : (isa : Isa) (l : Label) (text : List ℕ) → IsValid isa l
     → text_of_label isa l ≡ Some text
     → TestRuns isa l text (claims_of isa l) (step_limit (cases_of isa l))
-runs-label isa l text base valid is = subst
+runs-label isa l text valid is = subst
     (λ (t : List ℕ). TestRuns isa l t (claims_of isa l) (step_limit (cases_of isa l)))
-    (whole isa l (cases_of isa l) text is) (label_runs isa l base valid)
+    (whole isa l (cases_of isa l) text is) (label_runs isa l valid)
 
-reads-label : (isa : Isa) (l : Label) (text : List ℕ) → isa.e ≡ false → IsValid isa l
+reads-label : (isa : Isa) (l : Label) (text : List ℕ) → IsValid isa l
     → text_of_label isa l ≡ Some text
     → claims_read text ≡ Some (map (named_claim l) (claims_of isa l))
-reads-label isa l text base valid is = back_there isa l base valid text (claims_of isa l)
+reads-label isa l text valid is = back_there isa l valid text (claims_of isa l)
     (cases_of isa l) refl refl (sym (whole isa l (cases_of isa l) text is))
 
 -- ---- of all that is made of accepted inputs
@@ -96,9 +93,9 @@ tested-good : (inputs : Inputs) → IsGood inputs → AreTested inputs
 tested-good inputs good = record {
   valid = λ l there selected. valid-good inputs l good there selected;
   runs = λ l text there selected is.
-      runs-label inputs.isa l text good.base (valid-good inputs l good there selected) is;
+      runs-label inputs.isa l text (valid-good inputs l good there selected) is;
   read = λ l text there selected is.
-      reads-label inputs.isa l text good.base (valid-good inputs l good there selected) is;
+      reads-label inputs.isa l text (valid-good inputs l good there selected) is;
   accounted = λ l k there within. accounted inputs.isa l k within;
   lines = λ l there selected. has-lines inputs.isa l;
 }
@@ -109,32 +106,32 @@ tested files isa names inputs given =
     tested-good inputs (good-inputs files isa names inputs given)
 
 -- ---- each test can be run
-runnable-with : (isa : Isa) (l : Label) (text : Option (List ℕ)) → isa.e ≡ false → IsValid isa l
+runnable-with : (isa : Isa) (l : Label) (text : Option (List ℕ)) → IsValid isa l
     → text_of_label isa l ≡ text
     → All (IsRunnable isa) (test_with l.name (step_limit (cases_of isa l)) text)
-runnable-with isa l None base valid is = All-nil (IsRunnable isa)
-runnable-with isa l (Some text) base valid is =
+runnable-with isa l None valid is = All-nil (IsRunnable isa)
+runnable-with isa l (Some text) valid is =
     All-cons (IsRunnable isa) (record {
       name = l.name;
       text = text;
       steps = step_limit (cases_of isa l);
     }) [] (runnable isa l l.name text (claims_of isa l) (step_limit (cases_of isa l))
-    (runs-label isa l text base valid is)) (All-nil (IsRunnable isa))
+    (runs-label isa l text valid is)) (All-nil (IsRunnable isa))
 
-runnable-by : (isa : Isa) (l : Label) (b : Bool) → isa.e ≡ false → (b ≡ true → IsValid isa l)
+runnable-by : (isa : Isa) (l : Label) (b : Bool) → (b ≡ true → IsValid isa l)
     → All (IsRunnable isa)
     (if b then test_with l.name (step_limit (cases_of isa l)) (text_of_label isa l) else [])
-runnable-by isa l true base valid =
-    runnable-with isa l (text_of_label isa l) base (valid refl) refl
-runnable-by isa l false base valid = All-nil (IsRunnable isa)
+runnable-by isa l true valid =
+    runnable-with isa l (text_of_label isa l) (valid refl) refl
+runnable-by isa l false valid = All-nil (IsRunnable isa)
 
-runnable-all : (isa : Isa) (ls : List Label) → isa.e ≡ false → All (IsValidIfSelected isa) ls
+runnable-all : (isa : Isa) (ls : List Label) → All (IsValidIfSelected isa) ls
     → All (IsRunnable isa) (tests_of isa ls)
-runnable-all isa [] base valid = All-nil (IsRunnable isa)
-runnable-all isa (l ∷ ls) base valid =
+runnable-all isa [] valid = All-nil (IsRunnable isa)
+runnable-all isa (l ∷ ls) valid =
     All-append (IsRunnable isa) (tests_of_label isa l) (tests_of isa ls)
-    (runnable-by isa l l.selected base (All-head (IsValidIfSelected isa) l ls valid))
-    (runnable-all isa ls base (All-tail (IsValidIfSelected isa) l ls valid))
+    (runnable-by isa l l.selected (All-head (IsValidIfSelected isa) l ls valid))
+    (runnable-all isa ls (All-tail (IsValidIfSelected isa) l ls valid))
 
 -- ---- what `run` accepts, it accepts of the same files
 abbrev with_device : Inputs → Result Told Stop → Result RunInputs Stop
@@ -171,4 +168,4 @@ runnable-run files asked inputs test given there =
     (groups-accepted files asked inputs given) in
     All-contains (IsRunnable inputs.groups.isa)
     (tests_of inputs.groups.isa inputs.groups.groups) test
-    (runnable-all inputs.groups.isa inputs.groups.groups good.base good.valid) there
+    (runnable-all inputs.groups.isa inputs.groups.groups good.valid) there
