@@ -24,6 +24,7 @@ use Rattle.rvs_suite.specs.declared.gathering.Test.{Test}
 use Rattle.rvs_device.specs.declared.verdicts.TestVerdict.{TestVerdict}
 use Rattle.rvs_suite.proofs.Executables.{written_before, after-executable, saw-executable}
 use Rattle.rvs_suite.proofs.Executables.{kept-executable}
+use Rattle.rvs_suite.proofs.NormalPlan.{then-then}
 use Rattle.rvs_suite.proofs.Paths.{found-in, passed-by, same-bytes, other-bytes, not-reference}
 use Rattle.rvs_suite.proofs.Paths.{not-executable, not-device}
 
@@ -322,7 +323,9 @@ judged-all bench [] passed next files runs out end effects goes saw = record {
 }
 judged-all bench (test ∷ tests) passed next files runs out end effects goes saw =
     let one = judged-one bench test (λ pass. judges_all bench (with_one passed pass) tests >>= next)
-    files runs out end effects goes saw in
+    files runs out end effects (subst (λ (p : Plan Finish). Goes p effects (Ends end))
+    (then-then (judges_one bench test) (λ pass. judges_all bench (with_one passed pass) tests) next)
+    goes) saw in
     let verdict = verdict_by bench test one.run in
     let line = verdict_line test.name verdict in
     let rest = judged-all bench tests (with_one passed (passes verdict)) next

@@ -1,4 +1,4 @@
-use Rattle.std.proofs.Common.{◌≡◌, List, ℕ, Result, Ok, Err, sym, ap, subst}
+use Rattle.std.proofs.Common.{List, ℕ, Result, Ok, Err, sym, ap, subst}
 use Rattle.std.proofs.lemmas.Result.{err_from_is_err_and}
 use Rattle.rvs_plan.specs.World.{World, world, IsAnswer}
 use Rattle.rvs_plan.specs.Plan.{Plan, ◌>>=◌}
@@ -6,6 +6,7 @@ use Rattle.rvs_plan.specs.Meets.{MeetsWith}
 use Rattle.rvs_plan.specs.declared.stop.Stop.{Stop}
 use Rattle.rvs_plan.proofs.Sequence.{Meets-then, Meets-stop, Meets-no_memory, Meets-weaker}
 use Rattle.rvs_device.specs.declared.verdicts.TestVerdict.{TestVerdict}
+use Rattle.rvs_suite.specs.TestRun.{Accepts}
 use Rattle.rvs_suite.specs.RunTests.{Bench, made_for, writes_executable, judges_words, judges_made}
 use Rattle.rvs_suite.specs.RunTests.{judges}
 use Rattle.rvs_suite.specs.RunView.{bench_view}
@@ -28,7 +29,7 @@ made_or made (Err text) = made
 
 -- by what is made of the test
 judged_as : (bench : Bench) (test : Test) (made : Made) (old new : World)
-    (result : Result TestVerdict Stop) → Ok (made_for bench test) ≡ Ok made
+    (result : Result TestVerdict Stop) → Accepts (Ok (made_for bench test)) (Ok made)
     → MeetsWith IsAnswer (judges_made bench test.text made) old new result
     → MeetsWith IsAnswer (judges bench test) old new result
 judged_as bench test made old new result is met =
