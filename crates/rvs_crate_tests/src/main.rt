@@ -6,6 +6,7 @@
 mod asm;
 mod condition;
 mod cross;
+mod elf;
 mod expr;
 mod families;
 mod insn;
@@ -20,9 +21,10 @@ use std::test::Fail;
 use tell::tell;
 
 /// The files of rows, in the order in which they are told.
-const FILES: [&str; 6] = [
+const FILES: [&str; 7] = [
     "assembling",
     "computing",
+    "executables",
     "expressions",
     "instructions",
     "points",

@@ -32,6 +32,7 @@ mod Tested
 mod PointLines
 mod Written
 mod NoTest
+mod Executables
 mod RunSteps
 mod RunReads
 mod DemoEnds

@@ -3,6 +3,7 @@
 //
 //     file NAME TEXT              a file of the host
 //     fill NAME COUNT PIECE END   a file of a piece so many times, and an end
+//     bytes NAME DIGITS           a file of bytes, each as two hexadecimal digits
 //     leaves TEXT                 the device's next run leaves this signature
 //     untouched                   the device's next run leaves nothing
 //     killed TEXT                 the device's next run leaves this signature and ends with -1
