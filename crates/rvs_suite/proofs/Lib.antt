@@ -23,6 +23,7 @@ mod LogReads
 mod ImageBytes
 mod LogEntries
 mod CoverageEnds
+mod PropagateEnds
 mod Lines
 mod Listings
 mod GenerateEnds

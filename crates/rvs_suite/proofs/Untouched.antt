@@ -29,7 +29,8 @@ use Rattle.rvs_suite.specs.Generate.{path_of, writes_text, writes_test, writes_t
 use Rattle.rvs_suite.specs.Generate.{generates}
 use Rattle.rvs_suite.specs.Normalize.{print_normal}
 use Rattle.rvs_suite.specs.Printing.{print_text}
-use Rattle.rvs_suite.specs.Coverage.{reported}
+use Rattle.rvs_suite.specs.Coverage as covering
+use Rattle.rvs_suite.specs.Propagate as propagating
 use Rattle.rvs_suite.specs.Reference.{test_limit, trial, records, reference_on}
 use Rattle.rvs_suite.specs.TestRun.{accepted, test_found}
 use Rattle.rvs_suite.specs.Tests.{tests_of}
@@ -46,7 +47,7 @@ use Rattle.rvs_suite.proofs.Running.{Ran, answers}
 use Rattle.rvs_words.specs.declared.command.Command.{Command}
 use Rattle.rvs_words.specs.declared.command.Command.TheVariants.{Unknown, Compare, Validate}
 use Rattle.rvs_words.specs.declared.command.Command.TheVariants.{Normalize, Generate, Reference}
-use Rattle.rvs_words.specs.declared.command.Command.TheVariants.{Coverage, Run, Demo}
+use Rattle.rvs_words.specs.declared.command.Command.TheVariants.{Coverage, Propagate, Run, Demo}
 use Rattle.rvs_suite.specs.declared.test_run.Run.{Run as TestRun}
 use Rattle.rvs_suite.specs.declared.gathering.Test.{Test}
 use Rattle.rvs_suite.specs.declared.judging.Made.{Made}
@@ -213,7 +214,12 @@ stops_untouched (Run asked) first =
     absurd (goes-on (runs asked.program asked.work inputs) effects stop
     (runs-on asked.program asked.work inputs) goes))
 stops_untouched (Coverage asked) first =
-    untouched-then (reported asked) print_text (reads-reported asked)
+    untouched-then (covering.reported asked) print_text
+    (reads-reported (covering.reports asked.windows) asked.isa asked.groups asked.log)
+    (λ report effects stop c goes. absurd (goes-on (print_text report) effects stop tt goes))
+stops_untouched (Propagate asked) first =
+    untouched-then (propagating.reported asked) print_text
+    (reads-reported (propagating.reports asked.signature) asked.isa asked.groups asked.log)
     (λ report effects stop c goes. absurd (goes-on (print_text report) effects stop tt goes))
 stops_untouched (Demo count) first =
     λ effects stop c goes. absurd (goes-on (demonstrate count) effects stop tt goes)

@@ -14,7 +14,8 @@ use Rattle.rvs_count.specs.Report.{report_of}
 use Rattle.rvs_base.specs.declared.asked.Window.{Window}
 use Rattle.rvs_suite.specs.Answered.{Answered, OnDone}
 use Rattle.rvs_suite.specs.Call.{Call, Asks}
-use Rattle.rvs_suite.specs.Coverage.{log_limit, report_in}
+use Rattle.rvs_suite.specs.Coverage.{report_in}
+use Rattle.rvs_suite.specs.LogReport.{log_limit}
 use Rattle.rvs_suite.specs.GroupFiles.{Inputs, inputs_in}
 use Rattle.rvs_suite.specs.Halting.{BothHalt, HoldsOctets}
 use Rattle.rvs_suite.specs.declared.test_run.Run.{Run}
