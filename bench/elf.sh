@@ -1,7 +1,8 @@
 #!/usr/bin/env bash
 # Compares executables of generated tests with the GNU tools and QEMU, outside the gate. For each
-# test of the groups CGF (by default over all of RV32IM, gnu_groups.py), whose executable `rvsuite
-# run` writes for a device that takes it (QEMU, qemu_signature.py):
+# test of the groups CGF (by default over all mnemonics, gnu_groups.py) under the specification ISA
+# (by default of RV32IM), a file or an ISA text such as RV32IMA, whose executable `rvsuite run`
+# writes for a device that takes it (QEMU, qemu_signature.py):
 #   1. the verdict is PASS, so that QEMU leaves the reference's words;
 #   2. `readelf -a` reads all of the executable without a warning, `objdump -d` reads its text, and
 #      gdb loads both of its sections;
@@ -12,7 +13,7 @@
 # yet; it is kept. What differs has a line DIFFERS, and then the exit status is 1. The last line has
 # the counts.
 #
-# usage: elf.sh [CGF [ISA [WORK]]]
+# usage: elf.sh [CGF [ISA [WORK]]], where an empty CGF is the default
 set -u
 here=$(cd "$(dirname "$0")" && pwd)
 program=${RVSUITE:-$here/../rvsuite}
@@ -24,9 +25,14 @@ else
     trap 'rm -rf "$work"' EXIT
 fi
 cgf=${1:-$work/groups.cgf}
-[ $# -ge 1 ] || python3 "$here/gnu_groups.py" >"$cgf" || exit 2
-isa=${2:-$work/isa.yaml}
-[ $# -ge 2 ] || printf 'hart_ids: [0]\nhart0:\n  ISA: RV32IM\n' >"$isa"
+[ -n "${1:-}" ] || python3 "$here/gnu_groups.py" >"$cgf" || exit 2
+isa=${2:-RV32IM}
+case $isa in RV32*)
+    printf 'hart_ids: [0]\nhart0:\n  ISA: %s\n' "$isa" >"$work/isa.yaml"
+    isa=$work/isa.yaml
+esac
+MARCH=$("$program" validate --isa "$isa" | sed -n 's/^isa //p' | tr '[:upper:]' '[:lower:]')
+export MARCH
 device=$work/device.yaml
 printf 'name: QEMU\ncommand: [python3, %s, "{elf}", "{signature}"]\n' \
     "$here/qemu_signature.py" >"$device"
