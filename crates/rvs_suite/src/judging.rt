@@ -112,11 +112,7 @@ fn image_of(alloc: Global, isa: IsaSpec, test: &Test) -> Result<Image, Stop>
 }
 
 /// The executable of an image, where the device asks for it.
-fn executable_of(
-    alloc: Global,
-    device: &Device,
-    image: &Image,
-) -> Result<Option<Bytes>, NoMemory>
+fn executable_of(alloc: Global, device: &Device, image: &Image) -> Result<Option<Bytes>, NoMemory>
     ensures { IfOk result
         (λ made. made ≡ if_asked (wants_elf device.now.command) (elf_of image.now)) }
 {
@@ -166,12 +162,7 @@ fn write_executable<H: Host>(
     }
 }
 
-fn write_bytes<H: Host>(
-    alloc: Global,
-    host: &mut H,
-    name: &Text,
-    bytes: &[u8],
-) -> Result<(), Stop>
+fn write_bytes<H: Host>(alloc: Global, host: &mut H, name: &Text, bytes: &[u8]) -> Result<(), Stop>
     ensures { (out : SinkState) → Meets (writes name.now bytes.now)
         (world (H.state host.old) out) (world (H.state host.new) out) result }
 {

@@ -16,9 +16,11 @@ use Rattle.rvs_suite.proofs.judging.image_of.Goals as goal
 answered : (isa : Isa) (name text : List ℕ) (test : Test) (result : Result ImageValue Stop)
     → IsRunnable isa test → text ≡ test.text → Accepts (text_found name (answer isa text)) result
     → (r : IsRunnable isa test) × Accepts (Ok r.image) result
-answered isa name text test result r is accepts =
-    (r, subst (λ (a : Result ImageValue AsmRefusal). Accepts (text_found name a) result) r.assembled
-    (subst (λ (t : List ℕ). Accepts (text_found name (answer isa t)) result) is accepts))
+answered isa name text test result r is accepts = (
+  r,
+  subst (λ (a : Result ImageValue AsmRefusal). Accepts (text_found name a) result) r.assembled
+      (subst (λ (t : List ℕ). Accepts (text_found name (answer isa t)) result) is accepts),
+)
 
 abbrev image_or : ImageValue → Result ImageValue (List ℕ) → ImageValue
 image_or image (Ok i) = i
