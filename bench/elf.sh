@@ -61,7 +61,8 @@ tools() {
     grep -q '80000000:' "$name.objdump" || differs "$name: objdump has no text"
     gdb-multiarch -batch -ex 'info files' -ex 'info address tohost' "$name.elf" \
         >"$name.gdb" 2>&1 || differs "$name: gdb"
-    [ "$(grep -c -e 'is .text$' -e 'is .data$' "$name.gdb")" = 2 ] || differs "$name: gdb's sections"
+    [ "$(grep -c -e 'is .text$' -e 'is .data$' "$name.gdb")" = 2 ] ||
+        differs "$name: gdb's sections"
     ! grep -qi -e warning -e error "$name.gdb" || differs "$name: gdb warns"
 }
 

@@ -33,7 +33,7 @@ def section(kind, at, size, link):
 
 
 def of_symbols(symbols, names):
-    """Three sections: none, these symbols, and their names; names of None are the symbols' bytes."""
+    """Three sections: none, symbols, and their names; names of None are the symbols' bytes."""
     at = 52 + 3 * 40
     names_at = at + len(symbols) if names is not None else at
     size = len(names) if names is not None else len(symbols)

@@ -19,4 +19,5 @@ pub returns : goal.returns
 returns c =
     let found = runs-found c.args.isa c.as_str.result.now c.args.test.now c.args.image
     c.requires.runs c.requires.stands in
-    ap (λ (words : List ℕ). Ok words) (sym found.2) ∙ ap words_in (sym found.1 ∙ c.in_ok-run.ensures)
+    ap (λ (words : List ℕ). Ok words) (sym found.2)
+    ∙ ap words_in (sym found.1 ∙ c.in_ok-run.ensures)
