@@ -7,22 +7,23 @@ use Rattle.std.proofs.lemmas.Bool.Decides.{nat_tests}
 use Rattle.std.proofs.lemmas.List.{length-map}
 use Rattle.rvs_words.specs.Words.{is_positional, pairs_of, is_among, options_in, values_of, are_known, only}
 use Rattle.rvs_words.specs.Words.{at_most_one}
-use Rattle.rvs_words.specs.Windows.{windows_of}
+use Rattle.rvs_words.specs.Windows.{windows_of, range_of}
 use Rattle.rvs_words.specs.Commands.{◌>>=◌, Values, with_options, some_of, steps_of}
 use Rattle.rvs_words.specs.Commands.{validate_options, validate_of}
 use Rattle.rvs_words.specs.Commands.{normalize_options, normalize_of, generate_options, generate_of}
 use Rattle.rvs_words.specs.Commands.{reference_options, reference_of, coverage_options, coverage_of}
-use Rattle.rvs_words.specs.Commands.{run_options, run_of}
+use Rattle.rvs_words.specs.Commands.{propagate_options, propagate_of, run_options, run_of}
 use Rattle.rvs_words.specs.declared.words.Pair.{Pair}
 use Rattle.rvs_base.specs.declared.asked.Window.{Window}
 use Rattle.rvs_words.specs.declared.command.Command.{Command}
 use Rattle.rvs_words.specs.declared.command.Command.TheVariants.{Unknown, Compare, Validate}
 use Rattle.rvs_words.specs.declared.command.Command.TheVariants.{Normalize, Generate, Reference}
-use Rattle.rvs_words.specs.declared.command.Command.TheVariants.{Coverage, Run, Demo}
+use Rattle.rvs_words.specs.declared.command.Command.TheVariants.{Coverage, Propagate, Run, Demo}
 use Rattle.rvs_words.specs.CommandLaws.{Value, option, options, may_stand, AllMayStand, text_of}
 use Rattle.rvs_words.specs.CommandLaws.{listed, ComparesAreRead, ValidatesAreRead}
 use Rattle.rvs_words.specs.CommandLaws.{NormalizesAreRead, GeneratesAreRead, ReferencesAreRead}
-use Rattle.rvs_words.specs.CommandLaws.{CoveragesAreRead, RunsAreRead, DemosAreRead}
+use Rattle.rvs_words.specs.CommandLaws.{CoveragesAreRead, PropagatesAreRead, RunsAreRead}
+use Rattle.rvs_words.specs.CommandLaws.{DemosAreRead}
 use Rattle.rvs_words.proofs.OptionPairs.{IsName, pair, pairs, and-left, and-right, option_read}
 use Rattle.rvs_words.proofs.OptionPairs.{options_read, option_alone, options_alone, values_same}
 use Rattle.rvs_words.proofs.OptionPairs.{values_other, known_pairs}
@@ -263,6 +264,45 @@ coverages_are_read program isa log groups windows kept m w few fit =
     (values_other (codes "--log") (codes "--window") refl windows []))
     (ap windows_of (values_other (codes "--window") (codes "--cgf") refl groups behind
     ∙ own-values (codes "--window") window-name windows [] refl) ∙ fit))
+
+pub propagate-of : (values : Values) (isa log : List ℕ) (groups : List (List ℕ)) (range : Window)
+    → only (values (codes "--isa")) ≡ Some isa
+    → some_of 64 (values (codes "--cgf")) ≡ Some groups
+    → only (values (codes "--log")) ≡ Some log
+    → range_of (values (codes "--signature")) ≡ Some range
+    → propagate_of values ≡ Some (Propagate
+    (record { isa = isa; groups = groups; log = log; signature = range }))
+propagate-of values isa log groups range a b c d =
+    λ k. a k >>= (λ isa. b k >>= (λ groups. c k >>= (λ log. d k >>= (λ signature. Some (Propagate
+    (record { isa = isa; groups = groups; log = log; signature = signature }))))))
+
+pub propagates_are_read : PropagatesAreRead
+propagates_are_read program isa log signature groups range m few fit =
+    let m1 = others-stand isa (log ∷ signature ∷ groups) m in
+    let m2 = others-stand log (signature ∷ groups) m1 in
+    let ends = pair (codes "--signature") signature ∷ [] in
+    let behind = pair (codes "--log") log ∷ ends in
+    let rest = pairs (codes "--cgf") groups ++ behind in
+    let last = option (codes "--log") log ++ option (codes "--signature") signature in
+    let words = options (codes "--cgf") groups ++ last in
+    let read = option_read (codes "--isa") isa-name isa words rest
+    (first-stands isa (log ∷ signature ∷ groups) m)
+    (options_read (codes "--cgf") cgf-name groups last behind (others-stand signature groups m2)
+    (option_read (codes "--log") log-name log (option (codes "--signature") signature) ends
+    (first-stands log (signature ∷ groups) m1)
+    (option_alone (codes "--signature") signature-name signature
+    (first-stands signature groups m2)))) in
+    of-pairs propagate_options propagate_of (option (codes "--isa") isa ++ words)
+    (pair (codes "--isa") isa ∷ rest) _ read
+    (known_pairs propagate_options (codes "--cgf") refl groups behind)
+    (propagate-of (of-values (pair (codes "--isa") isa ∷ rest)) isa.text log.text
+    (map text_of groups) range
+    (ap (λ vs. only (isa.text ∷ vs))
+    (values_other (codes "--isa") (codes "--cgf") refl groups behind))
+    (ap (some_of 64) (own-values (codes "--cgf") cgf-name groups behind refl)
+    ∙ some groups few.0 few.1)
+    (ap only (values_other (codes "--log") (codes "--cgf") refl groups behind))
+    (ap range_of (values_other (codes "--signature") (codes "--cgf") refl groups behind) ∙ fit))
 
 pub reference-of : (values : Values) (isa test signature : List ℕ) (log : Option (List ℕ))
     (count : Option ℕ)

@@ -1,7 +1,7 @@
 -- Options in any order ask for the same.
 use Rattle.std.proofs.Common.{◌≡◌, ℕ, Bool, true, false, cond, List, [], ◌∷◌, ◌++◌, Option, Some}
 use Rattle.std.proofs.Common.{None}
-use Rattle.std.proofs.Common.{refl, sym, ap, subst, ◌∙◌, bytes_eq, codes}
+use Rattle.std.proofs.Common.{refl, sym, ap, subst, ◌∙◌, bytes_eq}
 use Rattle.std.proofs.lemmas.Slice.Eq.{bytes_eq-Decides}
 use Rattle.std.specs.Prelude.{◌&&◌, ◌||◌, map, filter, option_and_then, unwrap_or}
 use Rattle.std.specs.List.{list_all, list_any}
@@ -9,7 +9,8 @@ use Rattle.rvs_words.specs.Words.{pairs_of, values_of, are_known}
 use Rattle.rvs_words.specs.Commands.{◌>>=◌, Values, with_options, validate_options, validate_of}
 use Rattle.rvs_words.specs.Commands.{normalize_options, normalize_of, generate_options, generate_of}
 use Rattle.rvs_words.specs.Commands.{reference_options, reference_of, coverage_options, coverage_of}
-use Rattle.rvs_words.specs.Commands.{run_options, run_of, command_of}
+use Rattle.rvs_words.specs.Commands.{propagate_options, propagate_of, run_options, run_of}
+use Rattle.rvs_words.specs.Commands.{command_of}
 use Rattle.rvs_words.specs.declared.words.Pair.{Pair}
 use Rattle.rvs_words.specs.declared.command.Command.{Command}
 use Rattle.rvs_words.specs.declared.command.Command.TheVariants.{Unknown}
@@ -129,7 +130,7 @@ options_change_places program name words others front behind a b is apart e e2 =
             of reference_options reference_of,
             (
               of coverage_options coverage_of,
-              (of run_options (run_of program), tt),
+              (of propagate_options propagate_of, (of run_options (run_of program), tt)),
             ),
           ),
         ),

@@ -13,6 +13,7 @@ use Rattle.rvs_words.specs.Windows.{address_of, window_between, window_at, windo
 use Rattle.rvs_words.specs.Windows.{all_windows}
 use Rattle.rvs_base.specs.declared.asked.Window.{Window}
 use Rattle.rvs_words.specs.CommandLaws.{window_text, AreWindows, WindowsAreRead}
+use Rattle.rvs_words.specs.CommandLaws.{RangesAreRead}
 use Rattle.rvs_words.proofs.FirstCuts.{first-at, take-front, drop-front}
 
 apart : (d : ℕ) → d < 16 → (hex_digit_of d == 58) ≡ false
@@ -74,6 +75,9 @@ window-read w h l =
     (colon-at (address-text w.lo) (address-text w.hi) (no-colon w.lo (omega arith)))
     ∙ window-at (address-text w.lo) (address-text w.hi) w.lo w.hi (address-read w.lo (omega arith))
     (address-read w.hi l) h
+
+pub ranges_are_read : RangesAreRead
+ranges_are_read range h l = window-read range h l
 
 all-read : (windows : List Window) → AreWindows windows
     → all_windows (map window_text windows) ≡ Some windows

@@ -7,12 +7,12 @@ use Rattle.std.specs.List.{flat_map, list_all, list_any}
 use Rattle.rvs_base.specs.Number.{hex_word_of}
 use Rattle.rvs_words.specs.Words.{pairs_of}
 use Rattle.rvs_words.specs.Commands.{number_of, steps_of, command_of}
-use Rattle.rvs_words.specs.Windows.{windows_of}
+use Rattle.rvs_words.specs.Windows.{window_of, windows_of}
 use Rattle.rvs_words.specs.declared.words.Pair.{Pair}
 use Rattle.rvs_base.specs.declared.asked.Window.{Window}
 use Rattle.rvs_words.specs.declared.command.Command.TheVariants.{Compare, Validate, Normalize}
 use Rattle.rvs_words.specs.declared.command.Command.TheVariants.{Generate, Reference, Coverage, Run}
-use Rattle.rvs_words.specs.declared.command.Command.TheVariants.{Demo}
+use Rattle.rvs_words.specs.declared.command.Command.TheVariants.{Propagate, Demo}
 use Rattle.rvs_base.specs.Asked.{size_of}
 
 -- a word that isn't empty and doesn't begin with a dash
@@ -111,6 +111,21 @@ CoveragesAreRead =
       windows = kept;
     })
 
+abbrev pub PropagatesAreRead : Type 0
+PropagatesAreRead =
+    (program : List ℕ) (isa log signature : Value) (groups : List Value) (range : Window)
+    → AllMayStand (isa ∷ log ∷ signature ∷ groups) → AreGroups groups
+    → window_of signature.text ≡ Some range
+    → command_of (program ∷ codes "propagate" ∷ option (codes "--isa") isa
+    ++ (options (codes "--cgf") groups
+    ++ (option (codes "--log") log ++ option (codes "--signature") signature)))
+    ≡ Propagate (record {
+      isa = isa.text;
+      groups = map text_of groups;
+      log = log.text;
+      signature = range;
+    })
+
 abbrev pub RunsAreRead : Type 0
 RunsAreRead =
     (program : List ℕ) (isa device work : Value) (groups : List Value)
@@ -135,7 +150,7 @@ DemosAreRead =
 abbrev pub option_commands : List (List ℕ)
 option_commands =
     codes "validate" ∷ codes "normalize" ∷ codes "generate" ∷ codes "reference" ∷ codes "coverage"
-    ∷ codes "run" ∷ []
+    ∷ codes "propagate" ∷ codes "run" ∷ []
 
 abbrev pub takes_options : List ℕ → Bool
 takes_options name = list_any (λ (known : List ℕ). bytes_eq name known) option_commands
@@ -169,6 +184,12 @@ abbrev pub WindowsAreRead : Type 0
 WindowsAreRead =
     (windows : List Window) → length windows ≤ 16 → AreWindows windows
     → windows_of (map window_text windows) ≡ Some windows
+
+-- the text of one
+abbrev pub RangesAreRead : Type 0
+RangesAreRead =
+    (range : Window) → range.lo < range.hi → range.hi < 2 ^ 32
+    → window_of (window_text range) ≡ Some range
 
 -- the decimal text of a number of steps, which may be the next word
 abbrev pub StepsAreRead : Type 0

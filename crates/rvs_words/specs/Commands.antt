@@ -4,11 +4,11 @@ use Rattle.std.specs.Prelude.{Option, Some, None, option_map, option_and_then, u
 use Rattle.rvs_base.specs.Digits.{short_number}
 use Rattle.rvs_base.specs.Asked.{size_of}
 use Rattle.rvs_words.specs.Words.{is_positional, is_among, options_in, values_of, only, at_most_one}
-use Rattle.rvs_words.specs.Windows.{windows_of}
+use Rattle.rvs_words.specs.Windows.{windows_of, range_of}
 use Rattle.rvs_words.specs.declared.command.Command.{Command}
 use Rattle.rvs_words.specs.declared.command.Command.TheVariants.{Unknown, Compare, Validate}
 use Rattle.rvs_words.specs.declared.command.Command.TheVariants.{Normalize, Generate, Reference}
-use Rattle.rvs_words.specs.declared.command.Command.TheVariants.{Coverage, Run, Demo}
+use Rattle.rvs_words.specs.declared.command.Command.TheVariants.{Coverage, Propagate, Run, Demo}
 
 -- what follows from a value, where it is there
 infixl 10 ◌>>=◌
@@ -111,6 +111,18 @@ coverage_of values = do
   windows ← windows_of (values (codes "--window"))
   Some (Coverage (record { isa = isa; groups = groups; log = log; windows = windows }))
 
+abbrev pub propagate_options : List (List ℕ)
+propagate_options = codes "--isa" ∷ codes "--cgf" ∷ codes "--log" ∷ codes "--signature" ∷ []
+
+-- the range of the signature stands once
+abbrev pub propagate_of : Values → Option Command
+propagate_of values = do
+  isa ← only (values (codes "--isa"))
+  groups ← some_of most_groups (values (codes "--cgf"))
+  log ← only (values (codes "--log"))
+  signature ← range_of (values (codes "--signature"))
+  Some (Propagate (record { isa = isa; groups = groups; log = log; signature = signature }))
+
 abbrev pub run_options : List (List ℕ)
 run_options = codes "--isa" ∷ codes "--cgf" ∷ codes "--device" ∷ codes "--work" ∷ []
 
@@ -142,8 +154,10 @@ named program name words =
     else (if bytes_eq name (codes "reference")
     then with_options reference_options reference_of words
     else (if bytes_eq name (codes "coverage") then with_options coverage_options coverage_of words
+    else (if bytes_eq name (codes "propagate")
+    then with_options propagate_options propagate_of words
     else (if bytes_eq name (codes "run") then with_options run_options (run_of program) words
-    else (if bytes_eq name (codes "demo") then demo_of words else None)))))))
+    else (if bytes_eq name (codes "demo") then demo_of words else None))))))))
 
 -- what the words ask for, the first of which is the program's own name
 abbrev pub asked_by : List (List ℕ) → Option Command

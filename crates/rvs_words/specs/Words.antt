@@ -1,5 +1,5 @@
 -- The words of a command line.
-use Rattle.std.specs.Prelude.{ℕ, Bool, true, false, not, ◌==◌, if◌then◌else◌, List, [], ◌∷◌, map}
+use Rattle.std.specs.Prelude.{ℕ, Bool, false, not, ◌==◌, if◌then◌else◌, List, [], ◌∷◌, map}
 use Rattle.std.specs.Prelude.{filter, string_bytes, bytes_eq, Option, Some, None, option_map}
 use Rattle.std.specs.Prelude.{option_and_then, String}
 use Rattle.std.specs.List.{list_any, list_all, before_first, after_first}

@@ -18,6 +18,8 @@ pub enum Command {
     Reference(ReferenceArguments),
     /// Count which coverage points the instructions of a log hit.
     Coverage(CoverageArguments),
+    /// Count how many hits of coverage points have their result stored in the signature.
+    Propagate(PropagateArguments),
     /// Write a test for each label of coverage groups, run it on the reference machine and on a
     /// device, and judge what the device leaves.
     Run(RunArguments),
@@ -85,6 +87,19 @@ pub struct CoverageArguments {
     pub log: Text,
     /// The windows of addresses whose instructions are counted, up to 16; all where there are none.
     pub windows: Items<Window>,
+}
+
+/// What `propagate` is given.
+#[derive(Drop)]
+pub struct PropagateArguments {
+    /// The ISA file.
+    pub isa: Text,
+    /// The group files, one to 64, in the order in which they are joined.
+    pub groups: Items<Text>,
+    /// The execution log.
+    pub log: Text,
+    /// The addresses of the signature.
+    pub signature: Window,
 }
 
 /// What `run` is given.

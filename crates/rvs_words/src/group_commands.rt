@@ -4,14 +4,16 @@ ghost use Rattle.rvs_words.specs.Words.{texts, values_of};
 ghost use Rattle.rvs_words.specs.Commands.{some_of, most_groups, with_options, normalize_options};
 ghost use Rattle.rvs_words.specs.Commands.{normalize_of, generate_options, generate_of};
 ghost use Rattle.rvs_words.specs.Commands.{coverage_options, coverage_of, run_options, run_of};
-ghost use Rattle.rvs_words.specs.Windows.{windows_of};
+ghost use Rattle.rvs_words.specs.Commands.{propagate_options, propagate_of};
+ghost use Rattle.rvs_words.specs.Windows.{windows_of, range_of};
 ghost use Rattle.rvs_words.specs.Reading.{Answers};
 
 use crate::command::{
-    Command, CoverageArguments, GenerateArguments, NormalizeArguments, RunArguments,
+    Command, CoverageArguments, GenerateArguments, NormalizeArguments, PropagateArguments,
+    RunArguments,
 };
 use crate::unread::Unread;
-use crate::windows::read_windows;
+use crate::windows::{read_range, read_windows};
 use crate::words::{Pair, only_value, owned, read_options, values};
 use rvs_base::{Items, Text, Window};
 use std::alloc::Global;
@@ -95,6 +97,36 @@ fn given_windows(alloc: Global, pairs: &[Pair]) -> Result<Items<Window>, Unread>
 {
     let spelled = values(alloc, pairs, "--window")?;
     read_windows(alloc, spelled.as_slice())
+}
+
+/// Reads the words behind `propagate`.
+///
+/// # Errors
+///
+/// [`Unread`].
+pub fn read_propagate(alloc: Global, words: &[String]) -> Result<Command, Unread>
+    ensures { Answers result (with_options propagate_options propagate_of (texts words.now)) }
+{
+    let options = read_options(alloc, words, &["--isa", "--cgf", "--log", "--signature"])?;
+    let pairs = options.as_slice();
+    Ok(Command::Propagate(PropagateArguments {
+        isa: only_value(alloc, pairs, "--isa")?,
+        groups: group_files(alloc, pairs)?,
+        log: only_value(alloc, pairs, "--log")?,
+        signature: given_range(alloc, pairs)?,
+    }))
+}
+
+/// The range of addresses that the value of `--signature` spells.
+///
+/// # Errors
+///
+/// [`Unread`]: `NoCommand` where it spells none, or doesn't stand once.
+fn given_range(alloc: Global, pairs: &[Pair]) -> Result<Window, Unread>
+    ensures { Answers result (range_of (values_of (codes "--signature") pairs.now)) }
+{
+    let spelled = only_value(alloc, pairs, "--signature")?;
+    read_range(spelled.as_str())
 }
 
 /// Reads the words behind `run`. The program's own name is kept with them.

@@ -1,9 +1,10 @@
 // What command lines ask for.
 ghost use Rattle.rvs_words.specs.CommandLaws.{ComparesAreRead, ValidatesAreRead, NormalizesAreRead};
 ghost use Rattle.rvs_words.specs.CommandLaws.{GeneratesAreRead, ReferencesAreRead};
-ghost use Rattle.rvs_words.specs.CommandLaws.{CoveragesAreRead, RunsAreRead, DemosAreRead};
+ghost use Rattle.rvs_words.specs.CommandLaws.{CoveragesAreRead, PropagatesAreRead, RunsAreRead};
+ghost use Rattle.rvs_words.specs.CommandLaws.{DemosAreRead};
 ghost use Rattle.rvs_words.specs.CommandLaws.{OptionsArePairs, OptionsChangePlaces, StepsAreRead};
-ghost use Rattle.rvs_words.specs.CommandLaws.{CountsAreRead, WindowsAreRead};
+ghost use Rattle.rvs_words.specs.CommandLaws.{CountsAreRead, WindowsAreRead, RangesAreRead};
 
 /// The words of each command, with its options in the usual order, ask for that command with these
 /// values, for all names: whichever form each option has, with any list of one to 64 group files,
@@ -15,6 +16,7 @@ pub fn commands_are_read()
     ensures generate { GeneratesAreRead }
     ensures reference { ReferencesAreRead }
     ensures coverage { CoveragesAreRead }
+    ensures propagate { PropagatesAreRead }
     ensures run { RunsAreRead }
     ensures demo { DemosAreRead }
 {}
@@ -26,10 +28,11 @@ pub fn options_stand_in_any_order()
     ensures places { OptionsChangePlaces }
 {}
 
-/// The decimal text of a number within the limit gives that number, and the texts of up to 16
-/// windows give these windows.
+/// The decimal text of a number within the limit gives that number, the texts of up to 16 windows
+/// give these windows, and the text of a range gives it.
 pub fn numbers_are_read()
     ensures steps { StepsAreRead }
     ensures count { CountsAreRead }
     ensures windows { WindowsAreRead }
+    ensures range { RangesAreRead }
 {}

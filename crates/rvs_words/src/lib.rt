@@ -11,7 +11,7 @@ mod words;
 
 pub use command::{
     Command, CompareArguments, CoverageArguments, GenerateArguments, NormalizeArguments,
-    ReferenceArguments, RunArguments, ValidateArguments,
+    PropagateArguments, ReferenceArguments, RunArguments, ValidateArguments,
 };
 pub use laws::{commands_are_read, numbers_are_read, options_stand_in_any_order};
 pub use reading::read_command;

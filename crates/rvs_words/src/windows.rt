@@ -29,6 +29,17 @@ pub fn read_windows(alloc: Global, texts: &[Text]) -> Result<Items<Window>, Unre
     Ok(windows)
 }
 
+/// The range of addresses that a word spells, `LO:HI`.
+///
+/// # Errors
+///
+/// [`Unread`]: `NoCommand` where it spells none.
+pub fn read_range(text: &str) -> Result<Window, Unread>
+    ensures { Answers result (window_of text.now) }
+{
+    window_in(text.as_bytes()).ok_or(Unread::NoCommand)
+}
+
 /// A window: two addresses, the first below the second, with a colon between.
 #[tactic(auto, using(crate::proofs::WindowCuts::window_is_cut))]
 fn window_in(text: &[u8]) -> Option<Window>

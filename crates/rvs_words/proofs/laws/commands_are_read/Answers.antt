@@ -2,7 +2,7 @@ use Rattle.rvs_words.proofs.laws.commands_are_read.Goals as goal
 use Rattle.rvs_words.proofs.CommandWords.{compares_are_read, validates_are_read}
 use Rattle.rvs_words.proofs.CommandWords.{normalizes_are_read, generates_are_read}
 use Rattle.rvs_words.proofs.CommandWords.{references_are_read, coverages_are_read, runs_are_read}
-use Rattle.rvs_words.proofs.CommandWords.{demos_are_read}
+use Rattle.rvs_words.proofs.CommandWords.{propagates_are_read, demos_are_read}
 
 pub returns-clause-compare : goal.returns-clause-compare
 returns-clause-compare c = compares_are_read
@@ -21,6 +21,9 @@ returns-clause-reference c = references_are_read
 
 pub returns-clause-coverage : goal.returns-clause-coverage
 returns-clause-coverage c = coverages_are_read
+
+pub returns-clause-propagate : goal.returns-clause-propagate
+returns-clause-propagate c = propagates_are_read
 
 pub returns-clause-run : goal.returns-clause-run
 returns-clause-run c = runs_are_read
