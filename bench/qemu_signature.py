@@ -20,9 +20,9 @@ QEMU = """qemu-system-riscv32 -M virt -bios none -display none -serial none -mon
 
 
 def main(elf, signature, seconds="60"):
-    nm = ["riscv64-unknown-elf-nm", elf]
-    names = subprocess.run(nm, check=True, capture_output=True, text=True).stdout
-    found = re.findall(r"^([0-9a-f]+) \w (\S+)$", names, re.M)
+    readelf = ["readelf", "-sW", elf]
+    names = subprocess.run(readelf, check=True, capture_output=True, text=True).stdout
+    found = re.findall(r"^ *\d+: ([0-9a-f]+) .* (\S+)$", names, re.M)
     at = {name: int(value, 16) for value, name in found}
     size = at["end_signature"] - at["begin_signature"]
     qemu = subprocess.Popen(

@@ -17,7 +17,7 @@ use Rattle.rvs_expr_text.specs.declared.lexeme.RegName.TheVariants as register
 use Rattle.rvs_facts.specs.Facts.{facts_of}
 use Rattle.rvs_facts.specs.Mnemonics.{number}
 use Rattle.rvs_insn.specs.Fields.{Fields}
-use Rattle.rvs_count.specs.Buckets.{is_seen, register_bucket, visited}
+use Rattle.rvs_count.specs.Buckets.{is_seen, register_bucket, visited, bucket_count}
 use Rattle.rvs_count.specs.Cells.{asked_at, asked_bucket, fact, never, pair, raised_cell, sight}
 use Rattle.rvs_count.specs.Cells.{Fits, HasCells, IsCell, IsCellFor, SaysValue}
 use Rattle.rvs_count.specs.Counting.{Aim, aims_in, hits_insn}
@@ -192,7 +192,7 @@ imm_val_at b l h =
     let e6 : nat_lt b 298 ≡ true = below b 298 (omega arith) in
     rw (e0, e1, e2, e3, e4, e5, e6) refl
 
-ea_align_at : (b : ℕ) → 298 ≤ b → b < 365 → asked_at b ≡ Some EaAlign
+ea_align_at : (b : ℕ) → 298 ≤ b → b < bucket_count → asked_at b ≡ Some EaAlign
 ea_align_at b l h =
     let e0 : nat_lt b 1 ≡ false = not_below b 1 (omega arith) in
     let e1 : nat_lt b 33 ≡ false = not_below b 33 (omega arith) in
@@ -284,11 +284,11 @@ sight_none q t e = ap (λ o. option_map (asked_bucket q) o) e
 -- ---- the cell of a list
 pub cell_in : (lists : List (List Slot)) (cells got : List Cell) (key b : ℕ) (q : Asked) (z : ℤ)
     (d : Cell)
-    → HasCells lists cells → got ≡ cells → key % 365 ≡ b → b ≡ asked_bucket q z
+    → HasCells lists cells → got ≡ cells → key % bucket_count ≡ b → b ≡ asked_bucket q z
     → key < length cells
     → IsCell q (get_or lists key []) (get_or got key d)
 cell_in lists cells got key b q z d has same r e h =
-    let for : asked_at (key % 365) ≡ Some q = ap asked_at (r ∙ e) ∙ asked_there q z in
+    let for : asked_at (key % bucket_count) ≡ Some q = ap asked_at (r ∙ e) ∙ asked_there q z in
     let is : IsCell q (get_or lists key []) (get_or cells key d) =
     subst (λ o. IsCellFor o (get_or lists key []) (get_or cells key d)) for (has.each key [] d h) in
     subst (λ l. IsCell q (get_or lists key []) (get_or l key d)) (sym same) is
@@ -304,14 +304,15 @@ low_cell labels lists key q c n index h e some is m =
 
 pub added_cell : (labels : List Label) (lists : List (List Slot)) (i : Fields) (v1 v2 n b : ℕ)
     (q : Asked) (z : ℤ) (c : Cell) (cs cs' : List ℕ)
-    → IsIndex insns_key labels lists → n * 365 + b < length lists → n ≡ number i.op → b < 365
+    → IsIndex insns_key labels lists → n * bucket_count + b < length lists → n ≡ number i.op
+    → b < bucket_count
     → b ≡ asked_bucket q z → length cs ≡ length (aims_in labels)
-    → IsCell q (get_or lists (n * 365 + b) []) c → c.more ≡ false
+    → IsCell q (get_or lists (n * bucket_count + b) []) c → c.more ≡ false
     → fact q (facts_of i v1 v2) ≡ Some z → unsigned_abs z ≤ 2 ^ 32 → cs' ≡ raised_cell c z cs
     → cs' ≡ added (λ a. is_seen (Some (asked_bucket q z)) a.point && hits_insn a (Some i) v1 v2)
     (aims_in labels) cs
 added_cell labels lists i v1 v2 n b q z c cs cs' index h same low at l is m f small e =
-    added_bucket labels i v1 v2 n b (get_or lists (n * 365 + b) []) cs cs' same low
-    (index.each (n * 365 + b) [] h) l (e ∙ is.adds m i.op (facts_of i v1 v2) z cs f small)
+    added_bucket labels i v1 v2 n b (get_or lists (n * bucket_count + b) []) cs cs' same low
+    (index.each (n * bucket_count + b) [] h) l (e ∙ is.adds m i.op (facts_of i v1 v2) z cs f small)
     ∙ ap (λ b. added (λ a. is_seen (Some b) a.point && hits_insn a (Some i) v1 v2)
     (aims_in labels) cs) at

@@ -64,11 +64,11 @@ both_read p q = record {
   later = omega (arith, p.later, q.later);
 }
 
-some_of : {X : Type 0} (o : Option X) → is_some o ≡ true → (x : X) × (o ≡ Some x)
+pub some_of : {X : Type 0} (o : Option X) → is_some o ≡ true → (x : X) × (o ≡ Some x)
 some_of None h = cc
 some_of (Some x) h = (x, refl)
 
-inner : {X : Type 0} (x y : X) → Some x ≡ Some y → x ≡ y
+pub inner : {X : Type 0} (x y : X) → Some x ≡ Some y → x ≡ y
 inner x y e = cc
 
 -- the file is what was fed, what was just taken, and the rest
@@ -100,7 +100,7 @@ HasFed-more {name} {buffer} {old} {now} {next} {c} {c'} {n} c'' h q u t f low = 
       ∙ ap (λ l. Some l) (sym (append_assoc h.bytes (take n buffer) r));
 }
 
-told_rest : {old now : HostState} (files : Files) → ReadsOnly old now → Tells old files
+pub told_rest : {old now : HostState} (files : Files) → ReadsOnly old now → Tells old files
     → (r : List ℕ) × (now.rest ≡ Some r)
 told_rest {old} {now} files q t = some_of now.rest (q.told ∙ t.rest)
 

@@ -12,7 +12,7 @@ use Rattle.rvs_facts.specs.Facts.{facts_of}
 use Rattle.rvs_facts.specs.Mnemonics.{is_same, number}
 use Rattle.rvs_insn.specs.Fields.{Fields}
 use Rattle.rvs_insn.specs.declared.op.Op.{Op}
-use Rattle.rvs_count.specs.Buckets.{is_seen}
+use Rattle.rvs_count.specs.Buckets.{is_seen, bucket_count}
 use Rattle.rvs_count.specs.Counting.{aims_in, hits_insn}
 use Rattle.rvs_count.specs.Index.{insns_key, is_for, places, places_for, raised}
 use Rattle.rvs_count.specs.Index.{raised_all, IsIndex}
@@ -57,15 +57,16 @@ more_marks n slots ms ms' k s m has len low at is e =
 
 pub more_heads : (lists : List (List Slot)) (hs hs' : List Head) (n : ℕ) (slots : List Slot)
     (h : Head)
-    → HasHeads lists hs → length hs ≡ n → n * 365 < length lists
-    → slots ≡ get_or lists (n * 365) slots → IsHead n slots h → hs' ≡ hs ++ h ∷ []
+    → HasHeads lists hs → length hs ≡ n → n * bucket_count < length lists
+    → slots ≡ get_or lists (n * bucket_count) slots → IsHead n slots h → hs' ≡ hs ++ h ∷ []
     → HasHeads lists hs'
 more_heads lists hs hs' n slots h has len low at is e =
     subst (HasHeads lists) (sym e) (record {
-      each = λ i d e l. pushed_each (λ i h. IsHead i (get_or lists (i * 365) d) h) hs h
+      each = λ i d e l. pushed_each (λ i h. IsHead i (get_or lists (i * bucket_count) d) h) hs h
           (λ i e l. has.each i d e l)
-          (subst (λ i. IsHead i (get_or lists (i * 365) d) h) (sym len)
-          (subst (λ s. IsHead n s h) (at ∙ any_default lists (n * 365) slots d low) is)) i e l;
+          (subst (λ i. IsHead i (get_or lists (i * bucket_count) d) h) (sym len)
+          (subst (λ s. IsHead n s h) (at
+          ∙ any_default lists (n * bucket_count) slots d low) is)) i e l;
     })
 
 -- ---- marks
@@ -124,36 +125,38 @@ marks_next signs (m ∷ ms) (suc k) d cs h =
 -- ---- the marks of a list of the index
 pub added_marks : (labels : List Label) (lists : List (List Slot)) (i : Fields) (v1 v2 n : ℕ)
     (h : Head) (cs cs' : List ℕ)
-    → IsIndex insns_key labels lists → n * 365 < length lists → n ≡ number i.op
-    → length cs ≡ length (aims_in labels) → IsHead n (get_or lists (n * 365) []) h
+    → IsIndex insns_key labels lists → n * bucket_count < length lists → n ≡ number i.op
+    → length cs ≡ length (aims_in labels) → IsHead n (get_or lists (n * bucket_count) []) h
     → h.more ≡ false → cs' ≡ raised_marks (signs_word (signs_of (facts_of i v1 v2))) h.marks cs
     → cs' ≡ added (λ a. is_seen (Some 0) a.point && hits_insn a (Some i) v1 v2) (aims_in labels) cs
 added_marks labels lists i v1 v2 n h cs cs' index l same len is m e =
-    let key : n * 365 ≡ n * 365 + 0 = omega arith in
-    let slots = get_or lists (n * 365) [] in
+    let key : n * bucket_count ≡ n * bucket_count + 0 = omega arith in
+    let slots = get_or lists (n * bucket_count) [] in
     added_bucket labels i v1 v2 n 0 slots cs cs' same (omega arith)
-    (index.each (n * 365) [] l
+    (index.each (n * bucket_count) [] l
     ∙ ap (λ k. places_for (is_for (insns_key k)) 0 (aims_in labels)) key)
     len (e
     ∙ marks_add n i.op (facts_of i v1 v2) slots h.marks cs (sym same) (is.all m) (is.marks m))
 
 pub low_marks : (labels : List Label) (lists : List (List Slot)) (n : ℕ) (h : Head) (k : ℕ)
-    → IsIndex insns_key labels lists → n * 365 < length lists → length (aims_in labels) ≡ k
-    → IsHead n (get_or lists (n * 365) []) h → h.more ≡ false
+    → IsIndex insns_key labels lists → n * bucket_count < length lists → length (aims_in labels) ≡ k
+    → IsHead n (get_or lists (n * bucket_count) []) h → h.more ≡ false
     → All (λ (m : Mark). m.at < k) h.marks
 low_marks labels lists n h k index l e is m =
-    marks_low n k (get_or lists (n * 365) []) h.marks (is.all m) (is.marks m)
-    (slots_low (is_for (insns_key (n * 365))) (aims_in labels) (get_or lists (n * 365) []) k
-    (index.each (n * 365) [] l) e)
+    marks_low n k (get_or lists (n * bucket_count) []) h.marks (is.all m) (is.marks m)
+    (slots_low (is_for (insns_key (n * bucket_count))) (aims_in labels) (get_or lists
+    (n * bucket_count) []) k
+    (index.each (n * bucket_count) [] l) e)
 
 pub few_marks : (labels : List Label) (lists : List (List Slot)) (n : ℕ) (h : Head)
-    → IsIndex insns_key labels lists → n * 365 < length lists
-    → IsHead n (get_or lists (n * 365) []) h → h.more ≡ false
+    → IsIndex insns_key labels lists → n * bucket_count < length lists
+    → IsHead n (get_or lists (n * bucket_count) []) h → h.more ≡ false
     → length h.marks ≤ length (aims_in labels)
 few_marks labels lists n h index l is m =
     omega (
       arith,
       is.all m,
-      slots_few (is_for (insns_key (n * 365))) (aims_in labels) (get_or lists (n * 365) [])
-          (index.each (n * 365) [] l),
+      slots_few (is_for (insns_key (n * bucket_count))) (aims_in labels) (get_or lists
+          (n * bucket_count) [])
+          (index.each (n * bucket_count) [] l),
     )

@@ -21,7 +21,7 @@ use Rattle.rvs_expr_text.specs.declared.lexeme.RegName.TheVariants as register
 use Rattle.rvs_insn.specs.declared.op.Op.{Op}
 use Rattle.rvs_count.specs.Buckets.{residue, register_bucket, name_bucket, number_bucket}
 use Rattle.rvs_count.specs.Buckets.{equation_bucket, meaning_bucket, bucket_of, visited}
-use Rattle.rvs_count.specs.Buckets.{asked_by, but_zero, conjunct, first_there}
+use Rattle.rvs_count.specs.Buckets.{asked_by, but_zero, conjunct, first_there, bucket_count}
 use Rattle.rvs_count.proofs.Turned.{both_hold}
 
 pub residue_low : (z : ℤ) → residue z < 67
@@ -92,7 +92,7 @@ zero_once t =
       apart 0 97 164 _ (num_within Rs1Val (t.num Rs1Val)) (inl (omega arith)),
       apart 0 164 231 _ (num_within Rs2Val (t.num Rs2Val)) (inl (omega arith)),
       apart 0 231 298 _ (num_within ImmVal (t.num ImmVal)) (inl (omega arith)),
-      apart 0 298 365 _ (num_within EaAlign (t.num EaAlign)) (inl (omega arith)),
+      apart 0 298 bucket_count _ (num_within EaAlign (t.num EaAlign)) (inl (omega arith)),
     )
 
 -- a bucket of rd, of rs1, of rs2 or of a name is the one of its place alone
@@ -109,7 +109,7 @@ rd_once t n e =
       apart b 97 164 _ (num_within Rs1Val (t.num Rs1Val)) (inl (omega arith)),
       apart b 164 231 _ (num_within Rs2Val (t.num Rs2Val)) (inl (omega arith)),
       apart b 231 298 _ (num_within ImmVal (t.num ImmVal)) (inl (omega arith)),
-      apart b 298 365 _ (num_within EaAlign (t.num EaAlign)) (inl (omega arith)),
+      apart b 298 bucket_count _ (num_within EaAlign (t.num EaAlign)) (inl (omega arith)),
     )
 
 rs1_once : (t : Table) (n : ℕ) → t.reg register.Rs1 ≡ Some n
@@ -125,7 +125,7 @@ rs1_once t n e =
       apart b 97 164 _ (num_within Rs1Val (t.num Rs1Val)) (inl (omega arith)),
       apart b 164 231 _ (num_within Rs2Val (t.num Rs2Val)) (inl (omega arith)),
       apart b 231 298 _ (num_within ImmVal (t.num ImmVal)) (inl (omega arith)),
-      apart b 298 365 _ (num_within EaAlign (t.num EaAlign)) (inl (omega arith)),
+      apart b 298 bucket_count _ (num_within EaAlign (t.num EaAlign)) (inl (omega arith)),
     )
 
 rs2_once : (t : Table) (n : ℕ) → t.reg register.Rs2 ≡ Some n
@@ -141,7 +141,7 @@ rs2_once t n e =
       apart b 97 164 _ (num_within Rs1Val (t.num Rs1Val)) (inl (omega arith)),
       apart b 164 231 _ (num_within Rs2Val (t.num Rs2Val)) (inl (omega arith)),
       apart b 231 298 _ (num_within ImmVal (t.num ImmVal)) (inl (omega arith)),
-      apart b 298 365 _ (num_within EaAlign (t.num EaAlign)) (inl (omega arith)),
+      apart b 298 bucket_count _ (num_within EaAlign (t.num EaAlign)) (inl (omega arith)),
     )
 
 -- the four before the names
@@ -170,7 +170,7 @@ number_once Rs1Val t z e =
       here b _ (ap (λ o. option_map (number_bucket Rs1Val) o) e),
       apart b 164 231 _ (num_within Rs2Val (t.num Rs2Val)) (inl (omega arith)),
       apart b 231 298 _ (num_within ImmVal (t.num ImmVal)) (inl (omega arith)),
-      apart b 298 365 _ (num_within EaAlign (t.num EaAlign)) (inl (omega arith)),
+      apart b 298 bucket_count _ (num_within EaAlign (t.num EaAlign)) (inl (omega arith)),
     )
 number_once Rs2Val t z e =
     let b = number_bucket Rs2Val z in
@@ -181,7 +181,7 @@ number_once Rs2Val t z e =
       apart b 97 164 _ (num_within Rs1Val (t.num Rs1Val)) (inr (omega arith)),
       here b _ (ap (λ o. option_map (number_bucket Rs2Val) o) e),
       apart b 231 298 _ (num_within ImmVal (t.num ImmVal)) (inl (omega arith)),
-      apart b 298 365 _ (num_within EaAlign (t.num EaAlign)) (inl (omega arith)),
+      apart b 298 bucket_count _ (num_within EaAlign (t.num EaAlign)) (inl (omega arith)),
     )
 number_once ImmVal t z e =
     let b = number_bucket ImmVal z in
@@ -192,7 +192,7 @@ number_once ImmVal t z e =
       apart b 97 164 _ (num_within Rs1Val (t.num Rs1Val)) (inr (omega arith)),
       apart b 164 231 _ (num_within Rs2Val (t.num Rs2Val)) (inr (omega arith)),
       here b _ (ap (λ o. option_map (number_bucket ImmVal) o) e),
-      apart b 298 365 _ (num_within EaAlign (t.num EaAlign)) (inl (omega arith)),
+      apart b 298 bucket_count _ (num_within EaAlign (t.num EaAlign)) (inl (omega arith)),
     )
 number_once EaAlign t z e =
     let b = number_bucket EaAlign z in

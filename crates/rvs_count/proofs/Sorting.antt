@@ -5,7 +5,7 @@ use Rattle.std.proofs.Common.{get_or}
 use Rattle.std.proofs.lemmas.List.{append_assoc}
 use Rattle.std.specs.Prelude.{◌==◌}
 use Rattle.rvs_cgf.specs.declared.group.Label.{Label}
-use Rattle.rvs_count.specs.Buckets.{bucket_of}
+use Rattle.rvs_count.specs.Buckets.{bucket_of, bucket_count}
 use Rattle.rvs_count.specs.Counting.{Aim, aims_in}
 use Rattle.rvs_count.specs.Index.{PlacedPoint, place_of, places, places_for, in_bucket, insns_key}
 use Rattle.rvs_count.specs.Index.{is_for}
@@ -96,19 +96,22 @@ pushed_at P (y ∷ xs) x has p (suc k) d h =
 -- the list of one more bucket
 pub more_index : (labels : List Label) (lists lists' : List (List Slot)) (all list : List Slot)
     (n bucket : ℕ)
-    → IsIndex insns_key labels lists → length lists ≡ n * 365 + bucket → bucket < 365
+    → IsIndex insns_key labels lists → length lists ≡ n * bucket_count + bucket
+    → bucket < bucket_count
     → places all ≡ places_for (is_for (Any n)) 0 (aims_in labels)
     → places list ≡ in_bucket bucket (places all) → lists' ≡ lists ++ list ∷ []
     → IsIndex insns_key labels lists'
 more_index labels lists lists' all list n bucket index len low whole part e =
-    let q : (n * 365 + bucket) / 365 ≡ n = omega (arith, low) in
-    let r : (n * 365 + bucket) % 365 ≡ bucket = omega (arith, low) in
+    let q : (n * bucket_count + bucket) / bucket_count ≡ n = omega (arith, low) in
+    let r : (n * bucket_count + bucket) % bucket_count ≡ bucket = omega (arith, low) in
     let mine : places list ≡ places_for (is_for (Insns n bucket)) 0 (aims_in labels) =
     part ∙ ap (in_bucket bucket) whole ∙ bucket_for n bucket 0 (aims_in labels) in
-    let key : places list ≡ places_for (is_for (insns_key (n * 365 + bucket))) 0 (aims_in labels) =
+    let key : places list
+    ≡ places_for (is_for (insns_key (n * bucket_count + bucket))) 0 (aims_in labels) =
     mine
     ∙ ap (λ k. places_for (is_for (Insns k bucket)) 0 (aims_in labels)) (sym q)
-    ∙ ap (λ b. places_for (is_for (Insns ((n * 365 + bucket) / 365) b)) 0 (aims_in labels))
+    ∙ ap (λ b. places_for (is_for (Insns ((n * bucket_count + bucket) / bucket_count) b)) 0
+    (aims_in labels))
     (sym r) in
     subst (IsIndex insns_key labels) (sym e) (record {
       each = λ k d h. pushed_at

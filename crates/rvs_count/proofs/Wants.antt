@@ -7,7 +7,7 @@ use Rattle.rvs_cgf.specs.declared.group.Label.{Label}
 use Rattle.rvs_facts.specs.Facts.{facts_of}
 use Rattle.rvs_facts.specs.Mnemonics.{number}
 use Rattle.rvs_insn.specs.Fields.{Fields}
-use Rattle.rvs_count.specs.Buckets.{is_seen}
+use Rattle.rvs_count.specs.Buckets.{is_seen, bucket_count}
 use Rattle.rvs_count.specs.Cells.{asked_bucket, fact, sight}
 use Rattle.rvs_count.specs.Counting.{Aim, aims_in, hits_insn}
 use Rattle.rvs_count.specs.Index.{insns_key, is_for, places, places_for, IsIndex}
@@ -25,13 +25,13 @@ use Rattle.rvs_count.proofs.Seen.{residue_low}
 
 -- what seven tests say
 pub wanted_is : (lists : List (List Slot)) (m : ℕ) (a b c d e f g : Bool)
-    → (a ≡ false → AreEmpty lists (m * 365 + 1) (m * 365 + 33))
-    → (b ≡ false → AreEmpty lists (m * 365 + 33) (m * 365 + 65))
-    → (c ≡ false → AreEmpty lists (m * 365 + 65) (m * 365 + 97))
-    → (d ≡ false → AreEmpty lists (m * 365 + 97) (m * 365 + 164))
-    → (e ≡ false → AreEmpty lists (m * 365 + 164) (m * 365 + 231))
-    → (f ≡ false → AreEmpty lists (m * 365 + 231) (m * 365 + 298))
-    → (g ≡ false → AreEmpty lists (m * 365 + 298) (m * 365 + 365))
+    → (a ≡ false → AreEmpty lists (m * bucket_count + 1) (m * bucket_count + 33))
+    → (b ≡ false → AreEmpty lists (m * bucket_count + 33) (m * bucket_count + 65))
+    → (c ≡ false → AreEmpty lists (m * bucket_count + 65) (m * bucket_count + 97))
+    → (d ≡ false → AreEmpty lists (m * bucket_count + 97) (m * bucket_count + 164))
+    → (e ≡ false → AreEmpty lists (m * bucket_count + 164) (m * bucket_count + 231))
+    → (f ≡ false → AreEmpty lists (m * bucket_count + 231) (m * bucket_count + 298))
+    → (g ≡ false → AreEmpty lists (m * bucket_count + 298) (m * bucket_count + bucket_count))
     → IsWanted lists m (record {
       rd = a;
       rs1 = b;
@@ -47,7 +47,7 @@ wanted_is lists m a b c d e f g at bt ct dt et ft gt = record { each = each }
     w = record { rd = a; rs1 = b; rs2 = c; rs1_val = d; rs2_val = e; imm_val = f; ea_align = g }
 
     each : (q : Asked) → wants w q ≡ false
-        → AreEmpty lists (m * 365 + from_of q) (m * 365 + to_of q)
+        → AreEmpty lists (m * bucket_count + from_of q) (m * bucket_count + to_of q)
     each Rd h = at h
     each Rs1 h = bt h
     each Rs2 h = ct h
@@ -76,7 +76,7 @@ in_range Rs2Val z = (omega arith, omega (arith, residue_low z))
 in_range ImmVal z = (omega arith, omega (arith, residue_low z))
 in_range EaAlign z = (omega arith, omega (arith, residue_low z))
 
-top : (q : Asked) → to_of q ≤ 365
+top : (q : Asked) → to_of q ≤ bucket_count
 top Rd = omega arith
 top Rs1 = omega arith
 top Rs2 = omega arith
@@ -88,7 +88,8 @@ top EaAlign = omega arith
 -- what isn't wanted adds nothing
 pub unwanted : (labels : List Label) (lists : List (List Slot)) (i : Fields) (v1 v2 n : ℕ)
     (q : Asked) (w : Wanted) (cs : List ℕ)
-    → IsIndex insns_key labels lists → n * 365 + 365 ≤ length lists → n ≡ number i.op
+    → IsIndex insns_key labels lists → n * bucket_count + bucket_count ≤ length lists → n
+    ≡ number i.op
     → length cs ≡ length (aims_in labels) → IsWanted lists n w → wants w q ≡ false
     → cs ≡ added (λ a. is_seen (sight q (facts_of i v1 v2)) a.point && hits_insn a (Some i) v1 v2)
     (aims_in labels) cs
@@ -109,11 +110,12 @@ unwanted labels lists i v1 v2 n q w cs index all same l is un =
     turn (Some z) e =
         let b = asked_bucket q z in
         let range = in_range q z in
-        let low : b < 365 = omega (arith, range, top q) in
-        let empty : get_or lists (n * 365 + b) [] ≡ [] =
-        (is.each q un).each (n * 365 + b) (omega (arith, range)) (omega (arith, range)) in
-        let mine : places [] ≡ places_for (is_for (insns_key (n * 365 + b))) 0 (aims_in labels) =
-        ap places (sym empty) ∙ index.each (n * 365 + b) [] (omega (arith, low, all)) in
+        let low : b < bucket_count = omega (arith, range, top q) in
+        let empty : get_or lists (n * bucket_count + b) [] ≡ [] =
+        (is.each q un).each (n * bucket_count + b) (omega (arith, range)) (omega (arith, range)) in
+        let mine : places []
+        ≡ places_for (is_for (insns_key (n * bucket_count + b))) 0 (aims_in labels) =
+        ap places (sym empty) ∙ index.each (n * bucket_count + b) [] (omega (arith, low, all)) in
         added_bucket labels i v1 v2 n b [] cs cs same low mine l refl
         ∙ ap seen (sym (sight_some e))
       where

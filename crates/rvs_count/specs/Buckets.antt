@@ -14,6 +14,10 @@ use Rattle.rvs_expr_text.specs.declared.lexeme.NumName.{NumName}
 use Rattle.rvs_expr_text.specs.declared.lexeme.NumName.TheVariants.{Rs1Val, Rs2Val, ImmVal, EaAlign}
 use Rattle.rvs_expr_text.specs.declared.lexeme.RegName.TheVariants as register
 
+-- so many lists there are for a mnemonic
+abbrev pub bucket_count : ℕ
+bucket_count = 365
+
 -- a number's remainder by a prime, which tells the powers of two up to 2 ^ 65 apart
 abbrev pub residue : ℤ → ℕ
 residue z = unsigned_abs (int_rem_euclid z (pos 67))
@@ -71,7 +75,7 @@ meaning_bucket k (op_is op) = 0
 meaning_bucket k (reg_is n) = register_bucket k n
 meaning_bucket k (regs f) = 0
 meaning_bucket k (nums f) = equation_bucket (asked_by f)
-meaning_bucket k (window ps) = 365
+meaning_bucket k (window ps) = bucket_count
 
 -- the list of a point; all others are in the first list, but cross points, which are in none
 abbrev pub bucket_of : Point → ℕ

@@ -9,7 +9,7 @@ use Rattle.rvs_expr.specs.Meaning.{Table}
 use Rattle.rvs_expr_text.specs.declared.lexeme.NumName.TheVariants as number
 use Rattle.rvs_expr_text.specs.declared.lexeme.RegName.TheVariants as register
 use Rattle.rvs_insn.specs.declared.op.Op.{Op}
-use Rattle.rvs_count.specs.Buckets.{number_bucket}
+use Rattle.rvs_count.specs.Buckets.{number_bucket, bucket_count}
 use Rattle.rvs_count.specs.Counting.{Aim}
 use Rattle.rvs_count.specs.Index.{places, raised, raised_all}
 use Rattle.rvs_count.specs.declared.asked.Asked.{Asked}
@@ -92,7 +92,8 @@ IsCellFor (Some q) slots c = IsCell q slots c
 -- cells for the first lists
 pub record HasCells (lists : List (List Slot)) (cells : List Cell) : Type 0 where
   pub each : (n : ℕ) (d : List Slot) (e : Cell) → n < length cells
-      → IsCellFor (asked_at (n % 365)) (slice_index_or lists n d) (slice_index_or cells n e)
+      → IsCellFor (asked_at (n % bucket_count)) (slice_index_or lists n d)
+      (slice_index_or cells n e)
 
 -- counts of some points, none of them above m
 pub record Fits (aims : List Aim) (m : ℕ) (counts : List ℕ) : Type 0 where

@@ -6,6 +6,7 @@ use Rattle.rvs_cgf.specs.Hits.{holds}
 use Rattle.rvs_expr.specs.Meaning.{Table}
 use Rattle.rvs_facts.specs.Mnemonics.{is_same, number}
 use Rattle.rvs_insn.specs.declared.op.Op.{Op}
+use Rattle.rvs_count.specs.Buckets.{bucket_count}
 use Rattle.rvs_count.specs.Index.{raised}
 use Rattle.rvs_count.specs.Signs.{has_all, signs_of, signs_word}
 use Rattle.rvs_count.specs.declared.mark.Mark.{Mark}
@@ -44,4 +45,4 @@ pub record IsHead (n : ℕ) (slots : List Slot) (h : Head) : Type 0 where
 -- those of the first lists of the first mnemonics
 pub record HasHeads (lists : List (List Slot)) (heads : List Head) : Type 0 where
   pub each : (n : ℕ) (d : List Slot) (e : Head) → n < length heads
-      → IsHead n (slice_index_or lists (n * 365) d) (slice_index_or heads n e)
+      → IsHead n (slice_index_or lists (n * bucket_count) d) (slice_index_or heads n e)

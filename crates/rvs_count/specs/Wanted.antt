@@ -1,6 +1,7 @@
 -- Which facts the points of a mnemonic say values of.
 use Rattle.std.specs.Prelude.{◌≡◌, ℕ, ◌+◌, ◌*◌, ◌<◌, ◌≤◌, Bool, false, List, [], length}
 use Rattle.std.specs.Prelude.{slice_index_or}
+use Rattle.rvs_count.specs.Buckets.{bucket_count}
 use Rattle.rvs_count.specs.declared.asked.Asked.{Asked}
 use Rattle.rvs_count.specs.declared.asked.Asked.TheVariants.{Rd, Rs1, Rs2, Rs1Val, Rs2Val, ImmVal}
 use Rattle.rvs_count.specs.declared.asked.Asked.TheVariants.{EaAlign}
@@ -24,7 +25,7 @@ to_of Rs2 = 97
 to_of Rs1Val = 164
 to_of Rs2Val = 231
 to_of ImmVal = 298
-to_of EaAlign = 365
+to_of EaAlign = bucket_count
 
 abbrev pub wants : Wanted → Asked → Bool
 wants w Rd = w.rd
@@ -42,7 +43,7 @@ pub record AreEmpty (lists : List (List Slot)) (from to : ℕ) : Type 0 where
 -- a fact that isn't wanted has empty lists
 pub record IsWanted (lists : List (List Slot)) (m : ℕ) (w : Wanted) : Type 0 where
   pub each : (q : Asked) → wants w q ≡ false
-      → AreEmpty lists (m * 365 + from_of q) (m * 365 + to_of q)
+      → AreEmpty lists (m * bucket_count + from_of q) (m * bucket_count + to_of q)
 
 -- those of the first mnemonics
 pub record HasWanted (lists : List (List Slot)) (ws : List Wanted) : Type 0 where

@@ -1,5 +1,6 @@
 // The facts whose values points say.
 ghost use Rattle.std.specs.Prelude.{◌≡◌, ◌<◌, IfSome};
+ghost use Rattle.rvs_count.specs.Buckets.{bucket_count};
 ghost use Rattle.rvs_count.specs.Cells as spec;
 
 use crate::buckets::number_bucket;
@@ -53,7 +54,7 @@ fn register_place(value: i64) -> usize
 #[inline(always)]
 pub(crate) fn asked_bucket(asked: Asked, value: i64) -> usize
     ensures value { result ≡ spec.asked_bucket asked value }
-    ensures low { result < 365 }
+    ensures low { result < bucket_count }
 {
     match asked {
         Asked::Rd => 1 + register_place(value),

@@ -3,6 +3,7 @@ ghost use Rattle.std.specs.Prelude.{◌≡◌, ◌<◌};
 ghost use Rattle.rvs_cgf.specs.GroupView.{point_view};
 ghost use Rattle.rvs_expr.specs.Meaning.{IsNarrowFormula};
 ghost use Rattle.rvs_expr.specs.TypedView.{view};
+ghost use Rattle.rvs_count.specs.Buckets.{bucket_count};
 ghost use Rattle.rvs_count.specs.Buckets as spec;
 
 use rvs_cgf::{Kind, Meaning, Point};
@@ -36,7 +37,7 @@ fn register_bucket(kind: Kind, register: u8) -> usize
 
 pub(crate) fn number_bucket(name: NumName, value: i64) -> usize
     ensures value { result ≡ spec.number_bucket name value }
-    ensures low { result < 365 }
+    ensures low { result < bucket_count }
 {
     let place = residue(value);
     match name {

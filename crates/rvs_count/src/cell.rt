@@ -1,6 +1,7 @@
 // Lists of at most two points, each by the value that it says.
 ghost use Rattle.std.specs.Prelude.{◌≡◌, ◌<◌, ◌≤◌, ◌%◌, ◌^◌, [], ◌∷◌, All, IfOk, List, length};
 ghost use Rattle.std.specs.Prelude.{slice_index_or, true, vec_len};
+ghost use Rattle.rvs_count.specs.Buckets.{bucket_count};
 ghost use Rattle.rvs_count.specs.Cells as spec;
 ghost use Rattle.rvs_count.specs.Cells.{HasCells, IsCell, IsCellFor, asked_at};
 ghost use Rattle.rvs_count.specs.declared.slot.Slot.{Slot as Entry};
@@ -111,7 +112,7 @@ fn cell_for(asked: Option<Asked>, slots: &[Slot<'_>]) -> Cell
 fn cell_at(lists: &[Items<Slot<'_>>], number: usize) -> Cell
     requires { number < length lists.now }
     ensures { (d : List Entry) →
-        IsCellFor (asked_at (number % 365)) (slice_index_or lists.now number d) result }
+        IsCellFor (asked_at (number % bucket_count)) (slice_index_or lists.now number d) result }
 {
     let slots = lists[number].as_slice();
     cell_for(asked_at(number % BUCKETS), slots)

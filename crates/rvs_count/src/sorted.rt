@@ -1,5 +1,7 @@
 // The points of a mnemonic, bucket by bucket.
 ghost use Rattle.std.specs.Prelude.{◌≡◌, ◌<◌, ◌+◌, ◌*◌, ◌^◌, ◌++◌, ◌∷◌, [], IfOk, OnOk, length};
+ghost use Rattle.std.specs.Prelude.{◌*◌};
+ghost use Rattle.rvs_count.specs.Buckets.{bucket_count};
 ghost use Rattle.rvs_count.specs.Counting.{aims_in};
 ghost use Rattle.rvs_count.specs.Index.{IsIndex, in_bucket, insns_key, place_of, places};
 
@@ -49,9 +51,9 @@ pub(crate) fn add_lists<'g>(
 ) -> Result<(), NoMemory>
     requires room { length (aims_in labels.now) < 2 ^ 63 }
     requires index { IsIndex insns_key labels.now lists.old }
-    requires count { length lists.old ≡ mnemonic * 365 }
+    requires count { length lists.old ≡ mnemonic * bucket_count }
     ensures index { OnOk result (IsIndex insns_key labels.now lists.new) }
-    ensures all { OnOk result (length lists.new ≡ mnemonic * 365 + 365) }
+    ensures all { OnOk result (length lists.new ≡ mnemonic * bucket_count + bucket_count) }
 {
     let slots = slots_of(alloc, labels, ListKey::Any { mnemonic })?;
     for bucket in 0..BUCKETS {

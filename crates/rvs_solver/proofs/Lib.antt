@@ -14,6 +14,7 @@ pub mod Calls
 pub mod RegisterCalls
 pub mod Others
 pub mod Mnemonics
+pub mod SomePoints
 pub mod OneWord
 pub mod Labels
 pub mod Meant

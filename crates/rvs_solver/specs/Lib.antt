@@ -9,3 +9,4 @@ pub mod Held
 pub mod Least
 pub mod Solving
 pub mod Rows
+pub mod SomePoints

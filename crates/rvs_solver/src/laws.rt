@@ -11,6 +11,7 @@ ghost use Rattle.rvs_solver.specs.First.{first_choice};
 ghost use Rattle.rvs_solver.specs.Least.{least};
 ghost use Rattle.rvs_solver.specs.Bound.{first_registers};
 ghost use Rattle.rvs_solver.specs.Rows.{rows, bound_of_row, most_of};
+ghost use Rattle.rvs_solver.specs.SomePoints.{AtAddress, AtNoAddress, LastRegister, NoRegister};
 
 /// The point on a mnemonic takes the first registers of its format, each with its least word.
 pub fn mnemonics_take_the_first_registers()
@@ -33,4 +34,14 @@ pub fn mnemonics_take_the_first_registers()
 /// out of reach.
 pub fn bounds_of_some_points()
     ensures { map bound_of_row rows ≡ map most_of rows }
+{}
+
+/// `amoadd.w` has the address of scratch in `rs1`, and nothing else; and of a core with 16 registers
+/// `x15` is the last.
+#[tactic(auto, using(crate::proofs::SomePoints::at_address, crate::proofs::SomePoints::at_no_address, crate::proofs::SomePoints::last_register, crate::proofs::SomePoints::no_register))]
+pub fn first_choices_of_some_points()
+    ensures address { AtAddress }
+    ensures other { AtNoAddress }
+    ensures last { LastRegister }
+    ensures none { NoRegister }
 {}

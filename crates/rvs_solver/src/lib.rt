@@ -14,6 +14,8 @@ mod values;
 mod walk;
 
 pub use choice::Choice;
-pub use laws::{bounds_of_some_points, mnemonics_take_the_first_registers};
+pub use laws::{
+    bounds_of_some_points, first_choices_of_some_points, mnemonics_take_the_first_registers,
+};
 pub use solved::Solved;
 pub use solving::solve;

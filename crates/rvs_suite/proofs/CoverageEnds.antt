@@ -19,7 +19,8 @@ use Rattle.rvs_plan.specs.declared.status.Finish.TheVariants as finish
 use Rattle.rvs_suite.specs.Call.{Call}
 use Rattle.rvs_suite.specs.Answered.{HasLeft, Answered, OnDone}
 use Rattle.rvs_suite.specs.GroupFiles.{Inputs, and_then, inputs_in}
-use Rattle.rvs_suite.specs.Coverage.{log_limit, report_on, report_found, report_in, reported}
+use Rattle.rvs_suite.specs.Coverage.{reports, report_on, report_in, reported}
+use Rattle.rvs_suite.specs.LogReport.{log_limit}
 use Rattle.rvs_suite.specs.Printing.{print_text}
 use Rattle.rvs_suite.specs.Coverage.{coverage}
 use Rattle.rvs_suite.specs.Covering as covering
@@ -27,7 +28,7 @@ use Rattle.rvs_words.specs.declared.command.Command.TheVariants.{Coverage}
 use Rattle.rvs_suite.proofs.Answered.{Works, RunsOn, answered}
 use Rattle.rvs_suite.proofs.OneCount.{one-count}
 use Rattle.rvs_suite.proofs.LogEntries.{halting_entries}
-use Rattle.rvs_suite.proofs.LogReads.{reads-reported, finds-reported}
+use Rattle.rvs_suite.proofs.LogReads.{reads-reported, finds-reported, found-report}
 use Rattle.rvs_suite.proofs.Keeping.{WritesNone, WritesNone-then, reads-none, keeps}
 use Rattle.rvs_suite.proofs.Tested.{good-inputs, valid-good}
 use Rattle.rvs_words.specs.declared.command.CoverageArguments.{CoverageArguments}
@@ -39,7 +40,7 @@ works files asked = record {
   deeds = print_text;
   ends = λ _. finish.Done;
   plan = refl;
-  finds = finds-reported files asked;
+  finds = finds-reported files (reports asked.windows) asked.isa asked.groups asked.log;
   does = λ report. refl;
 }
 
@@ -47,21 +48,9 @@ writes-coverage : (asked : CoverageArguments)
     → WritesNone (coverage asked)
 writes-coverage asked = WritesNone-then (reported asked)
     print_text
-    (reads-none (reported asked) (reads-reported asked))
+    (reads-none (reported asked)
+    (reads-reported (reports asked.windows) asked.isa asked.groups asked.log))
     (λ report. tt)
-
--- the report over given files, where these are accepted and the log is there
-found-report : (files : Files) (asked : CoverageArguments) (inputs : Inputs) (bytes : List ℕ)
-    → inputs_in files asked.isa asked.groups ≡ Ok
-    inputs → files asked.log ≡ Some bytes → length bytes ≤ log_limit
-    → report_in files asked ≡ Ok (report_on inputs.groups asked.windows bytes)
-found-report files asked inputs bytes given there short =
-    ap (λ (r : Result Inputs Stop). and_then r
-    (λ i. report_found i.groups asked.windows asked.log (files asked.log)))
-    given
-    ∙ ap (report_found inputs.groups asked.windows asked.log) there
-    ∙ ap (λ (long : Bool). if long then Err (Refused (too_long_text asked.log log_limit)) else Ok
-    (report_on inputs.groups asked.windows bytes)) (le-ltb log_limit (length bytes) short)
 
 the-report : (groups : List Label) (windows : List Window) (bytes : List ℕ) (entries : List Entry)
     → entries_of bytes ≡ entries → report_on groups windows bytes ≡ report_of groups
@@ -70,7 +59,7 @@ unfolding report_on
 the-report groups windows bytes entries are = ap (λ (es : List Entry). report_of groups
     (map (count (kept windows es)) (aims_of groups)) (length (kept windows es))) are
 
-counted-report : (call : Call) (found : Result (List ℕ) Stop) (report : List ℕ) → found ≡ Ok report
+pub counted-report : (call : Call) (found : Result (List ℕ) Stop) (report : List ℕ) → found ≡ Ok report
     → HasLeft found (covering.HasReported call) → covering.HasReported call report
 counted-report call found report is left = let same : left.given ≡ report = cc in
     subst (covering.HasReported call) same left.left
@@ -87,7 +76,8 @@ reported-counts {call} files asked a inputs entries given is_log done =
     (the-report inputs.groups asked.windows is_log.0 entries is_log.3)
     (counted-report call (report_in files asked)
     (report_on inputs.groups asked.windows is_log.0)
-    (found-report files asked inputs is_log.0 given is_log.1 is_log.2)
+    (found-report files (reports asked.windows) asked.isa asked.groups asked.log inputs is_log.0
+    given is_log.1 is_log.2)
     (a.done done))
 
 pub covers : {call : Call} (files : Files) (asked : CoverageArguments)
@@ -105,10 +95,10 @@ covers {call} files asked r =
           subst (covering.HasReported call) (one-count asked.windows l p e selected single none hit)
           (reported-counts files asked a
           (record { isa = isa'; groups = l ∷ [] }) (e ∷ []) given is_log done);
-      of_run = λ inputs test steps run given halts there short done.
+      of_run = λ inputs test steps run given halts octets there short done.
           reported-counts files asked a inputs (map as_entry run.trace) given
-          (log_of run.trace, there, short, halting_entries files asked.isa test steps run halts)
-          done;
+          (log_of run.trace, there, short,
+          halting_entries files asked.isa test steps run halts octets) done;
       valid = λ inputs l given there selected. valid-good inputs l
           (good-inputs files asked.isa asked.groups inputs given) there selected;
       files_kept = keeps r.ran files (Coverage asked) r.told r.asks

@@ -23,6 +23,7 @@ mod LogReads
 mod ImageBytes
 mod LogEntries
 mod CoverageEnds
+mod PropagateEnds
 mod Lines
 mod Listings
 mod GenerateEnds
@@ -31,6 +32,7 @@ mod Tested
 mod PointLines
 mod Written
 mod NoTest
+mod Executables
 mod RunSteps
 mod RunReads
 mod DemoEnds

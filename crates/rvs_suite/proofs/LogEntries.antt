@@ -8,13 +8,18 @@ use Rattle.rvs_machine.specs.Image.{ImageValue}
 use Rattle.rvs_machine.specs.ImageText.{image_of_bytes}
 use Rattle.rvs_machine.specs.declared.reading.ImageRefusal.{ImageRefusal}
 use Rattle.rvs_machine.specs.Run.{Outcome}
+use Rattle.rvs_elf.specs.Executable.{image_of_elf}
+use Rattle.rvs_elf.specs.Laws.{AreOctets}
+use Rattle.rvs_elf.specs.declared.refusal.ElfRefusal.{ElfRefusal}
+use Rattle.rvs_elf.proofs.Octets.{octets_stay}
 use Rattle.rvs_asm.specs.Answer.{answer}
 use Rattle.rvs_asm.specs.declared.refusal.AsmRefusal.{AsmRefusal}
 use Rattle.rvs_log.specs.Entries.{entries_of}
 use Rattle.rvs_log.specs.Logs.{log_of, as_entry}
 use Rattle.rvs_log.proofs.RunLogs.{trace_of, run_entries}
-use Rattle.rvs_suite.specs.TestRun.{is_image_name, file_found, text_found, limit_of}
-use Rattle.rvs_suite.specs.Halting.{BothHalt}
+use Rattle.rvs_suite.specs.TestRun.{is_image_name, is_executable_name, file_found}
+use Rattle.rvs_suite.specs.TestRun.{executable_found, text_found, limit_of}
+use Rattle.rvs_suite.specs.Halting.{BothHalt, HoldsOctets}
 use Rattle.rvs_suite.specs.declared.test_run.Run.{Run}
 use Rattle.rvs_log.proofs.Octets.{bytes_below}
 use Rattle.rvs_suite.proofs.ImageBytes.{HasBytes, of_file, of_text}
@@ -29,26 +34,47 @@ text_is : (name : List ℕ) (r : Result ImageValue AsmRefusal) (image : ImageVal
 text_is name (Ok i) image h = let same : i ≡ image = cc in ap Ok same
 text_is name (Err e) image h = cc
 
--- an image file, or assembler text
-found_bytes : (b : Bool) (isa : Isa) (name bytes : List ℕ) (image : ImageValue)
-    → cond b (file_found name (image_of_bytes bytes)) (text_found name (answer isa bytes))
-    ≡ Ok image → HasBytes image
-found_bytes true isa name bytes image h =
-    of_file bytes image (file_is name (image_of_bytes bytes) image h)
-found_bytes false isa name bytes image h =
-    of_text isa bytes image (text_is name (answer isa bytes) image h)
+executable_is : (name : List ℕ) (r : Result ImageValue ElfRefusal) (image : ImageValue)
+    → executable_found name r ≡ Ok image → r ≡ Ok image
+executable_is name (Ok i) image h = let same : i ≡ image = cc in ap Ok same
+executable_is name (Err e) image h = cc
 
-image_entries : (image : ImageValue) (isa : Isa) (n : ℕ) → HasBytes image
+-- text and data are bytes
+record HasOctets (image : ImageValue) : Type 0 where
+  text : AreOctets image.text
+  ram : AreOctets image.data_bytes
+
+octets : (image : ImageValue) → HasBytes image → HasOctets image
+octets image h =
+    record { text = bytes_below image.text h.text; ram = bytes_below image.data_bytes h.ram }
+
+-- an image file, an executable of bytes, or assembler text
+found_bytes : (b e : Bool) (isa : Isa) (name bytes : List ℕ) (image : ImageValue)
+    → (e ≡ true → AreOctets bytes)
+    → cond b (file_found name (image_of_bytes bytes))
+    (cond e (executable_found name (image_of_elf bytes)) (text_found name (answer isa bytes)))
+    ≡ Ok image → HasOctets image
+found_bytes true e isa name bytes image holds h =
+    octets image (of_file bytes image (file_is name (image_of_bytes bytes) image h))
+found_bytes false true isa name bytes image holds h =
+    let both =
+    octets_stay bytes image (holds refl) (executable_is name (image_of_elf bytes) image h) in
+    record { text = both.0; ram = both.1 }
+found_bytes false false isa name bytes image holds h =
+    octets image (of_text isa bytes image (text_is name (answer isa bytes) image h))
+
+image_entries : (image : ImageValue) (isa : Isa) (n : ℕ) → HasOctets image
     → entries_of (log_of (trace_of image isa n)) ≡ map as_entry (trace_of image isa n)
-image_entries image isa n h =
-    run_entries image isa n (bytes_below image.text h.text) (bytes_below image.data_bytes h.ram)
+image_entries image isa n h = run_entries image isa n h.text h.ram
 
 pub halting_entries : (files : Files) (isa test : List ℕ) (steps : Option ℕ) (run : Run)
-    → BothHalt files isa test steps run → entries_of (log_of run.trace) ≡ map as_entry run.trace
-halting_entries files isa test steps run b =
+    → BothHalt files isa test steps run → HoldsOctets files test
+    → entries_of (log_of run.trace) ≡ map as_entry run.trace
+halting_entries files isa test steps run b holds =
     let t = b.test_halts in
     let core = b.said.spec in
-    let h = found_bytes (is_image_name test) core test t.bytes t.image t.spelt in
+    let h = found_bytes (is_image_name test) (is_executable_name test) core test t.bytes t.image
+    (λ executable. holds executable t.bytes t.there) t.spelt in
     let same = ap (λ (o : Outcome). o.trace) t.halts.halts in
     subst (λ es. entries_of (log_of es) ≡ map as_entry es) same
     (image_entries t.image core (limit_of steps test t.bytes) h)

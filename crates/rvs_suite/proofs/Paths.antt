@@ -56,6 +56,22 @@ pub not-reference : (work a b : List ℕ) → path_of work a ≢ (files_of work 
 not-reference work a b = other-ending work a b (codes ".S") (codes ".reference.sig") 0 83 103
     (λ rest. refl) (λ rest. refl) (λ same. omega (arith, same))
 
+pub not-executable : (work a b : List ℕ) → path_of work a ≢ (files_of work b).executable
+not-executable work a b = other-ending work a b (codes ".S") (codes ".elf") 0 83 102
+    (λ rest. refl) (λ rest. refl) (λ same. omega (arith, same))
+
+pub reference-not-executable : (work a b : List ℕ)
+    → (files_of work a).reference ≢ (files_of work b).executable
+reference-not-executable work a b =
+    other-ending work a b (codes ".reference.sig") (codes ".elf") 0 103 102
+    (λ rest. refl) (λ rest. refl) (λ same. omega (arith, same))
+
+pub device-not-executable : (work a b : List ℕ)
+    → (files_of work a).device ≢ (files_of work b).executable
+device-not-executable work a b =
+    other-ending work a b (codes ".device.sig") (codes ".elf") 0 103 102
+    (λ rest. refl) (λ rest. refl) (λ same. omega (arith, same))
+
 pub not-device : (work a b : List ℕ) → path_of work a ≢ (files_of work b).device
 not-device work a b = other-ending work a b (codes ".S") (codes ".device.sig") 0 83 103
     (λ rest. refl) (λ rest. refl) (λ same. omega (arith, same))
@@ -66,24 +82,38 @@ apart-signatures work a b =
     (λ rest. refl) (λ rest. refl) (λ same. omega (arith, same))
 
 -- the files of a label are none of another's
-pub test-other : (work a b : List ℕ) → a ≢ b → IsOther (files_of work b) (files_of work a).test
-test-other work a b apart = record {
+pub test-other : (wants : Bool) (work a b : List ℕ) → a ≢ b
+    → IsOther wants (files_of work b) (files_of work a).test
+test-other wants work a b apart = record {
   test = same-ending work a b (codes ".S") apart;
+  executable = λ wanted. not-executable work a b;
   reference = not-reference work a b;
   device = not-device work a b;
 }
 
-pub reference-other : (work a b : List ℕ) → a ≢ b
-    → IsOther (files_of work b) (files_of work a).reference
-reference-other work a b apart = record {
+pub executable-other : (wants : Bool) (work a b : List ℕ) → a ≢ b
+    → IsOther wants (files_of work b) (files_of work a).executable
+executable-other wants work a b apart = record {
+  test = λ same. not-executable work b a (sym same);
+  executable = λ wanted. same-ending work a b (codes ".elf") apart;
+  reference = λ same. reference-not-executable work b a (sym same);
+  device = λ same. device-not-executable work b a (sym same);
+}
+
+pub reference-other : (wants : Bool) (work a b : List ℕ) → a ≢ b
+    → IsOther wants (files_of work b) (files_of work a).reference
+reference-other wants work a b apart = record {
   test = λ same. not-reference work b a (sym same);
+  executable = λ wanted. reference-not-executable work a b;
   reference = same-ending work a b (codes ".reference.sig") apart;
   device = apart-signatures work a b;
 }
 
-pub device-other : (work a b : List ℕ) → a ≢ b → IsOther (files_of work b) (files_of work a).device
-device-other work a b apart = record {
+pub device-other : (wants : Bool) (work a b : List ℕ) → a ≢ b
+    → IsOther wants (files_of work b) (files_of work a).device
+device-other wants work a b apart = record {
   test = λ same. not-device work b a (sym same);
+  executable = λ wanted. device-not-executable work a b;
   reference = λ same. apart-signatures work b a (sym same);
   device = same-ending work a b (codes ".device.sig") apart;
 }

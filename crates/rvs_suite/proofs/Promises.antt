@@ -14,6 +14,7 @@ use Rattle.rvs_suite.specs.Comparing as comparing
 use Rattle.rvs_suite.specs.Validating as validating
 use Rattle.rvs_suite.specs.Demonstrating as demonstrating
 use Rattle.rvs_suite.specs.Covering as covering
+use Rattle.rvs_suite.specs.Propagating as propagating
 use Rattle.rvs_suite.specs.Generating as generating
 use Rattle.rvs_suite.specs.Normalizing as normalizing
 use Rattle.rvs_suite.specs.Referencing as referencing
@@ -31,6 +32,7 @@ use Rattle.rvs_suite.proofs.CompareEnds.{compares}
 use Rattle.rvs_suite.proofs.GenerateEnds.{makes}
 use Rattle.rvs_suite.proofs.NormalizeEnds.{normalizes}
 use Rattle.rvs_suite.proofs.CoverageEnds.{covers}
+use Rattle.rvs_suite.proofs.PropagateEnds.{propagates}
 use Rattle.rvs_suite.proofs.RunEnds.{judges}
 use Rattle.rvs_suite.proofs.DemoEnds.{demonstrates}
 
@@ -105,6 +107,10 @@ pub coverage-promise : {call : Call} → RanCall call → covering.Promise call
 coverage-promise r files asked t is =
     covers files asked (record { ran = r.ran; told = t; asks = is })
 
+pub propagate-promise : {call : Call} → RanCall call → propagating.Promise call
+propagate-promise r files asked t is =
+    propagates files asked (record { ran = r.ran; told = t; asks = is })
+
 pub run-promise : {call : Call} → RanCall call → judging.Promise call
 run-promise r files asked t is =
     judges files asked (record { ran = r.ran; told = t; asks = is })
@@ -122,6 +128,7 @@ promise r = record {
   generate = generate-promise r;
   reference = reference-promise r;
   coverage = coverage-promise r;
+  propagate = propagate-promise r;
   run = run-promise r;
   demo = demo-promise r;
 }

@@ -101,9 +101,9 @@ refers {call} files asked r = record {
             ∙ out-recorded (contents (world_of call.old)) asked.signature asked.log run;
       });
   halts = both-halt files asked.isa asked.test asked.steps;
-  logged = λ run is.
+  logged = λ run is octets.
       halting_entries files asked.isa asked.test asked.steps run
-      (both-halt files asked.isa asked.test asked.steps run is);
+      (both-halt files asked.isa asked.test asked.steps run is) octets;
   others_kept = λ files' other. reference-spares r.ran files files' asked
       other r.told r.asks;
 }

@@ -37,6 +37,7 @@ use Rattle.rvs_suite.specs.declared.gathering.Test.{Test}
 use Rattle.rvs_words.specs.declared.command.Command.TheVariants.{Run}
 use Rattle.rvs_suite.proofs.Answered.{RunsOn, ran-command}
 use Rattle.rvs_suite.proofs.Ends.{means-end, was_refused, was_missing}
+use Rattle.rvs_suite.proofs.Executables.{is-executable}
 use Rattle.rvs_suite.proofs.Finding.{Behind, behind, end-found}
 use Rattle.rvs_suite.proofs.Running.{at_status, asked_means}
 use Rattle.rvs_suite.proofs.RunReads.{finds-run}
@@ -410,5 +411,7 @@ judges {call} files asked r =
       proved = λ inputs l text given inside selected is. proved inputs.groups l text
           (tested-run files asked inputs given) inside selected is;
       there = there files asked r;
+      executables = λ inputs test given inside. is-executable inputs.groups.isa test
+          (runnable-run files asked inputs test given inside);
       runnable = runnable-run files asked;
     }

@@ -14,13 +14,19 @@ use Rattle.rvs_plan.specs.declared.status.Finish.{Finish}
 use Rattle.rvs_sig.specs.Words.{text_of_words}
 use Rattle.rvs_device.specs.Printed.{verdict_line}
 use Rattle.rvs_suite.specs.Judging.{task_of}
-use Rattle.rvs_suite.specs.Tests.{reference_words}
-use Rattle.rvs_suite.specs.RunTests.{Bench, files_for, passes, judges_one, judges_all, with_one}
+use Rattle.rvs_suite.specs.Tests.{reference_words, executable_of}
+use Rattle.rvs_suite.specs.RunTests.{Bench, files_for, asks_elf, executable_for, passes, announces}
+use Rattle.rvs_suite.specs.RunTests.{writes_executable, judges_words, judges_one, judges_all}
+use Rattle.rvs_suite.specs.RunTests.{with_one}
 use Rattle.rvs_suite.specs.RunLeft.{IsRunOf, AreRunsOf, verdict_by, verdict_lines, passed_onto}
-use Rattle.rvs_suite.specs.RunLeft.{with_judged, with_all_judged}
+use Rattle.rvs_suite.specs.RunLeft.{with_executable, with_written, with_judged, with_all_judged}
 use Rattle.rvs_suite.specs.declared.gathering.Test.{Test}
+use Rattle.rvs_device.specs.declared.verdicts.TestVerdict.{TestVerdict}
+use Rattle.rvs_suite.proofs.Executables.{written_before, after-executable, saw-executable}
+use Rattle.rvs_suite.proofs.Executables.{kept-executable}
+use Rattle.rvs_suite.proofs.NormalPlan.{then-then}
 use Rattle.rvs_suite.proofs.Paths.{found-in, passed-by, same-bytes, other-bytes, not-reference}
-use Rattle.rvs_suite.proofs.Paths.{not-device}
+use Rattle.rvs_suite.proofs.Paths.{not-executable, not-device}
 
 -- ---- the first effect of a plan that comes to its end
 pub record FirstDid (deed : Deed) (plan : Plan Finish) (end : Result Finish Stop)
@@ -37,6 +43,24 @@ first_did deed plan end (Did d ∷ effects) goes =
     record { rest = effects; is = ap (λ (x : Deed). Did x ∷ effects) (sym goes.0); goes = goes.1 }
 first_did deed plan end (Read name found ∷ effects) goes = absurd goes
 first_did deed plan end (Device words test signature answer ∷ effects) goes = absurd goes
+
+-- the write of an executable, where there is one
+record FirstWritten (name : List ℕ) (executable : Option (List ℕ)) (plan : Plan Finish)
+    (end : Result Finish Stop) (effects : List Effect) : Type 0 where
+  rest : List Effect
+  is : effects ≡ written_before name executable rest
+  goes : Goes plan rest (Ends end)
+
+first_written : (name : List ℕ) (executable : Option (List ℕ)) (plan : Plan TestVerdict)
+    (put : TestVerdict → Plan Bool) (next : Bool → Plan Finish) (end : Result Finish Stop)
+    (effects : List Effect)
+    → Goes ((writes_executable name executable >>= (λ _. plan)) >>= put >>= next) effects (Ends end)
+    → FirstWritten name executable (plan >>= put >>= next) end effects
+first_written name None plan put next end effects goes =
+    record { rest = effects; is = refl; goes = goes }
+first_written name (Some executable) plan put next end effects goes =
+    let first = first_did (Write name executable) (plan >>= put >>= next) end effects goes in
+    record { rest = first.rest; is = first.is; goes = first.goes }
 
 record FirstRead (name : List ℕ) (next : Option (List ℕ) → Plan Finish) (end : Result Finish Stop)
     (effects : List Effect) : Type 0 where
@@ -82,10 +106,7 @@ first_ran words test signature next end (Read name found ∷ effects) goes = abs
 -- the files when the device is started
 abbrev started : Bench → Test → Files → Files
 started bench test files =
-    with_file (files_for bench test).device []
-    (with_file (files_for bench test).reference
-    (text_of_words (reference_words bench.isa test))
-    (with_file (files_for bench test).test test.text files))
+    with_file (files_for bench test).device [] (with_written bench test files)
 
 test-there : (bench : Bench) (test : Test) (files : Files)
     → started bench test files (files_for bench test).test ≡ Some test.text
@@ -96,6 +117,9 @@ test-there bench test files =
     ∙ passed-by (bytes_eq (files_for bench test).test (files_for bench test).reference) _ _
     (other-bytes (files_for bench test).test (files_for bench test).reference
     (not-reference bench.work test.name test.name))
+    ∙ kept-executable (asks_elf bench) (files_for bench test).executable
+    (executable_of bench.isa test) _ (files_for bench test).test
+    (λ wanted. not-executable bench.work test.name test.name)
     ∙ found-in (bytes_eq (files_for bench test).test (files_for bench test).test) _ _
     (same-bytes (files_for bench test).test)
 
@@ -149,11 +173,10 @@ record JudgedOne (bench : Bench) (test : Test) (next : Bool → Plan Finish) (fi
   same : after effects (contents_of files runs out)
       ≡ after later (after_test bench test files runs out run)
 
--- these are the effects
-abbrev effects_with : Bench → Test → Files → Answer → Option (List ℕ) → List Effect → List Effect
-effects_with bench test files answer found later =
-    Did (Write (files_for bench test).test test.text)
-    ∷ (Did (Write (files_for bench test).reference
+-- these are the effects behind the write of the executable, and these are all
+abbrev effects_behind : Bench → Test → Answer → Option (List ℕ) → List Effect → List Effect
+effects_behind bench test answer found later =
+    Did (Write (files_for bench test).reference
     (text_of_words (reference_words bench.isa test)))
     ∷ (Did (Write (files_for bench test).device [])
     ∷ (Device (task_of bench test).words (files_for bench test).test
@@ -165,12 +188,18 @@ effects_with bench test files answer found later =
       before = None;
       after = found;
       status = answer.status;
-    })))) ∷ later)))))
+    })))) ∷ later))))
+
+abbrev effects_with : Bench → Test → Answer → Option (List ℕ) → List Effect → List Effect
+effects_with bench test answer found later =
+    Did (Write (files_for bench test).test test.text)
+    ∷ written_before (files_for bench test).executable (executable_for bench test)
+    (effects_behind bench test answer found later)
 
 judged-with : (bench : Bench) (test : Test) (next : Bool → Plan Finish) (files : Files)
     (runs : List DeviceRun) (out : Option (List ℕ)) (end : Result Finish Stop)
     (effects : List Effect) (answer : Answer) (found : Option (List ℕ)) (later : List Effect)
-    → effects ≡ effects_with bench test files answer found later → found ≡ answer.left
+    → effects ≡ effects_with bench test answer found later → found ≡ answer.left
     → Goes (next (passes (verdict_by bench test (record {
       words = [];
       test = None;
@@ -182,13 +211,18 @@ judged-with : (bench : Bench) (test : Test) (next : Bool → Plan Finish) (files
     → JudgedOne bench test next files runs out end effects
 judged-with bench test next files runs out end effects answer found later is left goes saw =
     let run = run_with bench test files answer in
-    let effects-are : effects ≡ effects_with bench test files answer answer.left later =
-    is ∙ ap (λ (f : Option (List ℕ)). effects_with bench test files answer f later) left in
+    let effects-are : effects ≡ effects_with bench test answer answer.left later =
+    is ∙ ap (λ (f : Option (List ℕ)). effects_with bench test answer f later) left in
     let put = verdict_line test.name (verdict_by bench test run) in
     let over : with_left (files_for bench test).device answer.left (started bench test files)
     ≡ with_judged bench test run files =
     left-over (files_for bench test).device [] answer.left _ in
-    let seen = subst (λ (es : List Effect). Saw es (contents_of files runs out)) effects-are saw in
+    let path = (files_for bench test).executable in
+    let executable = executable_for bench test in
+    let behind = effects_behind bench test answer answer.left later in
+    let with_test = with_file (files_for bench test).test test.text files in
+    let seen = saw-executable path executable behind with_test runs out (subst
+    (λ (es : List Effect). Saw es (contents_of files runs out)) effects-are saw).1 in
     record {
       run = run;
       is = record {
@@ -205,8 +239,9 @@ judged-with bench test next files runs out end effects answer found later is lef
         status = answer.status;
       })))) later (Ends end)) left goes;
       saw = subst (λ (f : Files). Saw later (contents_of f (runs ++ run ∷ []) (appended out put)))
-          over seen.1.1.1.1.1.1;
-      same = ap (λ (es : List Effect). after es (contents_of files runs out)) effects-are ∙ ap
+          over seen.1.1.1.1.1;
+      same = ap (λ (es : List Effect). after es (contents_of files runs out)) effects-are
+          ∙ after-executable path executable behind with_test runs out ∙ ap
           (λ (f : Files). after later (contents_of f (runs ++ run ∷ []) (appended out put))) over;
     }
 
@@ -218,7 +253,12 @@ judged-one : (bench : Bench) (test : Test) (next : Bool → Plan Finish) (files 
     → JudgedOne bench test next files runs out end effects
 judged-one bench test next files runs out end effects goes saw =
     let text = first_did _ _ end effects goes in
-    let words = first_did _ _ end text.rest text.goes in
+    let file = (files_for bench test).executable in
+    let executable = executable_for bench test in
+    let written = first_written file executable
+    (judges_words bench (files_for bench test) (reference_words bench.isa test))
+    (announces test.name) next end text.rest text.goes in
+    let words = first_did _ _ end written.rest written.goes in
     let empty = first_did _ _ end words.rest words.goes in
     let ran = first_ran _ _ _ _ end empty.rest empty.goes in
     let back = first_read _ _ end ran.rest ran.goes in
@@ -231,13 +271,19 @@ judged-one bench test next files runs out end effects goes saw =
     let three = Did (Write device []) in
     let four = Device (task_of bench test).words path device ran.answer in
     let five = Read device back.found in
-    let are : effects ≡ effects_with bench test files ran.answer back.found line.rest =
-    text.is ∙ ap (λ (es : List Effect). one ∷ es) (words.is ∙ ap (λ (es : List Effect). two ∷ es)
+    let behind : written.rest ≡ effects_behind bench test ran.answer back.found line.rest =
+    words.is ∙ ap (λ (es : List Effect). two ∷ es)
     (empty.is ∙ ap (λ (es : List Effect). three ∷ es) (ran.is ∙ ap
     (λ (es : List Effect). four ∷ es)
-    (back.is ∙ ap (λ (es : List Effect). five ∷ es) line.is)))) in
-    let seen = subst (λ (es : List Effect). Saw es (contents_of files runs out)) are saw in
-    let left : back.found ≡ ran.answer.left = sym (seen.1.1.1.1.0 _ refl) ∙ left-there
+    (back.is ∙ ap (λ (es : List Effect). five ∷ es) line.is))) in
+    let are : effects ≡ effects_with bench test ran.answer back.found line.rest =
+    text.is ∙ ap (λ (es : List Effect). one ∷ es) (written.is
+    ∙ ap (λ (es : List Effect). written_before file executable es) behind) in
+    let seen = saw-executable file executable
+    (effects_behind bench test ran.answer back.found line.rest)
+    (with_file path test.text files) runs out
+    (subst (λ (es : List Effect). Saw es (contents_of files runs out)) are saw).1 in
+    let left : back.found ≡ ran.answer.left = sym (seen.1.1.1.0 _ refl) ∙ left-there
     (files_for bench test).device ran.answer.left (started bench test files) in
     judged-with bench test next files runs out end effects ran.answer back.found line.rest are left
     line.goes saw
@@ -277,7 +323,9 @@ judged-all bench [] passed next files runs out end effects goes saw = record {
 }
 judged-all bench (test ∷ tests) passed next files runs out end effects goes saw =
     let one = judged-one bench test (λ pass. judges_all bench (with_one passed pass) tests >>= next)
-    files runs out end effects goes saw in
+    files runs out end effects (subst (λ (p : Plan Finish). Goes p effects (Ends end))
+    (then-then (judges_one bench test) (λ pass. judges_all bench (with_one passed pass) tests) next)
+    goes) saw in
     let verdict = verdict_by bench test one.run in
     let line = verdict_line test.name verdict in
     let rest = judged-all bench tests (with_one passed (passes verdict)) next

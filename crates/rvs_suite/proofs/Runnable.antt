@@ -8,6 +8,7 @@ use Rattle.rvs_plan.specs.declared.stop.Stop.TheVariants.{Usage, Refused, NoFile
 use Rattle.rvs_plan.specs.declared.stop.Stop.TheVariants.{CannotWrite, CannotRun, NoMemory}
 use Rattle.rvs_plan.specs.declared.stop.Stop.TheVariants.{SinkFault}
 use Rattle.rvs_insn.specs.Isa.{Isa}
+use Rattle.rvs_asm.specs.Answer.{answer}
 use Rattle.rvs_asm.proofs.Stands.{image_answered}
 use Rattle.rvs_cgf.specs.Groups.{Label}
 use Rattle.rvs_test_text.specs.declared.claim.Claim.{Claim}
@@ -15,9 +16,9 @@ use Rattle.rvs_test.specs.Claimed.{TestRuns}
 use Rattle.rvs_machine.specs.Image.{ImageValue}
 use Rattle.rvs_machine.specs.Machine.{started}
 use Rattle.rvs_machine.specs.declared.event.End.{End}
+use Rattle.rvs_machine.specs.declared.event.End.TheVariants.{Halted}
 use Rattle.rvs_asm.specs.declared.refusal.AsmRefusal.{AsmRefusal}
-use Rattle.rvs_suite.specs.TestRun.{Accepts, then_found, text_found, left_by, run_end, run_found}
-use Rattle.rvs_suite.specs.TestRun.{text_run}
+use Rattle.rvs_suite.specs.TestRun.{Accepts, left_by, run_end, run_found}
 use Rattle.rvs_suite.specs.Tests.{IsRunnable, test_with, run_on, words_of_image, reference_words}
 use Rattle.rvs_suite.specs.declared.test_run.Run.{Run}
 use Rattle.rvs_suite.specs.declared.gathering.Test.{Test}
@@ -54,18 +55,20 @@ more-runnable isa l name claims steps text tests tests' (Ok done) is runs = λ a
     (test_with name steps text) all (all-runnable isa l name claims steps text runs))
 more-runnable isa l name claims steps text tests tests' (Err fault) is runs = tt
 
--- its run is found, and leaves the words of the reference machine
-pub runs-found : (isa : Isa) (name : List ℕ) (test : Test) → IsRunnable isa test
-    → (run : Run) × (text_run test.steps isa name test.text ≡ Ok run)
+-- the run of the image that stands to it is found, and leaves the words of the reference machine
+pub runs-found : (isa : Isa) (name : List ℕ) (test : Test) (image : ImageValue)
+    → IsRunnable isa test → answer isa test.text ≡ Ok image
+    → (run : Run) × (run_found name test.steps isa image ≡ Ok run)
     × (run.words ≡ reference_words isa test)
 unfolding run_found reference_words
-runs-found isa name test r =
-    let run = left_by (started r.image isa).setup (run_on isa r.image test.steps) in (
+runs-found isa name test image r stands =
+    let run = left_by (started image isa).setup (run_on isa image test.steps) in
+    let both : Ok r.image ≡ Ok image = sym r.assembled ∙ stands in
+    let same : r.image ≡ image = cc in (
       run,
-      ap (λ (a : Result ImageValue AsmRefusal). then_found (text_found name a)
-          (run_found name test.steps isa)) r.assembled
-          ∙ ap (λ (e : End). run_end name test.steps run e) r.halts,
-      sym (ap (words_of_image isa test.steps) r.assembled),
+      ap (λ (e : End). run_end name test.steps run e) (subst
+          (λ (i : ImageValue). (run_on isa i test.steps).end ≡ Halted) same r.halts),
+      sym (ap (words_of_image isa test.steps) stands),
     )
 
 -- where something is found, nothing is refused

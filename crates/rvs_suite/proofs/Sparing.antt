@@ -19,6 +19,7 @@ use Rattle.rvs_plan.specs.declared.stop.Stop.TheVariants as why
 use Rattle.rvs_plan.specs.declared.status.Status.{Status}
 use Rattle.rvs_plan.specs.declared.status.Status.TheVariants as answer
 use Rattle.rvs_plan.specs.declared.status.Finish.{Finish}
+use Rattle.rvs_device.specs.Command.{wants_elf}
 use Rattle.rvs_suite.specs.Specification.{isa_limit, checks, specification}
 use Rattle.rvs_suite.specs.Reference.{test_limit, trial, records, reference_on, reference}
 use Rattle.rvs_suite.specs.TestRun.{accepted, test_found}
@@ -31,8 +32,10 @@ use Rattle.rvs_suite.specs.GroupFiles.{group_inputs, inputs_in}
 use Rattle.rvs_suite.specs.GenerateTexts.{listing}
 use Rattle.rvs_suite.specs.Generate.{path_of, writes_text, writes_test, writes_tests, written_tests}
 use Rattle.rvs_suite.specs.Generate.{generates, generate}
-use Rattle.rvs_suite.specs.Tests.{test_with, tests_of_label, tests_of}
-use Rattle.rvs_suite.specs.RunTests.{Bench, files_for, judges_one, with_one, judges_all, tallies}
+use Rattle.rvs_suite.specs.Tests.{reference_words, executable_of, test_with, tests_of_label}
+use Rattle.rvs_suite.specs.Tests.{tests_of}
+use Rattle.rvs_suite.specs.RunTests.{Bench, files_for, asks_elf, if_asked, judges_made, announces}
+use Rattle.rvs_suite.specs.RunTests.{judges_one, with_one, judges_all, tallies}
 use Rattle.rvs_suite.specs.RunTests.{RunInputs, run_inputs, bench_of, runs, run}
 use Rattle.rvs_suite.specs.Generating.{IsNoTest}
 use Rattle.rvs_suite.specs.TestFiles.{IsOther, files_of}
@@ -46,6 +49,7 @@ use Rattle.rvs_words.specs.declared.command.Command.{Command}
 use Rattle.rvs_words.specs.declared.command.Command.TheVariants.{Generate, Reference, Run}
 use Rattle.rvs_suite.specs.declared.gathering.Test.{Test}
 use Rattle.rvs_suite.specs.declared.test_run.Run.{Run as TestRun}
+use Rattle.rvs_suite.specs.declared.test_files.TestFiles.{TestFiles}
 use Rattle.rvs_words.specs.declared.command.GenerateArguments.{GenerateArguments}
 use Rattle.rvs_words.specs.declared.command.ReferenceArguments.{ReferenceArguments}
 use Rattle.rvs_words.specs.declared.command.RunArguments.{RunArguments}
@@ -310,15 +314,31 @@ spares-generate files other asked apart = spares-found files other
     (spares-tests other asked.work inputs.isa inputs.groups
     (λ test there. apart inputs test given there)) (λ _. tt)) (λ text. tt))
 
+spares-made : (other : List ℕ) (bench : Bench) (text name : List ℕ) (files : TestFiles)
+    (words : List ℕ) (wants : Bool) (executable : List ℕ) → IsOther wants files other
+    → Spares other (judges_made bench text (record {
+      files = files;
+      executable = if_asked wants executable;
+      words = words;
+    }) >>= announces name)
+spares-made other bench text name files words true executable this = (
+  this.test,
+  (this.executable refl, (this.reference, (this.device, (this.device, λ answer found. tt)))),
+)
+spares-made other bench text name files words false executable this =
+    (this.test, (this.reference, (this.device, (this.device, λ answer found. tt))))
+
 spares-judging : (other : List ℕ) (bench : Bench) (passed : ℕ) (tests : List Test)
-    → ((test : Test) → Contains tests test → IsOther (files_for bench test) other)
+    → ((test : Test) → Contains tests test
+    → IsOther (asks_elf bench) (files_for bench test) other)
     → Spares other (judges_all bench passed tests)
 spares-judging other bench passed [] apart = tt
 spares-judging other bench passed (test ∷ tests) apart =
     let this = apart test (0, omega arith, refl) in
     Spares-then other (judges_one bench test) (λ pass. judges_all bench
     (with_one passed pass) tests)
-    (this.test, (this.reference, (this.device, (this.device, λ answer found. tt)))) (λ pass.
+    (spares-made other bench test.text test.name (files_for bench test)
+    (reference_words bench.isa test) (asks_elf bench) (executable_of bench.isa test) this) (λ pass.
     spares-judging other bench (with_one passed pass) tests
     (λ t there. apart t (Contains-append_right (test ∷ []) tests t there)))
 
@@ -326,7 +346,8 @@ spares-judging other bench passed (test ∷ tests) apart =
 abbrev IsNoFile : Files → RunArguments → List ℕ → Type 0
 IsNoFile files asked other = (inputs : RunInputs) (test : Test)
     → run_inputs_in files asked ≡ Ok inputs
-    → Contains (tests_in inputs) test → IsOther (files_of asked.work test.name) other
+    → Contains (tests_in inputs) test
+    → IsOther (wants_elf inputs.device.command) (files_of asked.work test.name) other
 
 spares-run : (files : Files) (other : List ℕ) (asked : RunArguments) → IsNoFile files asked other
     → SparesOver files other (run asked)
@@ -376,7 +397,8 @@ pub run-spares : {command : Command} {old new : World} {err err' : SinkState} {s
     → Ran command old new err err' status → (files files' : Files) (asked : RunArguments)
     (other : List ℕ) → Tells old.host files → command ≡ Run asked
     → ((inputs : RunInputs) (test : Test) → run_inputs_in files asked ≡ Ok inputs
-    → Contains (tests_in inputs) test → IsOther (files_of asked.work test.name) other)
+    → Contains (tests_in inputs) test
+    → IsOther (wants_elf inputs.device.command) (files_of asked.work test.name) other)
     → new.host.files ≡ Some files' → files' other ≡ files other
 run-spares r files files' asked other t is apart told =
     spares r files files' (Run asked) other t is (spares-run files other asked apart) told

@@ -1,7 +1,7 @@
--- That the three files of each test stand when all tests were judged, since no two labels have one
+-- That the files of each test stand when all tests were judged, since no two labels have one
 -- name.
 use Rattle.std.proofs.Common.{◌≡◌, ◌≢◌, inl, inr, ℕ, zero, suc, Bool, true, false, List, []}
-use Rattle.std.proofs.Common.{◌∷◌, ◌++◌, Contains, Option, Some, None, option_map}
+use Rattle.std.proofs.Common.{◌∷◌, ◌++◌, Contains, IsTrue, Option, Some, None, option_map}
 use Rattle.std.proofs.Common.{if◌then◌else◌, bytes_eq, refl, sym, ap, subst, ◌∙◌}
 use Rattle.std.proofs.Common.{arith}
 use Rattle.std.specs.Prelude.{not, ⊤}
@@ -20,15 +20,18 @@ use Rattle.rvs_normal.proofs.Truths.{both, or-both, not-true}
 use Rattle.rvs_test_text.specs.TestText.{step_limit}
 use Rattle.rvs_test.specs.Made.{cases_of, text_of_label}
 use Rattle.rvs_suite.specs.Call.{Call}
-use Rattle.rvs_suite.specs.Tests.{reference_words, test_with, tests_of_label, tests_of}
+use Rattle.rvs_suite.specs.Tests.{reference_words, executable_of, test_with, tests_of_label}
+use Rattle.rvs_suite.specs.Tests.{tests_of}
 use Rattle.rvs_suite.specs.TestFiles.{IsOther, files_of}
-use Rattle.rvs_suite.specs.RunTests.{Bench, RunInputs, files_for, bench_of}
+use Rattle.rvs_suite.specs.RunTests.{Bench, RunInputs, files_for, asks_elf, bench_of}
 use Rattle.rvs_suite.specs.RunLeft.{IsRunOf, AreRunsOf, with_judged, with_all_judged}
 use Rattle.rvs_suite.specs.Judging.{tests_in, HasJudged, HasTestFiles}
 use Rattle.rvs_suite.specs.declared.gathering.Test.{Test}
 use Rattle.rvs_suite.proofs.Paths.{found-in, passed-by, same-bytes, other-bytes, not-reference}
-use Rattle.rvs_suite.proofs.Paths.{not-device, apart-signatures, test-other, reference-other}
-use Rattle.rvs_suite.proofs.Paths.{device-other}
+use Rattle.rvs_suite.proofs.Paths.{not-executable, reference-not-executable}
+use Rattle.rvs_suite.proofs.Paths.{device-not-executable, not-device, apart-signatures, test-other}
+use Rattle.rvs_suite.proofs.Paths.{executable-other, reference-other, device-other}
+use Rattle.rvs_suite.proofs.Executables.{kept-executable, there-executable}
 
 -- ---- tests of labels
 abbrev AreApart : List Test → Type 0
@@ -136,17 +139,21 @@ test-of isa ls l text there selected is = (test_by isa l text, inside ls there, 
 
 -- ---- what is left of each test
 kept-one : (bench : Bench) (t : Test) (run : DeviceRun) (files : Files) (other : List ℕ)
-    → IsOther (files_for bench t) other → with_judged bench t run files other ≡ files other
+    → IsOther (asks_elf bench) (files_for bench t) other
+    → with_judged bench t run files other ≡ files other
 kept-one bench t run files other apart =
     passed-by (bytes_eq other (files_for bench t).device) _ _
     (other-bytes other (files_for bench t).device apart.device)
     ∙ passed-by (bytes_eq other (files_for bench t).reference) _ _
     (other-bytes other (files_for bench t).reference apart.reference)
+    ∙ kept-executable (asks_elf bench) (files_for bench t).executable
+    (executable_of bench.isa t) _ other apart.executable
     ∙ passed-by (bytes_eq other (files_for bench t).test) _ _
     (other-bytes other (files_for bench t).test apart.test)
 
 kept-all : (bench : Bench) (ts : List Test) (runs : List DeviceRun) (files : Files)
-    (other : List ℕ) → ((u : Test) → Contains ts u → IsOther (files_for bench u) other)
+    (other : List ℕ)
+    → ((u : Test) → Contains ts u → IsOther (asks_elf bench) (files_for bench u) other)
     → with_all_judged bench ts runs files other ≡ files other
 kept-all bench [] runs files other apart = refl
 kept-all bench (t ∷ ts) [] files other apart = refl
@@ -157,6 +164,8 @@ kept-all bench (t ∷ ts) (run ∷ runs) files other apart =
 
 record Stands (bench : Bench) (t : Test) (runs : List DeviceRun) (files : Files) : Type 0 where
   test : files (files_for bench t).test ≡ Some t.text
+  executable : IsTrue (asks_elf bench)
+      → files (files_for bench t).executable ≡ Some (executable_of bench.isa t)
   reference : files (files_for bench t).reference
       ≡ Some (text_of_words (reference_words bench.isa t))
   run : DeviceRun
@@ -172,17 +181,30 @@ stands-first bench t ts run runs files is apart =
     let work = bench.work in
     let name = t.name in
     let own = files_for bench t in
+    let wants = asks_elf bench in
+    let executable = executable_of bench.isa t in
     let now = with_judged bench t run files in
     record {
       test = kept-all bench ts runs now own.test
-          (λ u there. test-other work name u.name (apart u there))
+          (λ u there. test-other wants work name u.name (apart u there))
           ∙ passed-by (bytes_eq own.test own.device) _ _
           (other-bytes own.test own.device (not-device work name name))
           ∙ passed-by (bytes_eq own.test own.reference) _ _
           (other-bytes own.test own.reference (not-reference work name name))
+          ∙ kept-executable wants own.executable executable _ own.test
+          (λ wanted. not-executable work name name)
           ∙ found-in (bytes_eq own.test own.test) _ _ (same-bytes own.test);
+      executable = λ wanted. kept-all bench ts runs now own.executable
+          (λ u there. executable-other wants work name u.name (apart u there))
+          ∙ passed-by (bytes_eq own.executable own.device) _ _
+          (other-bytes own.executable own.device
+          (λ same. device-not-executable work name name (sym same)))
+          ∙ passed-by (bytes_eq own.executable own.reference) _ _
+          (other-bytes own.executable own.reference
+          (λ same. reference-not-executable work name name (sym same)))
+          ∙ there-executable wants own.executable executable _ wanted;
       reference = kept-all bench ts runs now own.reference
-          (λ u there. reference-other work name u.name (apart u there))
+          (λ u there. reference-other wants work name u.name (apart u there))
           ∙ passed-by (bytes_eq own.reference own.device) _ _
           (other-bytes own.reference own.device (apart-signatures work name name))
           ∙ found-in (bytes_eq own.reference own.reference) _ _ (same-bytes own.reference);
@@ -190,7 +212,7 @@ stands-first bench t ts run runs files is apart =
       is_run = is;
       among = (0, omega arith, refl);
       device = kept-all bench ts runs now own.device
-          (λ u there. device-other work name u.name (apart u there))
+          (λ u there. device-other wants work name u.name (apart u there))
           ∙ found-in (bytes_eq own.device own.device) _ _ (same-bytes own.device);
     }
 
@@ -208,6 +230,7 @@ all-stand bench (t ∷ ts) (run ∷ runs) files u each apart (suc i, within, at)
     (i, omega (arith, within), at) in
     record {
       test = s.test;
+      executable = s.executable;
       reference = s.reference;
       run = s.run;
       is_run = s.is_run;
@@ -241,6 +264,8 @@ files-stand {call} program work inputs end files files' test judged old new apar
     (apart-tests inputs.groups.isa inputs.groups.groups apart) there in
     record {
       text = ap (λ (f : Files). f (files_of work test.name).test) same ∙ s.test;
+      executable = λ wanted.
+          ap (λ (f : Files). f (files_of work test.name).executable) same ∙ s.executable wanted;
       reference = ap (λ (f : Files). f (files_of work test.name).reference) same ∙ s.reference;
       run = s.run;
       is_run = s.is_run;

@@ -29,11 +29,13 @@ use Rattle.rvs_suite.specs.Generate.{path_of, writes_text, writes_test, writes_t
 use Rattle.rvs_suite.specs.Generate.{generates}
 use Rattle.rvs_suite.specs.Normalize.{print_normal}
 use Rattle.rvs_suite.specs.Printing.{print_text}
-use Rattle.rvs_suite.specs.Coverage.{reported}
+use Rattle.rvs_suite.specs.Coverage as covering
+use Rattle.rvs_suite.specs.Propagate as propagating
 use Rattle.rvs_suite.specs.Reference.{test_limit, trial, records, reference_on}
 use Rattle.rvs_suite.specs.TestRun.{accepted, test_found}
 use Rattle.rvs_suite.specs.Tests.{tests_of}
-use Rattle.rvs_suite.specs.RunTests.{Bench, judges_one, with_one, judges_all, tallies, RunInputs}
+use Rattle.rvs_suite.specs.RunTests.{Bench, judges_made, made_for, announces, judges_one, with_one}
+use Rattle.rvs_suite.specs.RunTests.{judges_all, tallies, RunInputs}
 use Rattle.rvs_suite.specs.RunTests.{run_inputs, bench_of, runs}
 use Rattle.rvs_suite.specs.Plans.{plan_of, ReadsFirst}
 use Rattle.rvs_suite.proofs.Ends.{was_refused, WasMissing, was_missing}
@@ -45,9 +47,11 @@ use Rattle.rvs_suite.proofs.Running.{Ran, answers}
 use Rattle.rvs_words.specs.declared.command.Command.{Command}
 use Rattle.rvs_words.specs.declared.command.Command.TheVariants.{Unknown, Compare, Validate}
 use Rattle.rvs_words.specs.declared.command.Command.TheVariants.{Normalize, Generate, Reference}
-use Rattle.rvs_words.specs.declared.command.Command.TheVariants.{Coverage, Run, Demo}
+use Rattle.rvs_words.specs.declared.command.Command.TheVariants.{Coverage, Propagate, Run, Demo}
 use Rattle.rvs_suite.specs.declared.test_run.Run.{Run as TestRun}
 use Rattle.rvs_suite.specs.declared.gathering.Test.{Test}
+use Rattle.rvs_suite.specs.declared.judging.Made.{Made}
+use Rattle.rvs_suite.specs.declared.test_files.TestFiles.{TestFiles}
 
 -- a plan that doesn't stop, whatever is found and answered
 abbrev pub NeverStops : {A : Type 0} → Plan A → Type 0
@@ -159,11 +163,19 @@ generates-on work inputs = never-then (written_tests work inputs.isa inputs.grou
     (λ _. gives (listing inputs.isa inputs.groups)) (tests-on work inputs.isa inputs.groups)
     (λ _. tt)) (λ text. tt)
 
+made-on : (bench : Bench) (text name : List ℕ) (files : TestFiles) (words : List ℕ)
+    (executable : Option (List ℕ)) → NeverStops (judges_made bench text
+    (record { files = files; executable = executable; words = words }) >>= announces name)
+made-on bench text name files words None = λ answer found. tt
+made-on bench text name files words (Some executable) = λ answer found. tt
+
 judges-on : (bench : Bench) (passed : ℕ) (tests : List Test)
     → NeverStops (judges_all bench passed tests)
 judges-on bench passed [] = tt
 judges-on bench passed (test ∷ tests) = never-then (judges_one bench test)
-    (λ pass. judges_all bench (with_one passed pass) tests) (λ answer found. tt)
+    (λ pass. judges_all bench (with_one passed pass) tests)
+    (let made = made_for bench test in
+    made-on bench test.text test.name made.files made.words made.executable)
     (λ pass. judges-on bench (with_one passed pass) tests)
 
 pub runs-on : (program work : List ℕ) (inputs : RunInputs) → NeverStops (runs program work inputs)
@@ -202,7 +214,12 @@ stops_untouched (Run asked) first =
     absurd (goes-on (runs asked.program asked.work inputs) effects stop
     (runs-on asked.program asked.work inputs) goes))
 stops_untouched (Coverage asked) first =
-    untouched-then (reported asked) print_text (reads-reported asked)
+    untouched-then (covering.reported asked) print_text
+    (reads-reported (covering.reports asked.windows) asked.isa asked.groups asked.log)
+    (λ report effects stop c goes. absurd (goes-on (print_text report) effects stop tt goes))
+stops_untouched (Propagate asked) first =
+    untouched-then (propagating.reported asked) print_text
+    (reads-reported (propagating.reports asked.signature) asked.isa asked.groups asked.log)
     (λ report effects stop c goes. absurd (goes-on (print_text report) effects stop tt goes))
 stops_untouched (Demo count) first =
     λ effects stop c goes. absurd (goes-on (demonstrate count) effects stop tt goes)

@@ -14,9 +14,10 @@ use Rattle.rvs_count.specs.Report.{report_of}
 use Rattle.rvs_base.specs.declared.asked.Window.{Window}
 use Rattle.rvs_suite.specs.Answered.{Answered, OnDone}
 use Rattle.rvs_suite.specs.Call.{Call, Asks}
-use Rattle.rvs_suite.specs.Coverage.{log_limit, report_in}
+use Rattle.rvs_suite.specs.Coverage.{report_in}
+use Rattle.rvs_suite.specs.LogReport.{log_limit}
 use Rattle.rvs_suite.specs.GroupFiles.{Inputs, inputs_in}
-use Rattle.rvs_suite.specs.Halting.{BothHalt}
+use Rattle.rvs_suite.specs.Halting.{BothHalt, HoldsOctets}
 use Rattle.rvs_suite.specs.declared.test_run.Run.{Run}
 use Rattle.rvs_words.specs.declared.command.Command.TheVariants.{Coverage}
 use Rattle.rvs_words.specs.declared.command.CoverageArguments.{CoverageArguments}
@@ -55,6 +56,7 @@ pub record Covers (call : Call) (files : Files) (asked : CoverageArguments) : Ty
   -- so of the log that `reference` writes of a test it counts what the test's run hits
   pub of_run : (inputs : Inputs) (test : List ℕ) (steps : Option ℕ) (run : Run)
       → inputs_in files asked.isa asked.groups ≡ Ok inputs → BothHalt files asked.isa test steps run
+      → HoldsOctets files test
       → files asked.log ≡ Some (log_of run.trace) → length (log_of run.trace) ≤ log_limit
       → call.status ≡ Done → HasReported call (report_of inputs.groups
       (map (count (kept asked.windows (map as_entry run.trace))) (aims_of inputs.groups))

@@ -8,10 +8,17 @@ use Rattle.rvs_plan.specs.declared.stop.Stop.{Stop}
 use Rattle.rvs_plan.specs.declared.status.Finish.{Finish}
 use Rattle.rvs_plan.specs.declared.status.Status.TheVariants.{Done, NotPassed}
 use Rattle.rvs_sig.specs.Words.{text_of_words}
+use Rattle.rvs_insn.specs.Isa.{Isa}
+use Rattle.rvs_machine.specs.Image.{ImageValue}
+use Rattle.rvs_elf.specs.Executable.{image_of_elf}
+use Rattle.rvs_elf.specs.Laws.{RunsAs}
+use Rattle.rvs_elf.specs.Written.{elf_of}
+use Rattle.rvs_asm.specs.Answer.{answer}
 use Rattle.rvs_cgf.specs.Groups.{Label}
 use Rattle.rvs_normal.specs.Again.{names_are_apart}
 use Rattle.rvs_solver.specs.Solving.{IsSolvableAt}
 use Rattle.rvs_test.specs.Made.{text_of_label}
+use Rattle.rvs_device.specs.Command.{wants_elf}
 use Rattle.rvs_device.specs.Judging.{Spells, Task, task}
 use Rattle.rvs_device.specs.declared.verdicts.TestVerdict.TheVariants.{Pass}
 use Rattle.rvs_suite.specs.Answered.{Answered}
@@ -22,10 +29,10 @@ use Rattle.rvs_suite.specs.GroupFiles.{and_then, inputs_in}
 use Rattle.rvs_suite.specs.DeviceInput.{device_in}
 use Rattle.rvs_suite.specs.Tested.{AreTested}
 use Rattle.rvs_suite.specs.Headline.{IsProved, HasProvedTest}
-use Rattle.rvs_suite.specs.Tests.{IsRunnable, reference_words, tests_of}
+use Rattle.rvs_suite.specs.Tests.{IsRunnable, reference_words, executable_of, tests_of}
 use Rattle.rvs_suite.specs.TestFiles.{IsOther, files_of}
-use Rattle.rvs_suite.specs.RunTests.{Bench, files_for, tally_line, verdict_of_all, RunInputs}
-use Rattle.rvs_suite.specs.RunTests.{bench_of}
+use Rattle.rvs_suite.specs.RunTests.{Bench, files_for, asks_elf, tally_line, verdict_of_all}
+use Rattle.rvs_suite.specs.RunTests.{RunInputs, bench_of}
 use Rattle.rvs_suite.specs.RunLeft.{IsRunOf, AreRunsOf, verdict_by, verdict_lines, passed_onto}
 use Rattle.rvs_suite.specs.RunLeft.{with_all_judged}
 use Rattle.rvs_suite.specs.declared.gathering.Test.{Test}
@@ -65,7 +72,8 @@ pub record HasJudged (call : Call) (program work : List ℕ) (end : Finish)
 abbrev pub task_of : Bench → Test → Task
 task_of bench test =
     task bench.device.command bench.program (files_for bench test).test
-    (files_for bench test).device (reference_words bench.isa test)
+    (files_for bench test).executable (files_for bench test).device
+    (reference_words bench.isa test)
 
 -- a test passes exactly where what its run left spells the words of the reference machine
 abbrev pub PassesBySpelling : Bench → Test → DeviceRun → Type 0
@@ -73,10 +81,22 @@ PassesBySpelling bench test run =
     (verdict_by bench test run ≡ Pass (length (reference_words bench.isa test)) run.status)
     ↔ Spells (task_of bench test) run.after
 
--- the files of a test that was judged: its text, the words of the reference machine, and what the
--- one run of the device on it left
+-- An executable of a test: it is written of the image that stands to the test, and is read as one
+-- that runs as this does.
+pub record IsExecutableOf (isa : Isa) (test : Test) (bytes : List ℕ) : Type 0 where
+  pub image : ImageValue
+  pub assembled : answer isa test.text ≡ Ok image
+  pub written : bytes ≡ elf_of image
+  pub again : ImageValue
+  pub read : image_of_elf bytes ≡ Ok again
+  pub alike : RunsAs again image
+
+-- the files of a test that was judged: its text, its executable where the device asks for it, the
+-- words of the reference machine, and what the one run of the device on it left
 pub record HasTestFiles (call : Call) (bench : Bench) (test : Test) (files' : Files) : Type 0 where
   pub text : files' (files_for bench test).test ≡ Some test.text
+  pub executable : IsTrue (asks_elf bench)
+      → files' (files_for bench test).executable ≡ Some (executable_of bench.isa test)
   pub reference : files' (files_for bench test).reference
       ≡ Some (text_of_words (reference_words bench.isa test))
   pub run : DeviceRun
@@ -109,11 +129,15 @@ pub record Runs (call : Call) (files : Files) (asked : RunArguments) : Type 0 wh
       → run_inputs_in files asked ≡ Ok inputs → Contains inputs.groups.groups l
       → IsTrue l.selected → text_of_label inputs.groups.isa l ≡ Some text
       → IsProved inputs.groups.isa l text
-  -- where all tests were judged, the three files of each are there
+  -- where all tests were judged, the files of each are there
   pub there : (inputs : RunInputs) (test : Test) (files' : Files)
       → run_inputs_in files asked ≡ Ok inputs → Contains (tests_in inputs) test
       → (call.status ≡ Done) ⊎ (call.status ≡ NotPassed) → call.new.host.files ≡ Some files'
       → HasTestFiles call (bench_of asked.program asked.work inputs) test files'
+  -- the executable of each runs as the test does
+  pub executables : (inputs : RunInputs) (test : Test)
+      → run_inputs_in files asked ≡ Ok inputs → Contains (tests_in inputs) test
+      → IsExecutableOf inputs.groups.isa test (executable_of inputs.groups.isa test)
   -- an image stands to each test, and the reference machine halts on it within the test's steps
   pub runnable : (inputs : RunInputs) (test : Test)
       → run_inputs_in files asked ≡ Ok inputs
@@ -131,7 +155,8 @@ pub record Runs (call : Call) (files : Files) (asked : RunArguments) : Type 0 wh
   -- it changes no file but those of its tests, however it ends
   pub others_kept : (files' : Files) (other : List ℕ)
       → ((inputs : RunInputs) (test : Test) → run_inputs_in files asked ≡ Ok inputs
-      → Contains (tests_in inputs) test → IsOther (files_of asked.work test.name) other)
+      → Contains (tests_in inputs) test → IsOther (wants_elf inputs.device.command)
+      (files_of asked.work test.name) other)
       → call.new.host.files ≡ Some files' → files' other ≡ files other
 
 -- the same of every call: over told files, where its words ask for `run`

@@ -22,8 +22,11 @@ pub mod Seen
 pub mod GroupsView
 pub mod Normalize
 pub mod Normalizing
+pub mod LogReport
 pub mod Coverage
 pub mod Covering
+pub mod Propagate
+pub mod Propagating
 pub mod GenerateTexts
 pub mod GenerateView
 pub mod Tested

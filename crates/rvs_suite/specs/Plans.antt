@@ -11,6 +11,7 @@ use Rattle.rvs_words.specs.Commands.{command_of}
 use Rattle.rvs_suite.specs.Compare as comparing
 use Rattle.rvs_suite.specs.Validate as validating
 use Rattle.rvs_suite.specs.Coverage as covering
+use Rattle.rvs_suite.specs.Propagate as propagating
 use Rattle.rvs_suite.specs.Generate as generating
 use Rattle.rvs_suite.specs.Normalize as normalizing
 use Rattle.rvs_suite.specs.Reference as running
@@ -19,7 +20,7 @@ use Rattle.rvs_suite.specs.Demonstrate as demonstrating
 use Rattle.rvs_words.specs.declared.command.Command.{Command}
 use Rattle.rvs_words.specs.declared.command.Command.TheVariants.{Unknown, Compare, Validate}
 use Rattle.rvs_words.specs.declared.command.Command.TheVariants.{Normalize, Generate, Reference}
-use Rattle.rvs_words.specs.declared.command.Command.TheVariants.{Coverage, Run, Demo}
+use Rattle.rvs_words.specs.declared.command.Command.TheVariants.{Coverage, Propagate, Run, Demo}
 
 -- the plan of a command
 abbrev pub plan_of : Command → Plan Finish
@@ -30,6 +31,7 @@ plan_of (Normalize asked) = normalizing.normalize asked
 plan_of (Generate asked) = generating.generate asked
 plan_of (Reference asked) = running.reference asked
 plan_of (Coverage asked) = covering.coverage asked
+plan_of (Propagate asked) = propagating.propagate asked
 plan_of (Run asked) = judging.run asked
 plan_of (Demo count) = demonstrating.demonstrate count
 

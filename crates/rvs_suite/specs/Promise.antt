@@ -8,6 +8,7 @@ use Rattle.rvs_suite.specs.Normalizing as normalizing
 use Rattle.rvs_suite.specs.Generating as generating
 use Rattle.rvs_suite.specs.Referencing as referencing
 use Rattle.rvs_suite.specs.Covering as covering
+use Rattle.rvs_suite.specs.Propagating as propagating
 use Rattle.rvs_suite.specs.Judging as judging
 use Rattle.rvs_suite.specs.Demonstrating as demonstrating
 
@@ -32,6 +33,8 @@ pub record Promise (call : Call) : Type 0 where
   pub reference : referencing.Promise call
   -- it counts the log's instructions that hit each point
   pub coverage : covering.Promise call
+  -- it counts how many of these hits have their result stored in the signature
+  pub propagate : propagating.Promise call
   -- it makes the same tests, and passes where the device leaves the reference's words on each
   pub run : judging.Promise call
   -- it puts the report of the run of the stated program

@@ -1,5 +1,5 @@
 -- What `run` leaves: the runs of the device, the files, and the verdicts.
-use Rattle.std.specs.Prelude.{◌≡◌, ℕ, List, [], ◌∷◌, ◌++◌, Some, ⊤}
+use Rattle.std.specs.Prelude.{◌≡◌, ℕ, List, [], ◌∷◌, ◌++◌, Option, Some, None, ⊤}
 use Rattle.rvs_base.specs.Host.{Files, with_file, with_left}
 use Rattle.rvs_base.specs.declared.host.DeviceRun.{DeviceRun}
 use Rattle.rvs_sig.specs.Words.{text_of_words}
@@ -8,15 +8,15 @@ use Rattle.rvs_device.specs.Judged.{verdict_on}
 use Rattle.rvs_device.specs.Printed.{verdict_line}
 use Rattle.rvs_device.specs.declared.verdicts.TestVerdict.{TestVerdict}
 use Rattle.rvs_suite.specs.Tests.{reference_words}
-use Rattle.rvs_suite.specs.RunTests.{Bench, files_for, passes, with_one}
+use Rattle.rvs_suite.specs.RunTests.{Bench, files_for, executable_for, passes, with_one}
 use Rattle.rvs_suite.specs.declared.gathering.Test.{Test}
 
 -- a run of the device on a test: with the device's words, the test's text in its file, and an empty
 -- signature file before
 pub record IsRunOf (bench : Bench) (test : Test) (run : DeviceRun) : Type 0 where
   pub words : run.words
-      ≡ started_with bench.program (files_for bench test).test (files_for bench test).device
-      bench.device.command
+      ≡ started_with bench.program (files_for bench test).test (files_for bench test).executable
+      (files_for bench test).device bench.device.command
   pub text : run.test ≡ Some test.text
   pub before : run.before ≡ Some []
 
@@ -43,12 +43,23 @@ passed_onto bench passed (test ∷ tests) (run ∷ runs) =
     passed_onto bench (with_one passed (passes (verdict_by bench test run))) tests runs
 passed_onto bench passed tests runs = passed
 
--- the files with a test, the words that it leaves on the reference machine, and what its run left
+-- the files with an executable, where there is one
+abbrev pub with_executable : List ℕ → Option (List ℕ) → Files → Files
+with_executable name None files = files
+with_executable name (Some executable) files = with_file name executable files
+
+-- the files with a test, its executable where the device asks for it, and the words that it leaves
+-- on the reference machine
+abbrev pub with_written : Bench → Test → Files → Files
+with_written bench test files =
+    with_file (files_for bench test).reference (text_of_words (reference_words bench.isa test))
+    (with_executable (files_for bench test).executable (executable_for bench test)
+    (with_file (files_for bench test).test test.text files))
+
+-- the same with what its run left
 abbrev pub with_judged : Bench → Test → DeviceRun → Files → Files
 with_judged bench test run files =
-    with_left (files_for bench test).device run.after
-    (with_file (files_for bench test).reference (text_of_words (reference_words bench.isa test))
-    (with_file (files_for bench test).test test.text files))
+    with_left (files_for bench test).device run.after (with_written bench test files)
 
 -- the same of all tests
 abbrev pub with_all_judged : Bench → List Test → List DeviceRun → Files → Files

@@ -1,12 +1,13 @@
 -- What `run` does.
 use Rattle.std.specs.Prelude.{ℕ, ◌+◌, ◌-◌, ◌==◌, Bool, true, false, if◌then◌else◌, List, [], ◌∷◌}
-use Rattle.std.specs.Prelude.{◌++◌, length, codes, decimal}
+use Rattle.std.specs.Prelude.{◌++◌, length, codes, decimal, Option, Some, None}
 use Rattle.rvs_plan.specs.Plan.{Plan, gives, prints, writes, ◌>>=◌}
 use Rattle.rvs_plan.specs.declared.status.Finish.{Finish}
 use Rattle.rvs_plan.specs.declared.status.Finish.TheVariants.{Done, NotPassed}
 use Rattle.rvs_insn.specs.Isa.{Isa}
 use Rattle.rvs_sig.specs.Words.{text_of_words}
 use Rattle.rvs_cgf.specs.Groups.{Label}
+use Rattle.rvs_device.specs.Command.{wants_elf}
 use Rattle.rvs_device.specs.DeviceFile.{Told}
 use Rattle.rvs_device.specs.Plans.{judged}
 use Rattle.rvs_device.specs.Judging.{task}
@@ -16,9 +17,10 @@ use Rattle.rvs_device.specs.declared.verdicts.TestVerdict.TheVariants.{Pass}
 use Rattle.rvs_suite.specs.GroupFiles.{Inputs, group_inputs}
 use Rattle.rvs_suite.specs.GenerateTexts.{listing}
 use Rattle.rvs_suite.specs.TestFiles.{files_of}
-use Rattle.rvs_suite.specs.Tests.{reference_words, tests_of}
+use Rattle.rvs_suite.specs.Tests.{reference_words, executable_of, tests_of}
 use Rattle.rvs_suite.specs.DeviceInput.{device_file}
 use Rattle.rvs_suite.specs.declared.gathering.Test.{Test}
+use Rattle.rvs_suite.specs.declared.judging.Made.{Made}
 use Rattle.rvs_suite.specs.declared.test_files.TestFiles.{TestFiles}
 use Rattle.rvs_words.specs.declared.command.RunArguments.{RunArguments}
 
@@ -33,6 +35,26 @@ pub record Bench : Type 0 where
 abbrev pub files_for : Bench → Test → TestFiles
 files_for bench test = files_of bench.work test.name
 
+-- the device asks for the executables of tests
+abbrev pub asks_elf : Bench → Bool
+asks_elf bench = wants_elf bench.device.command
+
+abbrev pub if_asked : Bool → List ℕ → Option (List ℕ)
+if_asked true executable = Some executable
+if_asked false executable = None
+
+-- the executable of a test, where the device asks for it
+abbrev pub executable_for : Bench → Test → Option (List ℕ)
+executable_for bench test = if_asked (asks_elf bench) (executable_of bench.isa test)
+
+-- what comes of a test before it is judged
+abbrev pub made_for : Bench → Test → Made
+made_for bench test = record {
+  files = files_for bench test;
+  executable = executable_for bench test;
+  words = reference_words bench.isa test;
+}
+
 -- how many tests there are, passed, and didn't pass
 unfoldable pub tally_line : ℕ → ℕ → List ℕ
 tally_line tests passed =
@@ -42,18 +64,29 @@ tally_line tests passed =
 -- the device is run on the test in these files, and judged by these words
 abbrev pub judges_by : Bench → TestFiles → List ℕ → Plan TestVerdict
 judges_by bench files words =
-    judged (task bench.device.command bench.program files.test files.device words)
+    judged (task bench.device.command bench.program files.test files.executable files.device words)
 
--- a test is written, and then the words that it leaves on the reference machine; the device is run
--- on it and judged by these
-abbrev pub judges_in : Bench → TestFiles → Test → Plan TestVerdict
-judges_in bench files test = do
-  _ ← writes files.test test.text
-  _ ← writes files.reference (text_of_words (reference_words bench.isa test))
-  judges_by bench files (reference_words bench.isa test)
+-- the words are written, and then the device is run
+abbrev pub judges_words : Bench → TestFiles → List ℕ → Plan TestVerdict
+judges_words bench files words = do
+  _ ← writes files.reference (text_of_words words)
+  judges_by bench files words
+
+-- an executable is written where there is one
+abbrev pub writes_executable : List ℕ → Option (List ℕ) → Plan (Unit {0})
+writes_executable name None = gives tt
+writes_executable name (Some executable) = writes name executable
+
+-- a test is written, then its executable where the device asks for it, and then the words that it
+-- leaves on the reference machine; the device is run on it and judged by these
+abbrev pub judges_made : Bench → List ℕ → Made → Plan TestVerdict
+judges_made bench text made = do
+  _ ← writes made.files.test text
+  _ ← writes_executable made.files.executable made.executable
+  judges_words bench made.files made.words
 
 abbrev pub judges : Bench → Test → Plan TestVerdict
-judges bench test = judges_in bench (files_for bench test) test
+judges bench test = judges_made bench test.text (made_for bench test)
 
 abbrev pub passes : TestVerdict → Bool
 passes (Pass n status) = true

@@ -1,5 +1,5 @@
 -- What comes of a test file: its image, and the run of that.
-use Rattle.std.specs.Prelude.{◌≡◌, ℕ, Bool, nat_eq, if◌then◌else◌, List, Option, Some, None}
+use Rattle.std.specs.Prelude.{◌≡◌, ◌||◌, ℕ, Bool, nat_eq, if◌then◌else◌, List, Option, Some, None}
 use Rattle.std.specs.Prelude.{unwrap_or, Result, Ok, Err, codes, ⊤}
 use Rattle.std.specs.List.{ends_with}
 use Rattle.rvs_plan.specs.Plan.{Plan, Ends}
@@ -16,10 +16,13 @@ use Rattle.rvs_machine.specs.declared.reading.ImageRefusal.{ImageRefusal}
 use Rattle.rvs_machine.specs.declared.event.End.{End}
 use Rattle.rvs_machine.specs.declared.event.Executed.{Executed}
 use Rattle.rvs_machine.specs.declared.event.End.TheVariants as ended
+use Rattle.rvs_elf.specs.Executable.{image_of_elf}
+use Rattle.rvs_elf.specs.declared.refusal.ElfRefusal.{ElfRefusal}
 use Rattle.rvs_asm_text.specs.Header.{header_steps}
 use Rattle.rvs_asm.specs.Answer.{answer}
 use Rattle.rvs_asm.specs.declared.refusal.AsmRefusal.{AsmRefusal}
-use Rattle.rvs_suite.specs.TestTexts.{image_text, asm_text, trap_text, steps_text}
+use Rattle.rvs_suite.specs.TestTexts.{image_text, elf_text, asm_text, trap_text}
+use Rattle.rvs_suite.specs.TestTexts.{steps_text}
 use Rattle.rvs_suite.specs.declared.test_run.Run.{Run}
 
 -- a value, or the text that says why an input is refused, as an end
@@ -53,18 +56,27 @@ Accepts found (Err SinkFault) = ⊥
 abbrev pub is_image_name : List ℕ → Bool
 is_image_name name = ends_with nat_eq name (codes ".img")
 
+-- and that of an executable with `.elf`
+abbrev pub is_executable_name : List ℕ → Bool
+is_executable_name name = ends_with nat_eq name (codes ".elf")
+
 abbrev pub file_found : List ℕ → Result ImageValue ImageRefusal → Result ImageValue (List ℕ)
 file_found name (Ok image) = Ok image
 file_found name (Err refusal) = Err (image_text name refusal)
+
+abbrev pub executable_found : List ℕ → Result ImageValue ElfRefusal → Result ImageValue (List ℕ)
+executable_found name (Ok image) = Ok image
+executable_found name (Err refusal) = Err (elf_text name refusal)
 
 abbrev pub text_found : List ℕ → Result ImageValue AsmRefusal → Result ImageValue (List ℕ)
 text_found name (Ok image) = Ok image
 text_found name (Err refusal) = Err (asm_text name refusal)
 
--- the image of a test file, which is an image file or assembler text
+-- the image of a test file, which is an image file, an executable or assembler text
 abbrev pub image_found : Isa → List ℕ → List ℕ → Result ImageValue (List ℕ)
 image_found isa name bytes = if is_image_name name then file_found name (image_of_bytes bytes)
-    else text_found name (answer isa bytes)
+    else (if is_executable_name name then executable_found name (image_of_elf bytes)
+    else text_found name (answer isa bytes))
 
 -- how many instructions a test may have, where nothing says it
 abbrev pub usual_limit : ℕ
@@ -73,7 +85,7 @@ usual_limit = 1_000_000
 -- how many instructions a test may have: what was asked for, or what the header of its text says
 abbrev pub limit_of : Option ℕ → List ℕ → List ℕ → ℕ
 limit_of (Some steps) name bytes = steps
-limit_of None name bytes = if is_image_name name then usual_limit
+limit_of None name bytes = if is_image_name name || is_executable_name name then usual_limit
     else unwrap_or (header_steps bytes) usual_limit
 
 -- what a run leaves
@@ -100,11 +112,6 @@ run_found name limit isa image = outcome_end name limit (started image isa).setu
 abbrev pub with_trace : List Executed → Result (List ℕ) Stop → Result Run Stop
 with_trace trace (Ok words) = Ok (record { words = words; trace = trace })
 with_trace trace (Err stop) = Err stop
-
--- the run of assembler text, of at most so many instructions
-abbrev pub text_run : ℕ → Isa → List ℕ → List ℕ → Result Run (List ℕ)
-text_run limit isa name bytes =
-    then_found (text_found name (answer isa bytes)) (run_found name limit isa)
 
 -- the run of a test file
 abbrev pub test_found : Option ℕ → Isa → List ℕ → List ℕ → Result Run (List ℕ)

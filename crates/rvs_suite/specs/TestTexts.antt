@@ -10,6 +10,10 @@ use Rattle.rvs_machine.specs.declared.event.TrapKind.{TrapKind}
 use Rattle.rvs_machine.specs.declared.event.TrapKind.TheVariants.{Illegal, MisalignedTarget}
 use Rattle.rvs_machine.specs.declared.event.TrapKind.TheVariants.{MisalignedAccess, AccessFault}
 use Rattle.rvs_machine.specs.declared.event.TrapKind.TheVariants.{Ecall, Ebreak}
+use Rattle.rvs_elf.specs.Numbers.{refusal_number}
+use Rattle.rvs_elf.specs.declared.refusal.ElfRefusal.{ElfRefusal}
+use Rattle.rvs_elf.specs.declared.refusal.ElfRefusal.TheVariants.{BadSegment}
+use Rattle.rvs_elf.specs.declared.refusal.ElfRefusal.TheVariants.{MissingSymbol as Missing}
 use Rattle.rvs_asm.specs.KindNumbers.{kind_number}
 use Rattle.rvs_asm.specs.declared.refusal.AsmRefusal.{AsmRefusal}
 use Rattle.rvs_asm.specs.declared.refusal.AsmKind.{AsmKind}
@@ -31,6 +35,17 @@ asm_detail kind = []
 unfoldable pub asm_text : List ℕ → AsmRefusal → List ℕ
 asm_text name refusal = name ++ (codes ": asm " ++ (decimal (kind_number refusal.kind)
     ++ (codes " line " ++ (decimal refusal.line ++ asm_detail refusal.kind))))
+
+-- the segment that can't be loaded, or the symbol that is missing
+abbrev pub elf_detail : ElfRefusal → List ℕ
+elf_detail (BadSegment index) = codes " index " ++ decimal index
+elf_detail (Missing name) = codes " name " ++ name
+elf_detail refusal = []
+
+-- why the named file is no executable: the number of the fault's kind, and what it names
+unfoldable pub elf_text : List ℕ → ElfRefusal → List ℕ
+elf_text name refusal =
+    name ++ (codes ": elf " ++ (decimal (refusal_number refusal) ++ elf_detail refusal))
 
 -- the word that isn't an instruction of the core, or the address that can't be reached
 abbrev pub trap_detail : TrapKind → List ℕ

@@ -7,6 +7,7 @@ use Rattle.rvs_machine.specs.Image.{ImageValue}
 use Rattle.rvs_machine.specs.Machine.{started}
 use Rattle.rvs_machine.specs.Run.{Outcome, run_of}
 use Rattle.rvs_machine.specs.declared.event.End.TheVariants.{Halted}
+use Rattle.rvs_elf.specs.Written.{elf_of}
 use Rattle.rvs_asm.specs.Answer.{answer}
 use Rattle.rvs_asm.specs.declared.refusal.AsmRefusal.{AsmRefusal}
 use Rattle.rvs_cgf.specs.Groups.{Label}
@@ -45,3 +46,11 @@ words_of_image isa limit (Err refusal) = []
 -- the words of the signature when the run of a test has ended; each test is runnable
 unfoldable pub reference_words : Isa → Test → List ℕ
 reference_words isa test = words_of_image isa test.steps (answer isa test.text)
+
+abbrev pub elf_of_image : Result ImageValue AsmRefusal → List ℕ
+elf_of_image (Ok image) = elf_of image
+elf_of_image (Err refusal) = []
+
+-- the executable of a test; an image stands to each test
+unfoldable pub executable_of : Isa → Test → List ℕ
+executable_of isa test = elf_of_image (answer isa test.text)

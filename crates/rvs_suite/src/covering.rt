@@ -20,7 +20,7 @@ use rvs_words::{CoverageArguments, owned};
 use std::alloc::Global;
 
 /// The greatest length of a log in bytes: 2^40.
-const LOG_LIMIT: u64 = 1 << 40;
+pub(crate) const LOG_LIMIT: u64 = 1 << 40;
 
 /// Counts which points of coverage groups the instructions of a log hit, and puts the report. Where
 /// windows are given, the instructions in them alone are counted. The log is read in one pass, in

@@ -1,24 +1,30 @@
 // The judging of one test.
-ghost use Rattle.std.specs.Prelude.{◌≡◌, Ok};
+ghost use Rattle.std.specs.Prelude.{◌≡◌, Ok, IfOk, IfErr};
 ghost use Rattle.rvs_base.specs.Host.{HostState};
 ghost use Rattle.rvs_base.specs.Sink.{SinkState};
 ghost use Rattle.rvs_plan.specs.World.{world, IsAnswer};
 ghost use Rattle.rvs_plan.specs.Plan.{writes};
 ghost use Rattle.rvs_plan.specs.Meets.{MeetsWith, Meets};
 ghost use Rattle.rvs_sig.specs.Words.{text_of_words};
+ghost use Rattle.rvs_elf.specs.Written.{elf_of};
+ghost use Rattle.rvs_asm.specs.Answer.{answer};
+ghost use Rattle.rvs_device.specs.Command.{wants_elf};
 ghost use Rattle.rvs_device.specs.Judging.{Task};
 ghost use Rattle.rvs_device.specs.Plans.{stopped};
 ghost use Rattle.rvs_suite.specs.TestRun.{Accepts};
 ghost use Rattle.rvs_suite.specs.Tests.{IsRunnable, reference_words};
-ghost use Rattle.rvs_suite.specs.RunTests.{judges_by, judges, passes, announces, judges_one};
+ghost use Rattle.rvs_suite.specs.RunTests.{if_asked, made_for, writes_executable, judges_by};
+ghost use Rattle.rvs_suite.specs.RunTests.{judges_words, judges, passes, announces, judges_one};
 ghost use Rattle.rvs_suite.specs.RunView.{bench_view};
 
 use crate::gathering::Test;
 use crate::test_files::TestFiles;
-use crate::test_run::run_text;
-use rvs_base::{Host, Items, Sink, Text};
+use crate::test_run::{image_of_text, run_image};
+use rvs_base::{Bytes, Host, Items, NoMemory, Sink, Text};
 use rvs_device::{Device, JudgeFault, TestVerdict, judge, verdict_line};
+use rvs_elf::write_elf;
 use rvs_insn::IsaSpec;
+use rvs_machine::Image;
 use rvs_plan::{Stop, print, write_output};
 use rvs_sig::print_words;
 use rvs_words::owned;
@@ -33,6 +39,16 @@ pub struct Bench {
     /// The folder of the tests and signatures.
     pub work: Text,
     pub isa: IsaSpec,
+}
+
+/// What comes of a test before it is judged.
+#[derive(Drop)]
+pub struct Made {
+    files: TestFiles,
+    /// The executable, where the device asks for it.
+    executable: Option<Bytes>,
+    /// The words that the test leaves on the reference machine.
+    words: Items<u32>,
 }
 
 /// Judges a test, puts the verdict, and says whether it passes.
@@ -52,8 +68,8 @@ pub fn judge_one<H: Host, O: Sink>(
     print_verdict(alloc, test.name.as_str(), &verdict, out)
 }
 
-/// Writes a test and the words that it leaves on the reference machine, and judges the device by
-/// them.
+/// Writes a test, its executable where the device asks for it, and the words that it leaves on the
+/// reference machine, and judges the device by them.
 fn judge_test<H: Host>(
     alloc: Global,
     host: &mut H,
@@ -64,20 +80,60 @@ fn judge_test<H: Host>(
     ensures { (out : SinkState) → MeetsWith IsAnswer (judges (bench_view bench.now) test.now)
         (world (H.state host.old) out) (world (H.state host.new) out) result }
 {
-    let words = words_of(alloc, bench.isa, test)?;
-    let files = TestFiles::new(alloc, &bench.work, &test.name)?;
-    write_test(alloc, host, &files, test)?;
-    write_words(alloc, host, &files, words.as_slice())?;
-    judge_words(alloc, host, bench, &files, words.as_slice())
+    let made = make_test(alloc, bench, test)?;
+    write_test(alloc, host, &made.files, test)?;
+    write_executable(alloc, host, &made.files.executable, &made.executable)?;
+    judge_words(alloc, host, bench, &made.files, made.words.as_slice())
 }
 
-/// The words that a test leaves on the reference machine. It isn't refused.
-fn words_of(alloc: Global, isa: IsaSpec, test: &Test) -> Result<Items<u32>, Stop>
+fn make_test(alloc: Global, bench: &Bench, test: &Test) -> Result<Made, Stop>
+    requires { IsRunnable bench.now.isa test.now }
+    ensures { Accepts (Ok (made_for (bench_view bench.now) test.now)) result }
+{
+    let files = TestFiles::new(alloc, &bench.work, &test.name)?;
+    let image = image_of(alloc, bench.isa, test)?;
+    let executable = executable_of(alloc, &bench.device, &image)?;
+    let words = words_of(alloc, bench.isa, test, image)?;
+    Ok(Made {
+        files,
+        executable,
+        words,
+    })
+}
+
+/// The image of a test. It isn't refused.
+fn image_of(alloc: Global, isa: IsaSpec, test: &Test) -> Result<Image, Stop>
     requires { IsRunnable isa test.now }
-    ensures { Accepts (Ok (reference_words isa test.now)) result }
+    ensures image { IfOk result (λ image. answer isa test.now.text ≡ Ok image) }
+    ensures fault { IfErr result (λ stop. stop ≡ Stop.NoMemory) }
 {
     let text = test.text.as_str().as_bytes();
-    let run = run_text(alloc, test.steps, isa, test.name.as_str(), text)?;
+    image_of_text(alloc, isa, test.name.as_str(), text)
+}
+
+/// The executable of an image, where the device asks for it.
+fn executable_of(
+    alloc: Global,
+    device: &Device,
+    image: &Image,
+) -> Result<Option<Bytes>, NoMemory>
+    ensures { IfOk result
+        (λ made. made ≡ if_asked (wants_elf device.now.command) (elf_of image.now)) }
+{
+    if device.wants_elf {
+        Ok(Some(write_elf(alloc, image)?))
+    } else {
+        Ok(None)
+    }
+}
+
+/// The words that the image of a test leaves on the reference machine. It halts.
+fn words_of(alloc: Global, isa: IsaSpec, test: &Test, image: Image) -> Result<Items<u32>, Stop>
+    requires runs { IsRunnable isa test.now }
+    requires stands { answer isa test.now.text ≡ Ok image }
+    ensures { Accepts (Ok (reference_words isa test.now)) result }
+{
+    let run = run_image(alloc, test.name.as_str(), test.steps, isa, image)?;
     Ok(run.words)
 }
 
@@ -92,6 +148,35 @@ fn write_test<H: Host>(
 {
     let name = owned(alloc, files.test.as_str())?;
     write_output(host, name, test.text.as_str().as_bytes())
+}
+
+/// Writes an executable, where there is one.
+fn write_executable<H: Host>(
+    alloc: Global,
+    host: &mut H,
+    name: &Text,
+    executable: &Option<Bytes>,
+) -> Result<(), Stop>
+    ensures { (out : SinkState) → Meets (writes_executable name.now executable.now)
+        (world (H.state host.old) out) (world (H.state host.new) out) result }
+{
+    match executable {
+        None => Ok(()),
+        Some(executable) => write_bytes(alloc, host, name, executable.as_slice()),
+    }
+}
+
+fn write_bytes<H: Host>(
+    alloc: Global,
+    host: &mut H,
+    name: &Text,
+    bytes: &[u8],
+) -> Result<(), Stop>
+    ensures { (out : SinkState) → Meets (writes name.now bytes.now)
+        (world (H.state host.old) out) (world (H.state host.new) out) result }
+{
+    let name = owned(alloc, name.as_str())?;
+    write_output(host, name, bytes)
 }
 
 fn write_words<H: Host>(
@@ -109,8 +194,24 @@ fn write_words<H: Host>(
     write_output(host, name, text.as_str().as_bytes())
 }
 
-/// Runs the device on a test that is written, and judges what it leaves by the reference's words.
+/// Writes the reference's words of a test that is written, and judges the device by them.
 fn judge_words<H: Host>(
+    alloc: Global,
+    host: &mut H,
+    bench: &Bench,
+    files: &TestFiles,
+    words: &[u32],
+) -> Result<TestVerdict, Stop>
+    ensures { (out : SinkState) → MeetsWith IsAnswer
+        (judges_words (bench_view bench.now) files.now words.now)
+        (world (H.state host.old) out) (world (H.state host.new) out) result }
+{
+    write_words(alloc, host, files, words)?;
+    judge_device(alloc, host, bench, files, words)
+}
+
+/// Runs the device on a test that is written, and judges what it leaves by the reference's words.
+fn judge_device<H: Host>(
     alloc: Global,
     host: &mut H,
     bench: &Bench,
@@ -129,6 +230,7 @@ fn judge_words<H: Host>(
         &bench.device,
         bench.program.as_str(),
         test.as_str(),
+        files.executable.as_str(),
         signature.as_str(),
         words,
     );

@@ -15,6 +15,7 @@ mod listing;
 mod making;
 mod normalizing;
 mod printing;
+mod propagating;
 mod reference;
 mod run;
 mod suite;

@@ -11,6 +11,8 @@ use std::alloc::Global;
 pub struct TestFiles {
     /// The test.
     pub test: Text,
+    /// The test as an executable.
+    pub executable: Text,
     /// The signature that the reference machine leaves.
     pub reference: Text,
     /// The signature that the device leaves.
@@ -28,6 +30,7 @@ impl TestFiles {
     {
         Ok(TestFiles {
             test: test_path(alloc, work, name)?,
+            executable: executable_path(alloc, work, name)?,
             reference: reference_path(alloc, work, name)?,
             device: device_path(alloc, work, name)?,
         })
@@ -43,6 +46,12 @@ pub fn test_path(alloc: Global, work: &Text, name: &Text) -> Result<Text, NoMemo
     ensures { IfOk result (λ path. path ≡ path_of work.now name.now) }
 {
     Ok(Text::from(format!(in alloc; "{work}/{name}.S")?))
+}
+
+fn executable_path(alloc: Global, work: &Text, name: &Text) -> Result<Text, NoMemory>
+    ensures { IfOk result (λ path. path ≡ (files_of work.now name.now).executable) }
+{
+    Ok(Text::from(format!(in alloc; "{work}/{name}.elf")?))
 }
 
 fn reference_path(alloc: Global, work: &Text, name: &Text) -> Result<Text, NoMemory>

@@ -5,17 +5,19 @@ ghost use Rattle.rvs_insn.specs.Isa.{Isa};
 ghost use Rattle.rvs_machine.specs.Image.{ImageValue};
 ghost use Rattle.rvs_machine.specs.ImageText.{image_of_bytes};
 ghost use Rattle.rvs_machine.specs.Machine.{started};
+ghost use Rattle.rvs_elf.specs.Executable.{image_of_elf};
 ghost use Rattle.rvs_asm.specs.Answer.{answer};
-ghost use Rattle.rvs_suite.specs.TestTexts.{image_text, asm_text, asm_detail, trap_text};
-ghost use Rattle.rvs_suite.specs.TestTexts.{trap_detail, steps_text};
-ghost use Rattle.rvs_suite.specs.TestRun.{is_image_name, file_found, text_found, image_found};
-ghost use Rattle.rvs_suite.specs.TestRun.{limit_of, run_found, with_trace, text_run, test_found};
-ghost use Rattle.rvs_suite.specs.TestRun.{Accepts};
+ghost use Rattle.rvs_suite.specs.TestTexts.{image_text, elf_text, elf_detail, asm_text};
+ghost use Rattle.rvs_suite.specs.TestTexts.{asm_detail, trap_text, trap_detail, steps_text};
+ghost use Rattle.rvs_suite.specs.TestRun.{is_image_name, is_executable_name, file_found};
+ghost use Rattle.rvs_suite.specs.TestRun.{executable_found, text_found, image_found, limit_of};
+ghost use Rattle.rvs_suite.specs.TestRun.{run_found, with_trace, test_found, Accepts};
 
 use crate::assembling::assemble;
 use rvs_asm::{AsmKind, AsmRefusal};
 use rvs_asm_text::steps_of_header;
 use rvs_base::{Items, NoMemory, Text, hex_text};
+use rvs_elf::{ElfRefusal, read_elf};
 use rvs_insn::IsaSpec;
 use rvs_machine::{
     End, Image, ImageKind, ImageRefusal, Machine, Trace, Trap, TrapKind, read_image,
@@ -55,32 +57,12 @@ pub fn run_bytes(
     run_image(alloc, name, limit_of(steps, name, bytes), spec, image)
 }
 
-/// Runs assembler text on a core until it halts, for at most `limit` instructions. A refusal names
-/// it so.
-///
-/// # Errors
-///
-/// [`Stop::Refused`] where no image stands to the text, where an instruction traps, and where the
-/// run doesn't halt; [`Stop::NoMemory`].
-pub fn run_text(
-    alloc: Global,
-    limit: u64,
-    spec: IsaSpec,
-    name: &str,
-    text: &[u8],
-) -> Result<Run, Stop>
-    ensures { Accepts (text_run limit spec name.now text.now) result }
-{
-    let image = image_of_text(alloc, spec, name, text)?;
-    run_image(alloc, name, limit, spec, image)
-}
-
 fn limit_of(steps: Option<u64>, name: &str, bytes: &[u8]) -> u64
     ensures { result ≡ limit_of steps name.now bytes.now }
 {
     match steps {
         Some(steps) => steps,
-        None if is_image_name(name) => USUAL_LIMIT,
+        None if is_image_name(name) || is_executable_name(name) => USUAL_LIMIT,
         None => steps_of_header(bytes).unwrap_or(USUAL_LIMIT),
     }
 }
@@ -91,12 +73,20 @@ fn is_image_name(name: &str) -> bool
     name.as_bytes().ends_with(b".img")
 }
 
-/// The image of a test file, which is an image file or assembler text.
+fn is_executable_name(name: &str) -> bool
+    ensures { result ≡ is_executable_name name.now }
+{
+    name.as_bytes().ends_with(b".elf")
+}
+
+/// The image of a test file, which is an image file, an executable or assembler text.
 fn image_of(alloc: Global, spec: IsaSpec, name: &str, bytes: &[u8]) -> Result<Image, Stop>
     ensures { Accepts (image_found spec name.now bytes.now) result }
 {
     if is_image_name(name) {
         image_of_file(alloc, name, bytes)
+    } else if is_executable_name(name) {
+        image_of_executable(alloc, name, bytes)
     } else {
         image_of_text(alloc, spec, name, bytes)
     }
@@ -111,7 +101,21 @@ fn image_of_file(alloc: Global, name: &str, bytes: &[u8]) -> Result<Image, Stop>
     }
 }
 
-fn image_of_text(alloc: Global, spec: IsaSpec, name: &str, bytes: &[u8]) -> Result<Image, Stop>
+fn image_of_executable(alloc: Global, name: &str, bytes: &[u8]) -> Result<Image, Stop>
+    ensures { Accepts (executable_found name.now (image_of_elf bytes.now)) result }
+{
+    match read_elf(alloc, bytes) {
+        Ok(image) => Ok(image),
+        Err(refusal) => Err(Stop::Refused(elf_text(alloc, name, &refusal)?)),
+    }
+}
+
+/// The image of assembler text. A refusal names it so.
+///
+/// # Errors
+///
+/// [`Stop::Refused`] where no image stands to the text; [`Stop::NoMemory`].
+pub fn image_of_text(alloc: Global, spec: IsaSpec, name: &str, bytes: &[u8]) -> Result<Image, Stop>
     ensures { Accepts (text_found name.now (answer spec bytes.now)) result }
 {
     match assemble(alloc, bytes, &spec) {
@@ -121,7 +125,12 @@ fn image_of_text(alloc: Global, spec: IsaSpec, name: &str, bytes: &[u8]) -> Resu
 }
 
 /// Runs the image of the named test on a core until it halts, for at most `limit` instructions.
-fn run_image(
+///
+/// # Errors
+///
+/// [`Stop::Refused`] where an instruction traps, and where the run doesn't halt;
+/// [`Stop::NoMemory`].
+pub fn run_image(
     alloc: Global,
     name: &str,
     limit: u64,
@@ -177,6 +186,39 @@ fn image_line(alloc: Global, name: &str, line: u64, kind: ImageKind) -> Result<T
 {
     let number = kind.number();
     Ok(Text::from(format!(in alloc; "{name}: image {number} line {line}")?))
+}
+
+/// Why the named file is no executable. There is no text where memory was wanting.
+fn elf_text(alloc: Global, name: &str, refusal: &ElfRefusal) -> Result<Text, NoMemory>
+    ensures fault { IfOk result (λ _. refusal.now ≢ ElfRefusal.NoMemory) }
+    ensures text { IfOk result (λ text. text ≡ elf_text name.now refusal.now) }
+{
+    match refusal {
+        ElfRefusal::NoMemory => Err(NoMemory),
+        _ => elf_line(alloc, name, refusal),
+    }
+}
+
+#[tactic(auto, unfolding(crate::specs::TestTexts::elf_text))]
+fn elf_line(alloc: Global, name: &str, refusal: &ElfRefusal) -> Result<Text, NoMemory>
+    ensures { IfOk result (λ text. text ≡ elf_text name.now refusal.now) }
+{
+    let number = refusal.number();
+    let detail = elf_detail(alloc, refusal)?;
+    Ok(Text::from(format!(in alloc; "{name}: elf {number}{detail}")?))
+}
+
+fn elf_detail(alloc: Global, refusal: &ElfRefusal) -> Result<Text, NoMemory>
+    ensures { IfOk result (λ text. text ≡ elf_detail refusal.now) }
+{
+    match refusal {
+        ElfRefusal::BadSegment { index } => {
+            let index = *index;
+            Ok(Text::from(format!(in alloc; " index {index}")?))
+        },
+        ElfRefusal::MissingSymbol { name } => Ok(Text::from(format!(in alloc; " name {name}")?)),
+        _ => Ok(Text::new(alloc)),
+    }
 }
 
 /// Why no image stands to the named text. There is no text where memory was wanting.

@@ -35,7 +35,8 @@ pub fn tell_file(alloc: Global, row: &str, report: &mut String) -> Result<(), Fa
     Ok(())
 }
 
-fn groups_of(alloc: Global, file: &str) -> Result<Groups, Fail> {
+/// The groups of a file.
+pub fn groups_of(alloc: Global, file: &str) -> Result<Groups, Fail> {
     let tree = rvs_yaml::parse(alloc, file.as_bytes()).map_err(|_| "no tree")?;
     let groups = read_groups(alloc, &tree, &CORE).map_err(|_| "no groups")?;
     Ok(groups)

@@ -3,6 +3,7 @@
 //
 //     file NAME TEXT              a file of the host
 //     fill NAME COUNT PIECE END   a file of a piece so many times, and an end
+//     bytes NAME DIGITS           a file of bytes, each as two hexadecimal digits
 //     leaves TEXT                 the device's next run leaves this signature
 //     untouched                   the device's next run leaves nothing
 //     killed TEXT                 the device's next run leaves this signature and ends with -1
@@ -25,10 +26,12 @@
 //     labels COUNT                the same of a file with so many labels
 //     hits LOG|TEXT               how many instructions a log has, and how often it hits each
 //                                 point of a group file
-use crate::groups;
+//     cuts LO:HI LOG FILE         the numbers of `propagate` on a log that the last run left, for a
+//                                 group file, cut at every place
 use crate::runs::{NO_FAULTS, fault, faulty, tell_on};
 use crate::slow::slow;
 use crate::stage::{first_word, host_of, number};
+use crate::{groups, tracking};
 use rvs_base::{MemoryHost, release};
 use std::alloc::Global;
 use std::mem;
@@ -144,6 +147,9 @@ fn look(
     }
     if verb == "hits" {
         groups::tell_log(alloc, row, report)?;
+    }
+    if verb == "cuts" {
+        tracking::tell(alloc, row, host, report)?;
     }
     if verb == "points" {
         groups::tell_points(alloc, row, report)?;

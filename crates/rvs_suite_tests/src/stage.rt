@@ -66,6 +66,26 @@ fn add_filled(alloc: Global, files: &mut Files, row: &str) -> Result<(), Fail> {
     add(alloc, files, name, text.as_str())
 }
 
+/// The bytes of hexadecimal digits, two each.
+fn bytes_of(alloc: Global, digits: &str) -> Result<Bytes, Fail> {
+    let mut bytes = Items::new(alloc);
+    for pair in digits.as_bytes().chunks(2) {
+        match number_below(256, 16, pair) {
+            Some(byte) => bytes.push(byte as u8)?,
+            None => return Err(Fail::new("no byte")),
+        }
+    }
+    Ok(bytes)
+}
+
+/// Adds the file of a line `bytes NAME DIGITS`.
+fn add_bytes(alloc: Global, files: &mut Files, row: &str) -> Result<(), Fail> {
+    let (name, digits) = first_word(row)?;
+    let bytes = bytes_of(alloc, digits)?;
+    files.push((Text::from(String::from_str(alloc, name)?), bytes))?;
+    Ok(())
+}
+
 fn files_of(alloc: Global, scene: &str) -> Result<Files, Fail> {
     let mut files: Files = Items::new(alloc);
     for line in scene.lines() {
@@ -74,6 +94,9 @@ fn files_of(alloc: Global, scene: &str) -> Result<Files, Fail> {
         }
         if let Some(row) = line.strip_prefix("fill ") {
             add_filled(alloc, &mut files, row)?;
+        }
+        if let Some(row) = line.strip_prefix("bytes ") {
+            add_bytes(alloc, &mut files, row)?;
         }
     }
     Ok(files)

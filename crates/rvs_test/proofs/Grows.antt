@@ -67,16 +67,16 @@ printed_each : (isa : Isa) (ss : List Statement) → AllFine isa ss → Each IsP
 printed_each isa [] h = tt
 printed_each isa (s ∷ ss) h = (printed_one isa s h.0, printed_each isa ss h.1)
 
-pub made_of_ready : (isa : Isa) (s : Solved) → isa.e ≡ false → IsReady isa s → IsMade isa s
-made_of_ready isa (One c) e h = record { sound = h.0; made = h.1; base = e }
-made_of_ready isa (Many is) e h = (h, e)
+pub made_of_ready : (isa : Isa) (s : Solved) → IsReady isa s → IsMade isa s
+made_of_ready isa (One c) h = record { sound = h.0; made = h.1 }
+made_of_ready isa (Many is) h = h
 
-pub case_printed : (isa : Isa) (k : ℕ) (s : Solved) → k < 2048 → isa.e ≡ false → IsReady isa s
+pub case_printed : (isa : Isa) (k : ℕ) (s : Solved) → k < 2048 → IsReady isa s
     → All IsPrinted (case_statements k s)
-case_printed isa k s small e h =
+case_printed isa k s small h =
     all_from_each IsPrinted (case_statements k s)
     (printed_each isa (case_statements k s)
-    (case_fine isa k s (omega arith) (made_of_ready isa s e h)))
+    (case_fine isa k s (omega arith) (made_of_ready isa s h)))
 
 pub ready_at : (isa : Isa) (cs : List Solved) (k : ℕ) (s : Solved) → AreReady isa cs → k < length cs
     → s ≡ get_or cs k s → IsReady isa s

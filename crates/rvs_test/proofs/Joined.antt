@@ -254,15 +254,14 @@ all_claimed isa l image o a =
 
 -- ---- the test of a label runs
 
-pub label_test : (isa : Isa) (l : Label) → isa.e ≡ false → IsValid isa l
+pub label_test : (isa : Isa) (l : Label) → IsValid isa l
     → IsTest isa l.name (map (λ (c : Claim). named_at l c.point) (claims_of isa l)) (cases_of isa l)
-label_test isa l e v = record {
-  base = e;
+label_test isa l v = record {
   few = cases_few isa l v;
   same = mapped (claims_of isa l) ∙ claims_same isa l;
   label_text = name_text l.name v.named;
   points_text = points_text isa l v;
-  choices = cases_ready isa l e v;
+  choices = cases_ready isa l v;
 } where
   mapped : (ds : List Claim) → length (map (λ (c : Claim). named_at l c.point) ds) ≡ length ds
   mapped [] = refl
@@ -270,15 +269,15 @@ label_test isa l e v = record {
       let k : length (map (λ (c : Claim). named_at l c.point) ds) ≡ length ds = mapped ds in
       omega (arith, k)
 
-pub label_runs : (isa : Isa) (l : Label) → isa.e ≡ false → IsValid isa l
+pub label_runs : (isa : Isa) (l : Label) → IsValid isa l
     → TestRuns isa l
     (test_text l.name isa (map (λ (c : Claim). named_at l c.point) (claims_of isa l))
     (cases_of isa l))
     (claims_of isa l) (step_limit (cases_of isa l))
-label_runs isa l e v =
+label_runs isa l v =
     let cs = cases_of isa l in
     let ps = map (λ (c : Claim). named_at l c.point) (claims_of isa l) in
-    let test = label_test isa l e v in
+    let test = label_test isa l v in
     let r = tests_run isa l.name ps cs test in
     record {
       image = r.image;
@@ -296,12 +295,12 @@ label_runs isa l e v =
     }
 
 -- the same with what the code holds
-pub runs_there : (isa : Isa) (l : Label) → isa.e ≡ false → IsValid isa l
+pub runs_there : (isa : Isa) (l : Label) → IsValid isa l
     → (text : List ℕ) (ds : List Claim) (cs : List Solved) (n : ℕ) → ds ≡ claims_of isa l
     → cs ≡ cases_of isa l → n ≡ step_limit cs
     → text ≡ test_text l.name isa (map (λ (c : Claim). named_at l c.point) ds) cs
     → TestRuns isa l text ds n
-runs_there isa l e v text ds cs n hd hc hn h =
+runs_there isa l v text ds cs n hd hc hn h =
     let whole =
     test_text l.name isa (map (λ (c : Claim). named_at l c.point) (claims_of isa l))
     (cases_of isa l) in
@@ -313,7 +312,7 @@ runs_there isa l e v text ds cs n hd hc hn h =
     let Q : List Claim → Type 0 = λ x. TestRuns isa l whole x n in
     let R : ℕ → Type 0 = λ m. TestRuns isa l whole (claims_of isa l) m in
     subst P (sym t)
-    (subst Q (sym hd) (subst R (sym (hn ∙ ap step_limit hc)) (label_runs isa l e v)))
+    (subst Q (sym hd) (subst R (sym (hn ∙ ap step_limit hc)) (label_runs isa l v)))
 
 -- ---- each point is accounted for
 

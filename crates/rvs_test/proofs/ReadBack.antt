@@ -30,6 +30,7 @@ use Rattle.rvs_test_text.specs.declared.statement.Statement.TheVariants.{Low, To
 use Rattle.rvs_test_text.specs.declared.statement.Statement.TheVariants.{Fixed as FixedLine}
 use Rattle.rvs_test_text.specs.Statements.{name_of, written, operands_of, fixed_text, printed}
 use Rattle.rvs_test_text.specs.TestText.{Point, claim_lines, header, step_limit, test_text}
+use Rattle.rvs_test_text.specs.TestText.{last_register}
 use Rattle.rvs_test.specs.Made.{places, solved_among, numbered, claims_of, cases_of, named_or_none}
 use Rattle.rvs_test.specs.Made.{named_at}
 use Rattle.rvs_test.specs.Named.{Named, point_read, claim_read, behind_front, all_read, claims_read}
@@ -140,28 +141,29 @@ claims_back isa l v =
     let same : length (numbered 0 ks) ≡ length (cases_of isa l) = claims_same isa l in
     numbered_back l 0 ks (omega (arith, numbered_length 0 ks, same, cases_few isa l v))
 
-label_back : (isa : Isa) (l : Label) → isa.e ≡ false → IsValid isa l
+label_back : (isa : Isa) (l : Label) → IsValid isa l
     → claims_read (test_text l.name isa (points_of l (claims_of isa l)) (cases_of isa l))
     ≡ Some (map (named_claim l) (claims_of isa l))
 unfolding claims_read
-label_back isa l e v =
+label_back isa l v =
     let cs = cases_of isa l in
     let ps = points_of l (claims_of isa l) in
     let head = header l.name isa (step_limit cs) ps in
     let fronts : List (List ℕ) → List (List ℕ) = filter_map behind_front in
-    ap (λ ls. all_read (fronts ls)) (text_cut isa l.name ps cs (label_test isa l e v))
+    ap (λ ls. all_read (fronts ls)) (text_cut isa l.name ps cs (label_test isa l v))
     ∙ ap all_read
-    (filter_map-append behind_front head (map printed (whole cs))
-    ∙ ap (λ x. fronts head ++ x) (all_silent (whole cs)) ∙ append-nil (fronts head))
+    (filter_map-append behind_front head (map printed (whole (last_register isa) cs))
+    ∙ ap (λ x. fronts head ++ x) (all_silent (whole (last_register isa) cs))
+    ∙ append-nil (fronts head))
     ∙ claims_back isa l v
 
 -- the same with what the code holds
-pub back_there : (isa : Isa) (l : Label) → isa.e ≡ false → IsValid isa l
+pub back_there : (isa : Isa) (l : Label) → IsValid isa l
     → (text : List ℕ) (ds : List Claim) (cs : List Solved)
     → ds ≡ claims_of isa l → cs ≡ cases_of isa l
     → text ≡ test_text l.name isa (points_of l ds) cs
     → claims_read text ≡ Some (map (named_claim l) ds)
-back_there isa l e v text ds cs hd hc h =
+back_there isa l v text ds cs hd hc h =
     let t : List Claim → List Solved → List ℕ = λ xs ys. test_text l.name isa (points_of l xs) ys in
     ap claims_read (h ∙ ap (λ xs. t xs cs) hd ∙ ap (t (claims_of isa l)) hc)
-    ∙ label_back isa l e v ∙ ap (λ xs. Some (map (named_claim l) xs)) (sym hd)
+    ∙ label_back isa l v ∙ ap (λ xs. Some (map (named_claim l) xs)) (sym hd)

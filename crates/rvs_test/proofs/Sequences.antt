@@ -25,6 +25,7 @@ use Rattle.rvs_solver.proofs.Search.{Each}
 use Rattle.rvs_solver.proofs.Product.{each_flat, each_map}
 use Rattle.rvs_solver.proofs.Operands.{each_then}
 use Rattle.rvs_test_text.specs.Sound.{computes, IsMiddle, IsComputing, AllComputing, IsSequence}
+use Rattle.rvs_test_text.proofs.Registers.{HasField, has_low, admitted_op}
 
 -- ---- the instructions of a mnemonic
 
@@ -179,35 +180,41 @@ among P (y ∷ ys) x a (suc k, h, at) = among P ys x a.1 (k, omega arith, at)
 
 -- ---- all of them
 
-computing : (isa : Isa) (i : Fields) → isa.e ≡ false → cross.IsComputing isa i → IsComputing isa i
-computing isa i e c =
+-- each core has x8 to x15
+middle_has : (isa : Isa) (o : Option ℕ) → IsMiddle o → HasField isa o
+middle_has isa None h = tt
+middle_has isa (Some r) h = has_low isa r h.1
+
+computing : (isa : Isa) (i : Fields) → cross.IsComputing isa i → IsComputing isa i
+computing isa i c =
     let o = among (IsOf i.op) (insns_of i.op) i (of_mnemonic i.op) c.among in
     record {
       encodable = o.encodable;
-      admitted = rw (c.admitted, e) refl;
+      admitted =
+          admitted_op isa i (middle_has isa i.rd o.rd) (middle_has isa i.rs1 o.rs1)
+          (middle_has isa i.rs2 o.rs2) c.admitted;
       form = o.form;
       rd = o.rd;
       rs1 = o.rs1;
       rs2 = o.rs2;
     }
 
-all_computing : (isa : Isa) (is : List Fields) → isa.e ≡ false → All (cross.IsComputing isa) is
+all_computing : (isa : Isa) (is : List Fields) → All (cross.IsComputing isa) is
     → AllComputing isa is
-all_computing isa [] e all = tt
-all_computing isa (i ∷ is) e all = (
-  computing isa i e (all 0 i (omega arith)),
-  all_computing isa is e (λ k d less. all (suc k) d (omega (arith, less))),
+all_computing isa [] all = tt
+all_computing isa (i ∷ is) all = (
+  computing isa i (all 0 i (omega arith)),
+  all_computing isa is (λ k d less. all (suc k) d (omega (arith, less))),
 )
 
-pub sequence_ready : (isa : Isa) (ps : List Place) (is : List Fields) → isa.e ≡ false
-    → 1 ≤ length ps → length ps ≤ 6 → first_sequence isa ps ≡ Some is → IsSequence isa is
-sequence_ready isa ps is e some few found =
+pub sequence_ready : (isa : Isa) (ps : List Place) (is : List Fields) → 1 ≤ length ps → length ps ≤ 6 → first_sequence isa ps ≡ Some is → IsSequence isa is
+sequence_ready isa ps is some few found =
     let whole = sequence_solves isa ps is found in
     let n : length is ≡ length ps = whole.count in
     record {
       some = omega (arith, n, some);
       most = omega (arith, n, few);
-      all = all_computing isa is e whole.computing;
+      all = all_computing isa is whole.computing;
     }
 
 -- ---- the places of a cross point

@@ -121,24 +121,24 @@ meant_at isa l k p v at =
     let is : get_or l.points k p ≡ p = get_or_from_slice_get l.points k p p at in
     subst IsMeant is (v.meant k p low)
 
-window_ready : (isa : Isa) (l : Label) (k : ℕ) (s : Solved) → isa.e ≡ false → IsValid isa l
+window_ready : (isa : Isa) (l : Label) (k : ℕ) (s : Solved) → IsValid isa l
     → IsFirstWindow isa l k s → IsReady isa s
-window_ready isa l k s e v f =
+window_ready isa l k s v f =
     let few = places_few f.point f.places (meant_at isa l k f.point v f.at) f.means in
-    subst (IsReady isa) f.is (sequence_ready isa f.places f.insns e few.0 few.1 f.found)
+    subst (IsReady isa) f.is (sequence_ready isa f.places f.insns few.0 few.1 f.found)
 
-choice_ready : (isa : Isa) (l : Label) (k : ℕ) (s : Solved) → isa.e ≡ false → IsValid isa l
+choice_ready : (isa : Isa) (l : Label) (k : ℕ) (s : Solved) → IsValid isa l
     → IsFirst isa l k s → IsReady isa s
-choice_ready isa l k s e v f =
-    let r = first_ready isa l.ops f.point.kind f.point.meaning f.choice e v.admitted f.found in
+choice_ready isa l k s v f =
+    let r = first_ready isa l.ops f.point.kind f.point.meaning f.choice v.admitted f.found in
     subst (IsReady isa) f.is (r.sound, r.made)
 
-pub solved_ready : (isa : Isa) (l : Label) (k : ℕ) (s : Solved) → isa.e ≡ false → IsValid isa l
+pub solved_ready : (isa : Isa) (l : Label) (k : ℕ) (s : Solved) → IsValid isa l
     → first_at isa l k ≡ Some s → IsReady isa s
-solved_ready isa l k s e v h =
+solved_ready isa l k s v h =
     elim (first_is isa l k s h) [
-      | inl f ↦ choice_ready isa l k s e v f
-      | inr f ↦ window_ready isa l k s e v f
+      | inl f ↦ choice_ready isa l k s v f
+      | inr f ↦ window_ready isa l k s v f
     ]
 
 -- ---- all cases
@@ -149,13 +149,13 @@ some_more : (o : Option Solved) (rest : List Solved) (P : List Solved → Type 0
 some_more None rest P h k = k refl
 some_more (Some s) rest P h k = h s refl
 
-pub among_ready : (isa : Isa) (l : Label) (ks : List ℕ) → isa.e ≡ false → IsValid isa l
+pub among_ready : (isa : Isa) (l : Label) (ks : List ℕ) → IsValid isa l
     → AreReady isa (cases_among isa l ks)
-among_ready isa l [] e v = tt
-among_ready isa l (k ∷ ks) e v =
-    let rest = among_ready isa l ks e v in
+among_ready isa l [] v = tt
+among_ready isa l (k ∷ ks) v =
+    let rest = among_ready isa l ks v in
     some_more (first_at isa l k) (cases_among isa l ks) (AreReady isa)
-    (λ s h. (solved_ready isa l k s e v h, rest)) (λ h. rest)
+    (λ s h. (solved_ready isa l k s v h, rest)) (λ h. rest)
 
 one_long : (o : Option Solved) → length (option_to_list o) ≤ 1
 one_long None = omega arith
@@ -183,10 +183,10 @@ among_same isa l (k ∷ ks) =
     as_many (first_at isa l k) k (cases_among isa l ks) (solved_among isa l ks)
     (among_same isa l ks)
 
-pub cases_ready : (isa : Isa) (l : Label) → isa.e ≡ false → IsValid isa l
+pub cases_ready : (isa : Isa) (l : Label) → IsValid isa l
     → AreReady isa (cases_of isa l)
 unfolding cases_of
-cases_ready isa l e v = among_ready isa l (places l) e v
+cases_ready isa l v = among_ready isa l (places l) v
 
 pub cases_few : (isa : Isa) (l : Label) → IsValid isa l → length (cases_of isa l) ≤ 2048
 unfolding cases_of

@@ -144,7 +144,6 @@ fn push_case(
     solved: &Solved,
 ) -> Result<(), NoMemory>
     requires few { k < 2048 }
-    requires base { _spec.now.e ≡ false }
     requires ready { IsReady _spec.now solved.now }
     ensures { OnOk result (out.new ≡ out.old ++ text_of (layout.case_statements k solved.now)) }
 {
@@ -159,7 +158,6 @@ fn push_cases(
     cases: &[Solved],
 ) -> Result<(), NoMemory>
     requires few { length cases.now ≤ 2048 }
-    requires base { spec.now.e ≡ false }
     requires ready { AreReady spec.now cases.now }
     ensures { OnOk result (out.new ≡ out.old ++ text_of (layout.cases 0 cases.now)) }
 {
@@ -189,7 +187,6 @@ pub(crate) fn push_code(
     cases: &[Solved],
 ) -> Result<(), NoMemory>
     requires few { length cases.now ≤ 2048 }
-    requires base { spec.now.e ≡ false }
     requires ready { AreReady spec.now cases.now }
     requires registers { registers ≡ layout.last_register spec.now }
     requires low { registers < 32 }

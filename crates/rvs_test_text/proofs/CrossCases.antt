@@ -31,7 +31,8 @@ use Rattle.rvs_test_text.proofs.Passes.{AllFine, fine_join, marks, Distinct, All
 use Rattle.rvs_test_text.proofs.Assembled.{made_all, bytes_all, text_at}
 use Rattle.rvs_test_text.proofs.PlainCases.{source_made, source_distinct, source_linked}
 use Rattle.rvs_test_text.proofs.PlainCases.{source_marks}
-use Rattle.rvs_test_text.proofs.PlainCases.{source_bytes, fine_word, fine_save, admitted_low}
+use Rattle.rvs_test_text.proofs.PlainCases.{source_bytes, fine_word, fine_save}
+use Rattle.rvs_test_text.proofs.Registers.{Has, has_low, admitted_low}
 use Rattle.rvs_test_text.proofs.CaseEffects.{IsPlaced}
 use Rattle.rvs_test_text.proofs.Window.{Words, entries, entry_in, words_behind, words_code}
 use Rattle.rvs_test_text.proofs.CrossGood.{rd_middle, last_middle, cross_code, cross_of, cross_good}
@@ -111,11 +112,12 @@ cross_distinct n k is t p small below =
     ))
 
 -- ---- its lines can be read and assembled
-words_fine : (isa : Isa) (r n : ℕ) → isa.e ≡ false → r + n ≤ 32 → AllFine isa (load_words r n)
-words_fine isa r zero e h = tt
-words_fine isa r (suc n) e h =
-    let low : r < 32 = omega arith in let w = fine_word isa (Some r) (start_word r) e low in
-    (w.0, (w.1.0, words_fine isa (r + 1) n e (omega arith)))
+words_fine : (isa : Isa) (r n : ℕ) → r + n ≤ 16 → AllFine isa (load_words r n)
+words_fine isa r zero h = tt
+words_fine isa r (suc n) h =
+    let low : r < 16 = omega arith in
+    let w = fine_word isa (Some r) (start_word r) (has_low isa r low) in
+    (w.0, (w.1.0, words_fine isa (r + 1) n (omega arith)))
 
 own_computing : (f : Format) → computes f ≡ true → OwnFormat f
 own_computing R h = tt
@@ -131,22 +133,23 @@ plains_fine isa (i ∷ is) are = (
 )
 
 ends_low : (isa : Isa) (is : List Fields) → AllComputing isa is
-    → (first_rd is < 32) × (last_rd is < 32)
+    → (first_rd is < 16) × (last_rd is < 16)
 ends_low isa [] are = (omega arith, omega arith)
 ends_low isa (i ∷ is) are =
     let a = rd_middle isa i are.0 in let b = last_middle isa i is are in
     (omega (arith, a.high), omega (arith, b.high))
 
-pub cross_fine : (isa : Isa) (k : ℕ) (is : List Fields) → k < 2 ^ 32 → isa.e ≡ false
-    → IsSequence isa is → AllFine isa (cross_case k is)
-cross_fine isa k is small e sequence =
+pub cross_fine : (isa : Isa) (k : ℕ) (is : List Fields) → k < 2 ^ 32 → IsSequence isa is
+    → AllFine isa (cross_case k is)
+cross_fine isa k is small sequence =
     let end = save 5 k (first_rd is) (last_rd is) in
     let low = ends_low isa is sequence.all in
     fine_join isa (load_words 8 8) (Label (CaseName k) ∷ (plains is ++ end))
-    (words_fine isa 8 8 e (omega arith)) (
+    (words_fine isa 8 8 (omega arith)) (
       small,
       fine_join isa (plains is) end (plains_fine isa is sequence.all)
-          (fine_save isa 5 k (first_rd is) (last_rd is) e (omega arith) low.0 low.1 small),
+          (fine_save isa 5 k (first_rd is) (last_rd is) (has_low isa 5 (omega arith))
+          (has_low isa (first_rd is) low.0) (has_low isa (last_rd is) low.1) small),
     )
 
 -- ---- each symbol is there
@@ -223,11 +226,12 @@ window_is isa pc (i ∷ is) f are =
     ∙ ap (λ l. Some i ∷ l) (window_is isa (pc + 4) is (words_behind f (entry_in pc i f)) are.1)
 
 -- there are such windows
-sample : (isa : Isa) → isa.e ≡ false
+sample : (isa : Isa)
     → IsSequence isa
     (record { op = Add; rd = Some 8; rs1 = Some 9; rs2 = Some 10; imm = None } ∷ addi 11 8 (pos 1)
     ∷ [])
-sample isa e =
+sample isa =
+    let has : (r : ℕ) → r < 16 → Has isa r = λ r low. has_low isa r low in
     let first : Fields =
     record { op = Add; rd = Some 8; rs1 = Some 9; rs2 = Some 10; imm = None } in
     let second : Fields = addi 11 8 (pos 1) in
@@ -238,7 +242,8 @@ sample isa e =
         record {
           encodable = (omega arith, omega arith, omega arith);
           admitted =
-              admitted_low isa first e refl;
+              admitted_low isa first (has 8 (omega arith)) (has 9 (omega arith))
+              (has 10 (omega arith)) refl;
           form =
               refl;
           rd =
@@ -251,7 +256,7 @@ sample isa e =
           record {
             encodable = (omega arith, omega arith, omega arith);
             admitted =
-                admitted_low isa second e refl;
+                admitted_low isa second (has 11 (omega arith)) (has 8 (omega arith)) tt refl;
             form =
                 refl;
             rd = (omega arith, omega arith);

@@ -32,7 +32,7 @@ use Rattle.rvs_test_text.proofs.Passes.{IsFine, AllFine, fine_join}
 use Rattle.rvs_test_text.proofs.Passes.{after, AllLinked, linked_join}
 use Rattle.rvs_test_text.proofs.Passes.{IsThere, IsNear}
 use Rattle.rvs_test_text.proofs.Assembled.{text_at}
-use Rattle.rvs_test_text.proofs.PlainCases.{admitted_low}
+use Rattle.rvs_test_text.proofs.Registers.{Has, has_zero, has_addi, has_jal}
 use Rattle.rvs_test_text.proofs.JumpNames.{back_after}
 
 -- ---- fine lines
@@ -46,14 +46,14 @@ pub record IsLinkable (isa : Isa) (j : Fields) : Type 0 where
   pub encodable : IsEncodable j
   pub admitted : is_admitted isa j ≡ true
 
-pub frame_fine : (z : ℤ) (isa : Isa) (k m : ℕ) (j : Fields) (rest : List Statement) → isa.e ≡ false
-    → m < 32 → k < 2 ^ 32 → IsLinkable isa j → IsNearby z → AllFine isa rest
+pub frame_fine : (z : ℤ) (isa : Isa) (k m : ℕ) (j : Fields) (rest : List Statement) → Has isa m
+    → k < 2 ^ 32 → IsLinkable isa j → IsNearby z → AllFine isa rest
     → AllFine isa (frame z k m j rest)
-frame_fine (pos n) isa k m j rest e hm small is near hr =
-    let x0 : 0 < 32 = omega arith in
+frame_fine (pos n) isa k m j rest hm small is near hr =
+    let x0 = has_zero isa in
     let z1 : 1 < 2 ^ 11 = omega arith in
     let b : between (pos n) < 2 ^ 32 = omega (arith, near.most) in (
-      (tt, (hm, x0, z1), admitted_low isa (addi m 0 (pos 1)) e refl),
+      (tt, (hm.low, x0.low, z1), has_addi isa m 0 (pos 1) hm x0),
       (
         small,
         (
@@ -64,18 +64,18 @@ frame_fine (pos n) isa k m j rest e hm small is near hr =
       ),
     )
   where
-    skips : (m q : ℕ) → m < 32 → q < 2 ^ 32 → AllFine isa (skip m q)
+    skips : (m q : ℕ) → Has isa m → q < 2 ^ 32 → AllFine isa (skip m q)
     skips m zero hm b = tt
     skips m (suc q) hm b =
         let z2 : 2 < 2 ^ 11 = omega arith in (
-          (tt, (hm, hm, z2), admitted_low isa (addi m m (pos 2)) e refl),
+          (tt, (hm.low, hm.low, z2), has_addi isa m m (pos 2) hm hm),
           filler_fine isa q (omega arith),
         )
-frame_fine (negsuc n) isa k m j rest e hm small is near hr =
-    let x0 : 0 < 32 = omega arith in
+frame_fine (negsuc n) isa k m j rest hm small is near hr =
+    let x0 = has_zero isa in
     let z1 : 1 < 2 ^ 11 = omega arith in
     let b : between (negsuc n) < 2 ^ 32 = omega (arith, near.most) in (
-      (tt, (hm, x0, z1), admitted_low isa (addi m 0 (pos 1)) e refl),
+      (tt, (hm.low, x0.low, z1), has_addi isa m 0 (pos 1) hm x0),
       (
         jump (CaseName k) small,
         (
@@ -91,13 +91,13 @@ frame_fine (negsuc n) isa k m j rest e hm small is near hr =
     jump : (x : Name) → IsSmall x → IsFine isa (To (jal 0) x)
     jump x h =
         let a : 0 < 32 = omega arith in let w : 0 < 2 ^ 20 = omega arith in
-        (tt, refl, (a, (w, refl)), admitted_low isa (jal 0) e refl, h)
+        (tt, refl, (a, (w, refl)), has_jal isa 0 (has_zero isa), h)
 
-    backs : (m q : ℕ) → m < 32 → q < 2 ^ 32 → AllFine isa (back_body k m q)
+    backs : (m q : ℕ) → Has isa m → q < 2 ^ 32 → AllFine isa (back_body k m q)
     backs m zero hm b = (jump (Done k) small, tt)
     backs m (suc q) hm b =
         let z2 : 2 < 2 ^ 11 = omega arith in (
-          (tt, (hm, hm, z2), admitted_low isa (addi m m (pos 2)) e refl),
+          (tt, (hm.low, hm.low, z2), has_addi isa m m (pos 2) hm hm),
           (jump (Done k) small, filler_fine isa q (omega arith)),
         )
 

@@ -1,7 +1,7 @@
 -- A test text, assembled and run.
 use Rattle.std.proofs.Common.{◌≡◌, ℕ, zero, suc, ◌+◌, ◌*◌, ◌/◌, ◌%◌, ◌^◌, ◌<◌, ◌≤◌, true, false}
 use Rattle.std.proofs.Common.{cond, List, [], ◌∷◌, ◌++◌, length, Some, None, refl, sym, ap, ◌∙◌}
-use Rattle.std.proofs.Common.{arith, append-nil}
+use Rattle.std.proofs.Common.{arith, append-nil, subst, Bool}
 use Rattle.std.proofs.lemmas.Bool.Decides.{nat_tests}
 use Rattle.std.specs.Prelude.{◌&&◌, nat_le, pos, map, codes, unwrap_or, option_and_then}
 use Rattle.std.specs.Option.{option_or}
@@ -28,14 +28,15 @@ use Rattle.rvs_test_text.specs.declared.statement.Name.TheVariants.{ToHost, Begi
 use Rattle.rvs_test_text.specs.declared.statement.Name.TheVariants.{EndSignature}
 use Rattle.rvs_test_text.specs.Sound.{Accesses}
 use Rattle.rvs_test_text.specs.Statements.{printed}
-use Rattle.rvs_test_text.specs.TestText.{begin, clear, cases, halt, loop, data_part, Point, header}
-use Rattle.rvs_test_text.specs.TestText.{claim_lines, ended, statements, test_text, step_limit}
+use Rattle.rvs_test_text.specs.TestText.{last_register, Point, header, claim_lines, test_text}
+use Rattle.rvs_test_text.specs.TestText.{step_limit}
 use Rattle.rvs_test_text.specs.TestText.{all_steps, jump_steps}
 use Rattle.rvs_test_text.specs.Claim.{AreReady, ArePrintable, IsTest, TestsRun}
 use Rattle.rvs_test_text.proofs.Chars.{tested}
 use Rattle.rvs_test_text.proofs.Tables.{named, find_name, found}
 use Rattle.rvs_test_text.proofs.Passes.{also, read_as, labelled, first_free, second_free}
 use Rattle.rvs_test_text.proofs.CaseList.{AllMade}
+use Rattle.rvs_test_text.proofs.Registers.{AreCleared}
 use Rattle.rvs_test_text.proofs.TestNames.{code_fine, whole}
 use Rattle.rvs_test_text.proofs.Parts.{whole_read, whole_distinct, whole_stands}
 use Rattle.rvs_test_text.proofs.Parts.{whole_linked, table_small}
@@ -81,11 +82,11 @@ image_blank tbl ts rs =
     ∙ ap (parts_of tbl (section true (address_of tbl) rs start)) (blank_ram (address_of tbl) ts rs)
 
 -- ---- what is asked of the choices
-all_plain : (isa : Isa) (cs : List Solved) → isa.e ≡ false → AreReady isa cs → AllMade isa cs
-all_plain isa [] e h = tt
-all_plain isa (One c ∷ cs) e h =
-    (record { sound = h.0.0; made = h.0.1; base = e }, all_plain isa cs e h.1)
-all_plain isa (Many is ∷ cs) e h = ((h.0, e), all_plain isa cs e h.1)
+all_plain : (isa : Isa) (cs : List Solved) → AreReady isa cs → AllMade isa cs
+all_plain isa [] h = tt
+all_plain isa (One c ∷ cs) h =
+    (record { sound = h.0.0; made = h.0.1 }, all_plain isa cs h.1)
+all_plain isa (Many is ∷ cs) h = (h.0, all_plain isa cs h.1)
 
 points_fine : (ps : List Point) → ArePrintable ps → ArePoints ps
 points_fine [] h = tt
@@ -152,11 +153,15 @@ header_first label isa n ps ls low high =
     ap (λ o. option_or o (first_steps (claim_lines 0 ps ++ ls))) (number_read n low high)
 
 -- ---- all of it
-whole_is : (isa : Isa) (cs : List Solved) → isa.e ≡ false → statements isa cs ≡ whole cs
-whole_is isa cs e =
-    ap
-    (λ b. begin
-    ++ ((clear 1 (cond b 15 31) ++ (cases 0 cs ++ (halt ++ loop))) ++ data_part (length cs))) e
+cleared : (isa : Isa) → AreCleared isa (last_register isa)
+cleared isa = record {
+  low = most isa.e;
+  few = λ e. subst (λ b. cond b 15 31 ≤ 15) (sym e) (omega arith);
+}
+  where
+    most : (b : Bool) → cond b 15 31 ≤ 31
+    most true = omega arith
+    most false = omega arith
 
 pub steps_high : (isa : Isa) (cs : List Solved) → AreReady isa cs → all_steps cs ≤ 544 * length cs
 steps_high isa [] h = omega arith
@@ -174,71 +179,73 @@ steps_high isa (One c ∷ cs) h =
 pub text_cut : (isa : Isa) (label : List ℕ) (points : List Point) (cs : List Solved)
     → IsTest isa label points cs
     → lines_of (test_text label isa points cs)
-    ≡ header label isa (step_limit cs) points ++ map printed (whole cs)
+    ≡ header label isa (step_limit cs) points ++ map printed (whole (last_register isa) cs)
 unfolding test_text
 text_cut isa label points cs is =
     let few = is.few in
     let small : length cs < 2 ^ 32 = omega arith in
     let n = step_limit cs in
     let bound : n ≤ 2000000 = omega (arith, steps_high isa cs is.choices) in
-    let fine = code_fine isa cs is.base small (all_plain isa cs is.base is.choices) in
+    let regs = last_register isa in
+    let fine = code_fine isa regs cs (cleared isa) small (all_plain isa cs is.choices) in
     let lines =
-    text_are_lines label isa n points cs (tested is_text_byte label is.label_text)
+    text_are_lines label isa regs n points cs (tested is_text_byte label is.label_text)
     (points_fine points is.points_text) (omega arith) (omega (arith, is.same)) fine small in
-    ap (λ s. lines_of (ended (header label isa n points ++ map printed s)))
-    (whole_is isa cs is.base)
-    ∙ lines_back (header label isa n points ++ map printed (whole cs)) lines
+    lines_back (header label isa n points ++ map printed (whole regs cs)) lines
 
 pub tests_run : TestsRun
 unfolding header_steps
 tests_run isa label points cs is =
-    let e = is.base in
+    let regs = last_register isa in
+    let e = cleared isa in
     let few = is.few in
     let small : length cs < 2 ^ 32 = omega arith in
-    let plain = all_plain isa cs e is.choices in
-    let are : AreChoices isa cs = record { base = e; few = few; plain = plain } in
+    let plain = all_plain isa cs is.choices in
+    let are : AreChoices isa regs cs = record { cleared = e; few = few; plain = plain } in
     let n = step_limit cs in
     let bound : n ≤ 2000000 = omega (arith, steps_high isa cs is.choices) in
     let head = header label isa n points in
-    let body = map printed (whole cs) in
+    let body = map printed (whole regs cs) in
     let text = test_text label isa points cs in
     let cut : lines_of text ≡ head ++ body = text_cut isa label points cs is in
-    let rs = blanks head ++ read_as (whole cs) in
-    let read_all : readings true ((head ++ body) ++ []) ≡ (blanks head ++ read_as (whole cs))
+    let rs = blanks head ++ read_as (whole regs cs) in
+    let read_all : readings true ((head ++ body) ++ []) ≡ (blanks head ++ read_as (whole regs cs))
     ++ [] =
-    (also (header_read label isa n points) (whole_read isa cs e small plain)).reads [] in
+    (also (header_read label isa n points) (whole_read isa regs cs e small plain)).reads [] in
     let read : text_readings text ≡ rs =
     ap (readings true) cut ∙ ap (readings true) (sym (append-nil (head ++ body))) ∙ read_all
     ∙ append-nil rs in
-    let tbl = named (table cs) in
-    let hs = table_small isa cs e small plain in
+    let tbl = named (table regs cs) in
+    let hs = table_small isa regs cs e small plain in
     let names : labels rs start ≡ tbl =
-    blank_labels head (read_as (whole cs)) ∙ labelled (whole cs) start in
+    blank_labels head (read_as (whole regs cs)) ∙ labelled (whole regs cs) start in
     let placed : first_fault isa [] start 1 rs ≡ None =
-    blank_first isa 1 head (read_as (whole cs))
-    (λ k. first_free isa [] start k (whole cs) tt (whole_distinct isa cs e small plain)
-    (whole_stands isa cs e few plain)) in
+    blank_first isa 1 head (read_as (whole regs cs))
+    (λ k. first_free isa [] start k (whole regs cs) tt (whole_distinct isa regs cs e small plain)
+    (whole_stands isa regs cs e few plain)) in
     let linked : second_fault tbl start 1 rs ≡ None =
-    blank_second tbl 1 head (read_as (whole cs))
-    (λ k. second_free (table cs) start k (whole cs) hs (whole_linked isa cs e small plain)) in
-    let host : find_mark tbl (codes "tohost") ≡ find_name (table cs) ToHost =
-    found (table cs) ToHost tt hs in
-    let first : find_mark tbl (codes "begin_signature") ≡ find_name (table cs) BeginSignature =
-    found (table cs) BeginSignature tt hs in
-    let last : find_mark tbl (codes "end_signature") ≡ find_name (table cs) EndSignature =
-    found (table cs) EndSignature tt hs in
+    blank_second tbl 1 head (read_as (whole regs cs))
+    (λ k. second_free (table regs cs) start k (whole regs cs) hs
+    (whole_linked isa regs cs e small plain)) in
+    let host : find_mark tbl (codes "tohost") ≡ find_name (table regs cs) ToHost =
+    found (table regs cs) ToHost tt hs in
+    let first : find_mark tbl (codes "begin_signature") ≡ find_name (table regs cs) BeginSignature =
+    found (table regs cs) BeginSignature tt hs in
+    let last : find_mark tbl (codes "end_signature") ≡ find_name (table regs cs) EndSignature =
+    found (table regs cs) EndSignature tt hs in
     let marked : first_missing tbl needed ≡ None =
     ap
     (λ o. cond (is_missing o) (Some (codes "tohost"))
     (first_missing tbl (codes "begin_signature" ∷ codes "end_signature" ∷ [])))
-    (host ∙ tohost_there isa cs e small plain)
+    (host ∙ tohost_there isa regs cs e small plain)
     ∙ ap
     (λ o. cond (is_missing o) (Some (codes "begin_signature"))
-    (first_missing tbl (codes "end_signature" ∷ []))) (first ∙ begin_there isa cs e small plain)
+    (first_missing tbl (codes "end_signature" ∷ [])))
+    (first ∙ begin_there isa regs cs e small plain)
     ∙ ap (λ o. cond (is_missing o) (Some (codes "end_signature")) None)
-    (last ∙ end_there isa cs e small plain) in
-    let image = image_for cs in
-    let made : image ≡ image_of tbl rs = sym (image_blank tbl head (read_as (whole cs))) in
+    (last ∙ end_there isa regs cs e small plain) in
+    let image = image_for regs cs in
+    let made : image ≡ image_of tbl rs = sym (image_blank tbl head (read_as (whole regs cs))) in
     let assembled : Assembles text isa image = record {
       placed = ap (first_fault isa [] start 1) read ∙ placed;
       linked =
@@ -250,11 +257,11 @@ tests_run isa label points cs is =
       made =
           made ∙ ap (λ x. image_of x rs) (sym names)
           ∙ ap (λ r. image_of (labels r start) r) (sym read);
-      regions = image_fine isa cs are;
+      regions = image_fine isa regs cs are;
     } in
     record {
       image = image;
       assembles = assembled;
       limit = ap first_steps cut ∙ header_first label isa n points body (omega arith) bound;
-      runs = λ k h. test_runs isa cs k are h;
+      runs = λ k h. test_runs isa regs cs k are h;
     }

@@ -174,7 +174,8 @@ refers-of call files asked told asks f n = record {
       only-done (n.answered.by_inputs run
       (both-in files asked.isa asked.test asked.steps run both) none)
       (λ is. (n.answered.not_passed is).left);
-  logged = λ run both. n.logged run (both-in files asked.isa asked.test asked.steps run both);
+  logged = λ run both octets.
+      n.logged run (both-in files asked.isa asked.test asked.steps run both) octets;
   refused = λ is.
       let h = n.answered.refused is in
       record {

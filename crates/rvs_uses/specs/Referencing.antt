@@ -5,7 +5,7 @@ use Rattle.rvs_plan.specs.declared.status.Status.TheVariants.{Done, NotPassed, R
 use Rattle.rvs_log.specs.Entries.{entries_of}
 use Rattle.rvs_log.specs.Logs.{log_of, as_entry}
 use Rattle.rvs_suite.specs.Call.{Call, world_of, Asks, NothingFailed, HostRose, AnswersOnly}
-use Rattle.rvs_suite.specs.Halting.{BothHalt}
+use Rattle.rvs_suite.specs.Halting.{BothHalt, HoldsOctets}
 use Rattle.rvs_uses.specs.Refusals.{HasRefused, HasMissed}
 use Rattle.rvs_uses.specs.Halting.{HasRecorded, FirstRefused, FirstMissing}
 use Rattle.rvs_suite.specs.declared.test_run.Run.{Run}
@@ -24,6 +24,7 @@ pub record Refers (call : Call) (files : Files) (asked : ReferenceArguments) : T
       → AnswersOnly call Done
   -- the entries of the log are the executed instructions, the store that halts included
   pub logged : (run : Run) → BothHalt files asked.isa asked.test asked.steps run
+      → HoldsOctets files asked.test
       → entries_of (log_of run.trace) ≡ map as_entry run.trace
   -- it is refused where the first file that isn't accepted is refused, or the test traps or doesn't
   -- halt, and says why; nothing is written

@@ -1,24 +1,18 @@
-use Rattle.std.proofs.Common.{◌≡◌, ◌≤◌, ◌<◌, ℕ, ◌+◌, ◌^◌, Bool, true, false, nat_lt, List, [], ◌++◌}
-use Rattle.std.proofs.Common.{length, Option, Some, Result, Ok, Err, if◌then◌else◌, refl, sym, ap}
-use Rattle.std.proofs.Common.{◌∙◌, arith}
-use Rattle.std.proofs.lemmas.Bool.{lt-ltb, le-ltb, cond-true, cond-false}
+use Rattle.std.proofs.Common.{◌≡◌, ◌≤◌, ◌<◌, ℕ, ◌+◌, ◌^◌, List, [], length, refl, ap, ◌∙◌, arith}
 use Rattle.std.proofs.lemmas.Result.{err_from_is_err_and}
-use Rattle.rvs_base.specs.Host.{Files, Tells}
 use Rattle.rvs_plan.specs.World.{world}
-use Rattle.rvs_plan.specs.Plan.{Asks, Ends}
 use Rattle.rvs_plan.specs.Inputs.{too_long_text}
-use Rattle.rvs_plan.specs.declared.stop.Stop.{Stop}
-use Rattle.rvs_plan.specs.declared.stop.Stop.TheVariants.{Refused}
 use Rattle.rvs_plan.proofs.Sequence.{Meets-no_memory}
 use Rattle.rvs_plan.proofs.Stepping.{asks-accepted, asks-refused, asks-absent, asks-failed}
 use Rattle.rvs_plan.proofs.Stepping.{reads-no_memory}
 use Rattle.rvs_cgf.specs.declared.group.Label.{Label}
-use Rattle.rvs_count.specs.Feeds.{Fed, FeedsFile, IsLong}
 use Rattle.rvs_count.specs.State.{CountState, state_of, ended}
 use Rattle.rvs_base.specs.declared.asked.Window.{Window as Span}
 use Rattle.rvs_count.proofs.Ends.{fed_of}
 use Rattle.rvs_suite.specs.GroupsView.{groups_view}
-use Rattle.rvs_suite.specs.Coverage.{log_limit, report_on, report_found}
+use Rattle.rvs_suite.specs.Coverage.{reports, report_found}
+use Rattle.rvs_suite.specs.LogReport.{log_limit}
+use Rattle.rvs_suite.proofs.LogReads.{accepts-log, refuses-log}
 use Rattle.rvs_suite.proofs.covering.count_with.Goals as goal
 
 pub returns-in_err-name : goal.returns-in_err-name
@@ -47,13 +41,6 @@ short groups windows bytes after c is within = let fed : c.fed ≡ 0 + length by
     ap (λ (s : CountState). s.fed) is ∙ fed_of groups windows after (0 + length bytes) in
     omega (arith, fed, within)
 
-found : (groups : List Label) (windows : List Span) (name bytes text : List ℕ)
-    → length bytes ≤ log_limit → text ≡ report_on (groups_view groups) windows bytes
-    → report_found (groups_view groups) windows name (Some bytes) ≡ Ok text
-found groups windows name bytes text short is =
-    cond-false (nat_lt log_limit (length bytes)) _ _ (le-ltb log_limit (length bytes) short)
-    ∙ ap Ok (sym is)
-
 pub returns-in_ok-report_at_end-in-Ok : goal.returns-in_ok-report_at_end-in-Ok
 returns-in_ok-report_at_end-in-Ok g c = λ out groups windows begun few.
     let name = c.args.log.now in
@@ -67,7 +54,8 @@ returns-in_ok-report_at_end-in-Ok g c = λ out groups windows begun few.
     at_end few in
     asks-accepted out name (report_found (groups_view groups) windows name) feeds.bytes
     c.in_ok-report_at_end-in-Ok.field-0 c.in-Ok.ensures.reads_only feeds.whole
-    (found groups windows name feeds.bytes c.in_ok-report_at_end-in-Ok.field-0 within text)
+    (accepts-log (reports windows) (groups_view groups) name feeds.bytes
+    c.in_ok-report_at_end-in-Ok.field-0 within text)
     c.in-Ok.ensures.unfaulted
 
 pub returns-in-Err-NoFile : goal.returns-in-Err-NoFile
@@ -86,13 +74,6 @@ returns-in-Err-Failed g c = λ out groups windows begun few.
     c.in-Err-Failed.ensures.reads_only
     (rw c.in-Err-Failed.field-0-is at c.in-Err-Failed.ensures.cause))
 
-refused : (groups : List Label) (windows : List Span) (name bytes text : List ℕ)
-    → log_limit < length bytes → text ≡ too_long_text name log_limit
-    → report_found (groups_view groups) windows name (Some bytes) ≡ Err (Refused text)
-refused groups windows name bytes text long is =
-    cond-true (nat_lt log_limit (length bytes)) _ _ (lt-ltb log_limit (length bytes) long)
-    ∙ ap (λ (t : List ℕ). Err (Refused t)) (sym is)
-
 longer : (c : CountState) (bytes : List ℕ) → c.fed ≡ 0 → 2 ^ 40 < c.fed + length bytes
     → log_limit < length bytes
 longer c bytes new long = omega arith
@@ -109,6 +90,7 @@ returns-in_ok-too_long-in-Err-TooLong g c = λ out groups windows begun few.
     (λ files t. let long = cause.0.longer files t in (
       long.0,
       long.1,
-      refused groups windows name long.0 c.in_ok-too_long-in-Err-TooLong.field-0
+      refuses-log (reports windows) (groups_view groups) name long.0
+          c.in_ok-too_long-in-Err-TooLong.field-0
           (longer c.args.counter.now long.0 new long.2) text,
     )) cause.1

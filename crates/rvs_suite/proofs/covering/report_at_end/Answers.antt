@@ -1,4 +1,4 @@
-use Rattle.std.proofs.Common.{◌≡◌, ℕ, List, map, length, Result, Ok, Err, IfOk, ap, ◌∙◌}
+use Rattle.std.proofs.Common.{◌≡◌, ℕ, List, map, length, ap, ◌∙◌}
 use Rattle.rvs_cgf.specs.GroupView.{label_view}
 use Rattle.rvs_cgf.specs.declared.group.Label.{Label}
 use Rattle.rvs_log.specs.Entries.{entries_of}
@@ -9,6 +9,7 @@ use Rattle.rvs_base.specs.declared.asked.Window.{Window as Span}
 use Rattle.rvs_count.proofs.Ends.{counted_all, counted_instructions, counted_labels}
 use Rattle.rvs_suite.specs.GroupsView.{groups_view}
 use Rattle.rvs_suite.specs.Coverage.{report_on}
+use Rattle.rvs_suite.proofs.LogReads.{IfOk-map}
 use Rattle.rvs_suite.proofs.covering.report_at_end.Goals as goal
 
 abbrev report_in : CountState → List ℕ
@@ -21,11 +22,6 @@ unfolding report_on
 reported labels windows bytes n = λ i. report_of
     (map label_view (counted_labels labels windows (ended bytes) n i))
     (counted_all labels windows bytes n i) (counted_instructions labels windows bytes n i)
-
-IfOk-map : {A E : Type 0} {P Q : A → Type 0} (r : Result A E) → ((a : A) → P a → Q a) → IfOk r P
-    → IfOk r Q
-IfOk-map (Ok a) f p = f a p
-IfOk-map (Err e) f p = tt
 
 pub returns-clause-report : goal.returns-clause-report
 returns-clause-report c = IfOk-map c.report.result (λ text is labels windows bytes n old. is

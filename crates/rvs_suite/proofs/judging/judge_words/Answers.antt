@@ -1,64 +1,25 @@
-use Rattle.std.proofs.Common.{◌≡◌, List, ℕ, Result, sym, subst, ◌∙◌}
+use Rattle.std.proofs.Common.{List, ℕ}
 use Rattle.std.proofs.lemmas.Result.{err_from_is_err_and}
-use Rattle.rvs_plan.specs.World.{World, world, IsAnswer}
-use Rattle.rvs_plan.specs.Meets.{MeetsWith}
-use Rattle.rvs_plan.specs.declared.stop.Stop.{Stop}
-use Rattle.rvs_plan.proofs.Sequence.{Meets-no_memory}
-use Rattle.rvs_device.specs.Judging.{task}
-use Rattle.rvs_device.specs.Plans.{judged, stopped}
+use Rattle.rvs_plan.proofs.Sequence.{Meets-then, Meets-stop, Meets-weaker}
+use Rattle.rvs_plan.specs.Plan.{Plan}
 use Rattle.rvs_device.specs.declared.verdicts.TestVerdict.{TestVerdict}
 use Rattle.rvs_suite.specs.RunTests.{Bench, judges_by}
 use Rattle.rvs_suite.specs.RunView.{bench_view}
 use Rattle.rvs_suite.specs.declared.test_files.TestFiles.{TestFiles}
 use Rattle.rvs_suite.proofs.judging.judge_words.Goals as goal
 
-pub returns-in_err-test : goal.returns-in_err-test
-returns-in_err-test g c = λ out.
+-- what follows when the words are written
+abbrev next : Bench → TestFiles → List ℕ → Unit {0} → Plan TestVerdict
+next bench files words done = judges_by bench files words
+
+pub returns-in_err-write_words : goal.returns-in_err-write_words
+returns-in_err-write_words g c = λ out.
     let p = err_from_is_err_and c.from_residual.result c.from_residual.ensures.1 in
-    rw (p.1, p.2) (Meets-no_memory
-    (judges_by (bench_view c.args.bench.now) c.args.files.now c.args.words.now)
-    (world (g.H.Host.state c.args.host.now) out))
-
-pub returns-in_err-signature : goal.returns-in_err-signature
-returns-in_err-signature g c = λ out.
-    let p = err_from_is_err_and c.from_residual-in_err-signature.result
-    c.from_residual-in_err-signature.ensures.1 in
-    rw (p.1, p.2) (Meets-no_memory
-    (judges_by (bench_view c.args.bench.now) c.args.files.now c.args.words.now)
-    (world (g.H.Host.state c.args.host.now) out))
-
--- by names that are those of the files
-judged-as : (bench : Bench) (files : TestFiles) (words : List ℕ) (test signature : List ℕ)
-    (old new : World) (result : Result TestVerdict Stop) → test ≡ files.test
-    → signature ≡ files.device
-    → MeetsWith IsAnswer (judged (task bench.device.command bench.program test signature words)) old
-    new result → MeetsWith IsAnswer (judges_by bench files words) old new result
-judged-as bench files words test signature old new result t s m =
-    subst (λ (x : List ℕ). MeetsWith IsAnswer
-    (judged (task bench.device.command bench.program x files.device words)) old new result) t
-    (subst (λ (x : List ℕ). MeetsWith IsAnswer
-    (judged (task bench.device.command bench.program test x words)) old new result) s m)
+    rw (p.1, p.2) (Meets-weaker (Meets-stop
+    (next (bench_view c.args.bench.now) c.args.files.now c.args.words.now)
+    (c.in_err-write_words.ensures out)))
 
 pub returns : goal.returns
 returns g c = λ out.
-    let bench = bench_view c.args.bench.now in
-    let files = c.args.files.now in
-    let words = c.args.words.now in
-    let old = world (g.H.Host.state c.args.host.now) out in
-    let new = world (g.H.Host.state c.judge-judged.new.host) out in
-    let test : c.as_str-4.result.now ≡ files.test =
-    c.as_str-4.ensures ∙ c.in_ok-test.ensures ∙ c.as_str.ensures in
-    let signature : c.as_str-5.result.now ≡ files.device =
-    c.as_str-5.ensures ∙ c.in_ok-signature.ensures ∙ c.as_str-2.ensures in
-    let program : c.as_str-3.result.now ≡ bench.program = c.as_str-3.ensures in
-    let t = task bench.device.command c.as_str-3.result.now c.as_str-4.result.now
-    c.as_str-5.result.now words in
-    let is : c.with_stop.result ≡ stopped t c.judge-judged.result =
-    c.with_stop.ensures t c.as_str-4.ensures c.as_str-5.ensures in
-    let met = subst (λ (r : Result TestVerdict Stop). MeetsWith IsAnswer (judged t) old new r)
-    (sym is) (c.judge-judged.ensures.planned out) in
-    judged-as bench files words c.as_str-4.result.now c.as_str-5.result.now old new
-    c.with_stop.result test signature
-    (subst (λ (x : List ℕ). MeetsWith IsAnswer
-    (judged (task bench.device.command x c.as_str-4.result.now c.as_str-5.result.now words)) old
-    new c.with_stop.result) program met)
+    Meets-then (next (bench_view c.args.bench.now) c.args.files.now c.args.words.now)
+    (Meets-weaker (c.in_ok-write_words.ensures out)) (c.judge_device.ensures out)

@@ -30,6 +30,10 @@ pub returns-in-Coverage : goal.returns-in-Coverage
 returns-in-Coverage g c =
     rw c.in-Coverage.is (Performs-meets (λ is. cc) (λ count is. cc) c.cover_log.ensures)
 
+pub returns-in-Propagate : goal.returns-in-Propagate
+returns-in-Propagate g c =
+    rw c.in-Propagate.is (Performs-meets (λ is. cc) (λ count is. cc) c.propagate_log.ensures)
+
 pub returns-in-Run : goal.returns-in-Run
 returns-in-Run g c =
     rw c.in-Run.is (Performs-meets (λ is. cc) (λ count is. cc) c.run_tests.ensures)

@@ -1,6 +1,5 @@
-use Rattle.std.proofs.Common.{◌≡◌, ◌<◌, ◌≤◌, ◌∙◌, ◌++◌, ℕ, false, List, length, map, sym, ap, subst}
+use Rattle.std.proofs.Common.{◌≡◌, ◌<◌, ◌≤◌, ◌∙◌, ◌++◌, ℕ, List, length, map, sym, ap, subst}
 use Rattle.std.specs.Prelude.{All}
-use Rattle.rvs_insn.specs.Isa.{Isa}
 use Rattle.rvs_cgf.specs.GroupView.{label_view}
 use Rattle.rvs_solver.specs.declared.solved.Solved.{Solved}
 use Rattle.rvs_test_text.specs.declared.claim.Claim.{Claim}
@@ -32,10 +31,8 @@ push_code-requires-clause-few c =
 
 pub push_code-requires-clause-ready : goal.push_code-requires-clause-ready
 push_code-requires-clause-ready c =
-    let base : c.args.spec.now.e ≡ false =
-    ap (λ (i : Isa). i.e) (sym c.spec.view_is) ∙ c.spec.invariant.0 in
     subst (AreReady c.args.spec.now) (sym c.requires.cases)
-    (cases_ready c.args.spec.now (label_view c.args.label.now) base c.requires.valid)
+    (cases_ready c.args.spec.now (label_view c.args.label.now) c.requires.valid)
 
 pub push_data-requires : goal.push_data-requires
 push_data-requires c =
@@ -66,16 +63,12 @@ returns-clause-text c =
 
 pub returns-clause-runs : goal.returns-clause-runs
 returns-clause-runs c =
-    let base : c.args.spec.now.e ≡ false =
-    ap (λ (i : Isa). i.e) (sym c.spec.view_is) ∙ c.spec.invariant.0 in
-    runs_there c.args.spec.now (label_view c.args.label.now) base c.requires.valid
+    runs_there c.args.spec.now (label_view c.args.label.now) c.requires.valid
     c.push_data.new.out c.args.claims.now c.args.cases.now c.args.steps c.requires.claims
     c.requires.cases c.requires.steps (returns-clause-text c)
 
 pub returns-clause-read : goal.returns-clause-read
 returns-clause-read c =
-    let base : c.args.spec.now.e ≡ false =
-    ap (λ (i : Isa). i.e) (sym c.spec.view_is) ∙ c.spec.invariant.0 in
-    back_there c.args.spec.now (label_view c.args.label.now) base c.requires.valid
+    back_there c.args.spec.now (label_view c.args.label.now) c.requires.valid
     c.push_data.new.out c.args.claims.now c.args.cases.now c.requires.claims c.requires.cases
     (returns-clause-text c)

@@ -9,5 +9,5 @@ pub push_statements-requires : goal.push_statements-requires
 push_statements-requires c =
     let P : List Statement → Type 0 = λ l. All IsPrinted l in
     subst P (sym (c.as_slice.ensures.value ∙ c.in_ok-statements.ensures))
-    (case_printed c.args._spec.now c.args.k c.args.solved.now c.requires.few c.requires.base
+    (case_printed c.args._spec.now c.args.k c.args.solved.now c.requires.few
     c.requires.ready)

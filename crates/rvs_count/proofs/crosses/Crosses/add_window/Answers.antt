@@ -1,6 +1,7 @@
 use Rattle.std.proofs.Common.{◌≡◌, ◌+◌, ◌-◌, ◌*◌, sym, ap, ◌∙◌, arith, length, vec_len}
 use Rattle.rvs_facts.specs.Mnemonics.{number}
 use Rattle.rvs_insn.specs.Fields.{Fields}
+use Rattle.rvs_insn.specs.Table.{op_count}
 use Rattle.rvs_count.specs.Counting.{aims_in}
 use Rattle.rvs_count.specs.Index.{is_for, places_for, windows_key}
 use Rattle.rvs_count.proofs.Places.{added_window, slots_at, slots_few, slots_low}
@@ -8,7 +9,7 @@ use Rattle.rvs_count.proofs.crosses.Crosses.add_window.Goals as goal
 
 pub add_matched-requires-clause-within : goal.add_matched-requires-clause-within
 add_matched-requires-clause-within c =
-    let key = (length c.args.window.now - 1) * 48 + c.number.result in
+    let key = (length c.args.window.now - 1) * op_count + c.number.result in
     let mine =
     slots_at windows_key c.self.inside.labels.now c.self.inside.lists c.as_slice.result.now key
     c.index-as_slice-key.result c.as_slice-slots.result.now c.self.invariant.index
@@ -21,7 +22,7 @@ add_matched-requires-clause-within c =
 
 pub add_matched-requires-clause-few : goal.add_matched-requires-clause-few
 add_matched-requires-clause-few c =
-    let key = (length c.args.window.now - 1) * 48 + c.number.result in
+    let key = (length c.args.window.now - 1) * op_count + c.number.result in
     let mine =
     slots_at windows_key c.self.inside.labels.now c.self.inside.lists c.as_slice.result.now key
     c.index-as_slice-key.result c.as_slice-slots.result.now c.self.invariant.index
@@ -39,7 +40,7 @@ add_matched-requires-clause-few c =
 pub returns : goal.returns
 returns c =
     let window = c.args.window.now in
-    let key = (length window - 1) * 48 + c.number.result in
+    let key = (length window - 1) * op_count + c.number.result in
     let mine =
     slots_at windows_key c.self.inside.labels.now c.self.inside.lists c.as_slice.result.now key
     c.index-as_slice-key.result c.as_slice-slots.result.now c.self.invariant.index
@@ -50,7 +51,8 @@ returns c =
     c.number.ensures.place ∙ ap (λ (i : Fields). number i.op) c.first.view_is in
     added_window c.args.self.now window first first key
     c.as_slice-slots.result.now c.args.counts.now.items c.add_matched.new.counts.items
-    c.requires.some c.requires.few c.index-window-0.is (ap (λ n. (length window - 1) * 48 + n) same)
+    c.requires.some c.requires.few c.index-window-0.is (ap (λ n.
+    (length window - 1) * op_count + n) same)
     (omega (arith, same, c.number.ensures.low))
     (mine ∙ ap (λ ls. places_for (is_for (windows_key key)) 0 (aims_in ls)) c.self.view_is)
     c.requires.count c.add_matched.ensures

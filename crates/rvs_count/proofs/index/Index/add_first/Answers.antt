@@ -5,7 +5,7 @@ use Rattle.std.proofs.Common.{length, get_or, vec_len}
 use Rattle.rvs_cgf.specs.declared.group.Label.{Label}
 use Rattle.rvs_facts.specs.Mnemonics.{number}
 use Rattle.rvs_insn.specs.Fields.{Fields}
-use Rattle.rvs_count.specs.Buckets.{is_seen}
+use Rattle.rvs_count.specs.Buckets.{is_seen, bucket_count}
 use Rattle.rvs_count.specs.Counting.{aims_in, hits_insn}
 use Rattle.rvs_count.specs.Marks.{raised_marks, IsHead}
 use Rattle.rvs_count.specs.State.{added}
@@ -21,10 +21,10 @@ add_marks-requires-clause-within c =
     let lists = c.self.inside.lists in
     let at : h ≡ get_or c.self.inside.heads n h =
     c.index-as_slice-number.is ∙ ap (λ (l : List Head). get_or l n h) c.as_slice.ensures in
-    let is : IsHead n (get_or lists (n * 365) []) h =
-    subst (IsHead n (get_or lists (n * 365) [])) (sym at)
+    let is : IsHead n (get_or lists (n * bucket_count) []) h =
+    subst (IsHead n (get_or lists (n * bucket_count) [])) (sym at)
     (c.self.invariant.4.each n [] h (omega (arith, c.number.ensures.low, c.self.invariant.5))) in
-    let low : n * 365 < length lists =
+    let low : n * bucket_count < length lists =
     omega (arith, c.number.ensures.low, c.self.invariant.1) in
     let P : List Mark → Type 0 = λ l. All (λ (m : Mark). m.at < vec_len c.args.counts.now) l in
     subst P (sym c.as_slice-else-head.ensures)
@@ -39,10 +39,10 @@ add_marks-requires-clause-few c =
     let lists = c.self.inside.lists in
     let at : h ≡ get_or c.self.inside.heads n h =
     c.index-as_slice-number.is ∙ ap (λ (l : List Head). get_or l n h) c.as_slice.ensures in
-    let is : IsHead n (get_or lists (n * 365) []) h =
-    subst (IsHead n (get_or lists (n * 365) [])) (sym at)
+    let is : IsHead n (get_or lists (n * bucket_count) []) h =
+    subst (IsHead n (get_or lists (n * bucket_count) [])) (sym at)
     (c.self.invariant.4.each n [] h (omega (arith, c.number.ensures.low, c.self.invariant.5))) in
-    let low : n * 365 < length lists =
+    let low : n * bucket_count < length lists =
     omega (arith, c.number.ensures.low, c.self.invariant.1) in
     omega (
       arith,
@@ -60,10 +60,10 @@ returns-else-head c =
     let lists = c.self.inside.lists in
     let at : h ≡ get_or c.self.inside.heads n h =
     c.index-as_slice-number.is ∙ ap (λ (l : List Head). get_or l n h) c.as_slice.ensures in
-    let is : IsHead n (get_or lists (n * 365) []) h =
-    subst (IsHead n (get_or lists (n * 365) [])) (sym at)
+    let is : IsHead n (get_or lists (n * bucket_count) []) h =
+    subst (IsHead n (get_or lists (n * bucket_count) [])) (sym at)
     (c.self.invariant.4.each n [] h (omega (arith, c.number.ensures.low, c.self.invariant.5))) in
-    let low : n * 365 < length lists =
+    let low : n * bucket_count < length lists =
     omega (arith, c.number.ensures.low, c.self.invariant.1) in
     let cs = c.args.counts.now.items in
     let labels : c.self.inside.labels.now ≡ c.args.self.now = c.self.view_is in

@@ -1,6 +1,7 @@
 use Rattle.std.proofs.Common.{◌+◌, ◌*◌, sym, ap, ◌∙◌, arith, length, vec_len}
 use Rattle.rvs_facts.specs.Mnemonics.{number}
 use Rattle.rvs_insn.specs.Fields.{Fields}
+use Rattle.rvs_count.specs.Buckets.{bucket_count}
 use Rattle.rvs_count.specs.Counting.{aims_in}
 use Rattle.rvs_count.specs.Index.{insns_key, is_for, places_for}
 use Rattle.rvs_count.proofs.Places.{added_bucket, slots_at, slots_few, slots_low}
@@ -8,7 +9,7 @@ use Rattle.rvs_count.proofs.index.Index.add_list.Goals as goal
 
 pub add_insn-requires-clause-within : goal.add_insn-requires-clause-within
 add_insn-requires-clause-within c =
-    let key = c.number.result * 365 + c.args.bucket in
+    let key = c.number.result * bucket_count + c.args.bucket in
     let mine =
     slots_at insns_key c.self.inside.labels.now c.self.inside.lists c.as_slice.result.now key
     c.index-as_slice-key.result c.as_slice-slots.result.now c.self.invariant.0
@@ -21,7 +22,7 @@ add_insn-requires-clause-within c =
 
 pub add_insn-requires-clause-few : goal.add_insn-requires-clause-few
 add_insn-requires-clause-few c =
-    let key = c.number.result * 365 + c.args.bucket in
+    let key = c.number.result * bucket_count + c.args.bucket in
     let mine =
     slots_at insns_key c.self.inside.labels.now c.self.inside.lists c.as_slice.result.now key
     c.index-as_slice-key.result c.as_slice-slots.result.now c.self.invariant.0
@@ -38,7 +39,7 @@ add_insn-requires-clause-few c =
 
 pub returns : goal.returns
 returns c =
-    let key = c.number.result * 365 + c.args.bucket in
+    let key = c.number.result * bucket_count + c.args.bucket in
     let mine =
     slots_at insns_key c.self.inside.labels.now c.self.inside.lists c.as_slice.result.now key
     c.index-as_slice-key.result c.as_slice-slots.result.now c.self.invariant.0

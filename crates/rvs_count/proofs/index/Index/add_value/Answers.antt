@@ -6,7 +6,7 @@ use Rattle.rvs_cgf.specs.declared.group.Label.{Label}
 use Rattle.rvs_facts.specs.Mnemonics.{number}
 use Rattle.rvs_insn.specs.Fields.{Fields}
 use Rattle.rvs_count.specs.Cells.{asked_bucket, IsCell}
-use Rattle.rvs_count.specs.Buckets.{is_seen}
+use Rattle.rvs_count.specs.Buckets.{is_seen, bucket_count}
 use Rattle.rvs_count.specs.Counting.{aims_in, hits_insn}
 use Rattle.rvs_count.specs.State.{added}
 use Rattle.rvs_count.specs.declared.cell.Cell.{Cell}
@@ -17,12 +17,12 @@ use Rattle.rvs_count.proofs.index.Index.add_value.Goals as goal
 pub add_cell-requires-clause-first : goal.add_cell-requires-clause-first
 add_cell-requires-clause-first c =
     let b = c.asked_bucket-bucket.result in
-    let key = c.number.result * 365 + b in
+    let key = c.number.result * bucket_count + b in
     let blank : Cell =
     record { first = pos 0; first_at = 0; second = pos 0; second_at = 0; more = false } in
     let n = c.number.result in
     let cell : Cell =
-    get_or c.as_slice-2.result.now (get_or c.as_slice.result.now n 0 * 365 + b) blank in
+    get_or c.as_slice-2.result.now (get_or c.as_slice.result.now n 0 * bucket_count + b) blank in
     let same : to_z w64 (of_z w64 c.args.value) ≡ c.args.value = to_z-of_z _ _ c.ranges.value in
     let at : b ≡ asked_bucket c.args.asked c.args.value =
     rw same at c.asked_bucket-bucket.ensures.value in
@@ -42,12 +42,12 @@ add_cell-requires-clause-first c =
 pub add_cell-requires-clause-second : goal.add_cell-requires-clause-second
 add_cell-requires-clause-second c =
     let b = c.asked_bucket-bucket.result in
-    let key = c.number.result * 365 + b in
+    let key = c.number.result * bucket_count + b in
     let blank : Cell =
     record { first = pos 0; first_at = 0; second = pos 0; second_at = 0; more = false } in
     let n = c.number.result in
     let cell : Cell =
-    get_or c.as_slice-2.result.now (get_or c.as_slice.result.now n 0 * 365 + b) blank in
+    get_or c.as_slice-2.result.now (get_or c.as_slice.result.now n 0 * bucket_count + b) blank in
     let same : to_z w64 (of_z w64 c.args.value) ≡ c.args.value = to_z-of_z _ _ c.ranges.value in
     let at : b ≡ asked_bucket c.args.asked c.args.value =
     rw same at c.asked_bucket-bucket.ensures.value in
@@ -67,12 +67,12 @@ add_cell-requires-clause-second c =
 pub returns-else-cell : goal.returns-else-cell
 returns-else-cell c =
     let b = c.asked_bucket-bucket.result in
-    let key = c.number.result * 365 + b in
+    let key = c.number.result * bucket_count + b in
     let blank : Cell =
     record { first = pos 0; first_at = 0; second = pos 0; second_at = 0; more = false } in
     let n = c.number.result in
     let cell : Cell =
-    get_or c.as_slice-2.result.now (get_or c.as_slice.result.now n 0 * 365 + b) blank in
+    get_or c.as_slice-2.result.now (get_or c.as_slice.result.now n 0 * bucket_count + b) blank in
     let same : to_z w64 (of_z w64 c.args.value) ≡ c.args.value = to_z-of_z _ _ c.ranges.value in
     let at : b ≡ asked_bucket c.args.asked c.args.value =
     rw same at c.asked_bucket-bucket.ensures.value in

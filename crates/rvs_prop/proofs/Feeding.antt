@@ -1,0 +1,138 @@
+-- A file that is fed piece by piece.
+use Rattle.std.proofs.Common.{◌≡◌, ℕ, ◌+◌, ◌^◌, ◌<◌, true, List, [], ◌++◌, Option, Some, None, refl}
+use Rattle.std.proofs.Common.{sym, ap, ◌∙◌, length, take, drop, arith, append_assoc, append-nil}
+use Rattle.std.proofs.Common.{length-append, ◌≤◌, ◌-◌}
+use Rattle.std.proofs.lemmas.List.{length-take-le, drop_at}
+use Rattle.rvs_base.specs.File.{TakesAtMost}
+use Rattle.std.specs.Prelude.{is_some}
+use Rattle.rvs_base.specs.Host.{HostState, Files, Tells, ReadsOnly, Opens, Takes}
+use Rattle.rvs_count.proofs.Feeding.{both_read, inner, some_of, told_rest}
+use Rattle.rvs_prop.specs.State.{TrackState, state_of}
+use Rattle.rvs_prop.specs.Feeds.{Fed, FeedsFile, FeedsFront, IsLong}
+
+pub Fed-none : (c : TrackState) → Fed c c []
+Fed-none c = record {
+  state = λ labels lo hi before n e.
+      let z : n ≡ n + length {A = ℕ} [] = omega arith in
+      e
+      ∙ ap (λ l. state_of labels lo hi l n) (sym (append-nil before))
+      ∙ ap (λ m. state_of labels lo hi (before ++ []) m) z;
+  fed = omega arith;
+}
+
+pub Fed-more : (c c' c'' : TrackState) (a b : List ℕ) → Fed c c' a → Fed c' c'' b
+    → Fed c c'' (a ++ b)
+Fed-more c c' c'' a b f g = record {
+  state = λ labels lo hi before n e.
+      let z : n + length a + length b ≡ n + length (a ++ b) = omega (arith, length-append a b) in
+      g.state labels lo hi (before ++ a) (n + length a) (f.state labels lo hi before n e)
+      ∙ ap (λ l. state_of labels lo hi l (n + length a + length b)) (append_assoc before a b)
+      ∙ ap (λ m. state_of labels lo hi (before ++ (a ++ b)) m) z;
+  fed = omega (arith, f.fed, g.fed, length-append a b);
+}
+
+-- what was fed of an open file so far
+pub record HasFed (name : List ℕ) (old now : HostState) (c c' : TrackState) : Type 0 where
+  pub reads : ReadsOnly old now
+  pub unfaulted : now.read_faults ≡ old.read_faults
+  pub opened : now.is_open ≡ true
+  pub bytes : List ℕ
+  pub fed : Fed c c' bytes
+  pub within : length bytes ≤ 2 ^ 40 - c.fed
+  pub rest : (files : Files) (r : List ℕ) → Tells old files → now.rest ≡ Some r
+      → files name ≡ Some (bytes ++ r)
+
+pub HasFed-start : {name : List ℕ} {old now : HostState} (c : TrackState) → ReadsOnly old now
+    → now.read_faults ≡ old.read_faults → Opens name old now → HasFed name old now c c
+HasFed-start c q u o = record {
+  reads = q;
+  unfaulted = u;
+  opened = o.opened;
+  bytes = [];
+  fed = Fed-none c;
+  within = omega arith;
+  rest = λ files r t e. o.at_start files r t.files e;
+}
+
+-- the file is what was fed, what was just taken, and the rest
+file_is : {name buffer : List ℕ} {old now next : HostState} {c c' : TrackState} {n : ℕ}
+    (h : HasFed name old now c c')
+    → ReadsOnly now next → Takes buffer now next n
+    → (files : Files) (r : List ℕ) → Tells old files → next.rest ≡ Some r
+    → files name ≡ Some (h.bytes ++ (take n buffer ++ r))
+file_is {name} {buffer} {old} {now} {next} {c} {c'} {n} h q t files r told e =
+    let o = some_of now.rest (sym q.told ∙ ap (λ (o : Option (List ℕ)). is_some o) e) in
+    h.rest files o.0 told o.1
+    ∙ ap (λ l. Some (h.bytes ++ l)) (t.next o.0 o.1)
+    ∙ ap (λ l. Some (h.bytes ++ (take n buffer ++ l)))
+    (inner (drop n o.0) r (sym (t.left o.0 o.1) ∙ e))
+
+pub HasFed-more : {name buffer : List ℕ} {old now next : HostState} {c c' : TrackState} {n : ℕ}
+    (c'' : TrackState)
+    → HasFed name old now c c' → ReadsOnly now next → next.read_faults ≡ now.read_faults
+    → Takes buffer now next n → Fed c' c'' (take n buffer) → c''.fed ≤ 2 ^ 40
+    → HasFed name old next c c''
+HasFed-more {name} {buffer} {old} {now} {next} {c} {c'} {n} c'' h q u t f low = record {
+  reads = both_read h.reads q;
+  unfaulted = u ∙ h.unfaulted;
+  opened = t.still_open;
+  bytes = h.bytes ++ take n buffer;
+  fed = Fed-more c c' c'' h.bytes (take n buffer) h.fed f;
+  within = omega (arith, h.fed.fed, f.fed, low, length-append h.bytes (take n buffer));
+  rest = λ files r told e. file_is h q t files r told e
+      ∙ ap (λ l. Some l) (sym (append_assoc h.bytes (take n buffer) r));
+}
+
+pub HasFed-whole : {name buffer : List ℕ} {old now next : HostState} {c c' : TrackState} {n : ℕ}
+    → HasFed name old now c c' → Takes buffer now next n → n ≡ 0 → FeedsFile name old c c'
+HasFed-whole h t z = record {
+  bytes = h.bytes;
+  fed = h.fed;
+  whole = λ files told.
+      let o = told_rest files h.reads told in
+      h.rest files o.0 told o.1 ∙ ap (λ l. Some (h.bytes ++ l)) (t.at_end z o.0 o.1)
+      ∙ ap (λ l. Some l) (append-nil h.bytes);
+}
+
+pub HasFed-front : {name : List ℕ} {old now : HostState} {c c' : TrackState}
+    → HasFed name old now c c' → FeedsFront name old c c'
+HasFed-front h = record {
+  bytes = h.bytes;
+  fed = h.fed;
+  front = λ files file told e.
+      let o = told_rest files h.reads told in
+      (o.0, inner file (h.bytes ++ o.0) (sym e ∙ h.rest files o.0 told o.1));
+}
+
+-- what was fed and the piece behind it, of an open file
+pub HasFed-most : {name buffer : List ℕ} {old now next : HostState} {c c' : TrackState}
+    {n most : ℕ} (h : HasFed name old now c c') → ReadsOnly now next → Takes buffer now next n
+    → length h.bytes + n ≤ most → TakesAtMost name most old next
+HasFed-most {name} {buffer} {old} {now} {next} {c} {c'} {n} h q t fits = record {
+  taken = λ files file told is opened.
+      let o = told_rest files (both_read h.reads q) told in
+      let front = h.bytes ++ take n buffer in
+      let whole : files name ≡ Some (front ++ o.0) = file_is h q t files o.0 told o.1
+      ∙ ap (λ l. Some l) (sym (append_assoc h.bytes (take n buffer) o.0)) in
+      let same : file ≡ front ++ o.0 = inner file (front ++ o.0) (sym is ∙ whole) in
+      let left : drop (length front) file ≡ o.0 = ap (drop (length front)) same
+      ∙ drop_at front o.0 (length front) refl in (
+        length front,
+        omega (arith, fits, length-append h.bytes (take n buffer), length-take-le n buffer t.fits),
+        o.1 ∙ ap (λ l. Some l) (sym left),
+      );
+}
+
+-- one piece too much
+pub HasFed-long : {name buffer : List ℕ} {old now next : HostState} {c c' : TrackState} {n : ℕ}
+    → HasFed name old now c c' → ReadsOnly now next → Takes buffer now next n
+    → 2 ^ 40 < c'.fed + length (take n buffer) → IsLong name old c
+HasFed-long {name} {buffer} {old} {now} {next} {c} {c'} {n} h q t l = record {
+  longer = λ files told.
+      let o = told_rest files (both_read h.reads q) told in
+      let piece = take n buffer in (
+        h.bytes ++ (piece ++ o.0),
+        file_is h q t files o.0 told o.1,
+        omega (arith, l, h.fed.fed, length-append h.bytes (piece ++ o.0), length-append piece o.0),
+      );
+}

@@ -1,0 +1,62 @@
+// Tracking in a file.
+ghost use Rattle.std.specs.Prelude.{◌≡◌, ◌≤◌, ◌+◌, ◌-◌, ◌^◌, IfErr, OnOk, OnErr, length, take};
+ghost use Rattle.rvs_base.specs.File.{TakesAtMost};
+ghost use Rattle.rvs_base.specs.Host.{ReadsOnly};
+ghost use Rattle.rvs_prop.specs.Feeds.{FeedCause, FeedsFile, FeedsFront};
+
+use crate::tracker::{TooLong, Tracker};
+use rvs_base::Host;
+use rvs_count::LogFault;
+
+/// The longest piece that is read at once. It stands on the stack, so it is kept small.
+const PIECE: usize = 16_384;
+
+impl From<TooLong> for LogFault {
+    ghost use Rattle.rvs_count.specs.declared.file.LogFault.TheVariants as fault;
+
+    ghost from_gives = { λ _ refusal. refusal ≡ fault.TooLong };
+
+    fn from(_: TooLong) -> Self {
+        LogFault::TooLong
+    }
+}
+
+/// The first bytes of a buffer.
+fn front_of(buffer: &[u8], count: usize) -> &[u8]
+    requires { count ≤ length buffer.now }
+    ensures { result.now ≡ take count buffer.now }
+{
+    &buffer[..count]
+}
+
+/// Feeds the bytes of a file to its end, in pieces of at most 16 KiB, and takes no more of it than
+/// may be fed and the piece that passes that; it doesn't finish the log. It takes no memory.
+///
+/// # Errors
+///
+/// [`LogFault`]; a front of the file was fed.
+pub fn track_file<H: Host>(
+    host: &mut H,
+    name: &str,
+    tracker: &mut Tracker<'_>,
+) -> Result<(), LogFault>
+    ensures reads_only { ReadsOnly (H.state host.old) (H.state host.new) }
+    ensures whole { OnOk result (FeedsFile name.now (H.state host.old) tracker.old tracker.new) }
+    ensures unfaulted { OnOk result
+        ((H.state host.new).read_faults ≡ (H.state host.old).read_faults) }
+    ensures front { OnErr result (FeedsFront name.now (H.state host.old) tracker.old tracker.new) }
+    ensures cause { IfErr result
+        (FeedCause name.now (H.state host.old) (H.state host.new) tracker.old tracker.new) }
+    ensures at_most { TakesAtMost name.now (2 ^ 40 - tracker.old.fed + 16384)
+        (H.state host.old) (H.state host.new) }
+{
+    host.open_read(name)?;
+    let mut buffer = [0u8; PIECE];
+    'pieces: loop {
+        let count = host.take(&mut buffer)?;
+        if count == 0 {
+            return Ok(());
+        }
+        tracker.feed(front_of(&buffer, count))?;
+    }
+}

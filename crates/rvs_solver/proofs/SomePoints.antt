@@ -1,0 +1,56 @@
+-- The first choices of some points.
+use Rattle.std.proofs.Common.{◌≡◌, ℕ, true, [], ◌∷◌, Option, Some, None, refl, ap, ◌∙◌, append-nil}
+use Rattle.std.specs.Prelude.{find, flat_map}
+use Rattle.rvs_insn.specs.declared.op.Format.TheVariants.{R}
+use Rattle.rvs_insn.specs.declared.op.Op.TheVariants.{Add, AmoaddW}
+use Rattle.rvs_insn.specs.Isa.{Isa}
+use Rattle.rvs_cgf.specs.declared.group.Kind.TheVariants.{Rd, ValComb}
+use Rattle.rvs_cgf.specs.Groups.{reg_is, nums}
+use Rattle.rvs_solver.specs.Truth.{holds, constants_in}
+use Rattle.rvs_solver.specs.Datasets.{dataset, joined, is_between, is_there, around}
+use Rattle.rvs_solver.specs.Datasets.{rds, rs1s, rs2s}
+use Rattle.rvs_solver.specs.Choices.{choices, ChoiceValue}
+use Rattle.rvs_solver.specs.Point.{hits}
+use Rattle.rvs_solver.specs.First.{first_choice}
+use Rattle.rvs_solver.specs.Least.{at_rd}
+use Rattle.rvs_solver.specs.SomePoints.{address_point, other_point, AtAddress, AtNoAddress}
+use Rattle.rvs_solver.specs.SomePoints.{LastRegister, NoRegister, choice_at}
+use Rattle.rvs_solver.proofs.RegisterPoints.{register_is}
+use Rattle.rvs_solver.proofs.RegisterCalls.{has_choice}
+use Rattle.rvs_solver.proofs.Stores.{store_is}
+
+-- ---- an atomic row has the word of its address in rs1, and no other
+
+pub at_address : AtAddress
+unfolding holds constants_in dataset joined is_between is_there around
+at_address isa =
+    ap (find (hits ValComb (nums address_point)))
+    (append-nil (choices isa AmoaddW (constants_in address_point)))
+    ∙ store_is isa AmoaddW address_point (constants_in address_point) refl refl
+
+pub at_no_address : AtNoAddress
+unfolding holds constants_in dataset joined is_between is_there around
+at_no_address isa =
+    ap (find (hits ValComb (nums other_point)))
+    (append-nil (choices isa AmoaddW (constants_in other_point)))
+    ∙ store_is isa AmoaddW other_point (constants_in other_point) refl refl
+
+-- ---- under the base E the registers end with x15
+
+of_few : (isa : Isa) (r : ℕ) (o : Option ChoiceValue) → isa.e ≡ true
+    → find (hits Rd (reg_is r)) (flat_map (at_rd Add R (rs1s true R) (rs2s true R)) (rds true R)) ≡ o
+    → first_choice isa (Add ∷ []) Rd (reg_is r) ≡ o
+of_few isa r o e h =
+    ap (find (hits Rd (reg_is r))) (append-nil (choices isa Add []))
+    ∙ register_is isa Add Rd (reg_is r) (has_choice R (λ x. cc)) refl refl
+    ∙ ap (λ b. find (hits Rd (reg_is r)) (flat_map (at_rd Add R (rs1s b R) (rs2s b R)) (rds b R)))
+    e
+    ∙ h
+
+pub last_register : LastRegister
+unfolding rds rs1s rs2s
+last_register isa e = of_few isa 15 (Some (choice_at Add 15 1 1)) e refl
+
+pub no_register : NoRegister
+unfolding rds rs1s rs2s
+no_register isa e = of_few isa 16 None e refl

@@ -1,0 +1,76 @@
+-- The executable of a test, which is written where the device asks for it.
+use Rattle.std.proofs.Common.{◌≡◌, ◌≢◌, ℕ, Bool, true, false, List, ◌∷◌, Option, Some, None}
+use Rattle.std.proofs.Common.{Result, Ok, bytes_eq, refl, sym, ap, ◌∙◌, subst}
+use Rattle.rvs_base.specs.Host.{Files}
+use Rattle.rvs_base.specs.declared.host.DeviceRun.{DeviceRun}
+use Rattle.rvs_plan.specs.World.{Contents}
+use Rattle.rvs_plan.specs.Effect.{Write, Effect, Did, after, Saw}
+use Rattle.rvs_insn.specs.Isa.{Isa}
+use Rattle.rvs_machine.specs.Image.{ImageValue}
+use Rattle.rvs_elf.specs.Executable.{image_of_elf}
+use Rattle.rvs_elf.specs.Laws.{with_marks}
+use Rattle.rvs_elf.proofs.ReadBack.{reads_back, runs_alike}
+use Rattle.rvs_asm.specs.declared.refusal.AsmRefusal.{AsmRefusal}
+use Rattle.rvs_asm.proofs.Answered.{answered_stands}
+use Rattle.rvs_suite.specs.Tests.{IsRunnable, elf_of_image, executable_of}
+use Rattle.rvs_suite.specs.RunTests.{if_asked}
+use Rattle.rvs_suite.specs.RunLeft.{with_executable}
+use Rattle.rvs_suite.specs.Judging.{IsExecutableOf}
+use Rattle.rvs_suite.specs.declared.gathering.Test.{Test}
+use Rattle.rvs_suite.proofs.Paths.{found-in, passed-by, same-bytes, other-bytes}
+
+-- ---- effects
+-- the write of an executable, where there is one, and then others
+abbrev pub written_before : List ℕ → Option (List ℕ) → List Effect → List Effect
+written_before name None later = later
+written_before name (Some executable) later = Did (Write name executable) ∷ later
+
+abbrev contents_of : Files → List DeviceRun → Option (List ℕ) → Contents
+contents_of files runs out = record { files = Some files; runs = Some runs; out = out }
+
+pub after-executable : (name : List ℕ) (executable : Option (List ℕ)) (later : List Effect)
+    (files : Files) (runs : List DeviceRun) (out : Option (List ℕ))
+    → after (written_before name executable later) (contents_of files runs out)
+    ≡ after later (contents_of (with_executable name executable files) runs out)
+after-executable name None later files runs out = refl
+after-executable name (Some executable) later files runs out = refl
+
+pub saw-executable : (name : List ℕ) (executable : Option (List ℕ)) (later : List Effect)
+    (files : Files) (runs : List DeviceRun) (out : Option (List ℕ))
+    → Saw (written_before name executable later) (contents_of files runs out)
+    → Saw later (contents_of (with_executable name executable files) runs out)
+saw-executable name None later files runs out saw = saw
+saw-executable name (Some executable) later files runs out saw = saw.1
+
+-- ---- files
+pub kept-executable : (wants : Bool) (name executable : List ℕ) (files : Files) (other : List ℕ)
+    → (wants ≡ true → other ≢ name)
+    → with_executable name (if_asked wants executable) files other ≡ files other
+kept-executable true name executable files other apart =
+    passed-by (bytes_eq other name) _ _ (other-bytes other name (apart refl))
+kept-executable false name executable files other apart = refl
+
+pub there-executable : (wants : Bool) (name executable : List ℕ) (files : Files) → wants ≡ true
+    → with_executable name (if_asked wants executable) files name ≡ Some executable
+there-executable true name executable files wanted =
+    found-in (bytes_eq name name) _ _ (same-bytes name)
+there-executable false name executable files wanted = absurd cc
+
+-- ---- what it is
+pub is-executable : (isa : Isa) (test : Test) → IsRunnable isa test
+    → IsExecutableOf isa test (executable_of isa test)
+unfolding executable_of
+is-executable isa test r =
+    let stands = answered_stands isa test.text r.image r.assembled in
+    let is : executable_of isa test ≡ elf_of_image (Ok r.image) = ap elf_of_image r.assembled in
+    let read : image_of_elf (executable_of isa test) ≡ Ok (with_marks r.image) =
+    ap image_of_elf is ∙ reads_back r.image stands.regions in
+    record {
+      image = r.image;
+      assembled = r.assembled;
+      written = is;
+      again = with_marks r.image;
+      read = read;
+      alike = runs_alike r.image (with_marks r.image) stands.regions
+          (reads_back r.image stands.regions);
+    }

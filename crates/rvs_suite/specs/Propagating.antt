@@ -1,0 +1,53 @@
+-- What every call of `propagate` promises.
+use Rattle.std.specs.Prelude.{◌≡◌, ◌≤◌, ◌==◌, List, [], ◌∷◌, ℕ, false, true, map, length, Contains}
+use Rattle.std.specs.Prelude.{Some, Ok, IsTrue}
+use Rattle.rvs_base.specs.Host.{Files, Tells}
+use Rattle.rvs_plan.specs.declared.status.Status.TheVariants.{Done}
+use Rattle.rvs_insn.specs.Isa.{Isa}
+use Rattle.rvs_log.specs.Entries.{entries_of}
+use Rattle.rvs_cgf.specs.Groups.{Label, Point}
+use Rattle.rvs_cgf.specs.Valid.{IsValid}
+use Rattle.rvs_count.specs.Counting.{Aim, aims_of, hits}
+use Rattle.rvs_prop.specs.Acts.{Act, acts_of}
+use Rattle.rvs_prop.specs.Reach.{reached, saves_register, target_of}
+use Rattle.rvs_prop.specs.Report.{report_of}
+use Rattle.rvs_prop.specs.State.{hit_count}
+use Rattle.rvs_suite.specs.Answered.{Answered, OnDone}
+use Rattle.rvs_suite.specs.Call.{Call, Asks}
+use Rattle.rvs_suite.specs.Covering.{HasReported}
+use Rattle.rvs_suite.specs.GroupFiles.{Inputs, inputs_in}
+use Rattle.rvs_suite.specs.LogReport.{log_limit}
+use Rattle.rvs_suite.specs.Propagate.{report_in}
+use Rattle.rvs_words.specs.declared.command.Command.TheVariants.{Propagate}
+use Rattle.rvs_words.specs.declared.command.PropagateArguments.{PropagateArguments}
+
+-- the named log has these bytes
+abbrev pub IsLog : Files → List ℕ → List ℕ → Type 0
+IsLog files log bytes = (files log ≡ Some bytes) × (length bytes ≤ log_limit)
+
+-- a call of `propagate` on these of these files
+pub record Propagates (call : Call) (files : Files) (asked : PropagateArguments) : Type 0 where
+  -- it is done where all files are accepted, and has put the report; it is refused, or the host
+  -- fails, at the first file that isn't
+  pub answered : Answered call (report_in files asked) (OnDone (HasReported call))
+  -- the numbers of the report are those of the log: how many of the hits of each point of the groups
+  -- reach the signature, how many hits there are, and how many instructions
+  pub numbers : (inputs : Inputs) (bytes : List ℕ)
+      → inputs_in files asked.isa asked.groups ≡ Ok inputs
+      → IsLog files asked.log bytes → call.status ≡ Done
+      → HasReported call (report_of inputs.groups
+      (map (reached asked.signature.lo asked.signature.hi (acts_of bytes)) (aims_of inputs.groups))
+      (map (hit_count (entries_of bytes)) (aims_of inputs.groups)) (length (entries_of bytes)))
+  -- A selected label of the groups is valid for the core. So no two of the lines of its points name
+  -- one kind and key, and what each of these points means is what its key says.
+  pub valid : (inputs : Inputs) (l : Label) → inputs_in files asked.isa asked.groups ≡ Ok inputs
+      → Contains inputs.groups l → IsTrue l.selected → IsValid inputs.isa l
+  -- it writes no file, however it ends
+  pub files_kept : call.new.host.files ≡ call.old.host.files
+
+-- the same of every call: over told files, where its words ask for `propagate`
+abbrev pub Promise : Call → Type 0
+Promise call =
+    (files : Files) (asked : PropagateArguments)
+    → Tells call.old.host files → Asks call (Propagate asked)
+    → Propagates call files asked
