@@ -1,15 +1,14 @@
 -- The words of `select`, and of `run` by where its tests come from.
 use Rattle.std.proofs.Common.{◌≡◌, ℕ, Bool, true, false, cond, List, [], ◌∷◌, ◌++◌, Option, Some}
-use Rattle.std.proofs.Common.{None, refl, sym, ap, ◌∙◌, codes}
+use Rattle.std.proofs.Common.{None, refl, ap, ◌∙◌, codes}
 use Rattle.std.specs.Prelude.{option_and_then, unwrap_or}
-use Rattle.rvs_words.specs.Words.{pairs_of, is_among, are_known, only}
+use Rattle.rvs_words.specs.Words.{are_known, only}
 use Rattle.rvs_words.specs.Commands.{◌>>=◌, Values, some_of, select_options, select_of}
 use Rattle.rvs_words.specs.Commands.{run_options, run_of, run_groups_of, run_database_of, is_given}
 use Rattle.rvs_words.specs.declared.words.Pair.{Pair}
 use Rattle.rvs_words.specs.declared.command.Command.{Command}
 use Rattle.rvs_words.specs.declared.command.Command.TheVariants.{Unknown, Run, RunDatabase}
-use Rattle.rvs_words.specs.declared.command.Command.TheVariants.{Select}
-use Rattle.rvs_words.specs.CommandLaws.{Value, option, AllMayStand, SelectsAreRead}
+use Rattle.rvs_words.specs.CommandLaws.{option, SelectsAreRead}
 use Rattle.rvs_words.specs.CommandLaws.{RunsOverDatabasesAreRead, RunsHaveOneSource}
 use Rattle.rvs_words.proofs.OptionPairs.{IsName, pair, option_read, option_alone}
 use Rattle.rvs_words.proofs.CommandWords.{isa-name, device-name, work-name, of-values, of-pairs}
