@@ -44,3 +44,7 @@ mod Counted
 mod Signed
 mod Standing
 mod Paths
+mod DatabaseReads
+mod DatabaseSteps
+mod DatabaseMade
+mod SelectEnds
