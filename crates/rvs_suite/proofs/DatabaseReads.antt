@@ -2,6 +2,7 @@
 use Rattle.std.proofs.Common.{◌≡◌, ◌∙◌, ℕ, List, Option, Result, Ok, Err, refl, sym, ap}
 use Rattle.rvs_base.specs.Host.{Files}
 use Rattle.rvs_plan.specs.Plan.{followed}
+use Rattle.rvs_device.specs.DeviceFile.{Told}
 use Rattle.rvs_plan.specs.Inputs.{input, part_end}
 use Rattle.rvs_plan.specs.declared.stop.Stop.{Stop}
 use Rattle.rvs_insn.specs.Isa.{Isa}
@@ -15,6 +16,11 @@ use Rattle.rvs_select.proofs.Accepted.{accepts, read_few}
 use Rattle.rvs_suite.specs.GroupFiles.{and_then}
 use Rattle.rvs_suite.specs.DatabaseInput.{database_limit, checked_end, tree_end, checks}
 use Rattle.rvs_suite.specs.DatabaseInput.{database_file, database_in}
+use Rattle.rvs_suite.specs.DeviceInput.{device_limit, device_file, device_in}
+use Rattle.rvs_suite.specs.DeviceInput as device
+use Rattle.rvs_suite.specs.JudgingDatabase.{database_inputs_in}
+use Rattle.rvs_suite.specs.RunDatabase.{DatabaseInputs, with_device, device_behind}
+use Rattle.rvs_suite.specs.RunDatabase.{database_behind, database_inputs}
 use Rattle.rvs_suite.specs.Select.{selection_in, reads_selection}
 use Rattle.rvs_suite.specs.Selecting.{HoldsTests}
 use Rattle.rvs_suite.specs.Specification.{said_in, specification}
@@ -22,6 +28,8 @@ use Rattle.rvs_suite.proofs.Readers.{OnlyReads, OnlyReads-then}
 use Rattle.rvs_suite.proofs.Finding.{Finds}
 use Rattle.rvs_suite.proofs.GroupInputs.{reads-specification, finds-specification, finds-and_then}
 use Rattle.rvs_suite.proofs.Meanings.{then-ok, whole-of}
+use Rattle.rvs_suite.proofs.RunReads.{finds-device}
+use Rattle.rvs_words.specs.declared.command.RunDatabaseArguments.{RunDatabaseArguments}
 use Rattle.rvs_words.specs.declared.command.SelectArguments.{SelectArguments}
 
 pub reads-database : (isa : Isa) (name : List ℕ) → OnlyReads (database_file isa name)
@@ -49,6 +57,34 @@ finds-selection files asked = finds-and_then files (specification asked.isa)
     (λ said. database_file said.spec asked.database) (said_in files asked.isa)
     (λ said. database_in files said.spec asked.database) (finds-specification files asked.isa)
     (λ said. finds-database files said.spec asked.database)
+
+-- ---- the inputs of a run over a database
+pub reads-database-inputs : (asked : RunDatabaseArguments) → OnlyReads (database_inputs asked)
+reads-database-inputs asked = OnlyReads-then (specification asked.isa)
+    (λ said. database_behind asked said.spec) (reads-specification asked.isa)
+    (λ said. OnlyReads-then (database_file said.spec asked.database)
+    (device_behind asked.device said.spec) (reads-database said.spec asked.database)
+    (λ entries. OnlyReads-then (device_file asked.device) (with_device said.spec entries)
+    (OnlyReads-then (input device_limit asked.device) (device.checks asked.device) (λ found. tt)
+    (λ bytes. tt)) (λ told. tt)))
+
+abbrev inputs-with : Isa → List Entry → Told → Result DatabaseInputs Stop
+inputs-with isa entries told = Ok (record { isa = isa; entries = entries; device = told })
+
+pub finds-database-inputs : (files : Files) (asked : RunDatabaseArguments)
+    → Finds files (database_inputs asked) (database_inputs_in files asked)
+finds-database-inputs files asked = finds-and_then files (specification asked.isa)
+    (λ said. database_behind asked said.spec) (said_in files asked.isa)
+    (λ said. and_then (database_in files said.spec asked.database)
+    (λ entries. and_then (device_in files asked.device) (inputs-with said.spec entries)))
+    (finds-specification files asked.isa)
+    (λ said. finds-and_then files (database_file said.spec asked.database)
+    (device_behind asked.device said.spec) (database_in files said.spec asked.database)
+    (λ entries. and_then (device_in files asked.device) (inputs-with said.spec entries))
+    (finds-database files said.spec asked.database)
+    (λ entries. finds-and_then files (device_file asked.device) (with_device said.spec entries)
+    (device_in files asked.device) (inputs-with said.spec entries)
+    (finds-device files asked.device) (λ told. refl)))
 
 -- ---- what an accepted database holds
 tree-of : (isa : Isa) (name : List ℕ) (p : Parsed) (entries : List Entry)

@@ -48,3 +48,6 @@ mod DatabaseReads
 mod DatabaseSteps
 mod DatabaseMade
 mod SelectEnds
+mod DatabaseRuns
+mod DatabaseSpares
+mod DatabaseEnds

@@ -44,6 +44,8 @@ pub mod DatabaseInput
 pub mod Select
 pub mod Selecting
 pub mod RunDatabase
+pub mod DatabaseLeft
+pub mod JudgingDatabase
 pub mod Demonstrate
 pub mod Demonstrating
 pub mod Promise

@@ -11,8 +11,8 @@ use Rattle.rvs_suite.specs.RunView.{bench_view}
 use Rattle.rvs_suite.proofs.DatabaseSteps.{rest_from, goes-on, all-counted, judged-place}
 use Rattle.rvs_suite.proofs.run_database.judge_entries.Goals as goal
 
-pub returns-in_err-judge_entry-clause-met : goal.returns-in_err-judge_entry-clause-met
-returns-in_err-judge_entry-clause-met g c =
+pub returns-in_err-progress-clause-met : goal.returns-in_err-progress-clause-met
+returns-in_err-progress-clause-met g c =
     let p = err_from_is_err_and c.from_residual.result c.from_residual.ensures.1 in
     let i = c.loop-entry.entry-index in
     let bench = bench_view c.args.bench.now in
@@ -24,10 +24,10 @@ returns-in_err-judge_entry-clause-met g c =
     let here : drop i c.args.entries.now ≡ c.entry-item.result ∷ rest =
     drop_more c.args.entries.now i _ c.loop-entry-test.true
     ∙ ap (λ (e : Entry). e ∷ rest) (sym c.entry-item.is) in
-    rw (p.1, p.2) (c.loop-entry.invariant.met new (Err c.in_err-judge_entry.field-0.0)
+    rw (p.1, p.2) (c.loop-entry.invariant.met new (Err c.in_err-progress.field-0.0)
     (goes-on bench progress i c.entry-item.result (drop i c.args.entries.now) rest old new
-    (Err c.in_err-judge_entry.field-0.0) c.loop-entry.invariant.place here
-    (Meets-stop (rest_from bench (chosen (i + 1) rest)) c.in_err-judge_entry.ensures.met)))
+    (Err c.in_err-progress.field-0.0) c.loop-entry.invariant.place here
+    (Meets-stop (rest_from bench (chosen (i + 1) rest)) c.in_err-progress.ensures.met)))
 
 pub loop-entry-preserved : goal.loop-entry-preserved
 loop-entry-preserved g c =
@@ -41,7 +41,7 @@ loop-entry-preserved g c =
     drop_more c.args.entries.now i _ c.loop-entry-test.true
     ∙ ap (λ (e : Entry). e ∷ rest) (sym c.entry-item.is) in
     let at = c.loop-entry.invariant.place in
-    let made = c.in_ok-judge_entry.ensures in
+    let made = c.in_ok-progress.ensures in
     record {
       met = λ new result later. c.loop-entry.invariant.met new result
           (goes-on bench progress i entry (drop i c.args.entries.now) rest old new result at here
