@@ -14,16 +14,23 @@ reach : (own none saved later : Bool) → none ≡ false → saved ≡ true
 reach true none saved later e f = refl
 reach false none saved later e f = λ k. not (e k) && (f k || later)
 
+-- the first of two neighbours reaches
+pub reaches_next : (lo hi : ℕ) (a s : Act) (behind : List Act)
+    → (target_of a.entry == 0) ≡ false
+    → saves_register lo hi (target_of a.entry) s.entry ≡ true
+    → reaches lo hi a.entry (s ∷ behind) ≡ true
+reaches_next lo hi a s behind some saved =
+    let r = target_of a.entry in
+    reach (saves lo hi a.entry) (r == 0) (saves_register lo hi r s.entry)
+    (not (overwrites r s) && is_saved lo hi r behind) some saved
+
 -- the number of a list with these neighbours
 stored : (lo hi : ℕ) (front behind : List Act) (a s : Act) (aim : Aim)
     → hits aim a.entry ≡ true → (target_of a.entry == 0) ≡ false
     → saves_register lo hi (target_of a.entry) s.entry ≡ true
     → 1 ≤ reached lo hi (front ++ a ∷ s ∷ behind) aim
 stored lo hi [] behind a s aim hit some saved =
-    let r = target_of a.entry in
-    let later : reaches lo hi a.entry (s ∷ behind) ≡ true =
-    reach (saves lo hi a.entry) (r == 0) (saves_register lo hi r s.entry)
-    (not (overwrites r s) && is_saved lo hi r behind) some saved in
+    let later = reaches_next lo hi a s behind some saved in
     let own : (hits aim a.entry && reaches lo hi a.entry (s ∷ behind)) ≡ true =
     λ k. hit k && later k in
     let rest = reached lo hi (s ∷ behind) aim in

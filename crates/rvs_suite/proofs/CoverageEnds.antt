@@ -96,9 +96,12 @@ covers {call} files asked r =
           (reported-counts files asked a
           (record { isa = isa'; groups = l ∷ [] }) (e ∷ []) given is_log done);
       of_run = λ inputs test steps run given halts octets there short done.
-          reported-counts files asked a inputs (map as_entry run.trace) given
-          (log_of run.trace, there, short,
-          halting_entries files asked.isa test steps run halts octets) done;
+          reported-counts files asked a inputs (map as_entry run.trace) given (
+            log_of run.trace,
+            there,
+            short,
+            halting_entries files asked.isa test steps run halts octets,
+          ) done;
       valid = λ inputs l given there selected. valid-good inputs l
           (good-inputs files asked.isa asked.groups inputs given) there selected;
       files_kept = keeps r.ran files (Coverage asked) r.told r.asks

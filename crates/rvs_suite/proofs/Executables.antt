@@ -9,8 +9,9 @@ use Rattle.rvs_insn.specs.Isa.{Isa}
 use Rattle.rvs_machine.specs.Image.{ImageValue}
 use Rattle.rvs_elf.specs.Executable.{image_of_elf}
 use Rattle.rvs_elf.specs.Laws.{with_marks}
+use Rattle.rvs_elf.specs.Written.{elf_of}
 use Rattle.rvs_elf.proofs.ReadBack.{reads_back, runs_alike}
-use Rattle.rvs_asm.specs.declared.refusal.AsmRefusal.{AsmRefusal}
+use Rattle.rvs_asm.specs.Answer.{answer}
 use Rattle.rvs_asm.proofs.Answered.{answered_stands}
 use Rattle.rvs_suite.specs.Tests.{IsRunnable, elf_of_image, executable_of}
 use Rattle.rvs_suite.specs.RunTests.{if_asked}
@@ -57,12 +58,17 @@ there-executable true name executable files wanted =
 there-executable false name executable files wanted = absurd cc
 
 -- ---- what it is
+pub elf-of-test : (isa : Isa) (test : Test) (image : ImageValue)
+    → answer isa test.text ≡ Ok image → executable_of isa test ≡ elf_of image
+unfolding executable_of
+elf-of-test isa test image stands = ap elf_of_image stands
+
 pub is-executable : (isa : Isa) (test : Test) → IsRunnable isa test
     → IsExecutableOf isa test (executable_of isa test)
-unfolding executable_of
 is-executable isa test r =
     let stands = answered_stands isa test.text r.image r.assembled in
-    let is : executable_of isa test ≡ elf_of_image (Ok r.image) = ap elf_of_image r.assembled in
+    let is : executable_of isa test ≡ elf_of r.image =
+    elf-of-test isa test r.image r.assembled in
     let read : image_of_elf (executable_of isa test) ≡ Ok (with_marks r.image) =
     ap image_of_elf is ∙ reads_back r.image stands.regions in
     record {

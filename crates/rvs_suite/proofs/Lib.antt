@@ -39,6 +39,7 @@ mod DemoEnds
 mod RunEnds
 mod OneTest
 mod OneCount
+mod OneReached
 mod Saying
 mod Counted
 mod Signed

@@ -15,7 +15,7 @@ use Rattle.rvs_count.specs.Report.{report_of}
 use Rattle.rvs_base.specs.declared.asked.Window.{Window}
 
 -- no instruction alone hits a cross point
-no-window : (a : Aim) (i : Option Fields) (v1 v2 : ℕ) (ps : List Place)
+pub no-window : (a : Aim) (i : Option Fields) (v1 v2 : ℕ) (ps : List Place)
     → a.point.meaning ≡ window ps → hits_insn a i v1 v2 ≡ true → ⊥
 no-window a None v1 v2 ps is hit = cc
 no-window a (Some i) v1 v2 ps is hit =
@@ -51,6 +51,11 @@ label-with l b points = record {
   skipped = l.skipped;
 }
 
+-- the one point of the one label
+pub one-aim : (l : Label) (p : Point) → l.selected ≡ true → l.points ≡ p ∷ []
+    → aims_of (l ∷ []) ≡ record { ops = l.ops; point = p } ∷ []
+one-aim l p chosen single = (λ i. aims_of (label-with l (chosen i) (single i) ∷ []))
+
 pub one-count : (windows : List Window) (l : Label) (p : Point) (e : Entry) → IsTrue l.selected
     → l.points ≡ p ∷ [] → windows ≡ [] → IsTrue (hits (record { ops = l.ops; point = p }) e)
     → report_of (l ∷ []) (map (count (kept windows (e ∷ []))) (aims_of (l ∷ [])))
@@ -60,10 +65,5 @@ one-count windows l p e selected single none hit =
     let chosen : l.selected ≡ true = selected in
     ap (λ (ws : List Window). report-on (l ∷ []) (kept ws (e ∷ []))) none
     ∙ ap (λ (found : List Aim). report_of (l ∷ []) (map (count (e ∷ [])) found) 1)
-    (aims l p chosen single)
+    (one-aim l p chosen single)
     ∙ ap (λ (n : ℕ). report_of (l ∷ []) (n ∷ []) 1) (counted-for p.meaning a e refl hit)
-  where
-    aims : (l : Label) (p : Point) → l.selected ≡ true → l.points ≡ p ∷ []
-        → aims_of (l ∷ []) ≡ record { ops = l.ops; point = p } ∷ []
-    aims l p chosen single =
-        (λ i. aims_of (label-with l (chosen i) (single i) ∷ []))

@@ -1,5 +1,5 @@
 -- What every call of `propagate` promises.
-use Rattle.std.proofs.Common.{◌≡◌, ◌≤◌, ℕ, List, map, length, Ok, refl, ap, subst}
+use Rattle.std.proofs.Common.{◌≡◌, ℕ, List, [], ◌∷◌, map, length, Ok, refl, ap, subst}
 use Rattle.rvs_base.specs.Host.{Files}
 use Rattle.rvs_plan.specs.World.{Contents}
 use Rattle.rvs_plan.specs.declared.status.Status.TheVariants.{Done}
@@ -24,6 +24,7 @@ use Rattle.rvs_words.specs.declared.command.PropagateArguments.{PropagateArgumen
 use Rattle.rvs_suite.proofs.Answered.{Works, RunsOn, answered}
 use Rattle.rvs_suite.proofs.CoverageEnds.{counted-report}
 use Rattle.rvs_suite.proofs.LogReads.{reads-reported, finds-reported, found-report}
+use Rattle.rvs_suite.proofs.OneReached.{one-reached}
 use Rattle.rvs_suite.proofs.Keeping.{WritesNone, WritesNone-then, reads-none, keeps}
 use Rattle.rvs_suite.proofs.Tested.{good-inputs, valid-good}
 
@@ -74,6 +75,12 @@ propagates {call} files asked r =
     record {
       answered = a;
       numbers = reported-numbers files asked a;
+      one = λ isa' l p hit store bytes given selected single is_log two first some saved done.
+          subst (HasReported call)
+          (one-reached asked.signature.lo asked.signature.hi l p hit store bytes selected single
+          two first some saved)
+          (reported-numbers files asked a (record { isa = isa'; groups = l ∷ [] }) bytes given
+          is_log done);
       valid = λ inputs l given there selected. valid-good inputs l
           (good-inputs files asked.isa asked.groups inputs given) there selected;
       files_kept = keeps r.ran files (Propagate asked) r.told r.asks (writes-propagate asked);

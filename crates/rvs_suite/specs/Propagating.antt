@@ -25,6 +25,10 @@ use Rattle.rvs_words.specs.declared.command.PropagateArguments.{PropagateArgumen
 abbrev pub IsLog : Files → List ℕ → List ℕ → Type 0
 IsLog files log bytes = (files log ≡ Some bytes) × (length bytes ≤ log_limit)
 
+-- the first of two instructions alone hits the point
+abbrev pub IsFirst : Aim → Act → Act → Type 0
+IsFirst aim hit other = (hits aim hit.entry ≡ true) × (hits aim other.entry ≡ false)
+
 -- a call of `propagate` on these of these files
 pub record Propagates (call : Call) (files : Files) (asked : PropagateArguments) : Type 0 where
   -- it is done where all files are accepted, and has put the report; it is refused, or the host
@@ -38,6 +42,16 @@ pub record Propagates (call : Call) (files : Files) (asked : PropagateArguments)
       → HasReported call (report_of inputs.groups
       (map (reached asked.signature.lo asked.signature.hi (acts_of bytes)) (aims_of inputs.groups))
       (map (hit_count (entries_of bytes)) (aims_of inputs.groups)) (length (entries_of bytes)))
+  -- so where the log has two instructions, of which the first alone hits the one point of the one
+  -- label, and the second stores its result in the signature, the report counts one of one
+  pub one : (isa' : Isa) (l : Label) (p : Point) (hit store : Act) (bytes : List ℕ)
+      → inputs_in files asked.isa asked.groups ≡ Ok (record { isa = isa'; groups = l ∷ [] })
+      → IsTrue l.selected → l.points ≡ p ∷ []
+      → IsLog files asked.log bytes → acts_of bytes ≡ hit ∷ store ∷ []
+      → IsFirst (record { ops = l.ops; point = p }) hit store
+      → (target_of hit.entry == 0) ≡ false
+      → saves_register asked.signature.lo asked.signature.hi (target_of hit.entry) store.entry
+      ≡ true → call.status ≡ Done → HasReported call (report_of (l ∷ []) (1 ∷ []) (1 ∷ []) 2)
   -- A selected label of the groups is valid for the core. So no two of the lines of its points name
   -- one kind and key, and what each of these points means is what its key says.
   pub valid : (inputs : Inputs) (l : Label) → inputs_in files asked.isa asked.groups ≡ Ok inputs

@@ -26,8 +26,9 @@
 //     labels COUNT                the same of a file with so many labels
 //     hits LOG|TEXT               how many instructions a log has, and how often it hits each
 //                                 point of a group file
-//     cuts LO:HI LOG FILE         the numbers of `propagate` on a log that the last run left, for a
-//                                 group file, cut at every place
+//     cuts LO:HI LOG FILE         the numbers of `propagate` for a group file: of a log that the
+//                                 last run left, once for each of its places, cut there, and of
+//                                 the same log byte by byte
 use crate::runs::{NO_FAULTS, fault, faulty, tell_on};
 use crate::slow::slow;
 use crate::stage::{first_word, host_of, number};

@@ -1,4 +1,4 @@
-// Logs whose hits are tracked, cut at every place.
+// A log whose hits are tracked, cut at every place.
 use crate::groups::groups_of;
 use crate::stage::first_word;
 use rvs_base::{MemoryHost, number_below, release};
@@ -17,53 +17,49 @@ fn tell_numbers(tracker: &Tracker<'_>, report: &mut String) -> Result<(), Fail> 
     Ok(())
 }
 
-/// Feeds a log in two pieces, and adds the numbers.
-fn tell_pieces(
-    tracker: &mut Tracker<'_>,
-    front: &[u8],
-    back: &[u8],
-    report: &mut String,
-) -> Result<(), Fail> {
+/// Feeds a log in two pieces.
+fn feed_cut(tracker: &mut Tracker<'_>, log: &[u8], place: usize) -> Result<(), Fail> {
+    let (front, back) = log.split_at_checked(place).ok_or("no place")?;
     tracker.feed(front).map_err(|_| "too long")?;
     tracker.feed(back).map_err(|_| "too long")?;
+    tracker.finish();
+    Ok(())
+}
+
+/// Feeds a log once for each of its places, cut there, and adds the numbers of all.
+fn tell_cuts(tracker: &mut Tracker<'_>, log: &[u8], report: &mut String) -> Result<(), Fail> {
+    for place in 0..log.len() {
+        feed_cut(tracker, log, place)?;
+    }
+    write!(report, "{} logs: ", log.len())?;
+    tell_numbers(tracker, report)
+}
+
+/// Feeds a log byte by byte, and adds the numbers.
+fn tell_bytes(tracker: &mut Tracker<'_>, log: &[u8], report: &mut String) -> Result<(), Fail> {
+    for place in 0..log.len() {
+        let byte = log.get(place..place + 1).ok_or("no byte")?;
+        tracker.feed(byte).map_err(|_| "too long")?;
+    }
     tracker.finish();
     tell_numbers(tracker, report)
 }
 
-/// What is told of a log that is cut at a place, for a range of addresses.
-fn told_cut(
+fn tell_log(
     alloc: Global,
     groups: &Groups,
     (lo, hi): (u32, u32),
     log: &[u8],
-    place: usize,
-) -> Result<String, Fail> {
-    let mut report = String::new(alloc);
-    let (front, back) = log.split_at_checked(place).ok_or("no place")?;
-    let mut tracker = Tracker::new(alloc, groups, lo, hi).map_err(|_| "no memory")?;
-    let told = tell_pieces(&mut tracker, front, back, &mut report);
-    release(tracker);
-    told?;
-    Ok(report)
-}
-
-/// Adds what is told of a log that is cut at every place, where that is always the same.
-fn tell_cuts(
-    alloc: Global,
-    groups: &Groups,
-    range: (u32, u32),
-    log: &[u8],
     report: &mut String,
 ) -> Result<(), Fail> {
-    let whole = told_cut(alloc, groups, range, log, 0)?;
-    for place in 0..log.len() {
-        let told = told_cut(alloc, groups, range, log, place)?;
-        if told.as_str() != whole.as_str() {
-            return Err(Fail::new("a cut that tells"));
-        }
-    }
-    write!(report, "cut at {} places: {whole}", log.len())?;
-    Ok(())
+    let mut cut = Tracker::new(alloc, groups, lo, hi).map_err(|_| "no memory")?;
+    let told = tell_cuts(&mut cut, log, report);
+    release(cut);
+    told?;
+    let mut bytes = Tracker::new(alloc, groups, lo, hi).map_err(|_| "no memory")?;
+    let told = tell_bytes(&mut bytes, log, report);
+    release(bytes);
+    told
 }
 
 fn address(text: &str) -> Result<u32, Fail> {
@@ -72,8 +68,9 @@ fn address(text: &str) -> Result<u32, Fail> {
     Ok(number as u32)
 }
 
-/// Adds what is told of a log of the host that is cut at every place: a row has a range of
-/// addresses, the name of the log and that of a group file.
+/// Adds the numbers of a log of the host that comes once for each of its places, cut there, and of
+/// one that comes byte by byte: a row has a range of addresses, the name of the log and that of a
+/// group file.
 pub fn tell(alloc: Global, row: &str, host: &MemoryHost, report: &mut String) -> Result<(), Fail> {
     let (range, names) = first_word(row)?;
     let (log, file) = first_word(names)?;
@@ -82,7 +79,7 @@ pub fn tell(alloc: Global, row: &str, host: &MemoryHost, report: &mut String) ->
     let log = host.file(log).ok_or("no log")?;
     let file = str::from_utf8(host.file(file).ok_or("no groups")?).map_err(|_| "no text")?;
     let groups = groups_of(alloc, file)?;
-    let told = tell_cuts(alloc, &groups, range, log, report);
+    let told = tell_log(alloc, &groups, range, log, report);
     release(groups);
     told
 }

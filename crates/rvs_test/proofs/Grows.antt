@@ -1,5 +1,5 @@
 -- A text that grows.
-use Rattle.std.proofs.Common.{◌≡◌, ℕ, ◌+◌, ◌<◌, false, List, [], ◌∷◌, ◌++◌, length, map, take}
+use Rattle.std.proofs.Common.{◌≡◌, ℕ, ◌+◌, ◌<◌, List, [], ◌∷◌, ◌++◌, length, map, take}
 use Rattle.std.proofs.Common.{get_or, zero, suc, sym, ap, ◌∙◌, subst, arith, append_assoc}
 use Rattle.std.proofs.Common.{append-nil}
 use Rattle.std.specs.Prelude.{◌-◌, All, OnOk, Result, Ok, Err, Some, slice_get, unwrap_or}
@@ -83,6 +83,15 @@ pub ready_at : (isa : Isa) (cs : List Solved) (k : ℕ) (s : Solved) → AreRead
 ready_at isa [] k s h l is = absurd (omega arith)
 ready_at isa (c ∷ cs) zero s h l is = subst (IsReady isa) (sym is) h.0
 ready_at isa (c ∷ cs) (suc k) s h l is = ready_at isa cs k s h.1 (omega arith) is
+
+-- ---- a list that grew by two statements and by two lists
+
+pub end_grows : (old : List Statement) (s t : Statement) (us vs : List Statement)
+    → (((old ++ s ∷ []) ++ t ∷ []) ++ us) ++ vs ≡ old ++ (s ∷ t ∷ (us ++ vs))
+end_grows old s t us vs =
+    append_assoc ((old ++ s ∷ []) ++ t ∷ []) us vs
+    ∙ append_assoc (old ++ s ∷ []) (t ∷ []) (us ++ vs)
+    ∙ append_assoc old (s ∷ []) (t ∷ (us ++ vs))
 
 -- ---- parts of the text
 

@@ -2,3 +2,4 @@ pub mod Made
 pub mod Found
 pub mod Claimed
 pub mod Named
+pub mod AtomicLines

@@ -11,7 +11,7 @@ mod printing;
 mod shorthands;
 mod writing;
 
-pub use laws::claims_are_in_order;
+pub use laws::{claims_are_in_order, few_registers_are_enough};
 pub use made::Made;
 pub use making::make_test;
 pub use rvs_test_text::Claim;

@@ -2,7 +2,7 @@
 use Rattle.std.proofs.Common.{◌≡◌, ℕ, ◌<◌, Bool, true, false, Option, Some, None, refl, ap, ◌∙◌}
 use Rattle.std.proofs.Common.{◌≤◌, arith}
 use Rattle.std.proofs.lemmas.Bool.Decides.{nat_tests}
-use Rattle.std.specs.Prelude.{nat_lt, ◌&&◌, ◌||◌, not, ℤ, pos, unwrap_or}
+use Rattle.std.specs.Prelude.{nat_lt, ◌&&◌, ◌||◌, not, ℤ, unwrap_or}
 use Rattle.rvs_insn.specs.declared.op.Op.{Op}
 use Rattle.rvs_insn.specs.declared.op.Op.TheVariants.{ScW}
 use Rattle.rvs_insn.specs.declared.op.Format.{Format}

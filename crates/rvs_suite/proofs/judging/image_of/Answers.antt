@@ -20,9 +20,15 @@ answered isa name text test result r is accepts =
     (r, subst (λ (a : Result ImageValue AsmRefusal). Accepts (text_found name a) result) r.assembled
     (subst (λ (t : List ℕ). Accepts (text_found name (answer isa t)) result) is accepts))
 
+abbrev image_or : ImageValue → Result ImageValue (List ℕ) → ImageValue
+image_or image (Ok i) = i
+image_or image (Err text) = image
+
 image_there : (isa : Isa) (test : Test) (r : IsRunnable isa test) (result : Result ImageValue Stop)
     → Accepts (Ok r.image) result → IfOk result (λ image. answer isa test.text ≡ Ok image)
-image_there isa test r (Ok image) accepts = r.assembled ∙ accepts
+image_there isa test r (Ok image) accepts =
+    let same : r.image ≡ image = ap (image_or image) accepts in
+    r.assembled ∙ ap (λ (i : ImageValue). Ok i) same
 image_there isa test r (Err stop) accepts = tt
 
 memory_alone : (image : ImageValue) (result : Result ImageValue Stop)
@@ -32,14 +38,14 @@ memory_alone image (Err stop) accepts = only-memory image stop accepts
 
 pub returns-clause-image : goal.returns-clause-image
 returns-clause-image c =
-    let a = answered c.args.isa c.as_str-2.result.now c.as_bytes.result.now c.args.test.now
-    c.image_of_text.result c.requires (c.as_bytes.ensures.value ∙ c.as_str.ensures)
+    let a = answered c.args.isa c.as_str-2.result.now c.as_bytes-text.result.now c.args.test.now
+    c.image_of_text.result c.requires (c.as_bytes-text.ensures.value ∙ c.as_str.ensures)
     c.image_of_text.ensures in
     image_there c.args.isa c.args.test.now a.0 c.image_of_text.result a.1
 
 pub returns-clause-fault : goal.returns-clause-fault
 returns-clause-fault c =
-    let a = answered c.args.isa c.as_str-2.result.now c.as_bytes.result.now c.args.test.now
-    c.image_of_text.result c.requires (c.as_bytes.ensures.value ∙ c.as_str.ensures)
+    let a = answered c.args.isa c.as_str-2.result.now c.as_bytes-text.result.now c.args.test.now
+    c.image_of_text.result c.requires (c.as_bytes-text.ensures.value ∙ c.as_str.ensures)
     c.image_of_text.ensures in
     memory_alone a.0.image c.image_of_text.result a.1
