@@ -24,7 +24,7 @@ use Rattle.rvs_suite.specs.DatabaseLeft.{made_in, Trial, with_trials, task_on, t
 use Rattle.rvs_suite.specs.DatabaseLeft.{trials_passed, runs_of}
 use Rattle.rvs_suite.specs.GroupFiles.{and_then}
 use Rattle.rvs_suite.specs.JudgingDatabase.{database_inputs_in, chosen_in, HasTried, HasJudged}
-use Rattle.rvs_suite.specs.JudgingDatabase.{HasStopped, IsMadeOf, RunsDatabase}
+use Rattle.rvs_suite.specs.JudgingDatabase.{LeftAsItWas, HasStopped, IsMadeOf, RunsDatabase}
 use Rattle.rvs_suite.specs.Reference.{test_limit}
 use Rattle.rvs_suite.specs.RunDatabase.{Given, made_by, made_found, DatabaseInputs}
 use Rattle.rvs_suite.specs.RunDatabase.{database_inputs, database_bench, runs_database}
@@ -58,7 +58,7 @@ over value end [] goes = (refl, let same : Ok value ≡ end = cc in sym same)
 over value end (effect ∷ effects) goes = absurd goes
 
 -- what was told before is what is there now, with what these trials did
-tried-now : {call : Call} (bench : Bench) (files : Files) (given : List Given)
+tried-now : (call : Call) (bench : Bench) (files : Files) (given : List Given)
     (trials : List Trial) (last : List ℕ) (before : List DeviceRun)
     → call.old.host.runs ≡ Some before
     → contents (world_of call.new) ≡ contents_of (with_trials trials files)
@@ -68,7 +68,7 @@ tried-now : {call : Call} (bench : Bench) (files : Files) (given : List Given)
     × (call.new.host.files ≡ Some (with_trials trials files))
     × (call.new.out.bytes
     ≡ appended call.old.out.bytes (trial_lines given trials ++ last))
-tried-now {call} bench files given trials last before told new = (
+tried-now call bench files given trials last before told new = (
   ap (λ (c : Contents). c.runs) new
       ∙ sym (ap (λ (r : Option (List DeviceRun)). option_map (λ b. b ++ runs_of trials) r) told),
   ap (λ (c : Contents). c.files) new,
@@ -76,14 +76,14 @@ tried-now {call} bench files given trials last before told new = (
 )
 
 -- where the plan came to its end, all tests were judged
-has-judged : {call : Call} (program work : List ℕ) (inputs : DatabaseInputs) (files : Files)
+has-judged : (call : Call) (program work : List ℕ) (inputs : DatabaseInputs) (files : Files)
     (end : Finish) (effects : List Effect) (before : List DeviceRun)
     → call.old.host.runs ≡ Some before
     → (all : TriedAll (database_bench program work inputs) (chosen_in inputs) 0
     (tallies (length (chosen_in inputs))) files before call.old.out.bytes (Ok end) effects)
     → contents (world_of call.new) ≡ after effects (contents_of files before call.old.out.bytes)
     → HasJudged call files program work end inputs
-has-judged {call} program work inputs files end effects before told all did =
+has-judged call program work inputs files end effects before told all did =
     let bench = database_bench program work inputs in
     let given = chosen_in inputs in
     let out = call.old.out.bytes in
@@ -99,7 +99,7 @@ has-judged {call} program work inputs files end effects before told all did =
     let new = did ∙ all.same
     ∙ ap (λ (es : List Effect). after es (now (appended out lines))) later
     ∙ ap now (appended-twice out lines tally) in
-    let tried = tried-now {call = call} bench files given all.trials tally before told new in
+    let tried = tried-now call bench files given all.trials tally before told new in
     let verdict : Ok end ≡ Ok (verdict_of_all (length given) passed) = ended.1 in
     record {
       trials = all.trials;
@@ -125,7 +125,7 @@ never-stopped : (end : Finish) (stop : Stop) → Ok end ≡ Err stop → ⊥
 never-stopped end stop is = cc
 
 -- where it stopped behind its inputs, it did so at a test
-has-stopped : {call : Call} (program work : List ℕ) (inputs : DatabaseInputs) (files : Files)
+has-stopped : (call : Call) (program work : List ℕ) (inputs : DatabaseInputs) (files : Files)
     (stop : Stop) (effects : List Effect) (before : List DeviceRun)
     → call.old.host.runs ≡ Some before
     → EndedAt (database_bench program work inputs) (chosen_in inputs) files before
@@ -133,14 +133,14 @@ has-stopped : {call : Call} (program work : List ℕ) (inputs : DatabaseInputs) 
     → contents (world_of call.new) ≡ after effects (contents_of files before call.old.out.bytes)
     → call.new.err.bytes ≡ appended call.old.err.bytes (line_of stop)
     → HasStopped call files program work stop inputs
-has-stopped {call} program work inputs files stop effects before told at did line =
+has-stopped call program work inputs files stop effects before told at did line =
     let bench = database_bench program work inputs in
     let out = call.old.out.bytes in
     let lines = trial_lines at.before at.trials in
     let now = contents_of (with_trials at.trials files) (before ++ runs_of at.trials) in
     let new = did ∙ at.same
     ∙ ap (λ (text : List ℕ). now (appended out text)) (sym (append-nil lines)) in
-    let tried = tried-now {call = call} bench files at.before at.trials [] before told new in
+    let tried = tried-now call bench files at.before at.trials [] before told new in
     let both : Err stop ≡ Err at.stop = at.ends in
     let same : at.stop ≡ stop = cc in
     record {
@@ -165,9 +165,10 @@ abbrev LeftBy : Call → Files → List ℕ → List ℕ → Result DatabaseInpu
 LeftBy call files program work found (Ok end) = HasLeft found (HasJudged call files program work end)
 LeftBy call files program work found (Err stop) =
     call.new.err.bytes ≡ appended call.old.err.bytes (line_of stop)
-    → (found ≡ Err stop) ⊎ HasLeft found (HasStopped call files program work stop)
+    → ((found ≡ Err stop) × LeftAsItWas call)
+    ⊎ HasLeft found (HasStopped call files program work stop)
 
-left-parts : {call : Call} (program work : List ℕ) (inputs : DatabaseInputs) (files : Files)
+left-parts : (call : Call) (program work : List ℕ) (inputs : DatabaseInputs) (files : Files)
     (end : Result Finish Stop) (effects : List Effect) (before : List DeviceRun)
     → call.old.host.runs ≡ Some before
     → TriedAll (database_bench program work inputs) (chosen_in inputs) 0
@@ -176,67 +177,68 @@ left-parts : {call : Call} (program work : List ℕ) (inputs : DatabaseInputs) (
     call.old.out.bytes end effects
     → contents (world_of call.new) ≡ after effects (contents_of files before call.old.out.bytes)
     → LeftBy call files program work (Ok inputs) end
-left-parts {call} program work inputs files (Ok end) effects before told (inl all) did = record {
+left-parts call program work inputs files (Ok end) effects before told (inl all) did = record {
   given = inputs;
   accepted = refl;
-  left = has-judged {call = call} program work inputs files end effects before told all did;
+  left = has-judged call program work inputs files end effects before told all did;
 }
-left-parts {call} program work inputs files (Ok end) effects before told (inr at) did =
+left-parts call program work inputs files (Ok end) effects before told (inr at) did =
     absurd (never-stopped end at.stop at.ends)
-left-parts {call} program work inputs files (Err stop) effects before told (inl all) did =
+left-parts call program work inputs files (Err stop) effects before told (inl all) did =
     absurd (never-tallies (length (chosen_in inputs)) (trials_passed 0 all.trials) stop all.later
     all.goes)
-left-parts {call} program work inputs files (Err stop) effects before told (inr at) did =
+left-parts call program work inputs files (Err stop) effects before told (inr at) did =
     λ line. inr (record {
       given = inputs;
       accepted = refl;
-      left = has-stopped {call = call} program work inputs files stop effects before told at did
+      left = has-stopped call program work inputs files stop effects before told at did
           line;
     })
 
-left-accepted : {call : Call} (program work : List ℕ) (inputs : DatabaseInputs) (files : Files)
+left-accepted : (call : Call) (program work : List ℕ) (inputs : DatabaseInputs) (files : Files)
     (end : Result Finish Stop) (effects : List Effect) → Tells call.old.host files
     → Goes (runs_database program work inputs) effects (Ends end)
     → Saw effects (contents (world_of call.old))
     → contents (world_of call.new) ≡ after effects (contents (world_of call.old))
     → LeftBy call files program work (Ok inputs) end
-left-accepted {call} program work inputs files end effects t goes saw did =
+left-accepted call program work inputs files end effects t goes saw did =
     let before = told-runs call.old.host.runs t.runs in
     let out = call.old.out.bytes in
     let old : contents (world_of call.old) ≡ contents_of files before.0 out =
     λ i. record { files = t.files i; runs = before.1 i; out = out } in
-    left-parts {call = call} program work inputs files end effects before.0 before.1
+    left-parts call program work inputs files end effects before.0 before.1
     (tried-all (database_bench program work inputs) (chosen_in inputs) 0
     (tallies (length (chosen_in inputs))) files before.0 out end effects goes
     (subst (λ (c : Contents). Saw effects c) old saw))
     (did ∙ ap (λ (c : Contents). after effects c) old)
 
-left-refused : {call : Call} (files : Files) (program work : List ℕ) (s : Stop)
+left-refused : (call : Call) (files : Files) (program work : List ℕ) (s : Stop)
     (end : Result Finish Stop) (effects : List Effect) → Goes (Ends (Err s)) effects (Ends end)
+    → contents (world_of call.new) ≡ after effects (contents (world_of call.old))
     → LeftBy call files program work (Err s) end
-left-refused files program work s (Ok end) [] goes = absurd cc
-left-refused files program work s (Err stop) [] goes =
-    let same : s ≡ stop = cc in λ line. inl (ap (λ (x : Stop). Err x) same)
-left-refused files program work s end (effect ∷ effects) goes = absurd goes
+left-refused call files program work s (Ok end) [] goes did = absurd cc
+left-refused call files program work s (Err stop) [] goes did =
+    let same : s ≡ stop = cc in λ line. inl (ap (λ (x : Stop). Err x) same, did)
+left-refused call files program work s end (effect ∷ effects) goes did = absurd goes
 
 -- by what the inputs come to
-left-by : {call : Call} (program work : List ℕ) (found : Result DatabaseInputs Stop) (files : Files)
+left-by : (call : Call) (program work : List ℕ) (found : Result DatabaseInputs Stop) (files : Files)
     (end : Result Finish Stop) (effects : List Effect) → Tells call.old.host files → Behind
     (followed found (runs_database program work)) end effects (contents (world_of call.old))
     → contents (world_of call.new) ≡ after effects (contents (world_of call.old))
     → LeftBy call files program work found end
-left-by {call} program work (Ok inputs) files end effects t b did =
-    left-accepted {call = call} program work inputs files end b.later t b.goes b.saw
+left-by call program work (Ok inputs) files end effects t b did =
+    left-accepted call program work inputs files end b.later t b.goes b.saw
     (did ∙ b.same)
-left-by {call} program work (Err s) files end effects t b did =
-    left-refused {call = call} files program work s end b.later b.goes
+left-by call program work (Err s) files end effects t b did =
+    left-refused call files program work s end b.later b.goes (did ∙ b.same)
 
-left : {call : Call} (files : Files) (asked : RunDatabaseArguments) (end : Result Finish Stop)
+left : (call : Call) (files : Files) (asked : RunDatabaseArguments) (end : Result Finish Stop)
     → Tells call.old.host files → Completes (run_database asked) end
     (contents (world_of call.old)) (contents (world_of call.new))
     → LeftBy call files asked.program asked.work (database_inputs_in files asked) end
-left {call} files asked end t r =
-    left-by {call = call} asked.program asked.work (database_inputs_in files asked) files end
+left call files asked end t r =
+    left-by call asked.program asked.work (database_inputs_in files asked) files end
     r.effects t (behind files (database_inputs asked) (runs_database asked.program asked.work)
     (database_inputs_in files asked) end r.effects (contents (world_of call.old))
     (finds-database-inputs files asked) t.files r.saw r.goes) r.did
@@ -286,23 +288,25 @@ judges_database {call} files asked r =
     let plan = run_database asked in
     let ran = ran-command r in
     record {
-      done = λ is. left {call = call} files asked (Ok finish.Done) r.told
+      done = λ is. left call files asked (Ok finish.Done) r.told
           (at_status ran files command answer.Done r.told refl is).completes;
-      not_passed = λ is. left {call = call} files asked (Ok finish.NotPassed) r.told
+      not_passed = λ is. left call files asked (Ok finish.NotPassed) r.told
           (at_status ran files command answer.NotPassed r.told refl is).completes;
       refused = λ is.
           let was = was_refused plan old new call.old.err call.new.err
           (at_status ran files command answer.Refused r.told refl is) in
-          elim (left {call = call} files asked (Err (why.Refused was.text)) r.told was.completes
+          elim (left call files asked (Err (why.Refused was.text)) r.told was.completes
           was.line) [
-            | inl found ↦ inl (record { text = was.text; refused = found; line = was.line })
+            | inl kept ↦ inl (record { text = was.text; refused = kept.0; line = was.line },
+                kept.1)
             | inr at ↦ inr (record { text = was.text; at = at })
           ];
       absent = λ is. elim (was_missing plan old new call.old.err call.new.err
           (at_status ran files command answer.HostFault r.told refl is)) [
-            | inl was ↦ elim (left {call = call} files asked (Err (why.NoFile was.name)) r.told
+            | inl was ↦ elim (left call files asked (Err (why.NoFile was.name)) r.told
                 was.completes was.line) [
-                  | inl found ↦ inl (record { name = was.name; absent = found; line = was.line })
+                  | inl kept ↦ inl (record { name = was.name; absent = kept.0; line = was.line },
+                      kept.1)
                   | inr at ↦ inr (inl (record { text = was.name; at = at }))
                 ]
             | inr rose ↦ inr (inr rose)

@@ -4,6 +4,7 @@ use Rattle.std.specs.Prelude.{None, Result, Ok, Err, Contains, IsTrue}
 use Rattle.rvs_base.specs.Host.{Files, Tells}
 use Rattle.rvs_base.specs.Sink.{appended}
 use Rattle.rvs_plan.specs.Account.{line_of}
+use Rattle.rvs_plan.specs.World.{contents}
 use Rattle.rvs_plan.specs.declared.stop.Stop.{Stop}
 use Rattle.rvs_plan.specs.declared.stop.Stop.TheVariants as why
 use Rattle.rvs_plan.specs.declared.status.Finish.{Finish}
@@ -13,7 +14,7 @@ use Rattle.rvs_device.specs.Command.{wants_elf}
 use Rattle.rvs_device.specs.Judging.{Spells}
 use Rattle.rvs_device.specs.declared.verdicts.TestVerdict.TheVariants.{Pass}
 use Rattle.rvs_suite.specs.Answered.{HasLeft, HasRefused, HasMissed}
-use Rattle.rvs_suite.specs.Call.{Call, Asks, NothingFailed, HostRose, AnswersOnly}
+use Rattle.rvs_suite.specs.Call.{Call, world_of, Asks, NothingFailed, HostRose, AnswersOnly}
 use Rattle.rvs_suite.specs.DatabaseInput.{database_in}
 use Rattle.rvs_suite.specs.DatabaseLeft.{made_in, Trial, with_trials, AreTrialsOf, task_on}
 use Rattle.rvs_suite.specs.DatabaseLeft.{trial_verdict, trial_lines, trials_passed, runs_of}
@@ -41,6 +42,10 @@ database_inputs_in files asked =
 -- the selected tests, with their places
 abbrev pub chosen_in : DatabaseInputs → List Given
 chosen_in inputs = chosen 0 inputs.entries
+
+-- no file, no run and no output is other than before
+abbrev pub LeftAsItWas : Call → Type 0
+LeftAsItWas call = contents (world_of call.new) ≡ contents (world_of call.old)
 
 -- these trials of the first of the tests, and no other, are what the call has done: its runs, its
 -- files, and its output, but for a last line
@@ -111,12 +116,15 @@ pub record RunsDatabase (call : Call) (files : Files) (asked : RunDatabaseArgume
       (HasJudged call files asked.program asked.work finish.Done)
   pub not_passed : call.status ≡ NotPassed → HasLeft (database_inputs_in files asked)
       (HasJudged call files asked.program asked.work finish.NotPassed)
-  -- it is refused where an input is, or a selected test, behind the verdicts before it
-  pub refused : call.status ≡ Refused → HasRefused call (database_inputs_in files asked)
+  -- it is refused where an input is, and has changed nothing, or where a selected test is, behind
+  -- the verdicts before it
+  pub refused : call.status ≡ Refused
+      → (HasRefused call (database_inputs_in files asked) × LeftAsItWas call)
       ⊎ HasStoppedBy call files asked why.Refused
-  -- the host fails where a count rose, an input isn't there, or a selected test, behind the verdicts
-  -- before it
-  pub absent : call.status ≡ HostFault → HasMissed call (database_inputs_in files asked)
+  -- the host fails where an input isn't there, and has changed nothing, where a selected test isn't,
+  -- behind the verdicts before it, or where a count rose
+  pub absent : call.status ≡ HostFault
+      → (HasMissed call (database_inputs_in files asked) × LeftAsItWas call)
       ⊎ HasStoppedBy call files asked why.NoFile ⊎ HostRose call
   -- where an input is refused or isn't there, it says so
   pub by_refusal : (text : List ℕ) → database_inputs_in files asked ≡ Err (why.Refused text)
