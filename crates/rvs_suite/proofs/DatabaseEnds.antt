@@ -11,7 +11,7 @@ use Rattle.rvs_plan.specs.Effect.{Answer, Effect, Did, Out, after, Saw}
 use Rattle.rvs_plan.specs.Inputs.{part_end}
 use Rattle.rvs_plan.specs.Meets.{Completes}
 use Rattle.rvs_plan.specs.Performed.{end_of}
-use Rattle.rvs_plan.specs.Plan.{Plan, Ends, Goes, followed}
+use Rattle.rvs_plan.specs.Plan.{Ends, Goes, followed}
 use Rattle.rvs_plan.specs.declared.stop.Stop.{Stop}
 use Rattle.rvs_plan.specs.declared.stop.Stop.TheVariants as why
 use Rattle.rvs_plan.specs.declared.status.Finish.{Finish}
@@ -23,7 +23,7 @@ use Rattle.rvs_suite.specs.Call.{Call, world_of}
 use Rattle.rvs_suite.specs.DatabaseLeft.{made_in, Trial, with_trials, task_on, trial_lines}
 use Rattle.rvs_suite.specs.DatabaseLeft.{trials_passed, runs_of}
 use Rattle.rvs_suite.specs.GroupFiles.{and_then}
-use Rattle.rvs_suite.specs.JudgingDatabase.{database_inputs_in, chosen_in, HasTried, HasJudged}
+use Rattle.rvs_suite.specs.JudgingDatabase.{database_inputs_in, chosen_in, HasJudged}
 use Rattle.rvs_suite.specs.JudgingDatabase.{LeftAsItWas, HasStopped, IsMadeOf, RunsDatabase}
 use Rattle.rvs_suite.specs.Reference.{test_limit}
 use Rattle.rvs_suite.specs.RunDatabase.{Given, made_by, made_found, DatabaseInputs}
@@ -35,7 +35,7 @@ use Rattle.rvs_suite.specs.declared.judging.Made.{Made}
 use Rattle.rvs_suite.specs.declared.test_run.Run.{Run}
 use Rattle.rvs_suite.proofs.Answered.{RunsOn, ran-command}
 use Rattle.rvs_suite.proofs.DatabaseReads.{finds-database-inputs}
-use Rattle.rvs_suite.proofs.DatabaseRuns.{after_trials, TriedAll, EndedAt, tried-all}
+use Rattle.rvs_suite.proofs.DatabaseRuns.{TriedAll, EndedAt, tried-all}
 use Rattle.rvs_suite.proofs.DatabaseSpares.{database-spares}
 use Rattle.rvs_suite.proofs.Ends.{means-end, was_refused, was_missing}
 use Rattle.rvs_suite.proofs.Finding.{Behind, behind, end-found}
@@ -297,16 +297,20 @@ judges_database {call} files asked r =
           (at_status ran files command answer.Refused r.told refl is) in
           elim (left call files asked (Err (why.Refused was.text)) r.told was.completes
           was.line) [
-            | inl kept ↦ inl (record { text = was.text; refused = kept.0; line = was.line },
-                kept.1)
+            | inl kept ↦ inl (
+              record { text = was.text; refused = kept.0; line = was.line },
+              kept.1,
+            )
             | inr at ↦ inr (record { text = was.text; at = at })
           ];
       absent = λ is. elim (was_missing plan old new call.old.err call.new.err
           (at_status ran files command answer.HostFault r.told refl is)) [
             | inl was ↦ elim (left call files asked (Err (why.NoFile was.name)) r.told
                 was.completes was.line) [
-                  | inl kept ↦ inl (record { name = was.name; absent = kept.0; line = was.line },
-                      kept.1)
+                  | inl kept ↦ inl (
+                    record { name = was.name; absent = kept.0; line = was.line },
+                    kept.1,
+                  )
                   | inr at ↦ inr (inl (record { text = was.name; at = at }))
                 ]
             | inr rose ↦ inr (inr rose)

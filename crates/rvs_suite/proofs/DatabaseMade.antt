@@ -11,7 +11,6 @@ use Rattle.rvs_suite.specs.RunDatabase.{Given, elf_found, made_by, made_found}
 use Rattle.rvs_suite.specs.TestFiles.{files_at}
 use Rattle.rvs_suite.specs.TestRun.{then_found, Accepts, image_found, limit_of, run_found}
 use Rattle.rvs_suite.specs.TestRun.{test_found}
-use Rattle.rvs_suite.specs.declared.judging.Made.{Made}
 use Rattle.rvs_suite.specs.declared.test_files.TestFiles.{TestFiles}
 use Rattle.rvs_suite.specs.declared.test_run.Run.{Run}
 

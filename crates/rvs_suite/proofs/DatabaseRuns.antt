@@ -1,6 +1,6 @@
 -- What the effects of `run` over a database leave, test by test.
 use Rattle.std.proofs.Common.{◌≡◌, ◌⊎◌, inl, inr, ℕ, List, [], ◌∷◌, ◌++◌, append_assoc, append-nil}
-use Rattle.std.proofs.Common.{Option, Some, None, Result, Ok, Err, refl, sym, ap, subst, ◌∙◌}
+use Rattle.std.proofs.Common.{Option, Result, Ok, Err, refl, sym, ap, subst, ◌∙◌}
 use Rattle.std.proofs.Common.{Bool, bytes_eq}
 use Rattle.rvs_base.specs.Host.{Files, with_left, run_over}
 use Rattle.rvs_base.specs.Sink.{appended}
@@ -15,14 +15,13 @@ use Rattle.rvs_sig.specs.Words.{text_of_words}
 use Rattle.rvs_device.specs.Judged.{verdict_on}
 use Rattle.rvs_device.specs.Printed.{verdict_line}
 use Rattle.rvs_device.specs.declared.verdicts.TestVerdict.{TestVerdict}
-use Rattle.rvs_suite.specs.DatabaseLeft.{made_in, Trial, with_made, started_on, with_trial}
+use Rattle.rvs_suite.specs.DatabaseLeft.{made_in, Trial, started_on, with_trial}
 use Rattle.rvs_suite.specs.DatabaseLeft.{with_trials, IsTrialOf, AreTrialsOf, task_on}
 use Rattle.rvs_suite.specs.DatabaseLeft.{trial_verdict, trial_lines, trials_passed, runs_of}
 use Rattle.rvs_suite.specs.GroupFiles.{and_then}
 use Rattle.rvs_suite.specs.Reference.{test_limit}
 use Rattle.rvs_suite.specs.RunDatabase.{Given, made_found, announces_made, judges_given}
 use Rattle.rvs_suite.specs.RunDatabase.{judges_chosen}
-use Rattle.rvs_suite.specs.RunLeft.{with_executable}
 use Rattle.rvs_suite.specs.RunTests.{Bench, judges_words, announces, passes, with_one}
 use Rattle.rvs_suite.specs.TestRun.{found_end, accepted}
 use Rattle.rvs_suite.specs.declared.judging.Made.{Made}

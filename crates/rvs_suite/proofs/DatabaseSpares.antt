@@ -1,25 +1,23 @@
 -- That `run` over a database changes no file but those that its places name, however it ends.
-use Rattle.std.proofs.Common.{◌≡◌, ◌≢◌, ℕ, Bool, true, false, List, [], ◌∷◌, length, Option, Some}
+use Rattle.std.proofs.Common.{◌≡◌, ◌≢◌, ℕ, Bool, true, false, List, [], ◌∷◌, length, Some}
 use Rattle.std.proofs.Common.{None, Result, Ok, Err, Contains, refl, arith}
-use Rattle.std.specs.Prelude.{IsTrue}
 use Rattle.std.proofs.lemmas.List.Elements.{Contains-append_right}
 use Rattle.rvs_base.specs.Host.{Files, Tells}
 use Rattle.rvs_base.specs.Sink.{SinkState}
 use Rattle.rvs_plan.specs.World.{World}
-use Rattle.rvs_plan.specs.Plan.{Plan, followed, ◌>>=◌}
+use Rattle.rvs_plan.specs.Plan.{followed, ◌>>=◌}
 use Rattle.rvs_plan.specs.Inputs.{part_end}
 use Rattle.rvs_plan.specs.declared.stop.Stop.{Stop}
 use Rattle.rvs_plan.specs.declared.status.Status.{Status}
 use Rattle.rvs_suite.specs.JudgingDatabase.{database_inputs_in, chosen_in, IsNoneOf}
 use Rattle.rvs_suite.specs.Reference.{test_limit}
 use Rattle.rvs_suite.specs.RunDatabase.{Given, elf_found, made_by, made_found, announces_made}
-use Rattle.rvs_suite.specs.RunDatabase.{judges_made, judges_given, judges_chosen, DatabaseInputs}
+use Rattle.rvs_suite.specs.RunDatabase.{judges_given, judges_chosen, DatabaseInputs}
 use Rattle.rvs_suite.specs.RunDatabase.{database_inputs, database_bench, runs_database}
 use Rattle.rvs_suite.specs.RunDatabase.{run_database}
-use Rattle.rvs_suite.specs.RunTests.{Bench, asks_elf, if_asked, announces, with_one, tallies}
+use Rattle.rvs_suite.specs.RunTests.{Bench, asks_elf, if_asked, with_one, tallies}
 use Rattle.rvs_suite.specs.TestFiles.{files_at}
 use Rattle.rvs_suite.specs.TestRun.{accepted, then_found, image_found, test_found}
-use Rattle.rvs_suite.specs.declared.judging.Made.{Made}
 use Rattle.rvs_suite.specs.declared.test_run.Run.{Run}
 use Rattle.rvs_suite.proofs.DatabaseReads.{finds-database-inputs}
 use Rattle.rvs_suite.proofs.Running.{Ran}

@@ -6,10 +6,10 @@ use Rattle.rvs_plan.specs.Meets.{MeetsWith}
 use Rattle.rvs_plan.specs.Plan.{Plan, gives, ◌>>=◌}
 use Rattle.rvs_plan.specs.declared.stop.Stop.{Stop}
 use Rattle.rvs_select.specs.declared.database.Entry.{Entry}
-use Rattle.rvs_suite.specs.RunTests.{Bench, with_one}
+use Rattle.rvs_suite.specs.RunTests.{Bench}
 use Rattle.rvs_suite.specs.RunDatabase.{Given, chosen_if, chosen, judges_given, judges_chosen}
-use Rattle.rvs_suite.specs.RunDatabase.{with_judged, passed_over, judged_if, given_next}
-use Rattle.rvs_suite.specs.RunDatabase.{judges_next, judges_if}
+use Rattle.rvs_suite.specs.RunDatabase.{with_judged, judged_if, given_next}
+use Rattle.rvs_suite.specs.RunDatabase.{judges_if}
 use Rattle.rvs_suite.specs.declared.run_database.Progress.{Progress}
 use Rattle.rvs_suite.proofs.NormalPlan.{then-then}
 

@@ -174,12 +174,7 @@ pub fn write_executable<H: Host>(
     }
 }
 
-fn write_bytes<H: Host>(
-    alloc: Global,
-    host: &mut H,
-    name: &Text,
-    bytes: &[u8],
-) -> Result<(), Stop>
+fn write_bytes<H: Host>(alloc: Global, host: &mut H, name: &Text, bytes: &[u8]) -> Result<(), Stop>
     ensures { (out : SinkState) → Meets (writes name.now bytes.now)
         (world (H.state host.old) out) (world (H.state host.new) out) result }
 {

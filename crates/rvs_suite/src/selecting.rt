@@ -45,11 +45,7 @@ fn read_selection<H: Host>(
     read_database_file(alloc, host, &isa, &asked.database)
 }
 
-fn print_selection<O: Sink>(
-    alloc: Global,
-    database: &Database,
-    out: &mut O,
-) -> Result<Finish, Stop>
+fn print_selection<O: Sink>(alloc: Global, database: &Database, out: &mut O) -> Result<Finish, Stop>
     ensures { (host : HostState) → Meets (print_selection database.now)
         (world host (O.state out.old)) (world host (O.state out.new)) result }
 {
