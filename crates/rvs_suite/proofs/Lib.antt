@@ -45,3 +45,10 @@ mod Counted
 mod Signed
 mod Standing
 mod Paths
+mod DatabaseReads
+mod DatabaseSteps
+mod DatabaseMade
+mod SelectEnds
+mod DatabaseRuns
+mod DatabaseSpares
+mod DatabaseEnds

@@ -19,6 +19,8 @@ use Rattle.rvs_suite.specs.Generating as generating
 use Rattle.rvs_suite.specs.Normalizing as normalizing
 use Rattle.rvs_suite.specs.Referencing as referencing
 use Rattle.rvs_suite.specs.Judging as judging
+use Rattle.rvs_suite.specs.JudgingDatabase as database
+use Rattle.rvs_suite.specs.Selecting as selecting
 use Rattle.rvs_suite.specs.Planned as planned
 use Rattle.rvs_suite.specs.Causes as causes
 use Rattle.rvs_suite.specs.Promise.{Promise}
@@ -34,6 +36,8 @@ use Rattle.rvs_suite.proofs.NormalizeEnds.{normalizes}
 use Rattle.rvs_suite.proofs.CoverageEnds.{covers}
 use Rattle.rvs_suite.proofs.PropagateEnds.{propagates}
 use Rattle.rvs_suite.proofs.RunEnds.{judges}
+use Rattle.rvs_suite.proofs.DatabaseEnds.{judges_database}
+use Rattle.rvs_suite.proofs.SelectEnds.{selects}
 use Rattle.rvs_suite.proofs.DemoEnds.{demonstrates}
 
 -- a call whose command ran
@@ -115,6 +119,14 @@ pub run-promise : {call : Call} → RanCall call → judging.Promise call
 run-promise r files asked t is =
     judges files asked (record { ran = r.ran; told = t; asks = is })
 
+pub database-promise : {call : Call} → RanCall call → database.Promise call
+database-promise r files asked t is =
+    judges_database files asked (record { ran = r.ran; told = t; asks = is })
+
+pub select-promise : {call : Call} → RanCall call → selecting.Promise call
+select-promise r files asked t is =
+    selects files asked (record { ran = r.ran; told = t; asks = is })
+
 pub demo-promise : {call : Call} → RanCall call → demonstrating.Promise call
 demo-promise r count is = demonstrates count r.ran is
 
@@ -130,5 +142,7 @@ promise r = record {
   coverage = coverage-promise r;
   propagate = propagate-promise r;
   run = run-promise r;
+  run_database = database-promise r;
+  select = select-promise r;
   demo = demo-promise r;
 }

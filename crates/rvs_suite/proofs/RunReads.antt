@@ -36,7 +36,7 @@ told-by : (files : Files) (device : List ℕ) (bytes : Result (List ℕ) Stop) �
 told-by files device (Ok bytes) = refl
 told-by files device (Err stop) = refl
 
-finds-device : (files : Files) (device : List ℕ)
+pub finds-device : (files : Files) (device : List ℕ)
     → Finds files (device_file device) (device_in files device)
 finds-device files device =
     told-by files device (part_end device_limit device device device_limit (files device))

@@ -19,7 +19,7 @@ use Rattle.rvs_suite.specs.RunTests.{Bench, files_for, asks_elf, executable_for,
 use Rattle.rvs_suite.specs.RunTests.{writes_executable, judges_words, judges_one, judges_all}
 use Rattle.rvs_suite.specs.RunTests.{with_one}
 use Rattle.rvs_suite.specs.RunLeft.{IsRunOf, AreRunsOf, verdict_by, verdict_lines, passed_onto}
-use Rattle.rvs_suite.specs.RunLeft.{with_executable, with_written, with_judged, with_all_judged}
+use Rattle.rvs_suite.specs.RunLeft.{with_written, with_judged, with_all_judged}
 use Rattle.rvs_suite.specs.declared.gathering.Test.{Test}
 use Rattle.rvs_device.specs.declared.verdicts.TestVerdict.{TestVerdict}
 use Rattle.rvs_suite.proofs.Executables.{written_before, after-executable, saw-executable}
@@ -45,13 +45,13 @@ first_did deed plan end (Read name found ∷ effects) goes = absurd goes
 first_did deed plan end (Device words test signature answer ∷ effects) goes = absurd goes
 
 -- the write of an executable, where there is one
-record FirstWritten (name : List ℕ) (executable : Option (List ℕ)) (plan : Plan Finish)
+pub record FirstWritten (name : List ℕ) (executable : Option (List ℕ)) (plan : Plan Finish)
     (end : Result Finish Stop) (effects : List Effect) : Type 0 where
-  rest : List Effect
-  is : effects ≡ written_before name executable rest
-  goes : Goes plan rest (Ends end)
+  pub rest : List Effect
+  pub is : effects ≡ written_before name executable rest
+  pub goes : Goes plan rest (Ends end)
 
-first_written : (name : List ℕ) (executable : Option (List ℕ)) (plan : Plan TestVerdict)
+pub first_written : (name : List ℕ) (executable : Option (List ℕ)) (plan : Plan TestVerdict)
     (put : TestVerdict → Plan Bool) (next : Bool → Plan Finish) (end : Result Finish Stop)
     (effects : List Effect)
     → Goes ((writes_executable name executable >>= (λ _. plan)) >>= put >>= next) effects (Ends end)
@@ -62,14 +62,14 @@ first_written name (Some executable) plan put next end effects goes =
     let first = first_did (Write name executable) (plan >>= put >>= next) end effects goes in
     record { rest = first.rest; is = first.is; goes = first.goes }
 
-record FirstRead (name : List ℕ) (next : Option (List ℕ) → Plan Finish) (end : Result Finish Stop)
+pub record FirstRead (name : List ℕ) (next : Option (List ℕ) → Plan Finish) (end : Result Finish Stop)
     (effects : List Effect) : Type 0 where
-  found : Option (List ℕ)
-  rest : List Effect
-  is : effects ≡ Read name found ∷ rest
-  goes : Goes (next found) rest (Ends end)
+  pub found : Option (List ℕ)
+  pub rest : List Effect
+  pub is : effects ≡ Read name found ∷ rest
+  pub goes : Goes (next found) rest (Ends end)
 
-first_read : (name : List ℕ) (next : Option (List ℕ) → Plan Finish) (end : Result Finish Stop)
+pub first_read : (name : List ℕ) (next : Option (List ℕ) → Plan Finish) (end : Result Finish Stop)
     (effects : List Effect) → Goes (Asks name next) effects (Ends end) → FirstRead name next end
     effects
 first_read name next end [] goes = absurd cc
@@ -82,14 +82,14 @@ first_read name next end (Read n found ∷ effects) goes = record {
 first_read name next end (Did deed ∷ effects) goes = absurd goes
 first_read name next end (Device words test signature answer ∷ effects) goes = absurd goes
 
-record FirstRan (words : List (List ℕ)) (test signature : List ℕ) (next : Answer → Plan Finish)
+pub record FirstRan (words : List (List ℕ)) (test signature : List ℕ) (next : Answer → Plan Finish)
     (end : Result Finish Stop) (effects : List Effect) : Type 0 where
-  answer : Answer
-  rest : List Effect
-  is : effects ≡ Device words test signature answer ∷ rest
-  goes : Goes (next answer) rest (Ends end)
+  pub answer : Answer
+  pub rest : List Effect
+  pub is : effects ≡ Device words test signature answer ∷ rest
+  pub goes : Goes (next answer) rest (Ends end)
 
-first_ran : (words : List (List ℕ)) (test signature : List ℕ) (next : Answer → Plan Finish)
+pub first_ran : (words : List (List ℕ)) (test signature : List ℕ) (next : Answer → Plan Finish)
     (end : Result Finish Stop) (effects : List Effect) → Goes (Runs words test signature next)
     effects (Ends end) → FirstRan words test signature next end effects
 first_ran words test signature next end [] goes = absurd cc
@@ -129,7 +129,7 @@ empty-there bench test files = found-in
     (bytes_eq (files_for bench test).device (files_for bench test).device) _ _
     (same-bytes (files_for bench test).device)
 
-left-there : (name : List ℕ) (left : Option (List ℕ)) (files : Files)
+pub left-there : (name : List ℕ) (left : Option (List ℕ)) (files : Files)
     → with_left name left files name ≡ left
 left-there name left files = found-in (bytes_eq name name) _ _ (same-bytes name)
 
@@ -139,7 +139,7 @@ either true x y z = refl
 either false x y z = refl
 
 -- what a run leaves takes the place of what was written before it
-left-over : (name bytes : List ℕ) (left : Option (List ℕ)) (files : Files)
+pub left-over : (name bytes : List ℕ) (left : Option (List ℕ)) (files : Files)
     → with_left name left (with_file name bytes files) ≡ with_left name left files
 left-over name bytes left files =
     λ i other. either (bytes_eq other name) left (Some bytes) (files other) i
@@ -304,7 +304,7 @@ pub record JudgedAll (bench : Bench) (tests : List Test) (passed : ℕ) (next : 
   pub same : after effects (contents_of files runs out)
       ≡ after later (after_tests bench tests files runs out news)
 
-append-none : (out : Option (List ℕ)) → appended out [] ≡ out
+pub append-none : (out : Option (List ℕ)) → appended out [] ≡ out
 append-none None = refl
 append-none (Some out) = ap (λ (x : List ℕ). Some x) (append-nil out)
 

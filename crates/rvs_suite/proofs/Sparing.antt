@@ -90,7 +90,7 @@ unchanged other signature (Some files) files' apart m = ap (λ (f : Option Files
     ∙ ap (λ (x : Option (List ℕ)). Some x) (m.2 other apart)
 
 -- a plan that doesn't write this file, nor has a device that may
-abbrev Spares : {A : Type 0} → List ℕ → Plan A → Type 0
+abbrev pub Spares : {A : Type 0} → List ℕ → Plan A → Type 0
 Spares other (Ends end) = ⊤
 Spares other (Does (Write name bytes) plan) = (other ≢ name) × Spares other plan
 Spares other (Does (Out bytes) plan) = Spares other plan
@@ -103,7 +103,7 @@ Spares-followed : {A B : Type 0} (other : List ℕ) (end : Result A Stop) (next 
 Spares-followed other (Ok a) next rest_spares = rest_spares a
 Spares-followed other (Err stop) next rest_spares = tt
 
-Spares-then : {A B : Type 0} (other : List ℕ) (plan : Plan A) (next : A → Plan B)
+pub Spares-then : {A B : Type 0} (other : List ℕ) (plan : Plan A) (next : A → Plan B)
     → Spares other plan → ((a : A) → Spares other (next a)) → Spares other (plan >>= next)
 Spares-then other (Ends end) next spares rest_spares = Spares-followed other end next rest_spares
 Spares-then other (Does (Write name bytes) plan) next spares rest_spares =
@@ -153,7 +153,7 @@ spared other (Runs words test signature next) rest (Read name found ∷ effects)
     absurd goes
 
 -- over these files, a plan that reads first, and then spares this file
-abbrev SparesOver : {A : Type 0} → Files → List ℕ → Plan A → Type 0
+abbrev pub SparesOver : {A : Type 0} → Files → List ℕ → Plan A → Type 0
 SparesOver files other (Ends end) = ⊤
 SparesOver files other (Does deed plan) = Spares other (Does deed plan)
 SparesOver files other (Asks name next) = SparesOver files other (next (files name))
@@ -176,7 +176,7 @@ spares-followed files other (Ok a) next rest_spares =
 spares-followed files other (Err stop) next rest_spares = tt
 
 -- what comes behind reading has to spare the file for what was found alone
-spares-found : {A B : Type 0} (files : Files) (other : List ℕ) (plan : Plan A) (next : A → Plan B)
+pub spares-found : {A B : Type 0} (files : Files) (other : List ℕ) (plan : Plan A) (next : A → Plan B)
     (found : Result A Stop) → Finds files plan found
     → ((a : A) → found ≡ Ok a → Spares other (next a)) → SparesOver files other (plan >>= next)
 spares-found {A} files other (Ends end) next found is rest_spares =
@@ -361,7 +361,7 @@ spares-run files other asked apart = spares-found files other (run_inputs asked)
     (λ passed. tt))
 
 -- a command that spares a file leaves it as it was
-spares : {command : Command} {old new : World} {err err' : SinkState} {status : Status}
+pub spares : {command : Command} {old new : World} {err err' : SinkState} {status : Status}
     → Ran command old new err err' status
     → (files files' : Files) (asked : Command) (other : List ℕ) → Tells old.host files
     → command ≡ asked → SparesOver files other (plan_of asked) → new.host.files ≡ Some files'

@@ -43,14 +43,16 @@ use Rattle.rvs_suite.proofs.Readers.{OnlyReads, OnlyReads-then}
 use Rattle.rvs_suite.proofs.GroupInputs.{reads-specification, reads-inputs}
 use Rattle.rvs_suite.proofs.LogReads.{reads-reported}
 use Rattle.rvs_suite.proofs.RunReads.{reads-run}
+use Rattle.rvs_suite.proofs.DatabaseReads.{reads-selection}
+use Rattle.rvs_suite.specs.Select.{reads_selection, print_selection}
 use Rattle.rvs_suite.proofs.Running.{Ran, answers}
 use Rattle.rvs_words.specs.declared.command.Command.{Command}
 use Rattle.rvs_words.specs.declared.command.Command.TheVariants.{Unknown, Compare, Validate}
 use Rattle.rvs_words.specs.declared.command.Command.TheVariants.{Normalize, Generate, Reference}
 use Rattle.rvs_words.specs.declared.command.Command.TheVariants.{Coverage, Propagate, Run, Demo}
+use Rattle.rvs_words.specs.declared.command.Command.TheVariants.{RunDatabase, Select}
 use Rattle.rvs_suite.specs.declared.test_run.Run.{Run as TestRun}
 use Rattle.rvs_suite.specs.declared.gathering.Test.{Test}
-use Rattle.rvs_suite.specs.declared.judging.Made.{Made}
 use Rattle.rvs_suite.specs.declared.test_files.TestFiles.{TestFiles}
 
 -- a plan that doesn't stop, whatever is found and answered
@@ -221,6 +223,11 @@ stops_untouched (Propagate asked) first =
     untouched-then (propagating.reported asked) print_text
     (reads-reported (propagating.reports asked.signature) asked.isa asked.groups asked.log)
     (λ report effects stop c goes. absurd (goes-on (print_text report) effects stop tt goes))
+stops_untouched (RunDatabase asked) first = absurd first
+stops_untouched (Select asked) first =
+    untouched-then (reads_selection asked) print_selection (reads-selection asked)
+    (λ entries effects stop c goes.
+    absurd (goes-on (print_selection entries) effects stop tt goes))
 stops_untouched (Demo count) first =
     λ effects stop c goes. absurd (goes-on (demonstrate count) effects stop tt goes)
 stops_untouched (Reference asked) first =

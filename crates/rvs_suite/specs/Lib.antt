@@ -40,6 +40,12 @@ pub mod RunTests
 pub mod RunView
 pub mod RunLeft
 pub mod Judging
+pub mod DatabaseInput
+pub mod Select
+pub mod Selecting
+pub mod RunDatabase
+pub mod DatabaseLeft
+pub mod JudgingDatabase
 pub mod Demonstrate
 pub mod Demonstrating
 pub mod Promise

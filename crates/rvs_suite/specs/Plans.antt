@@ -16,11 +16,14 @@ use Rattle.rvs_suite.specs.Generate as generating
 use Rattle.rvs_suite.specs.Normalize as normalizing
 use Rattle.rvs_suite.specs.Reference as running
 use Rattle.rvs_suite.specs.RunTests as judging
+use Rattle.rvs_suite.specs.RunDatabase as giving
+use Rattle.rvs_suite.specs.Select as selecting
 use Rattle.rvs_suite.specs.Demonstrate as demonstrating
 use Rattle.rvs_words.specs.declared.command.Command.{Command}
 use Rattle.rvs_words.specs.declared.command.Command.TheVariants.{Unknown, Compare, Validate}
 use Rattle.rvs_words.specs.declared.command.Command.TheVariants.{Normalize, Generate, Reference}
 use Rattle.rvs_words.specs.declared.command.Command.TheVariants.{Coverage, Propagate, Run, Demo}
+use Rattle.rvs_words.specs.declared.command.Command.TheVariants.{RunDatabase, Select}
 
 -- the plan of a command
 abbrev pub plan_of : Command → Plan Finish
@@ -33,6 +36,8 @@ plan_of (Reference asked) = running.reference asked
 plan_of (Coverage asked) = covering.coverage asked
 plan_of (Propagate asked) = propagating.propagate asked
 plan_of (Run asked) = judging.run asked
+plan_of (RunDatabase asked) = giving.run_database asked
+plan_of (Select asked) = selecting.select asked
 plan_of (Demo count) = demonstrating.demonstrate count
 
 -- the effects that the words of a command line mean, and the status that they lead to
@@ -42,10 +47,13 @@ effects_of words = plan_of (command_of words)
 -- `run` takes it for an answer that the signature file of a device isn't there
 abbrev pub absence_of : Command → Absence
 absence_of (Run asked) = IsAnswer
+absence_of (RunDatabase asked) = IsAnswer
 absence_of _ = IsFault
 
--- a command that reads all of its inputs before its first deed
+-- a command that reads all of its inputs before its first deed; over a database, `run` reads each
+-- test when its turn comes
 abbrev pub ReadsFirst : Command → Type 0
+ReadsFirst (RunDatabase asked) = ⊥
 ReadsFirst _ = ⊤
 
 -- work that has no part in the host: it left the host as it was, and does the same beside any other

@@ -10,6 +10,8 @@ use Rattle.rvs_suite.specs.Referencing as referencing
 use Rattle.rvs_suite.specs.Covering as covering
 use Rattle.rvs_suite.specs.Propagating as propagating
 use Rattle.rvs_suite.specs.Judging as judging
+use Rattle.rvs_suite.specs.JudgingDatabase as database
+use Rattle.rvs_suite.specs.Selecting as selecting
 use Rattle.rvs_suite.specs.Demonstrating as demonstrating
 
 -- The first fact is of every call over told files, and the second of every call over any host and
@@ -37,5 +39,9 @@ pub record Promise (call : Call) : Type 0 where
   pub propagate : propagating.Promise call
   -- it makes the same tests, and passes where the device leaves the reference's words on each
   pub run : judging.Promise call
+  -- it runs the selected tests of a database, in order, each from its file as it is then
+  pub run_database : database.Promise call
+  -- it says of each test of a database whether it is selected
+  pub select : selecting.Promise call
   -- it puts the report of the run of the stated program
   pub demo : demonstrating.Promise call

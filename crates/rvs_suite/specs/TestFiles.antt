@@ -1,5 +1,5 @@
 -- The files of a label's test.
-use Rattle.std.specs.Prelude.{◌≢◌, ◌++◌, Bool, IsTrue, List, ℕ, codes}
+use Rattle.std.specs.Prelude.{◌≢◌, ◌++◌, Bool, IsTrue, List, ℕ, codes, decimal}
 use Rattle.rvs_suite.specs.Generate.{path_of}
 use Rattle.rvs_suite.specs.declared.test_files.TestFiles.{TestFiles}
 
@@ -11,6 +11,15 @@ files_of work name = record {
   executable = work ++ (codes "/" ++ (name ++ codes ".elf"));
   reference = work ++ (codes "/" ++ (name ++ codes ".reference.sig"));
   device = work ++ (codes "/" ++ (name ++ codes ".device.sig"));
+}
+
+-- the files of the test at this place of a database: its own, and those that are named by the place
+abbrev pub files_at : List ℕ → ℕ → List ℕ → TestFiles
+files_at work place test = record {
+  test = test;
+  executable = (files_of work (decimal place)).executable;
+  reference = (files_of work (decimal place)).reference;
+  device = (files_of work (decimal place)).device;
 }
 
 -- a file that is none of these, of which the executable is one where it is wanted

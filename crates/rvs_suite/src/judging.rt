@@ -44,11 +44,11 @@ pub struct Bench {
 /// What comes of a test before it is judged.
 #[derive(Drop)]
 pub struct Made {
-    files: TestFiles,
+    pub files: TestFiles,
     /// The executable, where the device asks for it.
-    executable: Option<Bytes>,
+    pub executable: Option<Bytes>,
     /// The words that the test leaves on the reference machine.
-    words: Items<u32>,
+    pub words: Items<u32>,
 }
 
 /// Judges a test, puts the verdict, and says whether it passes.
@@ -112,7 +112,11 @@ fn image_of(alloc: Global, isa: IsaSpec, test: &Test) -> Result<Image, Stop>
 }
 
 /// The executable of an image, where the device asks for it.
-fn executable_of(
+///
+/// # Errors
+///
+/// [`NoMemory`].
+pub fn executable_of(
     alloc: Global,
     device: &Device,
     image: &Image,
@@ -151,7 +155,11 @@ fn write_test<H: Host>(
 }
 
 /// Writes an executable, where there is one.
-fn write_executable<H: Host>(
+///
+/// # Errors
+///
+/// [`Stop`]: it can't be written.
+pub fn write_executable<H: Host>(
     alloc: Global,
     host: &mut H,
     name: &Text,
@@ -166,12 +174,7 @@ fn write_executable<H: Host>(
     }
 }
 
-fn write_bytes<H: Host>(
-    alloc: Global,
-    host: &mut H,
-    name: &Text,
-    bytes: &[u8],
-) -> Result<(), Stop>
+fn write_bytes<H: Host>(alloc: Global, host: &mut H, name: &Text, bytes: &[u8]) -> Result<(), Stop>
     ensures { (out : SinkState) → Meets (writes name.now bytes.now)
         (world (H.state host.old) out) (world (H.state host.new) out) result }
 {
@@ -195,7 +198,11 @@ fn write_words<H: Host>(
 }
 
 /// Writes the reference's words of a test that is written, and judges the device by them.
-fn judge_words<H: Host>(
+///
+/// # Errors
+///
+/// [`Stop`]: a signature can't be written or read, or the device can't be run.
+pub fn judge_words<H: Host>(
     alloc: Global,
     host: &mut H,
     bench: &Bench,
@@ -264,7 +271,11 @@ fn passes(verdict: &TestVerdict) -> bool
 }
 
 /// Puts a verdict, and says whether it is a pass.
-fn print_verdict<O: Sink>(
+///
+/// # Errors
+///
+/// [`Stop::SinkFault`].
+pub fn print_verdict<O: Sink>(
     alloc: Global,
     name: &str,
     verdict: &TestVerdict,

@@ -4,6 +4,7 @@
 mod assembling;
 mod comparing;
 mod covering;
+mod database_file;
 mod demonstrating;
 mod device_file;
 mod gathering;
@@ -18,6 +19,8 @@ mod printing;
 mod propagating;
 mod reference;
 mod run;
+mod run_database;
+mod selecting;
 mod suite;
 mod test_files;
 mod test_run;

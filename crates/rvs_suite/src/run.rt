@@ -107,7 +107,7 @@ fn judge_all<H: Host, O: Sink>(
 }
 
 /// How many tests pass, with one that does or doesn't.
-fn with_one(passed: usize, pass: bool) -> usize
+pub fn with_one(passed: usize, pass: bool) -> usize
     requires { passed < 2 ^ 63 }
     ensures value { result ≡ with_one passed pass }
     ensures some { result ≤ passed + 1 }
@@ -116,7 +116,11 @@ fn with_one(passed: usize, pass: bool) -> usize
 }
 
 /// Puts the totals.
-fn print_totals<O: Sink>(
+///
+/// # Errors
+///
+/// [`Stop::SinkFault`].
+pub fn print_totals<O: Sink>(
     alloc: Global,
     tests: usize,
     passed: usize,

@@ -1,9 +1,10 @@
 // The files of a label's test.
 ghost use Rattle.std.specs.Prelude.{◌≡◌, IfOk};
 ghost use Rattle.rvs_suite.specs.Generate.{path_of};
-ghost use Rattle.rvs_suite.specs.TestFiles.{files_of};
+ghost use Rattle.rvs_suite.specs.TestFiles.{files_of, files_at};
 
 use rvs_base::{NoMemory, Text};
+use rvs_words::owned;
 use std::alloc::Global;
 
 /// The files of a label's test.
@@ -33,6 +34,28 @@ impl TestFiles {
             executable: executable_path(alloc, work, name)?,
             reference: reference_path(alloc, work, name)?,
             device: device_path(alloc, work, name)?,
+        })
+    }
+
+    /// Those of a test of its own name at a place of a database: the others are named by the place.
+    ///
+    /// # Errors
+    ///
+    /// [`NoMemory`].
+    pub fn of_place(
+        alloc: Global,
+        work: &Text,
+        place: usize,
+        test: &Text,
+    ) -> Result<TestFiles, NoMemory>
+        ensures { IfOk result (λ files. files ≡ files_at work.now place test.now) }
+    {
+        let name = Text::from(format!(in alloc; "{place}")?);
+        Ok(TestFiles {
+            test: owned(alloc, test.as_str())?,
+            executable: executable_path(alloc, work, &name)?,
+            reference: reference_path(alloc, work, &name)?,
+            device: device_path(alloc, work, &name)?,
         })
     }
 }

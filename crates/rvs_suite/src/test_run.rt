@@ -57,7 +57,9 @@ pub fn run_bytes(
     run_image(alloc, name, limit_of(steps, name, bytes), spec, image)
 }
 
-fn limit_of(steps: Option<u64>, name: &str, bytes: &[u8]) -> u64
+/// How many instructions a test may have: what was asked for, or what the header of its text says,
+/// or else 1,000,000.
+pub fn limit_of(steps: Option<u64>, name: &str, bytes: &[u8]) -> u64
     ensures { result ≡ limit_of steps name.now bytes.now }
 {
     match steps {
@@ -80,7 +82,11 @@ fn is_executable_name(name: &str) -> bool
 }
 
 /// The image of a test file, which is an image file, an executable or assembler text.
-fn image_of(alloc: Global, spec: IsaSpec, name: &str, bytes: &[u8]) -> Result<Image, Stop>
+///
+/// # Errors
+///
+/// [`Stop::Refused`] where the bytes have no image; [`Stop::NoMemory`].
+pub fn image_of(alloc: Global, spec: IsaSpec, name: &str, bytes: &[u8]) -> Result<Image, Stop>
     ensures { Accepts (image_found spec name.now bytes.now) result }
 {
     if is_image_name(name) {

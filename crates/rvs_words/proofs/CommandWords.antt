@@ -13,6 +13,7 @@ use Rattle.rvs_words.specs.Commands.{validate_options, validate_of}
 use Rattle.rvs_words.specs.Commands.{normalize_options, normalize_of, generate_options, generate_of}
 use Rattle.rvs_words.specs.Commands.{reference_options, reference_of, coverage_options, coverage_of}
 use Rattle.rvs_words.specs.Commands.{propagate_options, propagate_of, run_options, run_of}
+use Rattle.rvs_words.specs.Commands.{run_groups_of, run_database_of, is_given}
 use Rattle.rvs_words.specs.declared.words.Pair.{Pair}
 use Rattle.rvs_base.specs.declared.asked.Window.{Window}
 use Rattle.rvs_words.specs.declared.command.Command.{Command}
@@ -28,7 +29,7 @@ use Rattle.rvs_words.proofs.OptionPairs.{IsName, pair, pairs, and-left, and-righ
 use Rattle.rvs_words.proofs.OptionPairs.{options_read, option_alone, options_alone, values_same}
 use Rattle.rvs_words.proofs.OptionPairs.{values_other, known_pairs}
 
-isa-name : IsName (codes "--isa")
+pub isa-name : IsName (codes "--isa")
 isa-name = record { alone = refl; joined = λ byte text. refl; same = refl }
 
 cgf-name : IsName (codes "--cgf")
@@ -46,13 +47,13 @@ log-name = record { alone = refl; joined = λ byte text. refl; same = refl }
 steps-name : IsName (codes "--steps")
 steps-name = record { alone = refl; joined = λ byte text. refl; same = refl }
 
-work-name : IsName (codes "--work")
+pub work-name : IsName (codes "--work")
 work-name = record { alone = refl; joined = λ byte text. refl; same = refl }
 
 window-name : IsName (codes "--window")
 window-name = record { alone = refl; joined = λ byte text. refl; same = refl }
 
-device-name : IsName (codes "--device")
+pub device-name : IsName (codes "--device")
 device-name = record { alone = refl; joined = λ byte text. refl; same = refl }
 
 pub options-in : (names words : List (List ℕ)) (ps : List Pair)
@@ -76,7 +77,7 @@ asked names f words ps command e h =
     ∙ h
 
 -- a command of the pairs, each of whose names is known
-of-pairs : (names : List (List ℕ)) (f : Values → Option Command) (words : List (List ℕ))
+pub of-pairs : (names : List (List ℕ)) (f : Values → Option Command) (words : List (List ℕ))
     (ps : List Pair) (command : Command)
     → pairs_of words ≡ Some ps → are_known names ps ≡ true
     → f (of-values ps) ≡ Some command
@@ -109,11 +110,11 @@ normalize-of values isa groups a b =
     Some (Normalize (record { isa = isa; groups = groups }))))
 
 -- all values stand where the first does and the others do
-first-stands : (value : Value) (values : List Value) → AllMayStand (value ∷ values)
+pub first-stands : (value : Value) (values : List Value) → AllMayStand (value ∷ values)
     → may_stand value ≡ true
 first-stands value values m = and-left (may_stand value) (list_all may_stand values) m
 
-others-stand : (value : Value) (values : List Value) → AllMayStand (value ∷ values)
+pub others-stand : (value : Value) (values : List Value) → AllMayStand (value ∷ values)
     → AllMayStand values
 others-stand value values m = and-right (may_stand value) (list_all may_stand values) m
 
@@ -183,7 +184,7 @@ pub run-of : (program : List ℕ) (values : Values) (isa device work : List ℕ)
     → some_of 64 (values (codes "--cgf")) ≡ Some groups
     → only (values (codes "--device")) ≡ Some device
     → only (values (codes "--work")) ≡ Some work
-    → run_of program values ≡ Some (Run (record {
+    → run_groups_of program values ≡ Some (Run (record {
       program = program;
       isa = isa;
       groups = groups;
@@ -193,6 +194,16 @@ pub run-of : (program : List ℕ) (values : Values) (isa device work : List ℕ)
 run-of program values isa device work groups a b c d =
     λ k. a k >>= (λ isa. b k >>= (λ groups. c k >>= (λ device. d k >>= (λ work. Some (Run
     (record { program = program; isa = isa; groups = groups; device = device; work = work }))))))
+
+-- without a database, a run is over group files
+over-groups : (program : List ℕ) (values : Values) (command : Command)
+    → values (codes "--database") ≡ [] → run_groups_of program values ≡ Some command
+    → run_of program values ≡ Some command
+over-groups program values command none asks =
+    ap (λ databases. cond (is_given databases)
+    (cond (is_given (values (codes "--cgf"))) None (run_database_of program values))
+    (run_groups_of program values)) none
+    ∙ asks
 
 pub runs_are_read : RunsAreRead
 runs_are_read program isa device work groups m few =
@@ -212,6 +223,8 @@ runs_are_read program isa device work groups m few =
     of-pairs run_options (run_of program) (option (codes "--isa") isa ++ words)
     (pair (codes "--isa") isa ∷ rest) _ read
     (known_pairs run_options (codes "--cgf") refl groups behind)
+    (over-groups program (of-values (pair (codes "--isa") isa ∷ rest)) _
+    (values_other (codes "--database") (codes "--cgf") refl groups behind)
     (run-of program (of-values (pair (codes "--isa") isa ∷ rest)) isa.text device.text work.text
     (map text_of groups)
     (ap (λ vs. only (isa.text ∷ vs))
@@ -219,7 +232,7 @@ runs_are_read program isa device work groups m few =
     (ap (some_of 64) (own-values (codes "--cgf") cgf-name groups behind refl)
     ∙ some groups few.0 few.1)
     (ap only (values_other (codes "--device") (codes "--cgf") refl groups behind))
-    (ap only (values_other (codes "--work") (codes "--cgf") refl groups behind)))
+    (ap only (values_other (codes "--work") (codes "--cgf") refl groups behind))))
 
 pub coverage-of : (values : Values) (isa log : List ℕ) (groups : List (List ℕ))
     (kept : List Window)

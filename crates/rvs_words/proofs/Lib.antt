@@ -2,6 +2,7 @@ mod WordRows
 mod OptionPairs
 mod OptionValues
 mod CommandWords
+mod DatabaseWords
 mod OptionOrder
 mod CommandNumbers
 mod FirstCuts

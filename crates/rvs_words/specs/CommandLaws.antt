@@ -5,14 +5,15 @@ use Rattle.std.specs.Prelude.{option_map, option_and_then, codes, bytes_eq}
 use Rattle.std.specs.Fmt.{decimal}
 use Rattle.std.specs.List.{flat_map, list_all, list_any}
 use Rattle.rvs_base.specs.Number.{hex_word_of}
-use Rattle.rvs_words.specs.Words.{pairs_of}
-use Rattle.rvs_words.specs.Commands.{number_of, steps_of, command_of}
+use Rattle.rvs_words.specs.Words.{pairs_of, values_of}
+use Rattle.rvs_words.specs.Commands.{number_of, steps_of, is_given, command_of}
 use Rattle.rvs_words.specs.Windows.{window_of, windows_of}
 use Rattle.rvs_words.specs.declared.words.Pair.{Pair}
 use Rattle.rvs_base.specs.declared.asked.Window.{Window}
 use Rattle.rvs_words.specs.declared.command.Command.TheVariants.{Compare, Validate, Normalize}
 use Rattle.rvs_words.specs.declared.command.Command.TheVariants.{Generate, Reference, Coverage, Run}
-use Rattle.rvs_words.specs.declared.command.Command.TheVariants.{Propagate, Demo}
+use Rattle.rvs_words.specs.declared.command.Command.TheVariants.{Propagate, RunDatabase, Select}
+use Rattle.rvs_words.specs.declared.command.Command.TheVariants.{Unknown, Demo}
 use Rattle.rvs_base.specs.Asked.{size_of}
 
 -- a word that isn't empty and doesn't begin with a dash
@@ -141,6 +142,35 @@ RunsAreRead =
       work = work.text;
     })
 
+abbrev pub RunsOverDatabasesAreRead : Type 0
+RunsOverDatabasesAreRead =
+    (program : List ℕ) (isa database device work : Value)
+    → AllMayStand (isa ∷ database ∷ device ∷ work ∷ [])
+    → command_of (program ∷ codes "run" ∷ option (codes "--isa") isa
+    ++ (option (codes "--database") database
+    ++ (option (codes "--device") device ++ option (codes "--work") work)))
+    ≡ RunDatabase (record {
+      program = program;
+      isa = isa.text;
+      database = database.text;
+      device = device.text;
+      work = work.text;
+    })
+
+-- a run with both group files and a database, or with neither, is no command
+abbrev pub RunsHaveOneSource : Type 0
+RunsHaveOneSource =
+    (program : List ℕ) (words : List (List ℕ)) (pairs : List Pair) → pairs_of words ≡ Some pairs
+    → is_given (values_of (codes "--cgf") pairs) ≡ is_given (values_of (codes "--database") pairs)
+    → command_of (program ∷ codes "run" ∷ words) ≡ Unknown
+
+abbrev pub SelectsAreRead : Type 0
+SelectsAreRead =
+    (program : List ℕ) (isa database : Value) → AllMayStand (isa ∷ database ∷ [])
+    → command_of (program ∷ codes "select" ∷ option (codes "--isa") isa
+    ++ option (codes "--database") database)
+    ≡ Select (record { isa = isa.text; database = database.text })
+
 abbrev pub DemosAreRead : Type 0
 DemosAreRead =
     (program text : List ℕ) (count : ℕ) → option_and_then size_of (number_of text) ≡ Some count
@@ -150,7 +180,7 @@ DemosAreRead =
 abbrev pub option_commands : List (List ℕ)
 option_commands =
     codes "validate" ∷ codes "normalize" ∷ codes "generate" ∷ codes "reference" ∷ codes "coverage"
-    ∷ codes "propagate" ∷ codes "run" ∷ []
+    ∷ codes "propagate" ∷ codes "run" ∷ codes "select" ∷ []
 
 abbrev pub takes_options : List ℕ → Bool
 takes_options name = list_any (λ (known : List ℕ). bytes_eq name known) option_commands

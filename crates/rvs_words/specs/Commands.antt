@@ -1,5 +1,5 @@
 -- What the words of a command line ask for.
-use Rattle.std.specs.Prelude.{ℕ, ◌&&◌, nat_le, if◌then◌else◌, List, [], ◌∷◌, length, bytes_eq}
+use Rattle.std.specs.Prelude.{ℕ, Bool, true, false, ◌&&◌, nat_le, if◌then◌else◌, List, [], ◌∷◌, length, bytes_eq}
 use Rattle.std.specs.Prelude.{Option, Some, None, option_map, option_and_then, unwrap_or, codes}
 use Rattle.rvs_base.specs.Digits.{short_number}
 use Rattle.rvs_base.specs.Asked.{size_of}
@@ -9,6 +9,7 @@ use Rattle.rvs_words.specs.declared.command.Command.{Command}
 use Rattle.rvs_words.specs.declared.command.Command.TheVariants.{Unknown, Compare, Validate}
 use Rattle.rvs_words.specs.declared.command.Command.TheVariants.{Normalize, Generate, Reference}
 use Rattle.rvs_words.specs.declared.command.Command.TheVariants.{Coverage, Propagate, Run, Demo}
+use Rattle.rvs_words.specs.declared.command.Command.TheVariants.{RunDatabase, Select}
 
 -- what follows from a value, where it is there
 infixl 10 ◌>>=◌
@@ -123,18 +124,48 @@ propagate_of values = do
   signature ← range_of (values (codes "--signature"))
   Some (Propagate (record { isa = isa; groups = groups; log = log; signature = signature }))
 
+abbrev pub select_options : List (List ℕ)
+select_options = codes "--isa" ∷ codes "--database" ∷ []
+
+abbrev pub select_of : Values → Option Command
+select_of values = do
+  isa ← only (values (codes "--isa"))
+  database ← only (values (codes "--database"))
+  Some (Select (record { isa = isa; database = database }))
+
 abbrev pub run_options : List (List ℕ)
-run_options = codes "--isa" ∷ codes "--cgf" ∷ codes "--device" ∷ codes "--work" ∷ []
+run_options =
+    codes "--isa" ∷ codes "--cgf" ∷ codes "--database" ∷ codes "--device" ∷ codes "--work" ∷ []
 
 -- the program's own name stands for it in the words of a device
-abbrev pub run_of : List ℕ → Values → Option Command
-run_of program values = do
+abbrev pub run_groups_of : List ℕ → Values → Option Command
+run_groups_of program values = do
   isa ← only (values (codes "--isa"))
   groups ← some_of most_groups (values (codes "--cgf"))
   device ← only (values (codes "--device"))
   work ← only (values (codes "--work"))
   Some (Run
       (record { program = program; isa = isa; groups = groups; device = device; work = work }))
+
+abbrev pub run_database_of : List ℕ → Values → Option Command
+run_database_of program values = do
+  isa ← only (values (codes "--isa"))
+  database ← only (values (codes "--database"))
+  device ← only (values (codes "--device"))
+  work ← only (values (codes "--work"))
+  Some (RunDatabase
+      (record { program = program; isa = isa; database = database; device = device; work = work }))
+
+-- whether an option stands
+abbrev pub is_given : List (List ℕ) → Bool
+is_given [] = false
+is_given (value ∷ values) = true
+
+-- a run takes its tests from group files or from a database, and not from both
+abbrev pub run_of : List ℕ → Values → Option Command
+run_of program values = if is_given (values (codes "--database")) then
+    (if is_given (values (codes "--cgf")) then None else run_database_of program values)
+    else run_groups_of program values
 
 -- how many instructions are to be generated, from 1 to 1,000,000
 abbrev pub demo_of : List (List ℕ) → Option Command
@@ -157,7 +188,8 @@ named program name words =
     else (if bytes_eq name (codes "propagate")
     then with_options propagate_options propagate_of words
     else (if bytes_eq name (codes "run") then with_options run_options (run_of program) words
-    else (if bytes_eq name (codes "demo") then demo_of words else None))))))))
+    else (if bytes_eq name (codes "select") then with_options select_options select_of words
+    else (if bytes_eq name (codes "demo") then demo_of words else None)))))))))
 
 -- what the words ask for, the first of which is the program's own name
 abbrev pub asked_by : List (List ℕ) → Option Command

@@ -23,6 +23,11 @@ pub enum Command {
     /// Write a test for each label of coverage groups, run it on the reference machine and on a
     /// device, and judge what the device leaves.
     Run(RunArguments),
+    /// Run the selected tests of a database on the reference machine and on a device, and judge
+    /// what the device leaves.
+    RunDatabase(RunDatabaseArguments),
+    /// Say which tests of a database are selected for a core.
+    Select(SelectArguments),
     /// Run a generated program of this size, and count its coverage.
     Demo(DemoSize),
 }
@@ -115,4 +120,28 @@ pub struct RunArguments {
     pub device: Text,
     /// The folder of the tests and signatures, which has to be there.
     pub work: Text,
+}
+
+/// What `run` is given, where it is over a database.
+#[derive(Drop)]
+pub struct RunDatabaseArguments {
+    /// The program's own name, which stands for `{self}` in the words of the device.
+    pub program: Text,
+    /// The ISA file.
+    pub isa: Text,
+    /// The database of tests.
+    pub database: Text,
+    /// The device file.
+    pub device: Text,
+    /// The folder of the signatures, which has to be there.
+    pub work: Text,
+}
+
+/// What `select` is given.
+#[derive(Drop)]
+pub struct SelectArguments {
+    /// The ISA file.
+    pub isa: Text,
+    /// The database of tests.
+    pub database: Text,
 }

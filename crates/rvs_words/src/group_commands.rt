@@ -3,18 +3,17 @@ ghost use Rattle.std.specs.Prelude.{◌≡◌, codes};
 ghost use Rattle.rvs_words.specs.Words.{texts, values_of};
 ghost use Rattle.rvs_words.specs.Commands.{some_of, most_groups, with_options, normalize_options};
 ghost use Rattle.rvs_words.specs.Commands.{normalize_of, generate_options, generate_of};
-ghost use Rattle.rvs_words.specs.Commands.{coverage_options, coverage_of, run_options, run_of};
+ghost use Rattle.rvs_words.specs.Commands.{coverage_options, coverage_of};
 ghost use Rattle.rvs_words.specs.Commands.{propagate_options, propagate_of};
 ghost use Rattle.rvs_words.specs.Windows.{windows_of, range_of};
 ghost use Rattle.rvs_words.specs.Reading.{Answers};
 
 use crate::command::{
     Command, CoverageArguments, GenerateArguments, NormalizeArguments, PropagateArguments,
-    RunArguments,
 };
 use crate::unread::Unread;
 use crate::windows::{read_range, read_windows};
-use crate::words::{Pair, only_value, owned, read_options, values};
+use crate::words::{Pair, only_value, read_options, values};
 use rvs_base::{Items, Text, Window};
 use std::alloc::Global;
 
@@ -42,7 +41,7 @@ pub fn read_normalize(alloc: Global, words: &[String]) -> Result<Command, Unread
 /// # Errors
 ///
 /// [`Unread`]: `NoCommand` where it doesn't stand, or stands more than 64 times.
-fn group_files(alloc: Global, pairs: &[Pair]) -> Result<Items<Text>, Unread>
+pub fn group_files(alloc: Global, pairs: &[Pair]) -> Result<Items<Text>, Unread>
     ensures { Answers result (some_of most_groups (values_of (codes "--cgf") pairs.now)) }
 {
     let files = values(alloc, pairs, "--cgf")?;
@@ -127,28 +126,4 @@ fn given_range(alloc: Global, pairs: &[Pair]) -> Result<Window, Unread>
 {
     let spelled = only_value(alloc, pairs, "--signature")?;
     read_range(spelled.as_str())
-}
-
-/// Reads the words behind `run`. The program's own name is kept with them.
-///
-/// # Errors
-///
-/// [`Unread`].
-pub fn read_run(alloc: Global, program: &str, words: &[String]) -> Result<Command, Unread>
-    ensures { Answers result (with_options run_options (run_of program.now) (texts words.now)) }
-{
-    let options = read_options(alloc, words, &["--isa", "--cgf", "--device", "--work"])?;
-    let pairs = options.as_slice();
-    let isa = only_value(alloc, pairs, "--isa")?;
-    let groups = group_files(alloc, pairs)?;
-    let device = only_value(alloc, pairs, "--device")?;
-    let work = only_value(alloc, pairs, "--work")?;
-    let program = owned(alloc, program)?;
-    Ok(Command::Run(RunArguments {
-        program,
-        isa,
-        groups,
-        device,
-        work,
-    }))
 }

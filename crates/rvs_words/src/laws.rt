@@ -2,7 +2,8 @@
 ghost use Rattle.rvs_words.specs.CommandLaws.{ComparesAreRead, ValidatesAreRead, NormalizesAreRead};
 ghost use Rattle.rvs_words.specs.CommandLaws.{GeneratesAreRead, ReferencesAreRead};
 ghost use Rattle.rvs_words.specs.CommandLaws.{CoveragesAreRead, PropagatesAreRead, RunsAreRead};
-ghost use Rattle.rvs_words.specs.CommandLaws.{DemosAreRead};
+ghost use Rattle.rvs_words.specs.CommandLaws.{RunsOverDatabasesAreRead, RunsHaveOneSource};
+ghost use Rattle.rvs_words.specs.CommandLaws.{SelectsAreRead, DemosAreRead};
 ghost use Rattle.rvs_words.specs.CommandLaws.{OptionsArePairs, OptionsChangePlaces, StepsAreRead};
 ghost use Rattle.rvs_words.specs.CommandLaws.{CountsAreRead, WindowsAreRead, RangesAreRead};
 
@@ -18,6 +19,9 @@ pub fn commands_are_read()
     ensures coverage { CoveragesAreRead }
     ensures propagate { PropagatesAreRead }
     ensures run { RunsAreRead }
+    ensures run_database { RunsOverDatabasesAreRead }
+    ensures run_source { RunsHaveOneSource }
+    ensures select { SelectsAreRead }
     ensures demo { DemosAreRead }
 {}
 

@@ -2,6 +2,7 @@
 #![tactic(auto)]
 
 mod command;
+mod database_commands;
 mod group_commands;
 mod laws;
 mod reading;
@@ -11,7 +12,8 @@ mod words;
 
 pub use command::{
     Command, CompareArguments, CoverageArguments, GenerateArguments, NormalizeArguments,
-    PropagateArguments, ReferenceArguments, RunArguments, ValidateArguments,
+    PropagateArguments, ReferenceArguments, RunArguments, RunDatabaseArguments, SelectArguments,
+    ValidateArguments,
 };
 pub use laws::{commands_are_read, numbers_are_read, options_stand_in_any_order};
 pub use reading::read_command;

@@ -38,6 +38,14 @@ pub returns-in-Run : goal.returns-in-Run
 returns-in-Run g c =
     rw c.in-Run.is (Performs-meets (λ is. cc) (λ count is. cc) c.run_tests.ensures)
 
+pub returns-in-RunDatabase : goal.returns-in-RunDatabase
+returns-in-RunDatabase g c =
+    rw c.in-RunDatabase.is (Performs-meets (λ is. cc) (λ count is. cc) c.run_selected.ensures)
+
+pub returns-in-Select : goal.returns-in-Select
+returns-in-Select g c =
+    rw c.in-Select.is (Performs-meets (λ is. cc) (λ count is. cc) c.select_tests.ensures)
+
 pub returns-in-Demo : goal.returns-in-Demo
 returns-in-Demo g c = rw c.in-Demo.is
     (Performs-demo c.in-Demo.count (g.H.Host.state c.args.host.now) (g.O.Sink.state c.args.out.now)

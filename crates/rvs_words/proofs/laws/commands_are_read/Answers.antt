@@ -3,6 +3,8 @@ use Rattle.rvs_words.proofs.CommandWords.{compares_are_read, validates_are_read}
 use Rattle.rvs_words.proofs.CommandWords.{normalizes_are_read, generates_are_read}
 use Rattle.rvs_words.proofs.CommandWords.{references_are_read, coverages_are_read, runs_are_read}
 use Rattle.rvs_words.proofs.CommandWords.{propagates_are_read, demos_are_read}
+use Rattle.rvs_words.proofs.DatabaseWords.{runs_over_databases_are_read, runs_have_one_source}
+use Rattle.rvs_words.proofs.DatabaseWords.{selects_are_read}
 
 pub returns-clause-compare : goal.returns-clause-compare
 returns-clause-compare c = compares_are_read
@@ -27,6 +29,15 @@ returns-clause-propagate c = propagates_are_read
 
 pub returns-clause-run : goal.returns-clause-run
 returns-clause-run c = runs_are_read
+
+pub returns-clause-run_database : goal.returns-clause-run_database
+returns-clause-run_database c = runs_over_databases_are_read
+
+pub returns-clause-run_source : goal.returns-clause-run_source
+returns-clause-run_source c = runs_have_one_source
+
+pub returns-clause-select : goal.returns-clause-select
+returns-clause-select c = selects_are_read
 
 pub returns-clause-demo : goal.returns-clause-demo
 returns-clause-demo c = demos_are_read

@@ -1,0 +1,331 @@
+-- What every call of `run` over a database promises.
+use Rattle.std.proofs.Common.{◌≡◌, ◌⊎◌, inl, inr, ℕ, true, is_some, List, [], ◌∷◌, ◌++◌, length}
+use Rattle.std.proofs.Common.{option_map, Option, Some, None, Result, Ok, Err, refl, sym, ap, subst}
+use Rattle.std.proofs.Common.{◌∙◌, append-nil}
+use Rattle.rvs_base.specs.Host.{Files, Tells}
+use Rattle.rvs_base.specs.Sink.{appended}
+use Rattle.rvs_base.specs.declared.host.DeviceRun.{DeviceRun}
+use Rattle.rvs_plan.specs.World.{Contents, contents}
+use Rattle.rvs_plan.specs.Account.{line_of}
+use Rattle.rvs_plan.specs.Effect.{Answer, Effect, Did, Out, after, Saw}
+use Rattle.rvs_plan.specs.Inputs.{part_end}
+use Rattle.rvs_plan.specs.Meets.{Completes}
+use Rattle.rvs_plan.specs.Performed.{end_of}
+use Rattle.rvs_plan.specs.Plan.{Ends, Goes, followed}
+use Rattle.rvs_plan.specs.declared.stop.Stop.{Stop}
+use Rattle.rvs_plan.specs.declared.stop.Stop.TheVariants as why
+use Rattle.rvs_plan.specs.declared.status.Finish.{Finish}
+use Rattle.rvs_plan.specs.declared.status.Finish.TheVariants as finish
+use Rattle.rvs_plan.specs.declared.status.Status.TheVariants as answer
+use Rattle.rvs_device.proofs.Passing as passing
+use Rattle.rvs_suite.specs.Answered.{HasLeft}
+use Rattle.rvs_suite.specs.Call.{Call, world_of}
+use Rattle.rvs_suite.specs.DatabaseLeft.{made_in, Trial, with_trials, task_on, trial_lines}
+use Rattle.rvs_suite.specs.DatabaseLeft.{trials_passed, runs_of}
+use Rattle.rvs_suite.specs.GroupFiles.{and_then}
+use Rattle.rvs_suite.specs.JudgingDatabase.{database_inputs_in, chosen_in, HasJudged}
+use Rattle.rvs_suite.specs.JudgingDatabase.{LeftAsItWas, HasStopped, IsMadeOf, RunsDatabase}
+use Rattle.rvs_suite.specs.Reference.{test_limit}
+use Rattle.rvs_suite.specs.RunDatabase.{Given, made_by, made_found, DatabaseInputs}
+use Rattle.rvs_suite.specs.RunDatabase.{database_inputs, database_bench, runs_database}
+use Rattle.rvs_suite.specs.RunDatabase.{run_database}
+use Rattle.rvs_suite.specs.RunTests.{Bench, tally_line, tallies, verdict_of_all}
+use Rattle.rvs_suite.specs.TestRun.{found_end, then_found, test_found}
+use Rattle.rvs_suite.specs.declared.judging.Made.{Made}
+use Rattle.rvs_suite.specs.declared.test_run.Run.{Run}
+use Rattle.rvs_suite.proofs.Answered.{RunsOn, ran-command}
+use Rattle.rvs_suite.proofs.DatabaseReads.{finds-database-inputs}
+use Rattle.rvs_suite.proofs.DatabaseRuns.{TriedAll, EndedAt, tried-all}
+use Rattle.rvs_suite.proofs.DatabaseSpares.{database-spares}
+use Rattle.rvs_suite.proofs.Ends.{means-end, was_refused, was_missing}
+use Rattle.rvs_suite.proofs.Finding.{Behind, behind, end-found}
+use Rattle.rvs_suite.proofs.Meanings.{then-ok, found-of}
+use Rattle.rvs_suite.proofs.RunSteps.{first_did, contents_of, appended-twice}
+use Rattle.rvs_suite.proofs.Running.{at_status, asked_means}
+use Rattle.rvs_words.specs.declared.command.Command.TheVariants.{RunDatabase}
+use Rattle.rvs_words.specs.declared.command.RunDatabaseArguments.{RunDatabaseArguments}
+
+-- ---- what is left
+told-runs : (r : Option (List DeviceRun)) → is_some r ≡ true
+    → (runs : List DeviceRun) × (r ≡ Some runs)
+told-runs (Some runs) is = (runs, refl)
+told-runs None is = absurd cc
+
+-- nothing comes behind an end
+over : (value : Finish) (end : Result Finish Stop) (effects : List Effect)
+    → Goes (Ends (Ok value)) effects (Ends end) → (effects ≡ []) × (end ≡ Ok value)
+over value end [] goes = (refl, let same : Ok value ≡ end = cc in sym same)
+over value end (effect ∷ effects) goes = absurd goes
+
+-- what was told before is what is there now, with what these trials did
+tried-now : (call : Call) (bench : Bench) (files : Files) (given : List Given)
+    (trials : List Trial) (last : List ℕ) (before : List DeviceRun)
+    → call.old.host.runs ≡ Some before
+    → contents (world_of call.new) ≡ contents_of (with_trials trials files)
+    (before ++ runs_of trials) (appended call.old.out.bytes (trial_lines given trials ++ last))
+    → (call.new.host.runs
+    ≡ option_map (λ before. before ++ runs_of trials) call.old.host.runs)
+    × (call.new.host.files ≡ Some (with_trials trials files))
+    × (call.new.out.bytes
+    ≡ appended call.old.out.bytes (trial_lines given trials ++ last))
+tried-now call bench files given trials last before told new = (
+  ap (λ (c : Contents). c.runs) new
+      ∙ sym (ap (λ (r : Option (List DeviceRun)). option_map (λ b. b ++ runs_of trials) r) told),
+  ap (λ (c : Contents). c.files) new,
+  ap (λ (c : Contents). c.out) new,
+)
+
+-- where the plan came to its end, all tests were judged
+has-judged : (call : Call) (program work : List ℕ) (inputs : DatabaseInputs) (files : Files)
+    (end : Finish) (effects : List Effect) (before : List DeviceRun)
+    → call.old.host.runs ≡ Some before
+    → (all : TriedAll (database_bench program work inputs) (chosen_in inputs) 0
+    (tallies (length (chosen_in inputs))) files before call.old.out.bytes (Ok end) effects)
+    → contents (world_of call.new) ≡ after effects (contents_of files before call.old.out.bytes)
+    → HasJudged call files program work end inputs
+has-judged call program work inputs files end effects before told all did =
+    let bench = database_bench program work inputs in
+    let given = chosen_in inputs in
+    let out = call.old.out.bytes in
+    let passed = trials_passed 0 all.trials in
+    let lines = trial_lines given all.trials in
+    let tally = tally_line (length given) passed in
+    let last = first_did (Out tally) (Ends (Ok (verdict_of_all (length given) passed))) (Ok end)
+    all.later all.goes in
+    let ended = over (verdict_of_all (length given) passed) (Ok end) last.rest last.goes in
+    let later : all.later ≡ Did (Out tally) ∷ [] =
+    last.is ∙ ap (λ (es : List Effect). Did (Out tally) ∷ es) ended.0 in
+    let now = contents_of (with_trials all.trials files) (before ++ runs_of all.trials) in
+    let new = did ∙ all.same
+    ∙ ap (λ (es : List Effect). after es (now (appended out lines))) later
+    ∙ ap now (appended-twice out lines tally) in
+    let tried = tried-now call bench files given all.trials tally before told new in
+    let verdict : Ok end ≡ Ok (verdict_of_all (length given) passed) = ended.1 in
+    record {
+      trials = all.trials;
+      tried = record {
+        each = all.each;
+        made = tried.0;
+        files_are = tried.1;
+        out = tried.2;
+      };
+      verdict = cc;
+    }
+
+-- totals don't stop
+never-tallies : (tests passed : ℕ) (stop : Stop) (effects : List Effect)
+    → Goes (tallies tests passed) effects (Ends (Err stop)) → ⊥
+never-tallies tests passed stop effects goes =
+    let last = first_did (Out (tally_line tests passed))
+    (Ends (Ok (verdict_of_all tests passed))) (Err stop) effects goes in
+    let ended = over (verdict_of_all tests passed) (Err stop) last.rest last.goes in
+    let no : Err stop ≡ Ok (verdict_of_all tests passed) = ended.1 in cc
+
+never-stopped : (end : Finish) (stop : Stop) → Ok end ≡ Err stop → ⊥
+never-stopped end stop is = cc
+
+-- where it stopped behind its inputs, it did so at a test
+has-stopped : (call : Call) (program work : List ℕ) (inputs : DatabaseInputs) (files : Files)
+    (stop : Stop) (effects : List Effect) (before : List DeviceRun)
+    → call.old.host.runs ≡ Some before
+    → EndedAt (database_bench program work inputs) (chosen_in inputs) files before
+    call.old.out.bytes (Err stop) effects
+    → contents (world_of call.new) ≡ after effects (contents_of files before call.old.out.bytes)
+    → call.new.err.bytes ≡ appended call.old.err.bytes (line_of stop)
+    → HasStopped call files program work stop inputs
+has-stopped call program work inputs files stop effects before told at did line =
+    let bench = database_bench program work inputs in
+    let out = call.old.out.bytes in
+    let lines = trial_lines at.before at.trials in
+    let now = contents_of (with_trials at.trials files) (before ++ runs_of at.trials) in
+    let new = did ∙ at.same
+    ∙ ap (λ (text : List ℕ). now (appended out text)) (sym (append-nil lines)) in
+    let tried = tried-now call bench files at.before at.trials [] before told new in
+    let both : Err stop ≡ Err at.stop = at.ends in
+    let same : at.stop ≡ stop = cc in
+    record {
+      before = at.before;
+      given = at.last;
+      behind = at.behind;
+      all = at.all;
+      trials = at.trials;
+      tried = record {
+        each = at.each;
+        made = tried.0;
+        files_are = tried.1;
+        out = tried.2;
+      };
+      stops = at.stops ∙ ap (λ (s : Stop). Err s) same;
+      line = line;
+    }
+
+-- what is left, by how the plan ended
+abbrev LeftBy : Call → Files → List ℕ → List ℕ → Result DatabaseInputs Stop → Result Finish Stop
+    → Type 0
+LeftBy call files program work found (Ok end) = HasLeft found (HasJudged call files program work end)
+LeftBy call files program work found (Err stop) =
+    call.new.err.bytes ≡ appended call.old.err.bytes (line_of stop)
+    → ((found ≡ Err stop) × LeftAsItWas call)
+    ⊎ HasLeft found (HasStopped call files program work stop)
+
+left-parts : (call : Call) (program work : List ℕ) (inputs : DatabaseInputs) (files : Files)
+    (end : Result Finish Stop) (effects : List Effect) (before : List DeviceRun)
+    → call.old.host.runs ≡ Some before
+    → TriedAll (database_bench program work inputs) (chosen_in inputs) 0
+    (tallies (length (chosen_in inputs))) files before call.old.out.bytes end effects
+    ⊎ EndedAt (database_bench program work inputs) (chosen_in inputs) files before
+    call.old.out.bytes end effects
+    → contents (world_of call.new) ≡ after effects (contents_of files before call.old.out.bytes)
+    → LeftBy call files program work (Ok inputs) end
+left-parts call program work inputs files (Ok end) effects before told (inl all) did = record {
+  given = inputs;
+  accepted = refl;
+  left = has-judged call program work inputs files end effects before told all did;
+}
+left-parts call program work inputs files (Ok end) effects before told (inr at) did =
+    absurd (never-stopped end at.stop at.ends)
+left-parts call program work inputs files (Err stop) effects before told (inl all) did =
+    absurd (never-tallies (length (chosen_in inputs)) (trials_passed 0 all.trials) stop all.later
+    all.goes)
+left-parts call program work inputs files (Err stop) effects before told (inr at) did =
+    λ line. inr (record {
+      given = inputs;
+      accepted = refl;
+      left = has-stopped call program work inputs files stop effects before told at did
+          line;
+    })
+
+left-accepted : (call : Call) (program work : List ℕ) (inputs : DatabaseInputs) (files : Files)
+    (end : Result Finish Stop) (effects : List Effect) → Tells call.old.host files
+    → Goes (runs_database program work inputs) effects (Ends end)
+    → Saw effects (contents (world_of call.old))
+    → contents (world_of call.new) ≡ after effects (contents (world_of call.old))
+    → LeftBy call files program work (Ok inputs) end
+left-accepted call program work inputs files end effects t goes saw did =
+    let before = told-runs call.old.host.runs t.runs in
+    let out = call.old.out.bytes in
+    let old : contents (world_of call.old) ≡ contents_of files before.0 out =
+    λ i. record { files = t.files i; runs = before.1 i; out = out } in
+    left-parts call program work inputs files end effects before.0 before.1
+    (tried-all (database_bench program work inputs) (chosen_in inputs) 0
+    (tallies (length (chosen_in inputs))) files before.0 out end effects goes
+    (subst (λ (c : Contents). Saw effects c) old saw))
+    (did ∙ ap (λ (c : Contents). after effects c) old)
+
+left-refused : (call : Call) (files : Files) (program work : List ℕ) (s : Stop)
+    (end : Result Finish Stop) (effects : List Effect) → Goes (Ends (Err s)) effects (Ends end)
+    → contents (world_of call.new) ≡ after effects (contents (world_of call.old))
+    → LeftBy call files program work (Err s) end
+left-refused call files program work s (Ok end) [] goes did = absurd cc
+left-refused call files program work s (Err stop) [] goes did =
+    let same : s ≡ stop = cc in λ line. inl (ap (λ (x : Stop). Err x) same, did)
+left-refused call files program work s end (effect ∷ effects) goes did = absurd goes
+
+-- by what the inputs come to
+left-by : (call : Call) (program work : List ℕ) (found : Result DatabaseInputs Stop) (files : Files)
+    (end : Result Finish Stop) (effects : List Effect) → Tells call.old.host files → Behind
+    (followed found (runs_database program work)) end effects (contents (world_of call.old))
+    → contents (world_of call.new) ≡ after effects (contents (world_of call.old))
+    → LeftBy call files program work found end
+left-by call program work (Ok inputs) files end effects t b did =
+    left-accepted call program work inputs files end b.later t b.goes b.saw
+    (did ∙ b.same)
+left-by call program work (Err s) files end effects t b did =
+    left-refused call files program work s end b.later b.goes (did ∙ b.same)
+
+left : (call : Call) (files : Files) (asked : RunDatabaseArguments) (end : Result Finish Stop)
+    → Tells call.old.host files → Completes (run_database asked) end
+    (contents (world_of call.old)) (contents (world_of call.new))
+    → LeftBy call files asked.program asked.work (database_inputs_in files asked) end
+left call files asked end t r =
+    left-by call asked.program asked.work (database_inputs_in files asked) files end
+    r.effects t (behind files (database_inputs asked) (runs_database asked.program asked.work)
+    (database_inputs_in files asked) end r.effects (contents (world_of call.old))
+    (finds-database-inputs files asked) t.files r.saw r.goes) r.did
+
+-- inputs that aren't accepted end it so
+stops : (files : Files) (asked : RunDatabaseArguments) (stop : Stop)
+    → database_inputs_in files asked ≡ Err stop → (answers : List Answer)
+    → end_of (run_database asked) files answers ≡ Some (Err stop)
+stops files asked stop is answers =
+    end-found files answers (database_inputs asked) (runs_database asked.program asked.work)
+    (database_inputs_in files asked) (finds-database-inputs files asked)
+    ∙ ap (λ (found : Result DatabaseInputs Stop). end_of
+    (followed found (runs_database asked.program asked.work)) files answers) is
+
+-- ---- one test is run as by `reference`
+ran-of : (bench : Bench) (given : Given) (bytes : List ℕ) (made : Made)
+    (ran : Result Run (List ℕ))
+    → then_found ran (λ run. Ok (made_by bench given bytes run)) ≡ Ok made
+    → (run : Run) × (ran ≡ Ok run) × (made ≡ made_by bench given bytes run)
+ran-of bench given bytes made (Ok run) is =
+    let same : made ≡ made_by bench given bytes run = cc in (run, refl, same)
+ran-of bench given bytes made (Err text) is = absurd cc
+
+is-made : (files : Files) (bench : Bench) (given : Given) (made : Made)
+    → made_in files bench given ≡ Ok made → IsMadeOf files bench given made
+is-made files bench given made is =
+    let t = then-ok (part_end test_limit given.name given.name test_limit (files given.name))
+    (λ bytes. found_end (made_found bench given bytes)) made is in
+    let r = ran-of bench given t.0 made (test_found None bench.isa given.name t.0)
+    (found-of (made_found bench given t.0) made t.2) in
+    record {
+      run = r.0;
+      ran = ap (λ (p : Result (List ℕ) Stop). and_then p
+          (λ bytes. found_end (test_found None bench.isa given.name bytes))) t.1
+          ∙ ap (λ (f : Result Run (List ℕ)). found_end f) r.1;
+      words = ap (λ (m : Made). m.words) r.2;
+      named = ap (λ (m : Made). m.files) r.2;
+    }
+
+-- ---- the promise
+pub judges_database : {call : Call} (files : Files) (asked : RunDatabaseArguments)
+    → RunsOn call files (RunDatabase asked) → RunsDatabase call files asked
+judges_database {call} files asked r =
+    let old = world_of call.old in
+    let new = world_of call.new in
+    let command = RunDatabase asked in
+    let plan = run_database asked in
+    let ran = ran-command r in
+    record {
+      done = λ is. left call files asked (Ok finish.Done) r.told
+          (at_status ran files command answer.Done r.told refl is).completes;
+      not_passed = λ is. left call files asked (Ok finish.NotPassed) r.told
+          (at_status ran files command answer.NotPassed r.told refl is).completes;
+      refused = λ is.
+          let was = was_refused plan old new call.old.err call.new.err
+          (at_status ran files command answer.Refused r.told refl is) in
+          elim (left call files asked (Err (why.Refused was.text)) r.told was.completes
+          was.line) [
+            | inl kept ↦ inl (
+              record { text = was.text; refused = kept.0; line = was.line },
+              kept.1,
+            )
+            | inr at ↦ inr (record { text = was.text; at = at })
+          ];
+      absent = λ is. elim (was_missing plan old new call.old.err call.new.err
+          (at_status ran files command answer.HostFault r.told refl is)) [
+            | inl was ↦ elim (left call files asked (Err (why.NoFile was.name)) r.told
+                was.completes was.line) [
+                  | inl kept ↦ inl (
+                    record { name = was.name; absent = kept.0; line = was.line },
+                    kept.1,
+                  )
+                  | inr at ↦ inr (inl (record { text = was.name; at = at }))
+                ]
+            | inr rose ↦ inr (inr rose)
+          ];
+      by_refusal = λ text given none. elim (asked_means ran files command r.told refl none) [
+        | inl m ↦ inl (means-end plan files call.status (Err (why.Refused text)) m
+            (stops files asked (why.Refused text) given))
+        | inr no_memory ↦ inr no_memory
+      ];
+      by_absence = λ name given none. elim (asked_means ran files command r.told refl none) [
+        | inl m ↦ inl (means-end plan files call.status (Err (why.NoFile name)) m
+            (stops files asked (why.NoFile name) given))
+        | inr no_memory ↦ inr no_memory
+      ];
+      runs = is-made;
+      passes = λ bench t. passing.passes (task_on bench t.made) t.run.status t.run.after;
+      others_kept = λ files' other. database-spares r.ran files files' asked other r.told r.asks;
+    }

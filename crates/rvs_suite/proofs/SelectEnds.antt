@@ -1,0 +1,38 @@
+-- What every call of `select` promises.
+use Rattle.std.proofs.Common.{refl, ap}
+use Rattle.rvs_base.specs.Host.{Files}
+use Rattle.rvs_plan.specs.World.{Contents}
+use Rattle.rvs_plan.specs.declared.status.Finish.TheVariants as finish
+use Rattle.rvs_suite.specs.Answered.{OnDone}
+use Rattle.rvs_suite.specs.Call.{Call}
+use Rattle.rvs_suite.specs.Select.{selection_in, reads_selection, print_selection, select}
+use Rattle.rvs_suite.specs.Selecting as selecting
+use Rattle.rvs_suite.proofs.Answered.{Works, RunsOn, answered}
+use Rattle.rvs_suite.proofs.DatabaseReads.{reads-selection, finds-selection, selected-tests}
+use Rattle.rvs_suite.proofs.Keeping.{WritesNone, WritesNone-then, reads-none, keeps}
+use Rattle.rvs_words.specs.declared.command.Command.TheVariants.{Select}
+use Rattle.rvs_words.specs.declared.command.SelectArguments.{SelectArguments}
+
+abbrev works : (files : Files) (asked : SelectArguments)
+    → Works (Select asked) files (selection_in files asked)
+works files asked = record {
+  inputs = reads_selection asked;
+  deeds = print_selection;
+  ends = λ _. finish.Done;
+  plan = refl;
+  finds = finds-selection files asked;
+  does = λ entries. refl;
+}
+
+writes-select : (asked : SelectArguments) → WritesNone (select asked)
+writes-select asked = WritesNone-then (reads_selection asked) print_selection
+    (reads-none (reads_selection asked) (reads-selection asked)) (λ entries. tt)
+
+pub selects : {call : Call} (files : Files) (asked : SelectArguments)
+    → RunsOn call files (Select asked) → selecting.Selects call files asked
+selects {call} files asked r = record {
+  answered = answered (OnDone (selecting.HasPrinted call)) r (works files asked)
+      (λ entries left. ap (λ (c : Contents). c.out) left);
+  tests = selected-tests files asked;
+  files_kept = keeps r.ran files (Select asked) r.told r.asks (writes-select asked);
+}

@@ -1,0 +1,14 @@
+use Rattle.std.proofs.Common.{Bool, sym, subst}
+use Rattle.rvs_plan.specs.World.{world, IsAnswer}
+use Rattle.rvs_plan.specs.Meets.{MeetsWith}
+use Rattle.rvs_suite.specs.RunView.{bench_view}
+use Rattle.rvs_suite.specs.RunDatabase.{judges_if}
+use Rattle.rvs_suite.proofs.run_database.judge_entry.Goals as goal
+
+pub returns-then-entry-clause-met : goal.returns-then-entry-clause-met
+returns-then-entry-clause-met g c =
+    let old = world (g.H.Host.state c.args.host.now) (g.O.Sink.state c.args.out.now) in
+    let new = world (g.H.Host.state c.judge_next.new.host) (g.O.Sink.state c.judge_next.new.out) in
+    subst (λ (selected : Bool). MeetsWith IsAnswer (judges_if (bench_view c.args.bench.now)
+    c.args.progress selected c.args.entry.now.name) old new c.judge_next.result)
+    (sym c.if-entry.true) c.judge_next.ensures.met

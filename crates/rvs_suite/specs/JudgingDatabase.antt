@@ -1,0 +1,151 @@
+-- What every call of `run` over a database promises.
+use Rattle.std.specs.Prelude.{◌≡◌, ◌≢◌, ◌⊎◌, ◌↔◌, ℕ, List, [], ◌∷◌, ◌++◌, length, Some, option_map}
+use Rattle.std.specs.Prelude.{None, Result, Ok, Err, Contains, IsTrue}
+use Rattle.rvs_base.specs.Host.{Files, Tells}
+use Rattle.rvs_base.specs.Sink.{appended}
+use Rattle.rvs_plan.specs.Account.{line_of}
+use Rattle.rvs_plan.specs.World.{contents}
+use Rattle.rvs_plan.specs.declared.stop.Stop.{Stop}
+use Rattle.rvs_plan.specs.declared.stop.Stop.TheVariants as why
+use Rattle.rvs_plan.specs.declared.status.Finish.{Finish}
+use Rattle.rvs_plan.specs.declared.status.Finish.TheVariants as finish
+use Rattle.rvs_plan.specs.declared.status.Status.TheVariants.{Done, NotPassed, Refused, HostFault}
+use Rattle.rvs_device.specs.Command.{wants_elf}
+use Rattle.rvs_device.specs.Judging.{Spells}
+use Rattle.rvs_device.specs.declared.verdicts.TestVerdict.TheVariants.{Pass}
+use Rattle.rvs_suite.specs.Answered.{HasLeft, HasRefused, HasMissed}
+use Rattle.rvs_suite.specs.Call.{Call, world_of, Asks, NothingFailed, HostRose, AnswersOnly}
+use Rattle.rvs_suite.specs.DatabaseInput.{database_in}
+use Rattle.rvs_suite.specs.DatabaseLeft.{made_in, Trial, with_trials, AreTrialsOf, task_on}
+use Rattle.rvs_suite.specs.DatabaseLeft.{trial_verdict, trial_lines, trials_passed, runs_of}
+use Rattle.rvs_suite.specs.DeviceInput.{device_in}
+use Rattle.rvs_suite.specs.GroupFiles.{and_then}
+use Rattle.rvs_suite.specs.Referencing.{trial_in}
+use Rattle.rvs_suite.specs.RunDatabase.{Given, chosen, DatabaseInputs, database_bench}
+use Rattle.rvs_suite.specs.RunTests.{Bench, tally_line, verdict_of_all}
+use Rattle.rvs_suite.specs.Specification.{said_in}
+use Rattle.rvs_suite.specs.TestFiles.{files_at}
+use Rattle.rvs_suite.specs.declared.judging.Made.{Made}
+use Rattle.rvs_suite.specs.declared.test_run.Run.{Run}
+use Rattle.rvs_words.specs.declared.command.Command.TheVariants.{RunDatabase}
+use Rattle.rvs_words.specs.declared.command.RunDatabaseArguments.{RunDatabaseArguments}
+
+-- what the ISA file, the database and the device file give, or the first of them that isn't there
+-- or is refused
+abbrev pub database_inputs_in : Files → RunDatabaseArguments → Result DatabaseInputs Stop
+database_inputs_in files asked =
+    and_then (said_in files asked.isa) (λ said.
+    and_then (database_in files said.spec asked.database) (λ entries.
+    and_then (device_in files asked.device) (λ told.
+    Ok (record { isa = said.spec; entries = entries; device = told }))))
+
+-- the selected tests, with their places
+abbrev pub chosen_in : DatabaseInputs → List Given
+chosen_in inputs = chosen 0 inputs.entries
+
+-- no file, no run and no output is other than before
+abbrev pub LeftAsItWas : Call → Type 0
+LeftAsItWas call = contents (world_of call.new) ≡ contents (world_of call.old)
+
+-- these trials of the first of the tests, and no other, are what the call has done: its runs, its
+-- files, and its output, but for a last line
+pub record HasTried (call : Call) (bench : Bench) (files : Files) (given : List Given)
+    (trials : List Trial) (last : List ℕ) : Type 0 where
+  pub each : AreTrialsOf bench files given trials
+  pub made : call.new.host.runs ≡ option_map (λ before. before ++ runs_of trials) call.old.host.runs
+  pub files_are : call.new.host.files ≡ Some (with_trials trials files)
+  pub out : call.new.out.bytes
+      ≡ appended call.old.out.bytes (trial_lines given trials ++ last)
+
+-- every selected test was judged by one run of the device, and this is the verdict on all of them
+pub record HasJudged (call : Call) (files : Files) (program work : List ℕ) (end : Finish)
+    (inputs : DatabaseInputs) : Type 0 where
+  pub trials : List Trial
+  pub tried : HasTried call (database_bench program work inputs) files (chosen_in inputs) trials
+      (tally_line (length (chosen_in inputs)) (trials_passed 0 trials))
+  pub verdict : end ≡ verdict_of_all (length (chosen_in inputs)) (trials_passed 0 trials)
+
+-- The tests before one were judged, and the work ended at this one, whose file isn't there or isn't
+-- accepted, whose run trapped, or didn't halt. Nothing was written or put of it, or of those behind
+-- it, but the line for errors.
+pub record HasStopped (call : Call) (files : Files) (program work : List ℕ) (stop : Stop)
+    (inputs : DatabaseInputs) : Type 0 where
+  pub before : List Given
+  pub given : Given
+  pub behind : List Given
+  pub all : chosen_in inputs ≡ before ++ given ∷ behind
+  pub trials : List Trial
+  pub tried : HasTried call (database_bench program work inputs) files before trials []
+  pub stops : made_in (with_trials trials files) (database_bench program work inputs) given
+      ≡ Err stop
+  pub line : call.new.err.bytes ≡ appended call.old.err.bytes (line_of stop)
+
+-- the same for some stop of a kind
+pub record HasStoppedBy (call : Call) (files : Files) (asked : RunDatabaseArguments)
+    (kind : List ℕ → Stop) : Type 0 where
+  pub text : List ℕ
+  pub at : HasLeft (database_inputs_in files asked)
+      (HasStopped call files asked.program asked.work (kind text))
+
+-- what comes of a test is what `reference` says of it where no steps are asked for: the words of its
+-- run
+pub record IsMadeOf (files : Files) (bench : Bench) (given : Given) (made : Made) : Type 0 where
+  pub run : Run
+  pub ran : trial_in files None bench.isa given.name ≡ Ok run
+  pub words : made.words ≡ run.words
+  pub named : made.files ≡ files_at bench.work given.place given.name
+
+-- a test passes exactly where what its run left spells the words of the reference machine
+abbrev pub PassesBySpelling : Bench → Trial → Type 0
+PassesBySpelling bench t =
+    (trial_verdict t ≡ Pass (length t.made.words) t.run.status)
+    ↔ Spells (task_on bench t.made) t.run.after
+
+-- a file that is none of those that are written for a test
+pub record IsNoneOf (bench : Bench) (given : Given) (other : List ℕ) : Type 0 where
+  pub executable : IsTrue (wants_elf bench.device.command)
+      → other ≢ (files_at bench.work given.place given.name).executable
+  pub reference : other ≢ (files_at bench.work given.place given.name).reference
+  pub device : other ≢ (files_at bench.work given.place given.name).device
+
+-- a call of `run` on these of these files
+pub record RunsDatabase (call : Call) (files : Files) (asked : RunDatabaseArguments) : Type 0 where
+  -- it is done where its inputs are accepted and each selected test was judged and passes, and not
+  -- passed where each was judged and one doesn't pass
+  pub done : call.status ≡ Done → HasLeft (database_inputs_in files asked)
+      (HasJudged call files asked.program asked.work finish.Done)
+  pub not_passed : call.status ≡ NotPassed → HasLeft (database_inputs_in files asked)
+      (HasJudged call files asked.program asked.work finish.NotPassed)
+  -- it is refused where an input is, and has changed nothing, or where a selected test is, behind
+  -- the verdicts before it
+  pub refused : call.status ≡ Refused
+      → (HasRefused call (database_inputs_in files asked) × LeftAsItWas call)
+      ⊎ HasStoppedBy call files asked why.Refused
+  -- the host fails where an input isn't there, and has changed nothing, where a selected test isn't,
+  -- behind the verdicts before it, or where a count rose
+  pub absent : call.status ≡ HostFault
+      → (HasMissed call (database_inputs_in files asked) × LeftAsItWas call)
+      ⊎ HasStoppedBy call files asked why.NoFile ⊎ HostRose call
+  -- where an input is refused or isn't there, it says so
+  pub by_refusal : (text : List ℕ) → database_inputs_in files asked ≡ Err (why.Refused text)
+      → NothingFailed call → AnswersOnly call Refused
+  pub by_absence : (name : List ℕ) → database_inputs_in files asked ≡ Err (why.NoFile name)
+      → NothingFailed call → AnswersOnly call HostFault
+  -- a test is run as by `reference`
+  pub runs : (files' : Files) (bench : Bench) (given : Given) (made : Made)
+      → made_in files' bench given ≡ Ok made → IsMadeOf files' bench given made
+  -- a pass says that the device left the reference's words
+  pub passes : (bench : Bench) (t : Trial) → PassesBySpelling bench t
+  -- it changes no file but those that are named by the places of its selected tests, however it ends
+  pub others_kept : (files' : Files) (other : List ℕ)
+      → ((inputs : DatabaseInputs) (given : Given) → database_inputs_in files asked ≡ Ok inputs
+      → Contains (chosen_in inputs) given
+      → IsNoneOf (database_bench asked.program asked.work inputs) given other)
+      → call.new.host.files ≡ Some files' → files' other ≡ files other
+
+-- the same of every call: over told files, where its words ask for this
+abbrev pub Promise : Call → Type 0
+Promise call =
+    (files : Files) (asked : RunDatabaseArguments)
+    → Tells call.old.host files → Asks call (RunDatabase asked)
+    → RunsDatabase call files asked

@@ -1,0 +1,127 @@
+-- The words of `select`, and of `run` by where its tests come from.
+use Rattle.std.proofs.Common.{◌≡◌, ℕ, Bool, true, false, cond, List, [], ◌∷◌, ◌++◌, Option, Some}
+use Rattle.std.proofs.Common.{None, refl, ap, ◌∙◌, codes}
+use Rattle.std.specs.Prelude.{option_and_then, unwrap_or}
+use Rattle.rvs_words.specs.Words.{are_known, only}
+use Rattle.rvs_words.specs.Commands.{◌>>=◌, Values, some_of, select_options, select_of}
+use Rattle.rvs_words.specs.Commands.{run_options, run_of, run_groups_of, run_database_of, is_given}
+use Rattle.rvs_words.specs.declared.words.Pair.{Pair}
+use Rattle.rvs_words.specs.declared.command.Command.{Command}
+use Rattle.rvs_words.specs.declared.command.Command.TheVariants.{Unknown, Run, RunDatabase}
+use Rattle.rvs_words.specs.CommandLaws.{option, SelectsAreRead}
+use Rattle.rvs_words.specs.CommandLaws.{RunsOverDatabasesAreRead, RunsHaveOneSource}
+use Rattle.rvs_words.proofs.OptionPairs.{IsName, pair, option_read, option_alone}
+use Rattle.rvs_words.proofs.CommandWords.{isa-name, device-name, work-name, of-values, of-pairs}
+use Rattle.rvs_words.proofs.CommandWords.{first-stands, others-stand}
+
+database-name : IsName (codes "--database")
+database-name = record { alone = refl; joined = λ byte text. refl; same = refl }
+
+pub selects_are_read : SelectsAreRead
+selects_are_read program isa database m =
+    let behind = pair (codes "--database") database ∷ [] in
+    let words = option (codes "--database") database in
+    of-pairs select_options select_of (option (codes "--isa") isa ++ words)
+    (pair (codes "--isa") isa ∷ behind) _
+    (option_read (codes "--isa") isa-name isa words behind (first-stands isa (database ∷ []) m)
+    (option_alone (codes "--database") database-name database
+    (first-stands database [] (others-stand isa (database ∷ []) m))))
+    refl refl
+
+pub run-database-of : (program : List ℕ) (values : Values) (isa database device work : List ℕ)
+    → only (values (codes "--isa")) ≡ Some isa
+    → only (values (codes "--database")) ≡ Some database
+    → only (values (codes "--device")) ≡ Some device
+    → only (values (codes "--work")) ≡ Some work
+    → run_database_of program values ≡ Some (RunDatabase (record {
+      program = program;
+      isa = isa;
+      database = database;
+      device = device;
+      work = work;
+    }))
+run-database-of program values isa database device work a b c d =
+    λ k. a k >>= (λ isa. b k >>= (λ database. c k >>= (λ device. d k >>= (λ work.
+    Some (RunDatabase (record {
+      program = program;
+      isa = isa;
+      database = database;
+      device = device;
+      work = work;
+    }))))))
+
+pub runs_over_databases_are_read : RunsOverDatabasesAreRead
+runs_over_databases_are_read program isa database device work m =
+    let m1 = others-stand isa (database ∷ device ∷ work ∷ []) m in
+    let m2 = others-stand database (device ∷ work ∷ []) m1 in
+    let m3 = others-stand device (work ∷ []) m2 in
+    let ends = pair (codes "--work") work ∷ [] in
+    let behind = pair (codes "--device") device ∷ ends in
+    let rest = pair (codes "--database") database ∷ behind in
+    let last = option (codes "--device") device ++ option (codes "--work") work in
+    let words = option (codes "--database") database ++ last in
+    of-pairs run_options (run_of program) (option (codes "--isa") isa ++ words)
+    (pair (codes "--isa") isa ∷ rest) _
+    (option_read (codes "--isa") isa-name isa words rest
+    (first-stands isa (database ∷ device ∷ work ∷ []) m)
+    (option_read (codes "--database") database-name database last behind
+    (first-stands database (device ∷ work ∷ []) m1)
+    (option_read (codes "--device") device-name device (option (codes "--work") work) ends
+    (first-stands device (work ∷ []) m2)
+    (option_alone (codes "--work") work-name work (first-stands work [] m3)))))
+    refl refl
+
+-- ---- one source
+abbrev no-command : Option Command
+no-command = None
+
+nothing-follows : {A : Type 0} (o : Option A) → (o >>= (λ a. no-command)) ≡ no-command
+nothing-follows None = refl
+nothing-follows (Some a) = refl
+
+none-given : (values : List (List ℕ)) → is_given values ≡ false → values ≡ []
+none-given [] e = refl
+none-given (value ∷ values) e = absurd cc
+
+-- a run over group files lacks them
+no-groups : (program : List ℕ) (values : Values) → is_given (values (codes "--cgf")) ≡ false
+    → run_groups_of program values ≡ None
+no-groups program values none =
+    ap (λ (given : List (List ℕ)). only (values (codes "--isa")) >>= (λ isa. some_of 64 given
+    >>= (λ groups. only (values (codes "--device")) >>= (λ device. only (values (codes "--work"))
+    >>= (λ work. Some (Run (record {
+      program = program;
+      isa = isa;
+      groups = groups;
+      device = device;
+      work = work;
+    }))))))) (none-given (values (codes "--cgf")) none)
+    ∙ nothing-follows (only (values (codes "--isa")))
+
+both-or-none : (program : List ℕ) (values : Values) (groups databases : Bool)
+    → is_given (values (codes "--cgf")) ≡ groups → is_given (values (codes "--database")) ≡ databases
+    → groups ≡ databases → run_of program values ≡ None
+both-or-none program values true true g d same =
+    ap (λ b. cond b (cond (is_given (values (codes "--cgf"))) None
+    (run_database_of program values)) (run_groups_of program values)) d
+    ∙ ap (λ b. cond b None (run_database_of program values)) g
+both-or-none program values false false g d same =
+    ap (λ b. cond b (cond (is_given (values (codes "--cgf"))) None
+    (run_database_of program values)) (run_groups_of program values)) d
+    ∙ no-groups program values g
+both-or-none program values true false g d same = absurd cc
+both-or-none program values false true g d same = absurd cc
+
+if-known : (known : Bool) (f : Values → Option Command) (pairs : List Pair)
+    → f (of-values pairs) ≡ None
+    → unwrap_or (cond known (Some pairs) None >>= (λ pairs. f (of-values pairs))) Unknown ≡ Unknown
+if-known true f pairs none = ap (λ o. unwrap_or o Unknown) none
+if-known false f pairs none = refl
+
+pub runs_have_one_source : RunsHaveOneSource
+runs_have_one_source program words pairs read same =
+    ap (λ (o : Option (List Pair)). unwrap_or (option_and_then
+    (λ (ps : List Pair). cond (are_known run_options ps) (Some ps) None) o
+    >>= (λ (ps : List Pair). run_of program (of-values ps))) Unknown) read
+    ∙ if-known (are_known run_options pairs) (run_of program) pairs
+    (both-or-none program (of-values pairs) _ _ refl refl same)

@@ -1,0 +1,114 @@
+// The command lines that may name a database of tests.
+ghost use Rattle.std.specs.Prelude.{◌≡◌, IfOk};
+ghost use Rattle.rvs_words.specs.Words.{texts, values_of};
+ghost use Rattle.rvs_words.specs.Commands.{with_options, select_options, select_of, is_given};
+ghost use Rattle.rvs_words.specs.Commands.{run_options, run_groups_of, run_database_of, run_of};
+ghost use Rattle.rvs_words.specs.Reading.{Answers};
+
+use crate::command::{Command, RunArguments, RunDatabaseArguments, SelectArguments};
+use crate::group_commands::group_files;
+use crate::unread::Unread;
+use crate::words::{Pair, only_value, owned, read_options, values};
+use rvs_base::NoMemory;
+use std::alloc::Global;
+
+/// Reads the words behind `select`.
+///
+/// # Errors
+///
+/// [`Unread`].
+pub fn read_select(alloc: Global, words: &[String]) -> Result<Command, Unread>
+    ensures { Answers result (with_options select_options select_of (texts words.now)) }
+{
+    let options = read_options(alloc, words, &["--isa", "--database"])?;
+    let pairs = options.as_slice();
+    Ok(Command::Select(SelectArguments {
+        isa: only_value(alloc, pairs, "--isa")?,
+        database: only_value(alloc, pairs, "--database")?,
+    }))
+}
+
+/// Reads the words behind `run`. The program's own name is kept with them.
+///
+/// # Errors
+///
+/// [`Unread`].
+pub fn read_run(alloc: Global, program: &str, words: &[String]) -> Result<Command, Unread>
+    ensures { Answers result (with_options run_options (run_of program.now) (texts words.now)) }
+{
+    let names = ["--isa", "--cgf", "--database", "--device", "--work"];
+    let options = read_options(alloc, words, &names)?;
+    read_source(alloc, program, options.as_slice())
+}
+
+/// Reads the options of `run`, by where its tests come from.
+///
+/// # Errors
+///
+/// [`Unread`]: `NoCommand` also where there are both group files and a database, or neither.
+fn read_source(alloc: Global, program: &str, pairs: &[Pair]) -> Result<Command, Unread>
+    ensures { Answers result (run_of program.now (λ name. values_of name pairs.now)) }
+{
+    if !is_given(alloc, pairs, "--database")? {
+        return run_groups(alloc, program, pairs);
+    }
+    if is_given(alloc, pairs, "--cgf")? {
+        return Err(Unread::NoCommand);
+    }
+    run_database(alloc, program, pairs)
+}
+
+/// Whether an option stands.
+fn is_given(alloc: Global, pairs: &[Pair], name: &str) -> Result<bool, NoMemory>
+    ensures { IfOk result (λ is. is ≡ is_given (values_of name.now pairs.now)) }
+{
+    let values = values(alloc, pairs, name)?;
+    match values.as_slice() {
+        [] => Ok(false),
+        _ => Ok(true),
+    }
+}
+
+/// Reads the options of `run` over group files.
+///
+/// # Errors
+///
+/// [`Unread`].
+fn run_groups(alloc: Global, program: &str, pairs: &[Pair]) -> Result<Command, Unread>
+    ensures { Answers result (run_groups_of program.now (λ name. values_of name pairs.now)) }
+{
+    let isa = only_value(alloc, pairs, "--isa")?;
+    let groups = group_files(alloc, pairs)?;
+    let device = only_value(alloc, pairs, "--device")?;
+    let work = only_value(alloc, pairs, "--work")?;
+    let program = owned(alloc, program)?;
+    Ok(Command::Run(RunArguments {
+        program,
+        isa,
+        groups,
+        device,
+        work,
+    }))
+}
+
+/// Reads the options of `run` over a database.
+///
+/// # Errors
+///
+/// [`Unread`].
+fn run_database(alloc: Global, program: &str, pairs: &[Pair]) -> Result<Command, Unread>
+    ensures { Answers result (run_database_of program.now (λ name. values_of name pairs.now)) }
+{
+    let isa = only_value(alloc, pairs, "--isa")?;
+    let database = only_value(alloc, pairs, "--database")?;
+    let device = only_value(alloc, pairs, "--device")?;
+    let work = only_value(alloc, pairs, "--work")?;
+    let program = owned(alloc, program)?;
+    Ok(Command::RunDatabase(RunDatabaseArguments {
+        program,
+        isa,
+        database,
+        device,
+        work,
+    }))
+}
