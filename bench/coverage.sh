@@ -1,8 +1,9 @@
 #!/usr/bin/env bash
-# Measures `rvsuite coverage` on long logs against a C program that only parses them: seconds of user
-# time, best of five, of the program that `./rvsuite` has built, each beside the C program in the same
-# run. The logs are in the styles of `log.py`, the groups none and those of `counted_groups.py`. Files
-# are made once and kept in the folder that the second argument names.
+# Measures `rvsuite coverage` and `rvsuite propagate`, for a range in which every store saves, on long
+# logs against a C program that only parses them: seconds of user time, best of five, of the program
+# that `./rvsuite` has built, each beside the C program in the same run. The logs are in the styles of
+# `log.py`, the groups none and those of `counted_groups.py`. Files are made once and kept in the
+# folder that the second argument names.
 #
 # usage: coverage.sh [BYTES] [FOLDER]
 set -eu
@@ -38,5 +39,10 @@ for style in reference spike words sail; do
     for name in none small stock users; do
         report "$style: coverage, $name.cgf" \
             "$(best "$program" coverage --isa "$folder/isa.yaml" --cgf "$folder/$name.cgf" --log "$log")" "$c"
+    done
+    for name in small stock users; do
+        report "$style: propagate, $name.cgf" \
+            "$(best "$program" propagate --isa "$folder/isa.yaml" --cgf "$folder/$name.cgf" --log "$log" \
+            --signature 0x0:0xffffffff)" "$c"
     done
 done

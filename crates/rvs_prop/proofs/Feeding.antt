@@ -1,5 +1,5 @@
 -- A file that is fed piece by piece.
-use Rattle.std.proofs.Common.{◌≡◌, ℕ, ◌+◌, ◌^◌, ◌<◌, true, List, [], ◌++◌, Option, Some, None, refl}
+use Rattle.std.proofs.Common.{◌≡◌, ℕ, ◌+◌, ◌^◌, ◌<◌, true, List, [], ◌++◌, Option, Some, refl}
 use Rattle.std.proofs.Common.{sym, ap, ◌∙◌, length, take, drop, arith, append_assoc, append-nil}
 use Rattle.std.proofs.Common.{length-append, ◌≤◌, ◌-◌}
 use Rattle.std.proofs.lemmas.List.{length-take-le, drop_at}

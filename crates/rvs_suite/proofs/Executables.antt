@@ -1,6 +1,6 @@
 -- The executable of a test, which is written where the device asks for it.
 use Rattle.std.proofs.Common.{◌≡◌, ◌≢◌, ℕ, Bool, true, false, List, ◌∷◌, Option, Some, None}
-use Rattle.std.proofs.Common.{Result, Ok, bytes_eq, refl, sym, ap, ◌∙◌, subst}
+use Rattle.std.proofs.Common.{Ok, bytes_eq, refl, ap, ◌∙◌}
 use Rattle.rvs_base.specs.Host.{Files}
 use Rattle.rvs_base.specs.declared.host.DeviceRun.{DeviceRun}
 use Rattle.rvs_plan.specs.World.{Contents}

@@ -19,7 +19,7 @@ use Rattle.rvs_suite.specs.RunTests.{Bench, files_for, asks_elf, executable_for,
 use Rattle.rvs_suite.specs.RunTests.{writes_executable, judges_words, judges_one, judges_all}
 use Rattle.rvs_suite.specs.RunTests.{with_one}
 use Rattle.rvs_suite.specs.RunLeft.{IsRunOf, AreRunsOf, verdict_by, verdict_lines, passed_onto}
-use Rattle.rvs_suite.specs.RunLeft.{with_executable, with_written, with_judged, with_all_judged}
+use Rattle.rvs_suite.specs.RunLeft.{with_written, with_judged, with_all_judged}
 use Rattle.rvs_suite.specs.declared.gathering.Test.{Test}
 use Rattle.rvs_device.specs.declared.verdicts.TestVerdict.{TestVerdict}
 use Rattle.rvs_suite.proofs.Executables.{written_before, after-executable, saw-executable}

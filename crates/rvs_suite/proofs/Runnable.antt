@@ -17,7 +17,6 @@ use Rattle.rvs_machine.specs.Image.{ImageValue}
 use Rattle.rvs_machine.specs.Machine.{started}
 use Rattle.rvs_machine.specs.declared.event.End.{End}
 use Rattle.rvs_machine.specs.declared.event.End.TheVariants.{Halted}
-use Rattle.rvs_asm.specs.declared.refusal.AsmRefusal.{AsmRefusal}
 use Rattle.rvs_suite.specs.TestRun.{Accepts, left_by, run_end, run_found}
 use Rattle.rvs_suite.specs.Tests.{IsRunnable, test_with, run_on, words_of_image, reference_words}
 use Rattle.rvs_suite.specs.declared.test_run.Run.{Run}

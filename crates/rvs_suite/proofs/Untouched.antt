@@ -53,7 +53,6 @@ use Rattle.rvs_words.specs.declared.command.Command.TheVariants.{Coverage, Propa
 use Rattle.rvs_words.specs.declared.command.Command.TheVariants.{RunDatabase, Select}
 use Rattle.rvs_suite.specs.declared.test_run.Run.{Run as TestRun}
 use Rattle.rvs_suite.specs.declared.gathering.Test.{Test}
-use Rattle.rvs_suite.specs.declared.judging.Made.{Made}
 use Rattle.rvs_suite.specs.declared.test_files.TestFiles.{TestFiles}
 
 -- a plan that doesn't stop, whatever is found and answered

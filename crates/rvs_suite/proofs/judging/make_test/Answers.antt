@@ -1,12 +1,11 @@
-use Rattle.std.proofs.Common.{◌≡◌, List, ℕ, [], Option, Result, Ok, Err, sym, ap, subst, ◌∙◌}
+use Rattle.std.proofs.Common.{◌≡◌, List, ℕ, [], Result, Ok, Err, sym, ap, subst, ◌∙◌}
 use Rattle.std.proofs.lemmas.Result.{err_from_is_err_and}
 use Rattle.rvs_plan.specs.declared.stop.Stop.{Stop}
 use Rattle.rvs_plan.specs.declared.stop.Stop.TheVariants.{NoMemory}
 use Rattle.rvs_suite.specs.TestRun.{Accepts}
 use Rattle.rvs_suite.specs.Tests.{reference_words}
-use Rattle.rvs_suite.specs.RunTests.{files_for, asks_elf, if_asked, executable_for, made_for}
+use Rattle.rvs_suite.specs.RunTests.{files_for, asks_elf, if_asked, executable_for}
 use Rattle.rvs_suite.specs.RunView.{bench_view}
-use Rattle.rvs_suite.specs.declared.test_files.TestFiles.{TestFiles}
 use Rattle.rvs_suite.proofs.Executables.{elf-of-test}
 use Rattle.rvs_suite.proofs.Runnable.{only-memory}
 use Rattle.rvs_suite.proofs.judging.make_test.Goals as goal
