@@ -32,4 +32,5 @@ told isa one two met unmet first second m u = λ k. unless
 pub tells_parts_apart : (isa : Isa) (root : Data) (r : Result (List Entry) SelectRefusal)
     → Answers r (database_of isa root) → TellsPartsApart isa root r
 tells_parts_apart isa root r answers one two met unmet first second m u is =
-    subst (Answers r) (ap (database_of isa) is ∙ told isa one two met unmet first second m u) answers
+    subst (Answers r) (ap (database_of isa) is ∙ told isa one two met unmet first second m u)
+    answers

@@ -162,7 +162,8 @@ has-stopped call program work inputs files stop effects before told at did line 
 -- what is left, by how the plan ended
 abbrev LeftBy : Call → Files → List ℕ → List ℕ → Result DatabaseInputs Stop → Result Finish Stop
     → Type 0
-LeftBy call files program work found (Ok end) = HasLeft found (HasJudged call files program work end)
+LeftBy call files program work found (Ok end) =
+    HasLeft found (HasJudged call files program work end)
 LeftBy call files program work found (Err stop) =
     call.new.err.bytes ≡ appended call.old.err.bytes (line_of stop)
     → ((found ≡ Err stop) × LeftAsItWas call)

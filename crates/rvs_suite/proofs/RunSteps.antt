@@ -62,8 +62,8 @@ first_written name (Some executable) plan put next end effects goes =
     let first = first_did (Write name executable) (plan >>= put >>= next) end effects goes in
     record { rest = first.rest; is = first.is; goes = first.goes }
 
-pub record FirstRead (name : List ℕ) (next : Option (List ℕ) → Plan Finish) (end : Result Finish Stop)
-    (effects : List Effect) : Type 0 where
+pub record FirstRead (name : List ℕ) (next : Option (List ℕ) → Plan Finish)
+    (end : Result Finish Stop) (effects : List Effect) : Type 0 where
   pub found : Option (List ℕ)
   pub rest : List Effect
   pub is : effects ≡ Read name found ∷ rest

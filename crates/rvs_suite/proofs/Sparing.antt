@@ -176,8 +176,8 @@ spares-followed files other (Ok a) next rest_spares =
 spares-followed files other (Err stop) next rest_spares = tt
 
 -- what comes behind reading has to spare the file for what was found alone
-pub spares-found : {A B : Type 0} (files : Files) (other : List ℕ) (plan : Plan A) (next : A → Plan B)
-    (found : Result A Stop) → Finds files plan found
+pub spares-found : {A B : Type 0} (files : Files) (other : List ℕ) (plan : Plan A)
+    (next : A → Plan B) (found : Result A Stop) → Finds files plan found
     → ((a : A) → found ≡ Ok a → Spares other (next a)) → SparesOver files other (plan >>= next)
 spares-found {A} files other (Ends end) next found is rest_spares =
     subst (λ (r : Result A Stop). SparesOver files other (followed r next)) (sym is)

@@ -87,8 +87,8 @@ pub record HasStoppedBy (call : Call) (files : Files) (asked : RunDatabaseArgume
   pub at : HasLeft (database_inputs_in files asked)
       (HasStopped call files asked.program asked.work (kind text))
 
--- what comes of a test is what `reference` says of it where no steps are asked for: the words of its
--- run
+-- what comes of a test has the words of the run that `reference` makes of it where no steps are
+-- asked for
 pub record IsMadeOf (files : Files) (bench : Bench) (given : Given) (made : Made) : Type 0 where
   pub run : Run
   pub ran : trial_in files None bench.isa given.name ≡ Ok run
@@ -121,8 +121,8 @@ pub record RunsDatabase (call : Call) (files : Files) (asked : RunDatabaseArgume
   pub refused : call.status ≡ Refused
       → (HasRefused call (database_inputs_in files asked) × LeftAsItWas call)
       ⊎ HasStoppedBy call files asked why.Refused
-  -- the host fails where an input isn't there, and has changed nothing, where a selected test isn't,
-  -- behind the verdicts before it, or where a count rose
+  -- the host fails where an input isn't there, and has changed nothing, where a selected test
+  -- isn't, behind the verdicts before it, or where a count rose
   pub absent : call.status ≡ HostFault
       → (HasMissed call (database_inputs_in files asked) × LeftAsItWas call)
       ⊎ HasStoppedBy call files asked why.NoFile ⊎ HostRose call
@@ -136,7 +136,8 @@ pub record RunsDatabase (call : Call) (files : Files) (asked : RunDatabaseArgume
       → made_in files' bench given ≡ Ok made → IsMadeOf files' bench given made
   -- a pass says that the device left the reference's words
   pub passes : (bench : Bench) (t : Trial) → PassesBySpelling bench t
-  -- it changes no file but those that are named by the places of its selected tests, however it ends
+  -- it changes no file but those that are named by the places of its selected tests, however it
+  -- ends
   pub others_kept : (files' : Files) (other : List ℕ)
       → ((inputs : DatabaseInputs) (given : Given) → database_inputs_in files asked ≡ Ok inputs
       → Contains (chosen_in inputs) given

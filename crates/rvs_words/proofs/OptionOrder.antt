@@ -130,7 +130,10 @@ options_change_places program name words others front behind a b is apart e e2 =
             of reference_options reference_of,
             (
               of coverage_options coverage_of,
-              (of propagate_options propagate_of, (of run_options (run_of program), (of select_options select_of, tt))),
+              (
+                of propagate_options propagate_of,
+                (of run_options (run_of program), (of select_options select_of, tt)),
+              ),
             ),
           ),
         ),
