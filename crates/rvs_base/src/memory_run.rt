@@ -64,7 +64,8 @@ pub(crate) fn perform_run(
         ≡ with_left signature.now (left_of answer.now.leaves (held files.old signature.now))
         (held files.old) other) }
     ensures ran { OnOk result (runs.new ≡ runs.old ++ run_over (device_words words.now)
-        test.now signature.now (held files.old) (left_of answer.now.leaves (held files.old signature.now))
+        test.now signature.now (held files.old)
+        (left_of answer.now.leaves (held files.old signature.now))
         answer.now.status ∷ []) }
     ensures others { OnErr result
         ((other : List ℕ) → other ≢ signature.now → held files.new other ≡ held files.old other) }

@@ -170,4 +170,5 @@ more_signs true t m n = both_signs t m n
 more_signs false t m n = refl
 
 pub no_signs : (t : Table) → has_signs 0 t ≡ true
-no_signs t = bits_there (signs_word (signs_of t)) 0 (λ i e. absurd (omega (arith, e, bit_at-zero i)))
+no_signs t = bits_there (signs_word (signs_of t)) 0
+    (λ i e. absurd (omega (arith, e, bit_at-zero i)))

@@ -99,8 +99,8 @@ fn asked_by(formula: &Formula) -> Option<(NumName, i64)>
 }
 
 /// The list that a point stands in, by its shape: a register by its field and number, `name ==
-/// constant`, alone or in a conjunction, by the name and the constant's remainder, and all others in
-/// the first; but a cross point stands in none.
+/// constant`, alone or in a conjunction, by the name and the constant's remainder, and all others
+/// in the first; but a cross point stands in none.
 pub(crate) fn bucket_of(point: &Point) -> usize
     ensures { result ≡ spec.bucket_of (point_view point.now) }
 {

@@ -28,7 +28,8 @@ pub(crate) struct Known<'i> {
     pub imm_val: Option<i64>,
     /// Its signs, as the bits of a word.
     pub signs: u32,
-    ghost signs_known: { signs ≡ signs_word (signs_of (facts_of insn.now first second)) } by { Prim.hlevel props },
+    ghost signs_known: { signs
+        ≡ signs_word (signs_of (facts_of insn.now first second)) } by { Prim.hlevel props },
     ghost rs1_known: { rs1_val ≡ num_of insn.now first second Rs1Val } by { Prim.hlevel props },
     ghost rs2_known: { rs2_val ≡ num_of insn.now first second Rs2Val } by { Prim.hlevel props },
     ghost imm_known: { imm_val ≡ num_of insn.now first second ImmVal } by { Prim.hlevel props },

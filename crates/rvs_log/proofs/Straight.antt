@@ -29,7 +29,8 @@ led_by_byte t (b ∷ bs) r e = turn (b == t) refl e
 led_by_two : (s t : ℕ) (bs r : List ℕ) → Some r ≡ after_text (s ∷ t ∷ []) bs → bs ≡ s ∷ t ∷ r
 led_by_two s t bs r e = turn (after_byte s bs) refl e
   where
-    second : (o : Option (List ℕ)) (a : List ℕ) → after_byte t a ≡ o → Some r ≡ (o >>= after_text [])
+    second : (o : Option (List ℕ)) (a : List ℕ) → after_byte t a ≡ o
+        → Some r ≡ (o >>= after_text [])
         → a ≡ t ∷ r
     second None a h g = absurd cc
     second (Some b) a h g =

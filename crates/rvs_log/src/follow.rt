@@ -1,5 +1,6 @@
 // Lines cut out of pieces, and lent.
-ghost use Rattle.std.specs.Prelude.{◌≡◌, ◌+◌, ◌-◌, ◌<◌, ◌≤◌, ⊤, [], IfNone, IfSome, Some, drop, false};
+ghost use Rattle.std.specs.Prelude.{◌≡◌, ◌+◌, ◌-◌, ◌<◌, ◌≤◌, ⊤, [], IfNone, IfSome, Some, drop};
+ghost use Rattle.std.specs.Prelude.{false};
 ghost use Rattle.std.specs.Prelude.{length, take};
 ghost use Rattle.std.specs.Borrow.{follows_so, sem};
 ghost use Rattle.std.specs.Option.{option_copied};

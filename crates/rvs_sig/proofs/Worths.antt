@@ -168,7 +168,8 @@ pub filled_more : (worths : List ℕ) (count worth : ℕ) → Filled worths coun
 filled_more worths count worth filled within is = record {
   whole = length-set worths count worth ∙ filled.whole;
   each = λ byte below. below_more (λ n. get_or (slice_set worths count worth) n 0 ≡ worth_of n)
-      count (λ n before. get_or-set_other worths count n worth 0 (λ same. omega (arith, before, same))
+      count (λ n before. get_or-set_other worths count n worth 0
+      (λ same. omega (arith, before, same))
       ∙ filled.each n before)
       (get_or-set_same worths count worth 0 (omega (arith, within, filled.whole)) ∙ is)
       byte below;

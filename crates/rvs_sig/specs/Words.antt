@@ -1,6 +1,7 @@
 -- The words of a signature file.
 use Rattle.std.specs.Prelude.{◌≡◌, ℕ, ◌+◌, ◌*◌, ◌==◌, ◌&&◌, nat_lt, if◌then◌else◌, List, []}
-use Rattle.std.specs.Prelude.{◌∷◌, ◌++◌, length, take, slice_index, position, Option, Some, None, is_none}
+use Rattle.std.specs.Prelude.{◌∷◌, ◌++◌, length, take, slice_index, position, Option, Some, None}
+use Rattle.std.specs.Prelude.{is_none}
 use Rattle.std.specs.Prelude.{option_and_then, Result, Ok, Err}
 use Rattle.std.specs.List.{filter_map, flat_map}
 use Rattle.hex.specs.Hex.{hex_digit_value}

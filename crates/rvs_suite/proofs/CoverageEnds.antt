@@ -59,7 +59,8 @@ unfolding report_on
 the-report groups windows bytes entries are = ap (λ (es : List Entry). report_of groups
     (map (count (kept windows es)) (aims_of groups)) (length (kept windows es))) are
 
-pub counted-report : (call : Call) (found : Result (List ℕ) Stop) (report : List ℕ) → found ≡ Ok report
+pub counted-report : (call : Call) (found : Result (List ℕ) Stop) (report : List ℕ)
+    → found ≡ Ok report
     → HasLeft found (covering.HasReported call) → covering.HasReported call report
 counted-report call found report is left = let same : left.given ≡ report = cc in
     subst (covering.HasReported call) same left.left

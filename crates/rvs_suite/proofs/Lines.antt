@@ -2,7 +2,8 @@
 use Rattle.std.proofs.Common.{◌≡◌, ◌≢◌, ◌⊎◌, inl, inr, ℕ, List, [], Result, Ok, Err, refl, sym, ap}
 use Rattle.std.proofs.Common.{codes, ◌∙◌, subst}
 use Rattle.rvs_base.specs.Sink.{SinkState, appended}
-use Rattle.rvs_plan.specs.World.{World, Absence, Reading, Writing, Running, FirstFault, FirstAbsence}
+use Rattle.rvs_plan.specs.World.{World, Absence, Reading, Writing, Running, FirstFault}
+use Rattle.rvs_plan.specs.World.{FirstAbsence}
 use Rattle.rvs_plan.specs.Meets.{StopsUnfaulted, NoFault}
 use Rattle.rvs_plan.specs.Account.{status_of, line_of, fault_line, Concludes}
 use Rattle.rvs_plan.specs.declared.stop.Stop.{Stop}

@@ -16,7 +16,8 @@ use Rattle.rvs_suite.specs.Printing.{print_text}
 use Rattle.rvs_suite.specs.LogReport.{Reports, log_report_in, log_reported}
 use Rattle.rvs_words.specs.declared.command.PropagateArguments.{PropagateArguments}
 
--- the report on a log, for a range that has the signature: how many instructions there are, how many
+-- the report on a log, for a range that has the signature: how many instructions there are, how
+-- many
 -- of them hit each point, and how many of these hits reach the signature
 unfoldable pub report_on : List Label → Window → List ℕ → List ℕ
 report_on groups range log =

@@ -34,7 +34,8 @@ pub record Propagates (call : Call) (files : Files) (asked : PropagateArguments)
   -- it is done where all files are accepted, and has put the report; it is refused, or the host
   -- fails, at the first file that isn't
   pub answered : Answered call (report_in files asked) (OnDone (HasReported call))
-  -- the numbers of the report are those of the log: how many of the hits of each point of the groups
+  -- the numbers of the report are those of the log: how many of the hits of each point of the
+  -- groups
   -- reach the signature, how many hits there are, and how many instructions
   pub numbers : (inputs : Inputs) (bytes : List ℕ)
       → inputs_in files asked.isa asked.groups ≡ Ok inputs

@@ -207,7 +207,8 @@ all_computing isa (i ∷ is) all = (
   all_computing isa is (λ k d less. all (suc k) d (omega (arith, less))),
 )
 
-pub sequence_ready : (isa : Isa) (ps : List Place) (is : List Fields) → 1 ≤ length ps → length ps ≤ 6 → first_sequence isa ps ≡ Some is → IsSequence isa is
+pub sequence_ready : (isa : Isa) (ps : List Place) (is : List Fields) → 1 ≤ length ps
+    → length ps ≤ 6 → first_sequence isa ps ≡ Some is → IsSequence isa is
 sequence_ready isa ps is some few found =
     let whole = sequence_solves isa ps is found in
     let n : length is ≡ length ps = whole.count in

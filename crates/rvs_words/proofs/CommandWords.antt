@@ -5,7 +5,8 @@ use Rattle.std.specs.Prelude.{◌&&◌, nat_le, map, option_map, option_and_then
 use Rattle.std.specs.List.{list_all}
 use Rattle.std.proofs.lemmas.Bool.Decides.{nat_tests}
 use Rattle.std.proofs.lemmas.List.{length-map}
-use Rattle.rvs_words.specs.Words.{is_positional, pairs_of, is_among, options_in, values_of, are_known, only}
+use Rattle.rvs_words.specs.Words.{is_positional, pairs_of, is_among, options_in, values_of}
+use Rattle.rvs_words.specs.Words.{are_known, only}
 use Rattle.rvs_words.specs.Words.{at_most_one}
 use Rattle.rvs_words.specs.Windows.{windows_of, range_of}
 use Rattle.rvs_words.specs.Commands.{◌>>=◌, Values, with_options, some_of, steps_of}
@@ -57,7 +58,8 @@ pub device-name : IsName (codes "--device")
 device-name = record { alone = refl; joined = λ byte text. refl; same = refl }
 
 pub options-in : (names words : List (List ℕ)) (ps : List Pair)
-    → pairs_of words ≡ Some ps → are_known names ps ≡ true → options_in (is_among names) words ≡ Some ps
+    → pairs_of words ≡ Some ps → are_known names ps ≡ true
+    → options_in (is_among names) words ≡ Some ps
 options-in names words ps e k =
     ap (λ (o : Option (List Pair)). option_and_then
     (λ (ps : List Pair). cond (are_known names ps) (Some ps) None) o) e

@@ -100,7 +100,8 @@ no-groups program values none =
 
 both-or-none : (program : List ℕ) (values : Values) (groups databases : Bool)
     → is_given (values (codes "--cgf")) ≡ groups
-    → is_given (values (codes "--database")) ≡ databases → groups ≡ databases → run_of program values ≡ None
+    → is_given (values (codes "--database")) ≡ databases → groups ≡ databases
+    → run_of program values ≡ None
 both-or-none program values true true g d same =
     ap (λ b. cond b (cond (is_given (values (codes "--cgf"))) None
     (run_database_of program values)) (run_groups_of program values)) d

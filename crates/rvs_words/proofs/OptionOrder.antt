@@ -85,7 +85,8 @@ of-same : (names : List (List ℕ)) (f : Values → Option Command) (words other
     (ps qs : List Pair)
     → pairs_of words ≡ Some ps → pairs_of others ≡ Some qs → are_known names ps ≡ are_known names qs
     → SameValues ps qs
-    → unwrap_or (with_options names f words) Unknown ≡ unwrap_or (with_options names f others) Unknown
+    → unwrap_or (with_options names f words) Unknown ≡ unwrap_or (with_options names f others)
+    Unknown
 of-same names f words others ps qs e e2 known same =
     ap (λ (o : Option (List Pair)). unwrap_or (in-pairs names f o) Unknown) e
     ∙ ap (λ (o : Option Command). unwrap_or o Unknown) (known-same names f ps qs known same)

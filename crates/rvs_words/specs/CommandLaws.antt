@@ -56,12 +56,14 @@ AreGroups groups = (1 ≤ length groups) × (length groups ≤ 64)
 abbrev pub ComparesAreRead : Type 0
 ComparesAreRead =
     (program left right : List ℕ) → stands_alone left ≡ true → stands_alone right ≡ true
-    → command_of (program ∷ codes "compare" ∷ left ∷ right ∷ []) ≡ Compare (record { left = left; right = right })
+    → command_of (program ∷ codes "compare" ∷ left ∷ right ∷ []) ≡ Compare
+    (record { left = left; right = right })
 
 abbrev pub ValidatesAreRead : Type 0
 ValidatesAreRead =
     (program : List ℕ) (isa : Value) → AllMayStand (isa ∷ [])
-    → command_of (program ∷ codes "validate" ∷ option (codes "--isa") isa) ≡ Validate (record { isa = isa.text })
+    → command_of (program ∷ codes "validate" ∷ option (codes "--isa") isa) ≡ Validate
+    (record { isa = isa.text })
 
 abbrev pub NormalizesAreRead : Type 0
 NormalizesAreRead =

@@ -17,7 +17,8 @@ loop-slot-preserved g c =
     let hit = holds (point_view s.point.now) c.args.op t in
     let rest = places (drop (c.loop-slot.slot-index + 1) c.args.slots.now) in
     let e : c.raise_rare.new.counts.items ≡ raised hit s.at c.loop-slot.counts.items =
-    c.raise_rare.ensures.items ∙ ap (λ h. raised h s.at c.loop-slot.counts.items) c.holds-hit.ensures in
+    c.raise_rare.ensures.items ∙ ap (λ h. raised h s.at c.loop-slot.counts.items)
+    c.holds-hit.ensures in
     let P : List ℕ → Type 0 = λ l. All (λ (n : ℕ). n ≤ 2 ^ 41 + c.loop-slot.slot-index + 1) l in
     let low : P c.raise_rare.new.counts.items =
     subst P (sym e) (raised_low hit c.loop-slot.counts.items s.at (2 ^ 41 + c.loop-slot.slot-index)

@@ -6,7 +6,8 @@ use Rattle.rvs_machine.proofs.reading.word_lines.Goals as goal
 pub returns-in_err-word : goal.returns-in_err-word
 returns-in_err-word c =
     let p = err_from_is_err_and c.from_residual.result c.from_residual.ensures.1 in
-    let e = words_stop c.args.count c.loop.counter c.loop-test.true c.loop.bytes.items c.loop.lines _
+    let e = words_stop c.args.count c.loop.counter c.loop-test.true c.loop.bytes.items c.loop.lines
+    _
     c.in_err-word.ensures in
     rw (p.1, p.2) (inr (c.loop.invariant ∙ e))
 

@@ -2,7 +2,8 @@ use Rattle.std.proofs.Common.{◌≡◌, ◌∙◌, [], inr, arith}
 use Rattle.rvs_sig.proofs.Counting.{HasWords-more, words_of-read, words_of-long, words_of-bad}
 use Rattle.rvs_sig.proofs.words.read_words.Goals as goal
 
-pub returns-then-line-eq-MOST_LINES-clause-refused : goal.returns-then-line-eq-MOST_LINES-clause-refused
+pub returns-then-line-eq-MOST_LINES-clause-refused :
+    goal.returns-then-line-eq-MOST_LINES-clause-refused
 returns-then-line-eq-MOST_LINES-clause-refused c =
     inr (words_of-long c.args.bytes.now c.loop-word.left.now c.loop-word.words
     (rw c.if-line-eq-MOST_LINES.true at c.loop-word.invariant)

@@ -11,5 +11,6 @@ returns-in_err-inputs g c = λ out.
     (c.in_err-inputs.ensures.met out))
 
 pub returns : goal.returns
-returns g c = λ out. Meets-then (reads_log (reports c.args.asked.now.signature) c.args.asked.now.log)
+returns g c =
+    λ out. Meets-then (reads_log (reports c.args.asked.now.signature) c.args.asked.now.log)
     (c.in_ok-inputs.ensures.met out) (c.track_named.ensures out)

@@ -50,7 +50,8 @@ returns-in_ok-report_at_end-in-Ok g c = λ out groups range begun few.
     (0 + length feeds.bytes) fed in
     let at_end = c.in_ok-report_at_end-in-Ok.ensures.state groups range.lo range.hi feeds.bytes
     (0 + length feeds.bytes) fed in
-    let within = short groups range.lo range.hi feeds.bytes (ended feeds.bytes) c.report_at_end.new.tracker
+    let within = short groups range.lo range.hi feeds.bytes (ended feeds.bytes)
+    c.report_at_end.new.tracker
     at_end few in
     asks-accepted out name (found_by (reports range) (groups_view groups) name) feeds.bytes
     c.in_ok-report_at_end-in-Ok.field-0 c.in-Ok.ensures.reads_only feeds.whole

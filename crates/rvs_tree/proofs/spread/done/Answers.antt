@@ -23,7 +23,8 @@ after out T ps g rest e =
     (later-same (gathered (out, T) ps).1 (keys_of ps ++ T) rest (gathered-keys out T ps))
     ∙ append_assoc out (sift T ps) (later (keys_of ps ++ T) rest)
 
-pub returns-in_ok-gathered-in-Whole-clause-brought : goal.returns-in_ok-gathered-in-Whole-clause-brought
+pub returns-in_ok-gathered-in-Whole-clause-brought :
+    goal.returns-in_ok-gathered-in-Whole-clause-brought
 returns-in_ok-gathered-in-Whole-clause-brought c =
     let g = c.args.gathered in
     let rest = next_view c.args.work.items in
@@ -33,7 +34,8 @@ returns-in_ok-gathered-in-Whole-clause-brought c =
     ∙ ap (λ t. gathered (gathered_view g) (merged_pairs (view t))) c.deref.ensures)
     ∙ sym (ap (λ w. brings g (w ∷ rest)) (view-whole c.args.part.now c.in-Whole.tree c.in-Whole.is))
 
-pub returns-in_ok-gathered-in-Pair-clause-brought : goal.returns-in_ok-gathered-in-Pair-clause-brought
+pub returns-in_ok-gathered-in-Pair-clause-brought :
+    goal.returns-in_ok-gathered-in-Pair-clause-brought
 returns-in_ok-gathered-in-Pair-clause-brought c =
     let g = c.args.gathered in
     let T = taken_view g.taken in

@@ -5,7 +5,8 @@ use Rattle.rvs_yaml.proofs.Reaching.{sight-reach}
 use Rattle.rvs_yaml.proofs.Sketching.{stack-top}
 use Rattle.rvs_yaml.proofs.reach.may_be_deep.Goals as goal
 
-pub returns-then-levels-own_depth-le-MOST_DEPTH-clause-far : goal.returns-then-levels-own_depth-le-MOST_DEPTH-clause-far
+pub returns-then-levels-own_depth-le-MOST_DEPTH-clause-far :
+    goal.returns-then-levels-own_depth-le-MOST_DEPTH-clause-far
 returns-then-levels-own_depth-le-MOST_DEPTH-clause-far c = λ e.
     let bs = c.args.blocks.now in
     let same = stack-top bs c.in-Some.top.now c.in-Some.ensures.value in
