@@ -6,7 +6,9 @@ pub mod Fronts
 pub mod Logs
 pub mod Octets
 pub mod RunLogs
+pub mod WordParts
+pub mod FieldRanges
+pub mod Below
 pub mod RunWords
 pub mod Straight
-pub mod Tables
 pub mod Values

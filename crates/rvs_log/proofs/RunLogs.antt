@@ -12,7 +12,8 @@ use Rattle.rvs_log.specs.Registers.{zeros}
 use Rattle.rvs_log.specs.Entries.{entries_of}
 use Rattle.rvs_log.specs.Logs.{log_of, as_entry}
 use Rattle.rvs_log.proofs.Logs.{logs_read_back}
-use Rattle.rvs_log.proofs.RunWords.{Below, run_words, start_words}
+use Rattle.rvs_log.proofs.Below.{Below}
+use Rattle.rvs_log.proofs.RunWords.{run_words, start_words}
 
 abbrev pub trace_of : ImageValue → Isa → ℕ → List Executed
 trace_of image isa n = (run_of (started image isa).setup n (started image isa).state).trace

@@ -1,10 +1,12 @@
 -- The table of the values of hexadecimal digits.
-use Rattle.std.proofs.Common.{◌≡◌, ℕ, zero, suc, ◌+◌, ◌<◌, ◌≤◌, Bool, true, false, cond, ◌&&◌}
+use Rattle.std.proofs.Common.{◌≡◌, ◌⊎◌, inl, inr, ℕ, zero, suc, ◌+◌, ◌*◌, ◌<◌, ◌≤◌, Bool, true, false}
+use Rattle.std.proofs.Common.{cond, ◌&&◌, ◌||◌}
 use Rattle.std.proofs.Common.{List, [], ◌∷◌, Option, Some, None, refl, sym, ap, ◌∙◌, length, get_or}
 use Rattle.std.proofs.Common.{arith}
 use Rattle.std.proofs.lemmas.Bool.Decides.{nat_tests}
 use Rattle.std.specs.Prelude.{◌==◌, nat_lt}
-use Rattle.rvs_log.specs.Grammar.{hex_value}
+use Rattle.rvs_log.specs.Grammar.{hex_run, hex_value}
+use Rattle.rvs_log.proofs.Digits.{four_more}
 use Rattle.rvs_log.specs.declared.words.TheConstants.{VALUES}
 
 abbrev value_if : ℕ → Option ℕ
@@ -65,3 +67,64 @@ value_none b h high =
   where
     is_high : (n : ℕ) → 16 ≤ n → nat_lt n 16 ≡ false
     is_high n h = grind (arith, nat_tests)
+
+-- each entry is below 16, or it is 65,536
+abbrev is_entry : ℕ → Bool
+is_entry v = nat_lt v 16 || v == 65536
+
+abbrev are_entries : List ℕ → Bool
+are_entries [] = true
+are_entries (v ∷ vs) = is_entry v && are_entries vs
+
+either : (a b : Bool) → (a || b) ≡ true → (a ≡ true) ⊎ (b ≡ true)
+either true b h = inl refl
+either false b h = inr h
+
+entry_edge : (v : ℕ) → is_entry v ≡ true → (v < 16) ⊎ (v ≡ 65536)
+entry_edge v h = elim (either (nat_lt v 16) (v == 65536) h) [
+  | inl low ↦ inl (grind (arith, nat_tests))
+  | inr is ↦ inr (grind (arith, nat_tests))
+]
+
+entry_at : (vs : List ℕ) (k : ℕ) → are_entries vs ≡ true → k < length vs
+    → (get_or vs k 0 < 16) ⊎ (get_or vs k 0 ≡ 65536)
+entry_at [] k h l = absurd (omega arith)
+entry_at (v ∷ vs) zero h l = entry_edge v (both (is_entry v) (are_entries vs) h).0
+entry_at (v ∷ vs) (suc k) h l = entry_at vs k (both (is_entry v) (are_entries vs) h).1 (omega arith)
+
+pub value_edge : (b : ℕ) → b < 256 → 16 ≤ get_or VALUES b 0 → get_or VALUES b 0 ≡ 65536
+value_edge b h high = elim (entry_at VALUES b refl h) [
+  | inl low ↦ absurd (omega (arith, low, high))
+  | inr is ↦ is
+]
+
+pub value_low : (b : ℕ) → b < 256 → get_or VALUES b 0 ≤ 65536
+value_low b h = elim (entry_at VALUES b refl h) [
+  | inl low ↦ omega (arith, low)
+  | inr is ↦ omega (arith, is)
+]
+
+below : (w n : ℕ) → (16 ≤ w → w ≡ 65536) → w ≤ n → n < 65536 → w < 16
+below w n edge l h = by-test (nat_lt w 16) refl
+  where
+    by-test : (t : Bool) → nat_lt w 16 ≡ t → w < 16
+    by-test true is = grind (arith, nat_tests)
+    by-test false is =
+        let high : 16 ≤ w = grind (arith, nat_tests) in
+        let e = edge high in
+        absurd (omega (arith, e, l, h))
+
+-- four digits more, by what they count
+pub four_counted : (v a b c d w x y z : ℕ) (bs : List ℕ) → (w < 16 → Some w ≡ hex_value a)
+    → (16 ≤ w → w ≡ 65536) → (x < 16 → Some x ≡ hex_value b) → (16 ≤ x → x ≡ 65536)
+    → (y < 16 → Some y ≡ hex_value c) → (16 ≤ y → y ≡ 65536) → (z < 16 → Some z ≡ hex_value d)
+    → (16 ≤ z → z ≡ 65536) → 4096 * w + 256 * x + 16 * y + z < 65536
+    → hex_run v (a ∷ b ∷ c ∷ d ∷ bs)
+    ≡ hex_run (65536 * v + (4096 * w + 256 * x + 16 * y + z)) bs
+four_counted v a b c d w x y z bs dw ew dx ex dy ey dz ez h =
+    let n = 4096 * w + 256 * x + 16 * y + z in
+    four_more v a b c d w x y z bs
+    (sym (dw (below w n ew (omega arith) h)))
+    (sym (dx (below x n ex (omega arith) h)))
+    (sym (dy (below y n ey (omega arith) h)))
+    (sym (dz (below z n ez (omega arith) h)))

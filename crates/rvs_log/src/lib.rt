@@ -3,7 +3,6 @@
 
 mod follow;
 mod laws;
-mod places;
 mod plain;
 mod reading;
 mod registers;

@@ -1,0 +1,148 @@
+-- What is read is a byte or a word, and so is what is written.
+use Rattle.std.proofs.Common.{◌≡◌, ℕ, zero, suc, ◌+◌, ◌*◌, ◌/◌, ◌%◌, ◌^◌, ◌-◌, ◌<◌, ◌≤◌, Bool, true}
+use Rattle.std.proofs.Common.{false, cond, List, [], ◌∷◌, Option, Some, None, refl, subst, arith}
+use Rattle.std.proofs.Common.{sym, not, length, ap, ◌∙◌, Result, Ok, Err}
+use Rattle.std.specs.Prelude.{pos, negsuc, ◌-ℤ◌, ◌==◌, ◌&&◌, nat_le, nat_lt, replicate, slice_index}
+use Rattle.std.specs.Prelude.{slice_set, All}
+use Rattle.std.proofs.lemmas.Nat.{mod_below}
+use Rattle.std.proofs.lemmas.Int.{ints}
+use Rattle.std.proofs.lemmas.Bool.Decides.{nat_tests}
+use Rattle.std.specs.Option.{option_map}
+use Rattle.std.proofs.lemmas.List.Elements.{All-cons, All-nil}
+use Rattle.rvs_insn.specs.declared.op.Op.{Op}
+use Rattle.rvs_insn.specs.declared.op.Op.TheVariants.{Fence as FenceRow, Jal, Jalr, Beq, Bne, Blt}
+use Rattle.rvs_insn.specs.declared.op.Op.TheVariants.{Bge, Bltu, Bgeu, Lb, Lh, Lw, Lbu, Lhu, Sb, Sh}
+use Rattle.rvs_insn.specs.declared.op.Op.TheVariants.{Sw, Ecall, Ebreak, LrW, ScW, AmoswapW}
+use Rattle.rvs_insn.specs.declared.op.Op.TheVariants.{AmoaddW, AmoxorW, AmoandW, AmoorW, AmominW}
+use Rattle.rvs_insn.specs.declared.op.Op.TheVariants.{AmomaxW, AmominuW, AmomaxuW}
+use Rattle.rvs_insn.specs.declared.op.Format.{Format}
+use Rattle.rvs_insn.specs.declared.op.Format.TheVariants.{R, I, Shift, Load as LoadForm, JumpReg}
+use Rattle.rvs_insn.specs.declared.op.Format.TheVariants.{Store as StoreForm, Branch, Upper, Jump}
+use Rattle.rvs_insn.specs.declared.op.Format.TheVariants.{Fence, System, Amo, LoadReserved}
+use Rattle.rvs_insn.specs.Table.{row, op_of_word}
+use Rattle.rvs_insn.specs.Fields.{Fields, IsRegister, signed, rd_of, rs1_of, rs2_of, imm_of, imm_i}
+use Rattle.rvs_insn.specs.Fields.{imm_s, imm_b, imm_j, fields_at, insn_of_word}
+use Rattle.rvs_insn.specs.Word.{FitsBits, FitsEven, AreOf, IsEncodable}
+use Rattle.rvs_insn.specs.Names.{is_admitted}
+use Rattle.rvs_machine.specs.declared.event.Executed.{Executed}
+use Rattle.rvs_machine.specs.declared.event.Event.{Event}
+use Rattle.rvs_machine.specs.declared.event.Event.TheVariants.{Ran, Halted, Trapped}
+use Rattle.rvs_machine.specs.declared.event.TrapKind.{TrapKind}
+use Rattle.rvs_machine.specs.declared.event.TrapKind.TheVariants.{Illegal, MisalignedAccess}
+use Rattle.rvs_machine.specs.declared.event.TrapKind.TheVariants.{AccessFault}
+use Rattle.rvs_machine.specs.Effects.{effect_of, add32, less_signed, replaced}
+use Rattle.rvs_machine.specs.Image.{text_base, data_base}
+use Rattle.rvs_machine.specs.Machine.{Setup, State, start_state, byte_at, above, load_bytes}
+use Rattle.rvs_machine.specs.Machine.{is_in_data, store_bytes, extended, word_at, fetch, read_reg}
+use Rattle.rvs_machine.specs.Machine.{write_reg, commit_of, loaded, is_misaligned, jump_action}
+use Rattle.rvs_machine.specs.Machine.{store_action, action_of, done_of, imm_word, executed, refused}
+use Rattle.rvs_machine.specs.Machine.{with_insn, with_word, step_of, data_word}
+use Rattle.rvs_machine.specs.Machine.{is_reserved, wrote}
+use Rattle.rvs_machine.specs.Written.{Write}
+use Rattle.rvs_machine.specs.Run.{Outcome, follow, run_of}
+use Rattle.rvs_machine.proofs.Steps.{only_writes, written_by, writing_acts}
+use Rattle.rvs_machine.proofs.Results.{HasValue, value_is_word}
+use Rattle.rvs_log.proofs.Below.{Below, set_below, zeros_below}
+use Rattle.rvs_log.specs.Written.{IsSmall, HasWords}
+
+-- ---- what is read is a byte or a word
+abbrev pub AtMost : ℕ → Option ℕ → Type 0
+AtMost n None = Unit {0}
+AtMost n (Some v) = v < n
+
+pub some_or_none : (n : ℕ) (b : Bool) (v : ℕ) → v < n → AtMost n (cond b (Some v) None)
+some_or_none n true v h = h
+some_or_none n false v h = tt
+
+pub either_place : (n : ℕ) (b : Bool) (x y : Option ℕ) → AtMost n x → AtMost n y → AtMost n (cond b x y)
+either_place n true x y g h = g
+either_place n false x y g h = h
+
+pub byte_low : (text ram : List ℕ) (addr : ℕ) → Below 256 text → Below 256 ram
+    → AtMost 256 (byte_at text ram addr)
+byte_low text ram addr g h =
+    let in_text = nat_le text_base addr && nat_lt addr (text_base + length text) in
+    let in_ram = nat_le data_base addr && nat_lt addr (data_base + length ram) in
+    let of_text = slice_index text (addr - text_base) in
+    let of_ram = slice_index ram (addr - data_base) in
+    either_place 256 in_text (Some of_text) (cond in_ram (Some of_ram) None) (g (addr - text_base))
+    (some_or_none 256 in_ram of_ram (h (addr - data_base)))
+
+pub above_low : (n : ℕ) (a b : Option ℕ) → AtMost 256 a → AtMost n b → AtMost (256 * n) (above a b)
+above_low n None b g h = tt
+above_low n (Some low) None g h = tt
+above_low n (Some low) (Some high) g h = omega (arith, g, h)
+
+-- 256 to this power
+abbrev pub limit : ℕ → ℕ
+limit zero = 1
+limit (suc n) = 256 * limit n
+
+pub bytes_low : (n : ℕ) (text ram : List ℕ) (addr : ℕ) → Below 256 text → Below 256 ram
+    → AtMost (limit n) (load_bytes n text ram addr)
+bytes_low zero text ram addr g h = omega arith
+bytes_low (suc n) text ram addr g h =
+    above_low (limit n) (byte_at text ram addr) (load_bytes n text ram (addr + 1))
+    (byte_low text ram addr g h) (bytes_low n text ram (addr + 1) g h)
+
+pub either_low : (b : Bool) (x y : ℕ) → x < 2 ^ 32 → y < 2 ^ 32 → cond b x y < 2 ^ 32
+either_low true x y p q = p
+either_low false x y p q = q
+
+pub one_low : (sign : Bool) (v : ℕ) → v < 256 → extended sign 1 v < 2 ^ 32
+one_low sign v h =
+    either_low (sign && nat_le (2 ^ 7) v) (v + (2 ^ 32 - 2 ^ 8)) v (omega arith) (omega arith)
+
+pub two_low : (sign : Bool) (v : ℕ) → v < 65536 → extended sign 2 v < 2 ^ 32
+two_low sign v h =
+    either_low (sign && nat_le (2 ^ 15) v) (v + (2 ^ 32 - 2 ^ 16)) v (omega arith) (omega arith)
+
+pub four_low : (sign : Bool) (v : ℕ) → v < 4294967296 → extended sign 4 v < 2 ^ 32
+four_low sign v h =
+    either_low (sign && nat_le (2 ^ 31) v) (v + (2 ^ 32 - 2 ^ 32)) v (omega arith) (omega arith)
+
+pub word_low : (text : List ℕ) (i : ℕ) → Below 256 text → word_at text i < 2 ^ 32
+word_low text i h = omega (arith, h i, h (i + 1), h (i + 2), h (i + 3))
+
+pub fetch_low : (text : List ℕ) (pc : ℕ) → Below 256 text → AtMost (2 ^ 32) (fetch text pc)
+fetch_low text pc h =
+    let at = pc - text_base in
+    let in_text = nat_le text_base pc && nat_lt pc (text_base + length text) in
+    some_or_none (2 ^ 32) in_text (word_at text at) (word_low text at h)
+
+pub read_low : (regs : List ℕ) (o : Option ℕ) → Below (2 ^ 32) regs → read_reg regs o < 2 ^ 32
+read_low regs None h = omega arith
+read_low regs (Some zero) h = omega arith
+read_low regs (Some (suc r)) h = h (suc r)
+
+-- ---- what is written is a byte or a word
+pub store_low : (n : ℕ) (ram : List ℕ) (at value : ℕ) → Below 256 ram
+    → Below 256 (store_bytes n ram at value)
+store_low zero ram at value h = h
+store_low (suc n) ram at value h =
+    store_low n (slice_set ram at (value % 2 ^ 8)) (at + 1) (value / 2 ^ 8)
+    (set_below 256 ram at (value % 2 ^ 8) h (omega arith))
+
+pub write_low : (regs : List ℕ) (rd value : Option ℕ) → IsSmall (commit_of rd value)
+    → Below (2 ^ 32) regs → Below (2 ^ 32) (write_reg regs rd value)
+write_low regs None value g h = h
+write_low regs (Some zero) value g h = h
+write_low regs (Some (suc r)) None g h = h
+write_low regs (Some (suc r)) (Some v) g h = set_below (2 ^ 32) regs (suc r) v h g.1
+
+pub commit_low : (rd value : Option ℕ) → HasValue rd value → IsRegister rd
+    → IsSmall (commit_of rd value)
+commit_low None value g h = tt
+commit_low (Some zero) value g h = tt
+commit_low (Some (suc r)) None g h = tt
+commit_low (Some (suc r)) (Some v) g h = (h, g)
+
+pub some_low : (rd : Option ℕ) (v : ℕ) → v < 2 ^ 32 → IsRegister rd → IsSmall (commit_of rd (Some v))
+some_low None v g h = tt
+some_low (Some zero) v g h = tt
+some_low (Some (suc r)) v g h = (h, g)
+
+pub none_low : (rd : Option ℕ) → IsSmall (commit_of rd None)
+none_low None = tt
+none_low (Some zero) = tt
+none_low (Some (suc r)) = tt
