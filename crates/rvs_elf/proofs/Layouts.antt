@@ -63,7 +63,7 @@ behind_ram l i = replicate (gap l) 0 ++ behind_zeros l i
 pub behind_text : Layout → ImageValue → List ℕ
 behind_text l i = i.data_bytes ++ behind_ram l i
 
-pub behind_headers : Layout → ImageValue → List ℕ
+unfoldable pub behind_headers : Layout → ImageValue → List ℕ
 behind_headers l i = i.text ++ behind_text l i
 
 pub same_file : (l : Layout) (i : ImageValue)
@@ -105,7 +105,7 @@ unfolding written.sections
 sections_length l = refl
 
 -- the layout of an image
-pub of : ImageValue → Layout
+unfoldable pub of : ImageValue → Layout
 of i = written.layout_of (length i.text) (length i.data_bytes)
 
 pub record IsLaid (i : ImageValue) (l : Layout) : Type 0 where

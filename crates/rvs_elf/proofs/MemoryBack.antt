@@ -47,7 +47,7 @@ pub record FirstDone (bytes text : List ℕ) (size : ℕ) (second : Segment) : T
       → load bytes 0 [] nothing_loaded (loading 116 text_base size ∷ ss)
       ≡ load bytes (0 + 1) earlier (record { text = text; ram = [] }) ss
 
-pub text_of : List ℕ → Loaded
+unfoldable pub text_of : List ℕ → Loaded
 text_of text = record { text = text; ram = [] }
 
 pub text_placed : (bytes text : List ℕ) (size : ℕ) → part 116 size bytes ≡ Some text
@@ -88,7 +88,7 @@ text_first bytes text size at ram_size false l e f h =
           ∙ ap (λ t. load bytes (0 + 1) [] (text_of t) ss) (sym empty);
     }
 
-pub image_memory : List ℕ → List ℕ → Loaded
+unfoldable pub image_memory : List ℕ → List ℕ → Loaded
 image_memory text ram = record { text = text; ram = ram }
 
 pub ram_placed : (bytes text ram : List ℕ) (at size : ℕ) → part at size bytes ≡ Some ram

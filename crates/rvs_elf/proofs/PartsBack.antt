@@ -54,7 +54,7 @@ pub suits : (l : Layout) (rest : List ℕ) → is_executable (written.headers l 
 unfolding is_executable written.headers
 suits l rest = refl
 
-pub made : ℕ → Header
+unfoldable pub made : ℕ → Header
 made at = record {
   segments_at = 52;
   segment_count = 2;
@@ -80,7 +80,7 @@ header_back l rest h =
 -- ---- the segments
 
 -- the program header of a segment whose file bytes are all its bytes
-pub loading : ℕ → ℕ → ℕ → Segment
+unfoldable pub loading : ℕ → ℕ → ℕ → Segment
 loading at address size = record {
   kind = 1;
   offset = at;
@@ -89,10 +89,10 @@ loading at address size = record {
   memory_size = size;
 }
 
-pub both : Layout → List Segment
+unfoldable pub both : Layout → List Segment
 both l = loading 116 text_base l.text_size ∷ loading l.data_at data_base l.data_size ∷ []
 
-pub table : Layout → List ℕ
+unfoldable pub table : Layout → List ℕ
 table l = written.segments l
 
 pub table_there : (l : Layout) (rest : List ℕ)
@@ -123,13 +123,13 @@ table_says l h =
 
 -- ---- the symbols
 
-pub section : ℕ → ℕ → ℕ → Section
+unfoldable pub section : ℕ → ℕ → ℕ → Section
 section kind at size = record { kind = kind; offset = at; size = size; link = 0 }
 
-pub symbol_table : ℕ → Section
+unfoldable pub symbol_table : ℕ → Section
 symbol_table at = record { kind = 2; offset = at; size = 64; link = 4 }
 
-pub sections_from : ℕ → ℕ → ℕ → ℕ → ℕ → ℕ → List Section
+unfoldable pub sections_from : ℕ → ℕ → ℕ → ℕ → ℕ → ℕ → List Section
 sections_from text ram ram_size symbols strings names =
     section 0 0 0 ∷ section 1 116 text ∷ section 1 ram ram_size ∷ symbol_table symbols
     ∷ section 3 strings 38 ∷ section 3 names 39 ∷ []
@@ -173,7 +173,7 @@ symbols_found bytes l symbols strings other e f =
 
 -- ---- the marks
 
-pub marks : ℕ → ℕ → ℕ → Marks
+unfoldable pub marks : ℕ → ℕ → ℕ → Marks
 marks a b c = record { tohost = a; sig_begin = b; sig_end = c }
 
 pub read_marks : (a b c : ℕ) → marks_of (written.symbols a b c) written.strings
