@@ -27,47 +27,49 @@ compared-same status words =
     (differs_nowhere words)
 
 -- by the lengths, and the first place that differs
-same_by : (status : ℤ) (n : ℕ) (left right : List ℕ) (lengths : Bool) (first : Option ℕ)
+same_by : (status told : ℤ) (n : ℕ) (left right : List ℕ) (lengths : Bool) (first : Option ℕ)
     → (length left == length right) ≡ lengths → position differ (zip left right) ≡ first
     → compared status
     (if lengths then verdict_at left right first else sig.Lengths (length left) (length right))
-    ≡ Pass n status → left ≡ right
-same_by status n left right true None lengths first e = let same : length left ≡ length right =
+    ≡ Pass n told → left ≡ right
+same_by status told n left right true None lengths first e = let same : length left ≡ length right =
     grind (arith, nat_tests) in agrees left right same first
-same_by status n left right true (Some at) lengths first e = absurd cc
-same_by status n left right false first lengths is e = absurd cc
+same_by status told n left right true (Some at) lengths first e = absurd cc
+same_by status told n left right false first lengths is e = absurd cc
 
-compared-pass : (status : ℤ) (n : ℕ) (left right : List ℕ)
-    → compared status (verdict_of left right) ≡ Pass n status → left ≡ right
-compared-pass status n left right e = same_by status n left right (length left == length right)
+compared-pass : (status told : ℤ) (n : ℕ) (left right : List ℕ)
+    → compared status (verdict_of left right) ≡ Pass n told → left ≡ right
+compared-pass status told n left right e = same_by status told n left right (length left == length right)
     (position differ (zip left right)) refl refl e
 
-spelt-pass : (status : ℤ) (n : ℕ) (reference : List ℕ) (read : Result (List ℕ) SigRefusal)
-    → spelt status reference read ≡ Pass n status → read ≡ Ok reference
-spelt-pass status n reference (Ok words) e =
-    ap (λ (w : List ℕ). Ok w) (compared-pass status n words reference e)
-spelt-pass status n reference (Err (why.BadLine line)) e = absurd cc
-spelt-pass status n reference (Err why.TooLong) e = absurd cc
-spelt-pass status n reference (Err why.NoMemory) e = absurd cc
+spelt-pass : (status told : ℤ) (n : ℕ) (reference : List ℕ)
+    (read : Result (List ℕ) SigRefusal)
+    → spelt status reference read ≡ Pass n told → read ≡ Ok reference
+spelt-pass status told n reference (Ok words) e =
+    ap (λ (w : List ℕ). Ok w) (compared-pass status told n words reference e)
+spelt-pass status told n reference (Err (why.BadLine line)) e = absurd cc
+spelt-pass status told n reference (Err why.TooLong) e = absurd cc
+spelt-pass status told n reference (Err why.NoMemory) e = absurd cc
 
 -- by the tests of the length and of what is empty
-left-pass : (t : Task) (status : ℤ) (n : ℕ) (bytes : List ℕ) (long bare : Bool)
+left-pass : (t : Task) (status told : ℤ) (n : ℕ) (bytes : List ℕ) (long bare : Bool)
     → nat_lt signature_limit (length bytes) ≡ long
     → (if long then TooLong status else if bare then NoSignature status else spelt status
-    t.reference (words_of bytes)) ≡ Pass n status → Spells t (Some bytes)
-left-pass t status n bytes true bare is e = absurd cc
-left-pass t status n bytes false true is e = absurd cc
-left-pass t status n bytes false false is e = record {
+    t.reference (words_of bytes)) ≡ Pass n told → Spells t (Some bytes)
+left-pass t status told n bytes true bare is e = absurd cc
+left-pass t status told n bytes false true is e = absurd cc
+left-pass t status told n bytes false false is e = record {
   bytes = bytes;
   there = refl;
   within = ltb-false signature_limit (length bytes) is;
-  words = spelt-pass status n t.reference (words_of bytes) e;
+  words = spelt-pass status told n t.reference (words_of bytes) e;
 }
 
-pass-spells : (t : Task) (status : ℤ) (left : Option (List ℕ))
-    → verdict_on status t.reference left ≡ Pass (length t.reference) status → Spells t left
-pass-spells t status None e = absurd cc
-pass-spells t status (Some bytes) e = left-pass t status (length t.reference) bytes
+-- a pass with any numbers
+pub pass-spells : (t : Task) (status told : ℤ) (n : ℕ) (left : Option (List ℕ))
+    → verdict_on status t.reference left ≡ Pass n told → Spells t left
+pass-spells t status told n None e = absurd cc
+pass-spells t status told n (Some bytes) e = left-pass t status told n bytes
     (nat_lt signature_limit (length bytes)) (is_empty bytes && not (is_empty t.reference)) refl e
 
 -- an empty file spells no words
@@ -93,7 +95,7 @@ spells-pass t status bytes within words =
 pub passes : (t : Task) (status : ℤ) (left : Option (List ℕ))
     → (verdict_on status t.reference left ≡ Pass (length t.reference) status) ↔ Spells t left
 passes t status left = (
-  λ e. pass-spells t status left e,
+  λ e. pass-spells t status status (length t.reference) left e,
   λ s. subst
       (λ (l : Option (List ℕ)). verdict_on status t.reference l ≡ Pass (length t.reference) status)
       (sym s.there) (spells-pass t status s.bytes s.within s.words),

@@ -1,17 +1,18 @@
 -- What every call of `run` over a database promises.
 use Rattle.std.proofs.Common.{◌≡◌, ◌⊎◌, inl, inr, ℕ, true, is_some, List, [], ◌∷◌, ◌++◌, length}
 use Rattle.std.proofs.Common.{option_map, Option, Some, None, Result, Ok, Err, refl, sym, ap, subst}
-use Rattle.std.proofs.Common.{◌∙◌, append-nil}
+use Rattle.std.proofs.Common.{◌∙◌, append-nil, arith}
 use Rattle.rvs_base.specs.Host.{Files, Tells}
-use Rattle.rvs_base.specs.Sink.{appended}
+use Rattle.rvs_base.specs.Faults.{raised, Rose}
+use Rattle.rvs_base.specs.Sink.{SinkState, appended}
 use Rattle.rvs_base.specs.declared.host.DeviceRun.{DeviceRun}
-use Rattle.rvs_plan.specs.World.{Contents, contents}
-use Rattle.rvs_plan.specs.Account.{line_of}
+use Rattle.rvs_plan.specs.World.{World, Contents, contents}
+use Rattle.rvs_plan.specs.Account.{line_of, status_of, NoneRose, LosesSink}
 use Rattle.rvs_plan.specs.Effect.{Answer, Effect, Did, Out, after, Saw}
 use Rattle.rvs_plan.specs.Inputs.{part_end}
-use Rattle.rvs_plan.specs.Meets.{Completes}
+use Rattle.rvs_plan.specs.Meets.{Completes, Halts, HasCause}
 use Rattle.rvs_plan.specs.Performed.{end_of}
-use Rattle.rvs_plan.specs.Plan.{Ends, Goes, followed}
+use Rattle.rvs_plan.specs.Plan.{Plan, Ends, Goes, followed}
 use Rattle.rvs_plan.specs.declared.stop.Stop.{Stop}
 use Rattle.rvs_plan.specs.declared.stop.Stop.TheVariants as why
 use Rattle.rvs_plan.specs.declared.status.Finish.{Finish}
@@ -19,7 +20,8 @@ use Rattle.rvs_plan.specs.declared.status.Finish.TheVariants as finish
 use Rattle.rvs_plan.specs.declared.status.Status.TheVariants as answer
 use Rattle.rvs_device.proofs.Passing as passing
 use Rattle.rvs_suite.specs.Answered.{HasLeft}
-use Rattle.rvs_suite.specs.Call.{Call, world_of}
+use Rattle.rvs_device.specs.Judging.{Spells}
+use Rattle.rvs_suite.specs.Call.{Call, world_of, NothingFailed, AnswersOnly}
 use Rattle.rvs_suite.specs.DatabaseLeft.{made_in, Trial, with_trials, task_on, trial_lines}
 use Rattle.rvs_suite.specs.DatabaseLeft.{trials_passed, runs_of}
 use Rattle.rvs_suite.specs.GroupFiles.{and_then}
@@ -34,6 +36,8 @@ use Rattle.rvs_suite.specs.TestRun.{found_end, then_found, test_found}
 use Rattle.rvs_suite.specs.declared.judging.Made.{Made}
 use Rattle.rvs_suite.specs.declared.test_run.Run.{Run}
 use Rattle.rvs_suite.proofs.Answered.{RunsOn, ran-command}
+use Rattle.rvs_suite.proofs.DatabasePasses.{are-judged, never-stopped-at, never-failed}
+use Rattle.rvs_suite.proofs.DatabasePasses.{done-or-memory}
 use Rattle.rvs_suite.proofs.DatabaseReads.{finds-database-inputs}
 use Rattle.rvs_suite.proofs.DatabaseRuns.{TriedAll, EndedAt, tried-all}
 use Rattle.rvs_suite.proofs.DatabaseSpares.{database-spares}
@@ -101,6 +105,7 @@ has-judged call program work inputs files end effects before told all did =
     ∙ ap now (appended-twice out lines tally) in
     let tried = tried-now call bench files given all.trials tally before told new in
     let verdict : Ok end ≡ Ok (verdict_of_all (length given) passed) = ended.1 in
+    let is : end ≡ verdict_of_all (length given) passed = cc in
     record {
       trials = all.trials;
       tried = record {
@@ -109,7 +114,8 @@ has-judged call program work inputs files end effects before told all did =
         files_are = tried.1;
         out = tried.2;
       };
-      verdict = cc;
+      verdict = is;
+      means = are-judged bench files given all.trials end all.each is;
     }
 
 -- totals don't stop
@@ -279,6 +285,103 @@ is-made files bench given made is =
       named = ap (λ (m : Made). m.files) r.2;
     }
 
+-- ---- one selected test that passes
+given-left : {call : Call} (files : Files) (program work : List ℕ) (inputs : DatabaseInputs)
+    (end : Finish) (found : Result DatabaseInputs Stop) → found ≡ Ok inputs
+    → HasLeft found (HasJudged call files program work end)
+    → HasJudged call files program work end inputs
+given-left {call} files program work inputs end found is l =
+    let both : Ok l.given ≡ Ok inputs = sym l.accepted ∙ is in
+    let same : l.given ≡ inputs = cc in
+    subst (λ (g : DatabaseInputs). HasJudged call files program work end g) same l.left
+
+-- no stop behind its inputs, and none at them
+unstopped : {call : Call} (files : Files) (program work : List ℕ) (stop : Stop)
+    (inputs : DatabaseInputs) (given : Given) (made : Made) (found : Result DatabaseInputs Stop)
+    → found ≡ Ok inputs → chosen_in inputs ≡ given ∷ []
+    → made_in files (database_bench program work inputs) given ≡ Ok made
+    → ((found ≡ Err stop) × LeftAsItWas call)
+    ⊎ HasLeft found (HasStopped call files program work stop) → ⊥
+unstopped files program work stop inputs given made found is one accepted (inl kept) =
+    let both : Ok inputs ≡ Err stop = sym is ∙ kept.0 in cc
+unstopped {call} files program work stop inputs given made found is one accepted (inr at) =
+    let both : Ok at.given ≡ Ok inputs = sym at.accepted ∙ is in
+    let same : at.given ≡ inputs = cc in
+    never-stopped-at {call = call} files program work stop inputs given made one accepted
+    (subst (λ (g : DatabaseInputs). HasStopped call files program work stop g) same at.left)
+
+-- a fault of a sink is counted
+unlost : (plan : Plan Finish) (old new : World) (err err' : SinkState)
+    → NoneRose old new err err' → LosesSink plan old new err err' → ⊥
+unlost plan old new err err' none lost = elim lost.failed [
+  | inl output ↦ elim (subst (λ (s : Stop). (s ≡ why.Usage) ⊎ HasCause old new s) output
+      lost.cause) [
+        | inl usage ↦ cc
+        | inr rose ↦ none.output rose
+      ]
+  | inr raised ↦ none.errors (omega (arith, raised))
+]
+
+-- its words are a command
+unused : {call : Call} (files : Files) (asked : RunDatabaseArguments) (inputs : DatabaseInputs)
+    (given : Given) (made : Made) → RunsOn call files (RunDatabase asked)
+    → database_inputs_in files asked ≡ Ok inputs → chosen_in inputs ≡ given ∷ []
+    → made_in files (database_bench asked.program asked.work inputs) given ≡ Ok made
+    → (reason : Stop) → answer.Usage ≡ status_of reason
+    → Halts (run_database asked) (contents (world_of call.old)) (contents (world_of call.new))
+    reason
+    → call.new.err.bytes ≡ appended call.old.err.bytes (line_of reason) → ⊥
+unused {call} files asked inputs given made r is one accepted why.Usage named halts line =
+    unstopped {call = call} files asked.program asked.work why.Usage inputs given made
+    (database_inputs_in files asked) is one accepted
+    (left call files asked (Err why.Usage) r.told halts line)
+unused files asked inputs given made r is one accepted (why.Refused text) named halts line = cc
+unused files asked inputs given made r is one accepted (why.NoFile name) named halts line = cc
+unused files asked inputs given made r is one accepted (why.CannotRead name) named halts line = cc
+unused files asked inputs given made r is one accepted (why.CannotWrite name) named halts line = cc
+unused files asked inputs given made r is one accepted (why.CannotRun test) named halts line = cc
+unused files asked inputs given made r is one accepted why.NoMemory named halts line = cc
+unused files asked inputs given made r is one accepted why.SinkFault named halts line = cc
+
+alone : {call : Call} (files : Files) (asked : RunDatabaseArguments)
+    → RunsOn call files (RunDatabase asked)
+    → (inputs : DatabaseInputs) (given : Given) (made : Made) (before : List DeviceRun)
+    (run : DeviceRun) → database_inputs_in files asked ≡ Ok inputs
+    → chosen_in inputs ≡ given ∷ []
+    → made_in files (database_bench asked.program asked.work inputs) given ≡ Ok made
+    → call.old.host.runs ≡ Some before → call.new.host.runs ≡ Some (before ++ run ∷ [])
+    → Spells (task_on (database_bench asked.program asked.work inputs) made) run.after
+    → NothingFailed call → AnswersOnly call answer.Done
+alone {call} files asked r inputs given made before run is one accepted old new spells none =
+    let was = world_of call.old in
+    let now = world_of call.new in
+    let plan = run_database asked in
+    let at = at_status (ran-command r) files (RunDatabase asked) in
+    let never = unstopped {call = call} files asked.program asked.work in
+    done-or-memory call.status
+    (λ failed. never-failed {call = call} files asked.program asked.work inputs given made before
+    run one accepted old new spells
+    (given-left {call = call} files asked.program asked.work inputs finish.NotPassed
+    (database_inputs_in files asked) is
+    (left call files asked (Ok finish.NotPassed) r.told
+    (at answer.NotPassed r.told refl failed).completes)))
+    (λ usage. let said = at answer.Usage r.told refl usage in
+    unused {call = call} files asked inputs given made r is one accepted said.reason
+    said.status_is said.halts said.line)
+    (λ refused. let said = was_refused plan was now call.old.err call.new.err
+    (at answer.Refused r.told refl refused) in
+    never (why.Refused said.text) inputs given made (database_inputs_in files asked) is one accepted
+    (left call files asked (Err (why.Refused said.text)) r.told said.completes said.line))
+    (λ fault. elim (was_missing plan was now call.old.err call.new.err
+    (at answer.HostFault r.told refl fault)) [
+      | inl said ↦ never (why.NoFile said.name) inputs given made (database_inputs_in files asked)
+          is one accepted
+          (left call files asked (Err (why.NoFile said.name)) r.told said.completes said.line)
+      | inr rose ↦ none.host rose
+    ])
+    (λ lost. unlost plan was now call.old.err call.new.err none
+    (at answer.SinkFault r.told refl lost))
+
 -- ---- the promise
 pub judges_database : {call : Call} (files : Files) (asked : RunDatabaseArguments)
     → RunsOn call files (RunDatabase asked) → RunsDatabase call files asked
@@ -328,5 +431,6 @@ judges_database {call} files asked r =
       ];
       runs = is-made;
       passes = λ bench t. passing.passes (task_on bench t.made) t.run.status t.run.after;
+      alone = alone files asked r;
       others_kept = λ files' other. database-spares r.ran files files' asked other r.told r.asks;
     }

@@ -45,6 +45,7 @@ mod Counted
 mod Signed
 mod Standing
 mod Paths
+mod DatabasePasses
 mod DatabaseReads
 mod DatabaseSteps
 mod DatabaseMade

@@ -1,8 +1,9 @@
 -- What every call of `run` over a database promises.
 use Rattle.std.specs.Prelude.{◌≡◌, ◌≢◌, ◌⊎◌, ◌↔◌, ℕ, List, [], ◌∷◌, ◌++◌, length, Some, option_map}
-use Rattle.std.specs.Prelude.{None, Result, Ok, Err, Contains, IsTrue}
+use Rattle.std.specs.Prelude.{None, Result, Ok, Err, All, Contains, IsTrue}
 use Rattle.rvs_base.specs.Host.{Files, Tells}
 use Rattle.rvs_base.specs.Sink.{appended}
+use Rattle.rvs_base.specs.declared.host.DeviceRun.{DeviceRun}
 use Rattle.rvs_plan.specs.Account.{line_of}
 use Rattle.rvs_plan.specs.World.{contents}
 use Rattle.rvs_plan.specs.declared.stop.Stop.{Stop}
@@ -57,6 +58,16 @@ pub record HasTried (call : Call) (bench : Bench) (files : Files) (given : List 
   pub out : call.new.out.bytes
       ≡ appended call.old.out.bytes (trial_lines given trials ++ last)
 
+-- what the run of a trial left spells the words of the reference machine
+abbrev pub HasSpelled : Bench → Trial → Type 0
+HasSpelled bench t = Spells (task_on bench t.made) t.run.after
+
+-- all trials have, where the verdict on all is a pass; one hasn't, where it is none
+abbrev pub AreJudged : Bench → Finish → List Trial → Type 0
+AreJudged bench finish.Done trials = All (HasSpelled bench) trials
+AreJudged bench finish.NotPassed trials =
+    (t : Trial) × Contains trials t × (HasSpelled bench t → ⊥)
+
 -- every selected test was judged by one run of the device, and this is the verdict on all of them
 pub record HasJudged (call : Call) (files : Files) (program work : List ℕ) (end : Finish)
     (inputs : DatabaseInputs) : Type 0 where
@@ -64,6 +75,7 @@ pub record HasJudged (call : Call) (files : Files) (program work : List ℕ) (en
   pub tried : HasTried call (database_bench program work inputs) files (chosen_in inputs) trials
       (tally_line (length (chosen_in inputs)) (trials_passed 0 trials))
   pub verdict : end ≡ verdict_of_all (length (chosen_in inputs)) (trials_passed 0 trials)
+  pub means : AreJudged (database_bench program work inputs) end trials
 
 -- The tests before one were judged, and the work ended at this one, whose file isn't there or isn't
 -- accepted, whose run trapped, or didn't halt. Nothing was written or put of it, or of those behind
@@ -99,7 +111,7 @@ pub record IsMadeOf (files : Files) (bench : Bench) (given : Given) (made : Made
 abbrev pub PassesBySpelling : Bench → Trial → Type 0
 PassesBySpelling bench t =
     (trial_verdict t ≡ Pass (length t.made.words) t.run.status)
-    ↔ Spells (task_on bench t.made) t.run.after
+    ↔ HasSpelled bench t
 
 -- a file that is none of those that are written for a test
 pub record IsNoneOf (bench : Bench) (given : Given) (other : List ℕ) : Type 0 where
@@ -136,6 +148,16 @@ pub record RunsDatabase (call : Call) (files : Files) (asked : RunDatabaseArgume
       → made_in files' bench given ≡ Ok made → IsMadeOf files' bench given made
   -- a pass says that the device left the reference's words
   pub passes : (bench : Bench) (t : Trial) → PassesBySpelling bench t
+  -- where one test is selected, its file is accepted, and the one run on it left the reference's
+  -- words, it is done
+  pub alone : (inputs : DatabaseInputs) (given : Given) (made : Made) (before : List DeviceRun)
+      (run : DeviceRun) → database_inputs_in files asked ≡ Ok inputs
+      → chosen_in inputs ≡ given ∷ []
+      → made_in files (database_bench asked.program asked.work inputs) given ≡ Ok made
+      → call.old.host.runs ≡ Some before → call.new.host.runs ≡ Some (before ++ run ∷ [])
+      → Spells (task_on (database_bench asked.program asked.work inputs) made) run.after
+      → NothingFailed call
+      → AnswersOnly call Done
   -- it changes no file but those that are named by the places of its selected tests, however it
   -- ends
   pub others_kept : (files' : Files) (other : List ℕ)
