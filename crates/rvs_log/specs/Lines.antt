@@ -1,5 +1,5 @@
 -- The lines of a log.
-use Rattle.std.specs.Prelude.{ℕ, ◌==◌, nat_le, Bool, true, false, if◌then◌else◌, List, [], ◌∷◌}
+use Rattle.std.specs.Prelude.{ℕ, ◌==◌, nat_le, true, false, if◌then◌else◌, List, [], ◌∷◌}
 use Rattle.std.specs.Prelude.{◌++◌, length, Option, Some, None}
 use Rattle.rvs_base.specs.Lines.{without_return}
 use Rattle.rvs_log.specs.Grammar.{Reading, Nothing, reading_of}

@@ -1,5 +1,5 @@
 -- The ends of what a line is read as, each by itself.
-use Rattle.std.specs.Prelude.{ℕ, List, [], ◌∷◌, Option, Some, None, codes}
+use Rattle.std.specs.Prelude.{ℕ, List, Option, Some, codes}
 use Rattle.rvs_machine.specs.Written.{Write}
 use Rattle.rvs_log.specs.Grammar.{◌>>=◌, after_byte, after_privilege, after_some, after_text}
 use Rattle.rvs_log.specs.Grammar.{at_end, blank, hex_at, is_capital, spaced}
