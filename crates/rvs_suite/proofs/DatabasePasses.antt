@@ -52,46 +52,53 @@ not-spelled bench t fails spells =
     let no : true ≡ false = pass ∙ fails in cc
 
 -- ---- all trials
-same-length : (bench : Bench) (files : Files) (given : List Given) (ts : List Trial)
+same-length : (bench : Bench) (given : List Given) (ts : List Trial) (files : Files)
     → AreTrialsOf bench files given ts → length ts ≡ length given
-same-length bench files [] [] each = refl
-same-length bench files [] (t ∷ ts) each = absurd each
-same-length bench files (g ∷ given) [] each = absurd each
-same-length bench files (g ∷ given) (t ∷ ts) each =
-    ap (λ n. suc n) (same-length bench _ given ts each.1)
+same-length bench [] [] files each = refl
+same-length bench [] (t ∷ ts) files each = absurd each
+same-length bench (g ∷ given) [] files each = absurd each
+same-length bench (g ∷ given) (t ∷ ts) files each =
+    ap (λ n. suc n) (same-length bench given ts (with_trial t files) each.1)
 
 most : (n : ℕ) (ts : List Trial) → trials_passed n ts ≤ n + length ts
 most n [] = omega arith
-most n (t ∷ ts) = by-test (passes (trial_verdict t))
+most n (t ∷ ts) = by-test (passes (trial_verdict t)) (λ m. most m ts)
   where
-    by-test : (b : Bool) → trials_passed (with_one n b) ts ≤ n + suc (length ts)
-    by-test true = let h = most (n + 1) ts in omega (arith, h)
-    by-test false = let h = most n ts in omega (arith, h)
+    by-test : (b : Bool) → ((m : ℕ) → trials_passed m ts ≤ m + length ts)
+        → trials_passed (with_one n b) ts ≤ n + suc (length ts)
+    by-test true later = let h = later (n + 1) in omega (arith, h)
+    by-test false later = let h = later n in omega (arith, h)
 
 all-spelled : (bench : Bench) (n : ℕ) (ts : List Trial) → trials_passed n ts ≡ n + length ts
     → All (HasSpelled bench) ts
-all-spelled bench n [] e = All-nil
-all-spelled bench n (t ∷ ts) e = by-test (passes (trial_verdict t)) refl e
+all-spelled bench n [] e = All-nil (HasSpelled bench)
+all-spelled bench n (t ∷ ts) e =
+    by-test (passes (trial_verdict t)) refl e (λ m h. all-spelled bench m ts h)
   where
     by-test : (b : Bool) → passes (trial_verdict t) ≡ b
-        → trials_passed (with_one n b) ts ≡ n + suc (length ts) → All (HasSpelled bench) (t ∷ ts)
-    by-test true is e =
-        All-cons t ts (spelled-by bench t (trial_verdict t) refl is)
-        (all-spelled bench (n + 1) ts (omega (arith, e)))
-    by-test false is e = let h = most n ts in absurd (omega (arith, e, h))
+        → trials_passed (with_one n b) ts ≡ n + suc (length ts)
+        → ((m : ℕ) → trials_passed m ts ≡ m + length ts → All (HasSpelled bench) ts)
+        → All (HasSpelled bench) (t ∷ ts)
+    by-test true is e later =
+        All-cons (HasSpelled bench) t ts (spelled-by bench t (trial_verdict t) refl is)
+        (later (n + 1) (omega (arith, e)))
+    by-test false is e later = let h = most n ts in absurd (omega (arith, e, h))
 
 one-fails : (bench : Bench) (n : ℕ) (ts : List Trial) → trials_passed n ts ≢ n + length ts
     → (t : Trial) × Contains ts t × (HasSpelled bench t → ⊥)
 one-fails bench n [] e = absurd (e (omega arith))
-one-fails bench n (t ∷ ts) e = by-test (passes (trial_verdict t)) refl e
+one-fails bench n (t ∷ ts) e =
+    by-test (passes (trial_verdict t)) refl e (λ m h. one-fails bench m ts h)
   where
     by-test : (b : Bool) → passes (trial_verdict t) ≡ b
         → trials_passed (with_one n b) ts ≢ n + suc (length ts)
+        → ((m : ℕ) → trials_passed m ts ≢ m + length ts
+        → (s : Trial) × Contains ts s × (HasSpelled bench s → ⊥))
         → (s : Trial) × Contains (t ∷ ts) s × (HasSpelled bench s → ⊥)
-    by-test true is e =
-        let later = one-fails bench (n + 1) ts (λ h. e (omega (arith, h))) in
-        (later.0, Contains-append_right (t ∷ []) ts later.0 later.1, later.2)
-    by-test false is e = (t, (0, omega arith, refl), not-spelled bench t is)
+    by-test true is e later =
+        let s = later (n + 1) (λ h. e (omega (arith, h))) in
+        (s.0, Contains-append_right (t ∷ []) ts s.0 s.1, s.2)
+    by-test false is e later = (t, (0, omega arith, refl), not-spelled bench t is)
 
 judged-for : (bench : Bench) (ts : List Trial) (tests : ℕ) (end : Finish) (b : Bool)
     → length ts ≡ tests → (trials_passed 0 ts == tests) ≡ b
@@ -111,7 +118,7 @@ pub are-judged : (bench : Bench) (files : Files) (given : List Given) (ts : List
     → end ≡ verdict_of_all (length given) (trials_passed 0 ts) → AreJudged bench end ts
 are-judged bench files given ts end each verdict =
     judged-for bench ts (length given) end (trials_passed 0 ts == length given)
-    (same-length bench files given ts each) refl verdict
+    (same-length bench given ts files each) refl verdict
 
 -- ---- where one test is selected
 only-one : (before : List Given) (x g : Given) (behind : List Given)
