@@ -56,11 +56,6 @@ shl_other : (k i : ℕ) → k < 32 → i ≢ k → bit_at (shl k) i ≡ 0
 shl_other k i h o = ap (λ n. bit_at n i) (one_shl k 32 h) ∙ bit_at-pow_other k i o
 
 -- ---- a word has all of them
-one_min : (b : ℕ) → b < 2 → min 1 b ≡ b
-one_min zero h = refl
-one_min (suc zero) h = refl
-one_min (suc (suc b)) h = absurd (omega arith)
-
 -- a bit of a mask is one of the word's
 abbrev HasBit : ℕ → ℕ → ℕ → Type 0
 HasBit w m i = bit_at m i ≡ 1 → bit_at w i ≡ 1

@@ -59,15 +59,6 @@ finds-selection files asked = finds-and_then files (specification asked.isa)
     (λ said. finds-database files said.spec asked.database)
 
 -- ---- the inputs of a run over a database
-pub reads-database-inputs : (asked : RunDatabaseArguments) → OnlyReads (database_inputs asked)
-reads-database-inputs asked = OnlyReads-then (specification asked.isa)
-    (λ said. database_behind asked said.spec) (reads-specification asked.isa)
-    (λ said. OnlyReads-then (database_file said.spec asked.database)
-    (device_behind asked.device said.spec) (reads-database said.spec asked.database)
-    (λ entries. OnlyReads-then (device_file asked.device) (with_device said.spec entries)
-    (OnlyReads-then (input device_limit asked.device) (device.checks asked.device) (λ found. tt)
-    (λ bytes. tt)) (λ told. tt)))
-
 abbrev inputs-with : Isa → List Entry → Told → Result DatabaseInputs Stop
 inputs-with isa entries told = Ok (record { isa = isa; entries = entries; device = told })
 

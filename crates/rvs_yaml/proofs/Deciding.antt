@@ -235,16 +235,6 @@ closed-bracket poor line good b p outer c kind h e =
     let q = closed-as poor line good b p outer c h in
     q.1 ∙ ap (λ m. m >> into (q.0, good) outer) e
 
-pub closed-outer : (poor : Bool) (line : ℕ) (good : Bool) (b : Bracket) (p : FlowState)
-    (outer : List (Bracket × FlowState)) (c : Bracket) (kind : YamlKind)
-    → succeeds (closes line p) ≡ Ok tt → ends_with b (Some c) ≡ Ok tt
-    → ((v : Value) (fine : Bool) → succeeds (into (v, fine) outer) ≡ Err kind)
-    → closed poor line good b p outer c ≡ Err kind
-closed-outer poor line good b p outer c kind h e f =
-    let q = closed-as poor line good b p outer c h in
-    q.1 ∙ ap (λ m. m >> into (q.0, good) outer) e
-    ∙ fails_so (into (q.0, good) outer) kind (f q.0 good)
-
 closes-not : (poor : Bool) (line : ℕ) (p : FlowState) (kind : YamlKind)
     → succeeds (closes line p) ≡ Err kind → closed_by poor line p ≡ Err kind
 closes-not false line p kind h = fails_so (closes line p) kind h
@@ -282,16 +272,6 @@ pub closed-into : (poor : Bool) (line : ℕ) (good : Bool) (b : Bracket) (p : Fl
 closed-into poor line good b p outer c v e h =
     let q = ap (λ m. m >>= λ u. ends_with b (Some c) >> into (u, good) outer) e in
     q ∙ then-well (ends_with b (Some c)) (into (v, good) outer) (sym (ap succeeds q) ∙ h)
-
-pub closed-well : (poor : Bool) (line : ℕ) (good : Bool) (b : Bracket) (p : FlowState)
-    (outer : List (Bracket × FlowState)) (c : Bracket) → succeeds (closes line p) ≡ Ok tt
-    → ends_with b (Some c) ≡ Ok tt
-    → ((v : Value) (fine : Bool) → succeeds (into (v, fine) outer) ≡ Ok tt)
-    → (r : Reading) × (closed poor line good b p outer c ≡ Ok r)
-closed-well poor line good b p outer c h e f =
-    let q = closed-as poor line good b p outer c h in
-    let t = has_value (into (q.0, good) outer) (f q.0 good) in
-    (t.0, q.1 ∙ ap (λ m. m >> into (q.0, good) outer) e ∙ t.1)
 
 -- an alias with a name, where one may stand
 pub named-member : (known : Anchors) (p : FlowState) (vs : List Value) (name : List ℕ)
