@@ -2,3 +2,5 @@ pub mod Lists
 pub mod Ends
 pub mod Fronts
 pub mod Names
+mod Marks
+pub mod Splits

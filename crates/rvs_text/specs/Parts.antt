@@ -1,6 +1,6 @@
 -- Parts of a text.
-use Rattle.std.specs.Prelude.{ℕ, ◌-◌, ◌==◌, ◌&&◌, nat_lt, if◌then◌else◌, List, take, drop, length}
-use Rattle.std.specs.Prelude.{Option, Some, None, slice_index, bytes_eq}
+use Rattle.std.specs.Prelude.{ℕ, ◌-◌, ◌==◌, ◌&&◌, nat_lt, if◌then◌else◌, List, [], ◌∷◌, take, drop}
+use Rattle.std.specs.Prelude.{length, Option, Some, None, option_map, slice_index, bytes_eq}
 use Rattle.std.specs.List.{position_or_len, before_first, after_first, slice_split}
 use Rattle.rvs_text.specs.Spaces.{without_spaces}
 
@@ -26,6 +26,15 @@ around b text =
     if nat_lt (position_or_len (λ c. c == b) text) (length text)
     then Some (before_first (λ c. c == b) text, after_first (λ c. c == b) text)
     else None
+
+-- what stands before and behind these letters, where they stand first
+abbrev pub around_text : List ℕ → List ℕ → Option (List ℕ × List ℕ)
+around_text letters [] = None
+around_text letters (c ∷ cs) =
+    elim (behind letters (c ∷ cs)) [
+      | None ↦ option_map (λ p. (c ∷ p.0, p.1)) (around_text letters cs)
+      | Some rest ↦ Some ([], rest)
+    ]
 
 -- what stands between the bytes that are this one
 abbrev pub parts : ℕ → List ℕ → List (List ℕ)

@@ -1,5 +1,5 @@
 // Parts of a text.
-ghost use Rattle.std.specs.Prelude.{◌≡◌, ◌<◌, IfOk, map, option_map};
+ghost use Rattle.std.specs.Prelude.{◌≡◌, ◌<◌, IfOk, length, map, option_map};
 ghost use Rattle.rvs_text.specs.Parts as spec;
 
 use crate::spaces::without_spaces;
@@ -38,6 +38,15 @@ pub fn around(separator: char, text: &str) -> Option<(&str, &str)>
     ensures { option_map (λ p. (p.0.now, p.1.now)) result ≡ spec.around separator text.now }
 {
     text.split_once(separator)
+}
+
+/// What stands before and behind these letters, where they stand first.
+pub fn around_text<'t>(letters: &str, text: &'t str) -> Option<(&'t str, &'t str)>
+    requires { 0 < length letters.now }
+    ensures { option_map (λ p. (p.0.now, p.1.now)) result
+        ≡ spec.around_text letters.now text.now }
+{
+    text.split_once(letters)
 }
 
 /// What stands between the separators.

@@ -6,5 +6,5 @@ pub mod bytes;
 mod cutting;
 mod spaces;
 
-pub use cutting::{around, before_end, behind, behind_token, parts};
+pub use cutting::{around, around_text, before_end, behind, behind_token, parts};
 pub use spaces::{trimmed, without_spaces};
