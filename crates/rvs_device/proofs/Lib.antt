@@ -1,7 +1,6 @@
 mod Back
 pub mod Passing
 mod Scalars
-mod Behind
 mod Leaving
 pub mod Planned
 mod Filling

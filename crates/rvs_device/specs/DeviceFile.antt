@@ -1,8 +1,9 @@
 -- Device files: the device that a tree tells, or why it is refused.
-use Rattle.std.specs.Prelude.{◌≡◌, ◌≢◌, ℕ, ◌&&◌, not, if◌then◌else◌, List, map, Option, Some, None}
-use Rattle.std.specs.Prelude.{Result, Ok, Err, codes}
+use Rattle.std.specs.Prelude.{◌≢◌, ℕ, ◌&&◌, not, if◌then◌else◌, List, map, Option, Some, None}
+use Rattle.std.specs.Prelude.{Result, Ok, Err, ok_or, codes}
 use Rattle.std.specs.Option.{option_and_then}
 use Rattle.std.specs.List.{find, list_all}
+use Rattle.rvs_text.specs.Outcomes.{◌>>=◌, AnswersWith}
 use Rattle.rvs_tree.specs.Data.{Data, scalar, is_list, is_scalar, text_of, members_of, value_at}
 use Rattle.rvs_device.specs.Command.{has_program, is_known}
 use Rattle.rvs_device.specs.declared.refusals.DeviceRefusal.{DeviceRefusal}
@@ -19,16 +20,6 @@ pub record Told : Type 0 where
 abbrev pub Found : Type 0 → Type 0
 Found A = Result A DeviceRefusal
 
-infixl 10 ◌>>=◌
-abbrev pub ◌>>=◌ : {A B : Type 0} → Found A → (A → Found B) → Found B
-(Ok x) >>= f = f x
-(Err e) >>= f = Err e
-
--- the value is there, or this refusal is
-abbrev pub wanted : {A : Type 0} → Option A → DeviceRefusal → Found A
-wanted (Some x) refusal = Ok x
-wanted None refusal = Err refusal
-
 abbrev pub scalar_text : Data → Option (List ℕ)
 scalar_text (scalar text line) = Some text
 scalar_text _ = None
@@ -36,12 +27,12 @@ scalar_text _ = None
 -- the scalar `name` of a map
 abbrev pub name_in : Data → Found (List ℕ)
 name_in root =
-    wanted (option_and_then scalar_text (value_at (codes "name") root))
+    ok_or (option_and_then scalar_text (value_at (codes "name") root))
     (MissingEntry (codes "name"))
 
 -- the entry `command` of a map
 abbrev pub command_in : Data → Found Data
-command_in root = wanted (value_at (codes "command") root) (MissingEntry (codes "command"))
+command_in root = ok_or (value_at (codes "command") root) (MissingEntry (codes "command"))
 
 -- the texts of a list of scalars
 abbrev pub scalar_texts : Data → Option (List (List ℕ))
@@ -55,7 +46,7 @@ abbrev pub with_program : List (List ℕ) → Option (List (List ℕ))
 with_program words = if has_program words then Some words else None
 
 abbrev pub words_in : Data → Found (List (List ℕ))
-words_in entry = wanted (option_and_then with_program (scalar_texts entry)) BadCommand
+words_in entry = ok_or (option_and_then with_program (scalar_texts entry)) BadCommand
 
 -- the first word in which a `{` begins no placeholder
 abbrev pub unknown_in : List (List ℕ) → Option (List ℕ)
@@ -85,11 +76,6 @@ told_in root = do
   words ← command_words root
   Ok (record { name = name; command = words })
 
--- a call's answer, seen so, is what a check comes to, or want of memory
-abbrev pub AnswersWith : {A B : Type 0} → (A → B) → Result A DeviceRefusal → Found B → Type 0
-AnswersWith see (Ok x) found = found ≡ Ok (see x)
-AnswersWith see (Err e) found = e ≢ NoMemory → found ≡ Err e
-
 -- a call's answer is what a check comes to, or want of memory
 abbrev pub Answers : {A : Type 0} → Result A DeviceRefusal → Found A → Type 0
-Answers result found = AnswersWith (λ x. x) result found
+Answers result found = AnswersWith (λ e. e ≢ NoMemory) (λ x. x) result found

@@ -1,7 +1,8 @@
 -- What is read as an expression of one language has no names of the other.
 use Rattle.std.proofs.Common.{◌≡◌, ℕ, Bool, true, false, ◌&&◌, Ok, Err, refl, sym, ap, ◌∙◌, List}
 use Rattle.std.specs.Prelude.{nat_lt, length, if◌then◌else◌}
-use Rattle.rvs_expr_text.specs.Refusal.{Found, refused, ◌>>=◌, ◌>>◌}
+use Rattle.rvs_text.specs.Outcomes.{◌>>=◌, ◌>>◌}
+use Rattle.rvs_expr_text.specs.Refusal.{Found, refused}
 use Rattle.rvs_expr_text.specs.Tree as tree
 use Rattle.rvs_expr_text.specs.Tree.{Tree}
 use Rattle.rvs_expr_text.specs.Reading.{tree_of}

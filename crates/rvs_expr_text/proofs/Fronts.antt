@@ -1,7 +1,8 @@
 -- A fault among the tokens of a front is a fault of each text that begins with it.
 use Rattle.std.proofs.Common.{◌≡◌, ℕ, ◌≤◌, false, List, [], ◌∷◌, ◌++◌, length, refl, sym, ap, ◌∙◌}
 use Rattle.std.proofs.Common.{append_assoc, Ok, Err}
-use Rattle.rvs_expr_text.specs.Refusal.{Found, ◌>>=◌}
+use Rattle.rvs_text.specs.Outcomes.{◌>>=◌}
+use Rattle.rvs_expr_text.specs.Refusal.{Found}
 use Rattle.rvs_expr_text.specs.Tree.{Tree}
 use Rattle.rvs_expr_text.specs.Grammar.{flat, deepest}
 use Rattle.rvs_expr_text.specs.Tokens.{token, is_end}

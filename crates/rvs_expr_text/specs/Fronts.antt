@@ -1,6 +1,7 @@
 -- How a front of a text's tokens is read.
 use Rattle.std.specs.Prelude.{ℕ, List, [], ◌∷◌, Ok}
-use Rattle.rvs_expr_text.specs.Refusal.{Found, ◌>>=◌}
+use Rattle.rvs_text.specs.Outcomes.{◌>>=◌}
+use Rattle.rvs_expr_text.specs.Refusal.{Found}
 use Rattle.rvs_expr_text.specs.Tree.{Tree}
 use Rattle.rvs_expr_text.specs.Reading.{State, step, ended}
 use Rattle.rvs_expr_text.specs.declared.lexeme.Token.{Token}

@@ -1,6 +1,7 @@
 -- What stands at paths that no check reads changes nothing.
 use Rattle.std.proofs.Common.{◌≡◌, ℕ, ◌<◌, Bool, false, List, [], ◌∷◌, get_or, Option, Some, None}
-use Rattle.std.proofs.Common.{option_map, Ok, Err, All, codes, refl, ap, subst, sym, ◌∙◌, lit<}
+use Rattle.std.proofs.Common.{option_map, Ok, Err, ok_or, All, codes, refl, ap, subst, sym, ◌∙◌}
+use Rattle.std.proofs.Common.{lit<}
 use Rattle.rvs_tree.specs.Data.{Data, scalar, sequence, mapping}
 use Rattle.rvs_insn.specs.Isa.{Isa}
 use Rattle.rvs_isa.specs.declared.accepted_spec.AcceptedSpec.{AcceptedSpec}
@@ -15,7 +16,8 @@ use Rattle.rvs_isa.specs.Entries.{entry_at, only_member, number_in, isa_in, is_x
 use Rattle.rvs_isa.specs.Entries.{truth_in}
 use Rattle.rvs_isa.specs.Misa.{misa_word}
 use Rattle.rvs_isa.specs.Reads.{read_paths, seen, AreAlikeAt, core_in, OthersChangeNothing}
-use Rattle.rvs_isa.specs.Refusal.{Path, Found, holds, wanted, ◌>>=◌, ◌>>◌}
+use Rattle.rvs_text.specs.Outcomes.{holds, ◌>>=◌, ◌>>◌}
+use Rattle.rvs_isa.specs.Refusal.{Path, Found, refusal_at}
 
 -- ---- a check that sees no more of an entry than is seen of it
 as_seen : {B : Type 0} (f : Option Data → B) → ((d : Data) → f (Some d) ≡ f (Some (seen d)))
@@ -28,8 +30,10 @@ same : {B : Type 0} (f : Option Data → B) → ((d : Data) → f (Some d) ≡ f
 same f h o p e = as_seen f h o ∙ ap f e ∙ sym (as_seen f h p)
 
 abbrev number_at : Path → Option Data → Found ℕ
-number_at path o = wanted o path MissingEntry >>= (λ ids. wanted (only_member ids) path HartCount
-    >>= (λ id. wanted (number_in id) path BadNumber))
+number_at path o =
+    ok_or o (refusal_at path MissingEntry)
+    >>= (λ ids. ok_or (only_member ids) (refusal_at path HartCount)
+    >>= (λ id. ok_or (number_in id) (refusal_at path BadNumber)))
 
 number_seen : (path : Path) (d : Data) → number_at path (Some d) ≡ number_at path (Some (seen d))
 number_seen path (scalar text line) = refl
@@ -37,7 +41,7 @@ number_seen path (sequence ds line) = refl
 number_seen path (mapping es line) = refl
 
 abbrev map_at : Path → Option Data → Found (Unit {0})
-map_at path o = wanted o path MissingEntry >>= (λ d. is_a_map path d)
+map_at path o = ok_or o (refusal_at path MissingEntry) >>= (λ d. is_a_map path d)
 
 map_seen : (path : Path) (d : Data) → map_at path (Some d) ≡ map_at path (Some (seen d))
 map_seen path (scalar text line) = refl
@@ -45,7 +49,7 @@ map_seen path (sequence ds line) = refl
 map_seen path (mapping es line) = refl
 
 abbrev isa_at : Path → Option Data → Found Extensions
-isa_at path o = wanted o path MissingEntry >>= (λ isa. named (isa_in isa) path)
+isa_at path o = ok_or o (refusal_at path MissingEntry) >>= (λ isa. named (isa_in isa) path)
 
 isa_seen : (path : Path) (d : Data) → isa_at path (Some d) ≡ isa_at path (Some (seen d))
 isa_seen path (scalar text line) = refl
@@ -53,7 +57,7 @@ isa_seen path (sequence ds line) = refl
 isa_seen path (mapping es line) = refl
 
 abbrev xlen_at : Path → Option Data → Found (Unit {0})
-xlen_at path o = or_absent tt (λ d. holds (is_xlen d) path BadXlen) o
+xlen_at path o = or_absent tt (λ d. holds (is_xlen d) (refusal_at path BadXlen)) o
 
 xlen_seen : (path : Path) (d : Data) → xlen_at path (Some d) ≡ xlen_at path (Some (seen d))
 xlen_seen path (scalar text line) = refl
@@ -61,7 +65,7 @@ xlen_seen path (sequence ds line) = refl
 xlen_seen path (mapping es line) = refl
 
 abbrev size_at : Path → Option Data → Found ℕ
-size_at path o = or_absent 32 (λ d. wanted (address_size d) path BadAddressSize) o
+size_at path o = or_absent 32 (λ d. ok_or (address_size d) (refusal_at path BadAddressSize)) o
 
 size_seen : (path : Path) (d : Data) → size_at path (Some d) ≡ size_at path (Some (seen d))
 size_seen path (scalar text line) = refl
@@ -69,7 +73,7 @@ size_seen path (sequence ds line) = refl
 size_seen path (mapping es line) = refl
 
 abbrev truth_at : Path → Option Data → Found Bool
-truth_at path o = or_absent false (λ d. wanted (truth_in d) path BadTruth) o
+truth_at path o = or_absent false (λ d. ok_or (truth_in d) (refusal_at path BadTruth)) o
 
 truth_seen : (path : Path) (d : Data) → truth_at path (Some d) ≡ truth_at path (Some (seen d))
 truth_seen path (scalar text line) = refl

@@ -1,4 +1,4 @@
--- What stands behind letters at the front of a text.
+-- Texts that begin with letters.
 use Rattle.std.proofs.Common.{◌≡◌, ◌≢◌, ℕ, ◌+◌, Bool, true, false, if◌then◌else◌, List, ◌++◌}
 use Rattle.std.proofs.Common.{length, take, drop, Option, Some, None, option_map, bytes_eq, Bor}
 use Rattle.std.proofs.Common.{MatchOption, refl, sym, ap, ◌∙◌}
@@ -6,10 +6,10 @@ use Rattle.std.specs.Str.{IsCharBoundary}
 use Rattle.std.proofs.lemmas.Slice.Eq.{bytes_eq-Decides}
 use Rattle.std.proofs.Math.Seq.{take-append_seam}
 use Rattle.std.proofs.lemmas.List.{take-append-drop}
-use Rattle.rvs_device.specs.Command.{behind}
+use Rattle.rvs_text.specs.Parts.{behind}
 
 -- the text begins with the letters
-at_front : (letters text : List ℕ) → text ≡ letters ++ drop (length letters) text
+pub at_front : (letters text : List ℕ) → text ≡ letters ++ drop (length letters) text
     → behind letters text ≡ Some (drop (length letters) text)
 at_front letters text is =
     let front : take (length letters) text ≡ letters =
@@ -29,6 +29,11 @@ elsewhere letters text true is unlike =
     absurd (unlike (drop (length letters) text) (sym (take-append-drop (length letters) text)
     ∙ ap (λ (xs : List ℕ). xs ++ drop (length letters) text) front))
 
+pub not_in_front : (letters text : List ℕ) → ((rest : List ℕ) → text ≢ letters ++ rest)
+    → behind letters text ≡ None
+not_in_front letters text unlike =
+    elsewhere letters text (bytes_eq (take (length letters) text) letters) refl unlike
+
 -- what `strip_prefix` says
 pub behind-stripped : (letters text : List ℕ) (r : Option (Bor (List ℕ)))
     → MatchOption r ((rest : List ℕ) → text ≢ letters ++ rest)
@@ -37,7 +42,7 @@ pub behind-stripped : (letters text : List ℕ) (r : Option (Bor (List ℕ)))
     ≡ length text))
     → option_map (λ x. x.now) r ≡ behind letters text
 behind-stripped letters text None unlike =
-    sym (elsewhere letters text (bytes_eq (take (length letters) text) letters) refl unlike)
+    sym (not_in_front letters text unlike)
 behind-stripped letters text (Some x) s =
     let n : s.0 ≡ length letters = s.1.0 in
     let is : text ≡ letters ++ drop (length letters) text =

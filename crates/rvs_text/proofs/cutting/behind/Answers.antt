@@ -1,5 +1,5 @@
-use Rattle.rvs_device.proofs.Behind.{behind-stripped}
-use Rattle.rvs_device.proofs.words.behind.Goals as goal
+use Rattle.rvs_text.proofs.Fronts.{behind-stripped}
+use Rattle.rvs_text.proofs.cutting.behind.Goals as goal
 
 pub returns : goal.returns
 returns c = behind-stripped c.args.letters.now c.args.text.now c.strip_prefix.result

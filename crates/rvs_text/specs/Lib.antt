@@ -1,0 +1,5 @@
+pub mod Outcomes
+pub mod Options
+pub mod Bytes
+pub mod Spaces
+pub mod Parts

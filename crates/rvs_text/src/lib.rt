@@ -1,0 +1,10 @@
+//! Texts, below all readers: names at their front, spaces at their ends, and their parts. `bytes`
+//! has for bytes what stands here for texts.
+#![tactic(auto)]
+
+pub mod bytes;
+mod cutting;
+mod spaces;
+
+pub use cutting::{around, around_text, before_end, behind, behind_token, parts};
+pub use spaces::{trimmed, without_spaces};
