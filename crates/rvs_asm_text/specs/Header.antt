@@ -11,9 +11,13 @@ after_front [] text = Some text
 after_front (p ∷ ps) [] = None
 after_front (p ∷ ps) (c ∷ cs) = if c == p then after_front ps cs else None
 
--- from 1 to 2,000,000
+-- the most steps that a test may take
+abbrev pub most_steps : ℕ
+most_steps = 2_000_000
+
+-- from 1 to as many
 abbrev pub allowed : ℕ → Option ℕ
-allowed n = if nat_le 1 n && nat_le n 2000000 then Some n else None
+allowed n = if nat_le 1 n && nat_le n most_steps then Some n else None
 
 -- one to seven digits
 abbrev pub steps_number : List ℕ → Option ℕ

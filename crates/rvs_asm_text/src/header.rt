@@ -6,12 +6,15 @@ ghost use Rattle.rvs_asm_text.specs.Header.{after_front, steps_number, steps_lin
 use crate::cutting::first_line;
 use rvs_base::short_number;
 
+/// The most steps that a test may take.
+const MOST_STEPS: u64 = 2_000_000;
+
 /// The number of steps that digits allow: one to seven of them, from 1 to 2,000,000.
 fn allowed_steps(text: &[u8]) -> Option<u64>
     ensures { result ≡ steps_number text.now }
 {
     let steps = short_number(7, 10, text)?;
-    if steps >= 1 && steps <= 2_000_000 {
+    if steps >= 1 && steps <= MOST_STEPS {
         Some(steps)
     } else {
         None

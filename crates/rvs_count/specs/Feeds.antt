@@ -1,5 +1,5 @@
 -- A file that was fed to a counter.
-use Rattle.std.specs.Prelude.{◌≡◌, ℕ, ◌+◌, ◌^◌, ◌<◌, List, ◌++◌, length, Some}
+use Rattle.std.specs.Prelude.{◌≡◌, ℕ, ◌+◌, ◌<◌, List, ◌++◌, length, Some}
 use Rattle.rvs_base.specs.Faults.{raised}
 use Rattle.rvs_base.specs.Host.{HostState, Files, Tells, LacksFile}
 use Rattle.rvs_base.specs.declared.host.OpenFault.{OpenFault}
@@ -9,6 +9,11 @@ use Rattle.rvs_count.specs.declared.file.LogFault.{LogFault}
 use Rattle.rvs_count.specs.declared.file.LogFault.TheVariants.{NoFile, Failed, TooLong}
 use Rattle.rvs_base.specs.declared.asked.Window.{Window}
 use Rattle.rvs_count.specs.State.{CountState, state_of}
+use Rattle.rvs_log.specs.Lines.{log_limit}
+
+-- a log is read in pieces of at most this many bytes
+abbrev pub piece_limit : ℕ
+piece_limit = 16384
 
 -- these bytes were fed after all that came before
 pub record Fed (c c' : CountState) (bytes : List ℕ) : Type 0 where
@@ -33,7 +38,7 @@ pub record FeedsFront (name : List ℕ) (old : HostState) (c c' : CountState) : 
 -- the file's bytes would be more than may be fed
 pub record IsLong (name : List ℕ) (old : HostState) (c : CountState) : Type 0 where
   pub longer : (files : Files) → Tells old files
-      → (file : List ℕ) × (files name ≡ Some file) × (2 ^ 40 < c.fed + length file)
+      → (file : List ℕ) × (files name ≡ Some file) × (log_limit < c.fed + length file)
 
 -- when a log isn't fed to its end
 abbrev pub FeedCause : List ℕ → HostState → HostState → CountState → CountState → LogFault → Type 0

@@ -8,6 +8,7 @@ ghost use Rattle.rvs_base.specs.declared.asked.Window.{Window as Span};
 ghost use Rattle.rvs_count.specs.Report.{report_of};
 ghost use Rattle.rvs_count.specs.State.{ended, state_of, state_with, with_all, with_reading};
 ghost use Rattle.rvs_log.specs.Lines.{held_says};
+ghost use Rattle.rvs_log.specs.Lines.{log_limit};
 
 use crate::tally::Tally;
 use rvs_base::{Items, NoMemory, Text, Window};
@@ -46,7 +47,7 @@ impl<'g> Model for Counter<'g> {
     ghost view = { λ c. record { tally = c.tally; waiting = c.follow; fed = c.fed } };
 
     ghost invariant = { λ c. (c.tally.instructions + waiting_len c.follow ≤ c.fed)
-        × (c.fed ≤ 2 ^ 40) };
+        × (c.fed ≤ log_limit) };
 }
 
 /// The bytes from a place on.
@@ -59,7 +60,7 @@ fn back_of(bytes: &[u8], at: usize) -> &[u8]
 
 /// Takes more bytes.
 fn take_all(tally: &mut Tally<'_>, follow: &mut Follow, piece: &[u8])
-    requires { tally.old.instructions + waiting_len follow.old + length piece.now ≤ 2 ^ 40 }
+    requires { tally.old.instructions + waiting_len follow.old + length piece.now ≤ log_limit }
     ensures state { (fed : ℕ) → with_all (state_with tally.old follow.old fed) piece.now
         ≡ state_with tally.new follow.new fed }
     ensures low { tally.new.instructions + waiting_len follow.new
@@ -79,7 +80,7 @@ fn take_all(tally: &mut Tally<'_>, follow: &mut Follow, piece: &[u8])
 
 /// Takes the bytes after the last line feed as a line, where there are any.
 fn take_last(tally: &mut Tally<'_>, follow: &mut Follow)
-    requires { tally.old.instructions + waiting_len follow.old ≤ 2 ^ 40 }
+    requires { tally.old.instructions + waiting_len follow.old ≤ log_limit }
     ensures tally { tally.new ≡ with_reading tally.old (held_says follow.old) }
     ensures follow { follow.new ≡ Some [] }
 {
@@ -122,7 +123,7 @@ impl<'g> Counter<'g> {
             self.new ≡ state_of labels windows (bytes ++ piece.now) (n + length piece.now)) }
         ensures fed { OnOk result (self.new.fed ≡ self.old.fed + length piece.now) }
         ensures unchanged { OnErr result (self.new ≡ self.old) }
-        ensures too_long { IsErr result ↔ (2 ^ 40 < self.old.fed + length piece.now) }
+        ensures too_long { IsErr result ↔ (log_limit < self.old.fed + length piece.now) }
     {
         if piece.len() as u64 > MOST - self.fed {
             return Err(LogTooLong);

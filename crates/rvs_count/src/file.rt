@@ -2,7 +2,8 @@
 ghost use Rattle.std.specs.Prelude.{◌≡◌, ◌≤◌, ◌+◌, ◌-◌, ◌^◌, IfErr, OnOk, OnErr, length, take};
 ghost use Rattle.rvs_base.specs.File.{TakesAtMost};
 ghost use Rattle.rvs_base.specs.Host.{ReadsOnly};
-ghost use Rattle.rvs_count.specs.Feeds.{FeedCause, FeedsFile, FeedsFront};
+ghost use Rattle.rvs_count.specs.Feeds.{FeedCause, FeedsFile, FeedsFront, piece_limit};
+ghost use Rattle.rvs_log.specs.Lines.{log_limit};
 
 use crate::counter::{Counter, LogTooLong};
 use rvs_base::{Failed, Host, OpenFault};
@@ -84,7 +85,7 @@ pub fn count_file<H: Host>(
     ensures front { OnErr result (FeedsFront name.now (H.state host.old) counter.old counter.new) }
     ensures cause { IfErr result
         (FeedCause name.now (H.state host.old) (H.state host.new) counter.old counter.new) }
-    ensures at_most { TakesAtMost name.now (2 ^ 40 - counter.old.fed + 16384)
+    ensures at_most { TakesAtMost name.now (log_limit - counter.old.fed + piece_limit)
         (H.state host.old) (H.state host.new) }
 {
     host.open_read(name)?;

@@ -5,6 +5,7 @@ ghost use Rattle.rvs_cgf.specs.declared.group.Label.{Label as Group};
 ghost use Rattle.rvs_count.specs.Counting.{aims_in, count, kept};
 ghost use Rattle.rvs_base.specs.declared.asked.Window.{Window as Span};
 ghost use Rattle.rvs_count.specs.State.{state_of};
+ghost use Rattle.rvs_log.specs.Lines.{log_limit};
 
 use crate::counter::Counter;
 use rvs_base::{Items, NoMemory, Window};
@@ -21,7 +22,7 @@ pub struct Counted {
 /// Feeds a whole log to a new counter.
 fn feed_whole(counter: &mut Counter<'_>, log: &[u8])
     requires new { counter.old.fed ≡ 0 }
-    requires short { length log.now ≤ 2 ^ 40 }
+    requires short { length log.now ≤ log_limit }
     ensures { (labels : List Group) (windows : List Span) (bytes : List ℕ) (n : ℕ) →
         counter.old ≡ state_of labels windows bytes n →
         counter.new ≡ state_of labels windows (bytes ++ log.now) (n + length log.now) }
@@ -43,7 +44,7 @@ pub fn count_log(
     windows: Items<Window>,
     log: &[u8],
 ) -> Result<Counted, NoMemory>
-    requires { length log.now ≤ 2 ^ 40 }
+    requires { length log.now ≤ log_limit }
     ensures counts { IfOk result (λ c. c.counts
         ≡ map (count (kept windows (entries_of log.now))) (aims_in groups.now)) }
     ensures instructions { IfOk result (λ c. c.instructions

@@ -6,13 +6,14 @@ ghost use Rattle.rvs_log.specs.Logs.{log_of};
 ghost use Rattle.rvs_log.specs.Written.{line_of};
 ghost use Rattle.rvs_count.specs.Feeds.{Fed};
 ghost use Rattle.rvs_demo.specs.Counted.{executed_in, goes_on};
+ghost use Rattle.rvs_log.specs.Lines.{log_limit};
 
 use rvs_count::Counter;
 use rvs_log::log_line;
 use rvs_machine::{Event, Executed, Machine};
 
 fn feed(counter: &mut Counter<'_>, piece: &[u8])
-    requires { counter.old.fed + length piece.now ≤ 2 ^ 40 }
+    requires { counter.old.fed + length piece.now ≤ log_limit }
     ensures { Fed counter.old counter.new piece.now }
 {
     match counter.feed(piece) {
@@ -23,7 +24,7 @@ fn feed(counter: &mut Counter<'_>, piece: &[u8])
 
 /// Feeds the line of an executed instruction.
 fn feed_line(counter: &mut Counter<'_>, executed: &Executed)
-    requires { counter.old.fed + 65 ≤ 2 ^ 40 }
+    requires { counter.old.fed + 65 ≤ log_limit }
     ensures line { Fed counter.old counter.new (line_of executed.now ++ 10 ∷ []) }
     ensures low { counter.new.fed ≤ counter.old.fed + 65 }
 {
@@ -34,7 +35,7 @@ fn feed_line(counter: &mut Counter<'_>, executed: &Executed)
 
 /// Makes a step, and counts what was executed; whether the run goes on.
 fn count_step(machine: &mut Machine, counter: &mut Counter<'_>) -> bool
-    requires { counter.old.fed + 65 ≤ 2 ^ 40 }
+    requires { counter.old.fed + 65 ≤ log_limit }
     ensures goes { result ≡ goes_on (step_of machine.old.setup machine.old.state).0 }
     ensures machine { machine.new
         ≡ record machine.old { state = (step_of machine.old.setup machine.old.state).1 } }
@@ -58,7 +59,7 @@ fn count_step(machine: &mut Machine, counter: &mut Counter<'_>) -> bool
 /// Runs a machine for at most so many steps, and counts what is executed, line by line, as it
 /// comes. It takes no memory.
 pub(crate) fn count_run(machine: &mut Machine, counter: &mut Counter<'_>, limit: u64)
-    requires { counter.old.fed + 65 * limit ≤ 2 ^ 40 }
+    requires { counter.old.fed + 65 * limit ≤ log_limit }
     ensures { Fed counter.old counter.new
         (log_of (run_of machine.old.setup limit machine.old.state).trace) }
 {

@@ -1,5 +1,5 @@
 -- The lines of a log.
-use Rattle.std.specs.Prelude.{ℕ, ◌==◌, nat_le, true, false, if◌then◌else◌, List, [], ◌∷◌}
+use Rattle.std.specs.Prelude.{ℕ, ◌^◌, ◌==◌, nat_le, true, false, if◌then◌else◌, List, [], ◌∷◌}
 use Rattle.std.specs.Prelude.{◌++◌, length, Option, Some, None}
 use Rattle.rvs_base.specs.Lines.{without_return}
 use Rattle.rvs_log.specs.Grammar.{Reading, Nothing, reading_of}
@@ -37,14 +37,21 @@ last_line (b ∷ bs) = (b ∷ bs) ∷ []
 abbrev pub lines_of : List ℕ → List (List ℕ)
 lines_of bytes = whole_lines bytes ++ last_line (tail_of bytes)
 
--- what a line of a log says, which is nothing where it has over 4,096 bytes with its carriage
--- return
-abbrev pub line_says : List ℕ → Reading
-line_says line = if nat_le (length line) 4096 then reading_of (without_return line) else Nothing
+-- a log has at most this many bytes
+abbrev pub log_limit : ℕ
+log_limit = 2 ^ 40
 
--- the front of a line whose end hasn't come, or none where it is over 4,096 bytes
+-- the longest line that is read, with its carriage return
+abbrev pub longest : ℕ
+longest = 4096
+
+-- what a line of a log says, which is nothing where it is longer
+abbrev pub line_says : List ℕ → Reading
+line_says line = if nat_le (length line) longest then reading_of (without_return line) else Nothing
+
+-- the front of a line whose end hasn't come, or none where it is longer
 abbrev pub held : List ℕ → Option (List ℕ)
-held bytes = if nat_le (length bytes) 4096 then Some bytes else None
+held bytes = if nat_le (length bytes) longest then Some bytes else None
 
 -- more bytes of a line
 abbrev pub held_more : Option (List ℕ) → List ℕ → Option (List ℕ)

@@ -8,7 +8,7 @@ use Rattle.rvs_machine.specs.declared.reading.ImageKind.TheVariants.{BadRegion}
 use Rattle.rvs_machine.specs.declared.reading.ImageRefusal.{ImageRefusal}
 use Rattle.rvs_machine.specs.declared.reading.Addresses.{Addresses}
 use Rattle.rvs_machine.specs.Image.{ImageValue, is_image}
-use Rattle.rvs_machine.specs.ImageText.{refusal, image_of_bytes}
+use Rattle.rvs_machine.specs.ImageText.{refusal, most_text, most_data, image_of_bytes}
 
 -- a line of a name and digits, and what follows it
 abbrev pub line_of : List ℕ → List ℕ → List ℕ → List ℕ
@@ -46,8 +46,8 @@ judged image = if is_image image then Ok image else Err (refusal 0 BadRegion)
 abbrev pub FilesReadBack : Type 0
 FilesReadBack =
     (text ram : List ℕ) (at : Addresses) → AreWords text → AreWords ram
-    → AreWords (at.tohost ∷ at.sig_begin ∷ at.sig_end ∷ []) → length text ≤ 4_194_304
-    → length ram ≤ 262_144
+    → AreWords (at.tohost ∷ at.sig_begin ∷ at.sig_end ∷ []) → length text ≤ most_text
+    → length ram ≤ most_data
     → image_of_bytes (file_of text ram at) ≡ judged (record {
       text = bytes_of text;
       data_bytes = bytes_of ram;

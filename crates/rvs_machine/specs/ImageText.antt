@@ -1,5 +1,5 @@
 -- The image file: what its bytes say, line by line, or the first line that is faulty.
-use Rattle.std.specs.Prelude.{◌≡◌, ◌⊎◌, ℕ, zero, suc, ◌==◌, nat_le, nat_eq, if◌then◌else◌, Option}
+use Rattle.std.specs.Prelude.{◌≡◌, ◌⊎◌, ℕ, zero, suc, ◌/◌, ◌==◌, nat_le, nat_eq, if◌then◌else◌, Option}
 use Rattle.std.specs.Prelude.{Some, None, Result, Ok, Err, List, [], ◌++◌, length, drop, codes}
 use Rattle.std.specs.Prelude.{option_and_then}
 use Rattle.std.specs.List.{starts_with}
@@ -11,7 +11,7 @@ use Rattle.rvs_machine.specs.declared.reading.ImageKind.TheVariants.{BadLine, Ba
 use Rattle.rvs_machine.specs.declared.reading.ImageKind.TheVariants.{NoMemory}
 use Rattle.rvs_machine.specs.declared.reading.ImageRefusal.{ImageRefusal}
 use Rattle.rvs_machine.specs.declared.reading.Addresses.{Addresses}
-use Rattle.rvs_machine.specs.Image.{ImageValue, is_image}
+use Rattle.rvs_machine.specs.Image.{ImageValue, text_limit, data_limit, is_image}
 use Rattle.rvs_machine.specs.FileLines.{Rest, taken}
 
 -- ---- the parts of a line
@@ -118,12 +118,19 @@ whole text ram a r =
       symbols = [];
     }) (taken r)
 
--- the text has at most 4,194,304 words and the data at most 262,144
+-- the most words of text and of data
+abbrev pub most_text : ℕ
+most_text = text_limit / 4
+
+abbrev pub most_data : ℕ
+most_data = data_limit / 4
+
+-- an image file: text, data and addresses
 unfoldable pub image_of_bytes : List ℕ → Result ImageValue ImageRefusal
 image_of_bytes bytes =
     and_then (header (record { bytes = bytes; line = 1 }))
-    (λ r. and_then (section (codes "text ") 4_194_304 r)
-    (λ t. and_then (section (codes "data ") 262_144 t.1)
+    (λ r. and_then (section (codes "text ") most_text r)
+    (λ t. and_then (section (codes "data ") most_data t.1)
     (λ d. and_then (address_lines d.1) (λ a.
     whole t.0 d.0 a.0 a.1))))
 

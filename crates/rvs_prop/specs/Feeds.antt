@@ -1,11 +1,12 @@
 -- A file that was fed to a tracker.
-use Rattle.std.specs.Prelude.{◌≡◌, ℕ, ◌+◌, ◌^◌, ◌<◌, List, ◌++◌, length, Some}
+use Rattle.std.specs.Prelude.{◌≡◌, ℕ, ◌+◌, ◌<◌, List, ◌++◌, length, Some}
 use Rattle.rvs_base.specs.Faults.{raised}
 use Rattle.rvs_base.specs.Host.{HostState, Files, Tells, LacksFile}
 use Rattle.rvs_cgf.specs.declared.group.Label.{Label}
 use Rattle.rvs_count.specs.declared.file.LogFault.{LogFault}
 use Rattle.rvs_count.specs.declared.file.LogFault.TheVariants.{NoFile, Failed, TooLong}
 use Rattle.rvs_prop.specs.State.{TrackState, state_of}
+use Rattle.rvs_log.specs.Lines.{log_limit}
 
 -- these bytes were fed after all that came before
 pub record Fed (c c' : TrackState) (bytes : List ℕ) : Type 0 where
@@ -30,7 +31,7 @@ pub record FeedsFront (name : List ℕ) (old : HostState) (c c' : TrackState) : 
 -- the file's bytes would be more than may be fed
 pub record IsLong (name : List ℕ) (old : HostState) (c : TrackState) : Type 0 where
   pub longer : (files : Files) → Tells old files
-      → (file : List ℕ) × (files name ≡ Some file) × (2 ^ 40 < c.fed + length file)
+      → (file : List ℕ) × (files name ≡ Some file) × (log_limit < c.fed + length file)
 
 -- when a log isn't fed to its end
 abbrev pub FeedCause : List ℕ → HostState → HostState → TrackState → TrackState → LogFault → Type 0

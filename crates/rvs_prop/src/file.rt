@@ -2,7 +2,9 @@
 ghost use Rattle.std.specs.Prelude.{◌≡◌, ◌≤◌, ◌+◌, ◌-◌, ◌^◌, IfErr, OnOk, OnErr, length, take};
 ghost use Rattle.rvs_base.specs.File.{TakesAtMost};
 ghost use Rattle.rvs_base.specs.Host.{ReadsOnly};
+ghost use Rattle.rvs_count.specs.Feeds.{piece_limit};
 ghost use Rattle.rvs_prop.specs.Feeds.{FeedCause, FeedsFile, FeedsFront};
+ghost use Rattle.rvs_log.specs.Lines.{log_limit};
 
 use crate::tracker::{TooLong, Tracker};
 use rvs_base::Host;
@@ -47,7 +49,7 @@ pub fn track_file<H: Host>(
     ensures front { OnErr result (FeedsFront name.now (H.state host.old) tracker.old tracker.new) }
     ensures cause { IfErr result
         (FeedCause name.now (H.state host.old) (H.state host.new) tracker.old tracker.new) }
-    ensures at_most { TakesAtMost name.now (2 ^ 40 - tracker.old.fed + 16384)
+    ensures at_most { TakesAtMost name.now (log_limit - tracker.old.fed + piece_limit)
         (H.state host.old) (H.state host.new) }
 {
     host.open_read(name)?;

@@ -2,7 +2,7 @@
 ghost use Rattle.std.specs.Prelude.{◌≡◌, ◌≤◌, ◌<◌, ◌⊎◌, [], IfErr, IfOk, MatchOption, length};
 ghost use Rattle.rvs_sig.specs.Digits.{AreWorths};
 ghost use Rattle.rvs_sig.specs.Words.{HasLine, digits_of_line, text_of_words, word_of_line};
-ghost use Rattle.rvs_sig.specs.Words.{words_of};
+ghost use Rattle.rvs_sig.specs.Words.{most_lines, words_of};
 
 use crate::digits::{digits_line, worths};
 use rvs_base::{Items, NoMemory, Text, first_line, hex_word};
@@ -71,7 +71,7 @@ pub fn read_words(alloc: Global, bytes: &[u8]) -> Result<Items<u32>, SigRefusal>
 pub fn print_words(alloc: Global, words: &[u32]) -> Result<Text, NoMemory>
     ensures text { IfOk result (λ text. text ≡ text_of_words words.now) }
     ensures read_again { IfOk result
-        (λ text. length words.now ≤ 262144 → words_of text ≡ Ok words.now) }
+        (λ text. length words.now ≤ most_lines → words_of text ≡ Ok words.now) }
 {
     let mut bytes = Vec::new(alloc);
     for word in words {

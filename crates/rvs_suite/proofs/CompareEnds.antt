@@ -12,7 +12,8 @@ use Rattle.rvs_sig.specs.Verdicts.{verdict_of}
 use Rattle.rvs_sig.specs.Words.{words_of}
 use Rattle.rvs_sig.specs.declared.comparison.Verdict.{Verdict}
 use Rattle.rvs_suite.specs.Call.{Call}
-use Rattle.rvs_suite.specs.Compare.{signature_limit, signature, words, words_end, verdict_finish}
+use Rattle.rvs_device.specs.Judged.{signature_limit}
+use Rattle.rvs_suite.specs.Compare.{signature, words, words_end, verdict_finish}
 use Rattle.rvs_suite.specs.Compare.{announce, compare_right, compare}
 use Rattle.rvs_suite.specs.Comparing as comparing
 use Rattle.rvs_suite.specs.Comparing.{Both, words_in, both_in}

@@ -16,6 +16,7 @@ use Rattle.rvs_plan.specs.declared.stop.Stop.TheVariants as why
 use Rattle.rvs_plan.specs.declared.status.Status.{Status}
 use Rattle.rvs_plan.specs.declared.status.Status.TheVariants as answer
 use Rattle.rvs_plan.specs.declared.status.Finish.{Finish}
+use Rattle.rvs_device.specs.Judged.{signature_limit}
 use Rattle.rvs_insn.specs.Isa.{Isa}
 use Rattle.rvs_suite.specs.Compare as comparing
 use Rattle.rvs_suite.specs.Validate.{print_said}
@@ -113,7 +114,7 @@ untouched-then (Asks name rest) next reads each (Device words test signature ans
 untouched-then (Asks name rest) next reads each (Did deed ∷ effects) stop c goes = absurd goes
 
 reads-signature : (name : List ℕ) → OnlyReads (comparing.signature name)
-reads-signature name = OnlyReads-then (input comparing.signature_limit name) (comparing.words name)
+reads-signature name = OnlyReads-then (input signature_limit name) (comparing.words name)
     (λ found. tt) (λ bytes. tt)
 
 reads-trial : (steps : Option ℕ) (isa : Isa) (test : List ℕ) → OnlyReads (trial steps isa test)

@@ -6,6 +6,7 @@ use Rattle.rvs_plan.specs.declared.stop.Stop.{Stop}
 use Rattle.rvs_plan.specs.declared.stop.Stop.TheVariants.{Refused}
 use Rattle.rvs_plan.specs.declared.status.Finish.{Finish}
 use Rattle.rvs_plan.specs.declared.status.Finish.TheVariants.{Done, NotPassed}
+use Rattle.rvs_device.specs.Judged.{signature_limit}
 use Rattle.rvs_sig.specs.Words.{words_of}
 use Rattle.rvs_sig.specs.Verdicts.{verdict_of}
 use Rattle.rvs_sig.specs.declared.words.SigRefusal.{SigRefusal}
@@ -13,10 +14,6 @@ use Rattle.rvs_sig.specs.declared.comparison.Verdict.{Verdict}
 use Rattle.rvs_sig.specs.declared.comparison.Verdict.TheVariants.{Same, Differs, Lengths}
 use Rattle.rvs_suite.specs.Texts.{verdict_line, refusal_text}
 use Rattle.rvs_words.specs.declared.command.CompareArguments.{CompareArguments}
-
--- a signature file has at most this many bytes: 262,144 lines of ten
-abbrev pub signature_limit : ℕ
-signature_limit = 2621440
 
 -- the words of the named file, or its refusal
 abbrev pub words_end : List ℕ → Result (List ℕ) SigRefusal → Result (List ℕ) Stop

@@ -6,7 +6,7 @@ use Rattle.rvs_insn.specs.Isa.{Isa}
 use Rattle.rvs_tree.specs.Data.{Data, own_pairs}
 use Rattle.rvs_yaml.specs.Parsed.{answer}
 use Rattle.rvs_isa.specs.declared.accepted_spec.AcceptedSpec.{AcceptedSpec}
-use Rattle.rvs_select.specs.Database.{entries_of}
+use Rattle.rvs_select.specs.Database.{entries_of, most_tests}
 use Rattle.rvs_select.specs.Print.{selection_text}
 use Rattle.rvs_select.specs.declared.database.Entry.{Entry}
 use Rattle.rvs_suite.specs.Answered.{Answered, OnDone}
@@ -32,7 +32,7 @@ pub record HoldsTests (files : Files) (isa : Isa) (name : List ℕ) (entries : L
   pub tree : Data
   pub has_tree : answer bytes ≡ Ok tree
   pub tests : entries ≡ entries_of isa (own_pairs tree)
-  pub few : length entries ≤ 4096
+  pub few : length entries ≤ most_tests
 
 -- a call of `select` on these of these files
 pub record Selects (call : Call) (files : Files) (asked : SelectArguments) : Type 0 where

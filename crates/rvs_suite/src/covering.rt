@@ -9,6 +9,7 @@ ghost use Rattle.rvs_count.specs.State.{ended, state_of};
 ghost use Rattle.rvs_base.specs.declared.asked.Window.{Window as Span};
 ghost use Rattle.rvs_suite.specs.GroupsView.{groups_view};
 ghost use Rattle.rvs_suite.specs.Coverage.{report_on, report_found, reported, coverage};
+ghost use Rattle.rvs_log.specs.Lines.{log_limit};
 
 use crate::group_files::read_inputs;
 use crate::printing::print_text;
@@ -83,7 +84,7 @@ fn count_with<H: Host>(
     log: &str,
 ) -> Result<Text, Stop>
     ensures { (out : SinkState) (groups : List Label) (windows : List Span)
-        → counter.old ≡ state_of groups windows [] 0 → counter.new.fed ≤ 2 ^ 40
+        → counter.old ≡ state_of groups windows [] 0 → counter.new.fed ≤ log_limit
         → Meets
         (Asks log.now (λ found. Ends (report_found (groups_view groups) windows log.now found)))
         (world (H.state host.old) out) (world (H.state host.new) out) result }

@@ -11,6 +11,7 @@ ghost use Rattle.rvs_base.specs.declared.asked.Window.{Window as Span};
 ghost use Rattle.rvs_suite.specs.GroupsView.{groups_view};
 ghost use Rattle.rvs_suite.specs.LogReport.{found_by};
 ghost use Rattle.rvs_suite.specs.Propagate.{report_on, reports, reported, propagate};
+ghost use Rattle.rvs_log.specs.Lines.{log_limit};
 
 use crate::covering::LOG_LIMIT;
 use crate::group_files::read_inputs;
@@ -83,7 +84,7 @@ fn track_with<H: Host>(
     log: &str,
 ) -> Result<Text, Stop>
     ensures { (out : SinkState) (groups : List Label) (range : Span)
-        → tracker.old ≡ state_of groups range.lo range.hi [] 0 → tracker.new.fed ≤ 2 ^ 40
+        → tracker.old ≡ state_of groups range.lo range.hi [] 0 → tracker.new.fed ≤ log_limit
         → Meets
         (Asks log.now (λ found. Ends (found_by (reports range) (groups_view groups) log.now found)))
         (world (H.state host.old) out) (world (H.state host.new) out) result }

@@ -75,6 +75,10 @@ pub record IsRun (isa : Isa) (l : Label) (image : ImageValue) (claims : List Cla
   pub words : length (words_after image isa o) ≡ 2 * length claims
   pub claimed : All (IsClaimed isa l image o) claims
 
+-- no test takes more steps
+abbrev pub most_steps : ℕ
+most_steps = 1_114_192
+
 -- an image stands to the text, the header's number is the limit, and from that limit on each run is
 -- as claimed
 pub record TestRuns (isa : Isa) (l : Label) (text : List ℕ) (claims : List Claim)
@@ -82,7 +86,7 @@ pub record TestRuns (isa : Isa) (l : Label) (text : List ℕ) (claims : List Cla
   pub image : ImageValue
   pub assembles : Assembles text isa image
   pub header : header_steps text ≡ Some limit
-  pub most : limit ≤ 1114192
+  pub most : limit ≤ most_steps
   pub runs : (n : ℕ) → limit ≤ n
       → IsRun isa l image claims limit
       (run_of (started image isa).setup n (started image isa).state)

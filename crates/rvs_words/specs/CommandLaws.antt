@@ -6,7 +6,7 @@ use Rattle.std.specs.Fmt.{decimal}
 use Rattle.std.specs.List.{flat_map, list_all, list_any}
 use Rattle.rvs_base.specs.Number.{hex_word_of}
 use Rattle.rvs_words.specs.Words.{pairs_of, values_of}
-use Rattle.rvs_words.specs.Commands.{number_of, steps_of, is_given, command_of}
+use Rattle.rvs_words.specs.Commands.{most_steps, number_of, steps_of, is_given, command_of}
 use Rattle.rvs_words.specs.Windows.{window_of, windows_of}
 use Rattle.rvs_words.specs.declared.words.Pair.{Pair}
 use Rattle.rvs_base.specs.declared.asked.Window.{Window}
@@ -226,7 +226,7 @@ RangesAreRead =
 -- the decimal text of a number of steps, which may be the next word
 abbrev pub StepsAreRead : Type 0
 StepsAreRead =
-    (steps : ℕ) → 1 ≤ steps → steps ≤ 2000000 → (stands_alone (decimal steps) ≡ true)
+    (steps : ℕ) → 1 ≤ steps → steps ≤ most_steps → (stands_alone (decimal steps) ≡ true)
     × (steps_of (decimal steps ∷ []) ≡ Some (Some steps))
 
 -- the decimal text of a number of instructions

@@ -22,10 +22,14 @@ abbrev pub ◌>>=◌ : {A B : Type 0} → Option A → (A → Option B) → Opti
 abbrev pub number_of : List ℕ → Option ℕ
 number_of text = short_number 7 10 text
 
--- a run has at least one step, and 2,000,000 at most
+-- the most steps that a run may be asked for
+abbrev pub most_steps : ℕ
+most_steps = 2_000_000
+
+-- a run has at least one step, and as many at most
 abbrev pub within_steps : Option ℕ → Option ℕ
 within_steps None = None
-within_steps (Some steps) = if nat_le 1 steps && nat_le steps 2000000 then Some steps else None
+within_steps (Some steps) = if nat_le 1 steps && nat_le steps most_steps then Some steps else None
 
 -- a number of steps, which needn't stand, and stands once at most
 abbrev pub steps_of : List (List ℕ) → Option (Option ℕ)
