@@ -39,7 +39,8 @@ same_by status told n left right false first lengths is e = absurd cc
 
 compared-pass : (status told : ℤ) (n : ℕ) (left right : List ℕ)
     → compared status (verdict_of left right) ≡ Pass n told → left ≡ right
-compared-pass status told n left right e = same_by status told n left right (length left == length right)
+compared-pass status told n left right e = same_by status told n left right
+    (length left == length right)
     (position differ (zip left right)) refl refl e
 
 spelt-pass : (status told : ℤ) (n : ℕ) (reference : List ℕ)

@@ -10,7 +10,7 @@ mod verdicts;
 mod words;
 
 pub use devices::Device;
-pub use judging::{JudgeFault, judge};
+pub use judging::{JudgeFault, SIGNATURE_LIMIT, judge};
 pub use printing::{refusal_text, verdict_line};
 pub use reading::read_device;
 pub use refusals::DeviceRefusal;

@@ -22,7 +22,8 @@ pub some_or_none : (n : ℕ) (b : Bool) (v : ℕ) → v < n → AtMost n (cond b
 some_or_none n true v h = h
 some_or_none n false v h = tt
 
-pub either_place : (n : ℕ) (b : Bool) (x y : Option ℕ) → AtMost n x → AtMost n y → AtMost n (cond b x y)
+pub either_place : (n : ℕ) (b : Bool) (x y : Option ℕ) → AtMost n x → AtMost n y
+    → AtMost n (cond b x y)
 either_place n true x y g h = g
 either_place n false x y g h = h
 
@@ -105,7 +106,8 @@ commit_low (Some zero) value g h = tt
 commit_low (Some (suc r)) None g h = tt
 commit_low (Some (suc r)) (Some v) g h = (h, g)
 
-pub some_low : (rd : Option ℕ) (v : ℕ) → v < 2 ^ 32 → IsRegister rd → IsSmall (commit_of rd (Some v))
+pub some_low : (rd : Option ℕ) (v : ℕ) → v < 2 ^ 32 → IsRegister rd
+    → IsSmall (commit_of rd (Some v))
 some_low None v g h = tt
 some_low (Some zero) v g h = tt
 some_low (Some (suc r)) v g h = (h, g)

@@ -8,13 +8,11 @@ ghost use Rattle.rvs_suite.specs.Compare.{words, signature, verdict_finish, anno
 
 use crate::texts;
 use rvs_base::{Host, Items, Sink, Text};
+use rvs_device::SIGNATURE_LIMIT;
 use rvs_plan::{Finish, Stop, print, read_input};
 use rvs_sig::{SigRefusal, Verdict, compare, read_words};
 use rvs_words::CompareArguments;
 use std::alloc::Global;
-
-/// The greatest length of a signature file in bytes: 262,144 lines of ten.
-pub const SIGNATURE_LIMIT: u64 = 2_621_440;
 
 /// Compares two signature files, and puts the verdict. Where neither is accepted, the left one is
 /// told.

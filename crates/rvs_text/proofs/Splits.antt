@@ -1,5 +1,6 @@
 -- The parts of a text by its first separator.
-use Rattle.std.proofs.Common.{◌≡◌, ℕ, suc, ◌+◌, ◌<◌, Bool, true, false, List, [], ◌∷◌, length, Option}
+use Rattle.std.proofs.Common.{◌≡◌, ℕ, suc, ◌+◌, ◌<◌, Bool, true, false, List, [], ◌∷◌, length}
+use Rattle.std.proofs.Common.{Option}
 use Rattle.std.proofs.Common.{Some, None, IfSome, refl, sym, ap, ◌∙◌, arith, length-drop}
 use Rattle.std.specs.Prelude.{◌==◌, nat_lt, not, cond}
 use Rattle.std.specs.List.{position_or_len, before_first, after_first, onto_first}
@@ -29,7 +30,8 @@ whole : (b : ℕ) (text : List ℕ) → nat_lt (place b text) (length text) ≡ 
 whole b [] h = refl
 whole b (c ∷ cs) h = by-test (whole b cs) (c == b) refl
   where
-    at : (t : Bool) → (c == b) ≡ t → nat_lt (cond (not t) (1 + place b cs) 0) (suc (length cs)) ≡ false
+    at : (t : Bool) → (c == b) ≡ t → nat_lt (cond (not t) (1 + place b cs) 0) (suc (length cs)) ≡
+        false
     at t e = sym (ap (λ t. nat_lt (cond (not t) (1 + place b cs) 0) (suc (length cs))) e) ∙ h
 
     by-test : (nat_lt (place b cs) (length cs) ≡ false → parts b cs ≡ cs ∷ []) → (t : Bool)
@@ -51,7 +53,8 @@ pub rest-shorter : (b : ℕ) (text : List ℕ)
     → IfSome (around b text) (λ p. length p.1 < length text)
 rest-shorter b text = by-test (nat_lt (place b text) (length text)) refl
   where
-    by-test : (t : Bool) → nat_lt (place b text) (length text) ≡ t → IfSome {T = List ℕ × List ℕ} (cond t (Some
+    by-test : (t : Bool) → nat_lt (place b text) (length text) ≡ t
+        → IfSome {T = List ℕ × List ℕ} (cond t (Some
         (before_first (λ c. c == b) text, after_first (λ c. c == b) text)) None)
         (λ p. length p.1 < length text)
     by-test true e = omega (arith, within _ _ e, length-drop (place b text + 1) text)

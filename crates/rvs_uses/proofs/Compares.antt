@@ -10,7 +10,8 @@ use Rattle.rvs_sig.specs.Verdicts.{verdict_of}
 use Rattle.rvs_sig.specs.Words.{words_of}
 use Rattle.rvs_sig.specs.declared.words.SigRefusal.{SigRefusal}
 use Rattle.rvs_suite.specs.Call.{Call}
-use Rattle.rvs_suite.specs.Compare.{signature_limit, words_end}
+use Rattle.rvs_device.specs.Judged.{signature_limit}
+use Rattle.rvs_suite.specs.Compare.{words_end}
 use Rattle.rvs_suite.specs.Comparing as suite
 use Rattle.rvs_suite.specs.Comparing.{Both, words_in, both_in}
 use Rattle.rvs_suite.specs.GroupFiles.{and_then}
