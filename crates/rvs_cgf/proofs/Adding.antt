@@ -93,12 +93,13 @@ skip-kept P Q k place n s t u h e =
     subst P (ok-is (with_skipped note t) u e)
     (k.passed note t (and-is (is_printable place.node) (is_printable place.key) n s) h)
 
-each-kept : (P : Taken → Type 0) (f : List ℕ → Data → Taken → Found Taken)
-    → ((key : List ℕ) (d : Data) (t u : Taken) → P t → f key d t ≡ Ok u → P u)
-    → (es : Pairs) (t u : Taken) → P t → for_each f es t ≡ Ok u → P u
-each-kept P f step [] t u h e = subst P (ok-is t u e) h
-each-kept P f step (x ∷ es) t u h e = bind-ok (f x.0 x.1 t) (λ w. for_each f es w) u e
-    (λ w g r. each-kept P f step es w u (step x.0 x.1 t w h g) r)
+each-kept : (P : Taken → Type 0) (f : EntryNames → Data → Taken → Found Taken) (place : EntryNames)
+    → ((key : List ℕ) (d : Data) (t u : Taken) → P t → f (at_key place key) d t ≡ Ok u → P u)
+    → (es : Pairs) (t u : Taken) → P t → for_each f place es t ≡ Ok u → P u
+each-kept P f place step [] t u h e = subst P (ok-is t u e) h
+each-kept P f place step (x ∷ es) t u h e =
+    bind-ok (f (at_key place x.0) x.1 t) (λ w. for_each f place es w) u e
+    (λ w g r. each-kept P f place step es w u (step x.0 x.1 t w h g) r)
 
 -- ---- entries
 -- what is known of a point that an entry adds
@@ -109,7 +110,7 @@ Gives isa k key Q = (m : Meaning) → is_printable key ≡ true → says k key �
 said-kept : (P : Taken → Type 0) (Q : Point → Type 0) (isa : Isa) (place : EntryNames) (k : Kind)
     → Kept P Q → Gives isa k place.key Q → is_printable place.node ≡ true
     → is_printable place.key ≡ true → (s : Said) → says k place.key ≡ s → (t u : Taken) → P t
-    → add_said isa place k s t ≡ Ok u → P u
+    → add_said isa k place s t ≡ Ok u → P u
 said-kept P Q isa place k kept good n p (means m) is t u h e =
     holds-then (admits isa m) place fault.UnknownMnemonic (add place (point k place.key m) t) u e
     (λ a g. add-kept P Q kept place (point k place.key m) t u h (good m p is a) g)
@@ -118,10 +119,10 @@ said-kept P Q isa place k kept good n p (wrong r) is t u h e = err-not _ u e
 
 pub point-kept : (P : Taken → Type 0) (Q : Point → Type 0) (isa : Isa) (place : EntryNames)
     (k : Kind) → Kept P Q → Gives isa k place.key Q → is_printable place.node ≡ true
-    → (d : Data) (t u : Taken) → P t → add_entry isa place k d t ≡ Ok u → P u
+    → (d : Data) (t u : Taken) → P t → add_entry isa k place d t ≡ Ok u → P u
 point-kept P Q isa place k kept good n d t u h e =
     holds-then (is_shaped place.key d) place fault.BadShape
-    (add_said isa place k (says k place.key) t) u e
+    (add_said isa k place (says k place.key) t) u e
     (λ s g. said-kept P Q isa place k kept good n (printable-is place.key d s) (says k place.key)
     refl t u h g)
 
@@ -169,16 +170,16 @@ abstract-kept P kept place n d t u h e =
 families-kept : (P : Taken → Type 0) → Kept P (IsOf kind.ValComb) → (place : EntryNames) (d : Data)
     (t u : Taken) → P t → abstract_node place d t ≡ Ok u → P u
 families-kept P kept place d t u h e =
-    let under : List ℕ → EntryNames = λ key. at_key (at_node place.label abstract_key) key in
-    bind-ok (entries place d) (λ es. for_each (λ key. abstract_entry (under key)) es t) u e
-    (λ es _ g. each-kept P (λ key. abstract_entry (under key))
-    (λ key. abstract-kept P kept (under key) refl) es t u h g)
+    let under = at_node place.label abstract_key in
+    bind-ok (entries place d) (λ es. for_each abstract_entry under es t) u e
+    (λ es _ g. each-kept P abstract_entry under (λ key. abstract-kept P kept (at_key under key) refl)
+    es t u h g)
 
 pub entry-kept : (P : Taken → Type 0) (isa : Isa) (k : Kind) → Kept P (IsOf k)
     → same_kind k kind.Mnemonic ≡ false → (place : EntryNames) → is_printable place.node ≡ true
-    → (d : Data) (t u : Taken) → P t → entry_of isa place k d t ≡ Ok u → P u
+    → (d : Data) (t u : Taken) → P t → entry_of isa k place d t ≡ Ok u → P u
 entry-kept P isa k kept other place n d t u h e =
-    if-ok (holds_families k place.key) (abstract_node place d t) (add_entry isa place k d t) u e
+    if-ok (holds_families k place.key) (abstract_node place d t) (add_entry isa k place d t) u e
     (λ b g. families-kept P (subst (λ (j : Kind). Kept P (IsOf j))
     (kind-is k kind.ValComb (and-left (same_kind k kind.ValComb) _ b)) kept) place d t u h g)
     (λ b g. point-kept P (IsOf k) isa place k kept (λ m p is a. record {
@@ -188,12 +189,12 @@ entry-kept P isa k kept other place n d t u h e =
     }) n d t u h g)
 
 pub entries-kept : (P : Taken → Type 0) (isa : Isa) (k : Kind) (place : EntryNames)
-    → ((key : List ℕ) (d : Data) (t u : Taken) → P t → entry_of isa (at_key place key) k d t ≡ Ok u
+    → ((key : List ℕ) (d : Data) (t u : Taken) → P t → entry_of isa k (at_key place key) d t ≡ Ok u
     → P u)
-    → (d : Data) (t u : Taken) → P t → all_entries isa place k d t ≡ Ok u → P u
+    → (d : Data) (t u : Taken) → P t → all_entries isa k place d t ≡ Ok u → P u
 entries-kept P isa k place step d t u h e =
-    bind-ok (entries place d) (λ es. for_each (λ key. entry_of isa (at_key place key) k) es t) u e
-    (λ es _ g. each-kept P (λ key. entry_of isa (at_key place key) k) step es t u h g)
+    bind-ok (entries place d) (λ es. for_each (entry_of isa k) place es t) u e
+    (λ es _ g. each-kept P (entry_of isa k) place step es t u h g)
 
 skipped-kept : (P : Taken → Type 0) (Q : Point → Type 0) → Kept P Q
     → (place : EntryNames) → is_printable place.node ≡ true → (d : Data) (t u : Taken) → P t
@@ -208,8 +209,8 @@ all_skipped-kept : (P : Taken → Type 0) (Q : Point → Type 0) → Kept P Q
 all_skipped-kept P Q kept place n [] t u h e =
     skip-kept P Q kept (at_key place (codes "-")) n refl t u h e
 all_skipped-kept P Q kept place n (x ∷ es) t u h e =
-    each-kept P (λ key. skipped_entry (at_key place key))
-    (λ key. skipped-kept P Q kept (at_key place key) n) (x ∷ es) t u h e
+    each-kept P skipped_entry place (λ key. skipped-kept P Q kept (at_key place key) n) (x ∷ es)
+    t u h e
 
 pub passed-kept : (P : Taken → Type 0) (Q : Point → Type 0) → Kept P Q
     → (place : EntryNames) → is_printable place.node ≡ true → (d : Data) (t u : Taken) → P t

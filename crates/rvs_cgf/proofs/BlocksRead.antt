@@ -16,8 +16,9 @@ use Rattle.rvs_expr.specs.Parse.{parse}
 use Rattle.rvs_cross.specs.Parse as crosses
 use Rattle.rvs_cross.specs.Parse.{parse as parse_cross}
 use Rattle.rvs_cgf.specs.Keys.{is_skipped}
+use Rattle.rvs_cgf.specs.Says.{of_register, of_formula, of_cross}
 use Rattle.rvs_cgf.specs.Groups.{Meaning, op_is, reg_is, regs, nums, window, Point, Said, means}
-use Rattle.rvs_cgf.specs.Groups.{nothing, of_register, of_formula, of_cross, says, admits}
+use Rattle.rvs_cgf.specs.Groups.{nothing, says, admits}
 use Rattle.rvs_cgf.specs.Groups.{same_kind, has, op_in, ops_of}
 use Rattle.rvs_cgf.specs.Valid.{are_distinct, IsMeant}
 use Rattle.rvs_cgf.specs.Spelled.{Block, block, joined, blocks, kinds_are_apart}

@@ -30,7 +30,8 @@ use Rattle.rvs_abstract.specs.declared.call.AbstractRefusal.TheVariants.{BadSize
 use Rattle.rvs_abstract.proofs.Powers.{within_32, within_31, below_32, some_power}
 use Rattle.rvs_cgf.specs.Keys.{is_printable, is_skipped, is_left_out, begins, has_double, calls}
 use Rattle.rvs_cgf.specs.Keys.{has_call, is_operator_word}
-use Rattle.rvs_cgf.specs.Groups.{nums, nothing, of_formula, value_point}
+use Rattle.rvs_cgf.specs.Says.{of_formula}
+use Rattle.rvs_cgf.specs.Groups.{nums, nothing, value_point}
 use Rattle.rvs_cgf.specs.Valid.{IsMeant}
 use Rattle.rvs_cgf.proofs.Distinct.{and-right, and-is, or-fails, if-no}
 use Rattle.std.specs.List.{list_any}

@@ -19,17 +19,17 @@ use Rattle.rvs_tree.specs.Data.{Data, Pairs, own_pairs, is_map, value_at}
 use Rattle.rvs_facts.specs.Mnemonics.{number, is_same}
 use Rattle.rvs_facts.proofs.Places.{same_number}
 use Rattle.rvs_cgf.specs.Keys.{is_label_name, is_printable}
-use Rattle.rvs_cgf.specs.Groups.{Meaning, op_is, Point, Label, means, of_op, says, admits}
+use Rattle.rvs_cgf.specs.Says.{of_op}
+use Rattle.rvs_cgf.specs.Groups.{Meaning, op_is, Point, Label, means, says, admits}
 use Rattle.rvs_cgf.specs.Groups.{EntryNames, at_label, at_node, at_key, Found, refused, ◌>>=◌, ◌>>◌}
 use Rattle.rvs_cgf.specs.Groups.{holds, Taken, same_kind, is_point, has, entries, entry_of}
-use Rattle.rvs_cgf.specs.Groups.{all_entries, passed_over, is_passed_over, role_of, Nodes}
+use Rattle.rvs_cgf.specs.Groups.{all_entries, passed_over, role_of, Nodes}
 use Rattle.rvs_cgf.specs.Groups.{with_first, kept_first, by_role, node_step, each_node}
-use Rattle.rvs_cgf.specs.Groups.{config_holds, selects, main_node, main_of, some_points}
+use Rattle.rvs_cgf.specs.Groups.{config_holds, selects, main_of, some_points}
 use Rattle.rvs_cgf.specs.Groups.{nothing_taken, op_in, ops_of, finished, starting, nodes}
 use Rattle.rvs_cgf.specs.Groups.{first_points, selected_label, unselected, chosen, map_label}
 use Rattle.rvs_cgf.specs.Groups.{label_of, size_of, Listed, with_label, label_step, each_label}
 use Rattle.rvs_cgf.specs.Groups.{nothing_listed, groups_of}
-use Rattle.rvs_cgf.specs.Print.{kind_name}
 use Rattle.rvs_cgf.specs.Valid.{are_distinct, ops_are_distinct, IsMeant, IsValid}
 use Rattle.rvs_cgf.specs.Valid.{IsValidIfSelected}
 use Rattle.rvs_cgf.specs.GroupView.{AnswersWith, label_view}
@@ -42,10 +42,10 @@ use Rattle.rvs_cgf.specs.declared.group.Kind.TheVariants as kind
 use Rattle.rvs_cgf.specs.declared.refusal.CgfKind.TheVariants as fault
 use Rattle.rvs_cgf.proofs.Kinds.{kind-is}
 use Rattle.rvs_cgf.proofs.Distinct.{and-left, and-right, and-is, or-left, or-right, or-fails}
-use Rattle.rvs_cgf.proofs.Distinct.{or-cases, no, has-append, distinct_insert, is_mnemonic}
-use Rattle.rvs_cgf.proofs.Distinct.{no-mnemonic}
+use Rattle.rvs_cgf.proofs.Distinct.{no, has-append, distinct_insert, is_mnemonic, no-mnemonic}
 use Rattle.rvs_cgf.proofs.Adding.{ok-is, err-not, if-ok, bind-ok, holds-then, Kept, IsOf, Gives}
 use Rattle.rvs_cgf.proofs.Adding.{point-kept, entry-kept, entries-kept, passed-kept}
+use Rattle.rvs_cgf.proofs.Roles.{same-bytes, Suits, role-suits, main-printable}
 
 -- ---- nodes
 -- the points so far and those of the mnemonics, as long as their node isn't met
@@ -89,78 +89,6 @@ fits-kept k first = record {
   };
 }
 
--- ---- the nodes by their names
-pub same-bytes : (xs ys : List ℕ) → bytes_eq xs ys ≡ true → xs ≡ ys
-same-bytes xs ys h = (bytes_eq-Decides xs ys).0 h
-
-shown : (node name : List ℕ) → is_printable name ≡ true → bytes_eq node name ≡ true
-    → is_printable node ≡ true
-shown node name p e = ap is_printable (same-bytes node name e) ∙ p
-
--- the node of a kind
-pub record IsNode (node : List ℕ) (k : Kind) : Type 0 where
-  pub named : bytes_eq node (kind_name k) ≡ true
-  pub other : same_kind k kind.Mnemonic ≡ false
-
-abbrev is_known : Role → Bool
-is_known role.Unknown = false
-is_known _ = true
-
--- what a node's role says of its name
-pub record Suits (node : List ℕ) (r : Role) : Type 0 where
-  pub node_of : (k : Kind) → r ≡ role.Entries k → IsNode node k
-  pub printable : is_known r ≡ true → is_printable node ≡ true
-
-suits-if : (node : List ℕ) (b : Bool) (x y : Role) → (b ≡ true → Suits node x) → Suits node y
-    → Suits node (if b then x else y)
-suits-if node true x y h k = h refl
-suits-if node false x y h k = k
-
-named-suits : (node : List ℕ) (k : Kind) → same_kind k kind.Mnemonic ≡ false
-    → is_printable (kind_name k) ≡ true → bytes_eq node (kind_name k) ≡ true
-    → Suits node (role.Entries k)
-named-suits node k o p e = record {
-  node_of = λ j is. let same : k ≡ j = cc in
-      subst (IsNode node) same (record { named = e; other = o });
-  printable = λ _. shown node (kind_name k) p e;
-}
-
-main-shown : (node : List ℕ)
-    → (bytes_eq node (codes "mnemonics") || bytes_eq node (codes "opcode")) ≡ true
-    → is_printable node ≡ true
-main-shown node e =
-    or-cases (bytes_eq node (codes "mnemonics")) (bytes_eq node (codes "opcode")) e
-    (shown node (codes "mnemonics") refl) (shown node (codes "opcode") refl)
-
-passed-shown : (node : List ℕ) → is_passed_over node ≡ true → is_printable node ≡ true
-passed-shown node e =
-    or-cases (bytes_eq node (codes "csr_comb")) _ e (shown node (codes "csr_comb") refl)
-    (λ e1. or-cases (bytes_eq node (codes "rs3")) _ e1 (shown node (codes "rs3") refl)
-    (λ e2. or-cases (bytes_eq node (codes "p_op_cond")) _ e2 (shown node (codes "p_op_cond") refl)
-    (shown node (codes "base_op") refl)))
-
-pub role-suits : (node : List ℕ) → Suits node (role_of node)
-role-suits node =
-    suits-if node (bytes_eq node (codes "mnemonics") || bytes_eq node (codes "opcode")) role.Main _
-    (λ e. record { node_of = λ k is. cc; printable = λ _. main-shown node e })
-    (suits-if node (bytes_eq node (codes "config")) role.Config _
-    (λ e. record { node_of = λ k is. cc; printable = λ _. shown node (codes "config") refl e })
-    (suits-if node (bytes_eq node (codes "rs1")) (role.Entries kind.Rs1) _
-    (named-suits node kind.Rs1 refl refl)
-    (suits-if node (bytes_eq node (codes "rs2")) (role.Entries kind.Rs2) _
-    (named-suits node kind.Rs2 refl refl)
-    (suits-if node (bytes_eq node (codes "rd")) (role.Entries kind.Rd) _
-    (named-suits node kind.Rd refl refl)
-    (suits-if node (bytes_eq node (codes "op_comb")) (role.Entries kind.OpComb) _
-    (named-suits node kind.OpComb refl refl)
-    (suits-if node (bytes_eq node (codes "val_comb")) (role.Entries kind.ValComb) _
-    (named-suits node kind.ValComb refl refl)
-    (suits-if node (bytes_eq node (codes "cross_comb")) (role.Entries kind.CrossComb) _
-    (named-suits node kind.CrossComb refl refl)
-    (suits-if node (is_passed_over node) role.PassedOver role.Unknown
-    (λ e. record { node_of = λ k is. cc; printable = λ _. passed-shown node e })
-    (record { node_of = λ k is. cc; printable = λ n. cc })))))))))
-
 first-fits : (n : Nodes) → Fits n → Fits (with_first n)
 first-fits n h = record {
   count_is = ap length (append-nil (n.taken.points ++ n.first)) ∙ h.count_is;
@@ -183,7 +111,7 @@ role-fits isa label node d role.Main good n m h e =
 role-fits isa label node d role.Config good n m h e = subst Fits (ok-is n m e) h
 role-fits isa label node d (role.Entries k) good n m h e =
     let place = at_node label node in
-    kept-fits n m (all_entries isa place k d n.taken)
+    kept-fits n m (all_entries isa k place d n.taken)
     (λ u g. entries-kept (λ t. Fits (at n.first t)) isa k place (λ key. entry-kept
     (λ t. Fits (at n.first t)) isa k (fits-kept k n.first) (good.node_of k refl).other
     (at_key place key) (good.printable refl)) d n.taken u h g) e
@@ -361,7 +289,7 @@ main-point isa key m p is a = named-op (op_of_name key) m is (λ op f s. record 
 })
 
 pub mnemonic-kept : (isa : Isa) (place : EntryNames) → is_printable place.node ≡ true
-    → (d : Data) (t u : Taken) → Mains isa t → entry_of isa place kind.Mnemonic d t ≡ Ok u
+    → (d : Data) (t u : Taken) → Mains isa t → entry_of isa kind.Mnemonic place d t ≡ Ok u
     → Mains isa u
 mnemonic-kept isa place n = point-kept (Mains isa) (IsMain isa) isa place kind.Mnemonic
     (mains-kept isa) (main-point isa place.key) n
@@ -407,31 +335,12 @@ some-there n m k e f g = above n k (f ∙ g) e
     above : (n k : ℕ) → k ≡ n → not (n == 0) ≡ true → 0 < k
     above n k h e = grind (arith, nat_tests)
 
--- the node of the mnemonics
-pub main-is : {G : Type 0} (name : List ℕ) (a b : Option Data) (m : List ℕ × Data)
-    → main_node name a b ≡ Ok m → (m.0 ≡ codes "mnemonics" → a ≡ Some m.1 → G)
-    → (m.0 ≡ codes "opcode" → b ≡ Some m.1 → G) → G
-main-is name (Some d) None m e f g = let is : (codes "mnemonics", d) ≡ m =
-    ok-is (codes "mnemonics", d) m e in
-    f (ap (λ x. x.0) (sym is)) (ap (λ (x : List ℕ × Data). Some x.1) is)
-main-is name None (Some d) m e f g = let is : (codes "opcode", d) ≡ m =
-    ok-is (codes "opcode", d) m e in
-    g (ap (λ x. x.0) (sym is)) (ap (λ (x : List ℕ × Data). Some x.1) is)
-main-is name (Some d) (Some c) m e f g = err-not _ m e
-main-is name None None m e f g = err-not _ m e
-
-main-printable : (name : List ℕ) (d : Data) (m : List ℕ × Data) → main_of name d ≡ Ok m
-    → is_printable m.0 ≡ true
-main-printable name d m e =
-    main-is name (value_at (codes "mnemonics") d) (value_at (codes "opcode") d) m e
-    (λ is v. ap is_printable is) (λ is v. ap is_printable is)
-
 pub first-mains : (isa : Isa) (name : List ℕ) (d : Data) (m : List ℕ × Data) (first : Taken)
     → main_of name d ≡ Ok m → first_points isa (at_node name m.0) m.1 ≡ Ok first
     → Mains isa first × (not (first.count == 0) ≡ true)
 first-mains isa name d m first a b =
     let place = at_node name m.0 in
-    bind-ok (all_entries isa place kind.Mnemonic m.1 nothing_taken) (λ t. some_points place t)
+    bind-ok (all_entries isa kind.Mnemonic place m.1 nothing_taken) (λ t. some_points place t)
     first b
     (λ t c g. holds-then (not (t.count == 0)) place fault.BadShape (Ok t) first g
     (λ some same. (

@@ -38,10 +38,11 @@ doubled_byte c = if c == 39 then 39 ∷ 39 ∷ [] else c ∷ []
 abbrev pub doubled : List ℕ → List ℕ
 doubled key = flat_map doubled_byte key
 
--- the line of a kind, and that of a key
+-- the line of a kind
 abbrev pub kind_line : Kind → List ℕ
 kind_line k = codes "  " ++ (kind_name k ++ codes ":\n")
 
+-- the line of a key
 abbrev pub point_line : List ℕ → List ℕ
 point_line key = codes "    '" ++ (doubled key ++ codes "': 0\n")
 
