@@ -1,6 +1,6 @@
 -- What each entry of a node adds to the points.
 use Rattle.std.proofs.Common.{◌≡◌, ℕ, zero, suc, ◌+◌, ◌<◌, ◌≤◌, Bool, true, false, not, ◌&&◌, List}
-use Rattle.std.proofs.Common.{[], ◌∷◌, Ok, Err, refl, sym, subst, arith, bytes_eq, codes}
+use Rattle.std.proofs.Common.{[], ◌∷◌, Ok, Err, refl, subst, arith, bytes_eq, codes}
 use Rattle.std.specs.Prelude.{nat_le, if◌then◌else◌}
 use Rattle.rvs_insn.specs.Isa.{Isa}
 use Rattle.rvs_tree.specs.Data.{Data, Pairs, own_pairs, is_map}

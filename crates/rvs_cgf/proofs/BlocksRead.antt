@@ -1,31 +1,22 @@
 -- The points of a node are read again from their keys.
-use Rattle.std.proofs.Common.{◌≡◌, ℕ, ◌+◌, ◌≤◌, Bool, true, false, not, List, ◌∷◌, []}
-use Rattle.std.proofs.Common.{◌++◌, length, All, Option, Some, None, Ok, Err, refl, sym}
-use Rattle.std.proofs.Common.{ap, subst, ◌∙◌, arith, append-nil, length-append}
+use Rattle.std.proofs.Common.{◌≡◌, ◌+◌, ◌≤◌, Bool, true, false, not, List, ◌∷◌, [], ◌++◌, length}
+use Rattle.std.proofs.Common.{All, refl, sym, ap, subst, ◌∙◌, arith, append-nil, length-append}
 use Rattle.std.specs.Prelude.{if◌then◌else◌}
 use Rattle.std.specs.List.{list_any, list_all}
 use Rattle.std.proofs.lemmas.List.Elements.{All-head, All-tail}
 use Rattle.rvs_insn.specs.Isa.{Isa}
 use Rattle.rvs_insn.specs.Names.{is_admitted_op}
 use Rattle.rvs_insn.specs.declared.op.Op.{Op}
-use Rattle.rvs_expr_text.specs.Refusal as expr
-use Rattle.rvs_expr_text.specs.Words.{register_number}
-use Rattle.rvs_expr_text.specs.declared.words.Language.TheVariants.{Numbers, Registers}
-use Rattle.rvs_expr.specs.Typed.{Formula}
-use Rattle.rvs_expr.specs.Parse.{parse}
-use Rattle.rvs_cross.specs.Parse as crosses
-use Rattle.rvs_cross.specs.Parse.{parse as parse_cross}
-use Rattle.rvs_cgf.specs.Keys.{is_skipped}
-use Rattle.rvs_cgf.specs.Says.{of_register, of_formula, of_cross}
-use Rattle.rvs_cgf.specs.Groups.{Meaning, op_is, reg_is, regs, nums, window, Point, Said, means}
-use Rattle.rvs_cgf.specs.Groups.{nothing, says, admits}
+use Rattle.rvs_cgf.specs.Groups.{Meaning, op_is, reg_is, regs, nums, window, Point, admits}
 use Rattle.rvs_cgf.specs.Groups.{same_kind, has, op_in, ops_of}
 use Rattle.rvs_cgf.specs.Valid.{are_distinct, IsMeant}
 use Rattle.rvs_cgf.specs.Spelled.{Block, block, joined, blocks, kinds_are_apart}
 use Rattle.rvs_cgf.specs.declared.group.Kind.{Kind}
 use Rattle.rvs_cgf.specs.declared.group.Kind.TheVariants as kind
 use Rattle.rvs_cgf.proofs.Kinds.{kind-is}
-use Rattle.rvs_cgf.proofs.Distinct.{and-left, and-right, or-left, or-right, if-yes, if-no, no}
+use Rattle.rvs_cgf.proofs.Distinct.{and-left, and-right, or-left, or-right, both-ways, if-yes}
+use Rattle.rvs_cgf.proofs.Distinct.{if-no, no}
+use Rattle.rvs_cgf.proofs.Saying.{said_by}
 use Rattle.rvs_cgf.proofs.Validity.{front-distinct, ops-append}
 use Rattle.rvs_cgf.proofs.PointsRead.{Reads, reads_by, ReadsAll}
 
@@ -177,43 +168,12 @@ under-distinct (b ∷ bs) d =
     (λ e. ap are_distinct (under-no b bs e)
     ∙ under-distinct bs (back-distinct b.points (points_in bs) d))
 
--- the mnemonics that a key says
-abbrev ops_said : Said → List Op
-ops_said (means m) = op_in m
-ops_said _ = []
-
-register-ops : (o : Option ℕ) → ops_said (of_register o) ≡ []
-register-ops None = refl
-register-ops (Some r) = refl
-
-expression-ops : (mean : Formula → Meaning) → ((f : Formula) → op_in (mean f) ≡ [])
-    → (b : Bool) (r : expr.Found Formula)
-    → ops_said (if b then nothing else of_formula mean r) ≡ []
-expression-ops mean none true r = refl
-expression-ops mean none false (Ok f) = none f
-expression-ops mean none false (Err e) = refl
-
-cross-ops : (r : crosses.Found) → ops_said (of_cross r) ≡ []
-cross-ops (Ok (crosses.read ps)) = refl
-cross-ops (Ok crosses.skipped) = refl
-cross-ops (Err e) = refl
-
 -- other kinds have no mnemonics
-other-ops : (k : Kind) (key : List ℕ) → same_kind k kind.Mnemonic ≡ false
-    → ops_said (says k key) ≡ []
-other-ops kind.Mnemonic key o = cc
-other-ops kind.Rs1 key o = register-ops (register_number key)
-other-ops kind.Rs2 key o = register-ops (register_number key)
-other-ops kind.Rd key o = register-ops (register_number key)
-other-ops kind.OpComb key o =
-    expression-ops regs (λ f. refl) (is_skipped key) (parse Registers [] key)
-other-ops kind.ValComb key o =
-    expression-ops nums (λ f. refl) (is_skipped key) (parse Numbers [] key)
-other-ops kind.CrossComb key o = cross-ops (parse_cross key)
-
 pub op-none : (p : Point) → same_kind p.kind kind.Mnemonic ≡ false → IsMeant p
     → op_in p.meaning ≡ []
-op-none p o m = ap ops_said (sym m.said) ∙ other-ops p.kind p.key o
+op-none p o m = said_by p.kind p.key p.meaning m.said
+    (λ op k is. both-ways (same_kind p.kind kind.Mnemonic) k o) (λ r _ is. ap op_in is)
+    (λ f _ is. ap op_in is) (λ f _ is. ap op_in is) (λ ps _ is. ap op_in is)
 
 pub no-ops : (k : Kind) (ps : List Point) → same_kind k kind.Mnemonic ≡ false → MeantUnder k ps
     → ops_of ps ≡ []

@@ -46,6 +46,10 @@ pub or-cases : {G : Type 0} (x y : Bool) → (x || y) ≡ true → (x ≡ true �
 or-cases true y e f g = f refl
 or-cases false y e f g = g e
 
+pub both-ways : {G : Type 0} (b : Bool) → b ≡ true → b ≡ false → G
+both-ways true e f = cc
+both-ways false e f = cc
+
 pub or-assoc : (a b c : Bool) → (a || (b || c)) ≡ ((a || b) || c)
 or-assoc true b c = refl
 or-assoc false b c = refl

@@ -1,9 +1,9 @@
 -- Groups that are read can be spelled.
 use Rattle.std.proofs.Common.{◌≡◌, ℕ, ◌+◌, ◌≤◌, Bool, true, false, not, ◌&&◌, List, [], ◌∷◌, ◌++◌}
-use Rattle.std.proofs.Common.{length, map, All, Option, Some, None, Ok, Err, Result, IfOk, refl}
+use Rattle.std.proofs.Common.{length, map, All, Some, Ok, Err, Result, IfOk, refl}
 use Rattle.std.proofs.Common.{sym, ap, subst, ◌∙◌, arith, append_assoc, append-nil, length-append}
 use Rattle.std.proofs.Common.{bytes_eq, codes, inl, inr, cond}
-use Rattle.std.specs.Prelude.{nat_le, nat_lt, ◌==◌, ◌||◌, ◌⊎◌, if◌then◌else◌, sum_by}
+use Rattle.std.specs.Prelude.{nat_le, nat_lt, ◌||◌, ◌⊎◌, if◌then◌else◌, sum_by}
 use Rattle.std.specs.List.{list_any, list_all}
 use Rattle.std.proofs.lemmas.Bool.Decides.{nat_tests}
 use Rattle.std.proofs.lemmas.List.Elements.{All-nil, All-push, All-head, All-tail}
@@ -34,13 +34,13 @@ use Rattle.rvs_cgf.specs.declared.group.Kind.TheVariants as kind
 use Rattle.rvs_cgf.specs.declared.refusal.CgfKind.TheVariants as fault
 use Rattle.rvs_cgf.proofs.Kinds.{same-self, kind-is, kind-sym}
 use Rattle.rvs_cgf.proofs.Distinct.{and-left, and-right, and-is, or-left, or-right, or-cases, no}
-use Rattle.rvs_cgf.proofs.Distinct.{is_mnemonic}
+use Rattle.rvs_cgf.proofs.Distinct.{both-ways, is_mnemonic}
 use Rattle.rvs_cgf.proofs.Adding.{ok-is, err-not, if-ok, bind-ok, holds-then, entries-are, Kept}
 use Rattle.rvs_cgf.proofs.Adding.{IsOf, entry-kept, entries-kept, passed-kept}
 use Rattle.rvs_cgf.proofs.Roles.{same-bytes, Suits, role-suits, main-is}
 use Rattle.rvs_cgf.proofs.Validity.{first-mains, ops-append, label-valid}
 use Rattle.rvs_cgf.proofs.BlocksRead.{op-none, cases}
-use Rattle.rvs_cgf.proofs.Together.{has_kind, all_of, together, both-ways, others-none}
+use Rattle.rvs_cgf.proofs.Together.{has_kind, all_of, together, others-none}
 use Rattle.rvs_cgf.proofs.Together.{together-append, together-apart}
 
 -- ---- what a node adds

@@ -35,10 +35,6 @@ pub or-second : (x y : Bool) → y ≡ true → (x || y) ≡ true
 or-second true y e = refl
 or-second false y e = e
 
-pub both-ways : {G : Type 0} (b : Bool) → b ≡ true → b ≡ false → G
-both-ways true e f = cc
-both-ways false e f = cc
-
 -- points of one kind have no other
 pub others-none : (k j : Kind) (ps : List Point) → all_of k ps ≡ true → same_kind k j ≡ false
     → has_kind j ps ≡ false

@@ -1,6 +1,6 @@
 -- Each label that is read is valid for the core.
 use Rattle.std.proofs.Common.{◌≡◌, ℕ, suc, ◌+◌, ◌<◌, ◌≤◌, Bool, true, false, not, ◌&&◌, List, []}
-use Rattle.std.proofs.Common.{◌∷◌, ◌++◌, length, map, All, Option, Some, None, Ok, Err, Result}
+use Rattle.std.proofs.Common.{◌∷◌, ◌++◌, length, map, All, Option, Some, Ok, Err, Result}
 use Rattle.std.proofs.Common.{IfOk, refl, sym, ap, subst, ◌∙◌, arith, append_assoc}
 use Rattle.std.proofs.Common.{append-nil, length-append, bytes_eq, codes}
 use Rattle.std.specs.Prelude.{nat_le, nat_lt, ◌==◌, ◌||◌, if◌then◌else◌, cond}
@@ -43,6 +43,7 @@ use Rattle.rvs_cgf.specs.declared.refusal.CgfKind.TheVariants as fault
 use Rattle.rvs_cgf.proofs.Kinds.{kind-is}
 use Rattle.rvs_cgf.proofs.Distinct.{and-left, and-right, and-is, or-left, or-right, or-fails}
 use Rattle.rvs_cgf.proofs.Distinct.{no, has-append, distinct_insert, is_mnemonic, no-mnemonic}
+use Rattle.rvs_cgf.proofs.Saying.{by-op}
 use Rattle.rvs_cgf.proofs.Adding.{ok-is, err-not, if-ok, bind-ok, holds-then, Kept, IsOf, Gives}
 use Rattle.rvs_cgf.proofs.Adding.{point-kept, entry-kept, entries-kept, passed-kept}
 use Rattle.rvs_cgf.proofs.Roles.{same-bytes, Suits, role-suits, main-printable}
@@ -176,11 +177,6 @@ main-kind : (k : Kind) (key : List ℕ) (m : Meaning) → same_kind k kind.Mnemo
     → says k key ≡ means m → of_op (op_of_name key) ≡ means m
 main-kind k key m h e = ap (λ j. says j key) (sym (kind-is k kind.Mnemonic h)) ∙ e
 
-named-op : {G : Type 0} (o : Option Op) (m : Meaning) → of_op o ≡ means m
-    → ((op : Op) → o ≡ Some op → m ≡ op_is op → G) → G
-named-op None m e g = cc
-named-op (Some op) m e g = let is : m ≡ op_is op = cc in g op refl is
-
 -- two points with one mnemonic have one key
 other-op : (op other : Op) (key key' : List ℕ) → op_of_name key ≡ Some op
     → op_of_name key' ≡ Some other → (b : Bool) → is_same op other ≡ b → bytes_eq key' key ≡ false
@@ -208,7 +204,7 @@ op-not-there (q ∷ qs) op key e meant mains h =
     (or-right (is_point kind.Mnemonic key q) (has kind.Mnemonic key qs) h) in
     let differs = not-both (same_kind q.kind kind.Mnemonic) (bytes_eq q.key key) main
     (or-left (is_point kind.Mnemonic key q) (has kind.Mnemonic key qs) h) in
-    named-op (op_of_name q.key) q.meaning
+    by-op (op_of_name q.key) q.meaning
     (main-kind q.kind q.key q.meaning main (All-head IsMeant q qs meant).said)
     (λ other f m. ap (λ x. list_any (is_same op) (op_in x ++ ops_of qs)) m
     ∙ or-fails (is_same op other) (list_any (is_same op) (ops_of qs))
@@ -279,7 +275,7 @@ mains-kept isa = record {
 }
 
 main-point : (isa : Isa) (key : List ℕ) → Gives isa kind.Mnemonic key (IsMain isa)
-main-point isa key m p is a = named-op (op_of_name key) m is (λ op f s. record {
+main-point isa key m p is a = by-op (op_of_name key) m is (λ op f s. record {
   meant = record { printable = p; said = is };
   main = refl;
   op = op;
