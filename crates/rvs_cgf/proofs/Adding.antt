@@ -21,7 +21,7 @@ use Rattle.rvs_cgf.specs.declared.group.Kind.{Kind}
 use Rattle.rvs_cgf.specs.declared.group.Kind.TheVariants as kind
 use Rattle.rvs_cgf.specs.declared.refusal.CgfKind.{CgfKind}
 use Rattle.rvs_cgf.specs.declared.refusal.CgfKind.TheVariants as fault
-use Rattle.rvs_cgf.proofs.Kinds.{kind-is}
+use Rattle.rvs_cgf.proofs.SameKinds.{kind-is}
 use Rattle.rvs_cgf.proofs.Distinct.{and-left, and-is}
 use Rattle.rvs_cgf.proofs.FamilyKeys.{call-size, value-small, value_meant}
 

@@ -13,7 +13,7 @@ use Rattle.rvs_cgf.specs.Valid.{are_distinct, IsMeant}
 use Rattle.rvs_cgf.specs.Spelled.{Block, block, joined, blocks, kinds_are_apart}
 use Rattle.rvs_cgf.specs.declared.group.Kind.{Kind}
 use Rattle.rvs_cgf.specs.declared.group.Kind.TheVariants as kind
-use Rattle.rvs_cgf.proofs.Kinds.{kind-is}
+use Rattle.rvs_cgf.proofs.SameKinds.{kind-is}
 use Rattle.rvs_cgf.proofs.Distinct.{and-left, and-right, or-left, or-right, both-ways, if-yes}
 use Rattle.rvs_cgf.proofs.Distinct.{if-no, no}
 use Rattle.rvs_cgf.proofs.Saying.{said_by}

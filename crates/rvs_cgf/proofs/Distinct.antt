@@ -8,7 +8,7 @@ use Rattle.rvs_cgf.specs.Groups.{Point, has, is_point, same_kind}
 use Rattle.rvs_cgf.specs.Valid.{are_distinct}
 use Rattle.rvs_cgf.specs.declared.group.Kind.{Kind}
 use Rattle.rvs_cgf.specs.declared.group.Kind.TheVariants.{Mnemonic}
-use Rattle.rvs_cgf.proofs.Kinds.{kind-sym, apart}
+use Rattle.rvs_cgf.proofs.SameKinds.{kind-sym, apart}
 
 pub and-left : (x y : Bool) → (x && y) ≡ true → x ≡ true
 and-left true y e = refl

@@ -26,7 +26,7 @@ pub record IsNode (node : List ℕ) (k : Kind) : Type 0 where
   pub named : bytes_eq node (kind_name k) ≡ true
   pub other : same_kind k kind.Mnemonic ≡ false
 
-abbrev is_known : Role → Bool
+abbrev pub is_known : Role → Bool
 is_known role.Unknown = false
 is_known _ = true
 

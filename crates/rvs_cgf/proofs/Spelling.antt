@@ -32,7 +32,7 @@ use Rattle.rvs_cgf.specs.declared.groups.Role.TheVariants as role
 use Rattle.rvs_cgf.specs.declared.group.Kind.{Kind}
 use Rattle.rvs_cgf.specs.declared.group.Kind.TheVariants as kind
 use Rattle.rvs_cgf.specs.declared.refusal.CgfKind.TheVariants as fault
-use Rattle.rvs_cgf.proofs.Kinds.{same-self, kind-is, kind-sym}
+use Rattle.rvs_cgf.proofs.SameKinds.{same-self, kind-is, kind-sym}
 use Rattle.rvs_cgf.proofs.Distinct.{and-left, and-right, and-is, or-left, or-right, or-cases, no}
 use Rattle.rvs_cgf.proofs.Distinct.{both-ways, is_mnemonic}
 use Rattle.rvs_cgf.proofs.Adding.{ok-is, err-not, if-ok, bind-ok, holds-then, entries-are, Kept}

@@ -7,7 +7,7 @@ use Rattle.std.proofs.lemmas.List.Folds.{list_any-append}
 use Rattle.rvs_cgf.specs.Groups.{Point, same_kind}
 use Rattle.rvs_cgf.specs.Spelled.{Block, block, joined, blocks, kinds_are_apart}
 use Rattle.rvs_cgf.specs.declared.group.Kind.{Kind}
-use Rattle.rvs_cgf.proofs.Kinds.{kind-is, kind-sym}
+use Rattle.rvs_cgf.proofs.SameKinds.{kind-is, kind-sym}
 use Rattle.rvs_cgf.proofs.Distinct.{and-left, and-right, and-is, or-left, or-right, or-fails, or-cases}
 use Rattle.rvs_cgf.proofs.Distinct.{no}
 

@@ -40,7 +40,7 @@ use Rattle.rvs_cgf.specs.declared.groups.Role.TheVariants as role
 use Rattle.rvs_cgf.specs.declared.group.Kind.{Kind}
 use Rattle.rvs_cgf.specs.declared.group.Kind.TheVariants as kind
 use Rattle.rvs_cgf.specs.declared.refusal.CgfKind.TheVariants as fault
-use Rattle.rvs_cgf.proofs.Kinds.{kind-is}
+use Rattle.rvs_cgf.proofs.SameKinds.{kind-is}
 use Rattle.rvs_cgf.proofs.Distinct.{and-left, and-right, and-is, or-left, or-right, or-fails}
 use Rattle.rvs_cgf.proofs.Distinct.{no, has-append, distinct_insert, is_mnemonic, no-mnemonic}
 use Rattle.rvs_cgf.proofs.Saying.{by-op}

@@ -38,7 +38,7 @@ pub fn at_node<'a>(label: &'a str, node: &'a str) -> At<'a>
 
 /// At a key of a node.
 pub fn at_key<'a>(place: At<'a>, key: &'a str) -> At<'a>
-    ensures { place_view result ≡ spec.at_key (place_view place) key.now }
+    ensures { place_view result ≡ spec.at_key (place_view place.entry) key.now }
 {
     At {
         label: place.label,
