@@ -1,5 +1,5 @@
 -- The points of a node are read again from their keys.
-use Rattle.std.proofs.Common.{◌≡◌, ◌+◌, ◌≤◌, Bool, true, false, not, List, ◌∷◌, [], ◌++◌, length}
+use Rattle.std.proofs.Common.{◌≡◌, ◌≤◌, Bool, true, false, not, List, ◌∷◌, [], ◌++◌, length}
 use Rattle.std.proofs.Common.{All, refl, sym, ap, subst, ◌∙◌, arith, append-nil, length-append}
 use Rattle.std.specs.Prelude.{if◌then◌else◌}
 use Rattle.std.specs.List.{list_any, list_all}

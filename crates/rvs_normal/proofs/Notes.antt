@@ -22,7 +22,8 @@ use Rattle.rvs_cgf.proofs.Adding.{entries-are, is_note, Kept, IsOf, entry-kept, 
 use Rattle.rvs_cgf.proofs.Adding.{passed-kept}
 use Rattle.rvs_cgf.proofs.Roles.{Suits, role-suits}
 use Rattle.rvs_normal.specs.Again.{names_are_apart, notes_are_printable}
-use Rattle.rvs_normal.proofs.Truths.{both, and-true, or-both, or-false, or-last, not-true, not-false}
+use Rattle.rvs_normal.proofs.Truths.{both, and-true, or-both, or-false, or-last, not-true}
+use Rattle.rvs_normal.proofs.Truths.{not-false}
 use Rattle.rvs_normal.proofs.Apart.{eq-back}
 use Rattle.rvs_normal.proofs.Spelling.{name-plain}
 use Rattle.rvs_normal.proofs.Rows.{plain-inked}
@@ -46,8 +47,8 @@ has-of : {A : Type 0} (P : A → Type 0) (a : Found A) → ((x : A) → a ≡ Ok
 has-of P (Ok x) h = h x refl
 has-of P (Err e) h = tt
 
-has-holds : {B : Type 0} (Q : B → Type 0) (good : Bool) (place : EntryNames) (kind : _) (b : Found B)
-    → (good ≡ true → Has Q b) → Has Q (holds good place kind >> b)
+has-holds : {B : Type 0} (Q : B → Type 0) (good : Bool) (place : EntryNames) (kind : _)
+    (b : Found B) → (good ≡ true → Has Q b) → Has Q (holds good place kind >> b)
 has-holds Q true place kind b h = h refl
 has-holds Q false place kind b h = tt
 
@@ -197,7 +198,8 @@ step-well isa e es l own w =
     (label_of isa e.0 e.1 >>= (λ m. with_label e.0 m l))
     (λ _. has-then (IsNamed e.0) (Well es) (label_of isa e.0 e.1) (λ m. with_label e.0 m l)
     (of-named isa e.0 e.1)
-    (λ m n. has-holds (Well es) (nat_le (l.total + size_of m) 65536) (at_label e.0) fault.TooManyPoints
+    (λ m n. has-holds (Well es) (nat_le (l.total + size_of m) 65536) (at_label e.0)
+    fault.TooManyPoints
     (Ok (record {
       labels = l.labels ++ (m ∷ []);
       total = l.total + size_of m;
