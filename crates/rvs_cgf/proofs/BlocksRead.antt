@@ -1,33 +1,24 @@
 -- The points of a node are read again from their keys.
-use Rattle.std.proofs.Common.{◌≡◌, ℕ, ◌+◌, ◌≤◌, Bool, true, false, not, List, ◌∷◌, []}
-use Rattle.std.proofs.Common.{◌++◌, length, All, Option, Some, None, Ok, Err, option_map, refl, sym}
-use Rattle.std.proofs.Common.{ap, subst, ◌∙◌, arith, append-nil, length-append}
+use Rattle.std.proofs.Common.{◌≡◌, ◌≤◌, Bool, true, false, not, List, ◌∷◌, [], ◌++◌, length}
+use Rattle.std.proofs.Common.{All, refl, sym, ap, subst, ◌∙◌, arith, append-nil, length-append}
 use Rattle.std.specs.Prelude.{if◌then◌else◌}
 use Rattle.std.specs.List.{list_any, list_all}
 use Rattle.std.proofs.lemmas.List.Elements.{All-head, All-tail}
 use Rattle.rvs_insn.specs.Isa.{Isa}
 use Rattle.rvs_insn.specs.Names.{is_admitted_op}
 use Rattle.rvs_insn.specs.declared.op.Op.{Op}
-use Rattle.rvs_expr_text.specs.Refusal as expr
-use Rattle.rvs_expr_text.specs.Words.{register_number}
-use Rattle.rvs_expr_text.specs.declared.words.Language.TheVariants.{Numbers, Registers}
-use Rattle.rvs_expr.specs.Typed.{Formula}
-use Rattle.rvs_expr.specs.Parse.{parse}
-use Rattle.rvs_cross.specs.Parse as crosses
-use Rattle.rvs_cross.specs.Parse.{parse as parse_cross}
-use Rattle.rvs_cgf.specs.Groups.{Meaning, op_is, reg_is, regs, nums, window, Point, Found}
-use Rattle.rvs_cgf.specs.Groups.{same_kind, has}
-use Rattle.rvs_cgf.specs.Groups.{op_in, ops_of}
-use Rattle.rvs_cgf.specs.Valid.{found, places, meaning_of, are_distinct, IsMeant}
+use Rattle.rvs_cgf.specs.Groups.{Meaning, op_is, reg_is, regs, nums, window, Point, admits}
+use Rattle.rvs_cgf.specs.Groups.{same_kind, has, op_in, ops_of}
+use Rattle.rvs_cgf.specs.Valid.{are_distinct, IsMeant}
 use Rattle.rvs_cgf.specs.Spelled.{Block, block, joined, blocks, kinds_are_apart}
-use Rattle.rvs_cgf.specs.Spelled.{is_read}
-use Rattle.rvs_cgf.specs.declared.walk.Sort.TheVariants as sort
 use Rattle.rvs_cgf.specs.declared.group.Kind.{Kind}
 use Rattle.rvs_cgf.specs.declared.group.Kind.TheVariants as kind
-use Rattle.rvs_cgf.proofs.Distinct.{and-left, and-right, or-left, or-right}
+use Rattle.rvs_cgf.proofs.SameKinds.{kind-is}
+use Rattle.rvs_cgf.proofs.Distinct.{and-left, and-right, or-left, or-right, both-ways, if-yes}
+use Rattle.rvs_cgf.proofs.Distinct.{if-no, no}
+use Rattle.rvs_cgf.proofs.Saying.{said_by}
 use Rattle.rvs_cgf.proofs.Validity.{front-distinct, ops-append}
-use Rattle.rvs_cgf.proofs.PointsRead.{if-yes, if-no, not-is, some-not, Reads, sort_of, is_fit}
-use Rattle.rvs_cgf.proofs.PointsRead.{reads_by, ReadsAll}
+use Rattle.rvs_cgf.proofs.PointsRead.{Reads, reads_by, ReadsAll}
 
 -- ---- the points by their kinds
 abbrev pub points_in : List Block → List Point
@@ -40,7 +31,7 @@ under k (b ∷ bs) = if same_kind b.kind k then b.points else under k bs
 
 abbrev pub AllRead : Isa → List Block → Type 0
 AllRead isa [] = Unit {0}
-AllRead isa (b ∷ bs) = ReadsAll isa (sort_of b.kind) b.points × AllRead isa bs
+AllRead isa (b ∷ bs) = ReadsAll isa b.kind b.points × AllRead isa bs
 
 abbrev pub MeantUnder : Kind → List Point → Type 0
 MeantUnder k [] = Unit {0}
@@ -49,57 +40,6 @@ MeantUnder k (p ∷ ps) = (p.kind ≡ k) × IsMeant p × MeantUnder k ps
 abbrev pub AllMeant : List Block → Type 0
 AllMeant [] = Unit {0}
 AllMeant (b ∷ bs) = MeantUnder b.kind b.points × AllMeant bs
-
-pub kind-is : (a b : Kind) → same_kind a b ≡ true → a ≡ b
-kind-is kind.Mnemonic kind.Mnemonic e = refl
-kind-is kind.Mnemonic kind.Rs1 e = cc
-kind-is kind.Mnemonic kind.Rs2 e = cc
-kind-is kind.Mnemonic kind.Rd e = cc
-kind-is kind.Mnemonic kind.OpComb e = cc
-kind-is kind.Mnemonic kind.ValComb e = cc
-kind-is kind.Mnemonic kind.CrossComb e = cc
-kind-is kind.Rs1 kind.Mnemonic e = cc
-kind-is kind.Rs1 kind.Rs1 e = refl
-kind-is kind.Rs1 kind.Rs2 e = cc
-kind-is kind.Rs1 kind.Rd e = cc
-kind-is kind.Rs1 kind.OpComb e = cc
-kind-is kind.Rs1 kind.ValComb e = cc
-kind-is kind.Rs1 kind.CrossComb e = cc
-kind-is kind.Rs2 kind.Mnemonic e = cc
-kind-is kind.Rs2 kind.Rs1 e = cc
-kind-is kind.Rs2 kind.Rs2 e = refl
-kind-is kind.Rs2 kind.Rd e = cc
-kind-is kind.Rs2 kind.OpComb e = cc
-kind-is kind.Rs2 kind.ValComb e = cc
-kind-is kind.Rs2 kind.CrossComb e = cc
-kind-is kind.Rd kind.Mnemonic e = cc
-kind-is kind.Rd kind.Rs1 e = cc
-kind-is kind.Rd kind.Rs2 e = cc
-kind-is kind.Rd kind.Rd e = refl
-kind-is kind.Rd kind.OpComb e = cc
-kind-is kind.Rd kind.ValComb e = cc
-kind-is kind.Rd kind.CrossComb e = cc
-kind-is kind.OpComb kind.Mnemonic e = cc
-kind-is kind.OpComb kind.Rs1 e = cc
-kind-is kind.OpComb kind.Rs2 e = cc
-kind-is kind.OpComb kind.Rd e = cc
-kind-is kind.OpComb kind.OpComb e = refl
-kind-is kind.OpComb kind.ValComb e = cc
-kind-is kind.OpComb kind.CrossComb e = cc
-kind-is kind.ValComb kind.Mnemonic e = cc
-kind-is kind.ValComb kind.Rs1 e = cc
-kind-is kind.ValComb kind.Rs2 e = cc
-kind-is kind.ValComb kind.Rd e = cc
-kind-is kind.ValComb kind.OpComb e = cc
-kind-is kind.ValComb kind.ValComb e = refl
-kind-is kind.ValComb kind.CrossComb e = cc
-kind-is kind.CrossComb kind.Mnemonic e = cc
-kind-is kind.CrossComb kind.Rs1 e = cc
-kind-is kind.CrossComb kind.Rs2 e = cc
-kind-is kind.CrossComb kind.Rd e = cc
-kind-is kind.CrossComb kind.OpComb e = cc
-kind-is kind.CrossComb kind.ValComb e = cc
-kind-is kind.CrossComb kind.CrossComb e = refl
 
 pub joined-points : (p : Point) (bs : List Block) → points_in (joined p bs) ≡ p ∷ points_in bs
 joined-points p [] = refl
@@ -115,7 +55,7 @@ pub blocks-points : (ps : List Point) → points_in (blocks ps) ≡ ps
 blocks-points [] = refl
 blocks-points (p ∷ ps) = joined-points p (blocks ps) ∙ ap (λ xs. p ∷ xs) (blocks-points ps)
 
-pub joined-read : (isa : Isa) (p : Point) (bs : List Block) → Reads isa (sort_of p.kind) p
+pub joined-read : (isa : Isa) (p : Point) (bs : List Block) → Reads isa p.kind p
     → AllRead isa bs → AllRead isa (joined p bs)
 joined-read isa p [] r h = ((r, tt), tt)
 joined-read isa p (b ∷ bs) r h = by (same_kind b.kind p.kind) refl
@@ -125,7 +65,7 @@ joined-read isa p (b ∷ bs) r h = by (same_kind b.kind p.kind) refl
     by true e = (
       (
         r,
-        subst (λ (k : Kind). ReadsAll isa (sort_of k) b.points)
+        subst (λ (k : Kind). ReadsAll isa k b.points)
             (kind-is b.kind p.kind e) h.0,
       ),
       h.1,
@@ -149,7 +89,7 @@ blocks-meant (p ∷ ps) h =
 
 -- all mnemonics among the meanings are admitted
 pub fit-first : (isa : Isa) (m : Meaning) (ops : List Op)
-    → list_all (is_admitted_op isa) (op_in m ++ ops) ≡ true → is_fit isa m ≡ true
+    → list_all (is_admitted_op isa) (op_in m ++ ops) ≡ true → admits isa m ≡ true
 fit-first isa (op_is op) ops e =
     and-left (is_admitted_op isa op) (list_all (is_admitted_op isa) ops) e
 fit-first isa (reg_is r) ops e = refl
@@ -167,15 +107,13 @@ fit-rest isa (regs f) ops e = e
 fit-rest isa (nums f) ops e = e
 fit-rest isa (window ps) ops e = e
 
-pub blocks-read : (isa : Isa) (ps : List Point) → All IsMeant ps → list_all is_read ps ≡ true
+pub blocks-read : (isa : Isa) (ps : List Point) → All IsMeant ps
     → list_all (is_admitted_op isa) (ops_of ps) ≡ true → AllRead isa (blocks ps)
-blocks-read isa [] h r f = tt
-blocks-read isa (p ∷ ps) h r f =
+blocks-read isa [] h f = tt
+blocks-read isa (p ∷ ps) h f =
     joined-read isa p (blocks ps)
-    (reads_by isa p.kind p.key p.meaning (All-head IsMeant p ps h)
-    (and-left (is_read p) (list_all is_read ps) r) (fit-first isa p.meaning (ops_of ps) f))
-    (blocks-read isa ps (All-tail IsMeant p ps h) (and-right (is_read p) (list_all is_read ps) r)
-    (fit-rest isa p.meaning (ops_of ps) f))
+    (reads_by isa p (All-head IsMeant p ps h) (fit-first isa p.meaning (ops_of ps) f))
+    (blocks-read isa ps (All-tail IsMeant p ps h) (fit-rest isa p.meaning (ops_of ps) f))
 
 -- ---- the block of the mnemonics
 abbrev pub main_in : List Block → List Point
@@ -208,13 +146,13 @@ under-short (b ∷ bs) =
     (arith, ap length (under-no b bs e), under-short bs, length-append b.points (points_in bs)))
 
 pub reads-under : (isa : Isa) (bs : List Block) → AllRead isa bs
-    → ReadsAll isa sort.Mnemonic (main_in bs)
+    → ReadsAll isa kind.Mnemonic (main_in bs)
 reads-under isa [] h = tt
 reads-under isa (b ∷ bs) h =
     cases (same_kind b.kind kind.Mnemonic)
-    (λ e. subst (ReadsAll isa sort.Mnemonic) (sym (under-yes b bs e)) (subst
-    (λ (k : Kind). ReadsAll isa (sort_of k) b.points) (kind-is b.kind kind.Mnemonic e) h.0))
-    (λ e. subst (ReadsAll isa sort.Mnemonic) (sym (under-no b bs e)) (reads-under isa bs h.1))
+    (λ e. subst (ReadsAll isa kind.Mnemonic) (sym (under-yes b bs e)) (subst
+    (λ (k : Kind). ReadsAll isa k b.points) (kind-is b.kind kind.Mnemonic e) h.0))
+    (λ e. subst (ReadsAll isa kind.Mnemonic) (sym (under-no b bs e)) (reads-under isa bs h.1))
 
 pub back-distinct : (ps qs : List Point) → are_distinct (ps ++ qs) ≡ true → are_distinct qs ≡ true
 back-distinct [] qs e = e
@@ -230,44 +168,19 @@ under-distinct (b ∷ bs) d =
     (λ e. ap are_distinct (under-no b bs e)
     ∙ under-distinct bs (back-distinct b.points (points_in bs) d))
 
-pub meaning-is : (x y : Meaning) → Some x ≡ Some y → x ≡ y
-meaning-is x y e = cc
-
-pub no-reg : (o : Option ℕ) (m : Meaning) → option_map reg_is o ≡ Some m → op_in m ≡ []
-no-reg None m e = some-not m e
-no-reg (Some r) m e = ap op_in (sym (meaning-is (reg_is r) m e))
-
-pub no-formula : (mean : Formula → Meaning) → ((f : Formula) → op_in (mean f) ≡ [])
-    → (r : expr.Found Formula) (m : Meaning) → option_map mean (found r) ≡ Some m → op_in m ≡ []
-no-formula mean none (Ok f) m e = ap op_in (sym (meaning-is (mean f) m e)) ∙ none f
-no-formula mean none (Err x) m e = some-not m e
-
-pub no-places : (r : crosses.Found) (m : Meaning) → option_map window (places r) ≡ Some m
-    → op_in m ≡ []
-no-places (Ok (crosses.read ps)) m e = ap op_in (sym (inner (window ps) m e))
-  where
-    inner : (x y : Meaning) → Some x ≡ Some y → x ≡ y
-    inner x y e = cc
-no-places (Ok crosses.skipped) m e = some-not m e
-no-places (Err r) m e = some-not m e
-
 -- other kinds have no mnemonics
-pub op-none : (k : Kind) (key : List ℕ) (m : Meaning) → same_kind k kind.Mnemonic ≡ false
-    → meaning_of k key ≡ Some m → op_in m ≡ []
-op-none kind.Mnemonic key m o e = cc
-op-none kind.Rs1 key m o e = no-reg (register_number key) m e
-op-none kind.Rs2 key m o e = no-reg (register_number key) m e
-op-none kind.Rd key m o e = no-reg (register_number key) m e
-op-none kind.OpComb key m o e = no-formula regs (λ f. refl) (parse Registers [] key) m e
-op-none kind.ValComb key m o e = no-formula nums (λ f. refl) (parse Numbers [] key) m e
-op-none kind.CrossComb key m o e = no-places (parse_cross key) m e
+pub op-none : (p : Point) → same_kind p.kind kind.Mnemonic ≡ false → IsMeant p
+    → op_in p.meaning ≡ []
+op-none p o m = said_by p.kind p.key p.meaning m.said
+    (λ op k is. both-ways (same_kind p.kind kind.Mnemonic) k o) (λ r _ is. ap op_in is)
+    (λ f _ is. ap op_in is) (λ f _ is. ap op_in is) (λ ps _ is. ap op_in is)
 
 pub no-ops : (k : Kind) (ps : List Point) → same_kind k kind.Mnemonic ≡ false → MeantUnder k ps
     → ops_of ps ≡ []
 no-ops k [] o h = refl
 no-ops k (p ∷ ps) o h =
-    ap (λ xs. xs ++ ops_of ps) (op-none p.kind p.key p.meaning
-    (ap (λ j. same_kind j kind.Mnemonic) h.0 ∙ o) h.1.meaning_is)
+    ap (λ xs. xs ++ ops_of ps)
+    (op-none p (ap (λ j. same_kind j kind.Mnemonic) h.0 ∙ o) h.1)
     ∙ no-ops k ps o h.2
 
 pub no-ops-in : (bs : List Block) → AllMeant bs
@@ -283,7 +196,7 @@ pub others-apart : (b : Block) (bs : List Block) → same_kind b.kind kind.Mnemo
     → kinds_are_apart (b ∷ bs) ≡ true → list_any (λ c. same_kind c.kind kind.Mnemonic) bs ≡ false
 others-apart b bs e a =
     ap (λ k. list_any (λ c. same_kind c.kind k) bs) (sym (kind-is b.kind kind.Mnemonic e))
-    ∙ not-is (list_any (λ c. same_kind c.kind b.kind) bs)
+    ∙ no (list_any (λ c. same_kind c.kind b.kind) bs)
     (and-left (not (list_any (λ c. same_kind c.kind b.kind) bs)) (kinds_are_apart bs) a)
 
 pub rest-apart : (b : Block) (bs : List Block) → kinds_are_apart (b ∷ bs) ≡ true

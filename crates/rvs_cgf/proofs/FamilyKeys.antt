@@ -2,7 +2,7 @@
 -- printable.
 use Rattle.std.proofs.Common.{◌≡◌, ℕ, zero, suc, ◌+◌, ◌-◌, ◌*◌, ◌%◌, ◌^◌, ◌<◌, ◌≤◌, Bool, true}
 use Rattle.std.proofs.Common.{false, ◌&&◌, List, [], ◌∷◌, ◌++◌, Option, Some, None, Ok, Err}
-use Rattle.std.proofs.Common.{option_map, refl, sym, ap, ◌∙◌, arith}
+use Rattle.std.proofs.Common.{refl, sym, ap, ◌∙◌, arith}
 use Rattle.std.specs.Prelude.{ℤ, pos, negsuc, ◌-ℤ◌, neg_ℤ, unsigned_abs, nat_le, nat_lt, ◌==◌}
 use Rattle.std.specs.Prelude.{if◌then◌else◌, codes}
 use Rattle.std.specs.Fmt.{decimal, signed_decimal}
@@ -30,9 +30,10 @@ use Rattle.rvs_abstract.specs.declared.call.AbstractRefusal.TheVariants.{BadSize
 use Rattle.rvs_abstract.proofs.Powers.{within_32, within_31, below_32, some_power}
 use Rattle.rvs_cgf.specs.Keys.{is_printable, is_skipped, is_left_out, begins, has_double, calls}
 use Rattle.rvs_cgf.specs.Keys.{has_call, is_operator_word}
-use Rattle.rvs_cgf.specs.Groups.{nums, value_point}
-use Rattle.rvs_cgf.specs.Valid.{IsMeant, found}
-use Rattle.rvs_cgf.proofs.Distinct.{and-right, and-is, or-fails}
+use Rattle.rvs_cgf.specs.Says.{of_formula}
+use Rattle.rvs_cgf.specs.Groups.{nums, nothing, value_point}
+use Rattle.rvs_cgf.specs.Valid.{IsMeant}
+use Rattle.rvs_cgf.proofs.Distinct.{and-right, and-is, or-fails, if-no}
 use Rattle.std.specs.List.{list_any}
 use Rattle.std.specs.Prelude.{not}
 use Rattle.std.specs.Prelude.{take, drop}
@@ -199,13 +200,6 @@ key-shows : (v : NumName) (z : ℤ) → Small z → is_printable (key_of v z) �
 key-shows v z h = printable-append (name_of v) (codes " == " ++ signed_decimal z) (name-shows v)
     (printable-append (codes " == ") (signed_decimal z) refl (number-shows z h))
 
--- the key of a small value means the value
-pub value_meant : (v : NumName) (z : ℤ) → Small z → IsMeant (value_point v z)
-value_meant v z h = record {
-  printable = key-shows v z h;
-  meaning_is = ap (λ r. option_map nums (found r)) (key-read v z h);
-}
-
 -- ---- such keys aren't passed over
 digit-kept : (c : ℕ) → words.is_digit c ≡ true → is_left_out c ≡ false
 digit-kept c e = grind (arith, nat_tests)
@@ -243,7 +237,7 @@ tail-read Rs2Val ds a b c d = or-fails _ _ a (or-fails _ _ b (or-fails _ _ c d))
 tail-read ImmVal ds a b c d = or-fails _ _ a (or-fails _ _ b (or-fails _ _ c d))
 tail-read EaAlign ds a b c d = or-fails _ _ a (or-fails _ _ b (or-fails _ _ c d))
 
-pub value_read : (v : NumName) (z : ℤ) → Small z → is_skipped (key_of v z) ≡ false
+value_read : (v : NumName) (z : ℤ) → Small z → is_skipped (key_of v z) ≡ false
 value_read v (pos n) h =
     let ds = (decimal-is n (omega arith)).digits in
     tail-read v (decimal n) (digits-kept (decimal n) ds)
@@ -255,3 +249,11 @@ value_read v (negsuc n) h =
     (digits-single 60 (omega arith) (decimal (suc n)) ds)
     (digits-single 62 (omega arith) (decimal (suc n)) ds)
     (digits-call (decimal (suc n)) zero ds)
+
+-- the key of a small value means the value
+pub value_meant : (v : NumName) (z : ℤ) → Small z → IsMeant (value_point v z)
+value_meant v z h = record {
+  printable = key-shows v z h;
+  said = if-no (is_skipped (key_of v z)) nothing _ (value_read v z h)
+      ∙ ap (of_formula nums) (key-read v z h);
+}

@@ -10,8 +10,9 @@ use Rattle.rvs_insn.specs.Isa.{Isa}
 use Rattle.rvs_insn.specs.Names.{is_admitted_op}
 use Rattle.rvs_tree.specs.Data.{Data, Pairs, own_pairs, is_map, value_at, value_among}
 use Rattle.rvs_cgf.specs.Keys.{is_label_name}
-use Rattle.rvs_cgf.specs.Groups.{Point, Label, Found, refused, ◌>>=◌, ◌>>◌, holds, Taken, same_kind}
-use Rattle.rvs_cgf.specs.Groups.{is_empty_scalar, all_entries, role_of, Nodes, with_first}
+use Rattle.rvs_cgf.specs.Groups.{Point, Label, at_label, at_node, Found, refused, ◌>>=◌, ◌>>◌}
+use Rattle.rvs_cgf.specs.Groups.{holds, Taken, same_kind, is_empty_scalar, entries, all_entries}
+use Rattle.rvs_cgf.specs.Groups.{role_of, Nodes, with_first}
 use Rattle.rvs_cgf.specs.Groups.{kept_first, by_role, node_step, each_node, config_holds, selects}
 use Rattle.rvs_cgf.specs.Groups.{main_node, main_of, some_points, nothing_taken, ops_of, finished}
 use Rattle.rvs_cgf.specs.Groups.{starting, nodes, first_points, chosen, map_label, label_of}
@@ -23,14 +24,13 @@ use Rattle.rvs_cgf.specs.Spelled.{Block, blocks, SpellsKeys, SpellsNodes, Spells
 use Rattle.rvs_cgf.specs.Spelled.{Spells, selected, kinds_are_apart, IsPlain, ArePlain}
 use Rattle.rvs_cgf.specs.Spelled.{CanBeSpelled, bare, are_admitted}
 use Rattle.rvs_cgf.specs.declared.groups.Role.TheVariants as role
-use Rattle.rvs_cgf.specs.declared.walk.Sort.TheVariants as sort
 use Rattle.rvs_cgf.specs.declared.group.Kind.{Kind}
 use Rattle.rvs_cgf.specs.declared.group.Kind.TheVariants as kind
 use Rattle.rvs_cgf.specs.declared.refusal.CgfKind.TheVariants as fault
-use Rattle.rvs_cgf.proofs.Distinct.{and-left, and-right}
+use Rattle.rvs_cgf.proofs.Distinct.{and-left, and-right, if-yes, if-no}
 use Rattle.rvs_cgf.proofs.Validity.{front-distinct}
-use Rattle.rvs_cgf.proofs.PointsRead.{if-yes, if-no, holds-yes, bind-yes, sort_of, ReadsAll}
-use Rattle.rvs_cgf.proofs.PointsRead.{taken-at, block-read, entries-read}
+use Rattle.rvs_cgf.proofs.PointsRead.{holds-yes, bind-yes, entries-yes, ReadsAll, taken-at}
+use Rattle.rvs_cgf.proofs.PointsRead.{block-read, entries-read}
 use Rattle.rvs_cgf.proofs.BlocksRead.{points_in, AllRead}
 use Rattle.rvs_cgf.proofs.BlocksRead.{blocks-points, blocks-meant, blocks-read, main_in, under-yes}
 use Rattle.rvs_cgf.proofs.BlocksRead.{under-no, under-none, cases, under-short, reads-under}
@@ -47,7 +47,7 @@ role-main kind.ValComb e = cc
 role-main kind.CrossComb e = cc
 
 role-other : (k : Kind) → same_kind k kind.Mnemonic ≡ false
-    → role_of (kind_name k) ≡ role.Entries (sort_of k)
+    → role_of (kind_name k) ≡ role.Entries k
 role-other kind.Mnemonic e = cc
 role-other kind.Rs1 e = refl
 role-other kind.Rs2 e = refl
@@ -70,23 +70,23 @@ record End (isa : Isa) (label : List ℕ) (es : Pairs) (n : Nodes) (all : List P
 step-main : (isa : Isa) (label : List ℕ) (b : Block) (key : List ℕ) (d : Data) (n : Nodes)
     → key ≡ kind_name b.kind → same_kind b.kind kind.Mnemonic ≡ true
     → node_step isa label key d n ≡ Ok (with_first n)
-step-main isa label b key d n k e = ap (λ x. by_role isa label x d (role_of x) n) k
-    ∙ ap (λ r. by_role isa label (kind_name b.kind) d r n) (role-main b.kind e)
+step-main isa label b key d n k e = ap (λ x. node_step isa label x d n) k
+    ∙ ap (λ r. by_role isa (at_node label (kind_name b.kind)) d r n) (role-main b.kind e)
 
 step-other : (isa : Isa) (label : List ℕ) (b : Block) (key : List ℕ) (d : Data) (n : Nodes)
     → key ≡ kind_name b.kind → same_kind b.kind kind.Mnemonic ≡ false → is_map d ≡ true
-    → SpellsKeys b.points (own_pairs d) → ReadsAll isa (sort_of b.kind) b.points
+    → SpellsKeys b.points (own_pairs d) → ReadsAll isa b.kind b.points
     → are_distinct (n.taken.points ++ b.points) ≡ true → n.taken.count + length b.points ≤ 2048
     → node_step isa label key d n ≡ Ok (nodes-at
     (taken-at (n.taken.count + length b.points) (n.taken.points ++ b.points) n.taken.skipped)
     n.first)
 step-other isa label b key d n k e m sp rd dis few =
-    ap (λ x. by_role isa label x d (role_of x) n) k
-    ∙ ap (λ r. by_role isa label (kind_name b.kind) d r n) (role-other b.kind e)
-    ∙ ap (kept_first n) (entries-read isa (sort_of b.kind) label (kind_name b.kind) d n.taken
+    let place = at_node label (kind_name b.kind) in
+    ap (λ x. node_step isa label x d n) k
+    ∙ ap (λ r. by_role isa place d r n) (role-other b.kind e)
+    ∙ ap (kept_first n) (entries-read isa b.kind place d n.taken
     (taken-at (n.taken.count + length b.points) (n.taken.points ++ b.points) n.taken.skipped) m
-    (block-read isa (sort_of b.kind) label (kind_name b.kind) b.points (own_pairs d) sp rd n.taken
-    dis few))
+    (block-read isa b.kind place b.points (own_pairs d) sp rd n.taken dis few))
 
 nodes-read : (isa : Isa) (label : List ℕ) (bs : List Block) (es : Pairs) → SpellsNodes bs es
     → AllRead isa bs → kinds_are_apart bs ≡ true → (n : Nodes) → n.first ≡ main_in bs
@@ -228,37 +228,36 @@ label-read isa l d p m sp =
     ∙ ap ops_of whole ∙ sym p.ops_are in
     let some : 0 < length first = some-main first (omega (arith, p.valid.some_op, ap length ops)) in
     let main = main-at bs (own_pairs d) sp some in
-    let reads = blocks-read isa l.points p.valid.meant p.keys_read
+    let reads = blocks-read isa l.points p.valid.meant
     (ap (list_all (is_admitted_op isa)) (sym p.ops_are) ∙ p.valid.admitted) in
     let distinct : are_distinct (points_in bs) ≡ true = ap are_distinct whole ∙ p.valid.distinct in
     let few : length (points_in bs) ≤ 2048 = omega (arith, ap length whole, p.valid.few) in
     let taken = taken-at (0 + length first) first [] in
-    let firsts : first_points isa l.name (codes "mnemonics") main.node ≡ Ok taken =
-    bind-yes (all_entries isa sort.Mnemonic l.name (codes "mnemonics") main.node nothing_taken)
-    (λ t. some_points l.name (codes "mnemonics") t) taken
-    (entries-read isa sort.Mnemonic l.name
-    (codes "mnemonics") main.node nothing_taken taken main.is_node
-    (block-read isa sort.Mnemonic l.name (codes "mnemonics") first (own_pairs main.node)
-    main.spelled (reads-under isa bs reads) nothing_taken (under-distinct bs distinct)
+    let place = at_node l.name (codes "mnemonics") in
+    let firsts : first_points isa place main.node ≡ Ok taken =
+    bind-yes (all_entries isa kind.Mnemonic place main.node nothing_taken)
+    (λ t. some_points place t) taken
+    (entries-read isa kind.Mnemonic place main.node nothing_taken taken main.is_node
+    (block-read isa kind.Mnemonic place first (own_pairs main.node) main.spelled
+    (reads-under isa bs reads) nothing_taken (under-distinct bs distinct)
     (omega (arith, few, under-short bs))))
-    ∙ holds-yes (not (0 + length first == 0)) l.name (codes "mnemonics") [] fault.BadShape
-    (Ok taken) (counted (length first) some) in
+    ∙ holds-yes (not (0 + length first == 0)) place fault.BadShape (Ok taken)
+    (counted (length first) some) in
     let end = nodes-read isa l.name bs (own_pairs d) sp reads p.apart (starting taken) refl l.points
     whole p.valid.distinct (omega (arith, few)) in
     if-yes (is_label_name l.name)
-    (if is_map d then map_label isa l.name d else refused l.name [] [] fault.BadShape)
-    (refused l.name [] [] fault.BadLabelName) p.valid.named
-    ∙ if-yes (is_map d) (map_label isa l.name d) (refused l.name [] [] fault.BadShape) m
+    (if is_map d then map_label isa l.name d else refused (at_label l.name) fault.BadShape)
+    (refused (at_label l.name) fault.BadLabelName) p.valid.named
+    ∙ if-yes (is_map d) (map_label isa l.name d) (refused (at_label l.name) fault.BadShape) m
     ∙ ap (λ o. selects l.name (config_holds isa o) >>= (λ b. chosen isa l.name d b))
     (none-at bs (own_pairs d) sp (codes "config") no-config)
     ∙ bind-yes (main_of l.name d)
-    (λ x. first_points isa l.name x.0 x.1 >>= (λ t. nodes isa l.name d t))
+    (λ x. first_points isa (at_node l.name x.0) x.1 >>= (λ t. nodes isa l.name d t))
     (codes "mnemonics", main.node)
     (ap (λ o. main_node l.name o (value_at (codes "opcode") d)) main.there ∙ ap
     (main_node l.name (Some main.node))
     (none-at bs (own_pairs d) sp (codes "opcode") no-opcode))
-    ∙ bind-yes (first_points isa l.name (codes "mnemonics") main.node) (λ t. nodes isa l.name d t)
-    taken firsts
+    ∙ bind-yes (first_points isa place main.node) (λ t. nodes isa l.name d t) taken firsts
     ∙ bind-yes (each_node isa l.name (own_pairs d) (starting taken))
     (λ n. Ok (finished l.name (ops_of first) n)) (nodes-at (taken-at end.count l.points []) [])
     end.read_is
@@ -299,14 +298,14 @@ labels-read isa (l ∷ ls) (e ∷ es) pl sp out n few small =
     let here : label_step isa l.name e.1 (listed-at out n)
     ≡ Ok (listed-at (out ++ bare l ∷ []) (n + size_of l)) =
     if-no (bytes_eq l.name (codes "datasets")) (Ok (listed-at out n)) (holds
-    (nat_lt (length out) 256) l.name [] [] fault.TooManyLabels >>
+    (nat_lt (length out) 256) (at_label l.name) fault.TooManyLabels >>
     (label_of isa l.name e.1 >>= (λ x. with_label l.name x (listed-at out n)))) p.own_name
-    ∙ holds-yes (nat_lt (length out) 256) l.name [] [] fault.TooManyLabels
+    ∙ holds-yes (nat_lt (length out) 256) (at_label l.name) fault.TooManyLabels
     (label_of isa l.name e.1 >>= (λ x. with_label l.name x (listed-at out n)))
     (below (length out) (length ls) 256 few)
     ∙ bind-yes (label_of isa l.name e.1) (λ x. with_label l.name x (listed-at out n)) (bare l)
     (label-read isa l e.1 p sp.1 sp.2)
-    ∙ holds-yes (nat_le (n + size_of l) 65536) l.name [] [] fault.TooManyPoints
+    ∙ holds-yes (nat_le (n + size_of l) 65536) (at_label l.name) fault.TooManyPoints
     (Ok (listed-at (out ++ bare l ∷ []) (n + size_of l)))
     (at-most (n + size_of l) (sum_by size_of ls) 65536 (omega (arith, small, added))) in
     bind-yes (label_step isa e.0 e.1 (listed-at out n)) (λ next. each_label isa es next)
@@ -321,13 +320,13 @@ labels-read isa (l ∷ ls) (e ∷ es) pl sp out n few small =
 spelled-by : (isa : Isa) (ls : List Label) (d : Data) → ArePlain isa ls → length ls ≤ 256
     → sum_by size_of ls ≤ 65536 → SpellsAll ls d → groups_of isa d ≡ Ok (map bare ls)
 unfolding groups_of
-spelled-by isa [] d pl few small sp = if-yes (is_empty_scalar d) (Ok []) _ sp
+spelled-by isa [] d pl few small sp = bind-yes (entries (at_label []) d)
+    (λ es. each_label isa es nothing_listed >>= (λ listed. Ok listed.labels)) []
+    (if-yes (is_empty_scalar d) (Ok []) _ sp)
 spelled-by isa (l ∷ ls) d pl few small sp =
-    if-no (is_empty_scalar d) (Ok []) (if is_map d then each_label isa (own_pairs d) nothing_listed
-    >>= (λ listed. Ok listed.labels) else refused [] [] [] fault.BadShape) sp.0
-    ∙ if-yes (is_map d)
-    (each_label isa (own_pairs d) nothing_listed >>= (λ listed. Ok listed.labels))
-    (refused [] [] [] fault.BadShape) sp.1
+    bind-yes (entries (at_label []) d)
+    (λ es. each_label isa es nothing_listed >>= (λ listed. Ok listed.labels)) (own_pairs d)
+    (entries-yes (at_label []) d sp.1)
     ∙ bind-yes (each_label isa (own_pairs d) nothing_listed) (λ listed. Ok listed.labels)
     (listed-at (map bare (l ∷ ls)) (0 + sum_by size_of (l ∷ ls)))
     (labels-read isa (l ∷ ls) (own_pairs d) pl sp.2 [] 0 (omega (arith, few))
@@ -347,7 +346,6 @@ plain-for isa other l p a = record {
     meant = p.valid.meant;
   };
   apart = p.apart;
-  keys_read = p.keys_read;
   ops_are = p.ops_are;
   own_name = p.own_name;
 }

@@ -1,9 +1,9 @@
 -- Groups that are read can be spelled.
 use Rattle.std.proofs.Common.{◌≡◌, ℕ, ◌+◌, ◌≤◌, Bool, true, false, not, ◌&&◌, List, [], ◌∷◌, ◌++◌}
-use Rattle.std.proofs.Common.{length, map, All, Option, Some, None, Ok, Err, Result, IfOk, refl}
+use Rattle.std.proofs.Common.{length, map, All, Some, Ok, Err, Result, IfOk, refl}
 use Rattle.std.proofs.Common.{sym, ap, subst, ◌∙◌, arith, append_assoc, append-nil, length-append}
 use Rattle.std.proofs.Common.{bytes_eq, codes, inl, inr, cond}
-use Rattle.std.specs.Prelude.{nat_le, nat_lt, ◌==◌, ◌||◌, ◌⊎◌, if◌then◌else◌, sum_by}
+use Rattle.std.specs.Prelude.{nat_le, nat_lt, ◌||◌, ◌⊎◌, if◌then◌else◌, sum_by}
 use Rattle.std.specs.List.{list_any, list_all}
 use Rattle.std.proofs.lemmas.Bool.Decides.{nat_tests}
 use Rattle.std.proofs.lemmas.List.Elements.{All-nil, All-push, All-head, All-tail}
@@ -13,43 +13,41 @@ use Rattle.std.proofs.lemmas.List.Filters.{length-filter_both, sum_by-filter_bot
 use Rattle.rvs_insn.specs.Isa.{Isa}
 use Rattle.rvs_insn.specs.declared.op.Op.{Op}
 use Rattle.rvs_tree.specs.Data.{Data, Pairs, own_pairs, is_map, value_at, value_among}
-use Rattle.rvs_cgf.specs.Keys.{is_label_name, is_skipped}
-use Rattle.rvs_cgf.specs.Groups.{Point, Label, refused, ◌>>=◌, Taken, same_kind, is_empty_scalar}
-use Rattle.rvs_cgf.specs.Groups.{all_entries, passed_over, is_passed_over, role_of, Nodes}
+use Rattle.rvs_cgf.specs.Keys.{is_label_name}
+use Rattle.rvs_cgf.specs.Groups.{Point, Label, at_label, at_node, at_key, refused, ◌>>=◌, Taken}
+use Rattle.rvs_cgf.specs.Groups.{same_kind, entries, all_entries, passed_over, role_of, Nodes}
 use Rattle.rvs_cgf.specs.Groups.{with_first, by_role, node_step, each_node, config_holds, selects}
-use Rattle.rvs_cgf.specs.Groups.{main_node, main_of, some_points, nothing_taken, ops_of, finished}
-use Rattle.rvs_cgf.specs.Groups.{starting, nodes, first_points, selected_label, unselected, chosen}
-use Rattle.rvs_cgf.specs.Groups.{map_label, label_of, size_of, Listed, with_label, label_step}
-use Rattle.rvs_cgf.specs.Groups.{each_label, nothing_listed, groups_of}
+use Rattle.rvs_cgf.specs.Groups.{main_of, ops_of, finished, starting, nodes, first_points}
+use Rattle.rvs_cgf.specs.Groups.{selected_label, unselected, chosen, map_label, label_of, size_of}
+use Rattle.rvs_cgf.specs.Groups.{Listed, with_label, label_step, each_label, nothing_listed}
+use Rattle.rvs_cgf.specs.Groups.{groups_of}
 use Rattle.rvs_cgf.specs.Print.{kind_name}
-use Rattle.rvs_cgf.specs.Spelled.{blocks, kinds_are_apart, is_expression, is_read, IsPlain}
-use Rattle.rvs_cgf.specs.Spelled.{ArePlain, CanBeSpelled, selected, keys_are_own, nodes_are_own}
+use Rattle.rvs_cgf.specs.Spelled.{blocks, kinds_are_apart, IsPlain, ArePlain, CanBeSpelled}
+use Rattle.rvs_cgf.specs.Spelled.{selected, keys_are_own, nodes_are_own}
 use Rattle.rvs_cgf.specs.GroupView.{AnswersWith, label_view}
 use Rattle.rvs_cgf.specs.declared.group.Label.{Label as Read}
 use Rattle.rvs_cgf.specs.declared.refusal.CgfRefusal.{CgfRefusal}
 use Rattle.rvs_cgf.specs.declared.groups.Role.{Role}
 use Rattle.rvs_cgf.specs.declared.groups.Role.TheVariants as role
-use Rattle.rvs_cgf.specs.declared.walk.Sort.{Sort}
-use Rattle.rvs_cgf.specs.declared.walk.Sort.TheVariants as sort
 use Rattle.rvs_cgf.specs.declared.group.Kind.{Kind}
 use Rattle.rvs_cgf.specs.declared.group.Kind.TheVariants as kind
 use Rattle.rvs_cgf.specs.declared.refusal.CgfKind.TheVariants as fault
-use Rattle.rvs_cgf.proofs.Distinct.{and-left, and-right, and-is, or-left, or-right, is_mnemonic}
-use Rattle.rvs_cgf.proofs.Validity.{good_role, role-good, mnemonic-kept, Mains, nothing-main}
-use Rattle.rvs_cgf.proofs.Validity.{same-bytes, ops-append, label-valid}
-use Rattle.rvs_cgf.proofs.Adding.{ok-is, err-not, if-ok, bind-ok, holds-then, Kept, IsOf, kind_of}
-use Rattle.rvs_cgf.proofs.Adding.{entry-kept, entries-kept, passed-kept}
-use Rattle.rvs_cgf.proofs.BlocksRead.{op-none, kind-is, cases}
-use Rattle.rvs_cgf.proofs.PointsRead.{not-is}
-use Rattle.rvs_cgf.proofs.Together.{has_kind, all_of, together, same-self, turned, or-cases}
-use Rattle.rvs_cgf.proofs.Together.{both-ways, others-none, together-append, together-apart}
+use Rattle.rvs_cgf.proofs.SameKinds.{same-self, kind-is, kind-sym}
+use Rattle.rvs_cgf.proofs.Distinct.{and-left, and-right, and-is, or-left, or-right, or-cases, no}
+use Rattle.rvs_cgf.proofs.Distinct.{both-ways, is_mnemonic}
+use Rattle.rvs_cgf.proofs.Adding.{ok-is, err-not, if-ok, bind-ok, holds-then, entries-are, Kept}
+use Rattle.rvs_cgf.proofs.Adding.{IsOf, entry-kept, entries-kept, passed-kept}
+use Rattle.rvs_cgf.proofs.Roles.{same-bytes, Suits, role-suits, main-is}
+use Rattle.rvs_cgf.proofs.Validity.{first-mains, ops-append, label-valid}
+use Rattle.rvs_cgf.proofs.BlocksRead.{op-none, cases}
+use Rattle.rvs_cgf.proofs.Together.{has_kind, all_of, together, others-none}
+use Rattle.rvs_cgf.proofs.Together.{together-append, together-apart}
 
 -- ---- what a node adds
 record Grows (k : Kind) (base : List Point) (t : Taken) : Type 0 where
   pub more : List Point
   pub is : t.points ≡ base ++ more
   pub of_kind : all_of k more ≡ true
-  pub are_read : list_all is_read more ≡ true
   pub no_ops : ops_of more ≡ []
 
 grows-kept : (k : Kind) (base : List Point) → Kept (Grows k base) (IsOf k)
@@ -60,16 +58,13 @@ grows-kept k base = record {
     of_kind = list_all-append (λ x. same_kind x.kind k) h.more (p ∷ []) ∙ and-is (all_of k h.more)
         (same_kind p.kind k && true) h.of_kind
         (and-is (same_kind p.kind k) true (ap (λ j. same_kind j k) q.kind_is ∙ same-self k) refl);
-    are_read = list_all-append is_read h.more (p ∷ []) ∙ and-is (list_all is_read h.more)
-        (is_read p && true) h.are_read (and-is (is_read p) true q.read refl);
     no_ops = ops-append h.more (p ∷ []) ∙ ap (λ xs. xs ++ ops_of (p ∷ [])) h.no_ops
-        ∙ ap (λ xs. xs ++ []) (op-none p.kind p.key p.meaning q.other q.meant.meaning_is);
+        ∙ ap (λ xs. xs ++ []) (op-none p q.other q.meant);
   };
-  passed = λ s t h. record {
+  passed = λ s t _ h. record {
     more = h.more;
     is = h.is;
     of_kind = h.of_kind;
-    are_read = h.are_read;
     no_ops = h.no_ops;
   };
 }
@@ -79,46 +74,12 @@ grows-start k t = record {
   more = [];
   is = sym (append-nil t.points);
   of_kind = refl;
-  are_read = refl;
   no_ops = refl;
 }
 
 -- a node that is passed over adds no point
 same-kept : (base : List Point) → Kept (λ t. t.points ≡ base) (λ p. ⊥)
-same-kept base = record { one = λ p t h q b c. absurd q; passed = λ s t h. h }
-
--- the node of a sort
-role-then : {G : Type 0} (b : Bool) (x y r : Role) → (if b then x else y) ≡ r
-    → (b ≡ true → x ≡ r → G) → (y ≡ r → G) → G
-role-then true x y r e f g = f refl e
-role-then false x y r e f g = g e
-
-record IsNode (node : List ℕ) (s : Sort) : Type 0 where
-  pub named : bytes_eq node (kind_name (kind_of s)) ≡ true
-  pub other : same_kind (kind_of s) kind.Mnemonic ≡ false
-
-this-node : (node : List ℕ) (a s : Sort) → role.Entries a ≡ role.Entries s → IsNode node a
-    → IsNode node s
-this-node node a s e h = let is : a ≡ s = cc in subst (IsNode node) is h
-
-node-is : (node : List ℕ) (s : Sort) → role_of node ≡ role.Entries s → IsNode node s
-node-is node s e =
-    role-then (bytes_eq node (codes "mnemonics") || bytes_eq node (codes "opcode")) role.Main _ _ e
-    (λ b x. cc) (λ e1.
-    role-then (bytes_eq node (codes "config")) role.Config _ _ e1 (λ b x. cc) (λ e2.
-    role-then (bytes_eq node (codes "rs1")) (role.Entries (sort.Register kind.Rs1)) _ _ e2
-    (λ b x. this-node node _ s x (record { named = b; other = refl })) (λ e3.
-    role-then (bytes_eq node (codes "rs2")) (role.Entries (sort.Register kind.Rs2)) _ _ e3
-    (λ b x. this-node node _ s x (record { named = b; other = refl })) (λ e4.
-    role-then (bytes_eq node (codes "rd")) (role.Entries (sort.Register kind.Rd)) _ _ e4
-    (λ b x. this-node node _ s x (record { named = b; other = refl })) (λ e5.
-    role-then (bytes_eq node (codes "op_comb")) (role.Entries sort.Operation) _ _ e5
-    (λ b x. this-node node _ s x (record { named = b; other = refl })) (λ e6.
-    role-then (bytes_eq node (codes "val_comb")) (role.Entries sort.Numeric) _ _ e6
-    (λ b x. this-node node _ s x (record { named = b; other = refl })) (λ e7.
-    role-then (bytes_eq node (codes "cross_comb")) (role.Entries sort.Crossed) _ _ e7
-    (λ b x. this-node node _ s x (record { named = b; other = refl })) (λ e8.
-    role-then (is_passed_over node) role.PassedOver role.Unknown _ e8 (λ b x. cc) (λ x. cc)))))))))
+same-kept base = record { one = λ p t h q b c. absurd q; passed = λ s t _ h. h }
 
 -- ---- the nodes of a label
 abbrev named_among : List ℕ → Pairs → Bool
@@ -132,8 +93,6 @@ record Goes (main : List ℕ) (ops : List Op) (n : Nodes) (es : Pairs) : Type 0 
   pub main_once : has_kind kind.Mnemonic n.taken.points ≡ true → n.first ≡ []
   pub mains : list_all is_mnemonic n.first ≡ true
   pub ops_are : ops_of n.taken.points ++ ops_of n.first ≡ ops
-  pub are_read : list_all is_read n.taken.points ≡ true
-  pub first_read : list_all is_read n.first ≡ true
   pub pending : (n.first ≡ []) ⊎ (named_among main es ≡ true)
 
 -- a node that isn't the main one leaves that to the rest
@@ -162,14 +121,11 @@ main-goes main ops n e es h = record {
       (or-cases (has_kind k n.taken.points) (has_kind k n.first)
       (sym (list_any-append (λ p. same_kind p.kind k) n.taken.points n.first) ∙ b) (λ x. x)
       (λ x. both-ways (has_kind k n.first) x
-      (others-none kind.Mnemonic k n.first h.mains (turned k kind.Mnemonic o)))));
+      (others-none kind.Mnemonic k n.first h.mains (kind-sym kind.Mnemonic k ∙ o)))));
   main_once = λ b. refl;
   mains = refl;
   ops_are = append-nil (ops_of (n.taken.points ++ n.first)) ∙ ops-append n.taken.points n.first
       ∙ h.ops_are;
-  are_read = list_all-append is_read n.taken.points n.first
-      ∙ and-is (list_all is_read n.taken.points) (list_all is_read n.first) h.are_read h.first_read;
-  first_read = refl;
   pending = inl refl;
 }
 
@@ -177,13 +133,12 @@ abbrev nodes-at : Taken → List Point → Nodes
 nodes-at t first = record { taken = t; first = first }
 
 -- points of a kind whose node comes once
-added-goes : (main : List ℕ) (ops : List Op) (n : Nodes) (e : List ℕ × Data) (es : Pairs) (s : Sort)
-    → role_of main ≡ role.Main → role_of e.0 ≡ role.Entries s → not (named_among e.0 es) ≡ true
-    → Goes main ops n (e ∷ es) → (w : Taken) → Grows (kind_of s) n.taken.points w
+added-goes : (main : List ℕ) (ops : List Op) (n : Nodes) (e : List ℕ × Data) (es : Pairs) (k : Kind)
+    → role_of main ≡ role.Main → role_of e.0 ≡ role.Entries k → not (named_among e.0 es) ≡ true
+    → Goes main ops n (e ∷ es) → (w : Taken) → Grows k n.taken.points w
     → Goes main ops (nodes-at w n.first) es
-added-goes main ops n e es s is here own h w g =
-    let node = node-is e.0 s here in
-    let k = kind_of s in
+added-goes main ops n e es k is here own h w g =
+    let node = (role-suits e.0).node_of k here in
     let name : e.0 ≡ kind_name k = same-bytes e.0 (kind_name k) node.named in
     let fresh : has_kind k n.taken.points ≡ false = cases (has_kind k n.taken.points)
     (λ b. both-ways (bytes_eq e.0 (kind_name k)) node.named (or-left (bytes_eq e.0 (kind_name k))
@@ -199,7 +154,7 @@ added-goes main ops n e es s is here own h w g =
           (λ x. rest-later j e es (h.later j o x))
           (λ x. cases (same_kind k j)
           (λ y. ap (λ z. named_among z es) (ap kind_name (sym (kind-is k j y)) ∙ sym name)
-          ∙ not-is (named_among e.0 es) own)
+          ∙ no (named_among e.0 es) own)
           (λ y. both-ways (has_kind j g.more) x (others-none k j g.more g.of_kind y)));
       main_once = λ b. or-cases (has_kind kind.Mnemonic n.taken.points)
           (has_kind kind.Mnemonic g.more) (sym (split kind.Mnemonic) ∙ b)
@@ -210,10 +165,7 @@ added-goes main ops n e es s is here own h w g =
       ops_are = ap (λ xs. ops_of xs ++ ops_of n.first) g.is ∙ ap (λ xs. xs ++ ops_of n.first)
           (ops-append n.taken.points g.more ∙ ap (λ xs. ops_of n.taken.points ++ xs) g.no_ops
           ∙ append-nil (ops_of n.taken.points)) ∙ h.ops_are;
-      are_read = ap (list_all is_read) g.is ∙ list_all-append is_read n.taken.points g.more ∙ and-is
-          (list_all is_read n.taken.points) (list_all is_read g.more) h.are_read g.are_read;
-      first_read = h.first_read;
-      pending = pass-on main n.first e es is (role.Entries s) here (λ x. cc) h.pending;
+      pending = pass-on main n.first e es is (role.Entries k) here (λ x. cc) h.pending;
     }
 
 -- a node that leaves the points as they are
@@ -226,35 +178,35 @@ same-goes main ops n e es h left w is = record {
   main_once = λ b. h.main_once (ap (has_kind kind.Mnemonic) (sym is) ∙ b);
   mains = h.mains;
   ops_are = ap (λ xs. ops_of xs ++ ops_of n.first) is ∙ h.ops_are;
-  are_read = ap (list_all is_read) is ∙ h.are_read;
-  first_read = h.first_read;
   pending = left;
 }
 
 role-goes : (isa : Isa) (label main : List ℕ) (ops : List Op) (n m : Nodes) (e : List ℕ × Data)
     (es : Pairs) → role_of main ≡ role.Main → not (named_among e.0 es) ≡ true → Goes main ops n
     (e ∷ es)
-    → (r : Role) → good_role r ≡ true → role_of e.0 ≡ r → by_role isa label e.0 e.1 r n ≡ Ok m
+    → (r : Role) → Suits e.0 r → role_of e.0 ≡ r → by_role isa (at_node label e.0) e.1 r n ≡ Ok m
     → Goes main ops m es
 role-goes isa label main ops n m e es is own h role.Main good here done = subst
     (λ (x : Nodes). Goes main ops x es) (ok-is (with_first n) m done) (main-goes main ops n e es h)
 role-goes isa label main ops n m e es is own h role.Config good here done =
     subst (λ (x : Nodes). Goes main ops x es) (ok-is n m done) (same-goes main ops n e es h
     (pass-on main n.first e es is role.Config here (λ x. cc) h.pending) n.taken refl)
-role-goes isa label main ops n m e es is own h (role.Entries s) good here done =
-    bind-ok (all_entries isa s label e.0 e.1 n.taken) (λ t. Ok (nodes-at t n.first)) m done
+role-goes isa label main ops n m e es is own h (role.Entries k) good here done =
+    let place = at_node label e.0 in
+    bind-ok (all_entries isa k place e.1 n.taken) (λ t. Ok (nodes-at t n.first)) m done
     (λ w a r. subst (λ (x : Nodes). Goes main ops x es) (ok-is (nodes-at w n.first) m r)
-    (added-goes main ops n e es s is here own h w
-    (entries-kept (Grows (kind_of s) n.taken.points) isa s label e.0 (entry-kept
-    (Grows (kind_of s) n.taken.points) isa s (grows-kept (kind_of s) n.taken.points) good label
-    e.0) e.1 n.taken w (grows-start (kind_of s) n.taken) a)))
+    (added-goes main ops n e es k is here own h w
+    (entries-kept (Grows k n.taken.points) isa k place (λ key. entry-kept (Grows k n.taken.points)
+    isa k (grows-kept k n.taken.points) (good.node_of k refl).other (at_key place key)
+    (good.printable refl)) e.1 n.taken w (grows-start k n.taken) a)))
 role-goes isa label main ops n m e es is own h role.PassedOver good here done =
-    bind-ok (passed_over isa label e.0 e.1 n.taken) (λ t. Ok (nodes-at t n.first)) m done
+    let place = at_node label e.0 in
+    bind-ok (passed_over place e.1 n.taken) (λ t. Ok (nodes-at t n.first)) m done
     (λ w a r. subst (λ (x : Nodes). Goes main ops x es) (ok-is (nodes-at w n.first) m r)
     (same-goes main ops n e es h (pass-on main n.first e es is role.PassedOver here
     (λ x. cc) h.pending) w
-    (passed-kept (λ t. t.points ≡ n.taken.points) (λ p. ⊥) (same-kept n.taken.points) isa label e.0
-    e.1 n.taken w refl a)))
+    (passed-kept (λ t. t.points ≡ n.taken.points) (λ p. ⊥) (same-kept n.taken.points) place
+    (good.printable refl) e.1 n.taken w refl a)))
 role-goes isa label main ops n m e es is own h role.Unknown good here done = err-not _ m done
 
 nodes-go : (isa : Isa) (label main : List ℕ) (ops : List Op) → role_of main ≡ role.Main
@@ -267,18 +219,10 @@ nodes-go isa label main ops is (x ∷ es) n m own h e =
     (λ k g r. nodes-go isa label main ops is es k m
     (and-right (not (named_among x.0 es)) (keys_are_own es) own)
     (role-goes isa label main ops n k x es is
-    (and-left (not (named_among x.0 es)) (keys_are_own es) own) h (role_of x.0) (role-good x.0)
+    (and-left (not (named_among x.0 es)) (keys_are_own es) own) h (role_of x.0) (role-suits x.0)
     refl g) r)
 
 -- ---- a label
-mains-read : (ps : List Point) → list_all is_mnemonic ps ≡ true → list_all is_read ps ≡ true
-mains-read [] m = refl
-mains-read (p ∷ ps) m =
-    and-is (is_read p) (list_all is_read ps)
-    (ap (λ k. not (is_expression k && is_skipped p.key))
-    (kind-is p.kind kind.Mnemonic (and-left (is_mnemonic p) (list_all is_mnemonic ps) m)))
-    (mains-read ps (and-right (is_mnemonic p) (list_all is_mnemonic ps) m))
-
 there-named : (name : List ℕ) (es : Pairs) (d : Data) → value_among name es ≡ Some d
     → named_among name es ≡ true
 there-named name [] d e = cc
@@ -289,18 +233,6 @@ there-named name (x ∷ es) d e = by (bytes_eq x.0 name) e (there-named name es 
         → (b || named_among name es) ≡ true
     by true e next = refl
     by false e next = next e
-
-main-is : {G : Type 0} (name : List ℕ) (a b : Option Data) (m : List ℕ × Data)
-    → main_node name a b ≡ Ok m → (m.0 ≡ codes "mnemonics" → a ≡ Some m.1 → G)
-    → (m.0 ≡ codes "opcode" → b ≡ Some m.1 → G) → G
-main-is name (Some d) None m e f g = let is : (codes "mnemonics", d) ≡ m =
-    ok-is (codes "mnemonics", d) m e in
-    f (ap (λ x. x.0) (sym is)) (ap (λ (x : List ℕ × Data). Some x.1) is)
-main-is name None (Some d) m e f g = let is : (codes "opcode", d) ≡ m =
-    ok-is (codes "opcode", d) m e in
-    g (ap (λ x. x.0) (sym is)) (ap (λ (x : List ℕ × Data). Some x.1) is)
-main-is name (Some d) (Some c) m e f g = err-not _ m e
-main-is name None None m e f g = err-not _ m e
 
 ended : (first : List Point) (main : List ℕ) → (first ≡ []) ⊎ (named_among main [] ≡ true)
     → first ≡ []
@@ -332,16 +264,12 @@ label-plain : (isa : Isa) (name : List ℕ) (d : Data) (l : Label) → is_label_
     → selected_label isa name d ≡ Ok l → IsPlain isa l
 label-plain isa name d l named other own e =
     let valid = label-valid isa name d l named e in
-    bind-ok (main_of name d)
-    (λ m. first_points isa name m.0 m.1 >>= (λ first. nodes isa name d first)) l e
-    (λ m a r. bind-ok (first_points isa name m.0 m.1) (λ first. nodes isa name d first) l r
-    (λ first b s. bind-ok (all_entries isa sort.Mnemonic name m.0 m.1 nothing_taken)
-    (λ t. some_points name m.0 t) first b
-    (λ t c g. holds-then (not (t.count == 0)) name m.0 [] fault.BadShape (Ok t) first g
-    (λ some same.
-    let mains : Mains isa first = subst (Mains isa) (ok-is t first same) (entries-kept (Mains isa)
-    isa sort.Mnemonic name m.0 (mnemonic-kept isa name m.0) m.1 nothing_taken t
-    (nothing-main isa) c) in
+    bind-ok (main_of name d) (λ m. first_points isa (at_node name m.0) m.1
+    >>= (λ first. nodes isa name d first)) l e
+    (λ m a r. bind-ok (first_points isa (at_node name m.0) m.1)
+    (λ first. nodes isa name d first) l r
+    (λ first b s.
+    let mains = (first-mains isa name d m first a b).0 in
     let main = main-there name d m a in
     let begin : Goes m.0 (ops_of first.points) (starting first) (own_pairs d) = record {
       stand = refl;
@@ -349,8 +277,6 @@ label-plain isa name d l named other own e =
       main_once = λ b. cc;
       mains = mains.mains;
       ops_are = refl;
-      are_read = refl;
-      first_read = mains-read first.points mains.mains;
       pending = inr main.there;
     } in
     bind-ok (each_node isa name (own_pairs d) (starting first))
@@ -368,11 +294,10 @@ label-plain isa name d l named other own e =
       valid = valid;
       apart = ap (λ (x : Label). kinds_are_apart (blocks x.points)) (sym label)
           ∙ together-apart n.taken.points goes.stand;
-      keys_read = ap (λ (x : Label). list_all is_read x.points) (sym label) ∙ goes.are_read;
       ops_are = ap (λ (x : Label). x.ops) (sym label) ∙ sym done
           ∙ ap (λ (x : Label). ops_of x.points) label;
       own_name = ap (λ (x : Label). bytes_eq x.name (codes "datasets")) (sym label) ∙ other;
-    })))))
+    })))
 
 -- ---- labels
 abbrev pub IsPlainIfSelected : Isa → Label → Type 0
@@ -390,9 +315,9 @@ of-plain : (isa : Isa) (name : List ℕ) (d : Data) (l : Label)
     → label_of isa name d ≡ Ok l → IsPlainIfSelected isa l
 of-plain isa name d l other own e =
     if-ok (is_label_name name)
-    (if is_map d then map_label isa name d else refused name [] [] fault.BadShape)
-    (refused name [] [] fault.BadLabelName) l e
-    (λ named g. if-ok (is_map d) (map_label isa name d) (refused name [] [] fault.BadShape) l g
+    (if is_map d then map_label isa name d else refused (at_label name) fault.BadShape)
+    (refused (at_label name) fault.BadLabelName) l e
+    (λ named g. if-ok (is_map d) (map_label isa name d) (refused (at_label name) fault.BadShape) l g
     (λ m r. bind-ok (selects name (config_holds isa (value_at (codes "config") d)))
     (λ b. chosen isa name d b) l r (λ b a s. chosen-plain isa name d b l named other own s))
     (λ m r. err-not _ l r))
@@ -419,10 +344,10 @@ step-plain : (isa : Isa) (name : List ℕ) (d : Data) (l m : Listed)
 step-plain isa name d l m own h e =
     if-ok (bytes_eq name (codes "datasets")) (Ok l) _ m e
     (λ b g. subst (Plainly isa) (ok-is l m g) h)
-    (λ b g. holds-then (nat_lt (length l.labels) 256) name [] [] fault.TooManyLabels
+    (λ b g. holds-then (nat_lt (length l.labels) 256) (at_label name) fault.TooManyLabels
     (label_of isa name d >>= (λ x. with_label name x l)) m g
     (λ few r. bind-ok (label_of isa name d) (λ x. with_label name x l) m r
-    (λ x a s. holds-then (nat_le (l.total + size_of x) 65536) name [] [] fault.TooManyPoints
+    (λ x a s. holds-then (nat_le (l.total + size_of x) 65536) (at_label name) fault.TooManyPoints
     (Ok (listed-at (l.labels ++ x ∷ []) (l.total + size_of x))) m s
     (λ c k. subst (Plainly isa) (ok-is (listed-at (l.labels ++ x ∷ []) (l.total + size_of x)) m k)
     (record {
@@ -458,17 +383,13 @@ pub groups-spelled : (isa : Isa) (d : Data) (ls : List Label) → nodes_are_own 
     → groups_of isa d ≡ Ok ls → CanBeSpelled isa ls
 unfolding groups_of
 groups-spelled isa d ls own e =
-    if-ok (is_empty_scalar d) (Ok []) _ ls e
-    (λ b g. subst (CanBeSpelled isa) (ok-is [] ls g) (record {
-      plain = tt;
-      few_labels = omega arith;
-      few_points = omega arith;
-    }))
-    (λ b g. if-ok (is_map d) (each_label isa (own_pairs d) nothing_listed
-    >>= (λ listed. Ok listed.labels)) _ ls g
-    (λ m r. bind-ok (each_label isa (own_pairs d) nothing_listed) (λ listed. Ok listed.labels) ls r
+    bind-ok (entries (at_label []) d)
+    (λ es. each_label isa es nothing_listed >>= (λ listed. Ok listed.labels)) ls e
+    (λ es there r. bind-ok (each_label isa es nothing_listed) (λ listed. Ok listed.labels) ls r
     (λ listed a s.
-    let p = each_plain isa (own_pairs d) nothing_listed listed own (record {
+    let p = each_plain isa es nothing_listed listed
+    (entries-are (λ es. list_all (λ e. keys_are_own (own_pairs e.1)) es ≡ true) (at_label []) d es
+    there refl own) (record {
       plain = All-nil (IsPlainIfSelected isa);
       few = omega arith;
       total_is = refl;
@@ -490,7 +411,6 @@ groups-spelled isa d ls own e =
             (λ l. refl) size_of listed.labels,
       );
     })))
-    (λ m r. err-not _ ls r))
 
 pub read_spelled : (isa : Isa) (d : Data) (r : Result (List Read) CgfRefusal)
     → AnswersWith (map label_view) r (groups_of isa d)

@@ -7,10 +7,9 @@ use Rattle.std.proofs.lemmas.List.Folds.{list_any-append}
 use Rattle.rvs_cgf.specs.Groups.{Point, same_kind}
 use Rattle.rvs_cgf.specs.Spelled.{Block, block, joined, blocks, kinds_are_apart}
 use Rattle.rvs_cgf.specs.declared.group.Kind.{Kind}
-use Rattle.rvs_cgf.specs.declared.group.Kind.TheVariants as kind
-use Rattle.rvs_cgf.proofs.Distinct.{and-left, and-right, and-is, or-left, or-right, or-fails}
-use Rattle.rvs_cgf.proofs.BlocksRead.{kind-is}
-use Rattle.rvs_cgf.proofs.PointsRead.{not-is}
+use Rattle.rvs_cgf.proofs.SameKinds.{kind-is, kind-sym}
+use Rattle.rvs_cgf.proofs.Distinct.{and-left, and-right, and-is, or-left, or-right, or-fails, or-cases}
+use Rattle.rvs_cgf.proofs.Distinct.{no}
 
 -- ---- points of a kind
 abbrev pub has_kind : Kind → List Point → Bool
@@ -28,66 +27,6 @@ abbrev pub together : List Point → Bool
 together [] = true
 together (p ∷ ps) = (begins_kind p.kind ps || not (has_kind p.kind ps)) && together ps
 
-pub same-self : (k : Kind) → same_kind k k ≡ true
-same-self kind.Mnemonic = refl
-same-self kind.Rs1 = refl
-same-self kind.Rs2 = refl
-same-self kind.Rd = refl
-same-self kind.OpComb = refl
-same-self kind.ValComb = refl
-same-self kind.CrossComb = refl
-
-pub turned : (a b : Kind) → same_kind a b ≡ false → same_kind b a ≡ false
-turned kind.Mnemonic kind.Mnemonic e = cc
-turned kind.Mnemonic kind.Rs1 e = refl
-turned kind.Mnemonic kind.Rs2 e = refl
-turned kind.Mnemonic kind.Rd e = refl
-turned kind.Mnemonic kind.OpComb e = refl
-turned kind.Mnemonic kind.ValComb e = refl
-turned kind.Mnemonic kind.CrossComb e = refl
-turned kind.Rs1 kind.Mnemonic e = refl
-turned kind.Rs1 kind.Rs1 e = cc
-turned kind.Rs1 kind.Rs2 e = refl
-turned kind.Rs1 kind.Rd e = refl
-turned kind.Rs1 kind.OpComb e = refl
-turned kind.Rs1 kind.ValComb e = refl
-turned kind.Rs1 kind.CrossComb e = refl
-turned kind.Rs2 kind.Mnemonic e = refl
-turned kind.Rs2 kind.Rs1 e = refl
-turned kind.Rs2 kind.Rs2 e = cc
-turned kind.Rs2 kind.Rd e = refl
-turned kind.Rs2 kind.OpComb e = refl
-turned kind.Rs2 kind.ValComb e = refl
-turned kind.Rs2 kind.CrossComb e = refl
-turned kind.Rd kind.Mnemonic e = refl
-turned kind.Rd kind.Rs1 e = refl
-turned kind.Rd kind.Rs2 e = refl
-turned kind.Rd kind.Rd e = cc
-turned kind.Rd kind.OpComb e = refl
-turned kind.Rd kind.ValComb e = refl
-turned kind.Rd kind.CrossComb e = refl
-turned kind.OpComb kind.Mnemonic e = refl
-turned kind.OpComb kind.Rs1 e = refl
-turned kind.OpComb kind.Rs2 e = refl
-turned kind.OpComb kind.Rd e = refl
-turned kind.OpComb kind.OpComb e = cc
-turned kind.OpComb kind.ValComb e = refl
-turned kind.OpComb kind.CrossComb e = refl
-turned kind.ValComb kind.Mnemonic e = refl
-turned kind.ValComb kind.Rs1 e = refl
-turned kind.ValComb kind.Rs2 e = refl
-turned kind.ValComb kind.Rd e = refl
-turned kind.ValComb kind.OpComb e = refl
-turned kind.ValComb kind.ValComb e = cc
-turned kind.ValComb kind.CrossComb e = refl
-turned kind.CrossComb kind.Mnemonic e = refl
-turned kind.CrossComb kind.Rs1 e = refl
-turned kind.CrossComb kind.Rs2 e = refl
-turned kind.CrossComb kind.Rd e = refl
-turned kind.CrossComb kind.OpComb e = refl
-turned kind.CrossComb kind.ValComb e = refl
-turned kind.CrossComb kind.CrossComb e = cc
-
 pub or-yes : (x y : Bool) → x ≡ true → (x || y) ≡ true
 or-yes true y e = refl
 or-yes false y e = cc
@@ -95,14 +34,6 @@ or-yes false y e = cc
 pub or-second : (x y : Bool) → y ≡ true → (x || y) ≡ true
 or-second true y e = refl
 or-second false y e = e
-
-pub or-cases : {G : Type 0} (x y : Bool) → (x || y) ≡ true → (x ≡ true → G) → (y ≡ true → G) → G
-or-cases true y e f g = f refl
-or-cases false y e f g = g e
-
-pub both-ways : {G : Type 0} (b : Bool) → b ≡ true → b ≡ false → G
-both-ways true e f = cc
-both-ways false e f = cc
 
 -- points of one kind have no other
 pub others-none : (k j : Kind) (ps : List Point) → all_of k ps ≡ true → same_kind k j ≡ false
@@ -134,7 +65,7 @@ pub together-append : (k : Kind) (xs ys : List Point) → together xs ≡ true �
     → has_kind k xs ≡ false → together (xs ++ ys) ≡ true
 together-append k [] ys t a h = one-kind k ys a
 together-append k (x ∷ xs) ys t a h =
-    let apart = turned x.kind k (or-left (same_kind x.kind k) (has_kind k xs) h) in
+    let apart = kind-sym k x.kind ∙ (or-left (same_kind x.kind k) (has_kind k xs) h) in
     let first = and-left (begins_kind x.kind xs || not (has_kind x.kind xs)) (together xs) t in
     and-is (begins_kind x.kind (xs ++ ys) || not (has_kind x.kind (xs ++ ys))) (together (xs ++ ys))
     (or-cases (begins_kind x.kind xs) (not (has_kind x.kind xs)) first
@@ -142,7 +73,7 @@ together-append k (x ∷ xs) ys t a h =
     (begins-append x.kind xs ys b))
     (λ n. or-second (begins_kind x.kind (xs ++ ys)) (not (has_kind x.kind (xs ++ ys)))
     (ap not (list_any-append (λ p. same_kind p.kind x.kind) xs ys ∙ or-fails (has_kind x.kind xs)
-    (has_kind x.kind ys) (not-is (has_kind x.kind xs) n) (others-none k x.kind ys a apart)))))
+    (has_kind x.kind ys) (no (has_kind x.kind xs) n) (others-none k x.kind ys a apart)))))
     (together-append k xs ys
     (and-right (begins_kind x.kind xs || not (has_kind x.kind xs)) (together xs) t) a
     (or-right (same_kind x.kind k) (has_kind k xs) h))
@@ -229,4 +160,4 @@ together-apart (p ∷ q ∷ qs) t =
     (begins_kind p.kind (q ∷ qs) || not (has_kind p.kind (q ∷ qs))) (together (q ∷ qs)) t)
     (λ e. joined-front p q.kind (blocks (q ∷ qs)) (front-of q (blocks qs)) e rest)
     (λ n. joined-new p (blocks (q ∷ qs))
-    (blocks-have p.kind (q ∷ qs) ∙ not-is (has_kind p.kind (q ∷ qs)) n) rest)
+    (blocks-have p.kind (q ∷ qs) ∙ no (has_kind p.kind (q ∷ qs)) n) rest)

@@ -1,7 +1,7 @@
 -- Each label that is read is valid for the core.
 use Rattle.std.proofs.Common.{◌≡◌, ℕ, suc, ◌+◌, ◌<◌, ◌≤◌, Bool, true, false, not, ◌&&◌, List, []}
-use Rattle.std.proofs.Common.{◌∷◌, ◌++◌, length, map, All, Option, Some, None, Ok, Err, Result}
-use Rattle.std.proofs.Common.{IfOk, option_map, refl, sym, ap, subst, ◌∙◌, arith, append_assoc}
+use Rattle.std.proofs.Common.{◌∷◌, ◌++◌, length, map, All, Option, Some, Ok, Err, Result}
+use Rattle.std.proofs.Common.{IfOk, refl, sym, ap, subst, ◌∙◌, arith, append_assoc}
 use Rattle.std.proofs.Common.{append-nil, length-append, bytes_eq, codes}
 use Rattle.std.specs.Prelude.{nat_le, nat_lt, ◌==◌, ◌||◌, if◌then◌else◌, cond}
 use Rattle.std.specs.List.{list_any, list_all, find}
@@ -18,32 +18,35 @@ use Rattle.rvs_insn.specs.declared.op.Op.{Op}
 use Rattle.rvs_tree.specs.Data.{Data, Pairs, own_pairs, is_map, value_at}
 use Rattle.rvs_facts.specs.Mnemonics.{number, is_same}
 use Rattle.rvs_facts.proofs.Places.{same_number}
-use Rattle.rvs_cgf.specs.Keys.{is_label_name}
-use Rattle.rvs_cgf.specs.Groups.{Meaning, op_is, Point, Label, Found, refused, ◌>>=◌, ◌>>◌, holds}
-use Rattle.rvs_cgf.specs.Groups.{Taken, same_kind, point, is_point, has, add, is_empty_scalar}
-use Rattle.rvs_cgf.specs.Groups.{is_shaped, admitted, entry_of, all_entries, passed_over}
-use Rattle.rvs_cgf.specs.Groups.{is_passed_over, role_of, Nodes, with_first, kept_first, by_role}
-use Rattle.rvs_cgf.specs.Groups.{node_step, each_node, config_holds, selects, main_of, some_points}
+use Rattle.rvs_cgf.specs.Keys.{is_label_name, is_printable}
+use Rattle.rvs_cgf.specs.Says.{of_op}
+use Rattle.rvs_cgf.specs.Groups.{Meaning, op_is, Point, Label, means, says, admits}
+use Rattle.rvs_cgf.specs.Groups.{EntryNames, at_label, at_node, at_key, Found, refused, ◌>>=◌, ◌>>◌}
+use Rattle.rvs_cgf.specs.Groups.{holds, Taken, same_kind, is_point, has, entries, entry_of}
+use Rattle.rvs_cgf.specs.Groups.{all_entries, passed_over, role_of, Nodes}
+use Rattle.rvs_cgf.specs.Groups.{with_first, kept_first, by_role, node_step, each_node}
+use Rattle.rvs_cgf.specs.Groups.{config_holds, selects, main_of, some_points}
 use Rattle.rvs_cgf.specs.Groups.{nothing_taken, op_in, ops_of, finished, starting, nodes}
 use Rattle.rvs_cgf.specs.Groups.{first_points, selected_label, unselected, chosen, map_label}
 use Rattle.rvs_cgf.specs.Groups.{label_of, size_of, Listed, with_label, label_step, each_label}
 use Rattle.rvs_cgf.specs.Groups.{nothing_listed, groups_of}
-use Rattle.rvs_cgf.specs.Valid.{meaning_of, are_distinct, ops_are_distinct, IsMeant, IsValid}
+use Rattle.rvs_cgf.specs.Valid.{are_distinct, ops_are_distinct, IsMeant, IsValid}
 use Rattle.rvs_cgf.specs.Valid.{IsValidIfSelected}
 use Rattle.rvs_cgf.specs.GroupView.{AnswersWith, label_view}
 use Rattle.rvs_cgf.specs.declared.group.Label.{Label as Read}
 use Rattle.rvs_cgf.specs.declared.refusal.CgfRefusal.{CgfRefusal}
 use Rattle.rvs_cgf.specs.declared.groups.Role.{Role}
 use Rattle.rvs_cgf.specs.declared.groups.Role.TheVariants as role
-use Rattle.rvs_cgf.specs.declared.walk.Sort.TheVariants as sort
 use Rattle.rvs_cgf.specs.declared.group.Kind.{Kind}
 use Rattle.rvs_cgf.specs.declared.group.Kind.TheVariants as kind
 use Rattle.rvs_cgf.specs.declared.refusal.CgfKind.TheVariants as fault
+use Rattle.rvs_cgf.proofs.SameKinds.{kind-is}
 use Rattle.rvs_cgf.proofs.Distinct.{and-left, and-right, and-is, or-left, or-right, or-fails}
-use Rattle.rvs_cgf.proofs.Distinct.{has-append, distinct_insert, is_mnemonic, no-mnemonic}
-use Rattle.rvs_cgf.proofs.Adding.{ok-is, err-not, some-is, if-ok, bind-ok, holds-then, printable-is}
-use Rattle.rvs_cgf.proofs.Adding.{Kept, add-kept, IsOf, is_other, kind_of, entry-kept, entries-kept}
-use Rattle.rvs_cgf.proofs.Adding.{passed-kept}
+use Rattle.rvs_cgf.proofs.Distinct.{no, has-append, distinct_insert, is_mnemonic, no-mnemonic}
+use Rattle.rvs_cgf.proofs.Saying.{by-op}
+use Rattle.rvs_cgf.proofs.Adding.{ok-is, err-not, if-ok, bind-ok, holds-then, Kept, IsOf, Gives}
+use Rattle.rvs_cgf.proofs.Adding.{point-kept, entry-kept, entries-kept, passed-kept}
+use Rattle.rvs_cgf.proofs.Roles.{same-bytes, Suits, role-suits, main-printable}
 
 -- ---- nodes
 -- the points so far and those of the mnemonics, as long as their node isn't met
@@ -77,7 +80,7 @@ fits-kept k first = record {
     first_meant = h.first_meant;
     mains = h.mains;
   };
-  passed = λ s t h. record {
+  passed = λ s t _ h. record {
     count_is = h.count_is;
     limit = h.limit;
     distinct = h.distinct;
@@ -86,27 +89,6 @@ fits-kept k first = record {
     mains = h.mains;
   };
 }
-
-abbrev pub good_role : Role → Bool
-good_role (role.Entries s) = is_other s
-good_role _ = true
-
-if-good : (b : Bool) (x y : Role) → good_role x ≡ true → good_role y ≡ true
-    → good_role (if b then x else y) ≡ true
-if-good true x y h k = h
-if-good false x y h k = k
-
-pub role-good : (node : List ℕ) → good_role (role_of node) ≡ true
-role-good node =
-    if-good (bytes_eq node (codes "mnemonics") || bytes_eq node (codes "opcode")) role.Main _ refl
-    (if-good (bytes_eq node (codes "config")) role.Config _ refl
-    (if-good (bytes_eq node (codes "rs1")) (role.Entries (sort.Register kind.Rs1)) _ refl
-    (if-good (bytes_eq node (codes "rs2")) (role.Entries (sort.Register kind.Rs2)) _ refl
-    (if-good (bytes_eq node (codes "rd")) (role.Entries (sort.Register kind.Rd)) _ refl
-    (if-good (bytes_eq node (codes "op_comb")) (role.Entries sort.Operation) _ refl
-    (if-good (bytes_eq node (codes "val_comb")) (role.Entries sort.Numeric) _ refl
-    (if-good (bytes_eq node (codes "cross_comb")) (role.Entries sort.Crossed) _ refl
-    (if-good (is_passed_over node) role.PassedOver role.Unknown refl refl))))))))
 
 first-fits : (n : Nodes) → Fits n → Fits (with_first n)
 first-fits n h = record {
@@ -123,20 +105,21 @@ pub kept-fits : (n m : Nodes) (found-of : Found Taken)
 kept-fits n m found-of h e = bind-ok found-of (λ t. Ok (at n.first t)) m e
     (λ u g r. subst Fits (ok-is (at n.first u) m r) (h u g))
 
-role-fits : (isa : Isa) (label node : List ℕ) (d : Data) (r : Role) → good_role r ≡ true
-    → (n m : Nodes) → Fits n → by_role isa label node d r n ≡ Ok m → Fits m
+role-fits : (isa : Isa) (label node : List ℕ) (d : Data) (r : Role) → Suits node r
+    → (n m : Nodes) → Fits n → by_role isa (at_node label node) d r n ≡ Ok m → Fits m
 role-fits isa label node d role.Main good n m h e =
     subst Fits (ok-is (with_first n) m e) (first-fits n h)
 role-fits isa label node d role.Config good n m h e = subst Fits (ok-is n m e) h
-role-fits isa label node d (role.Entries s) good n m h e =
-    kept-fits n m (all_entries isa s label node d n.taken)
-    (λ u g. entries-kept (λ t. Fits (at n.first t)) isa s label node (entry-kept
-    (λ t. Fits (at n.first t)) isa s (fits-kept (kind_of s) n.first) good label node) d n.taken
-    u h g) e
+role-fits isa label node d (role.Entries k) good n m h e =
+    let place = at_node label node in
+    kept-fits n m (all_entries isa k place d n.taken)
+    (λ u g. entries-kept (λ t. Fits (at n.first t)) isa k place (λ key. entry-kept
+    (λ t. Fits (at n.first t)) isa k (fits-kept k n.first) (good.node_of k refl).other
+    (at_key place key) (good.printable refl)) d n.taken u h g) e
 role-fits isa label node d role.PassedOver good n m h e =
-    kept-fits n m (passed_over isa label node d n.taken) (λ u g. passed-kept
-    (λ t. Fits (at n.first t)) (IsOf kind.Mnemonic) (fits-kept kind.Mnemonic n.first) isa label
-    node d n.taken u h g) e
+    kept-fits n m (passed_over (at_node label node) d n.taken) (λ u g. passed-kept
+    (λ t. Fits (at n.first t)) (IsOf kind.Mnemonic) (fits-kept kind.Mnemonic n.first)
+    (at_node label node) (good.printable refl) d n.taken u h g) e
 role-fits isa label node d role.Unknown good n m h e = err-not _ m e
 
 nodes-fit : (isa : Isa) (label : List ℕ) (es : Pairs) (n m : Nodes) → Fits n
@@ -145,11 +128,11 @@ nodes-fit isa label [] n m h e = subst Fits (ok-is n m e) h
 nodes-fit isa label (x ∷ es) n m h e =
     bind-ok (node_step isa label x.0 x.1 n) (λ k. each_node isa label es k) m e
     (λ k g r. nodes-fit isa label es k m
-    (role-fits isa label x.0 x.1 (role_of x.0) (role-good x.0) n k h g) r)
+    (role-fits isa label x.0 x.1 (role_of x.0) (role-suits x.0) n k h g) r)
 
 -- ---- mnemonics
-pub same-bytes : (xs ys : List ℕ) → bytes_eq xs ys ≡ true → xs ≡ ys
-same-bytes xs ys h = (bytes_eq-Decides xs ys).0 h
+some-is : {A : Type 0} (x y : A) → Some x ≡ Some y → x ≡ y
+some-is x y e = cc
 
 find-by : {A : Type 0} (p : A → Bool) (x y : A) (o : Option A) (b : Bool) → p x ≡ b
     → cond b (Some x) o ≡ Some y → (o ≡ Some y → p y ≡ true) → p y ≡ true
@@ -191,19 +174,8 @@ ops-append (p ∷ ps) qs = ap (λ xs. op_in p.meaning ++ xs) (ops-append ps qs)
     ∙ sym (append_assoc (op_in p.meaning) (ops_of ps) (ops_of qs))
 
 main-kind : (k : Kind) (key : List ℕ) (m : Meaning) → same_kind k kind.Mnemonic ≡ true
-    → meaning_of k key ≡ Some m → option_map op_is (op_of_name key) ≡ Some m
-main-kind kind.Mnemonic key m h e = e
-main-kind kind.Rs1 key m h e = cc
-main-kind kind.Rs2 key m h e = cc
-main-kind kind.Rd key m h e = cc
-main-kind kind.OpComb key m h e = cc
-main-kind kind.ValComb key m h e = cc
-main-kind kind.CrossComb key m h e = cc
-
-named-op : {G : Type 0} (o : Option Op) (m : Meaning) → option_map op_is o ≡ Some m
-    → ((op : Op) → o ≡ Some op → m ≡ op_is op → G) → G
-named-op None m e g = cc
-named-op (Some op) m e g = g op refl (sym (some-is (op_is op) m e))
+    → says k key ≡ means m → of_op (op_of_name key) ≡ means m
+main-kind k key m h e = ap (λ j. says j key) (sym (kind-is k kind.Mnemonic h)) ∙ e
 
 -- two points with one mnemonic have one key
 other-op : (op other : Op) (key key' : List ℕ) → op_of_name key ≡ Some op
@@ -221,15 +193,6 @@ not-both : (x y : Bool) → x ≡ true → (x && y) ≡ false → y ≡ false
 not-both true y e h = h
 not-both false y e h = cc
 
-pub main-of-all : (k : Kind) → same_kind k kind.Mnemonic ≡ true → k ≡ kind.Mnemonic
-main-of-all kind.Mnemonic e = refl
-main-of-all kind.Rs1 e = cc
-main-of-all kind.Rs2 e = cc
-main-of-all kind.Rd e = cc
-main-of-all kind.OpComb e = cc
-main-of-all kind.ValComb e = cc
-main-of-all kind.CrossComb e = cc
-
 op-not-there : (ps : List Point) (op : Op) (key : List ℕ) → op_of_name key ≡ Some op
     → All IsMeant ps → list_all is_mnemonic ps ≡ true → has kind.Mnemonic key ps ≡ false
     → list_any (is_same op) (ops_of ps) ≡ false
@@ -241,8 +204,8 @@ op-not-there (q ∷ qs) op key e meant mains h =
     (or-right (is_point kind.Mnemonic key q) (has kind.Mnemonic key qs) h) in
     let differs = not-both (same_kind q.kind kind.Mnemonic) (bytes_eq q.key key) main
     (or-left (is_point kind.Mnemonic key q) (has kind.Mnemonic key qs) h) in
-    named-op (op_of_name q.key) q.meaning
-    (main-kind q.kind q.key q.meaning main (All-head IsMeant q qs meant).meaning_is)
+    by-op (op_of_name q.key) q.meaning
+    (main-kind q.kind q.key q.meaning main (All-head IsMeant q qs meant).said)
     (λ other f m. ap (λ x. list_any (is_same op) (op_in x ++ ops_of qs)) m
     ∙ or-fails (is_same op other) (list_any (is_same op) (ops_of qs))
     (other-op op other key q.key e f (is_same op other) refl differs) rest)
@@ -254,16 +217,12 @@ ops-insert (o ∷ ops) op d h =
     let own = and-left (not (list_any (is_same o) ops)) (ops_are_distinct ops) d in
     and-is (not (list_any (is_same o) (ops ++ op ∷ []))) (ops_are_distinct (ops ++ op ∷ []))
     (ap not (list_any-append (is_same o) ops (op ∷ [])
-    ∙ or-fails (list_any (is_same o) ops) (is_same o op || false) (not-is (list_any (is_same o) ops)
+    ∙ or-fails (list_any (is_same o) ops) (is_same o op || false) (no (list_any (is_same o) ops)
     own) (or-fails (is_same o op) false
     (turned o op (or-left (is_same op o) (list_any (is_same op) ops) h)) refl)))
     (ops-insert ops op (and-right (not (list_any (is_same o) ops)) (ops_are_distinct ops) d)
     (or-right (is_same op o) (list_any (is_same op) ops) h))
   where
-    not-is : (b : Bool) → not b ≡ true → b ≡ false
-    not-is true e = cc
-    not-is false e = refl
-
     turned : (a b : Op) → is_same b a ≡ false → is_same a b ≡ false
     turned a b e = turn (number a) (number b) e
       where
@@ -280,7 +239,7 @@ mains-kept isa = record {
   one = λ p t h q b c.
       let is = one-op isa t p q in
       let k : has kind.Mnemonic p.key t.points ≡ false =
-      ap (λ k. has k p.key t.points) (sym (main-of-all p.kind q.main)) ∙ b in
+      ap (λ k. has k p.key t.points) (sym (kind-is p.kind kind.Mnemonic q.main)) ∙ b in
       record {
         count_is = omega (arith, h.count_is, length-append t.points (p ∷ []));
         limit = below-limit t.count c;
@@ -303,7 +262,7 @@ mains-kept isa = record {
           length-append t.points (p ∷ []),
         );
       };
-  passed = λ s t h. record {
+  passed = λ s t _ h. record {
     count_is = h.count_is;
     limit = h.limit;
     distinct = h.distinct;
@@ -315,36 +274,21 @@ mains-kept isa = record {
   };
 }
 
-admitted-by : {G : Type 0} (label node key : List ℕ) (isa : Isa) (o : Option Op)
-    (f : Op → Found Taken) (u : Taken) → (admitted label node key isa o >>= f) ≡ Ok u
-    → ((op : Op) → o ≡ Some op → is_admitted_op isa op ≡ true → f op ≡ Ok u → G) → G
-admitted-by label node key isa None f u e g = cc
-admitted-by label node key isa (Some op) f u e g =
-    bind-ok (if is_admitted_op isa op then Ok op else refused label node key fault.UnknownMnemonic)
-    f u e
-    (λ x a r. if-ok (is_admitted_op isa op) (Ok op)
-    (refused label node key fault.UnknownMnemonic) x a
-    (λ b s. g op refl b (ap f (ok-is op x s) ∙ r))
-    (λ b s. err-not _ x s))
+main-point : (isa : Isa) (key : List ℕ) → Gives isa kind.Mnemonic key (IsMain isa)
+main-point isa key m p is a = by-op (op_of_name key) m is (λ op f s. record {
+  meant = record { printable = p; said = is };
+  main = refl;
+  op = op;
+  op_there = s;
+  named = f;
+  admitted_op = ap (admits isa) (sym s) ∙ a;
+})
 
-pub mnemonic-kept : (isa : Isa) (label node key : List ℕ) (d : Data) (t u : Taken) → Mains isa t
-    → entry_of isa sort.Mnemonic label node key d t ≡ Ok u → Mains isa u
-mnemonic-kept isa label node key d t u h e =
-    holds-then (is_shaped key d) label node key fault.BadShape
-    (admitted label node key isa (op_of_name key)
-    >>= (λ op. add label node key (point kind.Mnemonic key (op_is op)) t)) u e
-    (λ s g. admitted-by label node key isa (op_of_name key)
-    (λ op. add label node key (point kind.Mnemonic key (op_is op)) t) u g
-    (λ op is a r. add-kept (Mains isa) (IsMain isa) (mains-kept isa) label node key
-    (point kind.Mnemonic key (op_is op)) t u h
-    (record {
-      meant = record { printable = printable-is key d s; meaning_is = ap (option_map op_is) is };
-      main = refl;
-      op = op;
-      op_there = refl;
-      named = is;
-      admitted_op = a;
-    }) r))
+pub mnemonic-kept : (isa : Isa) (place : EntryNames) → is_printable place.node ≡ true
+    → (d : Data) (t u : Taken) → Mains isa t → entry_of isa kind.Mnemonic place d t ≡ Ok u
+    → Mains isa u
+mnemonic-kept isa place n = point-kept (Mains isa) (IsMain isa) isa place kind.Mnemonic
+    (mains-kept isa) (main-point isa place.key) n
 
 pub nothing-main : (isa : Isa) → Mains isa nothing_taken
 nothing-main isa = record {
@@ -377,13 +321,9 @@ front-distinct (p ∷ ps) qs e =
     let front = and-left (not (has p.kind p.key (ps ++ qs))) (are_distinct (ps ++ qs)) e in
     and-is (not (has p.kind p.key ps)) (are_distinct ps)
     (ap not (or-left (has p.kind p.key ps) (has p.kind p.key qs)
-    (sym (has-append p.kind p.key ps qs) ∙ not-is (has p.kind p.key (ps ++ qs)) front)))
+    (sym (has-append p.kind p.key ps qs) ∙ no (has p.kind p.key (ps ++ qs)) front)))
     (front-distinct ps qs
     (and-right (not (has p.kind p.key (ps ++ qs))) (are_distinct (ps ++ qs)) e))
-  where
-    not-is : (b : Bool) → not b ≡ true → b ≡ false
-    not-is true e = cc
-    not-is false e = refl
 
 some-there : (n m k : ℕ) → not (n == 0) ≡ true → k ≡ m → m ≡ n → 0 < k
 some-there n m k e f g = above n k (f ∙ g) e
@@ -391,21 +331,31 @@ some-there n m k e f g = above n k (f ∙ g) e
     above : (n k : ℕ) → k ≡ n → not (n == 0) ≡ true → 0 < k
     above n k h e = grind (arith, nat_tests)
 
+pub first-mains : (isa : Isa) (name : List ℕ) (d : Data) (m : List ℕ × Data) (first : Taken)
+    → main_of name d ≡ Ok m → first_points isa (at_node name m.0) m.1 ≡ Ok first
+    → Mains isa first × (not (first.count == 0) ≡ true)
+first-mains isa name d m first a b =
+    let place = at_node name m.0 in
+    bind-ok (all_entries isa kind.Mnemonic place m.1 nothing_taken) (λ t. some_points place t)
+    first b
+    (λ t c g. holds-then (not (t.count == 0)) place fault.BadShape (Ok t) first g
+    (λ some same. (
+      subst (Mains isa) (ok-is t first same) (entries-kept (Mains isa) isa kind.Mnemonic place
+          (λ key. mnemonic-kept isa (at_key place key) (main-printable name d m a)) m.1
+          nothing_taken t (nothing-main isa) c),
+      ap (λ (x : Taken). not (x.count == 0)) (sym (ok-is t first same)) ∙ some,
+    )))
+
 pub label-valid : (isa : Isa) (name : List ℕ) (d : Data) (l : Label) → is_label_name name ≡ true
     → selected_label isa name d ≡ Ok l → IsValid isa l
 label-valid isa name d l named e =
-    bind-ok (main_of name d)
-    (λ m. first_points isa name m.0 m.1 >>= (λ first. nodes isa name d first)) l e
-    (λ m a r. bind-ok (first_points isa name m.0 m.1) (λ first. nodes isa name d first) l r
-    (λ first b s. bind-ok (all_entries isa sort.Mnemonic name m.0 m.1 nothing_taken)
-    (λ t. some_points name m.0 t) first b
-    (λ t c g. holds-then (not (t.count == 0)) name m.0 [] fault.BadShape (Ok t) first g
-    (λ some same.
-    let mains : Mains isa first = subst (Mains isa) (ok-is t first same) (entries-kept (Mains isa)
-    isa sort.Mnemonic name m.0 (mnemonic-kept isa name m.0) m.1 nothing_taken t
-    (nothing-main isa) c) in
-    let there : not (first.count == 0) ≡ true =
-    ap (λ (x : Taken). not (x.count == 0)) (sym (ok-is t first same)) ∙ some in
+    bind-ok (main_of name d) (λ m. first_points isa (at_node name m.0) m.1
+    >>= (λ first. nodes isa name d first)) l e
+    (λ m a r. bind-ok (first_points isa (at_node name m.0) m.1)
+    (λ first. nodes isa name d first) l r
+    (λ first b s.
+    let p = first-mains isa name d m first a b in
+    let mains = p.0 in
     bind-ok (each_node isa name (own_pairs d) (starting first))
     (λ n. Ok (finished name (ops_of first.points) n)) l s
     (λ n f k.
@@ -413,14 +363,14 @@ label-valid isa name d l named e =
     nodes-fit isa name (own_pairs d) (starting first) n (starting-fits isa first mains) f in
     subst (IsValid isa) (ok-is (finished name (ops_of first.points) n) l k) (record {
       named = named;
-      some_op = some-there first.count (length first.points) (length (ops_of first.points)) there
+      some_op = some-there first.count (length first.points) (length (ops_of first.points)) p.1
           mains.each mains.count_is;
       own_ops = mains.own;
       admitted = mains.all_admitted;
       few = few-points n.taken.points n.first n.taken.count fits.count_is fits.limit;
       distinct = front-distinct n.taken.points n.first fits.distinct;
       meant = fits.meant;
-    }))))))
+    }))))
 
 -- ---- labels
 chosen-good : (isa : Isa) (name : List ℕ) (d : Data) (b : Bool) (l : Label)
@@ -433,9 +383,9 @@ label-good : (isa : Isa) (name : List ℕ) (d : Data) (l : Label) → label_of i
     → IsValidIfSelected isa l
 label-good isa name d l e =
     if-ok (is_label_name name)
-    (if is_map d then map_label isa name d else refused name [] [] fault.BadShape)
-    (refused name [] [] fault.BadLabelName) l e
-    (λ named g. if-ok (is_map d) (map_label isa name d) (refused name [] [] fault.BadShape) l g
+    (if is_map d then map_label isa name d else refused (at_label name) fault.BadShape)
+    (refused (at_label name) fault.BadLabelName) l e
+    (λ named g. if-ok (is_map d) (map_label isa name d) (refused (at_label name) fault.BadShape) l g
     (λ m r. bind-ok (selects name (config_holds isa (value_at (codes "config") d)))
     (λ b. chosen isa name d b) l r (λ b a s. chosen-good isa name d b l named s))
     (λ m r. err-not _ l r))
@@ -447,13 +397,13 @@ Goods isa listed = All (IsValidIfSelected isa) listed.labels
 step-good : (isa : Isa) (name : List ℕ) (d : Data) (l m : Listed) → Goods isa l
     → label_step isa name d l ≡ Ok m → Goods isa m
 step-good isa name d l m h e =
-    if-ok (bytes_eq name (codes "datasets")) (Ok l) (holds (nat_lt (length l.labels) 256) name [] []
+    if-ok (bytes_eq name (codes "datasets")) (Ok l) (holds (nat_lt (length l.labels) 256) (at_label name)
     fault.TooManyLabels >> (label_of isa name d >>= (λ x. with_label name x l))) m e
     (λ b g. subst (Goods isa) (ok-is l m g) h)
-    (λ b g. holds-then (nat_lt (length l.labels) 256) name [] [] fault.TooManyLabels
+    (λ b g. holds-then (nat_lt (length l.labels) 256) (at_label name) fault.TooManyLabels
     (label_of isa name d >>= (λ x. with_label name x l)) m g
     (λ few r. bind-ok (label_of isa name d) (λ x. with_label name x l) m r
-    (λ x a s. holds-then (nat_le (l.total + size_of x) 65536) name [] [] fault.TooManyPoints
+    (λ x a s. holds-then (nat_le (l.total + size_of x) 65536) (at_label name) fault.TooManyPoints
     (Ok (record {
       labels = l.labels ++ x ∷ [];
       total = l.total + size_of x;
@@ -474,17 +424,12 @@ pub groups_good : (isa : Isa) (d : Data) (ls : List Label) → groups_of isa d �
     → All (IsValidIfSelected isa) ls
 unfolding groups_of
 groups_good isa d ls e =
-    if-ok (is_empty_scalar d) (Ok []) (if is_map d then each_label isa (own_pairs d) nothing_listed
-    >>= (λ listed. Ok listed.labels) else refused [] [] [] fault.BadShape) ls e
-    (λ b g. subst (λ (xs : List Label). All (IsValidIfSelected isa) xs) (ok-is [] ls g)
-    (All-nil (IsValidIfSelected isa)))
-    (λ b g. if-ok (is_map d) (each_label isa (own_pairs d) nothing_listed
-    >>= (λ listed. Ok listed.labels)) (refused [] [] [] fault.BadShape) ls g
-    (λ m r. bind-ok (each_label isa (own_pairs d) nothing_listed) (λ listed. Ok listed.labels) ls r
+    bind-ok (entries (at_label []) d)
+    (λ es. each_label isa es nothing_listed >>= (λ listed. Ok listed.labels)) ls e
+    (λ es _ r. bind-ok (each_label isa es nothing_listed) (λ listed. Ok listed.labels) ls r
     (λ listed a s. subst (λ (xs : List Label). All (IsValidIfSelected isa) xs)
     (ok-is listed.labels ls s)
-    (each-good isa (own_pairs d) nothing_listed listed (All-nil (IsValidIfSelected isa)) a)))
-    (λ m r. err-not _ ls r))
+    (each-good isa es nothing_listed listed (All-nil (IsValidIfSelected isa)) a)))
 
 All-map : {A B : Type 0} (P : B → Type 0) (f : A → B) (xs : List A) → All P (map f xs)
     → All (λ x. P (f x)) xs

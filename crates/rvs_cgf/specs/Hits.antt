@@ -32,6 +32,7 @@ is_meant k (regs f) op facts = expr.holds facts f
 is_meant k (nums f) op facts = expr.holds facts f
 is_meant k (window ps) op facts = false
 
+-- what the point means
 abbrev pub holds : Point → Op → Table → Bool
 holds p op facts = is_meant p.kind p.meaning op facts
 

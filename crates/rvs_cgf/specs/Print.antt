@@ -20,6 +20,7 @@ use Rattle.rvs_cgf.specs.declared.refusal.CgfKind.TheVariants.{BadConfig, TooMan
 use Rattle.rvs_cgf.specs.declared.refusal.CgfKind.TheVariants.{TooManyPoints, NoMemory}
 
 -- ---- groups with all their points written out
+-- the node of a kind
 abbrev pub kind_name : Kind → List ℕ
 kind_name kind.Mnemonic = codes "mnemonics"
 kind_name kind.Rs1 = codes "rs1"
@@ -29,6 +30,7 @@ kind_name kind.OpComb = codes "op_comb"
 kind_name kind.ValComb = codes "val_comb"
 kind_name kind.CrossComb = codes "cross_comb"
 
+-- a single quote twice
 abbrev pub doubled_byte : ℕ → List ℕ
 doubled_byte c = if c == 39 then 39 ∷ 39 ∷ [] else c ∷ []
 
@@ -36,12 +38,15 @@ doubled_byte c = if c == 39 then 39 ∷ 39 ∷ [] else c ∷ []
 abbrev pub doubled : List ℕ → List ℕ
 doubled key = flat_map doubled_byte key
 
+-- the line of a kind
 abbrev pub kind_line : Kind → List ℕ
 kind_line k = codes "  " ++ (kind_name k ++ codes ":\n")
 
+-- the line of a key
 abbrev pub point_line : List ℕ → List ℕ
 point_line key = codes "    '" ++ (doubled key ++ codes "': 0\n")
 
+-- the point before is of this kind
 abbrev pub goes_on : Option Kind → Kind → Bool
 goes_on None k = false
 goes_on (Some before) k = same_kind before k
@@ -50,24 +55,29 @@ goes_on (Some before) k = same_kind before k
 abbrev pub head_line : Option Kind → Kind → List ℕ
 head_line before k = if goes_on before k then [] else kind_line k
 
+-- the lines of points
 abbrev pub points_text : Option Kind → List Point → List ℕ
 points_text before [] = []
 points_text before (p ∷ ps) =
     (head_line before p.kind ++ point_line p.key) ++ points_text (Some p.kind) ps
 
+-- the line of an entry that isn't counted
 abbrev pub skipped_line : Skipped → List ℕ
 skipped_line s = codes "  # skipped " ++ (s.node ++ (codes " " ++ (s.key ++ codes "\n")))
 
+-- the lines of a label; of one that isn't selected the name stands in a comment
 abbrev pub label_text : Label → List ℕ
 label_text l =
     if l.selected then (l.name ++ codes ":\n")
     ++ (points_text None l.points ++ flat_map skipped_line l.skipped)
     else codes "# unselected " ++ (l.name ++ codes "\n")
 
+-- the lines of all labels
 abbrev pub normal_text : List Label → List ℕ
 normal_text groups = flat_map label_text groups
 
 -- ---- refusals
+-- the number of the rule, in the order of docs/FORMATS.md
 abbrev pub number_of : CgfKind → ℕ
 number_of BadLabelName = 1
 number_of BadShape = 2
@@ -87,6 +97,7 @@ abbrev pub or_dash : List ℕ → List ℕ
 or_dash [] = codes "-"
 or_dash (c ∷ cs) = c ∷ cs
 
+-- why an expression is refused, and where
 abbrev pub expr_text : ExprRefusal → List ℕ
 expr_text why = codes " expr "
     ++ (decimal (expr.number_of why.kind) ++ (codes " column " ++ decimal why.column))
@@ -98,6 +109,7 @@ cross_detail (cross.UnknownMnemonic name) = codes " " ++ name
 cross_detail (cross.Expr why) = expr_text why
 cross_detail _ = []
 
+-- why an expression, a call or a cross point is refused
 abbrev pub inner_text : CgfKind → List ℕ
 inner_text (BadExpr why) = expr_text why
 inner_text (BadAbstract why) = codes " abstract " ++ decimal (calls.number_of why)

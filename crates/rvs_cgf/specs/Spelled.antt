@@ -5,21 +5,21 @@ use Rattle.std.specs.List.{list_any, list_all}
 use Rattle.rvs_insn.specs.Isa.{Isa}
 use Rattle.rvs_insn.specs.Names.{is_admitted_op}
 use Rattle.rvs_tree.specs.Data.{Data, Pairs, own_pairs, is_map, is_scalar}
-use Rattle.rvs_cgf.specs.Keys.{is_skipped}
 use Rattle.rvs_cgf.specs.Groups.{Point, Label, same_kind, is_empty_scalar, ops_of, size_of}
 use Rattle.rvs_cgf.specs.Print.{kind_name}
 use Rattle.rvs_cgf.specs.Valid.{IsValid}
 use Rattle.rvs_cgf.specs.declared.group.Kind.{Kind}
-use Rattle.rvs_cgf.specs.declared.group.Kind.TheVariants as kind
 
 -- points of one kind side by side
 pub record Block : Type 0 where
   pub kind : Kind
   pub points : List Point
 
+-- the block of these points
 abbrev pub block : Kind → List Point → Block
 block k ps = record { kind = k; points = ps }
 
+-- a point before blocks, in the first where that is of its kind
 abbrev pub joined : Point → List Block → List Block
 joined p [] = block p.kind (p ∷ []) ∷ []
 joined p (b ∷ bs) = if same_kind b.kind p.kind then block p.kind (p ∷ b.points) ∷ bs
@@ -31,6 +31,7 @@ blocks [] = []
 blocks (p ∷ ps) = joined p (blocks ps)
 
 -- ---- trees: lines are free, and so is what the scalars say
+-- a key for each point
 abbrev pub SpellsKeys : List Point → Pairs → Type 0
 SpellsKeys [] [] = Unit {0}
 SpellsKeys [] (e ∷ es) = ⊥
@@ -53,11 +54,13 @@ SpellsLabels (l ∷ ls) [] = ⊥
 SpellsLabels (l ∷ ls) (e ∷ es) = (e.0 ≡ l.name) × (is_map e.1 ≡ true)
     × SpellsNodes (blocks l.points) (own_pairs e.1) × SpellsLabels ls es
 
+-- a map of labels, or nothing where there is none
 abbrev pub SpellsAll : List Label → Data → Type 0
 SpellsAll [] d = is_empty_scalar d ≡ true
 SpellsAll (l ∷ ls) d =
     (is_empty_scalar d ≡ false) × (is_map d ≡ true) × SpellsLabels (l ∷ ls) (own_pairs d)
 
+-- the labels that are selected
 abbrev pub selected : List Label → List Label
 selected ls = filter (λ l. l.selected) ls
 
@@ -66,28 +69,20 @@ abbrev pub Spells : List Label → Data → Type 0
 Spells ls d = SpellsAll (selected ls) d
 
 -- ---- groups
+-- no two blocks are of one kind
 abbrev pub kinds_are_apart : List Block → Bool
 kinds_are_apart [] = true
 kinds_are_apart (b ∷ bs) = not (list_any (λ c. same_kind c.kind b.kind) bs) && kinds_are_apart bs
 
-abbrev pub is_expression : Kind → Bool
-is_expression kind.OpComb = true
-is_expression kind.ValComb = true
-is_expression _ = false
-
--- a key that reading doesn't pass over
-abbrev pub is_read : Point → Bool
-is_read p = not (is_expression p.kind && is_skipped p.key)
-
--- A valid label whose points of each kind stand together, whose keys are read, and whose mnemonics
--- are those of its points.
+-- a valid label whose points of each kind stand together, and whose mnemonics are those of its
+-- points
 pub record IsPlain (isa : Isa) (l : Label) : Type 0 where
   pub valid : IsValid isa l
   pub apart : kinds_are_apart (blocks l.points) ≡ true
-  pub keys_read : list_all is_read l.points ≡ true
   pub ops_are : l.ops ≡ ops_of l.points
   pub own_name : bytes_eq l.name (codes "datasets") ≡ false
 
+-- all labels are plain
 abbrev pub ArePlain : Isa → List Label → Type 0
 ArePlain isa [] = Unit {0}
 ArePlain isa (l ∷ ls) = IsPlain isa l × ArePlain isa ls
@@ -107,6 +102,7 @@ abbrev pub bare : Label → Label
 bare l = record { name = l.name; selected = true; ops = l.ops; points = l.points; skipped = [] }
 
 -- ---- what a file's tree gives
+-- no key comes twice
 abbrev pub keys_are_own : Pairs → Bool
 keys_are_own [] = true
 keys_are_own (e ∷ es) = not (list_any (λ f. bytes_eq f.0 e.0) es) && keys_are_own es

@@ -15,12 +15,15 @@ pub record Told : Type 0 where
   pub count : ℕ
   pub total : ℕ
 
+-- what is told of labels
 abbrev pub told : Listed → Told
 told listed =
     record { text = normal_text listed.labels; count = length listed.labels; total = listed.total }
 
+-- what is told of an answer that gives labels
 abbrev pub told_of : Found Listed → Found Told
 told_of found = found >>= (λ listed. Ok (told listed))
 
+-- before the first label
 abbrev pub nothing_told : Told
 nothing_told = record { text = []; count = 0; total = 0 }

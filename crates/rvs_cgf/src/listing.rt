@@ -13,6 +13,7 @@ use crate::group::{Groups, Label};
 use crate::labelling::label_of;
 use crate::limits::{MOST_LABELS, MOST_PAIRS};
 use crate::listed::Listed;
+use crate::place::at_label;
 use crate::refusal::{CgfKind, CgfRefusal};
 use crate::walk::{holds, no_memory, refusal};
 use rvs_base::{Items, NoMemory, release};
@@ -52,7 +53,7 @@ fn with_label(alloc: Global, name: &str, label: Label, listed: Listed) -> Result
     let total = listed.total + size(&label);
     if total > MOST_PAIRS {
         release(label);
-        return Err(refusal(alloc, name, "", "", CgfKind::TooManyPoints));
+        return Err(refusal(alloc, at_label(name), CgfKind::TooManyPoints));
     }
     match pushed(label, total, listed) {
         Ok(listed) => Ok(listed),
@@ -81,7 +82,7 @@ fn label_step(
         return Ok(listed);
     }
     let few = has_room(&listed);
-    holds(alloc, few, name, "", "", CgfKind::TooManyLabels)?;
+    holds(alloc, few, at_label(name), CgfKind::TooManyLabels)?;
     let label = label_of(alloc, isa, name, entries)?;
     with_label(alloc, name, label, listed)
 }
@@ -124,7 +125,7 @@ fn read_tree(alloc: Global, tree: &Tree, isa: &IsaSpec) -> Result<Groups, CgfRef
         let Listed { labels, total: _ } = list_labels(alloc, isa, tree)?;
         return Ok(labels);
     }
-    Err(refusal(alloc, "", "", "", CgfKind::BadShape))
+    Err(refusal(alloc, at_label(""), CgfKind::BadShape))
 }
 
 /// Reads coverage groups, as riscv-ctg and riscv-isac have them, for a core: each label with its

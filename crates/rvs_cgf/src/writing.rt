@@ -13,6 +13,7 @@ use crate::group::Label;
 use crate::labelling::label_of;
 use crate::limits::{MOST_LABELS, MOST_PAIRS};
 use crate::listing::size;
+use crate::place::at_label;
 use crate::print::push_label;
 use crate::refusal::{CgfKind, CgfRefusal};
 use crate::walk::{holds, no_memory, refusal};
@@ -57,7 +58,7 @@ fn with_label(
 {
     let total = written.total + size(label);
     if total > MOST_PAIRS {
-        return Err(refusal(alloc, name, "", "", CgfKind::TooManyPoints));
+        return Err(refusal(alloc, at_label(name), CgfKind::TooManyPoints));
     }
     match pushed(label, total, written) {
         Ok(written) => Ok(written),
@@ -81,7 +82,7 @@ fn write_step(
         return Ok(written);
     }
     let few = written.count < MOST_LABELS;
-    holds(alloc, few, name, "", "", CgfKind::TooManyLabels)?;
+    holds(alloc, few, at_label(name), CgfKind::TooManyLabels)?;
     let label = label_of(alloc, isa, name, entries)?;
     let written = with_label(alloc, name, &label, written);
     release(label);
@@ -135,5 +136,5 @@ pub fn write_groups(alloc: Global, tree: &Tree, isa: &IsaSpec) -> Result<Text, C
         } = write_labels(alloc, isa, tree)?;
         return Ok(text);
     }
-    Err(refusal(alloc, "", "", "", CgfKind::BadShape))
+    Err(refusal(alloc, at_label(""), CgfKind::BadShape))
 }

@@ -1,17 +1,21 @@
 -- The coverage group of the demonstration.
-use Rattle.std.specs.Prelude.{ℕ, true, List, [], ◌∷◌, ◌++◌, option_map, codes}
+use Rattle.std.specs.Prelude.{ℕ, true, List, [], ◌∷◌, ◌++◌, Option, Some, None, codes}
 use Rattle.std.specs.List.{filter_map}
 use Rattle.rvs_insn.specs.declared.op.Op.{Op}
 use Rattle.rvs_insn.specs.declared.op.Op.TheVariants.{Add, Sub, Xor, Or, And, Slt, Sltu, Mul}
 use Rattle.rvs_cgf.specs.declared.group.Kind.{Kind}
 use Rattle.rvs_cgf.specs.declared.group.Kind.TheVariants.{Mnemonic, Rs1, Rs2, Rd, OpComb, ValComb}
 use Rattle.rvs_cgf.specs.declared.group.Kind.TheVariants.{CrossComb}
-use Rattle.rvs_cgf.specs.Groups.{Point, Label, point}
-use Rattle.rvs_cgf.specs.Valid.{meaning_of}
+use Rattle.rvs_cgf.specs.Groups.{Point, Label, point, Said, means, says}
+
+-- the point of a key that means something
+abbrev pub told : Kind → List ℕ → Said → Option Point
+told kind key (means m) = Some (point kind key m)
+told kind key _ = None
 
 -- the points that keys say under a kind
 unfoldable pub points_of : Kind → List (List ℕ) → List Point
-points_of kind keys = filter_map (λ key. option_map (point kind key) (meaning_of kind key)) keys
+points_of kind keys = filter_map (λ key. told kind key (says kind key)) keys
 
 unfoldable pub mnemonics : List (List ℕ)
 mnemonics =

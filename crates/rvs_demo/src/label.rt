@@ -1,79 +1,25 @@
 // The coverage group of the demonstration.
 ghost use Rattle.std.specs.Prelude.{◌≡◌, ◌++◌, IfOk, OnOk, map, option_map};
-ghost use Rattle.rvs_cgf.specs.GroupView.{label_view, meaning_view, point_view};
-ghost use Rattle.rvs_cgf.specs.Groups as group;
-ghost use Rattle.rvs_cgf.specs.Valid.{meaning_of};
+ghost use Rattle.rvs_cgf.specs.GroupView.{label_view, point_view};
+ghost use Rattle.rvs_cgf.specs.Groups.{says};
 ghost use Rattle.rvs_demo.specs.Label as spec;
 
 use rvs_base::{Items, NoMemory, Text};
-use rvs_cgf::{Kind, Label, Meaning, Point};
-use rvs_cross::{CrossRead, CrossRefusal, parse_cross};
-use rvs_expr::{ExprKind, parse_num, parse_reg};
-use rvs_expr_text::register_number;
-use rvs_insn::{Op, op_of};
+use rvs_cgf::{Kind, Label, Point, Said, read_key};
+use rvs_insn::Op;
 use std::alloc::Global;
 
-fn over_registers(alloc: Global, key: &str) -> Result<Option<Meaning>, NoMemory>
-    ensures { IfOk result (λ m. option_map meaning_view m ≡ meaning_of Kind.OpComb key.now) }
-{
-    match parse_reg(alloc, key, &[]) {
-        Ok(expr) => Ok(Some(Meaning::Regs(expr))),
-        Err(refusal) => match refusal.kind {
-            ExprKind::NoMemory => Err(NoMemory),
-            _ => Ok(None),
-        },
-    }
-}
-
-fn over_numbers(alloc: Global, key: &str) -> Result<Option<Meaning>, NoMemory>
-    ensures { IfOk result (λ m. option_map meaning_view m ≡ meaning_of Kind.ValComb key.now) }
-{
-    match parse_num(alloc, key) {
-        Ok(expr) => Ok(Some(Meaning::Nums(expr))),
-        Err(refusal) => match refusal.kind {
-            ExprKind::NoMemory => Err(NoMemory),
-            _ => Ok(None),
-        },
-    }
-}
-
-fn over_neighbours(alloc: Global, key: &str) -> Result<Option<Meaning>, NoMemory>
-    ensures { IfOk result (λ m. option_map meaning_view m ≡ meaning_of Kind.CrossComb key.now) }
-{
-    match parse_cross(alloc, key) {
-        Ok(CrossRead::Read(cross)) => Ok(Some(Meaning::Window(cross))),
-        Ok(CrossRead::Skipped) => Ok(None),
-        Err(CrossRefusal::NoMemory) => Err(NoMemory),
-        Err(_) => Ok(None),
-    }
-}
-
-/// What a key says under its kind, where it says something.
-fn meaning(alloc: Global, kind: Kind, key: &str) -> Result<Option<Meaning>, NoMemory>
-    ensures { IfOk result (λ m. option_map meaning_view m ≡ meaning_of kind key.now) }
-{
-    match kind {
-        Kind::Mnemonic => Ok(op_of(key).map(Meaning::OpIs)),
-        Kind::Rs1 | Kind::Rs2 | Kind::Rd => {
-            Ok(register_number(key.as_bytes()).map(Meaning::RegIs))
-        },
-        Kind::OpComb => over_registers(alloc, key),
-        Kind::ValComb => over_numbers(alloc, key),
-        Kind::CrossComb => over_neighbours(alloc, key),
-    }
-}
-
-/// The point of a key, where it says something.
+/// The point of a key, where it says one.
 fn point(alloc: Global, kind: Kind, key: &str) -> Result<Option<Point>, NoMemory>
-    ensures { IfOk result (λ p. option_map point_view p
-        ≡ option_map (group.point kind key.now) (meaning_of kind key.now)) }
+    ensures { IfOk result
+        (λ p. option_map point_view p ≡ spec.told kind key.now (says kind key.now)) }
 {
-    match meaning(alloc, kind, key)? {
-        None => Ok(None),
-        Some(meaning) => {
+    match read_key(alloc, kind, key)? {
+        Said::Means(meaning) => {
             let key = Text::from(String::from_str(alloc, key)?);
             Ok(Some(Point { kind, key, meaning }))
         }
+        _ => Ok(None),
     }
 }
 

@@ -1,18 +1,20 @@
 -- Keys and names that differ.
-use Rattle.std.proofs.Common.{◌≡◌, ℕ, Bool, true, false, List, [], ◌∷◌, ◌++◌, refl, sym, subst, ◌∙◌}
-use Rattle.std.proofs.Common.{true≢false}
+use Rattle.std.proofs.Common.{◌≡◌, ℕ, Bool, true, false, List, [], ◌∷◌, ◌++◌, refl, sym, ap}
+use Rattle.std.proofs.Common.{subst, ◌∙◌, true≢false}
 use Rattle.std.specs.Prelude.{not, map, bytes_eq}
 use Rattle.std.specs.List.{list_any}
 use Rattle.std.proofs.lemmas.List.Folds.{list_any-append}
 use Rattle.std.proofs.lemmas.Slice.Eq.{bytes_eq-Decides}
 use Rattle.rvs_tree.specs.Value.{has_key}
-use Rattle.rvs_cgf.specs.Groups.{Point, Label, same_kind, is_point, has}
+use Rattle.rvs_cgf.specs.Groups.{Point, Label, same_kind, is_point, has, role_of}
 use Rattle.rvs_cgf.specs.declared.group.Kind.{Kind}
-use Rattle.rvs_cgf.specs.declared.group.Kind.TheVariants.{Mnemonic, Rs1, Rs2, Rd, OpComb, ValComb}
-use Rattle.rvs_cgf.specs.declared.group.Kind.TheVariants.{CrossComb}
+use Rattle.rvs_cgf.specs.declared.group.Kind.TheVariants as kind
+use Rattle.rvs_cgf.specs.declared.groups.Role.{Role}
+use Rattle.rvs_cgf.specs.declared.groups.Role.TheVariants as role
 use Rattle.rvs_cgf.specs.Print.{kind_name}
 use Rattle.rvs_cgf.specs.Spelled.{Block, joined, blocks, kinds_are_apart}
 use Rattle.rvs_cgf.specs.Valid.{are_distinct}
+use Rattle.rvs_cgf.proofs.SameKinds.{same-self, kind-is}
 use Rattle.rvs_normal.specs.Again.{names_are_apart}
 use Rattle.rvs_normal.proofs.Truths.{both, and-false, or-both, or-last, not-true}
 use Rattle.rvs_normal.proofs.Placed.{keys}
@@ -54,107 +56,30 @@ pub free : (k : List ℕ) (ks : List (List ℕ)) → Distinct (k ∷ ks) → Are
 free k ks d = free-from (k ∷ []) ks (free-of-one k ks d.0) d.1
 
 -- ---- kinds
-pub kind-is : (j k : Kind) → same_kind j k ≡ true → j ≡ k
-kind-is Mnemonic Mnemonic h = refl
-kind-is Mnemonic Rs1 h = cc
-kind-is Mnemonic Rs2 h = cc
-kind-is Mnemonic Rd h = cc
-kind-is Mnemonic OpComb h = cc
-kind-is Mnemonic ValComb h = cc
-kind-is Mnemonic CrossComb h = cc
-kind-is Rs1 Mnemonic h = cc
-kind-is Rs1 Rs1 h = refl
-kind-is Rs1 Rs2 h = cc
-kind-is Rs1 Rd h = cc
-kind-is Rs1 OpComb h = cc
-kind-is Rs1 ValComb h = cc
-kind-is Rs1 CrossComb h = cc
-kind-is Rs2 Mnemonic h = cc
-kind-is Rs2 Rs1 h = cc
-kind-is Rs2 Rs2 h = refl
-kind-is Rs2 Rd h = cc
-kind-is Rs2 OpComb h = cc
-kind-is Rs2 ValComb h = cc
-kind-is Rs2 CrossComb h = cc
-kind-is Rd Mnemonic h = cc
-kind-is Rd Rs1 h = cc
-kind-is Rd Rs2 h = cc
-kind-is Rd Rd h = refl
-kind-is Rd OpComb h = cc
-kind-is Rd ValComb h = cc
-kind-is Rd CrossComb h = cc
-kind-is OpComb Mnemonic h = cc
-kind-is OpComb Rs1 h = cc
-kind-is OpComb Rs2 h = cc
-kind-is OpComb Rd h = cc
-kind-is OpComb OpComb h = refl
-kind-is OpComb ValComb h = cc
-kind-is OpComb CrossComb h = cc
-kind-is ValComb Mnemonic h = cc
-kind-is ValComb Rs1 h = cc
-kind-is ValComb Rs2 h = cc
-kind-is ValComb Rd h = cc
-kind-is ValComb OpComb h = cc
-kind-is ValComb ValComb h = refl
-kind-is ValComb CrossComb h = cc
-kind-is CrossComb Mnemonic h = cc
-kind-is CrossComb Rs1 h = cc
-kind-is CrossComb Rs2 h = cc
-kind-is CrossComb Rd h = cc
-kind-is CrossComb OpComb h = cc
-kind-is CrossComb ValComb h = cc
-kind-is CrossComb CrossComb h = refl
+-- the kind that a node's name stands for
+abbrev kind_of : Role → Kind
+kind_of (role.Entries k) = k
+kind_of _ = kind.Mnemonic
+
+own-name : (k : Kind) → kind_of (role_of (kind_name k)) ≡ k
+own-name kind.Mnemonic = refl
+own-name kind.Rs1 = refl
+own-name kind.Rs2 = refl
+own-name kind.Rd = refl
+own-name kind.OpComb = refl
+own-name kind.ValComb = refl
+own-name kind.CrossComb = refl
 
 name-apart : (j k : Kind) → same_kind k j ≡ false → bytes_eq (kind_name j) (kind_name k) ≡ false
-name-apart Mnemonic Mnemonic h = cc
-name-apart Mnemonic Rs1 h = refl
-name-apart Mnemonic Rs2 h = refl
-name-apart Mnemonic Rd h = refl
-name-apart Mnemonic OpComb h = refl
-name-apart Mnemonic ValComb h = refl
-name-apart Mnemonic CrossComb h = refl
-name-apart Rs1 Mnemonic h = refl
-name-apart Rs1 Rs1 h = cc
-name-apart Rs1 Rs2 h = refl
-name-apart Rs1 Rd h = refl
-name-apart Rs1 OpComb h = refl
-name-apart Rs1 ValComb h = refl
-name-apart Rs1 CrossComb h = refl
-name-apart Rs2 Mnemonic h = refl
-name-apart Rs2 Rs1 h = refl
-name-apart Rs2 Rs2 h = cc
-name-apart Rs2 Rd h = refl
-name-apart Rs2 OpComb h = refl
-name-apart Rs2 ValComb h = refl
-name-apart Rs2 CrossComb h = refl
-name-apart Rd Mnemonic h = refl
-name-apart Rd Rs1 h = refl
-name-apart Rd Rs2 h = refl
-name-apart Rd Rd h = cc
-name-apart Rd OpComb h = refl
-name-apart Rd ValComb h = refl
-name-apart Rd CrossComb h = refl
-name-apart OpComb Mnemonic h = refl
-name-apart OpComb Rs1 h = refl
-name-apart OpComb Rs2 h = refl
-name-apart OpComb Rd h = refl
-name-apart OpComb OpComb h = cc
-name-apart OpComb ValComb h = refl
-name-apart OpComb CrossComb h = refl
-name-apart ValComb Mnemonic h = refl
-name-apart ValComb Rs1 h = refl
-name-apart ValComb Rs2 h = refl
-name-apart ValComb Rd h = refl
-name-apart ValComb OpComb h = refl
-name-apart ValComb ValComb h = cc
-name-apart ValComb CrossComb h = refl
-name-apart CrossComb Mnemonic h = refl
-name-apart CrossComb Rs1 h = refl
-name-apart CrossComb Rs2 h = refl
-name-apart CrossComb Rd h = refl
-name-apart CrossComb OpComb h = refl
-name-apart CrossComb ValComb h = refl
-name-apart CrossComb CrossComb h = cc
+name-apart j k h = by-case (bytes_eq (kind_name j) (kind_name k)) refl
+  where
+    by-case : (s : Bool) → bytes_eq (kind_name j) (kind_name k) ≡ s → s ≡ false
+    by-case false e = refl
+    by-case true e =
+        let same : kind_name k ≡ kind_name j =
+        sym ((bytes_eq-Decides (kind_name j) (kind_name k)).0 e) in
+        let is : k ≡ j = sym (own-name k) ∙ ap (λ n. kind_of (role_of n)) same ∙ own-name j in
+        sym (same-self k) ∙ ap (same_kind k) is ∙ h
 
 kind-through : (a b c : Kind) → same_kind a b ≡ true → same_kind b c ≡ true → same_kind a c ≡ true
 kind-through a b c h k = subst (λ d. same_kind d c ≡ true) (sym (kind-is a b h)) k

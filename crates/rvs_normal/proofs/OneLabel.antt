@@ -1,5 +1,5 @@
 -- One label, printed and read again.
-use Rattle.std.proofs.Common.{◌≡◌, [], ◌∷◌, ◌++◌, pos, false, refl, sym, ap, subst, ◌∙◌, lit<, lit≤}
+use Rattle.std.proofs.Common.{◌≡◌, [], ◌∷◌, ◌++◌, pos, refl, sym, ap, subst, ◌∙◌, lit<, lit≤}
 use Rattle.std.proofs.lemmas.Fmt.{decimal_digit}
 use Rattle.std.proofs.lemmas.List.Elements.{All-nil, All-cons}
 use Rattle.rvs_insn.specs.Isa.{Isa}
@@ -7,15 +7,14 @@ use Rattle.rvs_insn.specs.Names.{op_of_name}
 use Rattle.rvs_insn.specs.declared.op.Op.TheVariants.{Add}
 use Rattle.rvs_expr_text.specs.declared.lexeme.NumName.TheVariants.{Rs1Val}
 use Rattle.rvs_yaml.specs.Parsed.{answer}
-use Rattle.std.specs.Prelude.{◌&&◌, codes, true, not}
+use Rattle.std.specs.Prelude.{codes}
 use Rattle.rvs_expr.specs.Equation.{name_of, key_of, number_of, equation_of}
-use Rattle.rvs_cgf.specs.Keys.{is_skipped}
 use Rattle.rvs_cgf.specs.Groups.{point, op_is, nums}
 use Rattle.rvs_cgf.specs.Print.{normal_text}
 use Rattle.rvs_cgf.specs.Valid.{IsMeant, IsValid}
 use Rattle.rvs_cgf.specs.Spelled.{IsPlain, CanBeSpelled}
 use Rattle.rvs_cgf.specs.declared.group.Kind.TheVariants.{Mnemonic, ValComb}
-use Rattle.rvs_cgf.proofs.FamilyKeys.{value_meant, value_read}
+use Rattle.rvs_cgf.proofs.FamilyKeys.{value_meant}
 use Rattle.rvs_cgf.proofs.ReadBack.{spelled_is_read}
 use Rattle.rvs_normal.specs.Example.{example, example_text, IsReadAs}
 use Rattle.rvs_normal.proofs.Spelling.{IsPrinted, printed-is-read}
@@ -25,7 +24,7 @@ text_is = refl
 
 op-meant : IsMeant (point Mnemonic (codes "add") (op_is Add))
 unfolding op_of_name
-op-meant = record { printable = refl; meaning_is = refl }
+op-meant = record { printable = refl; said = refl }
 
 key-is : key_of Rs1Val (pos 7) ≡ codes "rs1_val == 7"
 key-is = ap (λ ds. name_of Rs1Val ++ (codes " == " ++ ds)) (decimal_digit 7 (lit< tt))
@@ -34,9 +33,6 @@ value-meant : IsMeant
     (point ValComb (codes "rs1_val == 7") (nums (equation_of Rs1Val (number_of (pos 7)))))
 value-meant = subst (λ k. IsMeant (point ValComb k (nums (equation_of Rs1Val (number_of (pos 7))))))
     key-is (value_meant Rs1Val (pos 7) (lit≤ tt))
-
-value-read : is_skipped (codes "rs1_val == 7") ≡ false
-value-read = sym (ap is_skipped key-is) ∙ value_read Rs1Val (pos 7) (lit≤ tt)
 
 valid : (isa : Isa) → IsValid isa example
 valid isa = record {
@@ -57,7 +53,6 @@ plain : (isa : Isa) → IsPlain isa example
 plain isa = record {
   valid = valid isa;
   apart = refl;
-  keys_read = ap (λ b. not b && true) value-read;
   ops_are = refl;
   own_name = refl;
 }

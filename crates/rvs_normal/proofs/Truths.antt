@@ -30,10 +30,6 @@ or-false true q h k = cc
 pub or-last : (p q : Bool) → p ≡ false → q ≡ false → (p || (q || false)) ≡ false
 or-last p q h k = or-false p (q || false) h (or-false q false k refl)
 
-pub or-either : {G : Type 0} (p q : Bool) → (p || q) ≡ true → (p ≡ true → G) → (q ≡ true → G) → G
-or-either true q e f g = f refl
-or-either false q e f g = g e
-
 pub or-true : (p q : Bool) → (p || not q) ≡ true → p ≡ false → q ≡ false
 or-true false false h e = refl
 or-true false true h e = cc

@@ -1,30 +1,18 @@
 -- The points of a valid label.
 use Rattle.std.proofs.Common.{◌≡◌, ℕ, ◌+◌, ◌<◌, ◌≤◌, true, List, [], length, map, get_or, Option}
 use Rattle.std.proofs.Common.{Some, None, refl, sym, ap, ◌∙◌, subst}
-use Rattle.std.specs.Prelude.{option_map, option_and_then, slice_get, IfSome, IfNone, Ok, Err}
+use Rattle.std.specs.Prelude.{option_map, option_and_then, slice_get, IfSome, IfNone}
 use Rattle.std.proofs.lemmas.List.{get_or-map, length-map}
 use Rattle.std.proofs.lemmas.Option.{slice_get_read, slice_get-map}
-use Rattle.rvs_insn.specs.declared.op.Op.{Op}
 use Rattle.rvs_insn.specs.Isa.{Isa}
-use Rattle.rvs_insn.specs.Names.{op_of_name}
-use Rattle.rvs_expr_text.specs.Words.{register_number}
-use Rattle.rvs_expr_text.specs.Refusal.{Found}
-use Rattle.rvs_expr_text.specs.declared.words.Language.TheVariants.{Numbers, Registers}
-use Rattle.rvs_expr.specs.Typed.{Formula}
-use Rattle.rvs_expr.specs.Parse.{parse}
-use Rattle.rvs_expr.specs.Only.{only_numbers, only_registers}
 use Rattle.rvs_expr.proofs.OneLanguage.{numbers_alone, registers_alone}
-use Rattle.rvs_cgf.specs.Groups.{Meaning, op_is, reg_is, regs, nums, window, Point as PointOf}
-use Rattle.rvs_cgf.specs.Groups.{Label as LabelOf}
+use Rattle.rvs_cgf.specs.Groups.{Meaning, means, says, Point as PointOf, Label as LabelOf}
 use Rattle.rvs_cgf.specs.GroupView.{meaning_view, point_view, label_view}
-use Rattle.rvs_cross.specs.Cross.{Place}
-use Rattle.rvs_cross.specs.Parse as crosses
-use Rattle.rvs_cgf.specs.Valid.{found, places, meaning_of, IsValid}
+use Rattle.rvs_cgf.specs.Valid.{IsValid}
 use Rattle.rvs_cgf.specs.declared.group.Kind.{Kind}
-use Rattle.rvs_cgf.specs.declared.group.Kind.TheVariants.{Mnemonic, Rs1, Rs2, Rd, OpComb, ValComb}
-use Rattle.rvs_cgf.specs.declared.group.Kind.TheVariants.{CrossComb}
 use Rattle.rvs_cgf.specs.declared.group.Point.{Point}
 use Rattle.rvs_cgf.specs.declared.group.Label.{Label}
+use Rattle.rvs_cgf.proofs.Saying.{said_by}
 use Rattle.rvs_solver.specs.Point.{is_valid}
 use Rattle.rvs_solver.specs.Solving.{first_meant, first_of_point, first_at, bound_meant, bound_at}
 use Rattle.rvs_solver.specs.Solving.{bound_or_none, SolvesAs, IsLeastAt, IsSolvable, IsSolvableAs}
@@ -33,44 +21,16 @@ use Rattle.rvs_solver.specs.declared.solved.Solved.{Solved}
 
 -- ---- meanings of keys are of one language
 
-op_valid : (o : Option Op) (m : Meaning) → option_map op_is o ≡ Some m → is_valid m ≡ true
-op_valid None m h = cc
-op_valid (Some op) m h = let is : op_is op ≡ m = cc in ap is_valid (sym is)
-
-reg_valid : (o : Option ℕ) (m : Meaning) → option_map reg_is o ≡ Some m → is_valid m ≡ true
-reg_valid None m h = cc
-reg_valid (Some r) m h = let is : reg_is r ≡ m = cc in ap is_valid (sym is)
-
-regs_valid : (r : Found Formula) (m : Meaning)
-    → ((f : Formula) → r ≡ Ok f → only_registers f ≡ true) → option_map regs (found r) ≡ Some m
+meaning_valid : (k : Kind) (key : List ℕ) (m : Meaning) → says k key ≡ means m
     → is_valid m ≡ true
-regs_valid (Ok f) m only h = let is : regs f ≡ m = cc in ap is_valid (sym is) ∙ only f refl
-regs_valid (Err e) m only h = cc
-
-nums_valid : (r : Found Formula) (m : Meaning) → ((f : Formula) → r ≡ Ok f → only_numbers f ≡ true)
-    → option_map nums (found r) ≡ Some m → is_valid m ≡ true
-nums_valid (Ok f) m only h = let is : nums f ≡ m = cc in ap is_valid (sym is) ∙ only f refl
-nums_valid (Err e) m only h = cc
-
-window_valid : (o : Option (List Place)) (m : Meaning) → option_map window o ≡ Some m
-    → is_valid m ≡ true
-window_valid None m h = cc
-window_valid (Some ps) m h = let is : window ps ≡ m = cc in ap is_valid (sym is)
-
-meaning_valid : (k : Kind) (key : List ℕ) (m : Meaning) → meaning_of k key ≡ Some m
-    → is_valid m ≡ true
-meaning_valid Mnemonic key m h = op_valid (op_of_name key) m h
-meaning_valid Rs1 key m h = reg_valid (register_number key) m h
-meaning_valid Rs2 key m h = reg_valid (register_number key) m h
-meaning_valid Rd key m h = reg_valid (register_number key) m h
-meaning_valid OpComb key m h = regs_valid (parse Registers [] key) m (registers_alone [] key) h
-meaning_valid ValComb key m h = nums_valid (parse Numbers [] key) m (numbers_alone [] key) h
-meaning_valid CrossComb key m h = window_valid (places (crosses.parse key)) m h
+meaning_valid k key m e = said_by k key m e (λ op _ is. ap is_valid is) (λ r _ is. ap is_valid is)
+    (λ f e is. ap is_valid is ∙ registers_alone [] key f e)
+    (λ f e is. ap is_valid is ∙ numbers_alone [] key f e) (λ ps _ is. ap is_valid is)
 
 pub point_valid : (isa : Isa) (l : LabelOf) (k : ℕ) (d : PointOf) → IsValid isa l
     → k < length l.points → is_valid (get_or l.points k d).meaning ≡ true
 point_valid isa l k d v h = let p =
-    get_or l.points k d in meaning_valid p.kind p.key p.meaning (v.meant k d h).meaning_is
+    get_or l.points k d in meaning_valid p.kind p.key p.meaning (v.meant k d h).said
 
 -- ---- the code's point
 

@@ -1,7 +1,7 @@
 -- A case can be made from the instructions that solve a cross point.
 use Rattle.std.proofs.Common.{◌≡◌, ℕ, zero, suc, ◌+◌, ◌<◌, ◌≤◌, true, List, [], ◌∷◌, length}
-use Rattle.std.proofs.Common.{Option, Some, None, Ok, Err, refl, sym, ap, subst, ◌∙◌, arith}
-use Rattle.std.specs.Prelude.{All, Contains, option_map, pos, ℤ}
+use Rattle.std.proofs.Common.{Option, Some, None, Ok, refl, sym, ap, subst, ◌∙◌, arith}
+use Rattle.std.specs.Prelude.{All, Contains, pos, ℤ}
 use Rattle.std.specs.List.{range_with_len}
 use Rattle.rvs_insn.specs.declared.op.Format.{Format}
 use Rattle.rvs_insn.specs.declared.op.Format.TheVariants.{R, I, Shift}
@@ -17,10 +17,10 @@ use Rattle.rvs_cross.specs.Sequences.{in_format, insns_of, first_sequence}
 use Rattle.rvs_cross.specs.Sequences as cross
 use Rattle.rvs_cross.proofs.Few.{read_places}
 use Rattle.rvs_cross.proofs.Solved.{sequence_solves}
-use Rattle.rvs_cgf.specs.Groups.{Meaning, op_is, reg_is, regs, nums, window, Point}
-use Rattle.rvs_cgf.specs.Valid.{IsMeant, meaning_of, places}
+use Rattle.rvs_cgf.specs.Groups.{window, means, says, Point}
+use Rattle.rvs_cgf.specs.Valid.{IsMeant}
 use Rattle.rvs_cgf.specs.declared.group.Kind.{Kind}
-use Rattle.rvs_cgf.specs.declared.group.Kind.TheVariants as kind
+use Rattle.rvs_cgf.proofs.Saying.{said_by}
 use Rattle.rvs_solver.proofs.Search.{Each}
 use Rattle.rvs_solver.proofs.Product.{each_flat, each_map}
 use Rattle.rvs_solver.proofs.Operands.{each_then}
@@ -220,29 +220,13 @@ sequence_ready isa ps is some few found =
 
 -- ---- the places of a cross point
 
-from_places : (found : crosses.Found) (ps : List Place)
-    → option_map window (places found) ≡ Some (window ps) → found ≡ Ok (crosses.read ps)
-from_places (Ok (crosses.read qs)) ps h = let same : qs ≡ ps = cc in
-    ap (λ x. Ok (crosses.read x)) same
-from_places (Ok crosses.skipped) ps h = absurd cc
-from_places (Err e) ps h = absurd cc
-
-no_window : {A : Type 0} (f : A → Meaning) (o : Option A) (ps : List Place)
-    → ((a : A) → f a ≡ window ps → ⊥) → option_map f o ≡ Some (window ps) → ⊥
-no_window f None ps never h = cc
-no_window f (Some a) ps never h = let same : f a ≡ window ps = cc in never a same
-
-by_kind : (k : Kind) (key : List ℕ) (ps : List Place) → meaning_of k key ≡ Some (window ps)
+by_kind : (k : Kind) (key : List ℕ) (ps : List Place) → says k key ≡ means (window ps)
     → crosses.parse key ≡ Ok (crosses.read ps)
-by_kind kind.CrossComb key ps h = from_places (crosses.parse key) ps h
-by_kind kind.Mnemonic key ps h = absurd (no_window op_is _ ps (λ a e. cc) h)
-by_kind kind.Rs1 key ps h = absurd (no_window reg_is _ ps (λ a e. cc) h)
-by_kind kind.Rs2 key ps h = absurd (no_window reg_is _ ps (λ a e. cc) h)
-by_kind kind.Rd key ps h = absurd (no_window reg_is _ ps (λ a e. cc) h)
-by_kind kind.OpComb key ps h = absurd (no_window regs _ ps (λ a e. cc) h)
-by_kind kind.ValComb key ps h = absurd (no_window nums _ ps (λ a e. cc) h)
+by_kind k key ps h = said_by k key (window ps) h (λ op _ is. absurd cc) (λ r _ is. absurd cc)
+    (λ f _ is. absurd cc) (λ f _ is. absurd cc)
+    (λ qs e is. let same : qs ≡ ps = cc in e ∙ ap (λ x. Ok (crosses.read x)) same)
 
 -- a cross point of a valid label has one to six places
 pub places_few : (p : Point) (ps : List Place) → IsMeant p → p.meaning ≡ window ps
     → (1 ≤ length ps) × (length ps ≤ 6)
-places_few p ps m is = read_places p.key ps (by_kind p.kind p.key ps (m.meaning_is ∙ ap Some is))
+places_few p ps m is = read_places p.key ps (by_kind p.kind p.key ps (m.said ∙ ap means is))

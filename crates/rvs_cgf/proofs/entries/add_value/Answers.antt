@@ -1,7 +1,8 @@
 use Rattle.std.proofs.Common.{◌≡◌, subst, w64, to_z, of_z}
 use Rattle.std.proofs.lemmas.Int.{to_z-of_z}
-use Rattle.rvs_cgf.specs.Groups.{Point, abstract_key, add}
+use Rattle.rvs_cgf.specs.Groups.{Point, add}
 use Rattle.rvs_cgf.specs.GroupView.{AnswersWith, taken_view}
+use Rattle.rvs_cgf.specs.PlaceView.{place_view}
 use Rattle.rvs_cgf.proofs.entries.add_value.Goals as goal
 
 pub returns-in-Ok : goal.returns-in-Ok
@@ -9,5 +10,5 @@ returns-in-Ok c =
     let value = c.args.value in
     let same : to_z w64 (of_z w64 value) ≡ value = to_z-of_z _ _ c.ranges.value in
     subst (λ (p : Point). AnswersWith taken_view c.add.result
-    (add c.args.label.now abstract_key c.args.key.now p (taken_view c.args.taken)))
+    (add (place_view c.args.place) p (taken_view c.args.taken)))
     (rw same at c.in-Ok.ensures) c.add.ensures
