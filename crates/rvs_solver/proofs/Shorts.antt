@@ -5,7 +5,8 @@ use Rattle.std.specs.Prelude.{if◌then◌else◌}
 use Rattle.std.proofs.lemmas.Bool.{ltb-true}
 use Rattle.std.proofs.lemmas.Int.{ints}
 use Rattle.rvs_solver.specs.Truth.{IsShort}
-use Rattle.rvs_solver.specs.Datasets.{around, is_between, is_there, joined, dataset, short_numbers}
+use Rattle.rvs_solver.specs.Datasets.{around, is_between, is_there, with_number, dataset}
+use Rattle.rvs_solver.specs.Datasets.{short_numbers}
 use Rattle.rvs_solver.specs.Datasets.{upper_numbers, shifts, offsets}
 use Rattle.rvs_solver.proofs.Search.{Each}
 use Rattle.rvs_solver.proofs.Product.{all_of, each_of, each_append}
@@ -30,23 +31,23 @@ joined_here true false kept z k h = each_append IsShort kept (z ∷ []) h (k ref
 joined_here false u kept z k h = h
 
 joined_short : (low high : ℤ) → IsShort low → IsShort high → (kept : List ℤ) (z : ℤ)
-    → Each IsShort kept → Each IsShort (joined low high kept z)
-unfolding joined
+    → Each IsShort kept → Each IsShort (with_number low high kept z)
+unfolding with_number
 joined_short low high a b kept z h =
     joined_here (is_between low high z) (is_there kept z) kept z (between_is low high z a b) h
 
 folded_short : (low high : ℤ) → IsShort low → IsShort high → (zs kept : List ℤ) → Each IsShort kept
-    → Each IsShort (fold (joined low high) kept zs)
+    → Each IsShort (fold (with_number low high) kept zs)
 folded_short low high a b [] kept h = h
 folded_short low high a b (z ∷ zs) kept h =
-    folded_short low high a b zs (joined low high kept z) (joined_short low high a b kept z h)
+    folded_short low high a b zs (with_number low high kept z) (joined_short low high a b kept z h)
 
 dataset_short : (low high : ℤ) (fixed constants : List ℤ) → is_short low ≡ true
     → is_short high ≡ true → all_of is_short fixed ≡ true
     → All IsShort (dataset fixed low high constants)
 unfolding dataset
 dataset_short low high fixed constants a b h =
-    all_from_each IsShort (fold (joined low high) fixed (flat_map around constants))
+    all_from_each IsShort (fold (with_number low high) fixed (flat_map around constants))
     (folded_short low high (short_is low a) (short_is high b) (flat_map around constants) fixed
     (each_of is_short IsShort short_is fixed h))
 

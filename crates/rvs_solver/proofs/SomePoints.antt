@@ -7,7 +7,7 @@ use Rattle.rvs_insn.specs.Isa.{Isa}
 use Rattle.rvs_cgf.specs.declared.group.Kind.TheVariants.{Rd, ValComb}
 use Rattle.rvs_cgf.specs.Groups.{reg_is, nums}
 use Rattle.rvs_solver.specs.Truth.{holds, constants_in}
-use Rattle.rvs_solver.specs.Datasets.{dataset, joined, is_between, is_there, around}
+use Rattle.rvs_solver.specs.Datasets.{dataset, with_number, is_between, is_there, around}
 use Rattle.rvs_solver.specs.Datasets.{rds, rs1s, rs2s}
 use Rattle.rvs_solver.specs.Choices.{choices, ChoiceValue}
 use Rattle.rvs_solver.specs.Point.{hits}
@@ -17,28 +17,29 @@ use Rattle.rvs_solver.specs.SomePoints.{address_point, other_point, AtAddress, A
 use Rattle.rvs_solver.specs.SomePoints.{LastRegister, NoRegister, choice_at}
 use Rattle.rvs_solver.proofs.RegisterPoints.{register_is}
 use Rattle.rvs_solver.proofs.RegisterCalls.{has_choice}
-use Rattle.rvs_solver.proofs.Stores.{store_is}
+use Rattle.rvs_solver.proofs.Stores.{search_is}
 
 -- ---- an atomic row has the word of its address in rs1, and no other
 
 pub at_address : AtAddress
-unfolding holds constants_in dataset joined is_between is_there around
+unfolding holds constants_in dataset with_number is_between is_there around
 at_address isa =
     ap (find (hits ValComb (nums address_point)))
     (append-nil (choices isa AmoaddW (constants_in address_point)))
-    ∙ store_is isa AmoaddW address_point (constants_in address_point) refl refl
+    ∙ search_is isa AmoaddW address_point (constants_in address_point) refl
 
 pub at_no_address : AtNoAddress
-unfolding holds constants_in dataset joined is_between is_there around
+unfolding holds constants_in dataset with_number is_between is_there around
 at_no_address isa =
     ap (find (hits ValComb (nums other_point)))
     (append-nil (choices isa AmoaddW (constants_in other_point)))
-    ∙ store_is isa AmoaddW other_point (constants_in other_point) refl refl
+    ∙ search_is isa AmoaddW other_point (constants_in other_point) refl
 
 -- ---- under the base E the registers end with x15
 
 of_few : (isa : Isa) (r : ℕ) (o : Option ChoiceValue) → isa.e ≡ true
-    → find (hits Rd (reg_is r)) (flat_map (at_rd Add R (rs1s true R) (rs2s true R)) (rds true R)) ≡ o
+    → find (hits Rd (reg_is r)) (flat_map (at_rd Add R (rs1s true R) (rs2s true R)) (rds true R))
+    ≡ o
     → first_choice isa (Add ∷ []) Rd (reg_is r) ≡ o
 of_few isa r o e h =
     ap (find (hits Rd (reg_is r))) (append-nil (choices isa Add []))

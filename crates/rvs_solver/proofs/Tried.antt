@@ -1,6 +1,7 @@
 -- Where the expression doesn't see which immediate it is, the first one decides.
 use Rattle.std.proofs.Common.{◌≡◌, ℕ, ◌+◌, ◌≤◌, Bool, true, false, List, [], ◌∷◌, length, take}
-use Rattle.std.proofs.Common.{Option, Some, None, refl, sym, ap, ◌∙◌, arith, zero, suc, length-take}
+use Rattle.std.proofs.Common.{Option, Some, None, refl, sym, ap, ◌∙◌, arith, zero, suc, cond}
+use Rattle.std.proofs.Common.{length-take}
 use Rattle.std.specs.Prelude.{ℤ, find, flat_map, All, sum_by}
 use Rattle.std.specs.Option.{option_or}
 use Rattle.std.proofs.lemmas.List.Folds.{find-append}
@@ -19,10 +20,11 @@ use Rattle.rvs_solver.specs.Truth.{num_at, uses}
 use Rattle.rvs_solver.proofs.Framing.{frame}
 use Rattle.rvs_solver.specs.declared.operand.Operand.{Operand}
 use Rattle.rvs_solver.specs.Datasets.{immediates, alignments}
-use Rattle.rvs_solver.specs.Choices.{Registers, table_of}
-use Rattle.rvs_solver.specs.Bound.{operands}
-use Rattle.rvs_solver.specs.Walk.{is_true_at, with_numbers, at_w1, word_or, at_operand, base_of}
-use Rattle.rvs_solver.specs.Walk.{sees_first, tried}
+use Rattle.rvs_solver.specs.Choices.{Registers, ChoiceValue, table_of}
+use Rattle.rvs_solver.specs.Bound.{first_registers, operands}
+use Rattle.rvs_solver.specs.Walk.{may_store_address, same_registers, base_of, query_with}
+use Rattle.rvs_solver.specs.Walk.{is_true_at, with_numbers, word_or, at_w1, at_operand, first_in}
+use Rattle.rvs_solver.specs.Walk.{own_addresses, sees_first, to_try}
 use Rattle.rvs_solver.proofs.Search.{Each, flat_one, find_alike, first_decides}
 use Rattle.rvs_solver.proofs.Operands.{pairs_each}
 
@@ -77,28 +79,32 @@ unseen_truth op e r x y w1 w2 num h =
     frame e (table_of (with_numbers (base_of op r) y w1 w2))
     (table_of (with_numbers (base_of op r) x w1 w2)) num (unseen_agrees op e r x y w1 w2 h)
 
-unseen_none : (op : Op) (e : Formula) (r : Registers) (w1s w2s : List ℕ) (x y : Operand)
+unseen_none : (op : Op) (e : Formula) (constants : List ℤ) (x y : Operand)
     → only_numbers e ≡ true → sees_first e (row op).form ≡ false → x.word ≡ None → y.word ≡ None
-    → find (is_true_at e) (at_operand (base_of op r) w1s w2s x) ≡ None
-    → find (is_true_at e) (at_operand (base_of op r) w1s w2s y) ≡ None
-unseen_none op e r w1s w2s x y num h xw yw none =
-    ap (λ w. find (is_true_at e) (flat_map (at_w1 (base_of op r) y w2s) (word_or w w1s))) yw
-    ∙ none_flat (is_true_at e) (at_w1 (base_of op r) x w2s) (at_w1 (base_of op r) y w2s)
-    (λ w1 n. find_alike (is_true_at e) (is_true_at e) (with_numbers (base_of op r) x w1)
-    (with_numbers (base_of op r) y w1) (λ w2 f. unseen_truth op e r x y w1 w2 num h ∙ f) w2s n)
-    w1s
-    (sym (ap (λ w. find (is_true_at e) (flat_map (at_w1 (base_of op r) x w2s) (word_or w w1s))) xw)
-    ∙ none)
+    → find (is_true_at e) (at_operand (query_with op (row op).form e constants) x) ≡ None
+    → find (is_true_at e) (at_operand (query_with op (row op).form e constants) y) ≡ None
+unseen_none op e constants x y num h xw yw none =
+    let s = query_with op (row op).form e constants in
+    ap (λ w. find (is_true_at e) (flat_map (at_w1 s y) (word_or w s.w1s))) yw
+    ∙ none_flat (is_true_at e) (at_w1 s x) (at_w1 s y)
+    (λ w1 n. find_alike (is_true_at e) (is_true_at e) (with_numbers s.base x w1)
+    (with_numbers s.base y w1)
+    (λ w2 f. unseen_truth op e (first_registers (row op).form) x y w1 w2 num h ∙ f) s.w2s n)
+    s.w1s
+    (sym (ap (λ w. find (is_true_at e) (flat_map (at_w1 s x) (word_or w s.w1s))) xw) ∙ none)
 
-one_decides : (op : Op) (e : Formula) (r : Registers) (w1s w2s : List ℕ) (ops : List Operand)
-    → only_numbers e ≡ true → sees_first e (row op).form ≡ false → Each (λ x. x.word ≡ None) ops
-    → find (is_true_at e) (flat_map (at_operand (base_of op r) w1s w2s) (take 1 ops))
-    ≡ find (is_true_at e) (flat_map (at_operand (base_of op r) w1s w2s) ops)
-one_decides op e r w1s w2s [] num h a = refl
-one_decides op e r w1s w2s (x ∷ ops) num h a =
-    ap (find (is_true_at e)) (flat_one (at_operand (base_of op r) w1s w2s) x)
-    ∙ sym (first_decides (is_true_at e) (at_operand (base_of op r) w1s w2s) (λ y. y.word ≡ None) x
-    ops a.1 (λ none y w. unseen_none op e r w1s w2s x y num h a.0 w none))
+one_decides : (op : Op) (e : Formula) (constants : List ℤ) (firsts : List Operand)
+    → only_numbers e ≡ true → sees_first e (row op).form ≡ false
+    → Each (λ x. x.word ≡ None) firsts
+    → find (is_true_at e) (flat_map (at_operand (query_with op (row op).form e constants))
+    (take 1 firsts))
+    ≡ find (is_true_at e) (flat_map (at_operand (query_with op (row op).form e constants)) firsts)
+one_decides op e constants [] num h a = refl
+one_decides op e constants (x ∷ firsts) num h a =
+    let s = query_with op (row op).form e constants in
+    ap (find (is_true_at e)) (flat_one (at_operand s) x)
+    ∙ sym (first_decides (is_true_at e) (at_operand s) (λ y. y.word ≡ None) x firsts a.1
+    (λ none y w. unseen_none op e constants x y num h a.0 w none))
 
 words_none : (spec : Isa) (op : Op) (form : Format) (e : Formula) (constants : List ℤ)
     → sees_first e form ≡ false → Each (λ x. x.word ≡ None) (operands spec op form constants)
@@ -113,17 +119,37 @@ words_none spec op Branch e constants h =
     (λ imm align. refl)
 words_none spec op _ e constants h = cc
 
+no_address : (form : Format) (e : Formula) → sees_first e form ≡ false
+    → may_store_address form ≡ false
+no_address I e h = refl
+no_address Shift e h = refl
+no_address Branch e h = refl
+no_address _ e h = cc
+
+none_of_none : (same : Option ChoiceValue) (firsts : List Operand) → same ≡ None
+    → own_addresses same firsts ≡ []
+none_of_none None firsts h = refl
+none_of_none (Some c) firsts h = cc
+
 -- the operands that are tried find what all find
-pub tried_find : (spec : Isa) (op : Op) (e : Formula) (r : Registers) (w1s w2s : List ℕ)
-    (constants : List ℤ) (sees : Bool) → sees_first e (row op).form ≡ sees → only_numbers e ≡ true
-    → find (is_true_at e) (flat_map (at_operand (base_of op r) w1s w2s)
-    (tried sees (operands spec op (row op).form constants)))
-    ≡ find (is_true_at e) (flat_map (at_operand (base_of op r) w1s w2s)
-    (operands spec op (row op).form constants))
-tried_find spec op e r w1s w2s constants true h num = refl
-tried_find spec op e r w1s w2s constants false h num =
-    one_decides op e r w1s w2s (operands spec op (row op).form constants) num h
-    (words_none spec op (row op).form e constants h)
+pub tried_find : (spec : Isa) (op : Op) (e : Formula) (constants : List ℤ) (sees : Bool)
+    → sees_first e (row op).form ≡ sees → only_numbers e ≡ true
+    → first_in (query_with op (row op).form e constants)
+    (to_try sees (operands spec op (row op).form constants))
+    ≡ first_in (query_with op (row op).form e constants)
+    (operands spec op (row op).form constants)
+tried_find spec op e constants true h num = refl
+tried_find spec op e constants false h num =
+    let form = (row op).form in
+    let s = query_with op form e constants in
+    let firsts = operands spec op form constants in
+    let none : s.same ≡ None =
+    ap (λ b. cond b (Some (base_of op (same_registers form))) None) (no_address form e h) in
+    ap (λ o. option_or o (find (is_true_at e) (own_addresses s.same (take 1 firsts))))
+    (one_decides op e constants firsts num h (words_none spec op form e constants h))
+    ∙ ap (λ l. option_or (find (is_true_at e) (flat_map (at_operand s) firsts))
+    (find (is_true_at e) l))
+    (none_of_none s.same (take 1 firsts) none ∙ sym (none_of_none s.same firsts none))
 
 pub tried_all : {X : Type 0} (P : X → Type 0) (xs : List X) → All P xs → All P (take 1 xs)
 tried_all P [] a k d l = a k d l
@@ -131,11 +157,11 @@ tried_all P (x ∷ xs) a zero d l = a 0 d (omega arith)
 tried_all P (x ∷ xs) a (suc k) d l = absurd (omega arith)
 
 pub tried_passes : (P : Operand → Type 0) (sees : Bool) (ops : List Operand) → All P ops
-    → All P (tried sees ops)
+    → All P (to_try sees ops)
 tried_passes P true ops a = a
 tried_passes P false ops a = tried_all P ops a
 
 pub tried_cost : (f : Operand → ℕ) (sees : Bool) (ops : List Operand)
-    → length (tried sees ops) + sum_by f (tried sees ops) ≤ length ops + sum_by f ops
+    → length (to_try sees ops) + sum_by f (to_try sees ops) ≤ length ops + sum_by f ops
 tried_cost f true ops = omega arith
 tried_cost f false ops = omega (arith, length-take 1 ops, sum_by-take-le f ops 1)

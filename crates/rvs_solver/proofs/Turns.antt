@@ -1,22 +1,32 @@
 -- One turn of a loop that searches, what it keeps and what it costs.
-use Rattle.std.proofs.Common.{◌≡◌, ℕ, ◌+◌, ◌<◌, ◌≤◌, Bool, true, false, cond, List, [], ◌∷◌}
-use Rattle.std.proofs.Common.{map, length, get_or, drop, take, Option, Some, sym, ap}
-use Rattle.std.proofs.Common.{◌∙◌, arith}
+use Rattle.std.proofs.Common.{◌≡◌, ℕ, ◌+◌, ◌<◌, ◌≤◌, Bool, true, false, cond, List, [], ◌∷◌, ◌++◌}
+use Rattle.std.proofs.Common.{map, length, get_or, drop, take, Option, Some, None, refl}
+use Rattle.std.proofs.Common.{sym, ap, ◌∙◌, arith}
 use Rattle.std.specs.Prelude.{find, sum_by}
 use Rattle.std.specs.Option.{option_or}
 use Rattle.std.proofs.lemmas.List.{map_more}
 use Rattle.std.proofs.lemmas.List.Folds.{find-append}
 use Rattle.std.proofs.lemmas.List.Sums.{sum_by_more, sum_by-take-le}
 use Rattle.rvs_cross.proofs.Searching.{rest_at}
+use Rattle.rvs_solver.specs.declared.operand.Operand.{Operand}
+use Rattle.rvs_solver.specs.Choices.{ChoiceValue}
+use Rattle.rvs_solver.specs.Walk.{storing_address, own_addresses}
 
-pub kept_turn : {X Y : Type 0} (p : Y → Bool) (f : X → Y) (xs : List X) (i : ℕ) (d : X)
-    (kept next : Option Y) → i < length xs → kept ≡ find p (map f (take i xs))
-    → next ≡ option_or kept (find p (f (get_or xs i d) ∷ []))
-    → next ≡ find p (map f (take (i + 1) xs))
-kept_turn p f xs i d kept next h inv e =
-    e ∙ ap (λ o. option_or o (find p (f (get_or xs i d) ∷ []))) inv
-    ∙ sym (ap (find p) (map_more f xs i d h)
-    ∙ find-append p (map f (take i xs)) (f (get_or xs i d) ∷ []))
+addresses_more : (same : Option ChoiceValue) (xs : List Operand) (i : ℕ) (d : Operand)
+    → i < length xs → own_addresses same (take (i + 1) xs)
+    ≡ own_addresses same (take i xs) ++ own_addresses same (get_or xs i d ∷ [])
+addresses_more None xs i d h = refl
+addresses_more (Some c) xs i d h = map_more (storing_address c) xs i d h
+
+pub kept_turn : (p : ChoiceValue → Bool) (same : Option ChoiceValue) (xs : List Operand) (i : ℕ)
+    (d : Operand) (kept next : Option ChoiceValue) → i < length xs
+    → kept ≡ find p (own_addresses same (take i xs))
+    → next ≡ option_or kept (find p (own_addresses same (get_or xs i d ∷ [])))
+    → next ≡ find p (own_addresses same (take (i + 1) xs))
+kept_turn p same xs i d kept next h inv e =
+    e ∙ ap (λ o. option_or o (find p (own_addresses same (get_or xs i d ∷ [])))) inv
+    ∙ sym (ap (find p) (addresses_more same xs i d h)
+    ∙ find-append p (own_addresses same (take i xs)) (own_addresses same (get_or xs i d ∷ [])))
 
 -- what a search of a whole list finds, it finds before what comes after
 pub found_before : {Y : Type 0} (y : Y) (o r : Option Y) → Some y ≡ o → Some y ≡ option_or o r
@@ -39,9 +49,6 @@ pub counted_turn : {X : Type 0} (f : X → ℕ) (xs : List X) (i : ℕ) (d : X) 
     → i < length xs → before ≤ entry + (i + sum_by f (take i xs))
     → new ≤ before + (1 + f (get_or xs i d)) → new ≤ entry + (i + 1 + sum_by f (take (i + 1) xs))
 counted_turn f xs i d new before entry h a b = omega (arith, sum_by_more f xs i d h)
-
-pub at_most : (new entry a b : ℕ) → new ≤ entry + a → a ≤ b → new ≤ entry + b
-at_most new entry a b h k = omega arith
 
 -- ---- the same of a loop over a list of places
 
@@ -66,3 +73,23 @@ pub map_passed : {X Y : Type 0} (p : Y → Bool) (f : X → Y) (xs : List X) (i 
 map_passed p f xs i d y whole h inv is miss =
     inv ∙ ap (λ l. find p (map f l)) (rest_at xs i d h)
     ∙ passed_at p y (f (get_or xs i d)) (find p (map f (drop (i + 1) xs))) is miss
+
+-- ---- the choice that stores its own address
+
+pub address_found : (p : ChoiceValue → Bool) (same : Option ChoiceValue) (x : ChoiceValue)
+    (first : Operand) (y : ChoiceValue) → same ≡ Some x → y ≡ storing_address x first
+    → p y ≡ true → Some y ≡ find p (own_addresses same (first ∷ []))
+address_found p None x first y is e h = cc
+address_found p (Some z) x first y is e h =
+    let there : x ≡ z = cc in
+    sym (found_at p y (storing_address z first) None
+    (e ∙ ap (λ c. storing_address c first) there) h)
+
+pub address_passed : (p : ChoiceValue → Bool) (same : Option ChoiceValue) (x : ChoiceValue)
+    (first : Operand) (y : ChoiceValue) → same ≡ Some x → y ≡ storing_address x first
+    → p y ≡ false → None ≡ find p (own_addresses same (first ∷ []))
+address_passed p None x first y is e h = cc
+address_passed p (Some z) x first y is e h =
+    let there : x ≡ z = cc in
+    sym (passed_at p y (storing_address z first) None
+    (e ∙ ap (λ c. storing_address c first) there) h)

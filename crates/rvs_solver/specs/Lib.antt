@@ -5,8 +5,8 @@ pub mod Point
 pub mod First
 pub mod Bound
 pub mod Walk
-pub mod Held
 pub mod Least
+pub mod RegisterWalk
 pub mod Solving
 pub mod Rows
 pub mod SomePoints

@@ -44,7 +44,7 @@ rows =
     row_of Beq (is Rs1Val (pos 6)) 174080 ∷
     row_of Lb (is EaAlign (pos 1)) 50 ∷
     row_of Addi (conjunction (is ImmVal (pos 5)) (is Rs1Val (pos 9))) 32 ∷
-    row_of Fence (is ImmVal (pos 1)) 2 ∷
+    row_of Fence (is ImmVal (pos 1)) 1 ∷
     row_of Jalr (is ImmVal (pos 5)) 14 ∷
     row_of Sltiu (is Rs1Val (pos 4294967295)) 110 ∷
     row_of Sb (equal (named Rs1Val) (named Rs2Val)) 480 ∷

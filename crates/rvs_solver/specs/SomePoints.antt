@@ -1,5 +1,5 @@
 -- Points on an atomic row and on registers of a core with few, and the first choices that hit them.
-use Rattle.std.specs.Prelude.{◌≡◌, ℕ, pos, negsuc, true, [], ◌∷◌, Option, Some, None}
+use Rattle.std.specs.Prelude.{◌≡◌, ℕ, pos, negsuc, true, [], ◌∷◌, Some, None}
 use Rattle.rvs_insn.specs.declared.op.Op.{Op}
 use Rattle.rvs_insn.specs.declared.op.Op.TheVariants.{Add, AmoaddW}
 use Rattle.rvs_insn.specs.Isa.{Isa}

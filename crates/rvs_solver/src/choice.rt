@@ -1,5 +1,5 @@
 // Choices.
-ghost use Rattle.std.specs.Prelude.{◌≡◌, ◌≤◌, ◌<◌, ◌^◌, IfSome, unsigned_abs};
+ghost use Rattle.std.specs.Prelude.{◌≡◌, ◌<◌, IfSome};
 ghost use Rattle.rvs_solver.specs.Truth.{IsNarrow};
 ghost use Rattle.rvs_solver.specs.Choices.{table_of, base_value, fields_of};
 
@@ -98,7 +98,7 @@ impl Facts for Choice {
 
     fn num(&self, name: NumName) -> Option<i64>
         ensures value { result ≡ (table_of self.now).num name }
-        ensures small { IfSome result (λ z. unsigned_abs z ≤ 2 ^ 32) }
+        ensures small { IfSome result IsNarrow }
     {
         let insn = self.insn();
         let facts = InsnFacts {

@@ -36,9 +36,8 @@ pub fn bounds_of_some_points()
     ensures { map bound_of_row rows ≡ map most_of rows }
 {}
 
-/// `amoadd.w` has the address of scratch in `rs1`, and nothing else; and of a core with 16 registers
-/// `x15` is the last.
-#[tactic(auto, using(crate::proofs::SomePoints::at_address, crate::proofs::SomePoints::at_no_address, crate::proofs::SomePoints::last_register, crate::proofs::SomePoints::no_register))]
+/// `amoadd.w` has the address of scratch in `rs1`, and nothing else; and of a core with 16
+/// registers `x15` is the last.
 pub fn first_choices_of_some_points()
     ensures address { AtAddress }
     ensures other { AtNoAddress }

@@ -1,24 +1,23 @@
 // The first choice that hits a point.
 ghost use Rattle.std.specs.Prelude.{◌≡◌, [], ◌+◌, ◌*◌, ◌≤◌, ◌<◌, length, option_map, true, false};
 ghost use Rattle.std.specs.Prelude.{IfOk, IfNone, IfSome, find, flat_map, sum_by};
-ghost use Rattle.rvs_insn.specs.Table.{row};
 ghost use Rattle.rvs_cross.specs.CrossView.{cross_view};
 ghost use Rattle.rvs_cross.specs.Sequences.{first_sequence};
 ghost use Rattle.rvs_cross.specs.Sequences as sequences;
 ghost use Rattle.rvs_cgf.specs.Groups.{window};
 ghost use Rattle.rvs_cgf.specs.GroupView.{meaning_view, point_view, label_view};
 ghost use Rattle.rvs_cgf.specs.Valid.{IsValid};
-ghost use Rattle.rvs_solver.specs.Choices.{choices, ChoiceValue};
+ghost use Rattle.rvs_solver.specs.Choices.{choices};
 ghost use Rattle.rvs_solver.specs.Point.{hits, is_valid, is_on_values, constants_of};
 ghost use Rattle.rvs_solver.specs.First.{first_choice, Solvable, HasOneWordEach};
 ghost use Rattle.rvs_solver.specs.Solving.{first_at, first_meant, bound_at, bound_meant, IsSingle};
 ghost use Rattle.rvs_solver.specs.Solving.{IsLeastAt, IsLeastChoice, IsWindow, SolvesAs};
 ghost use Rattle.rvs_solver.specs.Solving.{IsSolvableAs, IsSolvableAt, HaveOneWordEach};
-ghost use Rattle.rvs_solver.specs.Bound.{bound_of, bound, register_bound};
+ghost use Rattle.rvs_solver.specs.Bound.{bound_of, bound};
 
 use crate::choice::Choice;
 use crate::orders::{rds, rs1s, rs2s};
-use crate::registers::first_over_rds;
+use crate::registers::RegisterSearch;
 use crate::solved::Solved;
 use crate::values::first_value;
 use rvs_base::NoMemory;
@@ -209,7 +208,6 @@ fn first_of_op<L: Ledger>(
 }
 
 /// The same for a point on the mnemonic or on registers.
-#[tactic(auto, using(crate::proofs::Low::rds_low, crate::proofs::Low::rs1s_low, crate::proofs::Low::rs2s_low))]
 fn first_of_registers<L: Ledger>(
     op: Op,
     kind: Kind,
@@ -225,14 +223,16 @@ fn first_of_registers<L: Ledger>(
     let form = format(op);
     match form {
         Format::System => None,
-        _ => first_over_rds(
-            kind,
-            meaning,
-            op,
-            rds(spec, form),
-            rs1s(spec, form),
-            rs2s(spec, form),
-            steps,
-        ),
+        _ => {
+            let search = RegisterSearch {
+                kind,
+                meaning,
+                op,
+                rds: rds(spec, form),
+                rs1s: rs1s(spec, form),
+                rs2s: rs2s(spec, form),
+            };
+            search.first(steps)
+        },
     }
 }

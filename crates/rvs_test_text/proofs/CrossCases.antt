@@ -33,7 +33,7 @@ use Rattle.rvs_test_text.proofs.PlainCases.{source_made, source_distinct, source
 use Rattle.rvs_test_text.proofs.PlainCases.{source_marks}
 use Rattle.rvs_test_text.proofs.PlainCases.{source_bytes, fine_word, fine_save}
 use Rattle.rvs_test_text.proofs.Registers.{Has, has_low, admitted_low}
-use Rattle.rvs_test_text.proofs.CaseEffects.{IsPlaced}
+use Rattle.rvs_test_text.proofs.CaseRuns.{IsPlaced}
 use Rattle.rvs_test_text.proofs.Window.{Words, entries, entry_in, words_behind, words_code}
 use Rattle.rvs_test_text.proofs.CrossGood.{rd_middle, last_middle, cross_code, cross_of, cross_good}
 

@@ -1,9 +1,24 @@
-use Rattle.std.proofs.Common.{◌*◌, ◌≤◌, ◌∙◌, [], length, sym, arith}
+use Rattle.std.proofs.Common.{◌*◌, ◌≤◌, ◌∙◌, [], length, sym, subst, arith}
+use Rattle.std.specs.Prelude.{All}
+use Rattle.rvs_insn.specs.Fields.{IsRegister}
 use Rattle.rvs_cgf.specs.GroupView.{meaning_view}
 use Rattle.rvs_cgf.specs.Hits.{steps_of}
+use Rattle.rvs_solver.proofs.Low.{rds_low, rs1s_low, rs2s_low}
 use Rattle.rvs_solver.proofs.RegisterPoints.{no_system}
 use Rattle.rvs_solver.proofs.RegisterCalls.{Orders, register_call, register_cost_call}
 use Rattle.rvs_solver.proofs.solving.first_of_registers.Goals as goal
+
+pub first-requires-clause-rd : goal.first-requires-clause-rd
+first-requires-clause-rd g c =
+    subst (All IsRegister) (sym c.rds.ensures) (rds_low c.args.spec.now.e c.format-form.result)
+
+pub first-requires-clause-rs1 : goal.first-requires-clause-rs1
+first-requires-clause-rs1 g c =
+    subst (All IsRegister) (sym c.rs1s.ensures) (rs1s_low c.args.spec.now.e c.format-form.result)
+
+pub first-requires-clause-rs2 : goal.first-requires-clause-rs2
+first-requires-clause-rs2 g c =
+    subst (All IsRegister) (sym c.rs2s.ensures) (rs2s_low c.args.spec.now.e c.format-form.result)
 
 pub returns-in-System-clause-first : goal.returns-in-System-clause-first
 returns-in-System-clause-first g c =
@@ -29,9 +44,9 @@ returns-in_default g c =
     c.rs1s.result.now c.rs2s.result.now (meaning_view c.args.meaning.now) orders
     c.requires.registers in
     record {
-      first = c.first_over_rds.ensures.first
+      first = c.first.ensures.first
           ∙ register_call c.args.spec.now c.args.op c.format-form.result c.rds.result.now
           c.rs1s.result.now c.rs2s.result.now c.args.kind (meaning_view c.args.meaning.now) orders
           c.requires.valid c.requires.registers;
-      cost = omega (arith, c.first_over_rds.ensures.cost, cost);
+      cost = omega (arith, c.first.ensures.cost, cost);
     }

@@ -1,5 +1,5 @@
 use Rattle.std.proofs.Common.{◌≡◌, take}
-use Rattle.rvs_solver.proofs.datasets.narrowed.Given as goal
+use Rattle.rvs_solver.proofs.datasets.narrow.Given as goal
 
 abbrev pub invariant-loop-number : goal.invariant-loop-number
 invariant-loop-number l = l.list.items ≡ take l.number-index l.numbers

@@ -1,0 +1,243 @@
+-- What the statements of a case of any kind mark, and that no name is marked twice.
+use Rattle.std.proofs.Common.{subst, ◌≡◌, ℕ, ◌+◌, ◌^◌, ◌<◌, ◌≤◌, [], true, List, ◌∷◌, ◌++◌, refl}
+use Rattle.std.proofs.Common.{ap, ◌∙◌, arith}
+use Rattle.std.specs.Prelude.{pos, unwrap_or}
+use Rattle.rvs_insn.specs.declared.op.Format.{Format}
+use Rattle.rvs_insn.specs.declared.op.Format.TheVariants.{R, JumpReg, Store, Branch, Jump, Amo}
+use Rattle.rvs_insn.specs.declared.op.Format.TheVariants.{LoadReserved}
+use Rattle.rvs_insn.specs.declared.op.Op.{Op}
+use Rattle.rvs_insn.specs.declared.op.Op.TheVariants.{ScW}
+use Rattle.rvs_insn.specs.Isa.{Isa}
+use Rattle.rvs_insn.specs.Table.{row}
+use Rattle.rvs_insn.specs.Word.{IsEncodable}
+use Rattle.rvs_machine.specs.Image.{text_base}
+use Rattle.rvs_asm.specs.declared.location.Location.{Location}
+use Rattle.rvs_asm.specs.Locations.{next}
+use Rattle.rvs_solver.specs.Choices.{ChoiceValue, fields_of}
+use Rattle.rvs_test_text.specs.declared.statement.Name.{Name}
+use Rattle.rvs_test_text.specs.declared.statement.Name.TheVariants.{Case as CaseName, Target, Done}
+use Rattle.rvs_test_text.specs.declared.statement.Name.TheVariants.{Scratch}
+use Rattle.rvs_test_text.specs.declared.statement.Statement.{Statement}
+use Rattle.rvs_test_text.specs.declared.statement.Statement.TheVariants.{Plain, High, Low}
+use Rattle.rvs_test_text.specs.Statements.{line_of}
+use Rattle.rvs_test_text.specs.TestText.{sw, source, pointer, marker, save, store_case, jalr_case}
+use Rattle.rvs_test_text.specs.TestText.{jump_case, unlinked, frame, case_by, choice_statements, lr}
+use Rattle.rvs_test_text.specs.TestText.{reserve, atomic_case}
+use Rattle.rvs_test_text.proofs.AtomicRuns.{atomic_lead, reserve_size}
+use Rattle.rvs_test_text.proofs.Shapes.{source_size}
+use Rattle.rvs_test_text.proofs.JumpNames.{frame_marks, frame_marks_are, frame_distinct}
+use Rattle.rvs_test_text.proofs.Tables.{Marks, AllBelow, Lacks, stage, below_join, lacks_later}
+use Rattle.rvs_test_text.proofs.Tables.{lacks_join}
+use Rattle.rvs_test_text.proofs.Passes.{marks, Distinct}
+use Rattle.rvs_test_text.proofs.Assembled.{text_at}
+use Rattle.rvs_test_text.proofs.PlainCases.{plain_marks, plain_distinct, source_marks}
+use Rattle.rvs_test_text.proofs.PlainCases.{source_distinct}
+use Rattle.rvs_test_text.proofs.CaseParts.{IsMade, StoreRegisters, store_registers, imm_of}
+use Rattle.rvs_test_text.proofs.CaseBytes.{store_tail, atomic_tail, atomic_rest}
+use Rattle.rvs_test_text.proofs.CaseNames.{own_by, own_marks}
+
+store_marks : (k : ℕ) (c : ChoiceValue) (a m : ℕ) → StoreRegisters c
+    → marks (store_case k c) (text_at a m)
+    ≡ (CaseName k, record { at = text_base + (a + 32); in_text = true }) ∷ []
+store_marks k c a m r =
+    let tail = store_tail k c in
+    let here = a + 4 + 4 + 4 + 4 in
+    let x : source_size c.rs1 ≡ 8 = ap source_size r.rs1 in
+    let y : source_size c.rs2 ≡ 8 = ap source_size r.rs2 in
+    source_marks c.rs1 c.w1 (source c.rs2 c.w2 ++ tail) here m
+    ∙ source_marks c.rs2 c.w2 tail (here + source_size c.rs1) m
+    ∙ ap (λ z. (CaseName k, record { at = text_base + z; in_text = true }) ∷ [])
+    (let e : here + source_size c.rs1 + source_size c.rs2 ≡ a + 32 = omega (arith, x, y) in e)
+
+reserve_marks : (op : Op) (x y : ℕ) (ss : List Statement) (a m : ℕ)
+    → marks (reserve op x y ++ ss) (text_at a m) ≡ marks ss (text_at (a + reserve_size op) m)
+reserve_marks ScW x y ss a m = refl
+reserve_marks _ x y ss a m = ap (λ z. marks ss (text_at z m)) (omega arith)
+
+atomic_marks : (k : ℕ) (c : ChoiceValue) (a m : ℕ)
+    → marks (atomic_case k c) (text_at a m)
+    ≡ (CaseName k, record { at = text_base + (a + atomic_lead (fields_of c)); in_text = true }) ∷ []
+atomic_marks k c a m =
+    let rest = atomic_rest k c in
+    let here = a + 4 + 4 + 4 + 4 + 4 + 4 + 4 in
+    source_marks c.rs1 c.w1 (source c.rs2 c.w2 ++ rest) here m
+    ∙ source_marks c.rs2 c.w2 rest (here + source_size c.rs1) m
+    ∙ reserve_marks c.op (unwrap_or c.rs1 0) (marker c) (atomic_tail k c)
+    (here + source_size c.rs1 + source_size c.rs2) m
+    ∙ ap (λ z. (CaseName k, record { at = text_base + z; in_text = true }) ∷ [])
+    (let e : here + source_size c.rs1 + source_size c.rs2 + reserve_size c.op
+    ≡ a + atomic_lead (fields_of c) = omega arith in
+    e)
+
+jump_marks : (k : ℕ) (c : ChoiceValue) (a m : ℕ)
+    → marks (jump_case k c) (text_at a m)
+    ≡ frame_marks (imm_of c) k (a + source_size c.rs1 + source_size c.rs2)
+jump_marks k c a m =
+    let tail =
+    frame (imm_of c) k (marker c) (unlinked c)
+    (save (pointer c) k (marker c) (unwrap_or c.rd 0)) in
+    source_marks c.rs1 c.w1 (source c.rs2 c.w2 ++ tail) a m
+    ∙ source_marks c.rs2 c.w2 tail (a + source_size c.rs1) m
+    ∙ frame_marks_are (imm_of c) k (marker c) (pointer c) (unwrap_or c.rd 0) (unlinked c)
+    (a + source_size c.rs1 + source_size c.rs2) m
+
+marks_by : (f : Format) (k : ℕ) (c : ChoiceValue) (a m : ℕ) → (row c.op).form ≡ f
+    → IsEncodable (fields_of c) → marks (case_by f k c) (text_at a m) ≡ own_by f k c a
+marks_by Store k c a m e h = store_marks k c a m (store_registers c e h)
+marks_by JumpReg k c a m e h =
+    ap
+    (λ x. (CaseName k, record { at = text_base + x; in_text = true })
+    ∷ (
+      Target k,
+      record { at = text_base + (a + 4 + 4 + 4 + 4 + 4 + 0 + 4 + 4); in_text = true },
+    ) ∷ [])
+    (let q : a + 4 + 4 + 4 + 4 + 4 ≡ a + 20 = omega arith in q)
+    ∙ ap
+    (λ x. (CaseName k, record { at = text_base + (a + 20); in_text = true })
+    ∷ (Target k, record { at = text_base + x; in_text = true }) ∷ [])
+    (let q : a + 4 + 4 + 4 + 4 + 4 + 0 + 4 + 4 ≡ a + 28 = omega arith in q)
+marks_by Amo k c a m e h = atomic_marks k c a m
+marks_by LoadReserved k c a m e h = atomic_marks k c a m
+marks_by Branch k c a m e h = jump_marks k c a m
+marks_by Jump k c a m e h = jump_marks k c a m
+marks_by R k c a m e h = plain_marks k c a m
+marks_by _ k c a m e h = plain_marks k c a m
+
+pub case_marks_is : (isa : Isa) (k : ℕ) (c : ChoiceValue) (a m : ℕ) → IsMade isa c
+    → marks (choice_statements k c) (text_at a m) ≡ own_marks k c a
+case_marks_is isa k c a m is = marks_by (row c.op).form k c a m refl is.sound.encodable
+
+nil_below : (n l : ℕ) (t : Marks) → AllBelow n l t → AllBelow n l (t ++ [])
+nil_below n l t h = below_join n l t [] h tt
+
+store_distinct : (n k : ℕ) (c : ChoiceValue) (t : Marks) (p : Location) → k < 2 ^ 32
+    → AllBelow n (k + 1) t → Distinct t (store_case k c) p
+store_distinct n k c t p small below =
+    let tail = store_tail k c in
+    let t4 = (((t ++ []) ++ []) ++ []) ++ [] in
+    let b4 : AllBelow n (k + 1) t4 =
+    nil_below n (k + 1) (((t ++ []) ++ []) ++ [])
+    (nil_below n (k + 1) ((t ++ []) ++ [])
+    (nil_below n (k + 1) (t ++ []) (nil_below n (k + 1) t below))) in
+    let here : (q : Location) → Distinct t4 tail q =
+    λ q. (
+      (small, lacks_later n (k + 1) t4 (CaseName k) (omega arith) b4),
+      (tt, (tt, (tt, (tt, (tt, (tt, (tt, (tt, (tt, (tt, (tt, (tt, (tt, tt))))))))))))),
+    ) in
+    let rest : (q : Location) → Distinct t4 (source c.rs1 c.w1 ++ (source c.rs2 c.w2 ++ tail)) q =
+    λ q. source_distinct t4 c.rs1 c.w1 (source c.rs2 c.w2 ++ tail) q
+    (λ r. source_distinct t4 c.rs2 c.w2 tail r here) in
+    let cleared =
+    rest
+    (next
+    (next
+    (next (next p (line_of (High (pointer c) Scratch)).body)
+    (line_of (Low (pointer c) Scratch)).body) (line_of (Plain (sw 0 (pointer c) (pos 0)))).body)
+    (line_of (Plain (sw 0 (pointer c) (pos 4)))).body) in
+    (tt, (tt, (tt, (tt, cleared))))
+
+reserve_distinct : (op : Op) (x y : ℕ) (t : Marks) (ss : List Statement) (p : Location)
+    → ((q : Location) → Distinct t ss q) → Distinct t (reserve op x y ++ ss) p
+reserve_distinct ScW x y t ss p h =
+    (tt, subst (λ u. Distinct u ss (next p (line_of (Plain (lr y x))).body)) (nil t) (h _))
+  where
+    nil : (t : Marks) → t ≡ t ++ []
+    nil [] = refl
+    nil (m ∷ ms) = ap (λ l. m ∷ l) (nil ms)
+reserve_distinct _ x y t ss p h = h p
+
+atomic_distinct : (n k : ℕ) (c : ChoiceValue) (t : Marks) (p : Location) → k < 2 ^ 32
+    → AllBelow n (k + 1) t → Distinct t (atomic_case k c) p
+atomic_distinct n k c t p small below =
+    let t3 = ((t ++ []) ++ []) ++ [] in
+    let t7 = (((t3 ++ []) ++ []) ++ []) ++ [] in
+    let b3 : AllBelow n (k + 1) t3 =
+    nil_below n (k + 1) ((t ++ []) ++ [])
+    (nil_below n (k + 1) (t ++ []) (nil_below n (k + 1) t below)) in
+    let b7 : AllBelow n (k + 1) t7 =
+    nil_below n (k + 1) (((t3 ++ []) ++ []) ++ [])
+    (nil_below n (k + 1) ((t3 ++ []) ++ [])
+    (nil_below n (k + 1) (t3 ++ []) (nil_below n (k + 1) t3 b3))) in
+    let here : (q : Location) → Distinct t7 (atomic_tail k c) q =
+    λ q. (
+      (small, lacks_later n (k + 1) t7 (CaseName k) (omega arith) b7),
+      (tt, (tt, (tt, (tt, (tt, (tt, (tt, (tt, tt)))))))),
+    ) in
+    let rest : (q : Location)
+    → Distinct t7 (source c.rs1 c.w1 ++ (source c.rs2 c.w2 ++ atomic_rest k c)) q =
+    λ q. source_distinct t7 c.rs1 c.w1 (source c.rs2 c.w2 ++ atomic_rest k c) q
+    (λ r. source_distinct t7 c.rs2 c.w2 (atomic_rest k c) r
+    (λ s. reserve_distinct c.op (unwrap_or c.rs1 0) (marker c) t7 (atomic_tail k c) s here)) in
+    (tt, (tt, (tt, (tt, (tt, (tt, (tt, rest _)))))))
+
+jalr_distinct : (n k : ℕ) (c : ChoiceValue) (t : Marks) (p : Location) → k < 2 ^ 32
+    → AllBelow n (k + 1) t → Distinct t (jalr_case k c) p
+jalr_distinct n k c t p small below =
+    let t5 = ((((t ++ []) ++ []) ++ []) ++ []) ++ [] in
+    let b5 : AllBelow n (k + 1) t5 =
+    nil_below n (k + 1) ((((t ++ []) ++ []) ++ []) ++ [])
+    (nil_below n (k + 1) (((t ++ []) ++ []) ++ [])
+    (nil_below n (k + 1) ((t ++ []) ++ [])
+    (nil_below n (k + 1) (t ++ []) (nil_below n (k + 1) t below)))) in
+    let own : ℕ → Marks = λ x. (CaseName k, record { at = x; in_text = p.in_text }) ∷ [] in
+    let lack5 = lacks_later n (k + 1) t5 (Target k) (omega arith) b5 in (
+      tt,
+      (
+        tt,
+        (
+          tt,
+          (
+            tt,
+            (
+              tt,
+              (
+                (small, lacks_later n (k + 1) t5 (CaseName k) (omega arith) b5),
+                (
+                  tt,
+                  (
+                    tt,
+                    (
+                      (
+                        small,
+                        lacks_join ((t5 ++ _) ++ []) [] (Target k)
+                            (lacks_join (t5 ++ _) [] (Target k)
+                            (lacks_join t5 _ (Target k) lack5 refl) refl) refl,
+                      ),
+                      (tt, (tt, (tt, (tt, tt)))),
+                    ),
+                  ),
+                ),
+              ),
+            ),
+          ),
+        ),
+      ),
+    )
+
+jump_distinct : (n k : ℕ) (c : ChoiceValue) (t : Marks) (p : Location) → k < 2 ^ 32
+    → AllBelow n (k + 1) t → Distinct t (jump_case k c) p
+jump_distinct n k c t p small below =
+    let tail =
+    frame (imm_of c) k (marker c) (unlinked c)
+    (save (pointer c) k (marker c) (unwrap_or c.rd 0)) in
+    let l : (x : Name) → k + 1 ≤ stage n x → Lacks t x = λ x h. lacks_later n (k + 1) t x h below in
+    source_distinct t c.rs1 c.w1 (source c.rs2 c.w2 ++ tail) p
+    (λ q. source_distinct t c.rs2 c.w2 tail q
+    (λ r. frame_distinct (imm_of c) k (marker c) (pointer c) (unwrap_or c.rd 0) (unlinked c) t r
+    small (l (CaseName k) (omega arith)) (l (Target k) (omega arith))
+    (l (Done k) (omega arith))))
+
+distinct_by : (f : Format) (n k : ℕ) (c : ChoiceValue) (t : Marks) (p : Location) → k < 2 ^ 32
+    → AllBelow n (k + 1) t → Distinct t (case_by f k c) p
+distinct_by Store n k c t p small below = store_distinct n k c t p small below
+distinct_by JumpReg n k c t p small below = jalr_distinct n k c t p small below
+distinct_by Amo n k c t p small below = atomic_distinct n k c t p small below
+distinct_by LoadReserved n k c t p small below = atomic_distinct n k c t p small below
+distinct_by Branch n k c t p small below = jump_distinct n k c t p small below
+distinct_by Jump n k c t p small below = jump_distinct n k c t p small below
+distinct_by R n k c t p small below = plain_distinct n k c t p small below
+distinct_by _ n k c t p small below = plain_distinct n k c t p small below
+
+pub case_distinct : (n k : ℕ) (c : ChoiceValue) (t : Marks) (p : Location) → k < 2 ^ 32
+    → AllBelow n (k + 1) t → Distinct t (choice_statements k c) p
+case_distinct n k c t p small below = distinct_by (row c.op).form n k c t p small below
