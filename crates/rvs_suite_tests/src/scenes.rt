@@ -13,6 +13,10 @@
 //     then WORDS                  one more on the host that the last run left
 //     fails PLACE CALL WORDS      a run in which a call of `host`, `out` or `err` fails
 //     turns PLACE COUNT WORDS     such a run for each of so many calls
+//     stands PLACE COUNT NAMES|WORDS  the same, each with how much it leaves of these files of the
+//                                 whole run, told where it isn't as the one before
+//     fronts NAME WORDS           a run for each front of a file of the scene, told where it isn't
+//                                 as the one before
 //     slow WORDS                  a run whose output takes a byte at a time
 //     show NAME                   what a file holds that the last run left
 //     lines LINE NAME             what stands round a line of such a file: ten lines before it,
@@ -32,7 +36,7 @@
 use crate::runs::{NO_FAULTS, fault, faulty, tell_on};
 use crate::slow::slow;
 use crate::stage::{first_word, host_of, number};
-use crate::{groups, tracking};
+use crate::{faults, groups, tracking};
 use rvs_base::{MemoryHost, release};
 use std::alloc::Global;
 use std::mem;
@@ -117,6 +121,12 @@ fn run(
     }
     if verb == "turns" {
         turns(alloc, scene, row, report)?;
+    }
+    if verb == "stands" {
+        faults::tell_standing(alloc, scene, row, report)?;
+    }
+    if verb == "fronts" {
+        faults::tell_fronts(alloc, scene, row, report)?;
     }
     if verb == "slow" {
         slow(alloc, scene, row, report)?;
