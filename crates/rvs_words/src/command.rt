@@ -71,7 +71,7 @@ pub struct GenerateArguments {
 pub struct ReferenceArguments {
     /// The ISA file.
     pub isa: Text,
-    /// The test: assembler text, or an image.
+    /// The test: assembler text, an image, or an executable.
     pub test: Text,
     /// The file for the signature.
     pub signature: Text,
