@@ -8,7 +8,8 @@ use Rattle.std.proofs.lemmas.List.Splits.{length-slice_split}
 use Rattle.rvs_cross.specs.Cross.{Place}
 use Rattle.rvs_cross.specs.declared.refusal.CrossRefusal.TheVariants.{BadList, LengthsDiffer}
 use Rattle.rvs_cross.specs.declared.refusal.CrossRefusal.TheVariants.{TooManyPlaces}
-use Rattle.rvs_cross.specs.Outcomes.{Outcome, ◌>>=◌}
+use Rattle.rvs_text.specs.Outcomes.{◌>>=◌}
+use Rattle.rvs_cross.specs.Outcomes.{Outcome}
 use Rattle.rvs_cross.specs.Lists.{Lists, lists, entries}
 use Rattle.rvs_cross.specs.Entries.{has_class, first_unknown}
 use Rattle.rvs_cross.specs.Variables.{variables}

@@ -11,6 +11,5 @@ pub mod Rows
 pub mod Searching
 pub mod Solutions
 pub mod Solved
-pub mod Strips
 pub mod Turns
 pub mod Words

@@ -4,8 +4,9 @@ use Rattle.std.proofs.Common.{length-append, Some, None, Ok, Err, refl, subst, a
 use Rattle.std.specs.Prelude.{nat_lt, if◌then◌else◌}
 use Rattle.std.proofs.lemmas.Bool.Decides.{nat_tests}
 use Rattle.rvs_cross.specs.declared.refusal.CrossRefusal.TheVariants.{TooManyVariables}
-use Rattle.rvs_cross.specs.Outcomes.{Outcome, for_each, ◌>>=◌}
-use Rattle.rvs_cross.specs.Lists.{parts}
+use Rattle.rvs_text.specs.Outcomes.{◌>>=◌}
+use Rattle.rvs_cross.specs.Outcomes.{Outcome, for_each}
+use Rattle.rvs_text.specs.Parts.{parts}
 use Rattle.rvs_cross.specs.Entries.{assignment}
 use Rattle.rvs_cross.specs.Variables.{is_noted, note, note_assigned, note_part, note_entry}
 use Rattle.rvs_cross.specs.Variables.{variables}

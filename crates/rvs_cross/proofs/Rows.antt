@@ -7,7 +7,8 @@ use Rattle.std.proofs.lemmas.List.{length-map}
 use Rattle.std.proofs.lemmas.List.Splits.{length-slice_split}
 use Rattle.rvs_cross.specs.Cross.{Place}
 use Rattle.rvs_cross.specs.Lists.{entries}
-use Rattle.rvs_cross.specs.Outcomes.{Outcome, ◌>>=◌}
+use Rattle.rvs_text.specs.Outcomes.{◌>>=◌}
+use Rattle.rvs_cross.specs.Outcomes.{Outcome}
 use Rattle.rvs_cross.specs.Parse.{place, places}
 
 -- with these in front

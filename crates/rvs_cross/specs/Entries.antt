@@ -11,10 +11,11 @@ use Rattle.rvs_expr_text.specs.declared.lexeme.Word.TheVariants.{Unknown}
 use Rattle.rvs_expr_text.specs.declared.words.Language.TheVariants.{Registers}
 use Rattle.rvs_expr_text.specs.Words.{word_of}
 use Rattle.rvs_facts.specs.Mnemonics.{is_same}
-use Rattle.rvs_abstract.specs.Calls.{is_digit, is_letter, trimmed, before_last}
+use Rattle.rvs_text.specs.Bytes.{is_digit, begins_name}
+use Rattle.rvs_text.specs.Spaces.{trimmed}
+use Rattle.rvs_text.specs.Parts.{around, before_end, behind, parts}
 use Rattle.rvs_cross.specs.declared.cross.Field.{Field}
 use Rattle.rvs_cross.specs.declared.cross.Field.TheVariants.{Rd, Rs1, Rs2}
-use Rattle.rvs_cross.specs.Lists.{behind, around, parts}
 use Rattle.rvs_cross.specs.Once.{each_once}
 
 -- the entry that asks for nothing
@@ -24,7 +25,7 @@ is_any entry = bytes_eq (trimmed entry) (codes "?")
 -- ---- mnemonics
 -- a letter, a digit, _ or .
 abbrev pub in_mnemonic : ℕ → Bool
-in_mnemonic c = is_letter c || (is_digit c || c == 46)
+in_mnemonic c = begins_name c || (is_digit c || c == 46)
 
 abbrev pub is_mnemonic : List ℕ → Bool
 is_mnemonic text = nat_lt 0 (length text) && list_all in_mnemonic text
@@ -33,7 +34,7 @@ abbrev pub is_name : List ℕ → Bool
 is_name part = is_mnemonic (trimmed part)
 
 abbrev pub parenthesised : List ℕ → Option (List ℕ)
-parenthesised text = option_and_then (before_last 41) (behind (codes "(") text)
+parenthesised text = option_and_then (before_end 41) (behind (codes "(") text)
 
 abbrev pub are_names : Option (List ℕ) → Bool
 are_names None = false

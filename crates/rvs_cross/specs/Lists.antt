@@ -1,31 +1,8 @@
 -- The three lists of a cross point, and the parts of a list.
-use Rattle.std.specs.Prelude.{ℕ, ◌==◌, nat_lt, if◌then◌else◌, List, take, drop, length, Option}
-use Rattle.std.specs.Prelude.{Some, None, bytes_eq, codes}
+use Rattle.std.specs.Prelude.{ℕ, ◌==◌, if◌then◌else◌, List, length, Option, Some, None, codes}
 use Rattle.std.specs.Option.{option_and_then}
-use Rattle.std.specs.List.{position_or_len, before_first, after_first, slice_split}
-use Rattle.rvs_abstract.specs.Calls.{without_spaces}
-
--- what stands behind these letters, where a text begins with them
-abbrev pub behind : List ℕ → List ℕ → Option (List ℕ)
-behind letters text =
-    if bytes_eq (take (length letters) text) letters
-    then Some (drop (length letters) text)
-    else None
-
--- the same, where spaces may stand before the letters
-abbrev pub behind_token : List ℕ → List ℕ → Option (List ℕ)
-behind_token letters text = behind letters (without_spaces text)
-
--- what stands before and behind the first byte that is this one
-abbrev pub around : ℕ → List ℕ → Option (List ℕ × List ℕ)
-around b text =
-    if nat_lt (position_or_len (λ c. c == b) text) (length text)
-    then Some (before_first (λ c. c == b) text, after_first (λ c. c == b) text)
-    else None
-
--- what stands between the bytes that are this one
-abbrev pub parts : ℕ → List ℕ → List (List ℕ)
-parts b text = slice_split (λ c. c == b) text
+use Rattle.rvs_text.specs.Spaces.{without_spaces}
+use Rattle.rvs_text.specs.Parts.{around, behind_token, parts}
 
 -- the entries of a list
 abbrev pub entries : List ℕ → List (List ℕ)

@@ -1,15 +1,12 @@
 -- What a step of reading a cross point comes to: what it reads, or why the text is refused.
-use Rattle.std.specs.Prelude.{◌≡◌, ◌≢◌, List, [], ◌∷◌, Result, Ok, Err}
+use Rattle.std.specs.Prelude.{◌≢◌, List, [], ◌∷◌, Result, Ok}
+use Rattle.rvs_text.specs.Outcomes as outcomes
+use Rattle.rvs_text.specs.Outcomes.{◌>>=◌}
 use Rattle.rvs_cross.specs.declared.refusal.CrossRefusal.{CrossRefusal}
 use Rattle.rvs_cross.specs.declared.refusal.CrossRefusal.TheVariants.{NoMemory}
 
 abbrev pub Outcome : Type 0 → Type 0
 Outcome A = Result A CrossRefusal
-
-infixl 10 ◌>>=◌
-abbrev pub ◌>>=◌ : {A B : Type 0} → Outcome A → (A → Outcome B) → Outcome B
-(Ok x) >>= f = f x
-(Err e) >>= f = Err e
 
 -- one step after another, each from what the one before it came to
 abbrev pub for_each : {A S : Type 0} → (A → S → Outcome S) → List A → S → Outcome S
@@ -18,5 +15,4 @@ for_each f (x ∷ xs) s = f x s >>= for_each f xs
 
 -- a call's answer, seen so, is what reading comes to, or want of memory
 abbrev pub AnswersWith : {A B : Type 0} → (A → B) → Result A CrossRefusal → Outcome B → Type 0
-AnswersWith see (Ok x) outcome = outcome ≡ Ok (see x)
-AnswersWith see (Err e) outcome = e ≢ NoMemory → outcome ≡ Err e
+AnswersWith see result outcome = outcomes.AnswersWith (λ e. e ≢ NoMemory) see result outcome

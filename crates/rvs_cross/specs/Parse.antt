@@ -1,5 +1,5 @@
 -- The cross point that a text is, its first fault, or that it names a class of instructions.
-use Rattle.std.specs.Prelude.{◌≡◌, ◌≢◌, ℕ, ◌-◌, ◌==◌, ◌&&◌, nat_lt, not, Bool, if◌then◌else◌, List}
+use Rattle.std.specs.Prelude.{ℕ, ◌-◌, ◌==◌, ◌&&◌, nat_lt, not, Bool, if◌then◌else◌, List}
 use Rattle.std.specs.Prelude.{[], ◌∷◌, take, drop, length, Option, Some, None, Result, Ok, Err}
 use Rattle.std.specs.Prelude.{bytes_eq, codes}
 use Rattle.std.specs.List.{list_any, list_all}
@@ -9,7 +9,8 @@ use Rattle.rvs_expr_text.specs.declared.refusal.ExprRefusal.{ExprRefusal}
 use Rattle.rvs_expr_text.specs.declared.words.Language.TheVariants.{Registers}
 use Rattle.rvs_expr.specs.Typed.{Formula}
 use Rattle.rvs_expr.specs.Parse as expr
-use Rattle.rvs_abstract.specs.Calls.{name_length, trimmed}
+use Rattle.rvs_text.specs.Bytes.{name_length}
+use Rattle.rvs_text.specs.Spaces.{trimmed}
 use Rattle.rvs_cross.specs.Cross.{Place}
 use Rattle.rvs_cross.specs.CrossView.{cross_view}
 use Rattle.rvs_cross.specs.declared.refusal.CrossRead.{CrossRead}
@@ -19,8 +20,8 @@ use Rattle.rvs_cross.specs.declared.refusal.CrossRefusal.TheVariants.{BadList, L
 use Rattle.rvs_cross.specs.declared.refusal.CrossRefusal.TheVariants.{TooManyPlaces}
 use Rattle.rvs_cross.specs.declared.refusal.CrossRefusal.TheVariants.{UnassignedVariable}
 use Rattle.rvs_cross.specs.declared.refusal.CrossRefusal.TheVariants.{UnknownMnemonic, Expr}
-use Rattle.rvs_cross.specs.declared.refusal.CrossRefusal.TheVariants.{NoMemory}
-use Rattle.rvs_cross.specs.Outcomes.{Outcome, ◌>>=◌}
+use Rattle.rvs_text.specs.Outcomes.{◌>>=◌}
+use Rattle.rvs_cross.specs.Outcomes.{Outcome, AnswersWith}
 use Rattle.rvs_cross.specs.Lists.{Lists, lists, entries}
 use Rattle.rvs_cross.specs.Entries.{lists_ops, lists_sets, has_class, first_unknown, ops}
 use Rattle.rvs_cross.specs.Variables.{variables, sets}
@@ -39,8 +40,7 @@ answer_view code.Skipped = skipped
 
 -- a call's answer is what reading comes to, or want of memory
 abbrev pub Answers : Result CrossRead CrossRefusal → Found → Type 0
-Answers (Ok x) found = found ≡ Ok (answer_view x)
-Answers (Err e) found = e ≢ NoMemory → found ≡ Err e
+Answers result found = AnswersWith answer_view result found
 
 -- ---- conditions
 -- the name at a column

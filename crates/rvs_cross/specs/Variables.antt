@@ -8,7 +8,7 @@ use Rattle.rvs_cross.specs.declared.cross.Field.{Field}
 use Rattle.rvs_cross.specs.declared.cross.Assignment.{Assignment}
 use Rattle.rvs_cross.specs.declared.refusal.CrossRefusal.TheVariants.{TooManyVariables}
 use Rattle.rvs_cross.specs.Outcomes.{Outcome, for_each}
-use Rattle.rvs_cross.specs.Lists.{parts}
+use Rattle.rvs_text.specs.Parts.{parts}
 use Rattle.rvs_cross.specs.Entries.{assignment}
 use Rattle.rvs_cross.specs.Once.{each_once}
 use Rattle.rvs_cross.specs.Windows.{same_variable}

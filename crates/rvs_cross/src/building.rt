@@ -3,19 +3,19 @@ ghost use Rattle.std.specs.Prelude.{◌≡◌, ◌≢◌, ◌-◌, ◌≤◌, If
 ghost use Rattle.rvs_expr_text.specs.declared.refusal.ExprKind.TheVariants as expr_kind;
 ghost use Rattle.rvs_expr.specs.TypedView.{view};
 ghost use Rattle.rvs_cross.specs.declared.refusal.CrossRefusal.TheVariants as refusal;
-ghost use Rattle.rvs_abstract.specs.Calls.{name_length};
+ghost use Rattle.rvs_text.specs.Bytes.{name_length};
 ghost use Rattle.rvs_cross.specs.CrossView.{place_view};
 ghost use Rattle.rvs_cross.specs.Outcomes.{AnswersWith};
 ghost use Rattle.rvs_cross.specs.Parse as spec;
 
 use crate::cross::Place;
-use crate::cutting::trimmed;
 use crate::entries::ops;
 use crate::refusal::CrossRefusal;
 use crate::variables::sets;
-use rvs_abstract::name_length;
 use rvs_base::{Items, Text, beside};
 use rvs_expr::{Expr, ExprKind, ExprRefusal, parse_reg};
+use rvs_text::bytes::name_length;
+use rvs_text::trimmed;
 use std::alloc::Global;
 
 /// What stands at a column.

@@ -4,7 +4,6 @@
 mod building;
 mod choosing;
 mod cross;
-mod cutting;
 mod entries;
 mod first;
 mod fitting;

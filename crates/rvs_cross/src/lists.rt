@@ -3,7 +3,7 @@ ghost use Rattle.std.specs.Prelude.{◌≡◌, option_map};
 ghost use Rattle.rvs_cross.specs.Lists as spec;
 ghost use Rattle.rvs_cross.specs.ListsView.{lists_view};
 
-use crate::cutting::{around, behind_token, without_spaces};
+use rvs_text::{around, behind_token, without_spaces};
 
 /// What stands between the brackets of each list.
 #[derive(Clone, Copy)]

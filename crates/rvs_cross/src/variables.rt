@@ -1,18 +1,18 @@
 // The variables of a cross point.
 ghost use Rattle.std.specs.Prelude.{◌≡◌, ◌≤◌, IfOk, OnOk, bytes_eq, length, map};
 ghost use Rattle.std.specs.List.{filter_map, list_any, position};
-ghost use Rattle.rvs_cross.specs.Lists.{parts};
+ghost use Rattle.rvs_text.specs.Parts.{parts};
 ghost use Rattle.rvs_cross.specs.Once.{each_once, with_one};
 ghost use Rattle.rvs_cross.specs.Outcomes.{AnswersWith, for_each};
 ghost use Rattle.rvs_cross.specs.Variables as spec;
 
 use crate::choosing::same_field;
 use crate::cross::{Assignment, Variable};
-use crate::cutting::parts;
 use crate::entries::assignment;
 use crate::matching::same_variable;
 use crate::refusal::CrossRefusal;
 use rvs_base::{Items, Text, beside, release};
+use rvs_text::parts;
 use std::alloc::{AllocError, Global};
 
 fn is_noted(variables: &[Text], name: &str) -> bool

@@ -1,6 +1,7 @@
 use Rattle.std.proofs.Common.{ℕ, take, sym, subst}
 use Rattle.std.specs.Str.{IsUtf8}
-use Rattle.rvs_cross.proofs.Names.{name_utf8, is_read}
+use Rattle.rvs_text.proofs.Names.{name_utf8}
+use Rattle.rvs_cross.proofs.Names.{is_read}
 use Rattle.rvs_cross.proofs.building.name_before.Goals as goal
 
 pub unwrap-requires : goal.unwrap-requires
