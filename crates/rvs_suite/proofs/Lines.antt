@@ -1,6 +1,6 @@
 -- The line on the sink for errors, by the status.
-use Rattle.std.proofs.Common.{◌≡◌, ◌≢◌, ◌⊎◌, inl, inr, ℕ, List, [], Result, Ok, Err, refl, sym, ap}
-use Rattle.std.proofs.Common.{codes, ◌∙◌, subst}
+use Rattle.std.proofs.Common.{◌≡◌, ◌≢◌, ◌⊎◌, inl, inr, ℕ, Bool, true, false, List, [], Result, Ok}
+use Rattle.std.proofs.Common.{Err, refl, sym, ap, codes, ◌∙◌, subst}
 use Rattle.rvs_base.specs.Sink.{SinkState, appended}
 use Rattle.rvs_plan.specs.World.{World, Absence, Reading, Writing, Running, FirstFault}
 use Rattle.rvs_plan.specs.World.{FirstAbsence}
@@ -129,47 +129,36 @@ says-host absence old new status err err' result unfaulted c is =
     host-line absence old new err err' s.reason s.is
     (subst (λ (r : Result Finish Stop). NoFault absence old new r) s.given unfaulted) s.line
 
-unsaid : (end : Status) → (end ≡ answer.Done) ⊎ (end ≡ answer.NotPassed) → end ≡ answer.SinkFault
-    → ⊥
-unsaid end (inl done) e = let both : answer.Done ≡ answer.SinkFault = sym done ∙ e in cc
-unsaid end (inr failed) e = let both : answer.NotPassed ≡ answer.SinkFault = sym failed ∙ e in cc
+-- a status of an end, and no stop's
+abbrev ended : Status → Bool
+ended answer.Done = true
+ended answer.NotPassed = true
+ended _ = false
 
-not-stopped : (reason : Stop) (end : Status) → (end ≡ answer.Done) ⊎ (end ≡ answer.NotPassed)
-    → end ≡ status_of reason → ⊥
-not-stopped why.Usage end (inl d) e = let both : answer.Done ≡ answer.Usage = sym d ∙ e in cc
-not-stopped why.Usage end (inr d) e = let both : answer.NotPassed ≡ answer.Usage = sym d ∙ e in cc
-not-stopped (why.Refused text) end (inl d) e = let both : answer.Done ≡ answer.Refused =
-    sym d ∙ e in cc
-not-stopped (why.Refused text) end (inr d) e = let both : answer.NotPassed ≡ answer.Refused =
-    sym d ∙ e in cc
-not-stopped (why.NoFile name) end (inl d) e = let both : answer.Done ≡ answer.HostFault =
-    sym d ∙ e in cc
-not-stopped (why.NoFile name) end (inr d) e = let both : answer.NotPassed ≡ answer.HostFault =
-    sym d ∙ e in cc
-not-stopped (why.CannotRead name) end (inl d) e = let both : answer.Done ≡ answer.HostFault =
-    sym d ∙ e in cc
-not-stopped (why.CannotRead name) end (inr d) e = let both : answer.NotPassed ≡ answer.HostFault =
-    sym d ∙ e in cc
-not-stopped (why.CannotWrite name) end (inl d) e = let both : answer.Done ≡ answer.HostFault =
-    sym d ∙ e in cc
-not-stopped (why.CannotWrite name) end (inr d) e = let both : answer.NotPassed ≡ answer.HostFault =
-    sym d ∙ e in cc
-not-stopped (why.CannotRun test) end (inl d) e = let both : answer.Done ≡ answer.HostFault =
-    sym d ∙ e in cc
-not-stopped (why.CannotRun test) end (inr d) e = let both : answer.NotPassed ≡ answer.HostFault =
-    sym d ∙ e in cc
-not-stopped why.NoMemory end (inl d) e = let both : answer.Done ≡ answer.NoMemory = sym d ∙ e in cc
-not-stopped why.NoMemory end (inr d) e = let both : answer.NotPassed ≡ answer.NoMemory =
-    sym d ∙ e in cc
-not-stopped why.SinkFault end d e = unsaid end d e
+unended : (reason : Stop) → ended (status_of reason) ≡ false
+unended why.Usage = refl
+unended (why.Refused text) = refl
+unended (why.NoFile name) = refl
+unended (why.CannotRead name) = refl
+unended (why.CannotWrite name) = refl
+unended (why.CannotRun test) = refl
+unended why.NoMemory = refl
+unended why.SinkFault = refl
+
+-- it isn't one that no end has
+no-end : (end status : Status) → (end ≡ answer.Done) ⊎ (end ≡ answer.NotPassed) → end ≡ status
+    → ended status ≡ false → ⊥
+no-end end status (inl done) e none = let no : true ≡ false = ap ended (sym done ∙ e) ∙ none in cc
+no-end end status (inr failed) e none =
+    let no : true ≡ false = ap ended (sym failed ∙ e) ∙ none in cc
 
 pub says-nothing : (status : Status) (err err' : SinkState) (result : Result Finish Stop)
     → Concludes result status err err' → (status ≡ answer.Done) ⊎ (status ≡ answer.NotPassed)
     → err' ≡ err
 says-nothing status err err' (Ok end) c is = c.1
 says-nothing status err err' (Err reason) c is = elim c.outcome [
-  | inl whole ↦ absurd (not-stopped reason status is whole.0)
-  | inr lost ↦ absurd (unsaid status is lost.0)
+  | inl whole ↦ absurd (no-end status (status_of reason) is whole.0 (unended reason))
+  | inr lost ↦ absurd (no-end status answer.SinkFault is lost.0 refl)
 ]
 
 pub unfaulted-line : (status : Status) (err err' : SinkState) (result : Result Finish Stop)
