@@ -130,34 +130,34 @@ says-host absence old new status err err' result unfaulted c is =
     (subst (λ (r : Result Finish Stop). NoFault absence old new r) s.given unfaulted) s.line
 
 -- a status of an end, and no stop's
-abbrev ended : Status → Bool
-ended answer.Done = true
-ended answer.NotPassed = true
-ended _ = false
+abbrev is_end : Status → Bool
+is_end answer.Done = true
+is_end answer.NotPassed = true
+is_end _ = false
 
-unended : (reason : Stop) → ended (status_of reason) ≡ false
-unended why.Usage = refl
-unended (why.Refused text) = refl
-unended (why.NoFile name) = refl
-unended (why.CannotRead name) = refl
-unended (why.CannotWrite name) = refl
-unended (why.CannotRun test) = refl
-unended why.NoMemory = refl
-unended why.SinkFault = refl
+stops_are_none : (reason : Stop) → is_end (status_of reason) ≡ false
+stops_are_none why.Usage = refl
+stops_are_none (why.Refused text) = refl
+stops_are_none (why.NoFile name) = refl
+stops_are_none (why.CannotRead name) = refl
+stops_are_none (why.CannotWrite name) = refl
+stops_are_none (why.CannotRun test) = refl
+stops_are_none why.NoMemory = refl
+stops_are_none why.SinkFault = refl
 
 -- it isn't one that no end has
 no-end : (end status : Status) → (end ≡ answer.Done) ⊎ (end ≡ answer.NotPassed) → end ≡ status
-    → ended status ≡ false → ⊥
-no-end end status (inl done) e none = let no : true ≡ false = ap ended (sym done ∙ e) ∙ none in cc
+    → is_end status ≡ false → ⊥
+no-end end status (inl done) e none = let no : true ≡ false = ap is_end (sym done ∙ e) ∙ none in cc
 no-end end status (inr failed) e none =
-    let no : true ≡ false = ap ended (sym failed ∙ e) ∙ none in cc
+    let no : true ≡ false = ap is_end (sym failed ∙ e) ∙ none in cc
 
 pub says-nothing : (status : Status) (err err' : SinkState) (result : Result Finish Stop)
     → Concludes result status err err' → (status ≡ answer.Done) ⊎ (status ≡ answer.NotPassed)
     → err' ≡ err
 says-nothing status err err' (Ok end) c is = c.1
 says-nothing status err err' (Err reason) c is = elim c.outcome [
-  | inl whole ↦ absurd (no-end status (status_of reason) is whole.0 (unended reason))
+  | inl whole ↦ absurd (no-end status (status_of reason) is whole.0 (stops_are_none reason))
   | inr lost ↦ absurd (no-end status answer.SinkFault is lost.0 refl)
 ]
 
