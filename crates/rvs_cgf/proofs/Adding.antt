@@ -14,7 +14,7 @@ use Rattle.rvs_cgf.specs.Groups.{EntryNames, at_node, at_key, Refusal, Found, re
 use Rattle.rvs_cgf.specs.Groups.{holds, Taken, same_kind, point, has, with_point, add, with_skipped}
 use Rattle.rvs_cgf.specs.Groups.{skip, is_empty_scalar, entries, for_each, abstract_key, is_shaped}
 use Rattle.rvs_cgf.specs.Groups.{add_said, add_entry, value_point, values, called, abstract_entry}
-use Rattle.rvs_cgf.specs.Groups.{abstract_node, holds_families, entry_of, all_entries}
+use Rattle.rvs_cgf.specs.Groups.{under, abstract_node, holds_families, entry_of, all_entries}
 use Rattle.rvs_cgf.specs.Groups.{skipped_entry, each_skipped, passed_over, length_of, value_of}
 use Rattle.rvs_cgf.specs.Valid.{IsMeant}
 use Rattle.rvs_cgf.specs.declared.group.Kind.{Kind}
@@ -93,13 +93,12 @@ skip-kept P Q k place n s t u h e =
     subst P (ok-is (with_skipped note t) u e)
     (k.passed note t (and-is (is_printable place.node) (is_printable place.key) n s) h)
 
-each-kept : (P : Taken → Type 0) (f : EntryNames → Data → Taken → Found Taken) (place : EntryNames)
-    → ((key : List ℕ) (d : Data) (t u : Taken) → P t → f (at_key place key) d t ≡ Ok u → P u)
-    → (es : Pairs) (t u : Taken) → P t → for_each f place es t ≡ Ok u → P u
-each-kept P f place step [] t u h e = subst P (ok-is t u e) h
-each-kept P f place step (x ∷ es) t u h e =
-    bind-ok (f (at_key place x.0) x.1 t) (λ w. for_each f place es w) u e
-    (λ w g r. each-kept P f place step es w u (step x.0 x.1 t w h g) r)
+pub each-kept : {S : Type 0} (P : S → Type 0) (f : List ℕ → Data → S → Found S)
+    → ((key : List ℕ) (d : Data) (t u : S) → P t → f key d t ≡ Ok u → P u)
+    → (es : Pairs) (t u : S) → P t → for_each f es t ≡ Ok u → P u
+each-kept P f step [] t u h e = subst P (ok-is t u e) h
+each-kept P f step (x ∷ es) t u h e = bind-ok (f x.0 x.1 t) (λ w. for_each f es w) u e
+    (λ w g r. each-kept P f step es w u (step x.0 x.1 t w h g) r)
 
 -- ---- entries
 -- what is known of a point that an entry adds
@@ -170,10 +169,10 @@ abstract-kept P kept place n d t u h e =
 families-kept : (P : Taken → Type 0) → Kept P (IsOf kind.ValComb) → (place : EntryNames) (d : Data)
     (t u : Taken) → P t → abstract_node place d t ≡ Ok u → P u
 families-kept P kept place d t u h e =
-    let under = at_node place.label abstract_key in
-    bind-ok (entries place d) (λ es. for_each abstract_entry under es t) u e
-    (λ es _ g. each-kept P abstract_entry under (λ key. abstract-kept P kept (at_key under key) refl)
-    es t u h g)
+    let node = at_node place.label abstract_key in
+    bind-ok (entries place d) (λ es. for_each (under node abstract_entry) es t) u e
+    (λ es _ g. each-kept P (under node abstract_entry)
+    (λ key. abstract-kept P kept (at_key node key) refl) es t u h g)
 
 pub entry-kept : (P : Taken → Type 0) (isa : Isa) (k : Kind) → Kept P (IsOf k)
     → same_kind k kind.Mnemonic ≡ false → (place : EntryNames) → is_printable place.node ≡ true
@@ -193,8 +192,8 @@ pub entries-kept : (P : Taken → Type 0) (isa : Isa) (k : Kind) (place : EntryN
     → P u)
     → (d : Data) (t u : Taken) → P t → all_entries isa k place d t ≡ Ok u → P u
 entries-kept P isa k place step d t u h e =
-    bind-ok (entries place d) (λ es. for_each (entry_of isa k) place es t) u e
-    (λ es _ g. each-kept P (entry_of isa k) place step es t u h g)
+    bind-ok (entries place d) (λ es. for_each (under place (entry_of isa k)) es t) u e
+    (λ es _ g. each-kept P (under place (entry_of isa k)) step es t u h g)
 
 skipped-kept : (P : Taken → Type 0) (Q : Point → Type 0) → Kept P Q
     → (place : EntryNames) → is_printable place.node ≡ true → (d : Data) (t u : Taken) → P t
@@ -209,8 +208,8 @@ all_skipped-kept : (P : Taken → Type 0) (Q : Point → Type 0) → Kept P Q
 all_skipped-kept P Q kept place n [] t u h e =
     skip-kept P Q kept (at_key place (codes "-")) n refl t u h e
 all_skipped-kept P Q kept place n (x ∷ es) t u h e =
-    each-kept P skipped_entry place (λ key. skipped-kept P Q kept (at_key place key) n) (x ∷ es)
-    t u h e
+    each-kept P (under place skipped_entry) (λ key. skipped-kept P Q kept (at_key place key) n)
+    (x ∷ es) t u h e
 
 pub passed-kept : (P : Taken → Type 0) (Q : Point → Type 0) → Kept P Q
     → (place : EntryNames) → is_printable place.node ≡ true → (d : Data) (t u : Taken) → P t

@@ -3,16 +3,16 @@ use Rattle.std.proofs.Common.{◌≡◌, ℕ, ◌+◌, List, [], drop, Some, Ok,
 use Rattle.std.specs.Prelude.{slice_get, IsTrue}
 use Rattle.rvs_insn.specs.Isa.{Isa}
 use Rattle.rvs_tree.specs.Data.{Data, own_pairs, keys_of, members_of, is_map}
-use Rattle.rvs_cgf.specs.Groups.{Found, Refusal, Listed, label_step, each_label, nothing_listed}
+use Rattle.rvs_cgf.specs.Groups.{Found, Refusal, Listed, label_step, nothing_listed, for_each}
 use Rattle.rvs_cgf.specs.Writing.{Told, told, told_of, nothing_told}
-use Rattle.rvs_cgf.proofs.Loops.{labels-more, labels-fail}
+use Rattle.rvs_cgf.proofs.Loops.{each-more, each-fails}
 
 -- the labels that were written are those before an entry
 pub record Stands (isa : Isa) (d : Data) (i : ℕ) (t : Told) : Type 0 where
   pub listed : Listed
   pub is : t ≡ told listed
-  pub same : each_label isa (drop i (own_pairs d)) listed
-      ≡ each_label isa (own_pairs d) nothing_listed
+  pub same : for_each (label_step isa) (drop i (own_pairs d)) listed
+      ≡ for_each (label_step isa) (own_pairs d) nothing_listed
 
 pub stands-first : (isa : Isa) (d : Data) → Stands isa d 0 nothing_told
 stands-first isa d = record { listed = nothing_listed; is = refl; same = refl }
@@ -28,7 +28,7 @@ stands-more isa d i k v t u s m e g h = by-step (label_step isa k v s.listed) re
     by-step (Ok next) same h = record {
       listed = next;
       is = cc;
-      same = labels-more isa d i k v s.listed next m e g same ∙ s.same;
+      same = each-more (label_step isa) d i k v s.listed next m e g same ∙ s.same;
     }
     by-step (Err why) same h = cc
 
@@ -36,17 +36,18 @@ pub stands-fails : (isa : Isa) (d : Data) (i : ℕ) (k : List ℕ) (v : Data) (t
     (s : Stands isa d i t)
     → IsTrue (is_map d) → slice_get (keys_of d) i ≡ Some k → slice_get (members_of d) i ≡ Some v
     → told_of (label_step isa k v s.listed) ≡ Err why
-    → told_of (each_label isa (own_pairs d) nothing_listed) ≡ Err why
+    → told_of (for_each (label_step isa) (own_pairs d) nothing_listed) ≡ Err why
 stands-fails isa d i k v t why s m e g h = by-step (label_step isa k v s.listed) refl h
   where
     by-step : (r : Found Listed) → label_step isa k v s.listed ≡ r → told_of r ≡ Err why
-        → told_of (each_label isa (own_pairs d) nothing_listed) ≡ Err why
+        → told_of (for_each (label_step isa) (own_pairs d) nothing_listed) ≡ Err why
     by-step (Ok next) same h = cc
     by-step (Err other) same h =
-        ap told_of (sym s.same ∙ labels-fail isa d i k v s.listed other m e g same) ∙ h
+        ap told_of (sym s.same ∙ each-fails (label_step isa) d i k v s.listed other m e g same) ∙ h
 
 pub stands-done : (isa : Isa) (d : Data) (i : ℕ) (t : Told) (s : Stands isa d i t)
     → drop i (own_pairs d) ≡ []
-    → told_of (each_label isa (own_pairs d) nothing_listed) ≡ Ok t
+    → told_of (for_each (label_step isa) (own_pairs d) nothing_listed) ≡ Ok t
 stands-done isa d i t s none =
-    ap told_of (sym s.same ∙ ap (λ es. each_label isa es s.listed) none) ∙ ap (λ x. Ok x) (sym s.is)
+    ap told_of (sym s.same ∙ ap (λ es. for_each (label_step isa) es s.listed) none)
+    ∙ ap (λ x. Ok x) (sym s.is)

@@ -9,9 +9,8 @@ use Rattle.rvs_cgf.specs.Groups.{has, is_point, same_kind}
 use Rattle.rvs_cgf.specs.PointView.{point_view}
 use Rattle.rvs_cgf.specs.PointKeys.{mark, AreKeysOf}
 use Rattle.rvs_cgf.specs.declared.group.Kind.{Kind}
-use Rattle.rvs_cgf.specs.declared.group.Kind.TheVariants.{Mnemonic, Rs1, Rs2, Rd, OpComb, ValComb}
-use Rattle.rvs_cgf.specs.declared.group.Kind.TheVariants.{CrossComb}
 use Rattle.rvs_cgf.specs.declared.group.Point.{Point}
+use Rattle.rvs_cgf.proofs.SameKinds.{mark-same}
 
 or-false : (a : Bool) → (a || false) ≡ a
 or-false true = refl
@@ -32,55 +31,7 @@ has-more k key (q ∷ qs) p = ap (λ b. is_point k key (point_view q) || b) (has
 -- two marked texts are one exactly where kind and key are
 marks : (a b : Kind) (x y : List ℕ)
     → bytes_eq (mark a ∷ x) (mark b ∷ y) ≡ (same_kind a b && bytes_eq x y)
-marks Mnemonic Mnemonic x y = refl
-marks Mnemonic Rs1 x y = refl
-marks Mnemonic Rs2 x y = refl
-marks Mnemonic Rd x y = refl
-marks Mnemonic OpComb x y = refl
-marks Mnemonic ValComb x y = refl
-marks Mnemonic CrossComb x y = refl
-marks Rs1 Mnemonic x y = refl
-marks Rs1 Rs1 x y = refl
-marks Rs1 Rs2 x y = refl
-marks Rs1 Rd x y = refl
-marks Rs1 OpComb x y = refl
-marks Rs1 ValComb x y = refl
-marks Rs1 CrossComb x y = refl
-marks Rs2 Mnemonic x y = refl
-marks Rs2 Rs1 x y = refl
-marks Rs2 Rs2 x y = refl
-marks Rs2 Rd x y = refl
-marks Rs2 OpComb x y = refl
-marks Rs2 ValComb x y = refl
-marks Rs2 CrossComb x y = refl
-marks Rd Mnemonic x y = refl
-marks Rd Rs1 x y = refl
-marks Rd Rs2 x y = refl
-marks Rd Rd x y = refl
-marks Rd OpComb x y = refl
-marks Rd ValComb x y = refl
-marks Rd CrossComb x y = refl
-marks OpComb Mnemonic x y = refl
-marks OpComb Rs1 x y = refl
-marks OpComb Rs2 x y = refl
-marks OpComb Rd x y = refl
-marks OpComb OpComb x y = refl
-marks OpComb ValComb x y = refl
-marks OpComb CrossComb x y = refl
-marks ValComb Mnemonic x y = refl
-marks ValComb Rs1 x y = refl
-marks ValComb Rs2 x y = refl
-marks ValComb Rd x y = refl
-marks ValComb OpComb x y = refl
-marks ValComb ValComb x y = refl
-marks ValComb CrossComb x y = refl
-marks CrossComb Mnemonic x y = refl
-marks CrossComb Rs1 x y = refl
-marks CrossComb Rs2 x y = refl
-marks CrossComb Rd x y = refl
-marks CrossComb OpComb x y = refl
-marks CrossComb ValComb x y = refl
-marks CrossComb CrossComb x y = refl
+marks a b x y = ap (λ t. t && bytes_eq x y) (mark-same a b)
 
 pub keys_more : {Y : Type 0} (known s : BTreeSet (String Y)) (p : Point) (text : List ℕ)
     → text ≡ mark p.kind ∷ p.key

@@ -15,8 +15,8 @@ use Rattle.rvs_cgf.specs.Says.{of_cross}
 use Rattle.rvs_cgf.specs.Groups.{Meaning, Point, Skipped, Said, means, says, admits}
 use Rattle.rvs_cgf.specs.Groups.{EntryNames, at_key, Found, refused, ◌>>=◌, ◌>>◌, holds, Taken}
 use Rattle.rvs_cgf.specs.Groups.{same_kind, has, with_point, add, entries, for_each, abstract_key}
-use Rattle.rvs_cgf.specs.Groups.{is_shaped, add_said, add_entry, abstract_node, holds_families}
-use Rattle.rvs_cgf.specs.Groups.{entry_of, all_entries}
+use Rattle.rvs_cgf.specs.Groups.{is_shaped, under, add_said, add_entry, abstract_node}
+use Rattle.rvs_cgf.specs.Groups.{holds_families, entry_of, all_entries}
 use Rattle.rvs_cgf.specs.Valid.{are_distinct, IsMeant}
 use Rattle.rvs_cgf.specs.Spelled.{SpellsKeys}
 use Rattle.rvs_cgf.specs.declared.group.Kind.{Kind}
@@ -133,9 +133,10 @@ pub room : (n m : ℕ) → n + suc m ≤ 2048 → nat_le 2048 n ≡ false
 room n m h = grind (arith, nat_tests)
 
 pub block-read : (isa : Isa) (k : Kind) (place : EntryNames) (ps : List Point)
-    (es : Pairs) → SpellsKeys ps es → ReadsAll isa k ps → (t : Taken) → are_distinct (t.points ++ ps) ≡ true
+    (es : Pairs) → SpellsKeys ps es → ReadsAll isa k ps → (t : Taken)
+    → are_distinct (t.points ++ ps) ≡ true
     → t.count + length ps ≤ 2048
-    → for_each (entry_of isa k) place es t
+    → for_each (under place (entry_of isa k)) es t
     ≡ Ok (taken-at (t.count + length ps) (t.points ++ ps) t.skipped)
 block-read isa k place [] [] sp rd t d n = ap ok-taken (taken-is t.count (t.count + 0) t.points
     (t.points ++ []) t.skipped (omega arith) (sym (append-nil t.points)))
@@ -144,7 +145,8 @@ block-read isa k place (p ∷ ps) [] sp rd t d n = absurd sp
 block-read isa k place (p ∷ ps) (e ∷ es) sp rd t d n =
     let here = ap (λ key. entry_of isa k (at_key place key) e.1 t) sp.0
     ∙ rd.0 place e.1 t sp.1 (none-before t.points ps p d) (room t.count (length ps) n) in
-    bind-yes (entry_of isa k (at_key place e.0) e.1 t) (λ u. for_each (entry_of isa k) place es u)
+    bind-yes (entry_of isa k (at_key place e.0) e.1 t)
+    (λ u. for_each (under place (entry_of isa k)) es u)
     (with_point p t) here
     ∙ block-read isa k place ps es sp.2 rd.1 (with_point p t)
     (ap are_distinct (append_assoc t.points (p ∷ []) ps) ∙ d) (omega arith)
@@ -153,8 +155,8 @@ block-read isa k place (p ∷ ps) (e ∷ es) sp rd t d n =
     (append_assoc t.points (p ∷ []) ps))
 
 pub entries-read : (isa : Isa) (k : Kind) (place : EntryNames) (m : Data) (t u : Taken)
-    → is_map m ≡ true → for_each (entry_of isa k) place (own_pairs m) t ≡ Ok u
+    → is_map m ≡ true → for_each (under place (entry_of isa k)) (own_pairs m) t ≡ Ok u
     → all_entries isa k place m t ≡ Ok u
 entries-read isa k place m t u e h =
-    bind-yes (entries place m) (λ es. for_each (entry_of isa k) place es t)
+    bind-yes (entries place m) (λ es. for_each (under place (entry_of isa k)) es t)
     (own_pairs m) (entries-yes place m e) ∙ h

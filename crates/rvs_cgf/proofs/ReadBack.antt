@@ -13,10 +13,10 @@ use Rattle.rvs_cgf.specs.Keys.{is_label_name}
 use Rattle.rvs_cgf.specs.Groups.{Point, Label, at_label, at_node, Found, refused, ◌>>=◌, ◌>>◌}
 use Rattle.rvs_cgf.specs.Groups.{holds, Taken, same_kind, is_empty_scalar, entries, all_entries}
 use Rattle.rvs_cgf.specs.Groups.{role_of, Nodes, with_first}
-use Rattle.rvs_cgf.specs.Groups.{kept_first, by_role, node_step, each_node, config_holds, selects}
+use Rattle.rvs_cgf.specs.Groups.{kept_first, by_role, node_step, config_holds, selects, for_each}
 use Rattle.rvs_cgf.specs.Groups.{main_node, main_of, some_points, nothing_taken, ops_of, finished}
 use Rattle.rvs_cgf.specs.Groups.{starting, nodes, first_points, chosen, map_label, label_of}
-use Rattle.rvs_cgf.specs.Groups.{size_of, Listed, with_label, label_step, each_label}
+use Rattle.rvs_cgf.specs.Groups.{size_of, Listed, with_label, label_step}
 use Rattle.rvs_cgf.specs.Groups.{nothing_listed, groups_of}
 use Rattle.rvs_cgf.specs.Print.{kind_name}
 use Rattle.rvs_cgf.specs.Valid.{are_distinct}
@@ -65,7 +65,8 @@ ok-nodes n = Ok n
 -- the nodes are read to all points, with some number of them known
 record End (isa : Isa) (label : List ℕ) (es : Pairs) (n : Nodes) (all : List Point) : Type 0 where
   pub count : ℕ
-  pub read_is : each_node isa label es n ≡ Ok (nodes-at (taken-at count all n.taken.skipped) [])
+  pub read_is : for_each (node_step isa label) es n
+      ≡ Ok (nodes-at (taken-at count all n.taken.skipped) [])
 
 step-main : (isa : Isa) (label : List ℕ) (b : Block) (key : List ℕ) (d : Data) (n : Nodes)
     → key ≡ kind_name b.kind → same_kind b.kind kind.Mnemonic ≡ true
@@ -112,7 +113,7 @@ nodes-read isa label (b ∷ bs) (e ∷ es) sp rd apart n f all is d few =
     (omega (arith, ap length own, long, few)) in
     record {
       count = rest.count;
-      read_is = bind-yes (node_step isa label e.0 e.1 n) (λ m. each_node isa label es m)
+      read_is = bind-yes (node_step isa label e.0 e.1 n) (λ m. for_each (node_step isa label) es m)
           (with_first n) (step-main isa label b e.0 e.1 n sp.0 main) ∙ rest.read_is;
     })
     (λ other.
@@ -127,7 +128,7 @@ nodes-read isa label (b ∷ bs) (e ∷ es) sp rd apart n f all is d few =
     record {
       count = rest.count;
       read_is =
-          bind-yes (node_step isa label e.0 e.1 n) (λ m. each_node isa label es m) next
+          bind-yes (node_step isa label e.0 e.1 n) (λ m. for_each (node_step isa label) es m) next
           (step-other isa label b e.0 e.1 n sp.0 other sp.1 sp.2 rd.0
           (front-distinct (n.taken.points ++ b.points) (points_in bs)
           (ap are_distinct (append_assoc n.taken.points b.points (points_in bs) ∙ is) ∙ d))
@@ -258,7 +259,7 @@ label-read isa l d p m sp =
     (main_node l.name (Some main.node))
     (none-at bs (own_pairs d) sp (codes "opcode") no-opcode))
     ∙ bind-yes (first_points isa place main.node) (λ t. nodes isa l.name d t) taken firsts
-    ∙ bind-yes (each_node isa l.name (own_pairs d) (starting taken))
+    ∙ bind-yes (for_each (node_step isa l.name) (own_pairs d) (starting taken))
     (λ n. Ok (finished l.name (ops_of first) n)) (nodes-at (taken-at end.count l.points []) [])
     end.read_is
     ∙ ap (λ os. ok-label (record {
@@ -284,7 +285,7 @@ at-most n m k h = grind (arith, nat_tests)
 
 labels-read : (isa : Isa) (ls : List Label) (es : Pairs) → ArePlain isa ls → SpellsLabels ls es
     → (out : List Label) (n : ℕ) → length out + length ls ≤ 256 → n + sum_by size_of ls ≤ 65536
-    → each_label isa es (listed-at out n)
+    → for_each (label_step isa) es (listed-at out n)
     ≡ Ok (listed-at (out ++ map bare ls) (n + sum_by size_of ls))
 labels-read isa [] [] pl sp out n few small =
     ap (λ xs. ok-listed (listed-at xs n)) (sym (append-nil out))
@@ -308,7 +309,7 @@ labels-read isa (l ∷ ls) (e ∷ es) pl sp out n few small =
     ∙ holds-yes (nat_le (n + size_of l) 65536) (at_label l.name) fault.TooManyPoints
     (Ok (listed-at (out ++ bare l ∷ []) (n + size_of l)))
     (at-most (n + size_of l) (sum_by size_of ls) 65536 (omega (arith, small, added))) in
-    bind-yes (label_step isa e.0 e.1 (listed-at out n)) (λ next. each_label isa es next)
+    bind-yes (label_step isa e.0 e.1 (listed-at out n)) (λ next. for_each (label_step isa) es next)
     (listed-at (out ++ bare l ∷ []) (n + size_of l))
     (ap (λ k. label_step isa k e.1 (listed-at out n)) sp.0 ∙ here)
     ∙ labels-read isa ls es pl.1 sp.3 (out ++ bare l ∷ []) (n + size_of l)
@@ -321,13 +322,14 @@ spelled-by : (isa : Isa) (ls : List Label) (d : Data) → ArePlain isa ls → le
     → sum_by size_of ls ≤ 65536 → SpellsAll ls d → groups_of isa d ≡ Ok (map bare ls)
 unfolding groups_of
 spelled-by isa [] d pl few small sp = bind-yes (entries (at_label []) d)
-    (λ es. each_label isa es nothing_listed >>= (λ listed. Ok listed.labels)) []
+    (λ es. for_each (label_step isa) es nothing_listed >>= (λ listed. Ok listed.labels)) []
     (if-yes (is_empty_scalar d) (Ok []) _ sp)
 spelled-by isa (l ∷ ls) d pl few small sp =
     bind-yes (entries (at_label []) d)
-    (λ es. each_label isa es nothing_listed >>= (λ listed. Ok listed.labels)) (own_pairs d)
+    (λ es. for_each (label_step isa) es nothing_listed >>= (λ listed. Ok listed.labels))
+    (own_pairs d)
     (entries-yes (at_label []) d sp.1)
-    ∙ bind-yes (each_label isa (own_pairs d) nothing_listed) (λ listed. Ok listed.labels)
+    ∙ bind-yes (for_each (label_step isa) (own_pairs d) nothing_listed) (λ listed. Ok listed.labels)
     (listed-at (map bare (l ∷ ls)) (0 + sum_by size_of (l ∷ ls)))
     (labels-read isa (l ∷ ls) (own_pairs d) pl sp.2 [] 0 (omega (arith, few))
     (omega (arith, small)))

@@ -1,6 +1,9 @@
 -- Kinds that are the same.
-use Rattle.std.proofs.Common.{◌≡◌, Bool, true, false, refl, sym, ap, ◌∙◌}
+use Rattle.std.proofs.Common.{◌≡◌, ℕ, Bool, true, false, refl, sym, ap, ◌∙◌}
+use Rattle.std.specs.Prelude.{◌==◌, if◌then◌else◌}
+use Rattle.std.proofs.lemmas.Bool.{eqb-true}
 use Rattle.rvs_cgf.specs.Groups.{same_kind}
+use Rattle.rvs_cgf.specs.PointKeys.{mark}
 use Rattle.rvs_cgf.specs.declared.group.Kind.{Kind}
 use Rattle.rvs_cgf.specs.declared.group.Kind.TheVariants as kind
 
@@ -13,56 +16,75 @@ same-self kind.OpComb = refl
 same-self kind.ValComb = refl
 same-self kind.CrossComb = refl
 
+pub mark-same : (a b : Kind) → (mark a == mark b) ≡ same_kind a b
+mark-same kind.Mnemonic kind.Mnemonic = refl
+mark-same kind.Mnemonic kind.Rs1 = refl
+mark-same kind.Mnemonic kind.Rs2 = refl
+mark-same kind.Mnemonic kind.Rd = refl
+mark-same kind.Mnemonic kind.OpComb = refl
+mark-same kind.Mnemonic kind.ValComb = refl
+mark-same kind.Mnemonic kind.CrossComb = refl
+mark-same kind.Rs1 kind.Mnemonic = refl
+mark-same kind.Rs1 kind.Rs1 = refl
+mark-same kind.Rs1 kind.Rs2 = refl
+mark-same kind.Rs1 kind.Rd = refl
+mark-same kind.Rs1 kind.OpComb = refl
+mark-same kind.Rs1 kind.ValComb = refl
+mark-same kind.Rs1 kind.CrossComb = refl
+mark-same kind.Rs2 kind.Mnemonic = refl
+mark-same kind.Rs2 kind.Rs1 = refl
+mark-same kind.Rs2 kind.Rs2 = refl
+mark-same kind.Rs2 kind.Rd = refl
+mark-same kind.Rs2 kind.OpComb = refl
+mark-same kind.Rs2 kind.ValComb = refl
+mark-same kind.Rs2 kind.CrossComb = refl
+mark-same kind.Rd kind.Mnemonic = refl
+mark-same kind.Rd kind.Rs1 = refl
+mark-same kind.Rd kind.Rs2 = refl
+mark-same kind.Rd kind.Rd = refl
+mark-same kind.Rd kind.OpComb = refl
+mark-same kind.Rd kind.ValComb = refl
+mark-same kind.Rd kind.CrossComb = refl
+mark-same kind.OpComb kind.Mnemonic = refl
+mark-same kind.OpComb kind.Rs1 = refl
+mark-same kind.OpComb kind.Rs2 = refl
+mark-same kind.OpComb kind.Rd = refl
+mark-same kind.OpComb kind.OpComb = refl
+mark-same kind.OpComb kind.ValComb = refl
+mark-same kind.OpComb kind.CrossComb = refl
+mark-same kind.ValComb kind.Mnemonic = refl
+mark-same kind.ValComb kind.Rs1 = refl
+mark-same kind.ValComb kind.Rs2 = refl
+mark-same kind.ValComb kind.Rd = refl
+mark-same kind.ValComb kind.OpComb = refl
+mark-same kind.ValComb kind.ValComb = refl
+mark-same kind.ValComb kind.CrossComb = refl
+mark-same kind.CrossComb kind.Mnemonic = refl
+mark-same kind.CrossComb kind.Rs1 = refl
+mark-same kind.CrossComb kind.Rs2 = refl
+mark-same kind.CrossComb kind.Rd = refl
+mark-same kind.CrossComb kind.OpComb = refl
+mark-same kind.CrossComb kind.ValComb = refl
+mark-same kind.CrossComb kind.CrossComb = refl
+
+-- the kind of a mark
+abbrev of_mark : ℕ → Kind
+of_mark n = if n == 109 then kind.Mnemonic else (if n == 49 then kind.Rs1
+    else (if n == 50 then kind.Rs2 else (if n == 100 then kind.Rd
+    else (if n == 111 then kind.OpComb else (if n == 118 then kind.ValComb else kind.CrossComb)))))
+
+own-mark : (k : Kind) → of_mark (mark k) ≡ k
+own-mark kind.Mnemonic = refl
+own-mark kind.Rs1 = refl
+own-mark kind.Rs2 = refl
+own-mark kind.Rd = refl
+own-mark kind.OpComb = refl
+own-mark kind.ValComb = refl
+own-mark kind.CrossComb = refl
+
 pub kind-is : (a b : Kind) → same_kind a b ≡ true → a ≡ b
-kind-is kind.Mnemonic kind.Mnemonic e = refl
-kind-is kind.Mnemonic kind.Rs1 e = cc
-kind-is kind.Mnemonic kind.Rs2 e = cc
-kind-is kind.Mnemonic kind.Rd e = cc
-kind-is kind.Mnemonic kind.OpComb e = cc
-kind-is kind.Mnemonic kind.ValComb e = cc
-kind-is kind.Mnemonic kind.CrossComb e = cc
-kind-is kind.Rs1 kind.Mnemonic e = cc
-kind-is kind.Rs1 kind.Rs1 e = refl
-kind-is kind.Rs1 kind.Rs2 e = cc
-kind-is kind.Rs1 kind.Rd e = cc
-kind-is kind.Rs1 kind.OpComb e = cc
-kind-is kind.Rs1 kind.ValComb e = cc
-kind-is kind.Rs1 kind.CrossComb e = cc
-kind-is kind.Rs2 kind.Mnemonic e = cc
-kind-is kind.Rs2 kind.Rs1 e = cc
-kind-is kind.Rs2 kind.Rs2 e = refl
-kind-is kind.Rs2 kind.Rd e = cc
-kind-is kind.Rs2 kind.OpComb e = cc
-kind-is kind.Rs2 kind.ValComb e = cc
-kind-is kind.Rs2 kind.CrossComb e = cc
-kind-is kind.Rd kind.Mnemonic e = cc
-kind-is kind.Rd kind.Rs1 e = cc
-kind-is kind.Rd kind.Rs2 e = cc
-kind-is kind.Rd kind.Rd e = refl
-kind-is kind.Rd kind.OpComb e = cc
-kind-is kind.Rd kind.ValComb e = cc
-kind-is kind.Rd kind.CrossComb e = cc
-kind-is kind.OpComb kind.Mnemonic e = cc
-kind-is kind.OpComb kind.Rs1 e = cc
-kind-is kind.OpComb kind.Rs2 e = cc
-kind-is kind.OpComb kind.Rd e = cc
-kind-is kind.OpComb kind.OpComb e = refl
-kind-is kind.OpComb kind.ValComb e = cc
-kind-is kind.OpComb kind.CrossComb e = cc
-kind-is kind.ValComb kind.Mnemonic e = cc
-kind-is kind.ValComb kind.Rs1 e = cc
-kind-is kind.ValComb kind.Rs2 e = cc
-kind-is kind.ValComb kind.Rd e = cc
-kind-is kind.ValComb kind.OpComb e = cc
-kind-is kind.ValComb kind.ValComb e = refl
-kind-is kind.ValComb kind.CrossComb e = cc
-kind-is kind.CrossComb kind.Mnemonic e = cc
-kind-is kind.CrossComb kind.Rs1 e = cc
-kind-is kind.CrossComb kind.Rs2 e = cc
-kind-is kind.CrossComb kind.Rd e = cc
-kind-is kind.CrossComb kind.OpComb e = cc
-kind-is kind.CrossComb kind.ValComb e = cc
-kind-is kind.CrossComb kind.CrossComb e = refl
+kind-is a b e = sym (own-mark a)
+    ∙ ap of_mark (eqb-true (mark a) (mark b) (mark-same a b ∙ e)) ∙ own-mark b
 
 pub kind-sym : (a b : Kind) → same_kind a b ≡ same_kind b a
 kind-sym a b = by (same_kind a b) (same_kind b a) refl refl

@@ -1,5 +1,6 @@
 -- What a key that means something means, by its kind.
-use Rattle.std.proofs.Common.{◌≡◌, ℕ, Bool, true, false, List, [], Option, Some, None, Ok, Err, refl}
+use Rattle.std.proofs.Common.{◌≡◌, ℕ, Bool, true, false, List, [], Option, Some, None, Ok, Err}
+use Rattle.std.proofs.Common.{refl}
 use Rattle.std.specs.Prelude.{if◌then◌else◌}
 use Rattle.rvs_insn.specs.Names.{op_of_name}
 use Rattle.rvs_insn.specs.declared.op.Op.{Op}

@@ -16,10 +16,10 @@ use Rattle.rvs_tree.specs.Data.{Data, Pairs, own_pairs, is_map, value_at, value_
 use Rattle.rvs_cgf.specs.Keys.{is_label_name}
 use Rattle.rvs_cgf.specs.Groups.{Point, Label, at_label, at_node, at_key, refused, ◌>>=◌, Taken}
 use Rattle.rvs_cgf.specs.Groups.{same_kind, entries, all_entries, passed_over, role_of, Nodes}
-use Rattle.rvs_cgf.specs.Groups.{with_first, by_role, node_step, each_node, config_holds, selects}
+use Rattle.rvs_cgf.specs.Groups.{with_first, by_role, node_step, config_holds, selects, for_each}
 use Rattle.rvs_cgf.specs.Groups.{main_of, ops_of, finished, starting, nodes, first_points}
 use Rattle.rvs_cgf.specs.Groups.{selected_label, unselected, chosen, map_label, label_of, size_of}
-use Rattle.rvs_cgf.specs.Groups.{Listed, with_label, label_step, each_label, nothing_listed}
+use Rattle.rvs_cgf.specs.Groups.{Listed, with_label, label_step, nothing_listed}
 use Rattle.rvs_cgf.specs.Groups.{groups_of}
 use Rattle.rvs_cgf.specs.Print.{kind_name}
 use Rattle.rvs_cgf.specs.Spelled.{blocks, kinds_are_apart, IsPlain, ArePlain, CanBeSpelled}
@@ -211,11 +211,11 @@ role-goes isa label main ops n m e es is own h role.Unknown good here done = err
 
 nodes-go : (isa : Isa) (label main : List ℕ) (ops : List Op) → role_of main ≡ role.Main
     → (es : Pairs) (n m : Nodes) → keys_are_own es ≡ true → Goes main ops n es
-    → each_node isa label es n ≡ Ok m → Goes main ops m []
+    → for_each (node_step isa label) es n ≡ Ok m → Goes main ops m []
 nodes-go isa label main ops is [] n m own h e =
     subst (λ (x : Nodes). Goes main ops x []) (ok-is n m e) h
 nodes-go isa label main ops is (x ∷ es) n m own h e =
-    bind-ok (node_step isa label x.0 x.1 n) (λ k. each_node isa label es k) m e
+    bind-ok (node_step isa label x.0 x.1 n) (λ k. for_each (node_step isa label) es k) m e
     (λ k g r. nodes-go isa label main ops is es k m
     (and-right (not (named_among x.0 es)) (keys_are_own es) own)
     (role-goes isa label main ops n k x es is
@@ -279,7 +279,7 @@ label-plain isa name d l named other own e =
       ops_are = refl;
       pending = inr main.there;
     } in
-    bind-ok (each_node isa name (own_pairs d) (starting first))
+    bind-ok (for_each (node_step isa name) (own_pairs d) (starting first))
     (λ n. Ok (finished name (ops_of first.points) n)) l s
     (λ n f k.
     let goes = nodes-go isa name m.0 (ops_of first.points) main.role_main (own_pairs d)
@@ -360,10 +360,10 @@ step-plain isa name d l m own h e =
 
 pub each_plain : (isa : Isa) (es : Pairs) (l m : Listed)
     → list_all (λ e. keys_are_own (own_pairs e.1)) es ≡ true → Plainly isa l
-    → each_label isa es l ≡ Ok m → Plainly isa m
+    → for_each (label_step isa) es l ≡ Ok m → Plainly isa m
 each_plain isa [] l m own h e = subst (Plainly isa) (ok-is l m e) h
 each_plain isa (x ∷ es) l m own h e =
-    bind-ok (label_step isa x.0 x.1 l) (λ k. each_label isa es k) m e
+    bind-ok (label_step isa x.0 x.1 l) (λ k. for_each (label_step isa) es k) m e
     (λ k g r. each_plain isa es k m (and-right (keys_are_own (own_pairs x.1)) _ own)
     (step-plain isa x.0 x.1 l k (and-left (keys_are_own (own_pairs x.1)) _ own) h g) r)
 
@@ -384,8 +384,9 @@ pub groups-spelled : (isa : Isa) (d : Data) (ls : List Label) → nodes_are_own 
 unfolding groups_of
 groups-spelled isa d ls own e =
     bind-ok (entries (at_label []) d)
-    (λ es. each_label isa es nothing_listed >>= (λ listed. Ok listed.labels)) ls e
-    (λ es there r. bind-ok (each_label isa es nothing_listed) (λ listed. Ok listed.labels) ls r
+    (λ es. for_each (label_step isa) es nothing_listed >>= (λ listed. Ok listed.labels)) ls e
+    (λ es there r. bind-ok (for_each (label_step isa) es nothing_listed)
+    (λ listed. Ok listed.labels) ls r
     (λ listed a s.
     let p = each_plain isa es nothing_listed listed
     (entries-are (λ es. list_all (λ e. keys_are_own (own_pairs e.1)) es ≡ true) (at_label []) d es

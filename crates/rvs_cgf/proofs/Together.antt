@@ -8,8 +8,8 @@ use Rattle.rvs_cgf.specs.Groups.{Point, same_kind}
 use Rattle.rvs_cgf.specs.Spelled.{Block, block, joined, blocks, kinds_are_apart}
 use Rattle.rvs_cgf.specs.declared.group.Kind.{Kind}
 use Rattle.rvs_cgf.proofs.SameKinds.{kind-is, kind-sym}
-use Rattle.rvs_cgf.proofs.Distinct.{and-left, and-right, and-is, or-left, or-right, or-fails, or-cases}
-use Rattle.rvs_cgf.proofs.Distinct.{no}
+use Rattle.rvs_cgf.proofs.Distinct.{and-left, and-right, and-is, or-left, or-right, or-fails}
+use Rattle.rvs_cgf.proofs.Distinct.{or-cases, no}
 
 -- ---- points of a kind
 abbrev pub has_kind : Kind → List Point → Bool

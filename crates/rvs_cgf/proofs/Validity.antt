@@ -24,11 +24,11 @@ use Rattle.rvs_cgf.specs.Groups.{Meaning, op_is, Point, Label, means, says, admi
 use Rattle.rvs_cgf.specs.Groups.{EntryNames, at_label, at_node, at_key, Found, refused, ◌>>=◌, ◌>>◌}
 use Rattle.rvs_cgf.specs.Groups.{holds, Taken, same_kind, is_point, has, entries, entry_of}
 use Rattle.rvs_cgf.specs.Groups.{all_entries, passed_over, role_of, Nodes}
-use Rattle.rvs_cgf.specs.Groups.{with_first, kept_first, by_role, node_step, each_node}
+use Rattle.rvs_cgf.specs.Groups.{with_first, kept_first, by_role, node_step, for_each}
 use Rattle.rvs_cgf.specs.Groups.{config_holds, selects, main_of, some_points}
 use Rattle.rvs_cgf.specs.Groups.{nothing_taken, op_in, ops_of, finished, starting, nodes}
 use Rattle.rvs_cgf.specs.Groups.{first_points, selected_label, unselected, chosen, map_label}
-use Rattle.rvs_cgf.specs.Groups.{label_of, size_of, Listed, with_label, label_step, each_label}
+use Rattle.rvs_cgf.specs.Groups.{label_of, size_of, Listed, with_label, label_step}
 use Rattle.rvs_cgf.specs.Groups.{nothing_listed, groups_of}
 use Rattle.rvs_cgf.specs.Valid.{are_distinct, ops_are_distinct, IsMeant, IsValid}
 use Rattle.rvs_cgf.specs.Valid.{IsValidIfSelected}
@@ -45,7 +45,7 @@ use Rattle.rvs_cgf.proofs.Distinct.{and-left, and-right, and-is, or-left, or-rig
 use Rattle.rvs_cgf.proofs.Distinct.{no, has-append, distinct_insert, is_mnemonic, no-mnemonic}
 use Rattle.rvs_cgf.proofs.Saying.{by-op}
 use Rattle.rvs_cgf.proofs.Adding.{ok-is, err-not, if-ok, bind-ok, holds-then, Kept, IsOf, Gives}
-use Rattle.rvs_cgf.proofs.Adding.{point-kept, entry-kept, entries-kept, passed-kept}
+use Rattle.rvs_cgf.proofs.Adding.{each-kept, point-kept, entry-kept, entries-kept, passed-kept}
 use Rattle.rvs_cgf.proofs.Roles.{same-bytes, Suits, role-suits, main-printable}
 
 -- ---- nodes
@@ -123,12 +123,9 @@ role-fits isa label node d role.PassedOver good n m h e =
 role-fits isa label node d role.Unknown good n m h e = err-not _ m e
 
 nodes-fit : (isa : Isa) (label : List ℕ) (es : Pairs) (n m : Nodes) → Fits n
-    → each_node isa label es n ≡ Ok m → Fits m
-nodes-fit isa label [] n m h e = subst Fits (ok-is n m e) h
-nodes-fit isa label (x ∷ es) n m h e =
-    bind-ok (node_step isa label x.0 x.1 n) (λ k. each_node isa label es k) m e
-    (λ k g r. nodes-fit isa label es k m
-    (role-fits isa label x.0 x.1 (role_of x.0) (role-suits x.0) n k h g) r)
+    → for_each (node_step isa label) es n ≡ Ok m → Fits m
+nodes-fit isa label = each-kept Fits (node_step isa label)
+    (λ node d n m h e. role-fits isa label node d (role_of node) (role-suits node) n m h e)
 
 -- ---- mnemonics
 some-is : {A : Type 0} (x y : A) → Some x ≡ Some y → x ≡ y
@@ -356,7 +353,7 @@ label-valid isa name d l named e =
     (λ first b s.
     let p = first-mains isa name d m first a b in
     let mains = p.0 in
-    bind-ok (each_node isa name (own_pairs d) (starting first))
+    bind-ok (for_each (node_step isa name) (own_pairs d) (starting first))
     (λ n. Ok (finished name (ops_of first.points) n)) l s
     (λ n f k.
     let fits =
@@ -397,7 +394,8 @@ Goods isa listed = All (IsValidIfSelected isa) listed.labels
 step-good : (isa : Isa) (name : List ℕ) (d : Data) (l m : Listed) → Goods isa l
     → label_step isa name d l ≡ Ok m → Goods isa m
 step-good isa name d l m h e =
-    if-ok (bytes_eq name (codes "datasets")) (Ok l) (holds (nat_lt (length l.labels) 256) (at_label name)
+    if-ok (bytes_eq name (codes "datasets")) (Ok l)
+    (holds (nat_lt (length l.labels) 256) (at_label name)
     fault.TooManyLabels >> (label_of isa name d >>= (λ x. with_label name x l))) m e
     (λ b g. subst (Goods isa) (ok-is l m g) h)
     (λ b g. holds-then (nat_lt (length l.labels) 256) (at_label name) fault.TooManyLabels
@@ -413,23 +411,18 @@ step-good isa name d l m h e =
       total = l.total + size_of x;
     }) m k) (All-push (IsValidIfSelected isa) l.labels x h (label-good isa name d x a))))))
 
-each-good : (isa : Isa) (es : Pairs) (l m : Listed) → Goods isa l → each_label isa es l ≡ Ok m
-    → Goods isa m
-each-good isa [] l m h e = subst (Goods isa) (ok-is l m e) h
-each-good isa (x ∷ es) l m h e =
-    bind-ok (label_step isa x.0 x.1 l) (λ k. each_label isa es k) m e
-    (λ k g r. each-good isa es k m (step-good isa x.0 x.1 l k h g) r)
-
 pub groups_good : (isa : Isa) (d : Data) (ls : List Label) → groups_of isa d ≡ Ok ls
     → All (IsValidIfSelected isa) ls
 unfolding groups_of
 groups_good isa d ls e =
     bind-ok (entries (at_label []) d)
-    (λ es. each_label isa es nothing_listed >>= (λ listed. Ok listed.labels)) ls e
-    (λ es _ r. bind-ok (each_label isa es nothing_listed) (λ listed. Ok listed.labels) ls r
+    (λ es. for_each (label_step isa) es nothing_listed >>= (λ listed. Ok listed.labels)) ls e
+    (λ es _ r. bind-ok (for_each (label_step isa) es nothing_listed)
+    (λ listed. Ok listed.labels) ls r
     (λ listed a s. subst (λ (xs : List Label). All (IsValidIfSelected isa) xs)
     (ok-is listed.labels ls s)
-    (each-good isa es nothing_listed listed (All-nil (IsValidIfSelected isa)) a)))
+    (each-kept (Goods isa) (label_step isa) (step-good isa) es nothing_listed listed
+    (All-nil (IsValidIfSelected isa)) a)))
 
 All-map : {A B : Type 0} (P : B → Type 0) (f : A → B) (xs : List A) → All P (map f xs)
     → All (λ x. P (f x)) xs

@@ -100,7 +100,8 @@ fn nothing_listed(alloc: Global) -> Listed
 fn list_labels(alloc: Global, isa: &IsaSpec, root: &Tree) -> Result<Listed, CgfRefusal>
     requires { IsTrue (is_map (trees.view root.now)) }
     ensures { AnswersWith listed_view result
-        (spec.each_label isa.now (own_pairs (trees.view root.now)) spec.nothing_listed) }
+        (spec.for_each (spec.label_step isa.now) (own_pairs (trees.view root.now))
+        spec.nothing_listed) }
 {
     let mut listed = nothing_listed(alloc);
     for i in 0..root.len() {

@@ -103,7 +103,8 @@ fn nothing_written(alloc: Global) -> Written
 fn write_labels(alloc: Global, isa: &IsaSpec, root: &Tree) -> Result<Written, CgfRefusal>
     requires { IsTrue (is_map (trees.view root.now)) }
     ensures { AnswersWith written_view result
-        (told_of (spec.each_label isa.now (own_pairs (trees.view root.now)) spec.nothing_listed)) }
+        (told_of (spec.for_each (spec.label_step isa.now) (own_pairs (trees.view root.now))
+        spec.nothing_listed)) }
 {
     let mut written = nothing_written(alloc);
     for i in 0..root.len() {

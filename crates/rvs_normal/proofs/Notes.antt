@@ -10,9 +10,9 @@ use Rattle.rvs_tree.specs.Data.{Data, Pairs, own_pairs, is_map}
 use Rattle.rvs_cgf.specs.Keys.{is_printable, is_label_name}
 use Rattle.rvs_cgf.specs.Groups.{Point, Label, EntryNames, at_label, at_node, at_key, Found, ◌>>=◌}
 use Rattle.rvs_cgf.specs.Groups.{◌>>◌, holds, Taken, Nodes, Listed, entries, all_entries}
-use Rattle.rvs_cgf.specs.Groups.{passed_over, role_of, by_role, node_step, each_node, starting}
+use Rattle.rvs_cgf.specs.Groups.{passed_over, role_of, by_role, node_step, starting, for_each}
 use Rattle.rvs_cgf.specs.Groups.{main_of, first_points, selected_label, chosen, selects, label_of}
-use Rattle.rvs_cgf.specs.Groups.{with_label, label_step, each_label, nothing_listed, groups_of}
+use Rattle.rvs_cgf.specs.Groups.{with_label, label_step, nothing_listed, groups_of}
 use Rattle.rvs_cgf.specs.Groups.{size_of}
 use Rattle.rvs_cgf.specs.Spelled.{keys_are_own}
 use Rattle.rvs_cgf.specs.declared.refusal.CgfKind.TheVariants as fault
@@ -93,7 +93,7 @@ role-noted isa label node d role.PassedOver n good h =
 role-noted isa label node d role.Unknown n good h = tt
 
 nodes-noted : (isa : Isa) (label : List ℕ) (es : Pairs) (n : Nodes) → NodesNoted n
-    → Has NodesNoted (each_node isa label es n)
+    → Has NodesNoted (for_each (node_step isa label) es n)
 nodes-noted isa label [] n h = h
 nodes-noted isa label (e ∷ es) n h = has-then NodesNoted NodesNoted (node_step isa label e.0 e.1 n)
     _ (role-noted isa label e.0 e.1 (role_of e.0) n (role-suits e.0) h)
@@ -111,7 +111,8 @@ label-named : (isa : Isa) (name : List ℕ) (d : Data) → is_label_name name �
 label-named isa name d h =
     has-next (IsNamed name) (main_of name d) _ (λ m.
     has-next (IsNamed name) (first_points isa (at_node name m.0) m.1) _ (λ first.
-    has-then NodesNoted (IsNamed name) (each_node isa name (own_pairs d) (starting first)) _
+    has-then NodesNoted (IsNamed name)
+     (for_each (node_step isa name) (own_pairs d) (starting first)) _
     (nodes-noted isa name (own_pairs d) (starting first) refl)
     (λ n k. (
       refl,
@@ -213,7 +214,7 @@ step-well isa e es l own w =
     }))))
 
 each-well : (isa : Isa) (es : Pairs) (l : Listed) → keys_are_own es ≡ true → Well es l
-    → Has (Well []) (each_label isa es l)
+    → Has (Well []) (for_each (label_step isa) es l)
 each-well isa [] l own w = w
 each-well isa (e ∷ es) l own w =
     let p = both (not (list_any (λ f. bytes_eq f.0 e.0) es)) (keys_are_own es) own in
@@ -232,7 +233,7 @@ groups-well isa d own =
     has-then (λ es. keys_are_own es ≡ true) IsWell (entries (at_label []) d) _
     (has-of (λ es. keys_are_own es ≡ true) (entries (at_label []) d)
     (λ es g. entries-are (λ es. keys_are_own es ≡ true) (at_label []) d es g refl own))
-    (λ es k. has-then (Well []) IsWell (each_label isa es nothing_listed) _
+    (λ es k. has-then (Well []) IsWell (for_each (label_step isa) es nothing_listed) _
     (each-well isa es nothing_listed k (record {
       apart = refl;
       notes = tt;

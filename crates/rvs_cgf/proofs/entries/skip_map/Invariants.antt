@@ -1,13 +1,13 @@
 use Rattle.std.proofs.Common.{◌≡◌, drop}
 use Rattle.rvs_tree.specs.Data.{own_pairs}
 use Rattle.rvs_tree.specs.TreeView.{view}
-use Rattle.rvs_cgf.specs.Groups.{for_each, skipped_entry}
+use Rattle.rvs_cgf.specs.Groups.{for_each, under, skipped_entry}
 use Rattle.rvs_cgf.specs.GroupView.{taken_view}
 use Rattle.rvs_cgf.specs.PlaceView.{place_view}
 use Rattle.rvs_cgf.proofs.entries.skip_map.Given as goal
 
 abbrev pub invariant-loop-i : goal.invariant-loop-i
 invariant-loop-i l =
-    for_each skipped_entry (place_view l.place) (drop l.i (own_pairs (view l.entries)))
-    (taken_view l.taken) ≡ for_each skipped_entry (place_view l.place)
+    for_each (under (place_view l.place) skipped_entry) (drop l.i (own_pairs (view l.entries)))
+    (taken_view l.taken) ≡ for_each (under (place_view l.place) skipped_entry)
     (own_pairs (view l.entries)) (taken_view l.fn.taken)

@@ -1,12 +1,13 @@
 use Rattle.std.proofs.Common.{◌∙◌, sym}
 use Rattle.rvs_tree.specs.TreeView.{view}
+use Rattle.rvs_cgf.specs.Groups.{label_step}
 use Rattle.rvs_cgf.specs.GroupView.{listed_view, refusal_view}
-use Rattle.rvs_cgf.proofs.Loops.{labels-more, labels-fail}
+use Rattle.rvs_cgf.proofs.Loops.{each-more, each-fails}
 use Rattle.rvs_cgf.proofs.listing.list_labels.Goals as goal
 
 pub loop-i-preserved : goal.loop-i-preserved
 loop-i-preserved c =
-    labels-more c.args.isa.now (view c.args.root.now) c.loop-i.i c.key.result.now
+    each-more (label_step c.args.isa.now) (view c.args.root.now) c.loop-i.i c.key.result.now
     (view c.item.result.now) (listed_view c.loop-i.listed) (listed_view c.in-Ok.next) c.requires
     c.key.ensures c.item.ensures c.in-Ok.ensures
     ∙ c.loop-i.invariant
@@ -14,6 +15,6 @@ loop-i-preserved c =
 pub returns-in-Err : goal.returns-in-Err
 returns-in-Err c = λ k.
     sym c.loop-i.invariant
-    ∙ labels-fail c.args.isa.now (view c.args.root.now) c.loop-i.i c.key.result.now
+    ∙ each-fails (label_step c.args.isa.now) (view c.args.root.now) c.loop-i.i c.key.result.now
     (view c.item.result.now) (listed_view c.loop-i.listed) (refusal_view c.in-Err.why)
     c.requires c.key.ensures c.item.ensures (c.in-Err.ensures k)

@@ -1,10 +1,11 @@
 use Rattle.std.proofs.Common.{◌≡◌, drop}
 use Rattle.rvs_tree.specs.Data.{own_pairs}
 use Rattle.rvs_tree.specs.TreeView.{view}
-use Rattle.rvs_cgf.specs.Groups.{each_label, nothing_listed}
+use Rattle.rvs_cgf.specs.Groups.{nothing_listed, label_step, for_each}
 use Rattle.rvs_cgf.specs.GroupView.{listed_view}
 use Rattle.rvs_cgf.proofs.listing.list_labels.Given as goal
 
 abbrev pub invariant-loop-i : goal.invariant-loop-i
-invariant-loop-i l = each_label l.isa (drop l.i (own_pairs (view l.root))) (listed_view l.listed)
-    ≡ each_label l.isa (own_pairs (view l.root)) nothing_listed
+invariant-loop-i l = for_each (label_step l.isa) (drop l.i (own_pairs (view l.root)))
+    (listed_view l.listed)
+    ≡ for_each (label_step l.isa) (own_pairs (view l.root)) nothing_listed
