@@ -3,9 +3,9 @@
 ghost use Rattle.std.specs.Prelude.{◌≡◌, ◌+◌, ◌*◌, ◌≤◌, ◌∷◌, [], flat_map, length, find, sum_by};
 ghost use Rattle.std.specs.Prelude.{All, None};
 ghost use Rattle.std.specs.Option.{option_or};
-ghost use Rattle.rvs_solver.specs.Walk.{search_view, is_true_at, with_numbers, at_w1, at_operand};
-ghost use Rattle.rvs_solver.specs.Walk.{word_or, own_addresses, first_in, passes_in, MayPassOver};
-ghost use Rattle.rvs_solver.specs.Walk.{cost_at};
+ghost use Rattle.rvs_solver.specs.Walk.{search_view, is_true_at, with_numbers, at_w1, word_or};
+ghost use Rattle.rvs_solver.specs.Walk.{own_addresses, found_at, own_at, first_in, passes_in};
+ghost use Rattle.rvs_solver.specs.Walk.{MayPassOver, cost_at};
 
 use crate::choice::Choice;
 use crate::operand::Operand;
@@ -44,12 +44,11 @@ impl<'e> Search<'e> {
     {
         let mut kept = None;
         for operand in operands {
-            let turn = self.turn(operand, kept, steps);
-            match turn.0 {
+            let (found, next) = self.turn(operand, kept, steps);
+            match found {
                 Some(choice) => return Some(choice),
-                None => {},
+                None => kept = next,
             }
-            kept = turn.1;
         }
         kept
     }
@@ -63,11 +62,9 @@ impl<'e> Search<'e> {
         steps: &mut Steps<L>,
     ) -> (Option<Choice>, Option<Choice>)
         requires { MayPassOver (search_view self.now) operand.now }
-        ensures found { result.0 ≡ find (is_true_at (search_view self.now).formula)
-            (at_operand (search_view self.now) operand.now) }
+        ensures found { result.0 ≡ found_at (search_view self.now) operand.now }
         ensures kept { result.0 ≡ None → result.1
-            ≡ option_or kept (find (is_true_at (search_view self.now).formula)
-            (own_addresses self.now.same (operand.now ∷ []))) }
+            ≡ option_or kept (own_at (search_view self.now) operand.now) }
         ensures cost { steps.new ≤ steps.old + (1 + cost_at (search_view self.now) operand.now) }
     {
         if !self.passes(operand, steps) {
@@ -100,8 +97,7 @@ impl<'e> Search<'e> {
         kept: Option<Choice>,
         steps: &mut Steps<L>,
     ) -> Option<Choice>
-        ensures value { result ≡ option_or kept (find (is_true_at (search_view self.now).formula)
-            (own_addresses self.now.same (operand.now ∷ []))) }
+        ensures value { result ≡ option_or kept (own_at (search_view self.now) operand.now) }
         ensures cost { steps.new ≤ steps.old
             + length (own_addresses self.now.same (operand.now ∷ [])) }
     {
@@ -114,8 +110,7 @@ impl<'e> Search<'e> {
     /// The choice that stores its own address, where there is one and it makes the expression
     /// true.
     fn own_address<L: Ledger>(&self, operand: &Operand, steps: &mut Steps<L>) -> Option<Choice>
-        ensures value { result ≡ find (is_true_at (search_view self.now).formula)
-            (own_addresses self.now.same (operand.now ∷ [])) }
+        ensures value { result ≡ own_at (search_view self.now) operand.now }
         ensures cost { steps.new ≤ steps.old
             + length (own_addresses self.now.same (operand.now ∷ [])) }
     {
@@ -134,8 +129,7 @@ impl<'e> Search<'e> {
     }
 
     fn first_at<L: Ledger>(&self, operand: &Operand, steps: &mut Steps<L>) -> Option<Choice>
-        ensures first { result ≡ find (is_true_at (search_view self.now).formula)
-            (at_operand (search_view self.now) operand.now) }
+        ensures first { result ≡ found_at (search_view self.now) operand.now }
         ensures cost { steps.new ≤ steps.old
             + length (word_or operand.now.word self.now.w1s.items) * length self.now.w2s.items }
     {

@@ -13,13 +13,13 @@ returns-in-Some-clause-first g c =
     (find (is_true_at s.formula) (own_addresses s.same c.args.operands.now))
     (turn_found (is_true_at s.formula) (at_operand s) c.args.operands.now
     c.loop-operand.operand-index _ c.in-Some.choice whole (omega arith)
-    c.loop-operand.invariant.first (sym c.in-Some.is ∙ c.turn-turn.ensures.found))
+    c.loop-operand.invariant.first (sym c.in-Some.is ∙ c.turn-found.ensures.found))
 
 pub returns-in-Some-clause-cost : goal.returns-in-Some-clause-cost
 returns-in-Some-clause-cost g c =
     within_counted (cost_at (search_view c.args.self.now)) c.args.operands.now
-    c.loop-operand.operand-index _ c.turn-turn.new.steps c.loop-operand.steps c.args.steps.now
-    (omega arith) c.loop-operand.invariant.cost c.turn-turn.ensures.cost
+    c.loop-operand.operand-index _ c.turn-found.new.steps c.loop-operand.steps c.args.steps.now
+    (omega arith) c.loop-operand.invariant.cost c.turn-found.ensures.cost
 
 pub loop-operand-preserved : goal.loop-operand-preserved
 loop-operand-preserved g c =
@@ -29,11 +29,11 @@ loop-operand-preserved g c =
           c.loop-operand.operand-index _
           (find (is_true_at s.formula) (flat_map (at_operand s) c.args.operands.now))
           (omega arith) c.loop-operand.invariant.first
-          (sym c.in-None.is ∙ c.turn-turn.ensures.found);
+          (sym c.in-None.is ∙ c.turn-found.ensures.found);
       kept = kept_turn (is_true_at s.formula) s.same c.args.operands.now
-          c.loop-operand.operand-index _ c.loop-operand.kept c.turn-turn.result.1 (omega arith)
-          c.loop-operand.invariant.kept (c.turn-turn.ensures.kept c.in-None.is);
+          c.loop-operand.operand-index _ c.loop-operand.kept c.turn-found.result.1 (omega arith)
+          c.loop-operand.invariant.kept (c.turn-found.ensures.kept c.in-None.is);
       cost = counted_turn (cost_at s) c.args.operands.now c.loop-operand.operand-index _
-          c.turn-turn.new.steps c.loop-operand.steps c.args.steps.now (omega arith)
-          c.loop-operand.invariant.cost c.turn-turn.ensures.cost;
+          c.turn-found.new.steps c.loop-operand.steps c.args.steps.now (omega arith)
+          c.loop-operand.invariant.cost c.turn-found.ensures.cost;
     }
