@@ -16,7 +16,7 @@ use Rattle.rvs_elf.specs.declared.entries.Section.{Section}
 use Rattle.rvs_elf.specs.declared.marks.Marks.{Marks}
 use Rattle.rvs_elf.specs.declared.refusal.ElfRefusal.{ElfRefusal}
 use Rattle.rvs_elf.specs.declared.refusal.ElfRefusal.TheVariants as kind
-use Rattle.rvs_elf.specs.Outcome.{and_then}
+use Rattle.rvs_text.specs.Outcomes.{◌>>=◌}
 use Rattle.rvs_elf.specs.Parts.{part}
 use Rattle.rvs_elf.specs.Written as written
 use Rattle.rvs_elf.specs.Written.{elf_of}
@@ -172,8 +172,7 @@ ram_there i l h =
     ∙ part_here i.data_bytes (behind_ram l i) (length i.data_bytes) refl
 
 -- a part behind data and zeros
-pub behind_memory : (i : ImageValue) (l : Layout) → IsLaid i l → (at n size : ℕ)
-    → at ≡ l.symbols_at + n
+pub behind_memory : (i : ImageValue) (l : Layout) → IsLaid i l → (at n size : ℕ) → at ≡ l.symbols_at + n
     → part at size (written.headers l ++ behind_headers l i) ≡ part n size (behind_zeros l i)
 unfolding behind_text behind_ram
 behind_memory i l h at n size e =

@@ -16,7 +16,7 @@ use Rattle.rvs_elf.specs.declared.entries.Section.{Section}
 use Rattle.rvs_elf.specs.declared.marks.Marks.{Marks}
 use Rattle.rvs_elf.specs.declared.refusal.ElfRefusal.{ElfRefusal}
 use Rattle.rvs_elf.specs.declared.refusal.ElfRefusal.TheVariants as kind
-use Rattle.rvs_elf.specs.Outcome.{and_then}
+use Rattle.rvs_text.specs.Outcomes.{◌>>=◌}
 use Rattle.rvs_elf.specs.Parts.{part}
 use Rattle.rvs_elf.specs.Written as written
 use Rattle.rvs_elf.specs.Written.{elf_of}

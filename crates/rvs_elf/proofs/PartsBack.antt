@@ -16,7 +16,7 @@ use Rattle.rvs_elf.specs.declared.entries.Section.{Section}
 use Rattle.rvs_elf.specs.declared.marks.Marks.{Marks}
 use Rattle.rvs_elf.specs.declared.refusal.ElfRefusal.{ElfRefusal}
 use Rattle.rvs_elf.specs.declared.refusal.ElfRefusal.TheVariants as kind
-use Rattle.rvs_elf.specs.Outcome.{and_then}
+use Rattle.rvs_text.specs.Outcomes.{◌>>=◌}
 use Rattle.rvs_elf.specs.Parts.{part}
 use Rattle.rvs_elf.specs.Written as written
 use Rattle.rvs_elf.specs.Written.{elf_of}
@@ -167,9 +167,9 @@ pub symbols_found : (bytes : List ℕ) (l : Layout) (symbols strings : List ℕ)
     ≡ Ok (symbols, strings)
 unfolding sections_from section symbol_table
 symbols_found bytes l symbols strings other e f =
-    ap (λ o. and_then (found o) (λ symbols. and_then (in_file l.strings_at 38 bytes)
-    (λ strings. Ok (symbols, strings)))) e
-    ∙ ap (λ o. and_then (found o) (λ strings. Ok (symbols, strings))) f
+    ap (λ o. found o >>= (λ symbols. in_file l.strings_at 38 bytes
+    >>= (λ strings. Ok (symbols, strings)))) e
+    ∙ ap (λ o. found o >>= (λ strings. Ok (symbols, strings))) f
 
 -- ---- the marks
 

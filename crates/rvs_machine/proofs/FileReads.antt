@@ -22,7 +22,8 @@ use Rattle.rvs_base.specs.Lines.{before, without_return}
 use Rattle.rvs_base.proofs.Readings.{hex_digit, digits_of-hex_word, digits_of-decimal}
 use Rattle.rvs_machine.specs.ImageText.{refusal, word_in, count_in, after_name, word_with}
 use Rattle.rvs_machine.specs.ImageText.{word_from, word_line, count_with, count_from, count_line}
-use Rattle.rvs_machine.specs.ImageText.{and_then, put_before, word_lines, section, header_with}
+use Rattle.rvs_text.specs.Outcomes.{◌>>=◌}
+use Rattle.rvs_machine.specs.ImageText.{put_before, word_lines, section, header_with}
 use Rattle.rvs_machine.specs.ImageText.{address_lines, whole, image_of_bytes}
 use Rattle.rvs_machine.specs.ImageFile.{line_of, words_of, section_of, bytes_of, AreWords}
 use Rattle.rvs_machine.specs.ImageFile.{FilesReadBack}
@@ -155,7 +156,7 @@ words_read [] rest n h = let e : n ≡ n + 0 = omega arith in
     ap (λ k. Ok ([], record { bytes = rest; line = k })) e
 words_read (w ∷ ws) rest n h =
     let e : n + 1 + length ws ≡ n + suc (length ws) = omega arith in
-    ap (λ x. and_then x (λ p. put_before (to_le_bytes w32 p.0) (word_lines (length ws) p.1)))
+    ap (λ x. x >>= (λ p. put_before (to_le_bytes w32 p.0) (word_lines (length ws) p.1)))
     (word_line_read [] (words_of ws rest) w n tt refl h.0)
     ∙ ap (put_before (to_le_bytes w32 w)) (words_read ws rest (n + 1) h.1)
     ∙ ap (λ k. Ok (to_le_bytes w32 w ++ bytes_of ws, record { bytes = rest; line = k })) e
@@ -166,7 +167,7 @@ section_read : (name ws rest : List ℕ) (limit n : ℕ) → Plain name
     → section name limit (record { bytes = section_of name ws rest; line = n })
     ≡ Ok (bytes_of ws, record { bytes = rest; line = n + 1 + length ws })
 section_read name ws rest limit n p after are few low =
-    ap (λ x. and_then x (λ p. word_lines p.0 p.1))
+    ap (λ x. x >>= (λ p. word_lines p.0 p.1))
     (count_line_read name (words_of ws rest) limit (length ws) n p after few low)
     ∙ words_read ws rest (n + 1) are
 
@@ -193,9 +194,9 @@ addresses_read : (at : Addresses) (n : ℕ) → AreWords (at.tohost ∷ at.sig_b
 addresses_read at n h =
     let r2 = line_of (codes "end ") (hex_word_of at.sig_end) [] in
     let r1 = line_of (codes "begin ") (hex_word_of at.sig_begin) r2 in
-    ap (λ x. and_then x
-    (λ h. and_then (word_line (codes "begin ") h.1)
-    (λ b. and_then (word_line (codes "end ") b.1) (λ e. Ok (
+    ap (λ x. x
+    >>= (λ h. word_line (codes "begin ") h.1
+    >>= (λ b. word_line (codes "end ") b.1 >>= (λ e. Ok (
       record {
         tohost = h.0;
         sig_begin = b.0;
@@ -204,7 +205,7 @@ addresses_read at n h =
       e.1,
     )))))
     (word_line_read (codes "tohost ") r1 at.tohost n (plain_tested (codes "tohost ") refl) refl h.0)
-    ∙ ap (λ x. and_then x (λ b. and_then (word_line (codes "end ") b.1) (λ e. Ok (
+    ∙ ap (λ x. x >>= (λ b. word_line (codes "end ") b.1 >>= (λ e. Ok (
       record {
         tohost = at.tohost;
         sig_begin = b.0;
@@ -214,7 +215,7 @@ addresses_read at n h =
     ))))
     (word_line_read (codes "begin ") r2 at.sig_begin (n + 1) (plain_tested (codes "begin ") refl)
     refl h.1.0)
-    ∙ ap (λ x. and_then x (λ e. Ok (
+    ∙ ap (λ x. x >>= (λ e. Ok (
       record {
         tohost = at.tohost;
         sig_begin = at.sig_begin;
@@ -230,13 +231,13 @@ abbrev after_addresses : List ℕ → List ℕ → Addresses × Rest → Result 
 after_addresses text ram a = whole text ram a.0 a.1
 
 abbrev after_data : List ℕ → List ℕ × Rest → Result ImageValue ImageRefusal
-after_data text d = and_then (address_lines d.1) (after_addresses text d.0)
+after_data text d = address_lines d.1 >>= after_addresses text d.0
 
 abbrev after_text : List ℕ × Rest → Result ImageValue ImageRefusal
-after_text t = and_then (section (codes "data ") 262_144 t.1) (after_data t.0)
+after_text t = section (codes "data ") 262_144 t.1 >>= after_data t.0
 
 abbrev after_header : Rest → Result ImageValue ImageRefusal
-after_header r = and_then (section (codes "text ") 4_194_304 r) after_text
+after_header r = section (codes "text ") 4_194_304 r >>= after_text
 
 pub files_read : FilesReadBack
 unfolding image_of_bytes
@@ -246,11 +247,11 @@ files_read text ram at t d a few_text few_data =
     let r2 = section_of (codes "data ") ram r3 in
     let r1 = section_of (codes "text ") text r2 in
     let short : length ram ≤ 4_194_304 = omega (arith, few_data) in
-    ap (λ x. and_then (header_with 1 x) after_header)
+    ap (λ x. header_with 1 x >>= after_header)
     (taken_line (codes "rvimage 1") r1 1 (plain_tested (codes "rvimage 1") refl))
-    ∙ ap (λ x. and_then x after_text) (section_read (codes "text ") text r2 4_194_304 2
+    ∙ ap (λ x. x >>= after_text) (section_read (codes "text ") text r2 4_194_304 2
     (plain_tested (codes "text ") refl) refl t few_text few_text)
-    ∙ ap (λ x. and_then x (after_data (bytes_of text))) (section_read (codes "data ") ram r3 262_144
+    ∙ ap (λ x. x >>= after_data (bytes_of text)) (section_read (codes "data ") ram r3 262_144
     (2 + 1 + length text) (plain_tested (codes "data ") refl) refl d short few_data)
-    ∙ ap (λ x. and_then x (after_addresses (bytes_of text) (bytes_of ram)))
+    ∙ ap (λ x. x >>= after_addresses (bytes_of text) (bytes_of ram))
     (addresses_read at (2 + 1 + length text + 1 + length ram) a)

@@ -11,7 +11,8 @@ use Rattle.rvs_machine.specs.declared.reading.Addresses.{Addresses}
 use Rattle.rvs_machine.specs.Image.{ImageValue}
 use Rattle.rvs_machine.specs.FileLines.{Rest, first_line, after_feed}
 use Rattle.rvs_machine.specs.ImageText.{refusal, word_in, count_in, after_name, header, word_with}
-use Rattle.rvs_machine.specs.ImageText.{word_line, count_with, count_line, and_then, put_before}
+use Rattle.rvs_text.specs.Outcomes.{◌>>=◌}
+use Rattle.rvs_machine.specs.ImageText.{word_line, count_with, count_line, put_before}
 use Rattle.rvs_machine.specs.ImageText.{word_lines, section, address_lines, whole, image_of_bytes}
 
 pub data Tree (A : Type 0) : Type 0 where
@@ -38,7 +39,7 @@ abbrev pub onward : {A B : Type 0} → (A → Tree B) → A × Rest → Found B
 onward go p = run (go p.0) p.1.bytes p.1.line
 
 pub run-bind : {A B : Type 0} (t : Tree A) (go : A → Tree B) (bytes : List ℕ) (n : ℕ)
-    → run (bind t go) bytes n ≡ and_then (run t bytes n) (onward go)
+    → run (bind t go) bytes n ≡ (run t bytes n >>= onward go)
 run-bind (done a) go bytes n = refl
 run-bind (fail kind) go bytes n = refl
 run-bind (more f) go [] n = refl
@@ -51,15 +52,15 @@ IsRun t reader = (bytes : List ℕ) (n : ℕ)
     → reader (record { bytes = bytes; line = n }) ≡ run t bytes n
 
 go_same : {A B : Type 0} (x : Found A) (f g : A × Rest → Result B ImageRefusal)
-    → ((p : A × Rest) → f p ≡ g p) → and_then x f ≡ and_then x g
+    → ((p : A × Rest) → f p ≡ g p) → (x >>= f) ≡ (x >>= g)
 go_same (Err e) f g h = refl
 go_same (Ok p) f g h = h p
 
 pub bound : {A B : Type 0} (t : Tree A) (reader : Rest → Found A) (go : A → Tree B)
     (later : A → Rest → Found B) → IsRun t reader → ((a : A) → IsRun (go a) (later a))
-    → IsRun (bind t go) (λ r. and_then (reader r) (λ p. later p.0 p.1))
+    → IsRun (bind t go) (λ r. reader r >>= (λ p. later p.0 p.1))
 bound t reader go later h i bytes n =
-    ap (λ x. and_then x (λ p. later p.0 p.1)) (h bytes n)
+    ap (λ x. x >>= (λ p. later p.0 p.1)) (h bytes n)
     ∙ go_same (run t bytes n) (λ p. later p.0 p.1) (onward go) (λ p. i p.0 p.1.bytes p.1.line)
     ∙ sym (run-bind t go bytes n)
 
@@ -78,12 +79,12 @@ only_rest p = Ok p.1
 
 header_is : (b : Bool) (bytes : List ℕ) (n : ℕ)
     → (if b then Ok (record { bytes = bytes; line = n + 1 }) else Err (refusal n BadLine))
-    ≡ and_then (run (header_said b) bytes (n + 1)) only_rest
+    ≡ (run (header_said b) bytes (n + 1) >>= only_rest)
 header_is true bytes n = refl
 header_is false bytes n = ap (λ k. Err (refusal k BadLine)) (line_before n)
 
 header_run : (bytes : List ℕ) (n : ℕ)
-    → header (record { bytes = bytes; line = n }) ≡ and_then (run header_tree bytes n) only_rest
+    → header (record { bytes = bytes; line = n }) ≡ (run header_tree bytes n >>= only_rest)
 header_run [] n = refl
 header_run (c ∷ cs) n =
     header_is (bytes_eq (first_line (c ∷ cs)) (codes "rvimage 1")) (after_feed (c ∷ cs)) n
@@ -139,7 +140,7 @@ words_tree (suc n) =
     bind (word_tree []) (λ w. bind (words_tree n) (λ bytes. done (to_le_bytes w32 w ++ bytes)))
 
 put_is : (first : List ℕ) (x : Found (List ℕ))
-    → put_before first x ≡ and_then x (onward (λ bytes. done (first ++ bytes)))
+    → put_before first x ≡ (x >>= onward (λ bytes. done (first ++ bytes)))
 put_is first (Err e) = refl
 put_is first (Ok p) = refl
 
@@ -174,7 +175,7 @@ abbrev pub address_tree : Tree Addresses
 address_tree = bind (word_tree (codes "tohost ")) begin_tree
 
 abbrev end_lines : ℕ → ℕ → Rest → Found Addresses
-end_lines tohost sig_begin r = and_then (word_line (codes "end ") r) (λ e. Ok (
+end_lines tohost sig_begin r = word_line (codes "end ") r >>= (λ e. Ok (
   record {
     tohost = tohost;
     sig_begin = sig_begin;
@@ -184,7 +185,7 @@ end_lines tohost sig_begin r = and_then (word_line (codes "end ") r) (λ e. Ok (
 ))
 
 abbrev begin_lines : ℕ → Rest → Found Addresses
-begin_lines tohost r = and_then (word_line (codes "begin ") r) (λ b. end_lines tohost b.0 b.1)
+begin_lines tohost r = word_line (codes "begin ") r >>= (λ b. end_lines tohost b.0 b.1)
 
 end_run : (tohost sig_begin : ℕ) → IsRun (end_tree tohost sig_begin) (end_lines tohost sig_begin)
 end_run tohost sig_begin =
@@ -233,8 +234,7 @@ abbrev pub judged : Parts × Rest → Result ImageValue ImageRefusal
 judged p = whole p.0.text p.0.ram p.0.at p.1
 
 then_twice : {A B C : Type 0} (x : Found A) (f : A × Rest → Found B)
-    (g : B × Rest → Result C ImageRefusal) → and_then (and_then x f) g ≡ and_then x
-    (λ p. and_then (f p) g)
+    (g : B × Rest → Result C ImageRefusal) → ((x >>= f) >>= g) ≡ (x >>= (λ p. f p >>= g))
 then_twice (Err e) f g = refl
 then_twice (Ok p) f g = refl
 
@@ -243,29 +243,29 @@ sequel : {A B C : Type 0} (t : Tree A) (reader : Rest → Found A) (go : A → T
     (later : A → Rest → Result C ImageRefusal) (g : B × Rest → Result C ImageRefusal) → IsRun t
     reader
     → ((a : A) (bytes : List ℕ) (n : ℕ)
-    → later a (record { bytes = bytes; line = n }) ≡ and_then (run (go a) bytes n) g)
+    → later a (record { bytes = bytes; line = n }) ≡ (run (go a) bytes n >>= g))
     → (bytes : List ℕ) (n : ℕ)
-    → and_then (reader (record { bytes = bytes; line = n })) (λ p. later p.0 p.1)
-    ≡ and_then (run (bind t go) bytes n) g
+    → (reader (record { bytes = bytes; line = n }) >>= (λ p. later p.0 p.1))
+    ≡ (run (bind t go) bytes n >>= g)
 sequel t reader go later g h i bytes n =
-    ap (λ x. and_then x (λ p. later p.0 p.1)) (h bytes n)
-    ∙ go_same (run t bytes n) (λ p. later p.0 p.1) (λ p. and_then (onward go p) g)
+    ap (λ x. x >>= (λ p. later p.0 p.1)) (h bytes n)
+    ∙ go_same (run t bytes n) (λ p. later p.0 p.1) (λ p. onward go p >>= g)
     (λ p. i p.0 p.1.bytes p.1.line)
     ∙ sym (then_twice (run t bytes n) (onward go) g)
-    ∙ ap (λ x. and_then x g) (sym (run-bind t go bytes n))
+    ∙ ap (λ x. x >>= g) (sym (run-bind t go bytes n))
 
 abbrev after_data : List ℕ → List ℕ → Rest → Result ImageValue ImageRefusal
-after_data text ram r = and_then (address_lines r) (λ a. whole text ram a.0 a.1)
+after_data text ram r = address_lines r >>= (λ a. whole text ram a.0 a.1)
 
 abbrev after_text : List ℕ → Rest → Result ImageValue ImageRefusal
-after_text text r = and_then (section (codes "data ") 262_144 r) (λ d. after_data text d.0 d.1)
+after_text text r = section (codes "data ") 262_144 r >>= (λ d. after_data text d.0 d.1)
 
 abbrev after_header : Rest → Result ImageValue ImageRefusal
-after_header r = and_then (section (codes "text ") 4_194_304 r) (λ t. after_text t.0 t.1)
+after_header r = section (codes "text ") 4_194_304 r >>= (λ t. after_text t.0 t.1)
 
 data_run : (text ram bytes : List ℕ) (n : ℕ)
     → after_data text ram (record { bytes = bytes; line = n })
-    ≡ and_then (run (addresses_tree text ram) bytes n) judged
+    ≡ (run (addresses_tree text ram) bytes n >>= judged)
 data_run text ram = sequel address_tree address_lines (λ at. done (record {
   text = text;
   ram = ram;
@@ -273,23 +273,23 @@ data_run text ram = sequel address_tree address_lines (λ at. done (record {
 })) (λ at r. whole text ram at r) judged address_run (λ at bytes n. refl)
 
 text_run : (text bytes : List ℕ) (n : ℕ) → after_text text (record { bytes = bytes; line = n })
-    ≡ and_then (run (data_tree text) bytes n) judged
+    ≡ (run (data_tree text) bytes n >>= judged)
 text_run text = sequel (section_tree (codes "data ") 262_144) (section (codes "data ") 262_144)
     (addresses_tree text) (after_data text) judged (section_run (codes "data ") 262_144)
     (data_run text)
 
 behind_header : (bytes : List ℕ) (n : ℕ) → after_header (record { bytes = bytes; line = n })
-    ≡ and_then (run (text_tree tt) bytes n) judged
+    ≡ (run (text_tree tt) bytes n >>= judged)
 behind_header = sequel (section_tree (codes "text ") 4_194_304) (section (codes "text ") 4_194_304)
     data_tree after_text judged (section_run (codes "text ") 4_194_304) text_run
 
 header_first : (x : Found (Unit {0}))
-    → and_then (and_then x only_rest) after_header ≡ and_then (and_then x (onward text_tree)) judged
+    → ((x >>= only_rest) >>= after_header) ≡ ((x >>= onward text_tree) >>= judged)
 header_first (Err e) = refl
 header_first (Ok p) = behind_header p.1.bytes p.1.line
 
-pub file_run : (bytes : List ℕ) → image_of_bytes bytes ≡ and_then (run file_tree bytes 1) judged
+pub file_run : (bytes : List ℕ) → image_of_bytes bytes ≡ (run file_tree bytes 1 >>= judged)
 unfolding image_of_bytes
 file_run bytes =
-    ap (λ x. and_then x after_header) (header_run bytes 1) ∙ header_first (run header_tree bytes 1)
-    ∙ ap (λ x. and_then x judged) (sym (run-bind header_tree text_tree bytes 1))
+    ap (λ x. x >>= after_header) (header_run bytes 1) ∙ header_first (run header_tree bytes 1)
+    ∙ ap (λ x. x >>= judged) (sym (run-bind header_tree text_tree bytes 1))

@@ -9,7 +9,8 @@ use Rattle.rvs_machine.specs.Image.{ImageValue}
 use Rattle.rvs_machine.specs.FileLines.{Rest, first_line, after_feed, has_feed}
 use Rattle.rvs_base.specs.Digits.{digits_of}
 use Rattle.rvs_base.specs.Lines.{before, after, without_return}
-use Rattle.rvs_machine.specs.ImageText.{refusal, and_then, image_of_bytes}
+use Rattle.rvs_text.specs.Outcomes.{◌>>=◌}
+use Rattle.rvs_machine.specs.ImageText.{refusal, image_of_bytes}
 use Rattle.rvs_machine.specs.ImageFaults.{first_lines, IsFaultless, Begins, IsFirstFault}
 use Rattle.rvs_machine.specs.ImageFaults.{FaultsAreFirst}
 use Rattle.rvs_machine.proofs.FileTree.{Tree, Found, run, bind, Parts, file_tree, judged, file_run}
@@ -346,7 +347,7 @@ judged_line image false e f =
 -- what is read to its end has no faulty line
 read_faultless : (bytes : List ℕ) → Completes file_tree bytes 1 → IsFaultless bytes
 read_faultless bytes c e f =
-    let is = sym (ap (λ x. and_then x judged) c.2) ∙ sym (file_run bytes) ∙ f in
+    let is = sym (ap (λ x. x >>= judged) c.2) ∙ sym (file_run bytes) ∙ f in
     judged_line _ _ e is
 
 goes_on : (bytes : List ℕ) (n : ℕ) → 1 + n ≤ comes_to (run file_tree bytes 1) → Begins n bytes
@@ -356,12 +357,12 @@ goes_on bytes n h =
 
 -- the last step
 abbrev Last : List ℕ → ImageRefusal → Found Parts → Type 0
-Last bytes e x = run file_tree bytes 1 ≡ x → and_then x judged ≡ Err e → e.line ≢ 0
+Last bytes e x = run file_tree bytes 1 ≡ x → (x >>= judged) ≡ Err e → e.line ≢ 0
     → IsFirstFault e.line bytes
 
 read_err : (other : List ℕ) (e : ImageRefusal) → run file_tree other 1 ≡ Err e
     → image_of_bytes other ≡ Err e
-read_err other e f = file_run other ∙ ap (λ x. and_then x judged) f
+read_err other e f = file_run other ∙ ap (λ x. x >>= judged) f
 
 last_stop : (bytes : List ℕ) (e f : ImageRefusal) → Last bytes e (Err f)
 last_stop bytes e f is eq some =
@@ -380,7 +381,7 @@ behind : (bytes other : List ℕ) (p : Parts × Rest) (c : ℕ) (cs rest : List 
     → first_lines 1 (c ∷ cs) ≡ first_lines 1 rest
     → image_of_bytes other ≡ Err (refusal p.1.line BadLine)
 behind bytes other p c cs [] is has same = absurd cc
-behind bytes other p c cs (d ∷ ds) is has same = file_run other ∙ ap (λ x. and_then x judged) is
+behind bytes other p c cs (d ∷ ds) is has same = file_run other ∙ ap (λ x. x >>= judged) is
 
 last_go : (bytes : List ℕ) (e : ImageRefusal) (parts : Parts) (rest : List ℕ) (line : ℕ)
     → Last bytes e (Ok (parts, record { bytes = rest; line = line }))

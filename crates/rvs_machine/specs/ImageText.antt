@@ -6,6 +6,7 @@ use Rattle.std.specs.Prelude.{option_and_then}
 use Rattle.std.specs.List.{starts_with}
 use Rattle.std.specs.Int.{w32, to_le_bytes}
 use Rattle.std.specs.Str.{bytes_eq}
+use Rattle.rvs_text.specs.Outcomes.{◌>>=◌}
 use Rattle.rvs_base.specs.Digits.{digits_of, short_number}
 use Rattle.rvs_machine.specs.declared.reading.ImageKind.{ImageKind}
 use Rattle.rvs_machine.specs.declared.reading.ImageKind.TheVariants.{BadLine, BadRegion, TooLarge}
@@ -74,12 +75,6 @@ count_line name limit r = count_from r.line name limit (taken r)
 
 -- ---- the lines together
 
--- goes on with what was read
-abbrev pub and_then : {A B : Type 0} → Result A ImageRefusal → (A → Result B ImageRefusal)
-    → Result B ImageRefusal
-and_then (Err e) go = Err e
-and_then (Ok a) go = go a
-
 -- the bytes of so many lines of one word each, the lowest byte of a word first
 abbrev pub put_before : List ℕ → Result (List ℕ × Rest) ImageRefusal
     → Result (List ℕ × Rest) ImageRefusal
@@ -88,20 +83,23 @@ put_before bytes (Ok p) = Ok (bytes ++ p.0, p.1)
 
 abbrev pub word_lines : ℕ → Rest → Result (List ℕ × Rest) ImageRefusal
 word_lines zero r = Ok ([], r)
-word_lines (suc n) r =
-    and_then (word_line [] r) (λ p. put_before (to_le_bytes w32 p.0) (word_lines n p.1))
+word_lines (suc n) r = do
+  p ← word_line [] r
+  put_before (to_le_bytes w32 p.0) (word_lines n p.1)
 
 -- a count, and so many words
 abbrev pub section : List ℕ → ℕ → Rest → Result (List ℕ × Rest) ImageRefusal
-section name limit r = and_then (count_line name limit r) (λ p. word_lines p.0 p.1)
+section name limit r = do
+  p ← count_line name limit r
+  word_lines p.0 p.1
 
 -- the three addresses
 abbrev pub address_lines : Rest → Result (Addresses × Rest) ImageRefusal
-address_lines r =
-    and_then (word_line (codes "tohost ") r)
-    (λ h. and_then (word_line (codes "begin ") h.1)
-    (λ b. and_then (word_line (codes "end ") b.1) (λ e.
-    Ok (record { tohost = h.0; sig_begin = b.0; sig_end = e.0 }, e.1))))
+address_lines r = do
+  h ← word_line (codes "tohost ") r
+  b ← word_line (codes "begin ") h.1
+  e ← word_line (codes "end ") b.1
+  Ok (record { tohost = h.0; sig_begin = b.0; sig_end = e.0 }, e.1)
 
 -- the image where nothing follows and its regions are in order
 abbrev pub whole_with : ℕ → ImageValue → Option (List ℕ × Rest) → Result ImageValue ImageRefusal
@@ -128,12 +126,12 @@ most_data = data_limit / 4
 
 -- an image file: text, data and addresses
 unfoldable pub image_of_bytes : List ℕ → Result ImageValue ImageRefusal
-image_of_bytes bytes =
-    and_then (header (record { bytes = bytes; line = 1 }))
-    (λ r. and_then (section (codes "text ") most_text r)
-    (λ t. and_then (section (codes "data ") most_data t.1)
-    (λ d. and_then (address_lines d.1) (λ a.
-    whole t.0 d.0 a.0 a.1))))
+image_of_bytes bytes = do
+  r ← header (record { bytes = bytes; line = 1 })
+  t ← section (codes "text ") most_text r
+  d ← section (codes "data ") most_data t.1
+  a ← address_lines d.1
+  whole t.0 d.0 a.0 a.1
 
 -- the answer of a reading: what is said, or want of memory
 abbrev pub IsSaid : {A : Type 0} → Result A ImageRefusal → Result A ImageRefusal → Type 0

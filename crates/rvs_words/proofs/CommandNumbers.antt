@@ -11,7 +11,8 @@ use Rattle.rvs_words.specs.Words.{is_positional}
 use Rattle.rvs_base.specs.Asked.{size_of}
 use Rattle.rvs_base.specs.Digits.{digits_of}
 use Rattle.rvs_base.proofs.Readings.{digits_of-decimal}
-use Rattle.rvs_words.specs.Commands.{◌>>=◌, number_of, within_steps}
+use Rattle.rvs_text.specs.Options.{◌>>=◌}
+use Rattle.rvs_words.specs.Commands.{number_of, within_steps}
 use Rattle.rvs_words.specs.declared.command.Command.{Command}
 use Rattle.rvs_words.specs.declared.command.Command.TheVariants.{Unknown, Demo}
 use Rattle.rvs_words.specs.CommandLaws.{StepsAreRead, CountsAreRead}

@@ -9,7 +9,8 @@ use Rattle.rvs_words.specs.Words.{is_positional, pairs_of, is_among, options_in,
 use Rattle.rvs_words.specs.Words.{are_known, only}
 use Rattle.rvs_words.specs.Words.{at_most_one}
 use Rattle.rvs_words.specs.Windows.{windows_of, range_of}
-use Rattle.rvs_words.specs.Commands.{◌>>=◌, Values, with_options, some_of, steps_of}
+use Rattle.rvs_text.specs.Options.{◌>>=◌}
+use Rattle.rvs_words.specs.Commands.{Values, with_options, some_of, steps_of}
 use Rattle.rvs_words.specs.Commands.{validate_options, validate_of}
 use Rattle.rvs_words.specs.Commands.{normalize_options, normalize_of, generate_options, generate_of}
 use Rattle.rvs_words.specs.Commands.{reference_options, reference_of, coverage_options, coverage_of}

@@ -3,7 +3,8 @@ use Rattle.std.proofs.Common.{◌≡◌, ℕ, Bool, true, false, cond, List, [],
 use Rattle.std.proofs.Common.{None, refl, ap, ◌∙◌, codes}
 use Rattle.std.specs.Prelude.{option_and_then, unwrap_or}
 use Rattle.rvs_words.specs.Words.{are_known, only}
-use Rattle.rvs_words.specs.Commands.{◌>>=◌, Values, some_of, select_options, select_of}
+use Rattle.rvs_text.specs.Options.{◌>>=◌}
+use Rattle.rvs_words.specs.Commands.{Values, some_of, select_options, select_of}
 use Rattle.rvs_words.specs.Commands.{run_options, run_of, run_groups_of, run_database_of, is_given}
 use Rattle.rvs_words.specs.declared.words.Pair.{Pair}
 use Rattle.rvs_words.specs.declared.command.Command.{Command}

@@ -6,7 +6,8 @@ use Rattle.std.proofs.lemmas.Slice.Eq.{bytes_eq-Decides}
 use Rattle.std.specs.Prelude.{◌&&◌, ◌||◌, map, filter, option_and_then, unwrap_or}
 use Rattle.std.specs.List.{list_all, list_any}
 use Rattle.rvs_words.specs.Words.{pairs_of, values_of, are_known}
-use Rattle.rvs_words.specs.Commands.{◌>>=◌, Values, with_options, validate_options, validate_of}
+use Rattle.rvs_text.specs.Options.{◌>>=◌}
+use Rattle.rvs_words.specs.Commands.{Values, with_options, validate_options, validate_of}
 use Rattle.rvs_words.specs.Commands.{normalize_options, normalize_of, generate_options, generate_of}
 use Rattle.rvs_words.specs.Commands.{reference_options, reference_of, coverage_options, coverage_of}
 use Rattle.rvs_words.specs.Commands.{propagate_options, propagate_of, run_options, run_of}

@@ -2,6 +2,7 @@
 use Rattle.std.specs.Prelude.{ℕ, Bool, true, false, ◌&&◌, nat_le, if◌then◌else◌, List, [], ◌∷◌}
 use Rattle.std.specs.Prelude.{length, bytes_eq}
 use Rattle.std.specs.Prelude.{Option, Some, None, option_map, option_and_then, unwrap_or, codes}
+use Rattle.rvs_text.specs.Options.{◌>>=◌}
 use Rattle.rvs_base.specs.Digits.{short_number}
 use Rattle.rvs_base.specs.Asked.{size_of}
 use Rattle.rvs_words.specs.Words.{is_positional, is_among, options_in, values_of, only, at_most_one}
@@ -11,12 +12,6 @@ use Rattle.rvs_words.specs.declared.command.Command.TheVariants.{Unknown, Compar
 use Rattle.rvs_words.specs.declared.command.Command.TheVariants.{Normalize, Generate, Reference}
 use Rattle.rvs_words.specs.declared.command.Command.TheVariants.{Coverage, Propagate, Run, Demo}
 use Rattle.rvs_words.specs.declared.command.Command.TheVariants.{RunDatabase, Select}
-
--- what follows from a value, where it is there
-infixl 10 ◌>>=◌
-abbrev pub ◌>>=◌ : {A B : Type 0} → Option A → (A → Option B) → Option B
-◌>>=◌ None f = None
-◌>>=◌ (Some a) f = f a
 
 -- a number of one to seven decimal digits
 abbrev pub number_of : List ℕ → Option ℕ
