@@ -5,7 +5,8 @@ use Rattle.std.proofs.Common.{Option, Some, None, refl, sym, ap, ◌∙◌, subs
 use Rattle.std.proofs.lemmas.Bool.Decides.{nat_tests}
 use Rattle.std.specs.Prelude.{◌==◌, codes}
 use Rattle.rvs_machine.specs.Written.{Write}
-use Rattle.rvs_log.specs.Grammar.{◌>>=◌, after_byte, after_core, after_spaces, after_text, at_end}
+use Rattle.rvs_text.specs.Options.{◌>>=◌}
+use Rattle.rvs_log.specs.Grammar.{after_byte, after_core, after_spaces, after_text, at_end}
 use Rattle.rvs_log.specs.Grammar.{first_write}
 use Rattle.rvs_log.specs.Grammar.{hex_at, hex_digits, hex_run, pc_and_word, register_at}
 use Rattle.rvs_log.specs.Grammar.{spaced, write_at}

@@ -1,7 +1,8 @@
 -- The ends of what a line is read as, each by itself.
 use Rattle.std.specs.Prelude.{ℕ, List, Option, Some, codes}
 use Rattle.rvs_machine.specs.Written.{Write}
-use Rattle.rvs_log.specs.Grammar.{◌>>=◌, after_byte, after_privilege, after_some, after_text}
+use Rattle.rvs_text.specs.Options.{◌>>=◌}
+use Rattle.rvs_log.specs.Grammar.{after_byte, after_privilege, after_some, after_text}
 use Rattle.rvs_log.specs.Grammar.{at_end, blank, hex_at, is_capital, spaced}
 
 -- the word in parentheses after an address, and its bracket's other side: the address, the word and

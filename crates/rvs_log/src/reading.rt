@@ -6,7 +6,8 @@ ghost use Rattle.rvs_log.specs.Grammar.{after_all, after_byte, after_brackets, a
 ghost use Rattle.rvs_log.specs.Grammar.{after_privilege};
 ghost use Rattle.rvs_log.specs.Grammar.{after_some, after_spaces, after_text, at_end, blank};
 ghost use Rattle.rvs_log.specs.Grammar.{commit_log};
-ghost use Rattle.rvs_log.specs.Grammar.{first_write, is_capital, is_digit, pc_and_word, reading_of};
+ghost use Rattle.rvs_text.specs.Bytes.{is_digit};
+ghost use Rattle.rvs_log.specs.Grammar.{first_write, is_capital, pc_and_word, reading_of};
 ghost use Rattle.rvs_log.specs.Grammar.{register_at, sail_log, Says, spaced, write_at, write_if};
 ghost use Rattle.rvs_log.specs.Grammar.{write_line};
 ghost use Rattle.rvs_log.specs.Parts as part;
