@@ -55,6 +55,7 @@ impl<'e> Search<'e> {
 
     /// One first operand, passed over where its part of the expression is false: what is found
     /// with a word of its own in `rs2`, and what is kept for the end.
+    #[inline(always)]
     fn turn<L: Ledger>(
         &self,
         operand: &Operand,
@@ -77,6 +78,7 @@ impl<'e> Search<'e> {
     }
 
     /// Whether the part of the expression that the first operand decides is true.
+    #[inline(always)]
     fn passes<L: Ledger>(&self, operand: &Operand, steps: &mut Steps<L>) -> bool
         ensures value { result ≡ passes_in (search_view self.now) operand.now }
         ensures cost { steps.new ≤ steps.old + 1 }
@@ -91,6 +93,7 @@ impl<'e> Search<'e> {
     }
 
     /// What was kept, or else the choice that stores its own address.
+    #[inline(always)]
     fn kept_or_address<L: Ledger>(
         &self,
         operand: &Operand,
