@@ -112,7 +112,7 @@ label-named isa name d h =
     has-next (IsNamed name) (main_of name d) _ (λ m.
     has-next (IsNamed name) (first_points isa (at_node name m.0) m.1) _ (λ first.
     has-then NodesNoted (IsNamed name)
-     (for_each (node_step isa name) (own_pairs d) (starting first)) _
+    (for_each (node_step isa name) (own_pairs d) (starting first)) _
     (nodes-noted isa name (own_pairs d) (starting first) refl)
     (λ n k. (
       refl,
