@@ -46,6 +46,7 @@ use Rattle.rvs_suite.proofs.Finding.{Behind, behind, end-found}
 use Rattle.rvs_suite.proofs.Meanings.{then-ok, found-of}
 use Rattle.rvs_suite.proofs.RunSteps.{first_did, contents_of, appended-twice}
 use Rattle.rvs_suite.proofs.Running.{at_status, asked_means}
+use Rattle.rvs_suite.proofs.StepLimits.{usual_limits_are_low}
 use Rattle.rvs_words.specs.declared.command.Command.TheVariants.{RunDatabase}
 use Rattle.rvs_words.specs.declared.command.RunDatabaseArguments.{RunDatabaseArguments}
 
@@ -430,6 +431,7 @@ judges_database {call} files asked r =
         | inr no_memory ↦ inr no_memory
       ];
       runs = is-made;
+      limited = usual_limits_are_low;
       passes = λ bench t. passing.passes (task_on bench t.made) t.run.status t.run.after;
       alone = alone files asked r;
       others_kept = λ files' other. database-spares r.ran files files' asked other r.told r.asks;

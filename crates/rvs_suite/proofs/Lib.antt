@@ -44,6 +44,7 @@ mod Saying
 mod Counted
 mod Signed
 mod Standing
+mod StepLimits
 mod Paths
 mod DatabasePasses
 mod DatabaseReads

@@ -1,6 +1,6 @@
 -- What every call of `reference` promises.
-use Rattle.std.proofs.Common.{◌≡◌, ℕ, List, length, Option, Some, None, Result, Ok, Err, refl, sym}
-use Rattle.std.proofs.Common.{ap, ◌∙◌}
+use Rattle.std.proofs.Common.{◌≡◌, ◌≤◌, ℕ, List, length, Option, Some, None, Result, Ok, Err, refl}
+use Rattle.std.proofs.Common.{sym, ap, ◌∙◌, arith}
 use Rattle.rvs_base.specs.Host.{Files, with_file, written}
 use Rattle.rvs_base.specs.Sink.{appended}
 use Rattle.rvs_plan.specs.Inputs.{part_end}
@@ -14,12 +14,12 @@ use Rattle.rvs_log.specs.Logs.{log_of}
 use Rattle.rvs_suite.specs.Answered.{OnDone}
 use Rattle.rvs_suite.specs.Call.{Call, world_of}
 use Rattle.rvs_suite.specs.GroupFiles.{and_then}
-use Rattle.rvs_suite.specs.Halting.{with_log}
+use Rattle.rvs_suite.specs.Halting.{BothHalt, with_log}
 use Rattle.rvs_suite.specs.Reference.{test_limit, trial, records}
 use Rattle.rvs_suite.specs.Referencing as referencing
 use Rattle.rvs_suite.specs.Referencing.{trial_in, run_in}
 use Rattle.rvs_suite.specs.Specification.{said_in, specification}
-use Rattle.rvs_suite.specs.TestRun.{accepted, found_end, test_found}
+use Rattle.rvs_suite.specs.TestRun.{accepted, found_end, limit_of, test_found}
 use Rattle.rvs_suite.specs.TestTexts.{ran_line}
 use Rattle.rvs_suite.specs.declared.test_run.Run.{Run}
 use Rattle.rvs_words.specs.declared.command.Command.TheVariants.{Reference}
@@ -30,6 +30,8 @@ use Rattle.rvs_suite.proofs.LogEntries.{halting_entries}
 use Rattle.rvs_suite.proofs.Meanings.{both-halt}
 use Rattle.rvs_suite.proofs.NormalPlan.{then-then}
 use Rattle.rvs_suite.proofs.Sparing.{reference-spares}
+use Rattle.rvs_suite.proofs.StepLimits.{limits_are_low, halting-run}
+use Rattle.rvs_words.specs.Commands.{command_of, most_steps}
 use Rattle.rvs_words.specs.declared.command.ReferenceArguments.{ReferenceArguments}
 
 abbrev run_inputs : List ℕ → List ℕ → Option ℕ → Plan Run
@@ -88,6 +90,17 @@ works files asked = record {
   does = does-records asked.signature asked.log;
 }
 
+bounded : (words : List (List ℕ)) (files : Files) (asked : ReferenceArguments) (run : Run)
+    → command_of words ≡ Reference asked → BothHalt files asked.isa asked.test asked.steps run
+    → length run.trace ≤ most_steps
+bounded words files asked run asks both =
+    let test = both.test_halts in
+    let limit = limits_are_low words asked asks test.bytes in
+    let long = halting-run both.said.spec (limit_of asked.steps asked.test test.bytes) test.image
+    run
+    test.halts in
+    omega (arith, limit, long)
+
 pub refers : {call : Call} (files : Files) (asked : ReferenceArguments)
     → RunsOn call files (Reference asked)
     → referencing.Refers call files asked
@@ -104,6 +117,9 @@ refers {call} files asked r = record {
   logged = λ run is octets.
       halting_entries files asked.isa asked.test asked.steps run
       (both-halt files asked.isa asked.test asked.steps run is) octets;
+  limited = limits_are_low call.words asked r.asks;
+  bounded = λ run is. bounded call.words files asked run r.asks
+      (both-halt files asked.isa asked.test asked.steps run is);
   others_kept = λ files' other. reference-spares r.ran files files' asked
       other r.told r.asks;
 }

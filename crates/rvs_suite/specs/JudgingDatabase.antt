@@ -1,5 +1,6 @@
 -- What every call of `run` over a database promises.
-use Rattle.std.specs.Prelude.{◌≡◌, ◌≢◌, ◌⊎◌, ◌↔◌, ℕ, List, [], ◌∷◌, ◌++◌, length, Some, option_map}
+use Rattle.std.specs.Prelude.{◌≡◌, ◌≢◌, ◌≤◌, ◌⊎◌, ◌↔◌, ℕ, List, [], ◌∷◌, ◌++◌, length, Some}
+use Rattle.std.specs.Prelude.{option_map}
 use Rattle.std.specs.Prelude.{None, Result, Ok, Err, All, Contains, IsTrue}
 use Rattle.rvs_base.specs.Host.{Files, Tells}
 use Rattle.rvs_base.specs.Sink.{appended}
@@ -26,8 +27,10 @@ use Rattle.rvs_suite.specs.RunDatabase.{Given, chosen, DatabaseInputs, database_
 use Rattle.rvs_suite.specs.RunTests.{Bench, tally_line, verdict_of_all}
 use Rattle.rvs_suite.specs.Specification.{said_in}
 use Rattle.rvs_suite.specs.TestFiles.{files_at}
+use Rattle.rvs_suite.specs.TestRun.{limit_of}
 use Rattle.rvs_suite.specs.declared.judging.Made.{Made}
 use Rattle.rvs_suite.specs.declared.test_run.Run.{Run}
+use Rattle.rvs_words.specs.Commands.{most_steps}
 use Rattle.rvs_words.specs.declared.command.Command.TheVariants.{RunDatabase}
 use Rattle.rvs_words.specs.declared.command.RunDatabaseArguments.{RunDatabaseArguments}
 
@@ -146,6 +149,8 @@ pub record RunsDatabase (call : Call) (files : Files) (asked : RunDatabaseArgume
   -- a test is run as by `reference`
   pub runs : (files' : Files) (bench : Bench) (given : Given) (made : Made)
       → made_in files' bench given ≡ Ok made → IsMadeOf files' bench given made
+  -- the run of whatever a test's file holds is ended after 2,000,000 instructions at most
+  pub limited : (name bytes : List ℕ) → limit_of None name bytes ≤ most_steps
   -- a pass says that the device left the reference's words
   pub passes : (bench : Bench) (t : Trial) → PassesBySpelling bench t
   -- where one test is selected, its file is accepted, and the one run on it left the reference's
