@@ -34,10 +34,11 @@ pub struct Counter<'g> {
 }
 
 impl<'g> Model for Counter<'g> {
-    ghost use Rattle.std.specs.Prelude.{◌≤◌, ◌+◌, ◌^◌};
+    ghost use Rattle.std.specs.Prelude.{◌≤◌, ◌+◌};
     ghost use Rattle.std.specs.Coded.{codes};
     ghost use Rattle.rvs_expr.specs.contracts.expr.Expr as expr;
     ghost use Rattle.rvs_count.specs.Bounds.{waiting_len};
+    ghost use Rattle.rvs_log.specs.Lines.{log_limit};
     ghost use Rattle.rvs_count.specs.State.{CountState};
 
     ghost Value = { CountState };
