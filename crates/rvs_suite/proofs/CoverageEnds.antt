@@ -1,13 +1,9 @@
 -- What every call of `coverage` promises.
-use Rattle.std.proofs.Common.{◌≡◌, ◌≤◌, ℕ, Bool, List, [], ◌∷◌, map, length}
-use Rattle.std.proofs.Common.{Some, Result, Ok, Err, if◌then◌else◌, refl, ap, subst}
-use Rattle.std.proofs.Common.{◌∙◌}
-use Rattle.std.proofs.lemmas.Bool.{le-ltb}
+use Rattle.std.proofs.Common.{◌≡◌, ℕ, List, [], ◌∷◌, map, length}
+use Rattle.std.proofs.Common.{Result, Ok, refl, ap, subst}
 use Rattle.rvs_base.specs.Host.{Files}
 use Rattle.rvs_plan.specs.World.{Contents}
-use Rattle.rvs_plan.specs.Inputs.{too_long_text}
 use Rattle.rvs_plan.specs.declared.stop.Stop.{Stop}
-use Rattle.rvs_plan.specs.declared.stop.Stop.TheVariants.{Refused}
 use Rattle.rvs_plan.specs.declared.status.Status.TheVariants.{Done}
 use Rattle.rvs_log.specs.Entries.{Entry, entries_of}
 use Rattle.rvs_cgf.specs.Groups.{Label}
@@ -18,9 +14,8 @@ use Rattle.rvs_base.specs.declared.asked.Window.{Window}
 use Rattle.rvs_plan.specs.declared.status.Finish.TheVariants as finish
 use Rattle.rvs_suite.specs.Call.{Call}
 use Rattle.rvs_suite.specs.Answered.{HasLeft, Answered, OnDone}
-use Rattle.rvs_suite.specs.GroupFiles.{Inputs, and_then, inputs_in}
+use Rattle.rvs_suite.specs.GroupFiles.{Inputs, inputs_in}
 use Rattle.rvs_suite.specs.Coverage.{reports, report_on, report_in, reported}
-use Rattle.rvs_suite.specs.LogReport.{log_limit}
 use Rattle.rvs_suite.specs.Printing.{print_text}
 use Rattle.rvs_suite.specs.Coverage.{coverage}
 use Rattle.rvs_suite.specs.Covering as covering

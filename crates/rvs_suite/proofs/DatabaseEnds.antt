@@ -3,7 +3,7 @@ use Rattle.std.proofs.Common.{◌≡◌, ◌⊎◌, inl, inr, ℕ, true, is_some
 use Rattle.std.proofs.Common.{option_map, Option, Some, None, Result, Ok, Err, refl, sym, ap, subst}
 use Rattle.std.proofs.Common.{◌∙◌, append-nil, arith}
 use Rattle.rvs_base.specs.Host.{Files, Tells}
-use Rattle.rvs_base.specs.Faults.{raised, Rose}
+use Rattle.rvs_base.specs.Faults.{raised}
 use Rattle.rvs_base.specs.Sink.{SinkState, appended}
 use Rattle.rvs_base.specs.declared.host.DeviceRun.{DeviceRun}
 use Rattle.rvs_plan.specs.World.{World, Contents, contents}

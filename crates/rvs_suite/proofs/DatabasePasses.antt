@@ -2,19 +2,14 @@
 use Rattle.std.proofs.Common.{◌≡◌, ◌≢◌, ◌≤◌, ◌⊎◌, inl, inr, ℕ, zero, suc, ◌+◌, ◌==◌, Bool, true}
 use Rattle.std.proofs.Common.{false}
 use Rattle.std.proofs.Common.{if◌then◌else◌, List, [], ◌∷◌, ◌++◌, length, length-append, option_map}
-use Rattle.std.proofs.Common.{Option, Some, None, Result, Ok, Err, refl, sym, ap, subst, ◌∙◌, arith}
+use Rattle.std.proofs.Common.{Option, Some, Ok, Err, refl, sym, ap, subst, ◌∙◌, arith}
 use Rattle.std.proofs.Common.{All, Contains}
 use Rattle.std.proofs.lemmas.List.{append_cancel_left}
 use Rattle.std.proofs.lemmas.Bool.Decides.{nat_tests}
 use Rattle.std.proofs.lemmas.List.Elements.{All-cons, All-nil, Contains-append_right}
-use Rattle.rvs_base.specs.Faults.{raised, Rose}
 use Rattle.rvs_base.specs.Host.{Files}
 use Rattle.rvs_base.specs.declared.host.DeviceRun.{DeviceRun}
-use Rattle.rvs_plan.specs.Account.{LosesSink}
-use Rattle.rvs_plan.specs.Meets.{HasCause}
-use Rattle.rvs_plan.specs.Plan.{Plan}
 use Rattle.rvs_plan.specs.declared.stop.Stop.{Stop}
-use Rattle.rvs_plan.specs.declared.stop.Stop.TheVariants as why
 use Rattle.rvs_plan.specs.declared.status.Finish.{Finish}
 use Rattle.rvs_plan.specs.declared.status.Finish.TheVariants as finish
 use Rattle.rvs_plan.specs.declared.status.Status.{Status}
@@ -25,9 +20,9 @@ use Rattle.rvs_device.specs.declared.verdicts.TestVerdict.{TestVerdict}
 use Rattle.rvs_device.specs.declared.verdicts.TestVerdict.TheVariants.{Pass, NoSignature, TooLong}
 use Rattle.rvs_device.specs.declared.verdicts.TestVerdict.TheVariants.{BadSignature, Differs}
 use Rattle.rvs_device.specs.declared.verdicts.TestVerdict.TheVariants.{Lengths}
-use Rattle.rvs_suite.specs.Call.{Call, NothingFailed, AnswersOnly}
+use Rattle.rvs_suite.specs.Call.{Call}
 use Rattle.rvs_suite.specs.DatabaseLeft.{made_in, Trial, with_trials, AreTrialsOf, task_on}
-use Rattle.rvs_suite.specs.DatabaseLeft.{trial_verdict, trials_passed, runs_of}
+use Rattle.rvs_suite.specs.DatabaseLeft.{with_trial, trial_verdict, trials_passed, runs_of}
 use Rattle.rvs_suite.specs.JudgingDatabase.{chosen_in, HasSpelled, AreJudged, HasJudged, HasStopped}
 use Rattle.rvs_suite.specs.RunDatabase.{Given, DatabaseInputs, database_bench}
 use Rattle.rvs_suite.specs.RunTests.{Bench, passes, with_one, verdict_of_all}

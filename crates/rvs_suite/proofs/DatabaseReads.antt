@@ -16,8 +16,7 @@ use Rattle.rvs_select.proofs.Accepted.{accepts, read_few}
 use Rattle.rvs_suite.specs.GroupFiles.{and_then}
 use Rattle.rvs_suite.specs.DatabaseInput.{database_limit, checked_end, tree_end, checks}
 use Rattle.rvs_suite.specs.DatabaseInput.{database_file, database_in}
-use Rattle.rvs_suite.specs.DeviceInput.{device_limit, device_file, device_in}
-use Rattle.rvs_suite.specs.DeviceInput as device
+use Rattle.rvs_suite.specs.DeviceInput.{device_file, device_in}
 use Rattle.rvs_suite.specs.JudgingDatabase.{database_inputs_in}
 use Rattle.rvs_suite.specs.RunDatabase.{DatabaseInputs, with_device, device_behind}
 use Rattle.rvs_suite.specs.RunDatabase.{database_behind, database_inputs}

@@ -1,14 +1,12 @@
 -- What a plan that only reads finds over given files, and what the deeds behind it leave.
-use Rattle.std.proofs.Common.{◌≡◌, ℕ, List, [], ◌∷◌, Option, Some, Result, Ok, Err, refl, sym, ap}
+use Rattle.std.proofs.Common.{◌≡◌, ℕ, List, [], ◌∷◌, Option, Some, Result, Ok, refl, sym, ap}
 use Rattle.std.proofs.Common.{subst, ◌∙◌}
-use Rattle.std.specs.Prelude.{⊤}
 use Rattle.rvs_base.specs.Host.{Files}
 use Rattle.rvs_plan.specs.World.{Contents}
 use Rattle.rvs_plan.specs.Effect.{Answer, Deed, Effect, Read, Device, Did, after, after_deed, Saw}
 use Rattle.rvs_plan.specs.Plan.{Plan, Ends, Does, Asks, Runs, Goes, followed, ◌>>=◌}
 use Rattle.rvs_plan.specs.Performed.{end_of, files_after}
 use Rattle.rvs_plan.specs.declared.stop.Stop.{Stop}
-use Rattle.rvs_plan.specs.declared.status.Finish.{Finish}
 
 -- over these files, the plan only reads, and comes to this
 abbrev pub Finds : {A : Type 0} → Files → Plan A → Result A Stop → Type 0

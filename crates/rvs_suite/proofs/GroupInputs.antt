@@ -1,7 +1,7 @@
 -- Reading an ISA file and coverage group files: it only reads, and what it finds over given files.
-use Rattle.std.proofs.Common.{◌≡◌, ◌+◌, ◌<◌, ℕ, Bool, true, false, List, [], ◌∷◌, ◌++◌, length}
+use Rattle.std.proofs.Common.{◌≡◌, ◌<◌, ℕ, Bool, true, false, List, [], ◌∷◌, length}
 use Rattle.std.proofs.Common.{length-append, nat_lt, Option, Some, None, Result, Ok, Err}
-use Rattle.std.proofs.Common.{if◌then◌else◌, refl, sym, ap, ◌∙◌, arith}
+use Rattle.std.proofs.Common.{if◌then◌else◌, refl, sym, ap, arith}
 use Rattle.std.proofs.lemmas.Bool.{lt-ltb, ltb-true}
 use Rattle.rvs_base.specs.Host.{Files}
 use Rattle.rvs_plan.specs.Plan.{Plan, Ends, gives, followed, ◌>>=◌}
@@ -9,11 +9,10 @@ use Rattle.rvs_plan.specs.Inputs.{input, part, part_end, too_long_text}
 use Rattle.rvs_plan.specs.declared.stop.Stop.{Stop}
 use Rattle.rvs_plan.specs.declared.stop.Stop.TheVariants.{Refused}
 use Rattle.rvs_insn.specs.Isa.{Isa}
-use Rattle.rvs_isa.specs.declared.accepted_spec.AcceptedSpec.{AcceptedSpec}
 use Rattle.rvs_cgf.specs.Groups.{Label}
 use Rattle.rvs_suite.specs.Specification.{isa_limit, checks, specification, bytes_said, said_in}
 use Rattle.rvs_suite.specs.GroupTexts.{groups_name}
-use Rattle.rvs_suite.specs.GroupFiles.{Inputs, groups_limit, joined, room, within_limit, join_found}
+use Rattle.rvs_suite.specs.GroupFiles.{groups_limit, joined, room, within_limit, join_found}
 use Rattle.rvs_suite.specs.GroupFiles.{and_then, text_in, groups_found, inputs_of, inputs_in, joins}
 use Rattle.rvs_suite.specs.GroupFiles.{joins_all, group_files, group_inputs}
 use Rattle.rvs_suite.proofs.Readers.{OnlyReads, OnlyReads-then}

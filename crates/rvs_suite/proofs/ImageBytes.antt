@@ -1,9 +1,10 @@
 -- Text and data of an image are bytes.
-use Rattle.std.proofs.Common.{◌≡◌, ℕ, zero, suc, ◌/◌, ◌^◌, ◌<◌, Bool, true, false, cond, not, List}
-use Rattle.std.proofs.Common.{[], ◌∷◌, ◌++◌, Option, Some, None, Result, Ok, Err, subst, arith}
-use Rattle.std.specs.Prelude.{take, slice_index, codes, ℤ}
+use Rattle.std.proofs.Common.{◌≡◌, ℕ, zero, suc, ◌/◌, ◌^◌, Bool, true, false, cond, not, List}
+use Rattle.std.proofs.Common.{[], ◌∷◌, Option, Some, None, Result, Ok, Err, subst, arith}
+use Rattle.std.specs.Prelude.{codes, ℤ}
 use Rattle.std.specs.List.{flat_map}
 use Rattle.std.specs.Int.{w32, to_le_bytes}
+use Rattle.rvs_text.specs.Outcomes.{◌>>=◌}
 use Rattle.rvs_insn.specs.Isa.{Isa}
 use Rattle.rvs_insn.specs.Word.{low_bits, word_of}
 use Rattle.rvs_machine.specs.Image.{ImageValue, is_image, if_image}
@@ -43,13 +44,13 @@ held {A} {E} P r a h e = subst (λ (x : Result A E). Holds P x) e h
 -- ---- an image file
 goes_on : {A B : Type 0} (P : A → Type 0) (Q : B → Type 0) (r : Result A ImageRefusal)
     (go : A → Result B ImageRefusal) → Holds P r → ((a : A) → P a → Holds Q (go a))
-    → Holds Q (file.and_then r go)
+    → Holds Q (r >>= go)
 goes_on P Q (Ok a) go h all = all a h
 goes_on P Q (Err e) go h all = tt
 
 -- the same whatever was read
 goes_any : {A B : Type 0} (Q : B → Type 0) (r : Result A ImageRefusal)
-    (go : A → Result B ImageRefusal) → ((a : A) → Holds Q (go a)) → Holds Q (file.and_then r go)
+    (go : A → Result B ImageRefusal) → ((a : A) → Holds Q (go a)) → Holds Q (r >>= go)
 goes_any Q (Ok a) go all = all a
 goes_any Q (Err e) go all = tt
 
@@ -87,14 +88,14 @@ whole_bytes n image None h =
     either_image (is_image image) image (file.refusal 0 BadRegion) h
 
 abbrev from_end : List ℕ → List ℕ → Rest → Result ImageValue ImageRefusal
-from_end text ram r = file.and_then (file.address_lines r) (λ a. file.whole text ram a.0 a.1)
+from_end text ram r = file.address_lines r >>= (λ a. file.whole text ram a.0 a.1)
 
 abbrev from_data : List ℕ → Rest → Result ImageValue ImageRefusal
 from_data text r =
-    file.and_then (file.section (codes "data ") 262_144 r) (λ d. from_end text d.0 d.1)
+    file.section (codes "data ") file.most_data r >>= (λ d. from_end text d.0 d.1)
 
 abbrev from_text : Rest → Result ImageValue ImageRefusal
-from_text r = file.and_then (file.section (codes "text ") 4_194_304 r) (λ t. from_data t.0 t.1)
+from_text r = file.section (codes "text ") file.most_text r >>= (λ t. from_data t.0 t.1)
 
 end_bytes : (text ram : List ℕ) (r : Rest) → AreBytes text → AreBytes ram
     → Holds HasBytes (from_end text ram r)
@@ -111,14 +112,14 @@ end_bytes text ram r g h =
 
 data_bytes : (text : List ℕ) (r : Rest) → AreBytes text → Holds HasBytes (from_data text r)
 data_bytes text r g =
-    goes_on BytesFirst HasBytes (file.section (codes "data ") 262_144 r)
+    goes_on BytesFirst HasBytes (file.section (codes "data ") file.most_data r)
     (λ d. from_end text d.0 d.1)
-    (section_bytes (codes "data ") 262_144 r) (λ d h. end_bytes text d.0 d.1 g h)
+    (section_bytes (codes "data ") file.most_data r) (λ d h. end_bytes text d.0 d.1 g h)
 
 text_bytes : (r : Rest) → Holds HasBytes (from_text r)
 text_bytes r =
-    goes_on BytesFirst HasBytes (file.section (codes "text ") 4_194_304 r) (λ t. from_data t.0 t.1)
-    (section_bytes (codes "text ") 4_194_304 r) (λ t h. data_bytes t.0 t.1 h)
+    goes_on BytesFirst HasBytes (file.section (codes "text ") file.most_text r) (λ t. from_data t.0 t.1)
+    (section_bytes (codes "text ") file.most_text r) (λ t h. data_bytes t.0 t.1 h)
 
 file_bytes : (bytes : List ℕ) → Holds HasBytes (file.image_of_bytes bytes)
 unfolding file.image_of_bytes

@@ -1,5 +1,5 @@
 -- Reading a log for a report: it only reads, and what it finds over given files.
-use Rattle.std.proofs.Common.{◌≡◌, ◌≤◌, ◌<◌, ℕ, Bool, List, length, nat_lt, Option, Some, Result}
+use Rattle.std.proofs.Common.{◌≡◌, ◌≤◌, ◌<◌, ℕ, Bool, List, length, nat_lt, Some, Result}
 use Rattle.std.proofs.Common.{Ok, Err, IfOk, if◌then◌else◌, refl, sym, ap, ◌∙◌}
 use Rattle.std.proofs.lemmas.Bool.{lt-ltb, le-ltb, cond-true, cond-false}
 use Rattle.rvs_base.specs.Host.{Files}

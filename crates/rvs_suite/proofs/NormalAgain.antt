@@ -1,7 +1,7 @@
 -- What `normalize` puts is read again.
-use Rattle.std.proofs.Common.{◌≡◌, ℕ, ◌≤◌, Bool, true, false, List, [], ◌∷◌, length, map, Option}
-use Rattle.std.proofs.Common.{Some, None, Ok, Err, Result, refl, sym, ap, subst, ◌∙◌, arith}
-use Rattle.std.specs.Prelude.{nat_lt, if◌then◌else◌, unwrap_or}
+use Rattle.std.proofs.Common.{◌≡◌, ℕ, ◌≤◌, false, List, [], ◌∷◌, length, map}
+use Rattle.std.proofs.Common.{Some, None, Ok, Err, Result, refl, sym, ap, ◌∙◌, arith}
+use Rattle.std.specs.Prelude.{nat_lt, if◌then◌else◌}
 use Rattle.std.proofs.lemmas.Bool.Decides.{nat_tests}
 use Rattle.rvs_base.specs.Host.{Files}
 use Rattle.rvs_plan.specs.declared.stop.Stop.{Stop}
@@ -17,7 +17,7 @@ use Rattle.rvs_plan.specs.declared.stop.Stop.TheVariants.{Refused}
 use Rattle.rvs_suite.specs.GroupTexts.{groups_name}
 use Rattle.rvs_isa.specs.declared.accepted_spec.AcceptedSpec.{AcceptedSpec}
 use Rattle.rvs_suite.specs.Specification.{said_in, bytes_said, isa_limit}
-use Rattle.rvs_suite.specs.GroupFiles.{groups_limit, within_limit, joined, join_found, and_then}
+use Rattle.rvs_suite.specs.GroupFiles.{groups_limit, join_found, and_then}
 use Rattle.rvs_suite.specs.GroupFiles.{text_in, checked_groups, tree_groups, groups_found, Inputs}
 use Rattle.rvs_suite.specs.GroupFiles.{inputs_of, inputs_in}
 

@@ -5,7 +5,7 @@ use Rattle.std.specs.Prelude.{◌==◌, ◌&&◌, count_by, sum_by}
 use Rattle.std.proofs.lemmas.List.Sums.{sum_by-cons}
 use Rattle.rvs_log.specs.Entries.{Entry, entries_of}
 use Rattle.rvs_cgf.specs.Groups.{Meaning, op_is, reg_is, regs, nums, window, Label, Point}
-use Rattle.rvs_count.specs.Counting.{Aim, aims_of, count, count_for, decoded, hits}
+use Rattle.rvs_count.specs.Counting.{Aim, aims_of, count_for, decoded, hits}
 use Rattle.rvs_prop.specs.Acts.{Act, acts_of}
 use Rattle.rvs_prop.specs.Reach.{reached, reaches, saves_register, target_of}
 use Rattle.rvs_prop.specs.Report.{report_of}

@@ -1,6 +1,6 @@
 -- No run that a call asks for, or that a test's header allows, has more than 2,000,000
 -- instructions.
-use Rattle.std.proofs.Common.{◌≡◌, ◌≤◌, ℕ, ◌+◌, ◌&&◌, ◌||◌, Bool, true, false, if◌then◌else◌, List}
+use Rattle.std.proofs.Common.{◌≡◌, ◌≤◌, ℕ, ◌&&◌, ◌||◌, Bool, true, false, if◌then◌else◌, List}
 use Rattle.std.proofs.Common.{[]}
 use Rattle.std.proofs.Common.{◌∷◌, length, Option, Some, None, unwrap_or, option_map}
 use Rattle.std.proofs.Common.{option_and_then, nat_le, bytes_eq, codes, refl, subst, arith}
@@ -20,14 +20,13 @@ use Rattle.rvs_words.specs.Commands.{asked_by, command_of, validate_options, nor
 use Rattle.rvs_words.specs.Commands.{generate_options, reference_options, coverage_options}
 use Rattle.rvs_words.specs.Commands.{propagate_options, run_options, select_options}
 use Rattle.rvs_words.specs.Words.{values_of}
-use Rattle.rvs_words.specs.declared.words.Pair.{Pair}
 use Rattle.rvs_words.specs.declared.command.Command.{Command}
 use Rattle.rvs_words.specs.declared.command.Command.TheVariants.{Unknown, Reference}
 use Rattle.rvs_words.specs.declared.command.ReferenceArguments.{ReferenceArguments}
 use Rattle.rvs_insn.specs.Isa.{Isa}
 use Rattle.rvs_machine.specs.Image.{ImageValue}
 use Rattle.rvs_machine.specs.Machine.{started}
-use Rattle.rvs_machine.specs.Run.{Outcome, run_of}
+use Rattle.rvs_machine.specs.Run.{Outcome}
 use Rattle.rvs_machine.proofs.Kept.{runs_are_bounded}
 use Rattle.rvs_suite.specs.Halting.{Halts}
 use Rattle.rvs_suite.specs.declared.test_run.Run.{Run}

@@ -1,5 +1,5 @@
 -- What every call of `validate` promises.
-use Rattle.std.proofs.Common.{ℕ, List, refl, ap}
+use Rattle.std.proofs.Common.{refl, ap}
 use Rattle.rvs_base.specs.Host.{Files}
 use Rattle.rvs_plan.specs.World.{Contents}
 use Rattle.rvs_plan.specs.declared.status.Finish.TheVariants as finish

@@ -11,7 +11,6 @@ use Rattle.rvs_cgf.specs.Valid.{IsValid}
 use Rattle.rvs_count.specs.Counting.{aims_of, count, hits, kept}
 use Rattle.rvs_log.specs.Logs.{log_of, as_entry}
 use Rattle.rvs_count.specs.Report.{report_of}
-use Rattle.rvs_base.specs.declared.asked.Window.{Window}
 use Rattle.rvs_suite.specs.Answered.{Answered, OnDone}
 use Rattle.rvs_suite.specs.Call.{Call, Asks}
 use Rattle.rvs_suite.specs.Coverage.{report_in}

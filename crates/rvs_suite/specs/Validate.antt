@@ -1,5 +1,4 @@
 -- What `validate` does.
-use Rattle.std.specs.Prelude.{ℕ, List}
 use Rattle.rvs_plan.specs.Plan.{Plan, ◌>>=◌}
 use Rattle.rvs_plan.specs.declared.status.Finish.{Finish}
 use Rattle.rvs_isa.specs.Print.{checked_text}

@@ -1,8 +1,6 @@
-use Rattle.std.proofs.Common.{◌≡◌, ℕ, List, map, length, ap, ◌∙◌}
+use Rattle.std.proofs.Common.{◌≡◌, ℕ, List, map, ap, ◌∙◌}
 use Rattle.rvs_cgf.specs.GroupView.{label_view}
 use Rattle.rvs_cgf.specs.declared.group.Label.{Label}
-use Rattle.rvs_log.specs.Entries.{entries_of}
-use Rattle.rvs_count.specs.Counting.{aims_in, count, kept}
 use Rattle.rvs_count.specs.Report.{report_of}
 use Rattle.rvs_count.specs.State.{CountState, state_of, ended}
 use Rattle.rvs_base.specs.declared.asked.Window.{Window as Span}

@@ -1,4 +1,4 @@
-use Rattle.std.proofs.Common.{◌≡◌, ℕ, Bool, List, Option, if◌then◌else◌, sym, subst}
+use Rattle.std.proofs.Common.{ℕ, Bool, List, Option, if◌then◌else◌, sym, subst}
 use Rattle.std.proofs.lemmas.Result.{err_from_is_err_and}
 use Rattle.rvs_plan.specs.World.{world}
 use Rattle.rvs_plan.specs.Plan.{Plan, gives}

@@ -1,9 +1,5 @@
-use Rattle.std.proofs.Common.{List, ℕ, subst}
 use Rattle.rvs_plan.specs.World.{world}
-use Rattle.rvs_plan.specs.Plan.{writes}
-use Rattle.rvs_plan.specs.Meets.{Meets}
 use Rattle.rvs_plan.proofs.Sequence.{Meets-gives}
-use Rattle.rvs_log.specs.Logs.{log_of}
 use Rattle.rvs_suite.proofs.reference.write_log.Goals as goal
 
 pub returns-in-None : goal.returns-in-None

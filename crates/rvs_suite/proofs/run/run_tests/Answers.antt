@@ -2,7 +2,7 @@ use Rattle.std.proofs.Common.{◌≡◌, ◌∙◌, List, ℕ, subst}
 use Rattle.std.proofs.lemmas.Result.{err_from_is_err_and}
 use Rattle.rvs_plan.specs.World.{world, IsAnswer}
 use Rattle.rvs_plan.specs.Plan.{Plan, gives, ◌>>=◌}
-use Rattle.rvs_plan.specs.Meets.{MeetsWith, Meets}
+use Rattle.rvs_plan.specs.Meets.{MeetsWith}
 use Rattle.rvs_plan.specs.declared.status.Finish.{Finish}
 use Rattle.rvs_plan.proofs.Sequence.{Meets-then, Meets-stop, Meets-gives, Meets-no_memory}
 use Rattle.rvs_plan.proofs.Sequence.{Meets-weaker}
