@@ -1,5 +1,6 @@
 #!/usr/bin/env python3
 """Tries `rvsuite` where the system fails it: see faults.sh, which starts this."""
+import atexit
 import os
 import re
 import resource
@@ -75,6 +76,7 @@ class Folder:
 
     def __init__(self, **more):
         self.path = tempfile.mkdtemp(prefix="faults-", dir=os.environ.get("FAULTS_IN"))
+        atexit.register(shutil.rmtree, self.path, ignore_errors=True)
         for name, text in {**FILES, **more}.items():
             self.put(name, text)
         os.mkdir(f"{self.path}/w")
@@ -282,7 +284,9 @@ def disk():
             shutil.rmtree(folder.path)
             print(f"disk: {name}: {counted(found)}", flush=True)
     finally:
-        subprocess.run(["umount", os.environ.pop("FAULTS_IN")])
+        place = os.environ.pop("FAULTS_IN")
+        subprocess.run(["umount", place])
+        os.rmdir(place)
 
 
 def streams():
