@@ -9,6 +9,7 @@ use Rattle.rvs_cgf.specs.Groups.{Point, Label, same_kind, is_empty_scalar, ops_o
 use Rattle.rvs_cgf.specs.Print.{kind_name}
 use Rattle.rvs_cgf.specs.Valid.{IsValid}
 use Rattle.rvs_cgf.specs.declared.group.Kind.{Kind}
+use Rattle.rvs_cgf.specs.Limits.{most_labels, most_pairs}
 
 -- points of one kind side by side
 pub record Block : Type 0 where
@@ -90,8 +91,8 @@ ArePlain isa (l ∷ ls) = IsPlain isa l × ArePlain isa ls
 -- plain labels within the limits of a file
 pub record CanBeSpelled (isa : Isa) (ls : List Label) : Type 0 where
   pub plain : ArePlain isa (selected ls)
-  pub few_labels : length (selected ls) ≤ 256
-  pub few_points : sum_by size_of (selected ls) ≤ 65536
+  pub few_labels : length (selected ls) ≤ most_labels
+  pub few_points : sum_by size_of (selected ls) ≤ most_pairs
 
 -- the core admits the mnemonics of the selected labels
 abbrev pub are_admitted : Isa → List Label → Bool

@@ -7,6 +7,7 @@ use Rattle.rvs_insn.specs.declared.op.Op.{Op}
 use Rattle.rvs_facts.specs.Mnemonics.{is_same}
 use Rattle.rvs_cgf.specs.Keys.{is_label_name, is_printable}
 use Rattle.rvs_cgf.specs.Groups.{Point, Label, means, says, has}
+use Rattle.rvs_cgf.specs.Limits.{most_points}
 
 -- no two points have one kind and key
 abbrev pub are_distinct : List Point → Bool
@@ -29,7 +30,7 @@ pub record IsValid (isa : Isa) (l : Label) : Type 0 where
   pub some_op : 0 < length l.ops
   pub own_ops : ops_are_distinct l.ops ≡ true
   pub admitted : list_all (is_admitted_op isa) l.ops ≡ true
-  pub few : length l.points ≤ 2048
+  pub few : length l.points ≤ most_points
   pub distinct : are_distinct l.points ≡ true
   pub meant : All IsMeant l.points
 

@@ -1,5 +1,6 @@
 // The labels so far.
 ghost use Rattle.std.specs.Prelude.{◌≤◌};
+ghost use Rattle.rvs_cgf.specs.Limits.{most_pairs};
 
 use crate::group::Label;
 use rvs_base::Items;
@@ -11,5 +12,5 @@ pub struct Listed {
     pub labels: Items<Label>,
     /// The sum.
     pub total: u128,
-    ghost few: { total ≤ 65536 },
+    ghost few: { total ≤ most_pairs },
 }

@@ -7,6 +7,7 @@ ghost use Rattle.rvs_cgf.specs.Groups as spec;
 ghost use Rattle.rvs_cgf.specs.Valid.{IsValidIfSelected};
 ghost use Rattle.rvs_cgf.specs.Spelled.{nodes_are_own, CanBeSpelled};
 ghost use Rattle.rvs_cgf.specs.GroupView.{AnswersWith, label_view, listed_view};
+ghost use Rattle.rvs_cgf.specs.Limits.{most_labels, most_pairs};
 
 use crate::entries::is_empty_scalar;
 use crate::group::{Groups, Label};
@@ -32,7 +33,7 @@ pub(crate) fn size(label: &Label) -> u128
 /// The labels with one more.
 #[tactic(auto, using(crate::proofs::Pointwise::map_label))]
 fn pushed(label: Label, total: u128, listed: Listed) -> Result<Listed, NoMemory>
-    requires { total ≤ 65536 }
+    requires { total ≤ most_pairs }
     ensures labels { IfOk result (λ l. map label_view l.labels
         ≡ map label_view listed.labels ++ label_view label ∷ []) }
     ensures total { IfOk result (λ l. l.total ≡ total) }
@@ -62,7 +63,7 @@ fn with_label(alloc: Global, name: &str, label: Label, listed: Listed) -> Result
 }
 
 fn has_room(listed: &Listed) -> bool
-    ensures { result ≡ nat_lt (length (listed_view listed.now).labels) 256 }
+    ensures { result ≡ nat_lt (length (listed_view listed.now).labels) most_labels }
 {
     listed.labels.as_slice().len() < MOST_LABELS
 }

@@ -7,6 +7,7 @@ ghost use Rattle.rvs_cgf.specs.Print.{label_text};
 ghost use Rattle.rvs_cgf.specs.Writing.{normal_of, told, told_of, nothing_told};
 ghost use Rattle.rvs_cgf.specs.GroupView.{AnswersWith, label_view};
 ghost use Rattle.rvs_cgf.specs.WrittenView.{written_view};
+ghost use Rattle.rvs_cgf.specs.Limits.{most_labels, most_pairs};
 
 use crate::entries::is_empty_scalar;
 use crate::group::Label;
@@ -25,8 +26,8 @@ use std::alloc::Global;
 
 /// The labels with one more.
 fn pushed(label: &Label, total: u128, written: Written) -> Result<Written, NoMemory>
-    requires total { total ≤ 65536 }
-    requires few { written.count < 256 }
+    requires total { total ≤ most_pairs }
+    requires few { written.count < most_labels }
     ensures text { IfOk result (λ w. w.text ≡ written.text ++ label_text (label_view label.now)) }
     ensures count { IfOk result (λ w. w.count ≡ written.count + 1) }
     ensures total { IfOk result (λ w. w.total ≡ total) }
@@ -51,7 +52,7 @@ fn with_label(
     label: &Label,
     written: Written,
 ) -> Result<Written, CgfRefusal>
-    requires { written.count < 256 }
+    requires { written.count < most_labels }
     ensures { (listed : spec.Listed) → written_view written ≡ told listed
         → AnswersWith written_view result
         (told_of (spec.with_label name.now (label_view label.now) listed)) }

@@ -1,5 +1,6 @@
 // Labels that were written out.
 ghost use Rattle.std.specs.Prelude.{◌≤◌};
+ghost use Rattle.rvs_cgf.specs.Limits.{most_pairs};
 
 use rvs_base::Text;
 
@@ -13,5 +14,5 @@ pub struct Written {
     pub count: usize,
     /// The sum.
     pub total: u128,
-    ghost few: { total ≤ 65536 },
+    ghost few: { total ≤ most_pairs },
 }

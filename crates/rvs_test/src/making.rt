@@ -9,6 +9,7 @@ ghost use Rattle.rvs_test.specs.Made.{claims_of, unsolved_of, cases_of, text_for
 ghost use Rattle.rvs_test.specs.Made.{named_at};
 ghost use Rattle.rvs_test.specs.Claimed.{TestRuns, IsAccounted};
 ghost use Rattle.rvs_test.specs.Named.{claims_read, named_claim};
+ghost use Rattle.rvs_cgf.specs.Limits.{most_points};
 
 use crate::finding::{Found, find_cases};
 use crate::made::Made;
@@ -45,7 +46,7 @@ fn case_steps(solved: &Solved) -> u64
 
 /// How many instructions a test takes at most.
 fn step_limit(cases: &[Solved]) -> u64
-    requires { length cases.now ≤ 2048 }
+    requires { length cases.now ≤ most_points }
     ensures { result ≡ layout.step_limit cases.now }
 {
     let mut steps = 80;

@@ -6,6 +6,7 @@ ghost use Rattle.rvs_test_text.specs.TestText as layout;
 ghost use Rattle.rvs_test_text.specs.TestText.{text_of, ended};
 ghost use Rattle.rvs_test_text.specs.Claim.{IsReady, AreReady};
 ghost use Rattle.rvs_test.specs.Made.{named, named_at};
+ghost use Rattle.rvs_cgf.specs.Limits.{most_points};
 
 use crate::case_lines::case_statements;
 use crate::printing::{push_line, push_statements};
@@ -143,7 +144,7 @@ fn push_case(
     k: usize,
     solved: &Solved,
 ) -> Result<(), NoMemory>
-    requires few { k < 2048 }
+    requires few { k < most_points }
     requires ready { IsReady _spec.now solved.now }
     ensures { OnOk result (out.new ≡ out.old ++ text_of (layout.case_statements k solved.now)) }
 {
@@ -157,7 +158,7 @@ fn push_cases(
     spec: &IsaSpec,
     cases: &[Solved],
 ) -> Result<(), NoMemory>
-    requires few { length cases.now ≤ 2048 }
+    requires few { length cases.now ≤ most_points }
     requires ready { AreReady spec.now cases.now }
     ensures { OnOk result (out.new ≡ out.old ++ text_of (layout.cases 0 cases.now)) }
 {
@@ -168,7 +169,7 @@ fn push_cases(
 }
 
 fn push_slots(alloc: Global, out: &mut Text, count: usize) -> Result<(), NoMemory>
-    requires { count ≤ 2048 }
+    requires { count ≤ most_points }
     ensures { OnOk result (out.new ≡ out.old ++ text_of (layout.slots 0 count)) }
 {
     for k in 0..count {
@@ -186,7 +187,7 @@ pub(crate) fn push_code(
     registers: u8,
     cases: &[Solved],
 ) -> Result<(), NoMemory>
-    requires few { length cases.now ≤ 2048 }
+    requires few { length cases.now ≤ most_points }
     requires ready { AreReady spec.now cases.now }
     requires registers { registers ≡ layout.last_register spec.now }
     requires low { registers < 32 }
@@ -201,7 +202,7 @@ pub(crate) fn push_code(
 
 /// The data of so many cases.
 pub(crate) fn push_data(alloc: Global, out: &mut Text, count: usize) -> Result<(), NoMemory>
-    requires { count ≤ 2048 }
+    requires { count ≤ most_points }
     ensures { OnOk result (out.new ≡ out.old ++ text_of (layout.data_part count)) }
 {
     push_statements(alloc, out, &fixed_data())?;
