@@ -3,10 +3,12 @@
 # the same trace: seconds of user time, best of nine, of the program that `./rvsuite` has built.
 # Files are kept in the folder that the second argument names.
 #
+# STEPS is at most 1000000, since a run has at most twice as many.
+#
 # usage: reference.sh [STEPS] [FOLDER]
 set -eu
 here=$(cd "$(dirname "$0")" && pwd)
-steps=${1:-10000000}
+steps=${1:-1000000}
 folder=${2:-/tmp/rvsuite-bench}
 program=${RVSUITE:-$here/../crates/rvsuite/out/rvsuite}
 mkdir -p "$folder"
