@@ -2,7 +2,7 @@ mod Appends
 pub mod Cuts
 mod Held
 pub mod HexDigits
-mod Reading
+pub mod Reading
 pub mod Readings
 mod Spelling
 mod Telling

@@ -24,6 +24,9 @@ pub record MemoryHostState : Type 0 where
   pub read_faults : ℕ
   pub write_faults : ℕ
   pub run_faults : ℕ
+  -- how often a file was opened, and how many bytes were taken
+  pub openings : ℕ
+  pub taken : ℕ
   -- what the runs of devices answer, from the first on, and the runs so far
   pub answers : List Answer
   pub runs : List DeviceRun
@@ -44,6 +47,8 @@ told_by h = record {
   read_faults = h.read_faults;
   write_faults = h.write_faults;
   run_faults = h.run_faults;
+  openings = h.openings;
+  taken = h.taken;
 }
 
 -- before the first call
@@ -55,6 +60,8 @@ new_host files fail answers = record {
   read_faults = 0;
   write_faults = 0;
   run_faults = 0;
+  openings = 0;
+  taken = 0;
   answers = answers;
   runs = [];
   calls = 0;

@@ -1,4 +1,5 @@
-//! What every crate of the suite stands on: texts and lists, the outside, files, lines and numbers.
+//! What most crates of the suite stand on: owned texts and lists, the outside, files, lines and
+//! numbers.
 #![tactic(auto)]
 
 mod answers;

@@ -1,6 +1,6 @@
 // Counting in a file.
 ghost use Rattle.std.specs.Prelude.{◌≡◌, ◌≤◌, ◌+◌, ◌-◌, ◌^◌, IfErr, OnOk, OnErr, length, take};
-ghost use Rattle.rvs_base.specs.File.{TakesAtMost};
+ghost use Rattle.rvs_base.specs.File.{ReadsAtMost};
 ghost use Rattle.rvs_base.specs.Host.{ReadsOnly};
 ghost use Rattle.rvs_count.specs.Feeds.{FeedCause, FeedsFile, FeedsFront, piece_limit};
 ghost use Rattle.rvs_log.specs.Lines.{log_limit};
@@ -67,8 +67,9 @@ fn front_of(buffer: &[u8], count: usize) -> &[u8]
     &buffer[..count]
 }
 
-/// Feeds the bytes of a file to its end, in pieces of at most 16 KiB, and takes no more of it than
-/// may be fed and the piece that passes that; it doesn't finish the log. It takes no memory.
+/// Feeds the bytes of a file to its end, in one opening and in pieces of at most 16 KiB, and takes
+/// no more of it than may be fed and the piece that passes that; it doesn't finish the log. It takes
+/// no memory.
 ///
 /// # Errors
 ///
@@ -85,7 +86,7 @@ pub fn count_file<H: Host>(
     ensures front { OnErr result (FeedsFront name.now (H.state host.old) counter.old counter.new) }
     ensures cause { IfErr result
         (FeedCause name.now (H.state host.old) (H.state host.new) counter.old counter.new) }
-    ensures at_most { TakesAtMost name.now (log_limit - counter.old.fed + piece_limit)
+    ensures at_most { ReadsAtMost 1 (log_limit - counter.old.fed + piece_limit)
         (H.state host.old) (H.state host.new) }
 {
     host.open_read(name)?;

@@ -1,9 +1,9 @@
 -- What reading a signature file back comes to.
-use Rattle.std.proofs.Common.{◌≡◌, ◌<◌, inl, inr, ℕ, ℤ, true, not, nat_lt, List, length, Option}
+use Rattle.std.proofs.Common.{◌≡◌, ◌<◌, ◌+◌, inl, inr, ℕ, ℤ, true, not, nat_lt, List, length, Option}
 use Rattle.std.proofs.Common.{Some, Ok, refl, sym, ap, ◌∙◌}
 use Rattle.std.proofs.lemmas.Bool.{lt-ltb}
 use Rattle.rvs_base.specs.Host.{HostState, ReadsOnly, LacksFile}
-use Rattle.rvs_base.specs.File.{IsWhole, IsTooLong}
+use Rattle.rvs_base.specs.File.{IsWhole, IsTooLong, ReadsAtMost}
 use Rattle.rvs_device.specs.Judged.{signature_limit, verdict_on}
 use Rattle.rvs_device.specs.Judging.{Verdicts}
 use Rattle.rvs_device.specs.ReadBack.{ReadsBack}
@@ -17,10 +17,12 @@ quiet verdict r same = record { reads = λ _. same; writes = r.writing; devices 
 -- the file was read whole
 pub back-found : (signature : List ℕ) (status : ℤ) (reference bytes : List ℕ) (old new : HostState)
     (verdict : TestVerdict) → ReadsOnly old new → IsWhole signature signature_limit old bytes
-    → new.read_faults ≡ old.read_faults → verdict ≡ verdict_on status reference (Some bytes)
+    → new.read_faults ≡ old.read_faults → ReadsAtMost 1 (signature_limit + 1) old new
+    → verdict ≡ verdict_on status reference (Some bytes)
     → ReadsBack signature status reference old new (Ok verdict)
-back-found signature status reference bytes old new verdict r whole same is = record {
+back-found signature status reference bytes old new verdict r whole same most is = record {
   reads_only = r;
+  at_most = most;
   comes = record {
     of_file = λ files tells. is ∙ ap (λ (left : Option (List ℕ)). verdict_on status reference left)
         (sym (whole.whole files tells));
@@ -30,10 +32,12 @@ back-found signature status reference bytes old new verdict r whole same is = re
 
 -- it isn't there
 pub back-absent : (signature : List ℕ) (status : ℤ) (reference : List ℕ) (old new : HostState)
-    → ReadsOnly old new → LacksFile signature old new
+    → ReadsOnly old new → ReadsAtMost 1 (signature_limit + 1) old new
+    → LacksFile signature old new
     → ReadsBack signature status reference old new (Ok (NoSignature status))
-back-absent signature status reference old new r lacks = record {
+back-absent signature status reference old new r most lacks = record {
   reads_only = r;
+  at_most = most;
   comes = record {
     of_file = λ files tells. ap (λ (left : Option (List ℕ)). verdict_on status reference left)
         (sym (lacks.lacks files tells));
@@ -56,11 +60,12 @@ long-verdict status reference bytes longer =
 
 -- it is too long
 pub back-long : (signature : List ℕ) (status : ℤ) (reference : List ℕ) (old new : HostState)
-    → ReadsOnly old new → IsTooLong signature signature_limit old
-    → new.read_faults ≡ old.read_faults
+    → ReadsOnly old new → ReadsAtMost 1 (signature_limit + 1) old new
+    → IsTooLong signature signature_limit old → new.read_faults ≡ old.read_faults
     → ReadsBack signature status reference old new (Ok (TooLong status))
-back-long signature status reference old new r long same = record {
+back-long signature status reference old new r most long same = record {
   reads_only = r;
+  at_most = most;
   comes = record {
     of_file = λ files tells.
         let file = long.longer files tells in

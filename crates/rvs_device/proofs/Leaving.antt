@@ -2,7 +2,7 @@
 use Rattle.std.proofs.Common.{◌≡◌, ◌≢◌, ◌↔◌, ◌⊎◌, inl, inr, ℕ, ℤ, Bool, true, false, ◌&&◌}
 use Rattle.std.proofs.Common.{is_some, if◌then◌else◌, List, [], ◌∷◌, ◌++◌, length, Option, Some}
 use Rattle.std.proofs.Common.{None, Result, Ok, Err, IfOk, bytes_eq, refl, sym, ap, subst, ◌∙◌}
-use Rattle.std.proofs.Common.{arith}
+use Rattle.std.proofs.Common.{arith, ◌+◌}
 use Rattle.std.proofs.lemmas.Slice.Eq.{bytes_eq-Decides}
 use Rattle.std.proofs.lemmas.List.{append_cancel_left}
 use Rattle.rvs_base.specs.Faults.{raised}
@@ -10,7 +10,9 @@ use Rattle.rvs_base.specs.Host.{Files, HostState, Tells, is_told, ReadsOnly, Wri
 use Rattle.rvs_base.specs.Host.{Spoils, written, with_file, with_left, run_over, RunsOnly}
 use Rattle.rvs_base.specs.Host.{RunsDevice, LeavesRun, ChangesOne, FailsRun}
 use Rattle.rvs_base.specs.declared.host.DeviceRun.{DeviceRun}
-use Rattle.rvs_device.specs.Judged.{verdict_on}
+use Rattle.rvs_base.specs.File.{ReadsAtMost}
+use Rattle.rvs_base.proofs.Reading.{ReadsAtMost-none, ReadsAtMost-behind}
+use Rattle.rvs_device.specs.Judged.{signature_limit, verdict_on}
 use Rattle.rvs_device.specs.Judging.{Task, RanOnce, Later, Judges, Spells, PassesBySpelling}
 use Rattle.rvs_device.specs.ReadBack.{ReadsBack}
 use Rattle.rvs_device.specs.declared.verdicts.TestVerdict.{TestVerdict}
@@ -116,6 +118,7 @@ same_files name files = with_left-of name files files (λ other apart. refl)
 pub judges-no_memory : (t : Task) (h : HostState) → Judges t h h (Err NoMemory)
 judges-no_memory t h = record {
   later = Later-start h;
+  at_most = ReadsAtMost-none (record { openings = refl; taken = refl });
   cause = record { reads = refl; writes = refl; devices = refl };
   left = λ files runs tells is. inl (record {
     same = is;
@@ -148,6 +151,7 @@ pub judges-unwritten : (t : Task) (old new : HostState) → WritesOnly old new
     → Judges t old new (Err Write)
 judges-unwritten t old new w s once = record {
   later = Later-writes w;
+  at_most = ReadsAtMost-none w.unread;
   cause = λ out. record {
     reads = old.read_faults;
     before = refl;
@@ -191,6 +195,7 @@ pub judges-not_run : (t : Task) (old mid new : HostState) → WritesOnly old mid
     → Judges t old new (Err Run)
 judges-not_run t old mid new w wrote quiet r failed once = record {
   later = Later-trans (Later-writes w) (Later-runs r);
+  at_most = ReadsAtMost-behind w.unread (ReadsAtMost-none r.unread);
   cause = λ out. record {
     reads = old.read_faults;
     before = refl;
@@ -224,6 +229,10 @@ pub record Made (t : Task) (old mid new : HostState) (status : ℤ) : Type 0 whe
   pub runs : RunsOnly mid new
   pub ran : RunsDevice t.words t.test t.signature mid new status
   pub done : new.run_faults ≡ mid.run_faults
+
+made-reads : {t : Task} {old mid ran new : HostState} {status : ℤ} → Made t old mid ran status
+    → ReadsAtMost 1 (signature_limit + 1) ran new → ReadsAtMost 1 (signature_limit + 1) old new
+made-reads m most = ReadsAtMost-behind m.wrote.unread (ReadsAtMost-behind m.runs.unread most)
 
 made-later : {t : Task} {old mid new : HostState} {status : ℤ} → Made t old mid new status
     → Later old new
@@ -278,6 +287,7 @@ pub judges-read : (t : Task) (old mid ran new : HostState) (status : ℤ)
     status t.reference ran new result → Judges t old new result
 judges-read t old mid ran new status (Ok verdict) m back = record {
   later = Later-trans (made-later m) (Later-reads back.reads_only);
+  at_most = made-reads m back.at_most;
   cause = record {
     reads = λ known. back.comes.counts.reads (elim known [
       | inl told ↦ inl ((made-later m).told ∙ told)
@@ -298,6 +308,7 @@ judges-read t old mid ran new status (Err Write) m back = absurd back.comes
 judges-read t old mid ran new status (Err Run) m back = absurd back.comes
 judges-read t old mid ran new status (Err Read) m back = record {
   later = Later-trans (made-later m) (Later-reads back.reads_only);
+  at_most = made-reads m back.at_most;
   cause = λ out. record {
     reads = old.read_faults;
     before = refl;
@@ -313,6 +324,7 @@ judges-read t old mid ran new status (Err Read) m back = record {
 }
 judges-read t old mid ran new status (Err NoMemory) m back = record {
   later = Later-trans (made-later m) (Later-reads back.reads_only);
+  at_most = made-reads m back.at_most;
   cause = record {
     reads = back.comes ∙ m.runs.reading ∙ m.wrote.reading;
     writes = back.reads_only.writing ∙ m.runs.writing ∙ m.quiet;

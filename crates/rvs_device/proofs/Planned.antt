@@ -1,22 +1,24 @@
 -- Judging meets its plan.
 use Rattle.std.proofs.Common.{◌≡◌, ◌≢◌, ◌⊎◌, inl, inr, ℕ, Bool, true, false, is_some, if◌then◌else◌}
 use Rattle.std.proofs.Common.{List, [], ◌∷◌, ◌++◌, Option, Some, None, Result, Ok, Err, IfErr}
-use Rattle.std.proofs.Common.{bytes_eq, refl, sym, ap, subst, ◌∙◌}
+use Rattle.std.proofs.Common.{bytes_eq, refl, sym, ap, subst, ◌∙◌, ◌+◌, pos, arith}
 use Rattle.std.proofs.lemmas.Slice.Eq.{bytes_eq-Decides}
 use Rattle.rvs_base.specs.Host.{Files, HostState, Tells, MaySpoil, Spoils, written, with_file}
 use Rattle.rvs_base.specs.Host.{with_left, run_over, ChangesOne}
 use Rattle.rvs_base.specs.declared.host.DeviceRun.{DeviceRun}
+use Rattle.rvs_base.specs.File.{ReadsAtMost}
 use Rattle.rvs_base.specs.Sink.{SinkState}
 use Rattle.rvs_plan.specs.World.{World, Contents, contents, world, IsFault, IsAnswer, Reading}
 use Rattle.rvs_plan.specs.World.{Writing, Running}
 use Rattle.rvs_plan.specs.World as plan
 use Rattle.rvs_plan.specs.Effect.{Answer, Write, Effect, Read, Device, Did, after, left_by}
 use Rattle.rvs_plan.specs.Effect.{run_added}
-use Rattle.rvs_plan.specs.Plan.{Ends}
+use Rattle.rvs_plan.specs.Plan.{Plan, Ends}
+use Rattle.rvs_plan.specs.Reads.{ReadsOnWay, ReadsFor}
 use Rattle.rvs_plan.specs.Meets.{Reaches, Follows, HasCause, NoFault, MeetsWith}
 use Rattle.rvs_plan.proofs.Reaching.{Reaches-start}
 use Rattle.rvs_plan.proofs.Sequence.{LaterSink-start, FirstFault-weaker, FirstFault-rose}
-use Rattle.rvs_device.specs.Judged.{verdict_on}
+use Rattle.rvs_device.specs.Judged.{signature_limit, verdict_on}
 use Rattle.rvs_device.specs.Judging.{Task, RanOnce, RanNone, Left, Judges}
 use Rattle.rvs_device.specs.Plans.{judged, read_back, run_and_read, stopped}
 use Rattle.rvs_device.specs.declared.verdicts.TestVerdict.{TestVerdict}
@@ -197,6 +199,7 @@ follows t out files runs old new (Err fault.Run) is before left = record {
   };
 }
 follows t out files runs old new (Err fault.Read) is before left = record {
+  bound = signature_limit + 1;
   next = λ found. Ends (Ok (verdict_on left.0.status t.reference found));
   reaches = ran_reaches t out files runs old new left.0 is before left.1;
 }
@@ -275,6 +278,39 @@ judged-unfaulted t out old new (Err fault.NoMemory) j = record {
   output = refl;
 }
 
+-- ---- what was read
+-- judging goes this way where the device answers so and this is found
+way : (t : Task) {old new : HostState} {rest : Plan TestVerdict} (answer : Answer)
+    (found : Option (List ℕ)) → Ends (Ok (verdict_on answer.status t.reference found)) ≡ rest
+    → ReadsAtMost 1 (signature_limit + 1) old new → ReadsOnWay (judged t) rest old new
+way t answer found e most = record {
+  effects =
+      emptying t ∷ Device t.words t.test t.signature answer ∷ Read t.signature found ∷ [];
+  goes = (refl, (refl, refl, refl, (refl, e)));
+  reads = record { opened = omega (arith, most.opened); taken = omega (arith, most.taken) };
+}
+
+-- where judging stopped, some way was gone
+stopped_way : (t : Task) (old new : HostState) (fault : JudgeFault)
+    → ReadsAtMost 1 (signature_limit + 1) old new
+    → ReadsFor (judged t) old new (stopped t (Err fault))
+stopped_way t old new fault most =
+    (_, way t (record { left = None; status = pos 0 }) None refl most)
+
+read : (t : Task) (files : Files) (runs : List DeviceRun) (old new : HostState)
+    (result : Result TestVerdict JudgeFault) → ReadsAtMost 1 (signature_limit + 1) old new
+    → Left t files runs new result → ReadsFor (judged t) old new (stopped t result)
+read t files runs old new (Ok verdict) most left = way t (answer_of left.0) left.0.after
+    (ap (λ (v : TestVerdict). Ends (Ok v)) (sym left.2)) most
+read t files runs old new (Err fault) most left = stopped_way t old new fault most
+
+judged-reading : (t : Task) (old new : HostState) (result : Result TestVerdict JudgeFault)
+    → Judges t old new result
+    → (files : Files) → Tells old files → ReadsFor (judged t) old new (stopped t result)
+judged-reading t old new result j files tells =
+    let runs = told_runs old.runs tells.runs in
+    read t files runs.0 old new result j.at_most (j.left files runs.0 tells runs.1)
+
 pub Meets-judged : (t : Task) (out : SinkState) (old new : HostState)
     (result : Result TestVerdict JudgeFault) → Judges t old new result → MeetsWith IsAnswer
     (judged t) (world old out) (world new out) (stopped t result)
@@ -283,4 +319,5 @@ Meets-judged t out old new result j = record {
   cause = judged-cause t out old new result j;
   unfaulted = judged-unfaulted t out old new result j;
   told = judged-follows t out old new result j;
+  reading = judged-reading t old new result j;
 }

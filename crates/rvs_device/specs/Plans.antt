@@ -1,5 +1,5 @@
 -- Judging a test as a plan.
-use Rattle.std.specs.Prelude.{ℤ, [], Result, Ok, Err}
+use Rattle.std.specs.Prelude.{◌+◌, ℤ, [], Result, Ok, Err}
 use Rattle.rvs_base.specs.Host.{HostState}
 use Rattle.rvs_base.specs.Sink.{SinkState}
 use Rattle.rvs_plan.specs.World.{world, IsAnswer}
@@ -7,7 +7,7 @@ use Rattle.rvs_plan.specs.Meets.{MeetsWith}
 use Rattle.rvs_plan.specs.Plan.{Plan, Ends, Asks, writes, device, ◌>>=◌}
 use Rattle.rvs_plan.specs.declared.stop.Stop.{Stop}
 use Rattle.rvs_plan.specs.declared.stop.Stop.TheVariants as why
-use Rattle.rvs_device.specs.Judged.{verdict_on}
+use Rattle.rvs_device.specs.Judged.{signature_limit, verdict_on}
 use Rattle.rvs_device.specs.Judging.{Task}
 use Rattle.rvs_device.specs.declared.verdicts.TestVerdict.{TestVerdict}
 use Rattle.rvs_device.specs.declared.judging.JudgeFault.{JudgeFault}
@@ -15,7 +15,9 @@ use Rattle.rvs_device.specs.declared.judging.JudgeFault.TheVariants.{Write, Run,
 
 -- the signature file is read, and its verdict given
 abbrev pub read_back : Task → ℤ → Plan TestVerdict
-read_back t status = Asks t.signature (λ left. Ends (Ok (verdict_on status t.reference left)))
+read_back t status =
+    Asks t.signature (signature_limit + 1)
+    (λ left. Ends (Ok (verdict_on status t.reference left)))
 
 abbrev pub run_and_read : Task → Plan TestVerdict
 run_and_read t = do

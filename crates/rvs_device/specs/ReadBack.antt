@@ -1,8 +1,9 @@
 -- What reading a signature file back comes to.
-use Rattle.std.specs.Prelude.{◌≡◌, ℕ, ℤ, List, Result, Ok, Err}
+use Rattle.std.specs.Prelude.{◌≡◌, ◌+◌, ℕ, ℤ, List, Result, Ok, Err}
 use Rattle.rvs_base.specs.Faults.{raised}
 use Rattle.rvs_base.specs.Host.{Files, HostState, ReadsOnly, Tells}
-use Rattle.rvs_device.specs.Judged.{verdict_on}
+use Rattle.rvs_base.specs.File.{ReadsAtMost}
+use Rattle.rvs_device.specs.Judged.{signature_limit, verdict_on}
 use Rattle.rvs_device.specs.Judging.{Verdicts}
 use Rattle.rvs_device.specs.declared.verdicts.TestVerdict.{TestVerdict}
 use Rattle.rvs_device.specs.declared.judging.JudgeFault.{JudgeFault}
@@ -32,4 +33,5 @@ Comes signature status reference old new (Err fault) = Misses old new fault
 pub record ReadsBack (signature : List ℕ) (status : ℤ) (reference : List ℕ)
     (old new : HostState) (result : Result TestVerdict JudgeFault) : Type 0 where
   pub reads_only : ReadsOnly old new
+  pub at_most : ReadsAtMost 1 (signature_limit + 1) old new
   pub comes : Comes signature status reference old new result

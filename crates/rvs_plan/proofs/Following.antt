@@ -27,7 +27,7 @@ Halts-behind new Usage r h = Reaches-trans r h
 Halts-behind new (Refused text) r h = Reaches-trans r h
 Halts-behind new (NoFile name) r h = Reaches-trans r h
 Halts-behind new (CannotRead name) r h =
-    record { next = h.next; reaches = Reaches-trans r h.reaches }
+    record { bound = h.bound; next = h.next; reaches = Reaches-trans r h.reaches }
 Halts-behind new (CannotWrite name) r h = (h.0, BrokeAt-behind r h.1)
 Halts-behind new (CannotRun test) r h = record {
   words = h.words;
@@ -61,8 +61,11 @@ pub Halts-then : {A B : Type 0} (next : A → Plan B) (p : Plan A) (old new : Co
 Halts-then next p old new Usage h = Reaches-then next h
 Halts-then next p old new (Refused text) h = Reaches-then next h
 Halts-then next p old new (NoFile name) h = Reaches-then next h
-Halts-then next p old new (CannotRead name) h =
-    record { next = λ found. h.next found >>= next; reaches = Reaches-then next h.reaches }
+Halts-then next p old new (CannotRead name) h = record {
+  bound = h.bound;
+  next = λ found. h.next found >>= next;
+  reaches = Reaches-then next h.reaches;
+}
 Halts-then next p old new (CannotWrite name) h = (h.0, BrokeAt-then next h.1)
 Halts-then next p old new (CannotRun test) h = record {
   words = h.words;

@@ -1,4 +1,5 @@
 pub mod Reaching
+pub mod Amounts
 pub mod Following
 pub mod Sequence
 pub mod Listing

@@ -30,11 +30,11 @@ Beginning-step deed plan rest effects files answers b = record {
   end_is = b.end_is;
 }
 
-Beginning-ask : (name : List ℕ) (next : Option (List ℕ) → Plan Finish) (rest : Plan Finish)
-    (effects : List Effect) (files : Files) (answers : List Answer) → IsBeginning
-    (next (files name)) rest effects files answers → IsBeginning (Asks name next) rest
+Beginning-ask : (name : List ℕ) (bound : ℕ) (next : Option (List ℕ) → Plan Finish)
+    (rest : Plan Finish) (effects : List Effect) (files : Files) (answers : List Answer) → IsBeginning
+    (next (files name)) rest effects files answers → IsBeginning (Asks name bound next) rest
     (Read name (files name) ∷ effects) files answers
-Beginning-ask name next rest effects files answers b = record {
+Beginning-ask name bound next rest effects files answers b = record {
   effects_are = ap (λ (es : List Effect). Read name (files name) ∷ es) b.effects_are;
   end_is = b.end_is;
 }
@@ -63,18 +63,18 @@ fronts (Does deed plan) rest (Did d ∷ es) c files answers told saw goes =
     (Beginning-step d plan rest es files answers more)
 fronts (Does deed plan) rest (Read n found ∷ es) c files answers told saw goes = absurd goes
 fronts (Does deed plan) rest (Device w t s answer ∷ es) c files answers told saw goes = absurd goes
-fronts (Asks name next) rest (Did d ∷ es) c files answers told saw goes = absurd goes
-fronts (Asks name next) rest (Read n found ∷ es) c files answers told saw goes =
+fronts (Asks name bound next) rest (Did d ∷ es) c files answers told saw goes = absurd goes
+fronts (Asks name bound next) rest (Read n found ∷ es) c files answers told saw goes =
     let is_found : files name ≡ found = ap files goes.0 ∙ saw.0 files told in
     let more = fronts (next found) rest es c files answers told saw.1 goes.1 in
-    let at_name = Beginning-ask name next rest es files answers (subst
+    let at_name = Beginning-ask name bound next rest es files answers (subst
     (λ (o : Option (List ℕ)). IsBeginning (next o) rest es files answers) (sym is_found)
     more) in
-    let at_found = subst (λ (o : Option (List ℕ)). IsBeginning (Asks name next) rest
+    let at_found = subst (λ (o : Option (List ℕ)). IsBeginning (Asks name bound next) rest
     (Read name o ∷ es) files answers) is_found at_name in
-    subst (λ (m : List ℕ). IsBeginning (Asks name next) rest (Read m found ∷ es) files answers)
+    subst (λ (m : List ℕ). IsBeginning (Asks name bound next) rest (Read m found ∷ es) files answers)
     goes.0 at_found
-fronts (Asks name next) rest (Device w t s answer ∷ es) c files answers told saw goes = absurd goes
+fronts (Asks name bound next) rest (Device w t s answer ∷ es) c files answers told saw goes = absurd goes
 fronts (Runs words test signature next) rest (Did d ∷ es) c files answers told saw goes =
     absurd goes
 fronts (Runs words test signature next) rest (Read n found ∷ es) c files answers told saw goes =
@@ -93,7 +93,7 @@ lists (Does deed plan) end c files answers told is =
     let more = lists plan end (after_deed deed c) (files_after deed files) answers
     (files_after-after deed c files told) is in
     record { goes = (refl, more.goes); saw = (tt, more.saw) }
-lists (Asks name next) end c files answers told is =
+lists (Asks name bound next) end c files answers told is =
     let more = lists (next (files name)) end c files answers told is in
     let same : (files' : Files) → c.files ≡ Some files' → files' name ≡ files name =
     λ files' told'. let both : Some files ≡ Some files' = sym told ∙ told' in

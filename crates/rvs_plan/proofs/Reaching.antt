@@ -24,10 +24,10 @@ Goes-append (Does deed plan) mid rest (Did d ∷ es) es' g h =
     (g.0, Goes-append plan mid rest es es' g.1 h)
 Goes-append (Does deed plan) mid rest (Read n found ∷ es) es' g h = absurd g
 Goes-append (Does deed plan) mid rest (Device w t s answer ∷ es) es' g h = absurd g
-Goes-append (Asks name next) mid rest (Did d ∷ es) es' g h = absurd g
-Goes-append (Asks name next) mid rest (Read n found ∷ es) es' g h =
+Goes-append (Asks name bound next) mid rest (Did d ∷ es) es' g h = absurd g
+Goes-append (Asks name bound next) mid rest (Read n found ∷ es) es' g h =
     (g.0, Goes-append (next found) mid rest es es' g.1 h)
-Goes-append (Asks name next) mid rest (Device w t s answer ∷ es) es' g h = absurd g
+Goes-append (Asks name bound next) mid rest (Device w t s answer ∷ es) es' g h = absurd g
 Goes-append (Runs words test signature next) mid rest (Did d ∷ es) es' g h = absurd g
 Goes-append (Runs words test signature next) mid rest (Read n found ∷ es) es' g h = absurd g
 Goes-append (Runs words test signature next) mid rest (Device w t s answer ∷ es) es' g h =
@@ -41,10 +41,10 @@ Goes-then next (Ends end) q (e ∷ es) g = absurd g
 Goes-then next (Does deed p) q (Did d ∷ es) g = (g.0, Goes-then next p q es g.1)
 Goes-then next (Does deed p) q (Read n found ∷ es) g = absurd g
 Goes-then next (Does deed p) q (Device w t s answer ∷ es) g = absurd g
-Goes-then next (Asks name rest) q (Did d ∷ es) g = absurd g
-Goes-then next (Asks name rest) q (Read n found ∷ es) g =
+Goes-then next (Asks name bound rest) q (Did d ∷ es) g = absurd g
+Goes-then next (Asks name bound rest) q (Read n found ∷ es) g =
     (g.0, Goes-then next (rest found) q es g.1)
-Goes-then next (Asks name rest) q (Device w t s answer ∷ es) g = absurd g
+Goes-then next (Asks name bound rest) q (Device w t s answer ∷ es) g = absurd g
 Goes-then next (Runs words test signature rest) q (Did d ∷ es) g = absurd g
 Goes-then next (Runs words test signature rest) q (Read n found ∷ es) g = absurd g
 Goes-then next (Runs words test signature rest) q (Device w t s answer ∷ es) g =

@@ -1,6 +1,7 @@
 pub mod World
 pub mod Effect
 pub mod Plan
+pub mod Reads
 pub mod Performed
 pub mod Inputs
 pub mod Meets

@@ -16,7 +16,7 @@ abbrev pub performed : {A : Type 0} → Plan A → Files → List Answer → Lis
 performed (Ends end) files answers = []
 performed (Does deed plan) files answers =
     Did deed ∷ performed plan (files_after deed files) answers
-performed (Asks name next) files answers =
+performed (Asks name bound next) files answers =
     Read name (files name) ∷ performed (next (files name)) files answers
 performed (Runs words test signature next) files [] = []
 performed (Runs words test signature next) files (answer ∷ answers) =
@@ -27,7 +27,7 @@ performed (Runs words test signature next) files (answer ∷ answers) =
 abbrev pub end_of : {A : Type 0} → Plan A → Files → List Answer → Option (Result A Stop)
 end_of (Ends end) files answers = Some end
 end_of (Does deed plan) files answers = end_of plan (files_after deed files) answers
-end_of (Asks name next) files answers = end_of (next (files name)) files answers
+end_of (Asks name bound next) files answers = end_of (next (files name)) files answers
 end_of (Runs words test signature next) files [] = None
 end_of (Runs words test signature next) files (answer ∷ answers) =
     end_of (next answer) (with_left signature answer.left files) answers

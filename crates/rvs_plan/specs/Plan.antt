@@ -8,8 +8,9 @@ pub data Plan (A : Type 0) : Type 0 where
   Ends : Result A Stop → Plan A
   -- a deed, and then the rest
   Does : Deed → Plan A → Plan A
-  -- the named file is read, and then comes what follows from what is found
-  Asks : List ℕ → (Option (List ℕ) → Plan A) → Plan A
+  -- the named file is read, at most this many of its bytes, and then comes what follows from what
+  -- is found
+  Asks : List ℕ → ℕ → (Option (List ℕ) → Plan A) → Plan A
   -- a device is run, with these words, test file and signature file, and then comes what follows
   -- from its answer
   Runs : List (List ℕ) → List ℕ → List ℕ → (Answer → Plan A) → Plan A
@@ -32,7 +33,7 @@ infixl 10 ◌>>=◌
 abbrev pub ◌>>=◌ : {A B : Type 0} → Plan A → (A → Plan B) → Plan B
 Ends end >>= next = followed end next
 Does deed plan >>= next = Does deed (plan >>= next)
-Asks name rest >>= next = Asks name (λ found. rest found >>= next)
+Asks name bound rest >>= next = Asks name bound (λ found. rest found >>= next)
 Runs words test signature rest >>= next = Runs words test signature (λ answer. rest answer >>= next)
 
 -- puts these bytes to the output
@@ -54,9 +55,9 @@ Goes (Ends end) (effect ∷ effects) rest = ⊥
 Goes (Does deed plan) (Did d ∷ effects) rest = (deed ≡ d) × Goes plan effects rest
 Goes (Does deed plan) (Read name found ∷ effects) rest = ⊥
 Goes (Does deed plan) (Device words test signature answer ∷ effects) rest = ⊥
-Goes (Asks name next) (Read n found ∷ effects) rest = (name ≡ n) × Goes (next found) effects rest
-Goes (Asks name next) (Device words test signature answer ∷ effects) rest = ⊥
-Goes (Asks name next) (Did d ∷ effects) rest = ⊥
+Goes (Asks name bound next) (Read n found ∷ effects) rest = (name ≡ n) × Goes (next found) effects rest
+Goes (Asks name bound next) (Device words test signature answer ∷ effects) rest = ⊥
+Goes (Asks name bound next) (Did d ∷ effects) rest = ⊥
 Goes (Runs words test signature next) (Device w t s answer ∷ effects) rest =
     (words ≡ w) × (test ≡ t) × (signature ≡ s) × Goes (next answer) effects rest
 Goes (Runs words test signature next) (Read name found ∷ effects) rest = ⊥

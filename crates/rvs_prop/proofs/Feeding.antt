@@ -3,9 +3,9 @@ use Rattle.std.proofs.Common.{◌≡◌, ℕ, ◌+◌, ◌^◌, ◌<◌, true, L
 use Rattle.std.proofs.Common.{sym, ap, ◌∙◌, length, take, drop, arith, append_assoc, append-nil}
 use Rattle.std.proofs.Common.{length-append, ◌≤◌, ◌-◌}
 use Rattle.std.proofs.lemmas.List.{length-take-le, drop_at}
-use Rattle.rvs_base.specs.File.{TakesAtMost}
+use Rattle.rvs_base.specs.File.{ReadsAtMost}
 use Rattle.std.specs.Prelude.{is_some}
-use Rattle.rvs_base.specs.Host.{HostState, Files, Tells, ReadsOnly, Opens, Takes}
+use Rattle.rvs_base.specs.Host.{HostState, Files, Tells, ReadsOnly, IsUnread, Opens, Takes}
 use Rattle.rvs_count.proofs.Feeding.{both_read, inner, some_of, told_rest}
 use Rattle.rvs_prop.specs.State.{TrackState, state_of}
 use Rattle.rvs_prop.specs.Feeds.{Fed, FeedsFile, FeedsFront, IsLong}
@@ -38,6 +38,8 @@ pub record HasFed (name : List ℕ) (old now : HostState) (c c' : TrackState) : 
   pub opened : now.is_open ≡ true
   pub bytes : List ℕ
   pub fed : Fed c c' bytes
+  pub openings : now.openings ≤ old.openings + 1
+  pub taken : now.taken ≤ old.taken + length bytes
   pub within : length bytes ≤ 2 ^ 40 - c.fed
   pub rest : (files : Files) (r : List ℕ) → Tells old files → now.rest ≡ Some r
       → files name ≡ Some (bytes ++ r)
@@ -50,6 +52,8 @@ HasFed-start c q u o = record {
   opened = o.opened;
   bytes = [];
   fed = Fed-none c;
+  openings = omega (arith, o.counted);
+  taken = omega (arith, o.untaken);
   within = omega arith;
   rest = λ files r t e. o.at_start files r t.files e;
 }
@@ -78,6 +82,9 @@ HasFed-more {name} {buffer} {old} {now} {next} {c} {c'} {n} c'' h q u t f low = 
   opened = t.still_open;
   bytes = h.bytes ++ take n buffer;
   fed = Fed-more c c' c'' h.bytes (take n buffer) h.fed f;
+  openings = omega (arith, h.openings, t.unopened);
+  taken = omega (arith, h.taken, t.counted, length-append h.bytes (take n buffer),
+      length-take-le n buffer t.fits);
   within = omega (arith, h.fed.fed, f.fed, low, length-append h.bytes (take n buffer));
   rest = λ files r told e. file_is h q t files r told e
       ∙ ap (λ l. Some l) (sym (append_assoc h.bytes (take n buffer) r));
@@ -104,23 +111,22 @@ HasFed-front h = record {
       (o.0, inner file (h.bytes ++ o.0) (sym e ∙ h.rest files o.0 told o.1));
 }
 
--- what was fed and the piece behind it, of an open file
+-- what was fed and the piece behind it
 pub HasFed-most : {name buffer : List ℕ} {old now next : HostState} {c c' : TrackState}
-    {n most : ℕ} (h : HasFed name old now c c') → ReadsOnly now next → Takes buffer now next n
-    → length h.bytes + n ≤ most → TakesAtMost name most old next
-HasFed-most {name} {buffer} {old} {now} {next} {c} {c'} {n} h q t fits = record {
-  taken = λ files file told is opened.
-      let o = told_rest files (both_read h.reads q) told in
-      let front = h.bytes ++ take n buffer in
-      let whole : files name ≡ Some (front ++ o.0) = file_is h q t files o.0 told o.1
-      ∙ ap (λ l. Some l) (sym (append_assoc h.bytes (take n buffer) o.0)) in
-      let same : file ≡ front ++ o.0 = inner file (front ++ o.0) (sym is ∙ whole) in
-      let left : drop (length front) file ≡ o.0 = ap (drop (length front)) same
-      ∙ drop_at front o.0 (length front) refl in (
-        length front,
-        omega (arith, fits, length-append h.bytes (take n buffer), length-take-le n buffer t.fits),
-        o.1 ∙ ap (λ l. Some l) (sym left),
-      );
+    {n most : ℕ} (h : HasFed name old now c c') → Takes buffer now next n
+    → length h.bytes + n ≤ most → ReadsAtMost 1 most old next
+HasFed-most h t fits = record {
+  opened = omega (arith, h.openings, t.unopened);
+  taken = omega (arith, h.taken, t.counted, fits);
+}
+
+-- and then a call failed
+pub HasFed-failed : {name : List ℕ} {old now next : HostState} {c c' : TrackState} {most : ℕ}
+    (h : HasFed name old now c c') → IsUnread now next → length h.bytes ≤ most
+    → ReadsAtMost 1 most old next
+HasFed-failed h unread fits = record {
+  opened = omega (arith, h.openings, unread.openings);
+  taken = omega (arith, h.taken, unread.taken, fits);
 }
 
 -- one piece too much

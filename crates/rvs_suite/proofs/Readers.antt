@@ -8,7 +8,7 @@ use Rattle.rvs_plan.specs.declared.stop.Stop.{Stop}
 abbrev pub OnlyReads : {A : Type 0} → Plan A → Type 0
 OnlyReads (Ends end) = ⊤
 OnlyReads (Does deed plan) = ⊥
-OnlyReads (Asks name next) = (found : Option (List ℕ)) → OnlyReads (next found)
+OnlyReads (Asks name bound next) = (found : Option (List ℕ)) → OnlyReads (next found)
 OnlyReads (Runs words test signature next) = ⊥
 
 OnlyReads-followed : {A B : Type 0} (end : Result A Stop) (next : A → Plan B)
@@ -20,6 +20,6 @@ pub OnlyReads-then : {A B : Type 0} (plan : Plan A) (next : A → Plan B) → On
     → ((a : A) → OnlyReads (next a)) → OnlyReads (plan >>= next)
 OnlyReads-then (Ends end) next reads then = OnlyReads-followed end next then
 OnlyReads-then (Does deed plan) next reads then = absurd reads
-OnlyReads-then (Asks name rest) next reads then =
+OnlyReads-then (Asks name bound rest) next reads then =
     λ found. OnlyReads-then (rest found) next (reads found) then
 OnlyReads-then (Runs words test signature rest) next reads then = absurd reads

@@ -94,7 +94,7 @@ abbrev pub Spares : {A : Type 0} → List ℕ → Plan A → Type 0
 Spares other (Ends end) = ⊤
 Spares other (Does (Write name bytes) plan) = (other ≢ name) × Spares other plan
 Spares other (Does (Out bytes) plan) = Spares other plan
-Spares other (Asks name next) = (found : Option (List ℕ)) → Spares other (next found)
+Spares other (Asks name bound next) = (found : Option (List ℕ)) → Spares other (next found)
 Spares other (Runs words test signature next) =
     (other ≢ signature) × ((answer : Answer) → Spares other (next answer))
 
@@ -110,7 +110,7 @@ Spares-then other (Does (Write name bytes) plan) next spares rest_spares =
     (spares.0, Spares-then other plan next spares.1 rest_spares)
 Spares-then other (Does (Out bytes) plan) next spares rest_spares =
     Spares-then other plan next spares rest_spares
-Spares-then other (Asks name rest) next spares rest_spares =
+Spares-then other (Asks name bound rest) next spares rest_spares =
     λ found. Spares-then other (rest found) next (spares found) rest_spares
 Spares-then other (Runs words test signature rest) next spares rest_spares =
     (spares.0, λ answer. Spares-then other (rest answer) next (spares.1 answer) rest_spares)
@@ -139,10 +139,10 @@ spared other (Does (Out bytes) plan) rest (Did (Write n put) ∷ effects) c spar
 spared other (Does (Out bytes) plan) rest (Read n found ∷ effects) c spares goes = absurd goes
 spared other (Does (Out bytes) plan) rest (Device words test signature answer ∷ effects) c spares
     goes = absurd goes
-spared other (Asks name next) rest (Read n found ∷ effects) c spares goes =
+spared other (Asks name bound next) rest (Read n found ∷ effects) c spares goes =
     spared other (next found) rest effects c (spares found) goes.1
-spared other (Asks name next) rest (Did deed ∷ effects) c spares goes = absurd goes
-spared other (Asks name next) rest (Device words test signature answer ∷ effects) c spares goes =
+spared other (Asks name bound next) rest (Did deed ∷ effects) c spares goes = absurd goes
+spared other (Asks name bound next) rest (Device words test signature answer ∷ effects) c spares goes =
     absurd goes
 spared other (Runs words test signature next) rest (Device w t s answer ∷ effects) c spares goes =
     let k = spared other (next answer) rest effects (after_one (Device w t s answer) c)
@@ -156,7 +156,7 @@ spared other (Runs words test signature next) rest (Read name found ∷ effects)
 abbrev pub SparesOver : {A : Type 0} → Files → List ℕ → Plan A → Type 0
 SparesOver files other (Ends end) = ⊤
 SparesOver files other (Does deed plan) = Spares other (Does deed plan)
-SparesOver files other (Asks name next) = SparesOver files other (next (files name))
+SparesOver files other (Asks name bound next) = SparesOver files other (next (files name))
 SparesOver files other (Runs words test signature next) =
     Spares other (Runs words test signature next)
 
@@ -164,7 +164,7 @@ spares-over : {A : Type 0} (files : Files) (other : List ℕ) (plan : Plan A) �
     → SparesOver files other plan
 spares-over files other (Ends end) spares = tt
 spares-over files other (Does deed plan) spares = spares
-spares-over files other (Asks name next) spares =
+spares-over files other (Asks name bound next) spares =
     spares-over files other (next (files name)) (spares (files name))
 spares-over files other (Runs words test signature next) spares = spares
 
@@ -183,7 +183,7 @@ spares-found {A} files other (Ends end) next found is rest_spares =
     subst (λ (r : Result A Stop). SparesOver files other (followed r next)) (sym is)
     (spares-followed files other found next rest_spares)
 spares-found files other (Does deed plan) next found is rest_spares = absurd is
-spares-found files other (Asks name rest) next found is rest_spares =
+spares-found files other (Asks name bound rest) next found is rest_spares =
     spares-found files other (rest (files name)) next found is rest_spares
 spares-found files other (Runs words test signature rest) next found is rest_spares = absurd is
 
@@ -197,13 +197,13 @@ spared-over files other (Ends end) rest (effect ∷ effects) c told spares saw g
 spared-over files other (Does deed plan) rest (effect ∷ effects) c told spares saw goes =
     let k = spared other (Does deed plan) rest (effect ∷ effects) c spares goes in
     (k.0, spares-over files other rest k.1)
-spared-over {A} files other (Asks name next) rest (Read n found ∷ effects) c told spares saw goes =
+spared-over {A} files other (Asks name bound next) rest (Read n found ∷ effects) c told spares saw goes =
     let same : files name ≡ found = ap files goes.0 ∙ saw.0 files told in
     spared-over files other (next (files name)) rest effects c told spares saw.1
     (subst (λ (f : Option (List ℕ)). Goes (next f) effects rest) (sym same) goes.1)
-spared-over files other (Asks name next) rest (Did deed ∷ effects) c told spares saw goes =
+spared-over files other (Asks name bound next) rest (Did deed ∷ effects) c told spares saw goes =
     absurd goes
-spared-over files other (Asks name next) rest (Device words test signature answer ∷ effects) c told
+spared-over files other (Asks name bound next) rest (Device words test signature answer ∷ effects) c told
     spares saw goes = absurd goes
 spared-over files other (Runs words test signature next) rest (effect ∷ effects) c told spares saw
     goes =
@@ -227,7 +227,7 @@ halted files other plan old new (why.Refused text) told spares h =
 halted files other plan old new (why.NoFile name) told spares h =
     (reached files other plan (Ends (Err (why.NoFile name))) old new told spares h).0
 halted files other plan old new (why.CannotRead name) told spares h =
-    (reached files other plan (Asks name h.next) old new told spares h.reaches).0
+    (reached files other plan (Asks name bound h.next) old new told spares h.reaches).0
 halted files other plan old new (why.CannotWrite name) told spares h =
     let k = reached files other plan (Does (Write name h.0) h.1.rest) old h.1.before told spares
     h.1.reaches in

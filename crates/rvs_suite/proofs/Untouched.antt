@@ -61,7 +61,7 @@ abbrev pub NeverStops : {A : Type 0} → Plan A → Type 0
 NeverStops (Ends (Ok a)) = ⊤
 NeverStops (Ends (Err stop)) = ⊥
 NeverStops (Does deed plan) = NeverStops plan
-NeverStops (Asks name next) = (found : Option (List ℕ)) → NeverStops (next found)
+NeverStops (Asks name bound next) = (found : Option (List ℕ)) → NeverStops (next found)
 NeverStops (Runs words test signature next) = (answer : Answer) → NeverStops (next answer)
 
 -- where the plan stops, nothing was changed
@@ -78,11 +78,11 @@ goes-on (Does deed plan) [] stop never goes = cc
 goes-on (Does deed plan) (Did d ∷ effects) stop never goes = goes-on plan effects stop never goes.1
 goes-on (Does deed plan) (Read name found ∷ effects) stop never goes = goes
 goes-on (Does deed plan) (Device words test signature answer ∷ effects) stop never goes = goes
-goes-on (Asks name next) [] stop never goes = cc
-goes-on (Asks name next) (Read n found ∷ effects) stop never goes =
+goes-on (Asks name bound next) [] stop never goes = cc
+goes-on (Asks name bound next) (Read n found ∷ effects) stop never goes =
     goes-on (next found) effects stop (never found) goes.1
-goes-on (Asks name next) (Did deed ∷ effects) stop never goes = goes
-goes-on (Asks name next) (Device words test signature answer ∷ effects) stop never goes = goes
+goes-on (Asks name bound next) (Did deed ∷ effects) stop never goes = goes
+goes-on (Asks name bound next) (Device words test signature answer ∷ effects) stop never goes = goes
 goes-on (Runs words test signature next) [] stop never goes = cc
 goes-on (Runs words test signature next) (Device w t s answer ∷ effects) stop never goes =
     goes-on (next answer) effects stop (never answer) goes.3
@@ -106,12 +106,12 @@ untouched-then (Ends end) next reads each effects stop c goes =
     untouched-followed end next each effects stop c goes
 untouched-then (Does deed plan) next reads each effects stop c goes = absurd reads
 untouched-then (Runs words test signature rest) next reads each effects stop c goes = absurd reads
-untouched-then (Asks name rest) next reads each [] stop c goes = absurd cc
-untouched-then (Asks name rest) next reads each (Read n found ∷ effects) stop c goes =
+untouched-then (Asks name bound rest) next reads each [] stop c goes = absurd cc
+untouched-then (Asks name bound rest) next reads each (Read n found ∷ effects) stop c goes =
     untouched-then (rest found) next (reads found) each effects stop c goes.1
-untouched-then (Asks name rest) next reads each (Device words test signature answer ∷ effects) stop
+untouched-then (Asks name bound rest) next reads each (Device words test signature answer ∷ effects) stop
     c goes = absurd goes
-untouched-then (Asks name rest) next reads each (Did deed ∷ effects) stop c goes = absurd goes
+untouched-then (Asks name bound rest) next reads each (Did deed ∷ effects) stop c goes = absurd goes
 
 reads-signature : (name : List ℕ) → OnlyReads (comparing.signature name)
 reads-signature name = OnlyReads-then (input signature_limit name) (comparing.words name)
@@ -131,7 +131,7 @@ pub never-then : {A B : Type 0} (plan : Plan A) (next : A → Plan B) → NeverS
 never-then (Ends (Ok a)) next never each = each a
 never-then (Ends (Err stop)) next never each = absurd never
 never-then (Does deed plan) next never each = never-then plan next never each
-never-then (Asks name rest) next never each =
+never-then (Asks name bound rest) next never each =
     λ found. never-then (rest found) next (never found) each
 never-then (Runs words test signature rest) next never each =
     λ answer. never-then (rest answer) next (never answer) each
@@ -143,7 +143,7 @@ never-end (Ends (Ok a)) files answers stop never is = cc
 never-end (Ends (Err s)) files answers stop never is = never
 never-end (Does deed plan) files answers stop never is =
     never-end plan (files_after deed files) answers stop never is
-never-end (Asks name next) files answers stop never is =
+never-end (Asks name bound next) files answers stop never is =
     never-end (next (files name)) files answers stop (never (files name)) is
 never-end (Runs words test signature next) files [] stop never is = cc
 never-end (Runs words test signature next) files (answer ∷ answers) stop never is =

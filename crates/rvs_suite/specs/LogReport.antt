@@ -35,7 +35,8 @@ log_report_in report files isa names log =
 -- ---- as plans
 -- the log is read, and the report made
 abbrev pub reads_log : Reports → List ℕ → Inputs → Plan (List ℕ)
-reads_log report log inputs = Asks log (λ found. Ends (found_by report inputs.groups log found))
+reads_log report log inputs = Asks log log_bound
+    (λ found. Ends (found_by report inputs.groups log found))
 
 -- the ISA file and the group files are read and checked, and then the log is read
 abbrev pub log_reported : Reports → List ℕ → List (List ℕ) → List ℕ → Plan (List ℕ)

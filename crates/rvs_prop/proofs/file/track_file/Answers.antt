@@ -39,12 +39,12 @@ returns-then-count-eq0-clause-whole g c =
 
 pub returns-then-count-eq0-clause-at_most : goal.returns-then-count-eq0-clause-at_most
 returns-then-count-eq0-clause-at_most g c =
-    HasFed-most c.pieces.invariant c.take.ensures.reads_only c.in_ok-count.ensures.taken
+    HasFed-most c.pieces.invariant c.in_ok-count.ensures.taken
     (omega (arith, c.pieces.invariant.within, c.in_ok-count.ensures.taken.fits))
 
 pub returns-in_err-feed-clause-at_most : goal.returns-in_err-feed-clause-at_most
 returns-in_err-feed-clause-at_most g c =
-    HasFed-most c.pieces.invariant c.take.ensures.reads_only c.in_ok-count.ensures.taken
+    HasFed-most c.pieces.invariant c.in_ok-count.ensures.taken
     (omega (arith, c.pieces.invariant.within, c.in_ok-count.ensures.taken.fits))
 
 pub pieces-preserved : goal.pieces-preserved

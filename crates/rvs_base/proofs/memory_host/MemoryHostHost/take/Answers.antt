@@ -1,4 +1,4 @@
-use Rattle.std.proofs.Common.{◌≡◌, Some, ◌+◌, drop, get_or, [], refl, sym, ◌∙◌, ap, arith}
+use Rattle.std.proofs.Common.{◌≡◌, Some, ◌+◌, drop, get_or, [], refl, sym, ◌∙◌, ap, arith, rules}
 use Rattle.std.proofs.lemmas.List.{drop-drop}
 use Rattle.rvs_base.specs.Cursor.{rest_of}
 use Rattle.rvs_base.proofs.Telling.{takes}
@@ -20,4 +20,4 @@ returns-clause-taken c =
     (ap Some (sym now))
     (omega (arith, c.copy_front-count.ensures.count, c.copy_front-count.auto.to))
     (omega (arith, c.requires.room, c.copy_front-count.auto.to))
-    c.copy_front-count.ensures.front
+    c.copy_front-count.ensures.front (search rules) (search rules)
