@@ -1,5 +1,6 @@
 -- What every call of `compare` promises.
-use Rattle.std.proofs.Common.{◌≡◌, ℕ, List, length, Result, Ok, Err, refl, sym, ap, subst, ◌∙◌}
+use Rattle.std.proofs.Common.{◌≡◌, ◌+◌, ◌*◌, ℕ, List, length, Result, Ok, Err, refl, sym, ap}
+use Rattle.std.proofs.Common.{subst, ◌∙◌, arith}
 use Rattle.rvs_base.specs.Host.{Files}
 use Rattle.rvs_base.specs.Sink.{appended}
 use Rattle.rvs_plan.specs.Inputs.{input, part_end}
@@ -23,6 +24,7 @@ use Rattle.rvs_words.specs.declared.command.Command.TheVariants.{Compare}
 use Rattle.rvs_suite.proofs.Answered.{Works, RunsOn, answered}
 use Rattle.rvs_suite.proofs.Finding.{Finds}
 use Rattle.rvs_suite.proofs.GroupInputs.{finds-and_then}
+use Rattle.rvs_suite.proofs.Spending.{Spends, Spends-then, spent}
 use Rattle.rvs_suite.proofs.Keeping.{WritesNone, WritesNone-then, reads-none, keeps}
 use Rattle.rvs_suite.proofs.NormalPlan.{then-then, then-same}
 use Rattle.rvs_suite.proofs.Readers.{OnlyReads, OnlyReads-then}
@@ -112,11 +114,23 @@ writes-compare asked = subst WritesNone (sym (compare-plan asked))
     (WritesNone-then (both_words asked) announce_both
     (reads-none (both_words asked) (reads-both asked)) (λ both. tt))
 
+spends-signature : (name : List ℕ) → Spends 1 (signature_limit + 1) (signature name)
+spends-signature name = Spends-then (input signature_limit name) (words name) 1
+    (signature_limit + 1) 0 0 (omega arith, omega arith, λ found. tt) (λ bytes. tt)
+
+spends-compare : (asked : CompareArguments)
+    → Spends 2 (2 * (signature_limit + 1)) (compare asked)
+spends-compare asked = Spends-then (signature asked.left) (compare_right asked.right) 1
+    (signature_limit + 1) 1 (signature_limit + 1) (spends-signature asked.left)
+    (λ l. Spends-then (signature asked.right) (announce l) 1 (signature_limit + 1) 0 0
+    (spends-signature asked.right) (λ r. tt))
+
 pub compares : {call : Call} (files : Files) (asked : CompareArguments)
     → RunsOn call files (Compare asked) → comparing.Compares call files asked
 compares {call} files asked r = record {
   answered = answered (comparing.HasCompared call) r (works files asked)
       (λ both left. has_compared call both (verdict_on both) refl
       (ap (λ (c : Contents). c.out) left));
+  reads = spent 2 (2 * (signature_limit + 1)) r (spends-compare asked);
   files_kept = keeps r.ran files (Compare asked) r.told r.asks (writes-compare asked);
 }

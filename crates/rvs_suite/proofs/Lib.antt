@@ -10,6 +10,7 @@ mod Verdicts
 mod CompareEnds
 mod Untouched
 mod Keeping
+mod Spending
 mod Sparing
 mod Promises
 mod Finding

@@ -1,14 +1,17 @@
 -- Reading a log for a report: it only reads, and what it finds over given files.
-use Rattle.std.proofs.Common.{◌≡◌, ◌≤◌, ◌<◌, ℕ, Bool, List, length, nat_lt, Some, Result}
-use Rattle.std.proofs.Common.{Ok, Err, IfOk, if◌then◌else◌, refl, sym, ap, ◌∙◌}
+use Rattle.std.proofs.Common.{◌≡◌, ◌≤◌, ◌<◌, ◌+◌, ◌-◌, ℕ, Bool, List, length, nat_lt, Some, Result}
+use Rattle.std.proofs.Common.{Ok, Err, IfOk, if◌then◌else◌, refl, sym, ap, ◌∙◌, arith}
 use Rattle.std.proofs.lemmas.Bool.{lt-ltb, le-ltb, cond-true, cond-false}
-use Rattle.rvs_base.specs.Host.{Files}
+use Rattle.rvs_base.specs.Host.{Files, HostState}
+use Rattle.rvs_base.specs.File.{ReadsAtMost}
 use Rattle.rvs_plan.specs.Inputs.{too_long_text}
 use Rattle.rvs_plan.specs.declared.stop.Stop.{Stop}
 use Rattle.rvs_plan.specs.declared.stop.Stop.TheVariants.{Refused}
 use Rattle.rvs_cgf.specs.Groups.{Label}
 use Rattle.rvs_suite.specs.GroupFiles.{Inputs, and_then, inputs_in, group_inputs}
-use Rattle.rvs_suite.specs.LogReport.{Reports, log_limit, found_by, log_report_in, reads_log}
+use Rattle.rvs_log.specs.Lines.{log_limit}
+use Rattle.rvs_count.specs.Feeds.{piece_limit}
+use Rattle.rvs_suite.specs.LogReport.{Reports, log_bound, found_by, log_report_in, reads_log}
 use Rattle.rvs_suite.specs.LogReport.{log_reported}
 use Rattle.rvs_suite.proofs.Readers.{OnlyReads, OnlyReads-then}
 use Rattle.rvs_suite.proofs.Finding.{Finds}
@@ -60,3 +63,8 @@ pub IfOk-map : {A E : Type 0} {P Q : A → Type 0} (r : Result A E) → ((a : A)
     → IfOk r P → IfOk r Q
 IfOk-map (Ok a) f p = f a p
 IfOk-map (Err e) f p = tt
+
+-- what is left to a counter that was fed before is no more than what a new one takes of a log
+pub at_most-log : {old new : HostState} (fed : ℕ)
+    → ReadsAtMost 1 (log_limit - fed + piece_limit) old new → ReadsAtMost 1 log_bound old new
+at_most-log fed reads = record { opened = reads.opened; taken = omega (arith, reads.taken) }

@@ -56,6 +56,7 @@ pub planned-promise : {call : Call} → RanCall call → planned.Promise call
 planned-promise r files t =
     record {
       effects = (answers r.ran).effects files t;
+      reads = (answers r.ran).reading files t;
       answered = answered r.ran files t;
       completes = completes r.ran files t;
       untouched = untouched r.ran files t;

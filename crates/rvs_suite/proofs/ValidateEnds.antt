@@ -1,16 +1,19 @@
 -- What every call of `validate` promises.
-use Rattle.std.proofs.Common.{refl, ap}
+use Rattle.std.proofs.Common.{◌+◌, ℕ, List, refl, ap, arith}
 use Rattle.rvs_base.specs.Host.{Files}
 use Rattle.rvs_plan.specs.World.{Contents}
 use Rattle.rvs_plan.specs.declared.status.Finish.TheVariants as finish
 use Rattle.rvs_suite.specs.Answered.{OnDone}
 use Rattle.rvs_suite.specs.Call.{Call}
-use Rattle.rvs_suite.specs.Specification.{specification, said_in}
+use Rattle.rvs_plan.specs.Inputs.{input}
+use Rattle.rvs_suite.specs.Specification.{isa_limit, specification, said_in}
+use Rattle.rvs_suite.specs.Specification as spec
 use Rattle.rvs_suite.specs.Validate.{print_said, validate}
 use Rattle.rvs_suite.specs.Validating as validating
 use Rattle.rvs_words.specs.declared.command.Command.TheVariants.{Validate}
 use Rattle.rvs_suite.proofs.Answered.{Works, RunsOn, answered}
 use Rattle.rvs_suite.proofs.GroupInputs.{reads-specification, finds-specification}
+use Rattle.rvs_suite.proofs.Spending.{Spends, Spends-then, spent}
 use Rattle.rvs_suite.proofs.Keeping.{WritesNone, WritesNone-then, reads-none, keeps}
 use Rattle.rvs_words.specs.declared.command.ValidateArguments.{ValidateArguments}
 
@@ -29,10 +32,19 @@ writes-validate : (asked : ValidateArguments) → WritesNone (validate asked)
 writes-validate asked = WritesNone-then (specification asked.isa) print_said
     (reads-none (specification asked.isa) (reads-specification asked.isa)) (λ said. tt)
 
+spends-specification : (name : List ℕ) → Spends 1 (isa_limit + 1) (specification name)
+spends-specification name = Spends-then (input isa_limit name) (spec.checks name) 1
+    (isa_limit + 1) 0 0 (omega arith, omega arith, λ found. tt) (λ bytes. tt)
+
+spends-validate : (asked : ValidateArguments) → Spends 1 (isa_limit + 1) (validate asked)
+spends-validate asked = Spends-then (specification asked.isa) print_said 1 (isa_limit + 1) 0 0
+    (spends-specification asked.isa) (λ said. tt)
+
 pub checks : {call : Call} (files : Files) (asked : ValidateArguments)
     → RunsOn call files (Validate asked) → validating.Checks call files asked
 checks {call} files asked r = record {
   answered = answered (OnDone (validating.HasPrinted call)) r (works files asked)
       (λ said left. ap (λ (c : Contents). c.out) left);
+  reads = spent 1 (isa_limit + 1) r (spends-validate asked);
   files_kept = keeps r.ran files (Validate asked) r.told r.asks (writes-validate asked);
 }

@@ -14,7 +14,7 @@ use Rattle.rvs_count.specs.Report.{report_of}
 use Rattle.rvs_suite.specs.Answered.{Answered, OnDone}
 use Rattle.rvs_suite.specs.Call.{Call, Asks}
 use Rattle.rvs_suite.specs.Coverage.{report_in}
-use Rattle.rvs_suite.specs.LogReport.{log_limit}
+use Rattle.rvs_log.specs.Lines.{log_limit}
 use Rattle.rvs_suite.specs.GroupFiles.{Inputs, inputs_in}
 use Rattle.rvs_suite.specs.Halting.{BothHalt, HoldsOctets}
 use Rattle.rvs_suite.specs.declared.test_run.Run.{Run}

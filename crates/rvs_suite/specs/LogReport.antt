@@ -1,5 +1,5 @@
 -- Commands that put a report on an execution log, for an ISA file and group files.
-use Rattle.std.specs.Prelude.{ℕ, nat_lt, if◌then◌else◌, List, length, Option, Some, None}
+use Rattle.std.specs.Prelude.{ℕ, ◌+◌, nat_lt, if◌then◌else◌, List, length, Option, Some, None}
 use Rattle.std.specs.Prelude.{Result, Ok, Err}
 use Rattle.rvs_base.specs.Host.{Files}
 use Rattle.rvs_plan.specs.Plan.{Plan, Ends, Asks, ◌>>=◌}
@@ -7,11 +7,13 @@ use Rattle.rvs_plan.specs.Inputs.{too_long_text}
 use Rattle.rvs_plan.specs.declared.stop.Stop.{Stop}
 use Rattle.rvs_plan.specs.declared.stop.Stop.TheVariants.{Refused, NoFile}
 use Rattle.rvs_cgf.specs.Groups.{Label}
+use Rattle.rvs_log.specs.Lines.{log_limit}
+use Rattle.rvs_count.specs.Feeds.{piece_limit}
 use Rattle.rvs_suite.specs.GroupFiles.{Inputs, and_then, inputs_in, group_inputs}
 
--- a log has at most this many bytes: 2^40
-abbrev pub log_limit : ℕ
-log_limit = 1_099_511_627_776
+-- at most so many bytes of a log are taken: all that it may have, and the piece that passes that
+abbrev pub log_bound : ℕ
+log_bound = log_limit + piece_limit
 
 -- the report on the bytes of a log, for these groups
 abbrev pub Reports : Type 0
@@ -35,8 +37,8 @@ log_report_in report files isa names log =
 -- ---- as plans
 -- the log is read, and the report made
 abbrev pub reads_log : Reports → List ℕ → Inputs → Plan (List ℕ)
-reads_log report log inputs = Asks log log_bound
-    (λ found. Ends (found_by report inputs.groups log found))
+reads_log report log inputs =
+    Asks log log_bound (λ found. Ends (found_by report inputs.groups log found))
 
 -- the ISA file and the group files are read and checked, and then the log is read
 abbrev pub log_reported : Reports → List ℕ → List (List ℕ) → List ℕ → Plan (List ℕ)

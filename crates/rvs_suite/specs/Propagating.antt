@@ -16,7 +16,7 @@ use Rattle.rvs_suite.specs.Answered.{Answered, OnDone}
 use Rattle.rvs_suite.specs.Call.{Call, Asks}
 use Rattle.rvs_suite.specs.Covering.{HasReported}
 use Rattle.rvs_suite.specs.GroupFiles.{Inputs, inputs_in}
-use Rattle.rvs_suite.specs.LogReport.{log_limit}
+use Rattle.rvs_log.specs.Lines.{log_limit}
 use Rattle.rvs_suite.specs.Propagate.{report_in}
 use Rattle.rvs_words.specs.declared.command.Command.TheVariants.{Propagate}
 use Rattle.rvs_words.specs.declared.command.PropagateArguments.{PropagateArguments}
@@ -35,8 +35,7 @@ pub record Propagates (call : Call) (files : Files) (asked : PropagateArguments)
   -- fails, at the first file that isn't
   pub answered : Answered call (report_in files asked) (OnDone (HasReported call))
   -- the numbers of the report are those of the log: how many of the hits of each point of the
-  -- groups
-  -- reach the signature, how many hits there are, and how many instructions
+  -- groups reach the signature, how many hits there are, and how many instructions
   pub numbers : (inputs : Inputs) (bytes : List ℕ)
       → inputs_in files asked.isa asked.groups ≡ Ok inputs
       → IsLog files asked.log bytes → call.status ≡ Done

@@ -10,6 +10,7 @@ ghost use Rattle.rvs_base.specs.declared.asked.Window.{Window as Span};
 ghost use Rattle.rvs_suite.specs.GroupsView.{groups_view};
 ghost use Rattle.rvs_suite.specs.Coverage.{report_on, report_found, reported, coverage};
 ghost use Rattle.rvs_log.specs.Lines.{log_limit};
+ghost use Rattle.rvs_suite.specs.LogReport.{log_bound};
 
 use crate::group_files::read_inputs;
 use crate::printing::print_text;
@@ -65,7 +66,7 @@ fn count_named<H: Host>(
     asked: &CoverageArguments,
 ) -> Result<Text, Stop>
     ensures { (out : SinkState) → Meets
-        (Asks asked.now.log (λ found.
+        (Asks asked.now.log log_bound (λ found.
         Ends (report_found (groups_view groups.now) asked.now.windows asked.now.log found)))
         (world (H.state host.old) out) (world (H.state host.new) out) result }
 {
@@ -86,7 +87,8 @@ fn count_with<H: Host>(
     ensures { (out : SinkState) (groups : List Label) (windows : List Span)
         → counter.old ≡ state_of groups windows [] 0 → counter.new.fed ≤ log_limit
         → Meets
-        (Asks log.now (λ found. Ends (report_found (groups_view groups) windows log.now found)))
+        (Asks log.now log_bound (λ found. Ends
+        (report_found (groups_view groups) windows log.now found)))
         (world (H.state host.old) out) (world (H.state host.new) out) result }
 {
     let name = owned(alloc, log)?;

@@ -9,7 +9,7 @@ ghost use Rattle.rvs_count.specs.State.{ended};
 ghost use Rattle.rvs_prop.specs.State.{state_of};
 ghost use Rattle.rvs_base.specs.declared.asked.Window.{Window as Span};
 ghost use Rattle.rvs_suite.specs.GroupsView.{groups_view};
-ghost use Rattle.rvs_suite.specs.LogReport.{found_by};
+ghost use Rattle.rvs_suite.specs.LogReport.{log_bound, found_by};
 ghost use Rattle.rvs_suite.specs.Propagate.{report_on, reports, reported, propagate};
 ghost use Rattle.rvs_log.specs.Lines.{log_limit};
 
@@ -65,7 +65,7 @@ fn track_named<H: Host>(
     asked: &PropagateArguments,
 ) -> Result<Text, Stop>
     ensures { (out : SinkState) → Meets
-        (Asks asked.now.log (λ found. Ends
+        (Asks asked.now.log log_bound (λ found. Ends
         (found_by (reports asked.now.signature) (groups_view groups.now) asked.now.log found)))
         (world (H.state host.old) out) (world (H.state host.new) out) result }
 {
@@ -86,7 +86,8 @@ fn track_with<H: Host>(
     ensures { (out : SinkState) (groups : List Label) (range : Span)
         → tracker.old ≡ state_of groups range.lo range.hi [] 0 → tracker.new.fed ≤ log_limit
         → Meets
-        (Asks log.now (λ found. Ends (found_by (reports range) (groups_view groups) log.now found)))
+        (Asks log.now log_bound (λ found. Ends
+        (found_by (reports range) (groups_view groups) log.now found)))
         (world (H.state host.old) out) (world (H.state host.new) out) result }
 {
     let name = owned(alloc, log)?;

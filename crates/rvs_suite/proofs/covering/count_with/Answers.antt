@@ -4,15 +4,16 @@ use Rattle.rvs_plan.specs.World.{world}
 use Rattle.rvs_plan.specs.Inputs.{too_long_text}
 use Rattle.rvs_plan.proofs.Sequence.{Meets-no_memory}
 use Rattle.rvs_plan.proofs.Stepping.{asks-accepted, asks-refused, asks-absent, asks-failed}
-use Rattle.rvs_plan.proofs.Stepping.{reads-no_memory}
+use Rattle.rvs_plan.proofs.Stepping.{asks-no_memory}
 use Rattle.rvs_cgf.specs.declared.group.Label.{Label}
 use Rattle.rvs_count.specs.State.{CountState, state_of, ended}
 use Rattle.rvs_base.specs.declared.asked.Window.{Window as Span}
 use Rattle.rvs_count.proofs.Ends.{fed_of}
 use Rattle.rvs_suite.specs.GroupsView.{groups_view}
 use Rattle.rvs_suite.specs.Coverage.{reports, report_found}
-use Rattle.rvs_suite.specs.LogReport.{log_limit}
-use Rattle.rvs_suite.proofs.LogReads.{accepts-log, refuses-log}
+use Rattle.rvs_log.specs.Lines.{log_limit}
+use Rattle.rvs_suite.specs.LogReport.{log_bound}
+use Rattle.rvs_suite.proofs.LogReads.{accepts-log, refuses-log, at_most-log}
 use Rattle.rvs_suite.proofs.covering.count_with.Goals as goal
 
 pub returns-in_err-name : goal.returns-in_err-name
@@ -24,14 +25,16 @@ pub returns-in_err-report_at_end-in-Ok : goal.returns-in_err-report_at_end-in-Ok
 returns-in_err-report_at_end-in-Ok g c = λ out groups windows begun few.
     let p = err_from_is_err_and c.from_residual-in_err-report_at_end-in-Ok.result
     c.from_residual-in_err-report_at_end-in-Ok.ensures.1 in
-    rw (p.1, p.2) (reads-no_memory out _ c.in-Ok.ensures.reads_only c.in-Ok.ensures.unfaulted)
+    rw (p.1, p.2) (asks-no_memory out _ log_bound _ c.in-Ok.ensures.reads_only
+    c.in-Ok.ensures.unfaulted (at_most-log c.args.counter.now.fed c.in-Ok.ensures.at_most))
 
 pub returns-in_err-too_long-in-Err-TooLong : goal.returns-in_err-too_long-in-Err-TooLong
 returns-in_err-too_long-in-Err-TooLong g c = λ out groups windows begun few.
     let p = err_from_is_err_and c.from_residual-in_err-too_long-in-Err-TooLong.result
     c.from_residual-in_err-too_long-in-Err-TooLong.ensures.1 in
-    rw (p.1, p.2) (reads-no_memory out _ c.in-Err-TooLong.ensures.reads_only
-    (rw c.in-Err-TooLong.field-0-is at c.in-Err-TooLong.ensures.cause).1)
+    rw (p.1, p.2) (asks-no_memory out _ log_bound _ c.in-Err-TooLong.ensures.reads_only
+    (rw c.in-Err-TooLong.field-0-is at c.in-Err-TooLong.ensures.cause).1
+    (at_most-log c.args.counter.now.fed c.in-Err-TooLong.ensures.at_most))
 
 -- a log that was fed to a new counter isn't too long
 short : (groups : List Label) (windows : List Span) (bytes after : List ℕ) (c : CountState)
@@ -52,27 +55,29 @@ returns-in_ok-report_at_end-in-Ok g c = λ out groups windows begun few.
     (0 + length feeds.bytes) fed in
     let within = short groups windows feeds.bytes (ended feeds.bytes) c.report_at_end.new.counter
     at_end few in
-    asks-accepted out name (report_found (groups_view groups) windows name) feeds.bytes
+    asks-accepted out name log_bound (report_found (groups_view groups) windows name) feeds.bytes
     c.in_ok-report_at_end-in-Ok.field-0 c.in-Ok.ensures.reads_only feeds.whole
     (accepts-log (reports windows) (groups_view groups) name feeds.bytes
     c.in_ok-report_at_end-in-Ok.field-0 within text)
-    c.in-Ok.ensures.unfaulted
+    c.in-Ok.ensures.unfaulted (at_most-log c.args.counter.now.fed c.in-Ok.ensures.at_most)
 
 pub returns-in-Err-NoFile : goal.returns-in-Err-NoFile
 returns-in-Err-NoFile g c = λ out groups windows begun few.
     let name = c.args.log.now in
-    rw c.in_ok-name.ensures (asks-absent out name
+    rw c.in_ok-name.ensures (asks-absent out name log_bound
     (report_found (groups_view groups) windows name)
     c.in-Err-NoFile.ensures.reads_only
-    (rw c.in-Err-NoFile.field-0-is at c.in-Err-NoFile.ensures.cause).0 refl)
+    (rw c.in-Err-NoFile.field-0-is at c.in-Err-NoFile.ensures.cause).0 refl
+    (at_most-log c.args.counter.now.fed c.in-Err-NoFile.ensures.at_most))
 
 pub returns-in-Err-Failed : goal.returns-in-Err-Failed
 returns-in-Err-Failed g c = λ out groups windows begun few.
     let name = c.args.log.now in
-    rw c.in_ok-name.ensures (asks-failed out name
+    rw c.in_ok-name.ensures (asks-failed out name log_bound
     (report_found (groups_view groups) windows name)
     c.in-Err-Failed.ensures.reads_only
-    (rw c.in-Err-Failed.field-0-is at c.in-Err-Failed.ensures.cause))
+    (rw c.in-Err-Failed.field-0-is at c.in-Err-Failed.ensures.cause)
+    (at_most-log c.args.counter.now.fed c.in-Err-Failed.ensures.at_most))
 
 longer : (c : CountState) (bytes : List ℕ) → c.fed ≡ 0 → 2 ^ 40 < c.fed + length bytes
     → log_limit < length bytes
@@ -85,7 +90,7 @@ returns-in_ok-too_long-in-Err-TooLong g c = λ out groups windows begun few.
     let text : c.in_ok-too_long-in-Err-TooLong.field-0 ≡ too_long_text name log_limit =
     c.in_ok-too_long-in-Err-TooLong.ensures in
     let new = ap (λ (s : CountState). s.fed) begun ∙ fed_of groups windows [] 0 in
-    asks-refused out name (report_found (groups_view groups) windows name)
+    asks-refused out name log_bound (report_found (groups_view groups) windows name)
     c.in_ok-too_long-in-Err-TooLong.field-0 c.in-Err-TooLong.ensures.reads_only
     (λ files t. let long = cause.0.longer files t in (
       long.0,
@@ -93,4 +98,4 @@ returns-in_ok-too_long-in-Err-TooLong g c = λ out groups windows begun few.
       refuses-log (reports windows) (groups_view groups) name long.0
           c.in_ok-too_long-in-Err-TooLong.field-0
           (longer c.args.counter.now long.0 new long.2) text,
-    )) cause.1
+    )) cause.1 (at_most-log c.args.counter.now.fed c.in-Err-TooLong.ensures.at_most)

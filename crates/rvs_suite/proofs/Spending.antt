@@ -1,0 +1,92 @@
+-- Plans that read a few files at most.
+use Rattle.std.proofs.Common.{◌≡◌, ◌≤◌, ◌+◌, ◌-◌, ℕ, List, [], ◌∷◌, length, sum, Option, Result, Ok, Err}
+use Rattle.std.proofs.Common.{arith}
+use Rattle.std.specs.Prelude.{⊤}
+use Rattle.std.proofs.lemmas.List.Sums.{sum_by-cons}
+use Rattle.rvs_base.specs.File.{ReadsAtMost}
+use Rattle.rvs_base.specs.Host.{Files}
+use Rattle.rvs_plan.specs.Effect.{Answer, Effect, Read, Device, Did}
+use Rattle.rvs_plan.specs.Plan.{Plan, Ends, Does, Asks, Runs, Goes, followed, ◌>>=◌}
+use Rattle.rvs_plan.specs.Reads.{bounds_on, ReadsOnWay}
+use Rattle.rvs_plan.specs.declared.stop.Stop.{Stop}
+use Rattle.rvs_suite.specs.Call.{Call}
+use Rattle.rvs_suite.specs.Plans.{plan_of}
+use Rattle.rvs_words.specs.declared.command.Command.{Command}
+use Rattle.rvs_suite.proofs.Answered.{RunsOn, ran-command}
+use Rattle.rvs_suite.proofs.Running.{answers}
+
+-- a plan opens files this often at most, and takes this many of their bytes, all together
+abbrev pub Spends : {A : Type 0} → ℕ → ℕ → Plan A → Type 0
+Spends files bytes (Ends end) = ⊤
+Spends files bytes (Does deed plan) = Spends files bytes plan
+Spends files bytes (Asks name bound next) = (1 ≤ files) × (bound ≤ bytes)
+    × ((found : Option (List ℕ)) → Spends (files - 1) (bytes - bound) (next found))
+Spends files bytes (Runs words test signature next) =
+    (answer : Answer) → Spends files bytes (next answer)
+
+-- the same where more is granted
+more : {A : Type 0} (plan : Plan A) (n b n' b' : ℕ) → n ≤ n' → b ≤ b' → Spends n b plan
+    → Spends n' b' plan
+more (Ends end) n b n' b' few small s = tt
+more (Does deed plan) n b n' b' few small s = more plan n b n' b' few small s
+more (Asks name bound next) n b n' b' few small s = (
+  omega (arith, few, s.0),
+  omega (arith, small, s.1),
+  λ found. more (next found) (n - 1) (b - bound) (n' - 1) (b' - bound) (omega (arith, few))
+      (omega (arith, small)) (s.2 found),
+)
+more (Runs words test signature next) n b n' b' few small s =
+    λ answer. more (next answer) n b n' b' few small (s answer)
+
+spends-followed : {A B : Type 0} (end : Result A Stop) (next : A → Plan B) (n b : ℕ)
+    → ((a : A) → Spends n b (next a)) → Spends n b (followed end next)
+spends-followed (Ok a) next n b then = then a
+spends-followed (Err stop) next n b then = tt
+
+-- one plan, and what follows it
+pub Spends-then : {A B : Type 0} (plan : Plan A) (next : A → Plan B) (n b m c : ℕ)
+    → Spends n b plan → ((a : A) → Spends m c (next a)) → Spends (n + m) (b + c) (plan >>= next)
+Spends-then (Ends end) next n b m c s then = spends-followed end next (n + m) (b + c)
+    (λ a. more (next a) m c (n + m) (b + c) (omega arith) (omega arith) (then a))
+Spends-then (Does deed plan) next n b m c s then = Spends-then plan next n b m c s then
+Spends-then (Asks name bound rest) next n b m c s then = (
+  omega (arith, s.0),
+  omega (arith, s.1),
+  λ found. more (rest found >>= next) (n - 1 + m) (b - bound + c) (n + m - 1) (b + c - bound)
+      (omega (arith, s.0)) (omega (arith, s.1))
+      (Spends-then (rest found) next (n - 1) (b - bound) m c (s.2 found) then),
+)
+Spends-then (Runs words test signature rest) next n b m c s then =
+    λ answer. Spends-then (rest answer) next n b m c (s answer) then
+
+-- what is read on any way through such a plan
+on_way : {A : Type 0} (plan rest : Plan A) (effects : List Effect) (n b : ℕ) → Spends n b plan
+    → Goes plan effects rest
+    → (length (bounds_on plan effects) ≤ n) × (sum (bounds_on plan effects) ≤ b)
+on_way plan rest [] n b s goes = (omega arith, omega arith)
+on_way (Ends end) rest (e ∷ es) n b s goes = absurd goes
+on_way (Does deed plan) rest (Did d ∷ es) n b s goes = on_way plan rest es n b s goes.1
+on_way (Does deed plan) rest (Read name found ∷ es) n b s goes = absurd goes
+on_way (Does deed plan) rest (Device w t g answer ∷ es) n b s goes = absurd goes
+on_way (Asks name bound next) rest (Read m found ∷ es) n b s goes =
+    let less = on_way (next found) rest es (n - 1) (b - bound) (s.2 found) goes.1 in
+    let bounds = bounds_on (next found) es in
+    (omega (arith, less.0, s.0), omega (arith, less.1, s.1, sum_by-cons (λ (x : ℕ). x) bound bounds))
+on_way (Asks name bound next) rest (Device w t g answer ∷ es) n b s goes = absurd goes
+on_way (Asks name bound next) rest (Did d ∷ es) n b s goes = absurd goes
+on_way (Runs words test signature next) rest (Device w t g answer ∷ es) n b s goes =
+    on_way (next answer) rest es n b (s answer) goes.3
+on_way (Runs words test signature next) rest (Read name found ∷ es) n b s goes = absurd goes
+on_way (Runs words test signature next) rest (Did d ∷ es) n b s goes = absurd goes
+
+-- a call of a command whose plan is such
+pub spent : {call : Call} {files : Files} {command : Command} (n b : ℕ)
+    → RunsOn call files command → Spends n b (plan_of command)
+    → ReadsAtMost n b call.old.host call.new.host
+spent {call} {files} n b r s =
+    let way = (answers (ran-command r)).reading files r.told in
+    let bounds = on_way _ way.0 way.1.effects n b s way.1.goes in
+    record {
+      opened = omega (arith, bounds.0, way.1.reads.opened);
+      taken = omega (arith, bounds.1, way.1.reads.taken);
+    }
