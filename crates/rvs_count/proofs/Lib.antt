@@ -18,5 +18,6 @@ pub mod Shifts
 pub mod Sorting
 pub mod Streams
 pub mod Sums
+pub mod Taking
 pub mod Turned
 pub mod Wants

@@ -18,14 +18,14 @@ use Rattle.rvs_log.proofs.Ascii.{hex_length, padded_one, padded_two}
 use Rattle.rvs_log.proofs.Back.{reads_back}
 
 -- neither a line feed nor a carriage return
-abbrev ok : ℕ → Bool
+abbrev pub ok : ℕ → Bool
 ok b = not (b == 10) && not (b == 13)
 
-abbrev plain : List ℕ → Bool
+abbrev pub plain : List ℕ → Bool
 plain [] = true
 plain (b ∷ bs) = ok b && plain bs
 
-both : (a b : Bool) → (a && b) ≡ true → (a ≡ true) × (b ≡ true)
+pub both : (a b : Bool) → (a && b) ≡ true → (a ≡ true) × (b ≡ true)
 both true true h = (refl, refl)
 both true false h = cc
 both false b h = cc
@@ -35,12 +35,12 @@ and_true true true g h = refl
 and_true true false g h = h
 and_true false b g h = g
 
-neither : (a b : Bool) → (not a && not b) ≡ true → (a ≡ false) × (b ≡ false)
+pub neither : (a b : Bool) → (not a && not b) ≡ true → (a ≡ false) × (b ≡ false)
 neither true b h = cc
 neither false true h = cc
 neither false false h = (refl, refl)
 
-plain_join : (a b : List ℕ) → plain a ≡ true → plain b ≡ true → plain (a ++ b) ≡ true
+pub plain_join : (a b : List ℕ) → plain a ≡ true → plain b ≡ true → plain (a ++ b) ≡ true
 plain_join [] b g h = h
 plain_join (x ∷ a) b g h =
     and_true (ok x) (plain (a ++ b)) (both (ok x) (plain a) g).0
@@ -70,7 +70,7 @@ tail_plain front (b ∷ l) rest h =
     ]) (neither (b == 10) (b == 13) p.0).0
     ∙ tail_plain (front ++ b ∷ []) l rest p.1
 
-return_plain : (l : List ℕ) → plain l ≡ true → without_return l ≡ l
+pub return_plain : (l : List ℕ) → plain l ≡ true → without_return l ≡ l
 return_plain [] h = refl
 return_plain (b ∷ []) h =
     ap (λ t. cond t [] (b ∷ [])) (neither (b == 10) (b == 13) (both (ok b) true h).0).1
@@ -134,8 +134,13 @@ commit_plain (Some w) h =
     (padded w.reg) (codes " 0x" ++ hex_word_of w.value) (padded_plain w.reg h.0)
     (plain_join (codes " 0x") (hex_word_of w.value) refl (word_plain w.value)))
 
-commit_length : (w : Option Write) → IsSmall w → length (commit_text w) ≤ 15
-commit_length None h = omega arith
+-- how long the text of a commit is
+abbrev pub commit_size : Option Write → ℕ
+commit_size None = 0
+commit_size (Some w) = 15
+
+commit_length : (w : Option Write) → IsSmall w → length (commit_text w) ≡ commit_size w
+commit_length None h = refl
 commit_length (Some w) h =
     omega (
       arith,
@@ -148,7 +153,7 @@ commit_length (Some w) h =
       hex_length w.value,
     )
 
-line_plain : (e : Executed) → IsSmall e.commit → plain (line_of e) ≡ true
+pub line_plain : (e : Executed) → IsSmall e.commit → plain (line_of e) ≡ true
 line_plain e h =
     plain_join (codes "core   0: 3 0x") (hex_word_of e.pc
     ++ (codes " (0x" ++ (hex_word_of e.word ++ (codes ")" ++ commit_text e.commit)))) refl
@@ -159,7 +164,8 @@ line_plain e h =
     (plain_join (hex_word_of e.word) (codes ")" ++ commit_text e.commit) (word_plain e.word)
     (plain_join (codes ")") (commit_text e.commit) refl (commit_plain e.commit h)))))
 
-line_length : (e : Executed) → IsSmall e.commit → length (line_of e) ≤ 50
+pub line_length : (e : Executed) → IsSmall e.commit
+    → length (line_of e) ≡ 35 + commit_size e.commit
 line_length e h =
     omega (
       arith,
@@ -175,11 +181,18 @@ line_length e h =
       commit_length e.commit h,
     )
 
+short_commit : (w : Option Write) → commit_size w ≤ 15
+short_commit None = omega arith
+short_commit (Some w) = omega arith
+
+pub line_short : (e : Executed) → IsSmall e.commit → length (line_of e) ≤ 50
+line_short e h = omega (arith, line_length e h, short_commit e.commit)
+
 -- ---- the line, and the log
 line_reads : (e : Executed) → HasWords e → line_says (line_of e) ≡ Says e.pc e.word e.commit
 line_reads e h =
     ap (λ b. cond b (reading_of (without_return (line_of e))) Nothing)
-    (short (length (line_of e)) (line_length e h.commit))
+    (short (length (line_of e)) (line_short e h.commit))
     ∙ ap (λ l. reading_of l) (return_plain (line_of e) (line_plain e h.commit))
     ∙ reads_back e h.pc h.word h.commit
   where

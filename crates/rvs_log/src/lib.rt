@@ -15,4 +15,4 @@ pub use laws::{lines_differ, logs_read_back};
 pub use reading::{Line, Record, read_line};
 pub use registers::Registers;
 pub use view::{View, facts_of};
-pub use written::log_line;
+pub use written::{log_line, log_line_length, log_record};

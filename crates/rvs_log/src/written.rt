@@ -3,11 +3,14 @@ ghost use Rattle.std.specs.Prelude.{◌≡◌, ◌≤◌, ◌<◌, ◌+◌, ◌�
 ghost use Rattle.std.specs.Str.{IsAscii};
 ghost use Rattle.arrayvec.specs.ArrayString.{array_string_len};
 ghost use Rattle.rvs_base.specs.Number.{hex_word_of};
+ghost use Rattle.rvs_insn.specs.Fields.{insn_of_word};
 ghost use Rattle.rvs_log.specs.Written.{padded, commit_text, line_of, HasWords, IsSmall};
 ghost use Rattle.rvs_log.specs.Grammar.{reading_of, Says};
 
+use crate::reading::Record;
 use arrayvec::ArrayString;
 use rvs_base::hex_word;
+use rvs_insn::decode;
 use rvs_machine::{Commit, Executed};
 
 /// Adds ASCII text.
@@ -79,6 +82,15 @@ fn is_small(commit: Option<Commit>)
     }
 }
 
+/// What the numbers of an executed instruction are by their types. It reads them, and does nothing.
+fn are_words(e: &Executed)
+    ensures { HasWords e.now }
+{
+    let _pc = e.pc;
+    let _word = e.word;
+    is_small(e.commit);
+}
+
 /// The line as it is written.
 fn line(e: &Executed) -> ArrayString<64>
     ensures { result.bytes ≡ line_of e.now }
@@ -95,6 +107,34 @@ fn line(e: &Executed) -> ArrayString<64>
     line
 }
 
+/// What the line of an executed instruction says, as [`read_line`](crate::read_line) says it of
+/// [`log_line`], without writing it: the record has no line.
+pub fn log_record(e: &Executed) -> Record<'static>
+    ensures said { reading_of (line_of e.now) ≡ Says result.pc result.word result.commit }
+    ensures decoded { result.insn ≡ insn_of_word result.word }
+    ensures words { HasWords e.now }
+{
+    are_words(e);
+    Record {
+        line: b"",
+        pc: e.pc,
+        word: e.word,
+        insn: decode(e.word),
+        commit: e.commit,
+    }
+}
+
+/// How long the line of an executed instruction is, without its line feed.
+pub fn log_line_length(e: &Executed) -> u64
+    ensures { result ≡ length (line_of e.now) }
+{
+    is_small(e.commit);
+    match e.commit {
+        None => 35,
+        Some(_) => 50,
+    }
+}
+
 /// The line of an executed instruction in a log, without its line feed: its address and its word,
 /// and what it wrote to its register. It takes no memory.
 #[tactic(auto, using(crate::proofs::Back::reads_back))]
@@ -103,8 +143,6 @@ pub fn log_line(e: &Executed) -> ArrayString<64>
     ensures back { reading_of result.bytes ≡ Says e.now.pc e.now.word e.now.commit }
     ensures words { HasWords e.now }
 {
-    let _pc = e.pc;
-    let _word = e.word;
-    is_small(e.commit);
+    are_words(e);
     line(e)
 }

@@ -6,7 +6,8 @@ use Rattle.std.specs.Prelude.{OnErr}
 use Rattle.rvs_count.specs.Feeds.{Fed, FeedsFront}
 use Rattle.rvs_count.specs.State.{CountState}
 use Rattle.rvs_count.proofs.Feeding.{HasFed-start, HasFed-more, HasFed-whole, HasFed-front}
-use Rattle.rvs_count.proofs.Feeding.{HasFed-long, HasFed-most}
+use Rattle.rvs_count.proofs.Feeding.{HasFed-long}
+use Rattle.rvs_count.proofs.Taking.{HasTaken-most, HasTaken-failed}
 use Rattle.rvs_count.proofs.file.count_file.Goals as goal
 
 on_err : {T E : Type 0} (r : Result T E) (P : Type 0) → P → OnErr r P
@@ -33,18 +34,23 @@ returns-in_err-count-clause-front g c =
     c.pieces.counter)
     (HasFed-front c.pieces.invariant)
 
+pub returns-in_err-count-clause-at_most : goal.returns-in_err-count-clause-at_most
+returns-in_err-count-clause-at_most g c =
+    HasTaken-failed c.pieces.invariant.took c.take.ensures.unread
+    (omega (arith, c.pieces.invariant.within))
+
 pub returns-then-count-eq0-clause-whole : goal.returns-then-count-eq0-clause-whole
 returns-then-count-eq0-clause-whole g c =
     HasFed-whole c.pieces.invariant c.in_ok-count.ensures.taken c.if-count-eq0.true
 
 pub returns-then-count-eq0-clause-at_most : goal.returns-then-count-eq0-clause-at_most
 returns-then-count-eq0-clause-at_most g c =
-    HasFed-most c.pieces.invariant c.in_ok-count.ensures.taken
+    HasTaken-most c.pieces.invariant.took c.in_ok-count.ensures.taken
     (omega (arith, c.pieces.invariant.within, c.in_ok-count.ensures.taken.fits))
 
 pub returns-in_err-feed-clause-at_most : goal.returns-in_err-feed-clause-at_most
 returns-in_err-feed-clause-at_most g c =
-    HasFed-most c.pieces.invariant c.in_ok-count.ensures.taken
+    HasTaken-most c.pieces.invariant.took c.in_ok-count.ensures.taken
     (omega (arith, c.pieces.invariant.within, c.in_ok-count.ensures.taken.fits))
 
 pub pieces-preserved : goal.pieces-preserved
@@ -72,4 +78,4 @@ returns-in_err-feed-clause-cause g c =
     let P : List ℕ → Type 0 = λ l. 2 ^ 40 < c.pieces.counter.fed + length l in
     let long = HasFed-long c.pieces.invariant c.take.ensures.reads_only c.in_ok-count.ensures.taken
     (subst P c.front_of.ensures (c.in_err-feed.ensures.too_long.0 refl)) in
-    rw (p.1, p.2) (long, c.in_ok-count.ensures.unfaulted ∙ c.pieces.invariant.unfaulted)
+    rw (p.1, p.2) (long, c.in_ok-count.ensures.unfaulted ∙ c.pieces.invariant.took.unfaulted)
