@@ -17,6 +17,12 @@ no_line : reading_of [] ≡ Nothing
 unfolding reading_of after_core after_brackets write_line
 no_line = refl
 
+-- no line is open in a log that hasn't begun
+pub none_waits : (labels : List Label) (windows : List Window)
+    → (state_of labels windows [] 0).waiting ≡ Some []
+unfolding state_of
+none_waits labels windows = refl
+
 nothing_more : (labels : List Label) (windows : List Window) (bytes : List ℕ) (n : ℕ)
     → tail_of bytes ≡ []
     → with_end (state_of labels windows bytes n) ≡ state_of labels windows bytes n

@@ -4,6 +4,7 @@ pub mod Cells
 pub mod Counts
 pub mod Crossing
 pub mod Ends
+pub mod Executing
 pub mod Feeding
 pub mod Hitting
 pub mod Lengths

@@ -1,19 +1,21 @@
 // Counting while a log comes.
-ghost use Rattle.std.specs.Prelude.{◌≡◌, ◌<◌, ◌≤◌, ◌+◌, ◌^◌, ◌↔◌, ℕ, List, Some, [], ◌++◌};
+ghost use Rattle.std.specs.Prelude.{◌≡◌, ◌<◌, ◌≤◌, ◌+◌, ◌^◌, ◌↔◌, ℕ, List, Some, [], ◌∷◌, ◌++◌};
 ghost use Rattle.std.specs.Prelude.{IfOk, IsErr, OnOk, OnErr, drop, length, map};
 ghost use Rattle.rvs_cgf.specs.GroupView.{label_view};
 ghost use Rattle.rvs_cgf.specs.declared.group.Label.{Label as Group};
 ghost use Rattle.rvs_count.specs.Bounds.{waiting_len};
 ghost use Rattle.rvs_base.specs.declared.asked.Window.{Window as Span};
+ghost use Rattle.rvs_count.specs.Feeds.{Fed};
 ghost use Rattle.rvs_count.specs.Report.{report_of};
 ghost use Rattle.rvs_count.specs.State.{ended, state_of, state_with, with_all, with_reading};
-ghost use Rattle.rvs_log.specs.Lines.{held_says};
-ghost use Rattle.rvs_log.specs.Lines.{log_limit};
+ghost use Rattle.rvs_log.specs.Lines.{held_says, log_limit};
+ghost use Rattle.rvs_log.specs.Written.{line_of};
 
 use crate::tally::Tally;
 use rvs_base::{Items, NoMemory, Text, Window};
 use rvs_cgf::Groups;
-use rvs_log::Follow;
+use rvs_log::{Follow, log_line_length};
+use rvs_machine::Executed;
 use std::alloc::Global;
 use std::marker::Model;
 
@@ -132,6 +134,19 @@ impl<'g> Counter<'g> {
         take_all(&mut self.tally, &mut self.follow, piece);
         self.fed += piece.len() as u64;
         Ok(())
+    }
+
+    /// Takes the line of an executed instruction and its line feed, as [`Counter::feed`] takes their
+    /// bytes, without writing them. No line is open before it, nor after it. It takes no memory.
+    pub fn feed_executed(&mut self, executed: &Executed)
+        requires begun { self.old.waiting ≡ Some [] }
+        requires few { self.old.fed + 51 ≤ log_limit }
+        ensures fed { Fed self.old self.new (line_of executed.now ++ 10 ∷ []) }
+        ensures low { self.new.fed ≤ self.old.fed + 51 }
+        ensures begun { self.new.waiting ≡ Some [] }
+    {
+        self.tally.take_executed(executed);
+        self.fed += log_line_length(executed) + 1;
     }
 
     /// Takes the bytes after the last line feed as a line, where there are any; the next bytes

@@ -1,6 +1,6 @@
 -- What a run logs, step by step, and what a counter was fed of it.
 use Rattle.std.proofs.Common.{◌≡◌, ℕ, suc, ◌+◌, ◌-◌, ◌*◌, ◌<◌, ◌≤◌, true, false, List, [], ◌∷◌}
-use Rattle.std.proofs.Common.{◌++◌, refl, sym, ap, subst, ◌∙◌, append_assoc, append-nil, arith}
+use Rattle.std.proofs.Common.{◌++◌, Some, refl, sym, ap, subst, ◌∙◌, append_assoc, append-nil, arith}
 use Rattle.rvs_machine.specs.declared.event.Event.{Event}
 use Rattle.rvs_machine.specs.declared.event.Event.TheVariants.{Ran, Halted, Trapped}
 use Rattle.rvs_machine.specs.Machine.{Setup, State, Whole, step_of}
@@ -51,23 +51,26 @@ pub record Running (limit i : ℕ) (first now : Whole) (old new : CountState) : 
   pub fed : Fed old new done
   pub log : log_from first.setup limit first.state
       ≡ done ++ log_from now.setup (limit - i) now.state
-  pub low : new.fed ≤ old.fed + 65 * i
+  pub low : new.fed ≤ old.fed + 51 * i
+  pub begun : new.waiting ≡ Some []
 
-pub Running-start : (limit : ℕ) (m : Whole) (c : CountState) → Running limit 0 m m c c
-Running-start limit m c =
+pub Running-start : (limit : ℕ) (m : Whole) (c : CountState) → c.waiting ≡ Some []
+    → Running limit 0 m m c c
+Running-start limit m c begun =
     let e : limit ≡ limit - 0 = omega arith in
     record {
       done = [];
       fed = Fed-none c;
       log = ap (λ n. log_from m.setup n m.state) e;
       low = omega arith;
+      begun = begun;
     }
 
 pub Running-more : (limit i : ℕ) (first now next : Whole) (old mid new : CountState) → i < limit
     → Running limit i first now old mid → goes_on (step_of now.setup now.state).0 ≡ true
-    → next ≡ stepped now → Fed mid new (piece_of now.setup now.state) → new.fed ≤ mid.fed + 65
-    → Running limit (i + 1) first next old new
-Running-more limit i first now next old mid new less r goes is fed low =
+    → next ≡ stepped now → Fed mid new (piece_of now.setup now.state) → new.fed ≤ mid.fed + 51
+    → new.waiting ≡ Some [] → Running limit (i + 1) first next old new
+Running-more limit i first now next old mid new less r goes is fed low begun =
     let left = limit - (i + 1) in
     let e : limit - i ≡ suc left = omega arith in
     let piece = piece_of now.setup now.state in
@@ -83,6 +86,7 @@ Running-more limit i first now next old mid new less r goes is fed low =
           ∙ ap (λ l. r.done ++ l) (log_goes now.setup left now.state goes)
           ∙ sym (append_assoc r.done piece rest);
       low = omega (arith, r.low);
+      begun = begun;
     })
 
 -- all of it, where the run ends before its limit

@@ -5,10 +5,14 @@ use Rattle.rvs_demo.proofs.Running.{Running-start, Running-more, Running-stops}
 use Rattle.rvs_demo.proofs.counting.count_run.Goals as goal
 
 pub loop-init : goal.loop-init
-loop-init c = Running-start c.args.limit c.args.machine.now c.args.counter.now
+loop-init c =
+    Running-start c.args.limit c.args.machine.now c.args.counter.now c.requires.begun
 
-pub count_step-requires : goal.count_step-requires
-count_step-requires c = omega (arith, c.loop.invariant.low, c.requires)
+pub count_step-requires-begun : goal.count_step-requires-begun
+count_step-requires-begun c = c.loop.invariant.begun
+
+pub count_step-requires-few : goal.count_step-requires-few
+count_step-requires-few c = omega (arith, c.loop.invariant.low, c.requires.few)
 
 pub returns-then-not-count_step : goal.returns-then-not-count_step
 returns-then-not-count_step c =
@@ -25,4 +29,4 @@ loop-preserved c =
     Running-more c.args.limit c.loop.counter2 c.args.machine.now c.loop.machine
     c.count_step.new.machine c.args.counter.now c.loop.counter c.count_step.new.counter
     c.loop-test.true c.loop.invariant goes c.count_step.ensures.machine
-    c.count_step.ensures.counted c.count_step.ensures.low
+    c.count_step.ensures.counted c.count_step.ensures.low c.count_step.ensures.begun

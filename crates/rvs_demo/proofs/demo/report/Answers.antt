@@ -1,7 +1,7 @@
 use Rattle.std.proofs.Common.{◌≡◌, [], Result, Ok, Err, IfOk, ap, ◌∙◌, arith}
 use Rattle.rvs_machine.specs.Machine.{started}
 use Rattle.rvs_count.specs.State.{CountState}
-use Rattle.rvs_count.proofs.Ends.{fed_of}
+use Rattle.rvs_count.proofs.Ends.{fed_of, none_waits}
 use Rattle.rvs_demo.specs.Program.{core, image}
 use Rattle.rvs_demo.proofs.Reported.{fed_report}
 use Rattle.rvs_demo.proofs.demo.report.Goals as goal
@@ -11,8 +11,13 @@ IfOk-map : {A E : Type 0} {P Q : A → Type 0} (r : Result A E)
 IfOk-map (Ok a) f p = f a p
 IfOk-map (Err e) f p = tt
 
-pub count_run-requires : goal.count_run-requires
-count_run-requires c =
+pub count_run-requires-begun : goal.count_run-requires-begun
+count_run-requires-begun c =
+    ap (λ (s : CountState). s.waiting) c.in_ok-counter.ensures
+    ∙ none_waits c.in_ok-groups.groups c.new.result
+
+pub count_run-requires-few : goal.count_run-requires-few
+count_run-requires-few c =
     let none : c.in_ok-counter.counter.fed ≡ 0 =
     ap (λ (s : CountState). s.fed) c.in_ok-counter.ensures
     ∙ fed_of c.in_ok-groups.groups c.new.result [] 0 in
