@@ -6,8 +6,8 @@ answered, seconds of the processor (the better of two runs), megabytes.
 usage: hostile.py PROGRAM FOLDER [NAME ..]
 
 FOLDER is made, and keeps the last input. SCALE=0.01 makes all of them smaller."""
+import itertools
 import os
-import random
 import re
 import subprocess
 import sys
@@ -129,25 +129,11 @@ def long_line(scale):
 
 
 def alike(scale):
-    """Labels that the assembler's table takes for one: their first 24 characters lead its hash,
-    which has no key, to 0 whatever follows."""
-    word = 1 << 64
-    multiplier, start = 0x9E3779B97F4A7C15, 0x243F6A8885A308D3
-    letters = b"ABCDEFGHIJKLMNOPQRSTUVWXYZabcdefghijklmnopqrstuvwxyz0123456789_.$"
-    rng = random.Random(1)
-    while True:
-        first = bytes([rng.choice(letters[:52])] + [rng.choice(letters) for _ in range(15)])
-        left = int.from_bytes(first[:8], "little") ^ (start + 32) % word
-        product = left * (int.from_bytes(first[8:], "little") ^ multiplier)
-        state = (product % word ^ product // word).to_bytes(8, "little")
-        if all(byte in letters for byte in state):
-            break
-    front = (first + state).decode()
-    put("t.S", [f"{front}{k:08d}:\n" for k in range(int(ALIKE * scale))] + [END])
+    """A text of labels that differ in their last characters alone, so that a look-up compares them
+    from end to end, and that come in no order, so that it finds none of them close by."""
+    labels = ("l" * 24 + "%08d:\n" % (61803399 * k % 100000000) for k in itertools.count())
+    put("t.S", filled(int(MOST * scale), labels, END))
     return REFERENCE
-
-
-ALIKE = int(os.environ.get("ALIKE", "8000"))
 
 
 def far(scale):

@@ -1,6 +1,7 @@
 -- Symbols with what they mark, in the order of their lines.
 use Rattle.std.specs.Prelude.{ℕ, Bool, Option, Some, None, is_some, List, [], ◌∷◌, if◌then◌else◌}
-use Rattle.std.specs.Prelude.{map}
+use Rattle.std.specs.Prelude.{◌≡◌, map, String, string_bytes}
+use Rattle.std.specs.BTreeMap.{BTreeMap, get_by_text}
 use Rattle.std.specs.Str.{bytes_eq}
 use Rattle.rvs_machine.specs.declared.symbol.Symbol.{Symbol}
 use Rattle.rvs_asm.specs.declared.mark.Mark.{Mark}
@@ -30,3 +31,11 @@ symbol s = record { name = s.0; at = s.1.at }
 -- the symbols of an image
 abbrev pub symbols_of : Table → List Symbol
 symbols_of ss = map symbol ss
+
+-- symbols as they are kept
+abbrev pub listed : {A : Type 0} → List (String A × Mark) → Table
+listed es = map (λ e. (string_bytes e.0, e.1)) es
+
+-- a look-up in a map finds what a walk along the symbols does
+abbrev pub Finds : {A : Type 0} → BTreeMap (String A) Mark → Table → Type 0
+Finds marks ss = (name : List ℕ) → get_by_text marks name ≡ find_mark ss name

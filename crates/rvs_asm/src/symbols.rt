@@ -1,29 +1,32 @@
 // Symbols and what they mark.
-ghost use Rattle.std.specs.Prelude.{◌≡◌, [], ◌∷◌, ◌++◌, ◌+◌, Some, None, length, drop, slice_get};
-ghost use Rattle.std.specs.Prelude.{OnOk, OnErr, IfOk, MatchOption};
+ghost use Rattle.std.specs.Prelude.{◌≡◌, [], ◌∷◌, ◌++◌, None, OnOk, OnErr, IfOk};
 ghost use Rattle.rvs_asm.specs.Symbols.{find_mark, symbols_of};
 
 use crate::mark::Mark;
-use indexmap::IndexMap;
 use rvs_base::{Items, NoMemory, Text};
 use rvs_machine::Symbol;
 use std::alloc::Global;
+use std::collections::BTreeMap;
 use std::marker::Model;
 
 /// The symbols of a text. Contracts see them as a list of names with what they mark, in the order
 /// in which they were added; a look-up doesn't walk that list.
 #[derive(Drop)]
 pub struct Symbols {
-    table: IndexMap<String, Mark>,
+    in_order: Vec<(String, Mark)>,
+    by_name: BTreeMap<String, Mark>,
 }
 
 impl Model for Symbols {
-    ghost use Rattle.std.specs.Prelude.{List, ℕ, map, string_bytes};
+    ghost use Rattle.std.specs.Prelude.{List, ℕ};
     ghost use Rattle.rvs_asm.specs.declared.mark.Mark.{Mark};
+    ghost use Rattle.rvs_asm.specs.Symbols.{listed, Finds};
 
     ghost Value = { List (List ℕ × Mark) };
 
-    ghost view = { λ s. map (λ e. (string_bytes e.0, e.1)) s.table.entries };
+    ghost view = { λ s. listed s.in_order.items };
+
+    ghost invariant = { λ s. Finds s.by_name (listed s.in_order.items) };
 }
 
 impl Symbols {
@@ -32,7 +35,8 @@ impl Symbols {
         ensures { result ≡ [] }
     {
         Symbols {
-            table: IndexMap::new(alloc),
+            in_order: Vec::new(alloc),
+            by_name: BTreeMap::new(alloc),
         }
     }
 
@@ -40,7 +44,7 @@ impl Symbols {
     pub fn get(&self, name: &str) -> Option<Mark>
         ensures { result ≡ find_mark self.now name.now }
     {
-        self.table.get(name).copied()
+        self.by_name.get(name).copied()
     }
 
     /// Adds a symbol at the end.
@@ -53,27 +57,13 @@ impl Symbols {
         ensures added { OnOk result (self.new ≡ self.old ++ (name.now, mark) ∷ []) }
         ensures unchanged { OnErr result (self.new ≡ self.old) }
     {
+        let key = String::from_str(alloc, name)?;
         let name = String::from_str(alloc, name)?;
-        self.table.insert(name, mark)?;
+        // Nothing can fail once the name can be found.
+        self.in_order.reserve(1)?;
+        self.by_name.insert(key, mark)?;
+        self.in_order.push_reserved((name, mark));
         Ok(())
-    }
-
-    /// How many symbols there are.
-    fn len(&self) -> usize
-        ensures { result ≡ length self.now }
-    {
-        self.table.len()
-    }
-
-    /// The symbol with this number, from 0, and what it marks.
-    fn at(&self, index: usize) -> Option<(&str, Mark)>
-        ensures { MatchOption result (slice_get self.now index ≡ None)
-            (λ s. slice_get self.now index ≡ Some (s.0.now, s.1)) }
-    {
-        match self.table.get_index(index) {
-            Some((name, mark)) => Some((name.as_str(), *mark)),
-            None => None,
-        }
     }
 
     /// The symbols of an image.
@@ -85,29 +75,10 @@ impl Symbols {
         ensures { IfOk result (λ items. items ≡ symbols_of self.now) }
     {
         let mut items = Items::new(alloc);
-        for index in 0..self.len() {
-            self.push_to(alloc, index, &mut items)?;
+        for (name, mark) in &self.in_order {
+            items.push(image_symbol(alloc, name.as_str(), mark.at)?)?;
         }
         Ok(items)
-    }
-
-    /// Adds the symbol with this number to those of an image.
-    fn push_to(
-        &self,
-        alloc: Global,
-        index: usize,
-        items: &mut Items<Symbol>,
-    ) -> Result<(), NoMemory>
-        ensures { OnOk result (items.old ++ symbols_of (drop index self.now) ≡ items.new
-            ++ symbols_of (drop (index + 1) self.now)) }
-    {
-        match self.at(index) {
-            Some((name, mark)) => {
-                items.push(image_symbol(alloc, name, mark.at)?)?;
-                Ok(())
-            },
-            None => Ok(()),
-        }
     }
 }
 

@@ -1,6 +1,6 @@
-use Rattle.std.proofs.Common.{◌≡◌, ◌++◌, drop}
-use Rattle.rvs_asm.specs.Symbols.{symbols_of}
+use Rattle.std.proofs.Common.{◌≡◌, take}
+use Rattle.rvs_asm.specs.Symbols.{symbols_of, listed}
 use Rattle.rvs_asm.proofs.symbols.Symbols.to_items.Given as goal
 
-abbrev pub invariant-loop-index : goal.invariant-loop-index
-invariant-loop-index l = symbols_of l.self ≡ l.items ++ symbols_of (drop l.index l.self)
+abbrev pub invariant-loop-name : goal.invariant-loop-name
+invariant-loop-name l = l.items ≡ symbols_of (listed (take l.name-index l.name-items))
