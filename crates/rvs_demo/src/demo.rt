@@ -35,9 +35,9 @@ fn report(alloc: Global, count: u64) -> Result<Text, NoMemory>
     counter.report(alloc)
 }
 
-/// Runs the program with so many generated instructions, and counts its coverage: the lines of its
-/// log are counted as they come, and neither the log nor the run is kept. It takes four bytes of
-/// memory for each instruction.
+/// Runs the program with so many generated instructions, and counts its coverage: what is executed
+/// is counted as it comes, as the lines of a log would be, and neither a log nor the run is kept. It
+/// takes four bytes of memory for each instruction.
 ///
 /// # Errors
 ///
