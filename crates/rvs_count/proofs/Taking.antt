@@ -59,8 +59,13 @@ HasTaken-more {buffer = buffer} {bytes = bytes} {n = n} h q u t = record {
   unfaulted = u ∙ h.unfaulted;
   opened = t.still_open;
   openings = omega (arith, h.openings, t.unopened);
-  taken = omega (arith, h.taken, t.counted, length-append bytes (take n buffer),
-      length-take-le n buffer t.fits);
+  taken = omega (
+    arith,
+    h.taken,
+    t.counted,
+    length-append bytes (take n buffer),
+    length-take-le n buffer t.fits,
+  );
   rest = λ files r told e. file_is h q t files r told e
       ∙ ap (λ l. Some l) (sym (append_assoc bytes (take n buffer) r));
 }

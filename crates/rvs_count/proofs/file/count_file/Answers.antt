@@ -36,7 +36,7 @@ returns-in_err-count-clause-front g c =
 
 pub returns-in_err-count-clause-at_most : goal.returns-in_err-count-clause-at_most
 returns-in_err-count-clause-at_most g c =
-    HasTaken-failed c.pieces.invariant.took c.take.ensures.unread
+    HasTaken-failed c.pieces.invariant.took c.in_err-count.ensures.unread
     (omega (arith, c.pieces.invariant.within))
 
 pub returns-then-count-eq0-clause-whole : goal.returns-then-count-eq0-clause-whole
