@@ -128,11 +128,10 @@ def long_line(scale):
     return REFERENCE
 
 
-def alike(scale):
-    """A text of labels that differ in their last characters alone, so that a look-up compares them
-    from end to end, and that come in no order, so that it finds none of them close by."""
-    labels = ("l" * 24 + "%08d:\n" % (61803399 * k % 100000000) for k in itertools.count())
-    put("t.S", filled(int(MOST * scale), labels, END))
+def no_order(scale):
+    """A text of labels in no order, so that a look-up passes none that lie close to each other."""
+    places = (0x9E3779 * k % 0x1000000 for k in itertools.count())
+    put("t.S", filled(int(MOST * scale), ("l%x:\n" % place for place in places), END))
     return REFERENCE
 
 
@@ -291,7 +290,7 @@ ROWS = {
     labels: (3, r"rvsuite: t.S: trap 4 pc 0x80000000 0x80000000"),
     waiting: (3, r"rvsuite: t.S: asm [58] line \d+"),
     long_line: (3, r"rvsuite: t.S: asm 9 line 2"),
-    alike: (3, r"rvsuite: t.S: trap 4 pc 0x80000000 0x80000000"),
+    no_order: (3, r"rvsuite: t.S: trap 4 pc 0x80000000 0x80000000"),
     far: (0, r"total 1 tests, 1 pass, 0 fail"),
     far_points: (0, r"total 1 tests, 1 pass, 0 fail"),
     limits_normal: (0, r"    '.*': 0"),
