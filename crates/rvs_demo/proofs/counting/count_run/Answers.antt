@@ -8,11 +8,11 @@ pub loop-init : goal.loop-init
 loop-init c =
     Running-start c.args.limit c.args.machine.now c.args.counter.now c.requires.begun
 
-pub count_step-requires-begun : goal.count_step-requires-begun
-count_step-requires-begun c = c.loop.invariant.begun
+pub count_step-requires-clause-begun : goal.count_step-requires-clause-begun
+count_step-requires-clause-begun c = c.loop.invariant.begun
 
-pub count_step-requires-few : goal.count_step-requires-few
-count_step-requires-few c = omega (arith, c.loop.invariant.low, c.requires.few)
+pub count_step-requires-clause-few : goal.count_step-requires-clause-few
+count_step-requires-clause-few c = omega (arith, c.loop.invariant.low, c.requires.few)
 
 pub returns-then-not-count_step : goal.returns-then-not-count_step
 returns-then-not-count_step c =

@@ -11,13 +11,13 @@ IfOk-map : {A E : Type 0} {P Q : A → Type 0} (r : Result A E)
 IfOk-map (Ok a) f p = f a p
 IfOk-map (Err e) f p = tt
 
-pub count_run-requires-begun : goal.count_run-requires-begun
-count_run-requires-begun c =
+pub count_run-requires-clause-begun : goal.count_run-requires-clause-begun
+count_run-requires-clause-begun c =
     ap (λ (s : CountState). s.waiting) c.in_ok-counter.ensures
     ∙ none_waits c.in_ok-groups.groups c.new.result
 
-pub count_run-requires-few : goal.count_run-requires-few
-count_run-requires-few c =
+pub count_run-requires-clause-few : goal.count_run-requires-clause-few
+count_run-requires-clause-few c =
     let none : c.in_ok-counter.counter.fed ≡ 0 =
     ap (λ (s : CountState). s.fed) c.in_ok-counter.ensures
     ∙ fed_of c.in_ok-groups.groups c.new.result [] 0 in
