@@ -1,5 +1,5 @@
 -- Plans that read a few files at most.
-use Rattle.std.proofs.Common.{◌≡◌, ◌≤◌, ◌+◌, ◌-◌, ℕ, List, [], ◌∷◌, length, sum, Option, Result, Ok, Err}
+use Rattle.std.proofs.Common.{◌≤◌, ◌+◌, ◌-◌, ℕ, List, [], ◌∷◌, length, sum, Option, Result, Ok, Err}
 use Rattle.std.proofs.Common.{arith}
 use Rattle.std.specs.Prelude.{⊤}
 use Rattle.std.proofs.lemmas.List.Sums.{sum_by-cons}
@@ -7,7 +7,7 @@ use Rattle.rvs_base.specs.File.{ReadsAtMost}
 use Rattle.rvs_base.specs.Host.{Files}
 use Rattle.rvs_plan.specs.Effect.{Answer, Effect, Read, Device, Did}
 use Rattle.rvs_plan.specs.Plan.{Plan, Ends, Does, Asks, Runs, Goes, followed, ◌>>=◌}
-use Rattle.rvs_plan.specs.Reads.{bounds_on, ReadsOnWay}
+use Rattle.rvs_plan.specs.Reads.{bounds_on}
 use Rattle.rvs_plan.specs.declared.stop.Stop.{Stop}
 use Rattle.rvs_suite.specs.Call.{Call}
 use Rattle.rvs_suite.specs.Plans.{plan_of}
