@@ -136,8 +136,9 @@ impl<'g> Counter<'g> {
         Ok(())
     }
 
-    /// Takes the line of an executed instruction and its line feed, as [`Counter::feed`] takes their
-    /// bytes, without writing them. No line is open before it, nor after it. It takes no memory.
+    /// Takes the line of an executed instruction and its line feed, as [`Counter::feed`] takes
+    /// their bytes, without writing them. No line is open before it, nor after it. It takes no
+    /// memory.
     pub fn feed_executed(&mut self, executed: &Executed)
         requires begun { self.old.waiting ≡ Some [] }
         requires few { self.old.fed + 51 ≤ log_limit }

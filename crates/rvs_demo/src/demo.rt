@@ -36,8 +36,8 @@ fn report(alloc: Global, count: u64) -> Result<Text, NoMemory>
 }
 
 /// Runs the program with so many generated instructions, and counts its coverage: what is executed
-/// is counted as it comes, as the lines of a log would be, and neither a log nor the run is kept. It
-/// takes four bytes of memory for each instruction.
+/// is counted as it comes, as the lines of a log would be, and neither a log nor the run is kept.
+/// It takes four bytes of memory for each instruction.
 ///
 /// # Errors
 ///

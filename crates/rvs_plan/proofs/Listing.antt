@@ -31,7 +31,8 @@ Beginning-step deed plan rest effects files answers b = record {
 }
 
 Beginning-ask : (name : List ℕ) (bound : ℕ) (next : Option (List ℕ) → Plan Finish)
-    (rest : Plan Finish) (effects : List Effect) (files : Files) (answers : List Answer) → IsBeginning
+    (rest : Plan Finish) (effects : List Effect) (files : Files) (answers : List Answer) →
+    IsBeginning
     (next (files name)) rest effects files answers → IsBeginning (Asks name bound next) rest
     (Read name (files name) ∷ effects) files answers
 Beginning-ask name bound next rest effects files answers b = record {
@@ -72,9 +73,11 @@ fronts (Asks name bound next) rest (Read n found ∷ es) c files answers told sa
     more) in
     let at_found = subst (λ (o : Option (List ℕ)). IsBeginning (Asks name bound next) rest
     (Read name o ∷ es) files answers) is_found at_name in
-    subst (λ (m : List ℕ). IsBeginning (Asks name bound next) rest (Read m found ∷ es) files answers)
+    subst (λ (m : List ℕ). IsBeginning (Asks name bound next) rest (Read m found ∷ es) files
+    answers)
     goes.0 at_found
-fronts (Asks name bound next) rest (Device w t s answer ∷ es) c files answers told saw goes = absurd goes
+fronts (Asks name bound next) rest (Device w t s answer ∷ es) c files answers told saw goes =
+    absurd goes
 fronts (Runs words test signature next) rest (Did d ∷ es) c files answers told saw goes =
     absurd goes
 fronts (Runs words test signature next) rest (Read n found ∷ es) c files answers told saw goes =

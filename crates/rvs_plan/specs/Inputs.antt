@@ -1,5 +1,6 @@
 -- The plan of reading an input.
-use Rattle.std.specs.Prelude.{ℕ, ◌+◌, List, ◌++◌, Option, Some, None, Result, Ok, Err, nat_lt, length}
+use Rattle.std.specs.Prelude.{ℕ, ◌+◌, List, ◌++◌, Option, Some, None, Result, Ok, Err, nat_lt}
+use Rattle.std.specs.Prelude.{length}
 use Rattle.std.specs.Prelude.{if◌then◌else◌, codes, decimal}
 use Rattle.rvs_plan.specs.Plan.{Plan, Ends, Asks}
 use Rattle.rvs_plan.specs.declared.stop.Stop.{Stop}
@@ -18,7 +19,8 @@ part_end limit name what most (Some bytes) =
 
 -- a file that is a part of an input is read, up to what is left of the limit of that input
 abbrev pub part : ℕ → List ℕ → List ℕ → ℕ → Plan (List ℕ)
-part limit name what most = Asks name (limit + 1) (λ found. Ends (part_end limit name what most found))
+part limit name what most =
+    Asks name (limit + 1) (λ found. Ends (part_end limit name what most found))
 
 -- an input file is read, up to its limit
 abbrev pub input : ℕ → List ℕ → Plan (List ℕ)

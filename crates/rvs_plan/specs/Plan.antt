@@ -55,7 +55,8 @@ Goes (Ends end) (effect ∷ effects) rest = ⊥
 Goes (Does deed plan) (Did d ∷ effects) rest = (deed ≡ d) × Goes plan effects rest
 Goes (Does deed plan) (Read name found ∷ effects) rest = ⊥
 Goes (Does deed plan) (Device words test signature answer ∷ effects) rest = ⊥
-Goes (Asks name bound next) (Read n found ∷ effects) rest = (name ≡ n) × Goes (next found) effects rest
+Goes (Asks name bound next) (Read n found ∷ effects) rest =
+    (name ≡ n) × Goes (next found) effects rest
 Goes (Asks name bound next) (Device words test signature answer ∷ effects) rest = ⊥
 Goes (Asks name bound next) (Did d ∷ effects) rest = ⊥
 Goes (Runs words test signature next) (Device w t s answer ∷ effects) rest =

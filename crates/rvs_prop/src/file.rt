@@ -32,8 +32,8 @@ fn front_of(buffer: &[u8], count: usize) -> &[u8]
 }
 
 /// Feeds the bytes of a file to its end, in one opening and in pieces of at most 16 KiB, and takes
-/// no more of it than may be fed and the piece that passes that; it doesn't finish the log. It takes
-/// no memory.
+/// no more of it than may be fed and the piece that passes that; it doesn't finish the log. It
+/// takes no memory.
 ///
 /// # Errors
 ///

@@ -58,9 +58,11 @@ behind {A} files (Ends e) next found end effects c is told saw goes = record {
 behind files (Does deed plan) next found end effects c is told saw goes = absurd is
 behind files (Runs words test signature rest) next found end effects c is told saw goes = absurd is
 behind files (Asks name bound rest) next found end [] c is told saw goes = absurd cc
-behind files (Asks name bound rest) next found end (Device words test signature answer ∷ effects) c is
+behind files (Asks name bound rest) next found end (Device words test signature answer ∷ effects) c
+    is
     told saw goes = absurd goes
-behind files (Asks name bound rest) next found end (Did deed ∷ effects) c is told saw goes = absurd goes
+behind files (Asks name bound rest) next found end (Did deed ∷ effects) c is told saw goes =
+    absurd goes
 behind {A} {B} files (Asks name bound rest) next found end (Read n f ∷ effects) c is told saw goes =
     let same : files name ≡ f = ap files goes.0 ∙ saw.0 files told in
     let b = behind files (rest (files name)) next found end effects c is told saw.1 (subst

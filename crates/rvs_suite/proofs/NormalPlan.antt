@@ -17,7 +17,8 @@ pub then-then : {A B C : Type 0} (p : Plan A) (f : A → Plan B) (g : B → Plan
 then-then (Ends (Ok a)) f g = refl
 then-then (Ends (Err stop)) f g = refl
 then-then (Does deed rest) f g = ap (Does deed) (then-then rest f g)
-then-then (Asks name bound next) f g = ap (Asks name bound) (fun_ext (λ found. then-then (next found) f g))
+then-then (Asks name bound next) f g =
+    ap (Asks name bound) (fun_ext (λ found. then-then (next found) f g))
 then-then (Runs words test signature next) f g =
     ap (Runs words test signature) (fun_ext (λ answer. then-then (next answer) f g))
 

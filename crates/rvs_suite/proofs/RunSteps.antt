@@ -70,7 +70,8 @@ pub record FirstRead (name : List ℕ) (next : Option (List ℕ) → Plan Finish
   pub goes : Goes (next found) rest (Ends end)
 
 pub first_read : (name : List ℕ) (next : Option (List ℕ) → Plan Finish) (end : Result Finish Stop)
-    (effects : List Effect) → Goes (Asks name bound next) effects (Ends end) → FirstRead name next end
+    (effects : List Effect) → Goes (Asks name bound next) effects (Ends end) → FirstRead name next
+    end
     effects
 first_read name next end [] goes = absurd cc
 first_read name next end (Read n found ∷ effects) goes = record {

@@ -142,7 +142,8 @@ spared other (Does (Out bytes) plan) rest (Device words test signature answer �
 spared other (Asks name bound next) rest (Read n found ∷ effects) c spares goes =
     spared other (next found) rest effects c (spares found) goes.1
 spared other (Asks name bound next) rest (Did deed ∷ effects) c spares goes = absurd goes
-spared other (Asks name bound next) rest (Device words test signature answer ∷ effects) c spares goes =
+spared other (Asks name bound next) rest (Device words test signature answer ∷ effects) c spares
+    goes =
     absurd goes
 spared other (Runs words test signature next) rest (Device w t s answer ∷ effects) c spares goes =
     let k = spared other (next answer) rest effects (after_one (Device w t s answer) c)
@@ -197,13 +198,15 @@ spared-over files other (Ends end) rest (effect ∷ effects) c told spares saw g
 spared-over files other (Does deed plan) rest (effect ∷ effects) c told spares saw goes =
     let k = spared other (Does deed plan) rest (effect ∷ effects) c spares goes in
     (k.0, spares-over files other rest k.1)
-spared-over {A} files other (Asks name bound next) rest (Read n found ∷ effects) c told spares saw goes =
+spared-over {A} files other (Asks name bound next) rest (Read n found ∷ effects) c told spares saw
+    goes =
     let same : files name ≡ found = ap files goes.0 ∙ saw.0 files told in
     spared-over files other (next (files name)) rest effects c told spares saw.1
     (subst (λ (f : Option (List ℕ)). Goes (next f) effects rest) (sym same) goes.1)
 spared-over files other (Asks name bound next) rest (Did deed ∷ effects) c told spares saw goes =
     absurd goes
-spared-over files other (Asks name bound next) rest (Device words test signature answer ∷ effects) c told
+spared-over files other (Asks name bound next) rest (Device words test signature answer ∷ effects)
+    c told
     spares saw goes = absurd goes
 spared-over files other (Runs words test signature next) rest (effect ∷ effects) c told spares saw
     goes =

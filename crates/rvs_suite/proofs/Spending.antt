@@ -70,8 +70,8 @@ on_way (Does deed plan) rest (Read name found ∷ es) n b s goes = absurd goes
 on_way (Does deed plan) rest (Device w t g answer ∷ es) n b s goes = absurd goes
 on_way (Asks name bound next) rest (Read m found ∷ es) n b s goes =
     let less = on_way (next found) rest es (n - 1) (b - bound) (s.2 found) goes.1 in
-    let bounds = bounds_on (next found) es in
-    (omega (arith, less.0, s.0), omega (arith, less.1, s.1, sum_by-cons (λ (x : ℕ). x) bound bounds))
+    let cons = sum_by-cons (λ (x : ℕ). x) bound (bounds_on (next found) es) in
+    (omega (arith, less.0, s.0), omega (arith, less.1, s.1, cons))
 on_way (Asks name bound next) rest (Device w t g answer ∷ es) n b s goes = absurd goes
 on_way (Asks name bound next) rest (Did d ∷ es) n b s goes = absurd goes
 on_way (Runs words test signature next) rest (Device w t g answer ∷ es) n b s goes =

@@ -109,7 +109,8 @@ untouched-then (Runs words test signature rest) next reads each effects stop c g
 untouched-then (Asks name bound rest) next reads each [] stop c goes = absurd cc
 untouched-then (Asks name bound rest) next reads each (Read n found ∷ effects) stop c goes =
     untouched-then (rest found) next (reads found) each effects stop c goes.1
-untouched-then (Asks name bound rest) next reads each (Device words test signature answer ∷ effects) stop
+untouched-then (Asks name bound rest) next reads each (Device words test signature answer ∷
+    effects) stop
     c goes = absurd goes
 untouched-then (Asks name bound rest) next reads each (Did deed ∷ effects) stop c goes = absurd goes
 

@@ -1,6 +1,6 @@
-//! Texts, for the readers of words, specifications, expressions, groups, logs and executables: names
-//! at their front, spaces at their ends, and their parts. `bytes` has for bytes what stands here for
-//! texts.
+//! Texts, for the readers of words, specifications, expressions, groups, logs and executables:
+//! names at their front, spaces at their ends, and their parts. `bytes` has for bytes what stands
+//! here for texts.
 #![tactic(auto)]
 
 pub mod bytes;

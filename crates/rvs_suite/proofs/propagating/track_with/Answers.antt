@@ -56,7 +56,8 @@ returns-in_ok-report_at_end-in-Ok g c = λ out groups range begun few.
     let within = short groups range.lo range.hi feeds.bytes (ended feeds.bytes)
     c.report_at_end.new.tracker
     at_end few in
-    asks-accepted out name log_bound (found_by (reports range) (groups_view groups) name) feeds.bytes
+    asks-accepted out name log_bound (found_by (reports range) (groups_view groups) name)
+    feeds.bytes
     c.in_ok-report_at_end-in-Ok.field-0 c.in-Ok.ensures.reads_only feeds.whole
     (accepts-log (reports range) (groups_view groups) name feeds.bytes
     c.in_ok-report_at_end-in-Ok.field-0 within text)
