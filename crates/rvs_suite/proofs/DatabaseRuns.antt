@@ -142,7 +142,7 @@ tried-made bench given made next files runs out end effects accepts goes saw =
     let words = first_did _ _ end written.rest written.goes in
     let empty = first_did _ _ end words.rest words.goes in
     let ran = first_ran _ _ _ _ end empty.rest empty.goes in
-    let back = first_read _ _ end ran.rest ran.goes in
+    let back = first_read _ _ _ end ran.rest ran.goes in
     let line = first_did _ _ end back.rest back.goes in
     let two = Did (Write made.files.reference (text_of_words made.words)) in
     let three = Did (Write device []) in
@@ -224,7 +224,7 @@ tried-one : (bench : Bench) (given : Given) (next : Bool → Plan Finish) (files
     → TriedOne bench given next files runs out end effects
     ⊎ EndedOne bench given files end effects (contents_of files runs out)
 tried-one bench given next files runs out end effects goes saw =
-    let back = first_read given.name _ end effects goes in
+    let back = first_read given.name _ _ end effects goes in
     let seen = subst (λ (es : List Effect). Saw es (contents_of files runs out)) back.is saw in
     let there : files given.name ≡ back.found = seen.0 files refl in
     let plan = by-bytes bench given next

@@ -67,6 +67,8 @@ bare = record {
   read_faults = 0;
   write_faults = 0;
   run_faults = 0;
+  openings = 0;
+  taken = 0;
 }
 
 -- the same call beside that host

@@ -69,19 +69,18 @@ pub record FirstRead (name : List ℕ) (next : Option (List ℕ) → Plan Finish
   pub is : effects ≡ Read name found ∷ rest
   pub goes : Goes (next found) rest (Ends end)
 
-pub first_read : (name : List ℕ) (next : Option (List ℕ) → Plan Finish) (end : Result Finish Stop)
-    (effects : List Effect) → Goes (Asks name bound next) effects (Ends end) → FirstRead name next
-    end
-    effects
-first_read name next end [] goes = absurd cc
-first_read name next end (Read n found ∷ effects) goes = record {
+pub first_read : (name : List ℕ) (bound : ℕ) (next : Option (List ℕ) → Plan Finish)
+    (end : Result Finish Stop) (effects : List Effect) → Goes (Asks name bound next) effects
+    (Ends end) → FirstRead name next end effects
+first_read name bound next end [] goes = absurd cc
+first_read name bound next end (Read n found ∷ effects) goes = record {
   found = found;
   rest = effects;
   is = ap (λ (x : List ℕ). Read x found ∷ effects) (sym goes.0);
   goes = goes.1;
 }
-first_read name next end (Did deed ∷ effects) goes = absurd goes
-first_read name next end (Device words test signature answer ∷ effects) goes = absurd goes
+first_read name bound next end (Did deed ∷ effects) goes = absurd goes
+first_read name bound next end (Device words test signature answer ∷ effects) goes = absurd goes
 
 pub record FirstRan (words : List (List ℕ)) (test signature : List ℕ) (next : Answer → Plan Finish)
     (end : Result Finish Stop) (effects : List Effect) : Type 0 where
@@ -262,7 +261,7 @@ judged-one bench test next files runs out end effects goes saw =
     let words = first_did _ _ end written.rest written.goes in
     let empty = first_did _ _ end words.rest words.goes in
     let ran = first_ran _ _ _ _ end empty.rest empty.goes in
-    let back = first_read _ _ end ran.rest ran.goes in
+    let back = first_read _ _ _ end ran.rest ran.goes in
     let line = first_did _ _ end back.rest back.goes in
     let path = (files_for bench test).test in
     let device = (files_for bench test).device in

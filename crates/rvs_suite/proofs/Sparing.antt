@@ -230,7 +230,7 @@ halted files other plan old new (why.Refused text) told spares h =
 halted files other plan old new (why.NoFile name) told spares h =
     (reached files other plan (Ends (Err (why.NoFile name))) old new told spares h).0
 halted files other plan old new (why.CannotRead name) told spares h =
-    (reached files other plan (Asks name bound h.next) old new told spares h.reaches).0
+    (reached files other plan (Asks name h.bound h.next) old new told spares h.reaches).0
 halted files other plan old new (why.CannotWrite name) told spares h =
     let k = reached files other plan (Does (Write name h.0) h.1.rest) old h.1.before told spares
     h.1.reaches in

@@ -1,6 +1,8 @@
+use Rattle.std.proofs.Common.{rules}
 use Rattle.std.proofs.lemmas.Result.{err_from_is_err_and}
 use Rattle.rvs_plan.proofs.Sequence.{Meets-no_memory}
 use Rattle.rvs_suite.specs.Compare.{words}
+use Rattle.rvs_suite.proofs.Accepting.{Meets-refused_by}
 use Rattle.rvs_suite.proofs.comparing.check_words.Goals as goal
 
 pub returns-in_err-refusal_text-in-Err : goal.returns-in_err-refusal_text-in-Err
@@ -10,3 +12,6 @@ returns-in_err-refusal_text-in-Err c = λ w.
 
 pub returns-in-Err-NoMemory : goal.returns-in-Err-NoMemory
 returns-in-Err-NoMemory c = λ w. Meets-no_memory (words c.args.name.now c.args.bytes.now) w
+
+pub returns-in_ok-refusal_text-in-Err : goal.returns-in_ok-refusal_text-in-Err
+returns-in_ok-refusal_text-in-Err c = λ w. Meets-refused_by _ _ w (search rules)

@@ -1,10 +1,11 @@
-use Rattle.std.proofs.Common.{sym, subst}
+use Rattle.std.proofs.Common.{rules, sym, subst}
 use Rattle.std.proofs.lemmas.Result.{err_from_is_err_and}
 use Rattle.rvs_plan.specs.Plan.{Ends}
 use Rattle.rvs_plan.specs.Meets.{Meets}
 use Rattle.rvs_plan.proofs.Sequence.{Meets-no_memory}
 use Rattle.rvs_yaml.specs.Parsed.{Parsed}
 use Rattle.rvs_suite.specs.DatabaseInput.{tree_end, checks}
+use Rattle.rvs_suite.proofs.Accepting.{Meets-refused_by}
 use Rattle.rvs_suite.proofs.database_file.check_bytes.Goals as goal
 
 pub returns-in_err-yaml_text-in-Err : goal.returns-in_err-yaml_text-in-Err
@@ -18,3 +19,6 @@ returns-in-Ok c = λ w. subst
     (λ (a : Parsed). Meets (Ends (tree_end c.args.isa.now c.args.name.now a)) w w
     c.check_tree.result)
     (sym c.in-Ok.ensures.tree) (c.check_tree.ensures w)
+
+pub returns-in_ok-yaml_text-in-Err : goal.returns-in_ok-yaml_text-in-Err
+returns-in_ok-yaml_text-in-Err c = λ w. Meets-refused_by _ _ w (search rules)

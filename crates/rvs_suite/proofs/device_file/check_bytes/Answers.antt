@@ -1,4 +1,4 @@
-use Rattle.std.proofs.Common.{sym, subst}
+use Rattle.std.proofs.Common.{rules, sym, subst}
 use Rattle.std.proofs.lemmas.Result.{err_from_is_err_and}
 use Rattle.rvs_plan.specs.Plan.{Ends}
 use Rattle.rvs_plan.specs.Meets.{Meets}
@@ -7,6 +7,7 @@ use Rattle.rvs_yaml.specs.Parsed.{Parsed}
 use Rattle.rvs_device.specs.DeviceView.{told}
 use Rattle.rvs_suite.specs.Seen.{seen}
 use Rattle.rvs_suite.specs.DeviceInput.{tree_end, checks}
+use Rattle.rvs_suite.proofs.Accepting.{Meets-refused_by}
 use Rattle.rvs_suite.proofs.device_file.check_bytes.Goals as goal
 
 pub returns-in_err-yaml_text-in-Err : goal.returns-in_err-yaml_text-in-Err
@@ -18,3 +19,6 @@ pub returns-in-Ok : goal.returns-in-Ok
 returns-in-Ok c = λ w. subst
     (λ (a : Parsed). Meets (Ends (tree_end c.args.name.now a)) w w (seen told c.check_tree.result))
     (sym c.in-Ok.ensures.tree) (c.check_tree.ensures w)
+
+pub returns-in_ok-yaml_text-in-Err : goal.returns-in_ok-yaml_text-in-Err
+returns-in_ok-yaml_text-in-Err c = λ w. Meets-refused_by _ _ w (search rules)

@@ -1,3 +1,4 @@
+use Rattle.std.proofs.Common.{rules}
 use Rattle.std.proofs.lemmas.Result.{err_from_is_err_and}
 use Rattle.rvs_plan.specs.Plan.{Ends}
 use Rattle.rvs_plan.proofs.Sequence.{Meets-no_memory}
@@ -6,6 +7,7 @@ use Rattle.rvs_cgf.specs.Groups.{groups_of}
 use Rattle.rvs_cgf.specs.Print.{normal_text}
 use Rattle.rvs_suite.specs.Seen.{seen}
 use Rattle.rvs_suite.specs.GroupFiles.{checked_groups}
+use Rattle.rvs_suite.proofs.Accepting.{Meets-refused_by}
 use Rattle.rvs_suite.proofs.normalizing.write_tree.Goals as goal
 
 pub returns-in_err-group_text-in-Err : goal.returns-in_err-group_text-in-Err
@@ -14,3 +16,6 @@ returns-in_err-group_text-in-Err c = λ w.
     rw (p.1, p.2) (Meets-no_memory
     (Ends (seen normal_text (checked_groups (groups_of c.args.isa.now (view c.args.tree.now)))))
     w)
+
+pub returns-in_ok-group_text-in-Err : goal.returns-in_ok-group_text-in-Err
+returns-in_ok-group_text-in-Err c = λ w. Meets-refused_by _ _ w (search rules)
