@@ -21,8 +21,8 @@ bounds_on (Runs words test signature next) (Device w t s answer ∷ effects) =
 bounds_on (Runs words test signature next) (Read name found ∷ effects) = []
 bounds_on (Runs words test signature next) (Did d ∷ effects) = []
 
--- The plan goes some way, and leaves this. No more was read than on that way: a file is opened once
--- for each read, and no more of its bytes are taken than the plan says.
+-- The plan goes some way, and leaves this. No more was read than on that way: files were opened no
+-- more often than it reads, and no more bytes were taken, all together, than the plan says.
 pub record ReadsOnWay {A : Type 0} (plan rest : Plan A) (old new : HostState) : Type 0 where
   pub effects : List Effect
   pub goes : Goes plan effects rest
