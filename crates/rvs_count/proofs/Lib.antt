@@ -1,3 +1,4 @@
+pub mod Absent
 pub mod Blocks
 pub mod Built
 pub mod Cells
@@ -8,6 +9,7 @@ pub mod Executing
 pub mod Feeding
 pub mod Hitting
 pub mod Lengths
+pub mod Lifts
 pub mod Marks
 pub mod Masks
 pub mod Matching

@@ -1,5 +1,5 @@
 // Where a point is looked for.
-ghost use Rattle.std.specs.Prelude.{◌≡◌, ◌<◌};
+ghost use Rattle.std.specs.Prelude.{◌≡◌, ◌<◌, ◌≤◌, unsigned_abs};
 ghost use Rattle.rvs_cgf.specs.GroupView.{point_view};
 ghost use Rattle.rvs_expr.specs.Meaning.{IsNarrowFormula};
 ghost use Rattle.rvs_expr.specs.TypedView.{view};
@@ -13,13 +13,33 @@ use rvs_free::Free;
 /// How many lists there are for a mnemonic.
 pub(crate) const BUCKETS: usize = 365;
 
+/// A multiple of 67 above 2^32.
+const LIFT: i64 = 67 << 26;
+
+/// The remainder of a number that a multiple of 67 lifts above 0, so that no branch asks for its
+/// sign.
+#[tactic(auto, using(crate::proofs::Lifts::lifted))]
+#[inline(always)]
+fn lifted(value: i64) -> usize
+    requires { unsigned_abs value ≤ 4496293888 }
+    ensures value { result ≡ spec.residue value }
+    ensures low { result < 67 }
+{
+    ((value + LIFT).unsigned_abs() % 67) as usize
+}
+
 /// A number's remainder by a prime.
 #[tactic(auto, using(crate::proofs::Seen::residue_low))]
+#[inline(always)]
 fn residue(value: i64) -> usize
     ensures value { result ≡ spec.residue value }
     ensures low { result < 67 }
 {
-    value.rem_euclid(67).unsigned_abs() as usize
+    if value >= -LIFT && value <= LIFT {
+        lifted(value)
+    } else {
+        value.rem_euclid(67).unsigned_abs() as usize
+    }
 }
 
 fn register_bucket(kind: Kind, register: u8) -> usize

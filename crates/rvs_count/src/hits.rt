@@ -59,34 +59,29 @@ fn add_hits<F: Facts, L: Ledger>(
 }
 
 /// The same, with a counter of evaluations that no one reads.
-fn add_counted<L: Ledger>(
-    blank: Blank,
-    slots: &[Slot<'_>],
-    facts: &Known<'_>,
-    counts: &mut Vec<u64>,
-)
+fn add_counted<L: Ledger>(blank: Blank, slots: &[Slot<'_>], facts: &Known, counts: &mut Vec<u64>)
     requires name { blank.name ≡ L.name }
     requires parts { blank.parts ≡ L.parts }
     requires some { 0 < blank.parts }
     requires within { All (λ s. s.at < vec_len counts.old) slots.now }
     requires few { length slots.now ≤ vec_len counts.old }
     requires low { All (λ n. n ≤ 2 ^ 41) counts.old.items }
-    ensures { counts.new.items ≡ raised_all (λ p. holds p facts.now.insn.now.op
-        (facts_of facts.now.insn.now facts.now.first facts.now.second))
+    ensures { counts.new.items ≡ raised_all (λ p. holds p facts.now.insn.op
+        (facts_of facts.now.insn facts.now.first facts.now.second))
         (places slots.now) counts.old.items }
 {
     let mut steps: Steps<L> = Steps::new(blank, Free::new());
-    let insn = facts.insn;
+    let insn = &facts.insn;
     add_hits(slots, insn.op, facts, facts.signs, counts, &mut steps);
 }
 
 /// Adds one to the counts of the points that an instruction hits.
-pub(crate) fn add_insn(slots: &[Slot<'_>], facts: &Known<'_>, counts: &mut Vec<u64>)
+pub(crate) fn add_insn(slots: &[Slot<'_>], facts: &Known, counts: &mut Vec<u64>)
     requires within { All (λ s. s.at < vec_len counts.old) slots.now }
     requires few { length slots.now ≤ vec_len counts.old }
     requires low { All (λ n. n ≤ 2 ^ 41) counts.old.items }
-    ensures { counts.new.items ≡ raised_all (λ p. holds p facts.now.insn.now.op
-        (facts_of facts.now.insn.now facts.now.first facts.now.second))
+    ensures { counts.new.items ≡ raised_all (λ p. holds p facts.now.insn.op
+        (facts_of facts.now.insn facts.now.first facts.now.second))
         (places slots.now) counts.old.items }
 {
     add_counted::<Brand>(Blank::new(1), slots, facts, counts);

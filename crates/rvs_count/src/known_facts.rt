@@ -16,8 +16,8 @@ use rvs_insn::Insn;
 /// The facts of an instruction with its numbers and their signs, so that no point works them out
 /// again.
 #[derive(Clone, Copy)]
-pub(crate) struct Known<'i> {
-    pub insn: &'i Insn,
+pub(crate) struct Known {
+    pub insn: Insn,
     pub first: u32,
     pub second: u32,
     pub rd: Option<u8>,
@@ -29,13 +29,13 @@ pub(crate) struct Known<'i> {
     /// Its signs, as the bits of a word.
     pub signs: u32,
     ghost signs_known: { signs
-        ≡ signs_word (signs_of (facts_of insn.now first second)) } by { Prim.hlevel props },
-    ghost rs1_known: { rs1_val ≡ num_of insn.now first second Rs1Val } by { Prim.hlevel props },
-    ghost rs2_known: { rs2_val ≡ num_of insn.now first second Rs2Val } by { Prim.hlevel props },
-    ghost imm_known: { imm_val ≡ num_of insn.now first second ImmVal } by { Prim.hlevel props },
-    ghost rd_known: { rd ≡ insn.now.rd } by { Prim.hlevel props },
-    ghost first_known: { rs1 ≡ insn.now.rs1 } by { Prim.hlevel props },
-    ghost second_known: { rs2 ≡ insn.now.rs2 } by { Prim.hlevel props },
+        ≡ signs_word (signs_of (facts_of insn first second)) } by { Prim.hlevel props },
+    ghost rs1_known: { rs1_val ≡ num_of insn first second Rs1Val } by { Prim.hlevel props },
+    ghost rs2_known: { rs2_val ≡ num_of insn first second Rs2Val } by { Prim.hlevel props },
+    ghost imm_known: { imm_val ≡ num_of insn first second ImmVal } by { Prim.hlevel props },
+    ghost rd_known: { rd ≡ insn.rd } by { Prim.hlevel props },
+    ghost first_known: { rs1 ≡ insn.rs1 } by { Prim.hlevel props },
+    ghost second_known: { rs2 ≡ insn.rs2 } by { Prim.hlevel props },
     ghost rd_small: { IfSome rd (λ n. n < 32) } by { Prim.hlevel props },
     ghost first_small: { IfSome rs1 (λ n. n < 32) } by { Prim.hlevel props },
     ghost second_small: { IfSome rs2 (λ n. n < 32) } by { Prim.hlevel props },
@@ -44,18 +44,17 @@ pub(crate) struct Known<'i> {
     ghost imm_small: { IfSome imm_val (λ z. unsigned_abs z ≤ 2 ^ 32) } by { Prim.hlevel props },
 }
 
-/// Takes each fact but the alignment, which few points say. The instruction is given twice, so that
-/// a caller can say by value which of its fields are there.
+/// Takes each fact but the alignment, which few points say. The instruction is taken by value, so
+/// that it need not lie in memory and each field is known where its caller says it.
 #[tactic(auto, unfolding(crate::specs::Signs::signs_of))]
 #[inline(always)]
-pub(crate) fn take_facts(insn: &Insn, shape: Insn, first: u32, second: u32) -> Known<'_>
-    requires { shape ≡ insn.now }
-    ensures insn { result.insn.now ≡ insn.now }
+pub(crate) fn take_facts(insn: Insn, first: u32, second: u32) -> Known
+    ensures insn { result.insn ≡ insn }
     ensures first { result.first ≡ first }
     ensures second { result.second ≡ second }
 {
     let facts = InsnFacts {
-        insn: &shape,
+        insn: &insn,
         first,
         second,
     };
@@ -87,10 +86,10 @@ pub(crate) fn take_facts(insn: &Insn, shape: Insn, first: u32, second: u32) -> K
     }
 }
 
-impl Facts for Known<'_> {
+impl Facts for Known {
     ghost use Rattle.rvs_facts.specs.Facts.{facts_of};
 
-    ghost table = { λ k. facts_of k.insn.now k.first k.second };
+    ghost table = { λ k. facts_of k.insn k.first k.second };
 
     fn reg(&self, name: RegName) -> Option<u8> {
         match name {
@@ -123,15 +122,15 @@ fn number_of(register: Option<u8>) -> Option<i64>
     }
 }
 
-impl Known<'_> {
+impl Known {
     /// The place of the address within its word, for loads and stores.
     fn alignment(&self) -> Option<i64>
         ensures value { result
-            ≡ num_of self.now.insn.now self.now.first self.now.second EaAlign }
+            ≡ num_of self.now.insn self.now.first self.now.second EaAlign }
         ensures small { IfSome result (λ z. unsigned_abs z ≤ 2 ^ 32) }
     {
         let facts = InsnFacts {
-            insn: self.insn,
+            insn: &self.insn,
             first: self.first,
             second: self.second,
         };
@@ -142,7 +141,7 @@ impl Known<'_> {
     #[inline(always)]
     pub(crate) fn value(&self, asked: Asked) -> Option<i64>
         ensures value { result
-            ≡ fact asked (facts_of self.now.insn.now self.now.first self.now.second) }
+            ≡ fact asked (facts_of self.now.insn self.now.first self.now.second) }
         ensures small { IfSome result (λ z. unsigned_abs z ≤ 2 ^ 32) }
     {
         match asked {

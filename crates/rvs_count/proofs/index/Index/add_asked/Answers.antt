@@ -16,7 +16,7 @@ use Rattle.rvs_count.proofs.index.Index.add_asked.Goals as goal
 pub returns-else-has : goal.returns-else-has
 returns-else-has c =
     let n = c.number.result in
-    let i = c.args.facts.now.insn.now in
+    let i = c.args.facts.now.insn in
     let v1 = c.args.facts.now.first in
     let v2 = c.args.facts.now.second in
     let cs = c.args.counts.now.items in

@@ -9,10 +9,10 @@ use Rattle.rvs_count.proofs.index.Index.add_fact.Goals as goal
 
 pub returns-in-None : goal.returns-in-None
 returns-in-None c =
-    let t = facts_of c.args.facts.now.insn.now c.args.facts.now.first c.args.facts.now.second in
+    let t = facts_of c.args.facts.now.insn c.args.facts.now.first c.args.facts.now.second in
     let hit : Aim
     → _ =
-    λ a. hits_insn a (Some c.args.facts.now.insn.now) c.args.facts.now.first
+    λ a. hits_insn a (Some c.args.facts.now.insn) c.args.facts.now.first
     c.args.facts.now.second in
     none_added (aims_in c.args.self.now) hit c.args.counts.now.items c.requires.fits.count
     ∙ ap (λ (o : Option ℕ). added (λ a. is_seen o a.point && hit a) (aims_in c.args.self.now)

@@ -67,7 +67,7 @@ returns-else-head c =
     omega (arith, c.number.ensures.low, c.self.invariant.1) in
     let cs = c.args.counts.now.items in
     let labels : c.self.inside.labels.now ≡ c.args.self.now = c.self.view_is in
-    added_marks c.self.inside.labels.now lists c.args.facts.now.insn.now c.args.facts.now.first
+    added_marks c.self.inside.labels.now lists c.args.facts.now.insn c.args.facts.now.first
     c.args.facts.now.second n h cs c.add_marks.new.counts.items c.self.invariant.0 low
     (c.number.ensures.place ∙ ap (λ (i : Fields). number i.op) c.insn.view_is)
     (c.requires.fits.count ∙ sym (ap (λ (ls : List Label). length (aims_in ls)) labels)) is
@@ -77,5 +77,5 @@ returns-else-head c =
     c.as_slice-else-head.ensures
     ∙ ap (λ (w : ℕ). raised_marks w h.marks cs) c.args.facts.now.signs_known)
     ∙ ap (λ (ls : List Label). added (λ a. is_seen (Some 0) a.point
-    && hits_insn a (Some c.args.facts.now.insn.now) c.args.facts.now.first c.args.facts.now.second)
+    && hits_insn a (Some c.args.facts.now.insn) c.args.facts.now.first c.args.facts.now.second)
     (aims_in ls) cs) labels

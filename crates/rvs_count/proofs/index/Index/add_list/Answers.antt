@@ -45,8 +45,8 @@ returns c =
     c.index-as_slice-key.result c.as_slice-slots.result.now c.self.invariant.0
     (omega (arith, c.requires.bucket, c.number.ensures.low, c.self.invariant.1))
     c.as_slice.ensures c.as_slice-slots.ensures c.index-as_slice-key.is in
-    added_bucket c.args.self.now c.args.facts.now.insn.now c.args.facts.now.first
-    c.args.facts.now.second c.number.result c.args.bucket c.as_slice-slots.result.now
+    added_bucket c.args.self.now c.args.facts.insn c.args.facts.first
+    c.args.facts.second c.number.result c.args.bucket c.as_slice-slots.result.now
     c.args.counts.now.items c.add_insn.new.counts.items
     (c.number.ensures.place ∙ ap (λ (i : Fields). number i.op) c.insn.view_is) c.requires.bucket
     (mine ∙ ap (λ ls. places_for (is_for (insns_key key)) 0 (aims_in ls)) c.self.view_is)

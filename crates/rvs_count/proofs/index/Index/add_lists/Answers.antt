@@ -74,7 +74,7 @@ add_asked-requires-7 c = record {
 
 pub returns : goal.returns
 returns c =
-    let i = c.args.facts.now.insn.now in
+    let i = c.args.facts.now.insn in
     let v1 = c.args.facts.now.first in
     let v2 = c.args.facts.now.second in
     let t = facts_of i v1 v2 in

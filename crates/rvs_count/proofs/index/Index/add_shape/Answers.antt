@@ -11,7 +11,7 @@ returns c =
     let r = c.take_facts-facts.result in
     c.add_lists.ensures
     ∙ ap (λ (i : Fields). added (λ a. hits_insn a (Some i) r.first r.second) aims cs)
-    c.take_facts-facts.ensures.insn
+    (c.take_facts-facts.ensures.insn ∙ c.requires.shape)
     ∙ ap (λ v. added (λ a. hits_insn a (Some c.args.insn.now) v r.second) aims cs)
     c.take_facts-facts.ensures.first
     ∙ ap (λ v. added (λ a. hits_insn a (Some c.args.insn.now) c.args.first v) aims cs)

@@ -85,7 +85,7 @@ returns-else-cell c =
     let labels : c.self.inside.labels.now ≡ c.args.self.now = c.self.view_is in
     let length_is = c.requires.fits.count
     ∙ sym (ap (λ (ls : List Label). length (aims_in ls)) labels) in
-    added_cell c.self.inside.labels.now c.self.inside.lists c.args.facts.now.insn.now
+    added_cell c.self.inside.labels.now c.self.inside.lists c.args.facts.now.insn
     c.args.facts.now.first c.args.facts.now.second c.number.result b c.args.asked c.args.value cell
     c.args.counts.now.items c.add_cell.new.counts.items c.self.invariant.0
     (omega (arith, c.asked_bucket-bucket.ensures.low, c.number.ensures.low, c.self.invariant.1))
@@ -94,5 +94,5 @@ returns-else-cell c =
     c.requires.small (rw same at c.add_cell.ensures)
     ∙ ap (λ (ls : List Label). added (λ a. is_seen (Some (asked_bucket c.args.asked c.args.value))
     a.point
-    && hits_insn a (Some c.args.facts.now.insn.now) c.args.facts.now.first c.args.facts.now.second)
+    && hits_insn a (Some c.args.facts.now.insn) c.args.facts.now.first c.args.facts.now.second)
     (aims_in ls) c.args.counts.now.items) labels
