@@ -14,6 +14,7 @@ pub mod Marks
 pub mod Masks
 pub mod Matching
 pub mod Places
+pub mod Registers
 pub mod Reports
 pub mod Seen
 pub mod Sequels

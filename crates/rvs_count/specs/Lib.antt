@@ -2,6 +2,7 @@ pub mod Bounds
 pub mod Buckets
 pub mod Cells
 pub mod Counting
+pub mod Entries
 pub mod Feeds
 pub mod Index
 pub mod Marks

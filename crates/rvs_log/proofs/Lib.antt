@@ -10,5 +10,6 @@ pub mod WordParts
 pub mod FieldRanges
 pub mod Below
 pub mod RunWords
+pub mod Starts
 pub mod Straight
 pub mod Values

@@ -69,9 +69,9 @@ value_none b h high =
     is_high : (n : ℕ) → 16 ≤ n → nat_lt n 16 ≡ false
     is_high n h = grind (arith, nat_tests)
 
--- each entry is below 16, or it is 65,536
+-- each entry is below 16, or it is 2^32
 abbrev is_entry : ℕ → Bool
-is_entry v = nat_lt v 16 || v == 65536
+is_entry v = nat_lt v 16 || v == 4294967296
 
 abbrev are_entries : List ℕ → Bool
 are_entries [] = true
@@ -81,31 +81,31 @@ either : (a b : Bool) → (a || b) ≡ true → (a ≡ true) ⊎ (b ≡ true)
 either true b h = inl refl
 either false b h = inr h
 
-entry_edge : (v : ℕ) → is_entry v ≡ true → (v < 16) ⊎ (v ≡ 65536)
-entry_edge v h = elim (either (nat_lt v 16) (v == 65536) h) [
+entry_edge : (v : ℕ) → is_entry v ≡ true → (v < 16) ⊎ (v ≡ 4294967296)
+entry_edge v h = elim (either (nat_lt v 16) (v == 4294967296) h) [
   | inl low ↦ inl (grind (arith, nat_tests))
   | inr is ↦ inr (grind (arith, nat_tests))
 ]
 
 entry_at : (vs : List ℕ) (k : ℕ) → are_entries vs ≡ true → k < length vs
-    → (get_or vs k 0 < 16) ⊎ (get_or vs k 0 ≡ 65536)
+    → (get_or vs k 0 < 16) ⊎ (get_or vs k 0 ≡ 4294967296)
 entry_at [] k h l = absurd (omega arith)
 entry_at (v ∷ vs) zero h l = entry_edge v (both (is_entry v) (are_entries vs) h).0
 entry_at (v ∷ vs) (suc k) h l = entry_at vs k (both (is_entry v) (are_entries vs) h).1 (omega arith)
 
-pub value_edge : (b : ℕ) → b < 256 → 16 ≤ get_or VALUES b 0 → get_or VALUES b 0 ≡ 65536
+pub value_edge : (b : ℕ) → b < 256 → 16 ≤ get_or VALUES b 0 → get_or VALUES b 0 ≡ 4294967296
 value_edge b h high = elim (entry_at VALUES b refl h) [
   | inl low ↦ absurd (omega (arith, low, high))
   | inr is ↦ is
 ]
 
-pub value_low : (b : ℕ) → b < 256 → get_or VALUES b 0 ≤ 65536
+pub value_low : (b : ℕ) → b < 256 → get_or VALUES b 0 ≤ 4294967296
 value_low b h = elim (entry_at VALUES b refl h) [
   | inl low ↦ omega (arith, low)
   | inr is ↦ omega (arith, is)
 ]
 
-below : (w n : ℕ) → (16 ≤ w → w ≡ 65536) → w ≤ n → n < 65536 → w < 16
+below : (w n : ℕ) → (16 ≤ w → w ≡ 4294967296) → w ≤ n → n < 4294967296 → w < 16
 below w n edge l h = by-test (nat_lt w 16) refl
   where
     by-test : (t : Bool) → nat_lt w 16 ≡ t → w < 16
@@ -117,15 +117,31 @@ below w n edge l h = by-test (nat_lt w 16) refl
 
 -- four digits more, by what they count
 pub four_counted : (v a b c d w x y z : ℕ) (bs : List ℕ) → (w < 16 → Some w ≡ hex_value a)
-    → (16 ≤ w → w ≡ 65536) → (x < 16 → Some x ≡ hex_value b) → (16 ≤ x → x ≡ 65536)
-    → (y < 16 → Some y ≡ hex_value c) → (16 ≤ y → y ≡ 65536) → (z < 16 → Some z ≡ hex_value d)
-    → (16 ≤ z → z ≡ 65536) → 4096 * w + 256 * x + 16 * y + z < 65536
+    → (16 ≤ w → w ≡ 4294967296) → (x < 16 → Some x ≡ hex_value b) → (16 ≤ x → x ≡ 4294967296)
+    → (y < 16 → Some y ≡ hex_value c) → (16 ≤ y → y ≡ 4294967296)
+    → (z < 16 → Some z ≡ hex_value d) → (16 ≤ z → z ≡ 4294967296)
+    → 16 * (16 * (16 * w + x) + y) + z < 4294967296
     → hex_run v (a ∷ b ∷ c ∷ d ∷ bs)
-    ≡ hex_run (65536 * v + (4096 * w + 256 * x + 16 * y + z)) bs
+    ≡ hex_run (65536 * v + (16 * (16 * (16 * w + x) + y) + z)) bs
 four_counted v a b c d w x y z bs dw ew dx ex dy ey dz ez h =
-    let n = 4096 * w + 256 * x + 16 * y + z in
+    let n = 16 * (16 * (16 * w + x) + y) + z in
+    let same : 4096 * w + 256 * x + 16 * y + z ≡ n = omega arith in
     four_more v a b c d w x y z bs
     (sym (dw (below w n ew (omega arith) h)))
     (sym (dx (below x n ex (omega arith) h)))
     (sym (dy (below y n ey (omega arith) h)))
     (sym (dz (below z n ez (omega arith) h)))
+    ∙ ap (λ k. hex_run (65536 * v + k) bs) same
+
+-- four digits are a small number
+pub four_small : (w x y z : ℕ) → (16 ≤ w → w ≡ 4294967296) → (16 ≤ x → x ≡ 4294967296)
+    → (16 ≤ y → y ≡ 4294967296) → (16 ≤ z → z ≡ 4294967296)
+    → 16 * (16 * (16 * w + x) + y) + z < 4294967296
+    → 16 * (16 * (16 * w + x) + y) + z < 65536
+four_small w x y z ew ex ey ez h =
+    let n = 16 * (16 * (16 * w + x) + y) + z in
+    let first = below w n ew (omega arith) h in
+    let second = below x n ex (omega arith) h in
+    let third = below y n ey (omega arith) h in
+    let fourth = below z n ez (omega arith) h in
+    omega (arith, first, second, third, fourth)

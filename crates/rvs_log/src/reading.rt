@@ -410,21 +410,29 @@ fn commit_line(line: &[u8]) -> Option<Commit>
 /// What a line of a log says: an instruction, as Spike's commit log or a Sail log writes it; a word
 /// written by the instruction before it, `xN <- 0x..`; or nothing that is read here. The line has
 /// no line feed and no carriage return at its end. It takes no memory.
-#[tactic(auto, unfolding(crate::specs::Grammar::reading_of))]
 #[inline(always)]
 pub fn read_line(line: &[u8]) -> Line<'_>
     ensures said { said result ≡ reading_of line.now }
     ensures whole { IsOf line.now result }
     ensures decoded { IsDecoded result }
 {
-    match commit_log_line(line) {
-        Some(record) => Line::Insn(record),
-        None => match sail_log_line(line) {
+    let first = match line {
+        [] => return Line::Other,
+        [first, ..] => *first,
+    };
+    match first {
+        b'c' => match commit_log_line(line) {
             Some(record) => Line::Insn(record),
-            None => match commit_line(line) {
-                Some(commit) => Line::Commit(commit),
-                None => Line::Other,
-            },
+            None => Line::Other,
         },
+        b'[' => match sail_log_line(line) {
+            Some(record) => Line::Insn(record),
+            None => Line::Other,
+        },
+        b'x' => match commit_line(line) {
+            Some(commit) => Line::Commit(commit),
+            None => Line::Other,
+        },
+        _ => Line::Other,
     }
 }

@@ -1,13 +1,17 @@
-use Rattle.std.proofs.Common.{◌≡◌, ◌+◌, ◌*◌, ◌∙◌, ap, arith, take, drop, length, ◌-◌}
+use Rattle.std.proofs.Common.{◌≡◌, ◌+◌, ◌*◌, ◌<◌, ◌^◌, ◌∙◌, ap, arith, take, drop, length, ◌-◌}
 use Rattle.rvs_log.specs.Grammar.{hex_run}
 use Rattle.rvs_log.proofs.Digits.{split_eight}
 use Rattle.rvs_log.proofs.words.eight_digits.Goals as goal
 
-pub returns-in_ok-low-in-len8-up-clause-run : goal.returns-in_ok-low-in-len8-up-clause-run
-returns-in_ok-low-in-len8-up-clause-run c =
-    let none : 65536 * 0 + c.in_ok-high-in-len8-up.high ≡ c.in_ok-high-in-len8-up.high =
-    omega arith in
+pub returns-then-value-lt4294967296-clause-run : goal.returns-then-value-lt4294967296-clause-run
+returns-then-value-lt4294967296-clause-run c =
+    let high = c.four_digits-high.result in
+    let low = c.four_digits-low.result in
+    let none : 65536 * 0 + high ≡ high = omega arith in
+    let high_low : high < 2 ^ 32 = omega (arith, c.if-value-lt4294967296.true) in
+    let low_low : low < 2 ^ 32 = omega (arith, c.if-value-lt4294967296.true) in
     ap (hex_run 0) (split_eight c.args.text.now c.in-len8-up.len_at_least)
-    ∙ c.in_ok-high-in-len8-up.ensures.run 0 _ ∙ c.in_ok-low-in-len8-up.ensures.run _ _
-    ∙ ap (λ n. hex_run (65536 * n + c.in_ok-low-in-len8-up.low)
+    ∙ c.four_digits-high.ensures.run high_low 0 _
+    ∙ c.four_digits-low.ensures.run low_low _ _
+    ∙ ap (λ n. hex_run (65536 * n + low)
     (take (length c.args.text.now - 8) (drop 8 c.args.text.now))) none

@@ -1,5 +1,6 @@
 use Rattle.std.proofs.Common.{◌^◌, ℕ, List, Some, [], refl, ap, ◌∙◌, ◌∷◌, arith}
-use Rattle.std.proofs.Common.{Option}
+use Rattle.std.proofs.Common.{Option, pos, sym}
+use Rattle.std.specs.Prelude.{option_map}
 use Rattle.rvs_facts.specs.Facts.{facts_of}
 use Rattle.rvs_count.specs.Cells.{sight}
 use Rattle.rvs_count.specs.Counting.{Aim, aims_in, hits_insn}
@@ -10,66 +11,75 @@ use Rattle.rvs_count.proofs.Cells.{fits_more, fits_weaker, sights_visited, then_
 use Rattle.rvs_count.proofs.Sums.{all_added}
 use Rattle.rvs_count.proofs.index.Index.add_lists.Goals as goal
 
-pub add_asked-requires : goal.add_asked-requires
-add_asked-requires c = record {
+pub add_field-requires : goal.add_field-requires
+add_field-requires c = record {
+  field = refl;
+  small = c.args.facts.now.rd_small;
+  fact = ap (option_map (λ n. pos n)) (sym c.args.facts.now.rd_known);
   fits = fits_weaker (2 ^ 41) (omega arith)
       (fits_more _ c.add_first.new.counts.items c.requires.fits c.add_first.ensures);
+}
+
+pub add_field-requires-2 : goal.add_field-requires-2
+add_field-requires-2 c = record {
+  field = refl;
+  small = c.args.facts.now.first_small;
+  fact = ap (option_map (λ n. pos n)) (sym c.args.facts.now.first_known);
+  fits = fits_weaker (2 ^ 41) (omega arith) (fits_more _
+      c.add_field.new.counts.items
+      (fits_more _ c.add_first.new.counts.items c.requires.fits c.add_first.ensures)
+      c.add_field.ensures);
+}
+
+pub add_field-requires-3 : goal.add_field-requires-3
+add_field-requires-3 c = record {
+  field = refl;
+  small = c.args.facts.now.second_small;
+  fact = ap (option_map (λ n. pos n)) (sym c.args.facts.now.second_known);
+  fits = fits_weaker (2 ^ 41) (omega arith) (fits_more _
+      c.add_field-2.new.counts.items (fits_more _ c.add_field.new.counts.items
+      (fits_more _ c.add_first.new.counts.items c.requires.fits c.add_first.ensures)
+      c.add_field.ensures) c.add_field-2.ensures);
+}
+
+pub add_asked-requires : goal.add_asked-requires
+add_asked-requires c = record {
+  fits = fits_weaker (2 ^ 41) (omega arith) (fits_more _
+      c.add_field-3.new.counts.items (fits_more _ c.add_field-2.new.counts.items (fits_more _
+      c.add_field.new.counts.items
+      (fits_more _ c.add_first.new.counts.items c.requires.fits c.add_first.ensures)
+      c.add_field.ensures) c.add_field-2.ensures) c.add_field-3.ensures);
 }
 
 pub add_asked-requires-2 : goal.add_asked-requires-2
 add_asked-requires-2 c = record {
   fits = fits_weaker (2 ^ 41) (omega arith) (fits_more _
-      c.add_asked.new.counts.items
+      c.add_asked.new.counts.items (fits_more _ c.add_field-3.new.counts.items (fits_more _
+      c.add_field-2.new.counts.items (fits_more _ c.add_field.new.counts.items
       (fits_more _ c.add_first.new.counts.items c.requires.fits c.add_first.ensures)
-      c.add_asked.ensures);
+      c.add_field.ensures) c.add_field-2.ensures) c.add_field-3.ensures) c.add_asked.ensures);
 }
 
 pub add_asked-requires-3 : goal.add_asked-requires-3
 add_asked-requires-3 c = record {
   fits = fits_weaker (2 ^ 41) (omega arith) (fits_more _
-      c.add_asked-2.new.counts.items (fits_more _ c.add_asked.new.counts.items
+      c.add_asked-2.new.counts.items (fits_more _ c.add_asked.new.counts.items (fits_more _
+      c.add_field-3.new.counts.items (fits_more _ c.add_field-2.new.counts.items (fits_more _
+      c.add_field.new.counts.items
       (fits_more _ c.add_first.new.counts.items c.requires.fits c.add_first.ensures)
-      c.add_asked.ensures) c.add_asked-2.ensures);
+      c.add_field.ensures) c.add_field-2.ensures) c.add_field-3.ensures) c.add_asked.ensures)
+      c.add_asked-2.ensures);
 }
 
 pub add_asked-requires-4 : goal.add_asked-requires-4
 add_asked-requires-4 c = record {
   fits = fits_weaker (2 ^ 41) (omega arith) (fits_more _
       c.add_asked-3.new.counts.items (fits_more _ c.add_asked-2.new.counts.items (fits_more _
-      c.add_asked.new.counts.items
+      c.add_asked.new.counts.items (fits_more _ c.add_field-3.new.counts.items (fits_more _
+      c.add_field-2.new.counts.items (fits_more _ c.add_field.new.counts.items
       (fits_more _ c.add_first.new.counts.items c.requires.fits c.add_first.ensures)
-      c.add_asked.ensures) c.add_asked-2.ensures) c.add_asked-3.ensures);
-}
-
-pub add_asked-requires-5 : goal.add_asked-requires-5
-add_asked-requires-5 c = record {
-  fits = fits_weaker (2 ^ 41) (omega arith) (fits_more _
-      c.add_asked-4.new.counts.items (fits_more _ c.add_asked-3.new.counts.items (fits_more _
-      c.add_asked-2.new.counts.items (fits_more _ c.add_asked.new.counts.items
-      (fits_more _ c.add_first.new.counts.items c.requires.fits c.add_first.ensures)
-      c.add_asked.ensures) c.add_asked-2.ensures) c.add_asked-3.ensures) c.add_asked-4.ensures);
-}
-
-pub add_asked-requires-6 : goal.add_asked-requires-6
-add_asked-requires-6 c = record {
-  fits = fits_weaker (2 ^ 41) (omega arith) (fits_more _
-      c.add_asked-5.new.counts.items (fits_more _ c.add_asked-4.new.counts.items (fits_more _
-      c.add_asked-3.new.counts.items (fits_more _ c.add_asked-2.new.counts.items (fits_more _
-      c.add_asked.new.counts.items
-      (fits_more _ c.add_first.new.counts.items c.requires.fits c.add_first.ensures)
-      c.add_asked.ensures) c.add_asked-2.ensures) c.add_asked-3.ensures) c.add_asked-4.ensures)
-      c.add_asked-5.ensures);
-}
-
-pub add_asked-requires-7 : goal.add_asked-requires-7
-add_asked-requires-7 c = record {
-  fits = fits_weaker (2 ^ 41) (omega arith) (fits_more _
-      c.add_asked-6.new.counts.items (fits_more _ c.add_asked-5.new.counts.items (fits_more _
-      c.add_asked-4.new.counts.items (fits_more _ c.add_asked-3.new.counts.items (fits_more _
-      c.add_asked-2.new.counts.items (fits_more _ c.add_asked.new.counts.items
-      (fits_more _ c.add_first.new.counts.items c.requires.fits c.add_first.ensures)
-      c.add_asked.ensures) c.add_asked-2.ensures) c.add_asked-3.ensures) c.add_asked-4.ensures)
-      c.add_asked-5.ensures) c.add_asked-6.ensures);
+      c.add_field.ensures) c.add_field-2.ensures) c.add_field-3.ensures) c.add_asked.ensures)
+      c.add_asked-2.ensures) c.add_asked-3.ensures);
 }
 
 pub returns : goal.returns
@@ -81,26 +91,26 @@ returns c =
     let hit : Aim → _ = λ a. hits_insn a (Some i) v1 v2 in
     let aims = aims_in c.args.self.now in
     let cs = c.args.counts.now.items in
-    let last = c.add_asked-7.new.counts.items in
+    let last = c.add_asked-4.new.counts.items in
     (then_all hit aims (Some 0) (sight Rd t ∷ sight Rs1 t ∷ sight Rs2 t ∷ sight Rs1Val t ∷ sight
     Rs2Val t ∷ sight ImmVal t ∷ sight EaAlign t ∷ []) cs c.add_first.new.counts.items last
     c.add_first.ensures (then_all hit aims (sight Rd t) (sight Rs1 t ∷ sight Rs2 t ∷ sight Rs1Val
     t ∷ sight Rs2Val t ∷ sight ImmVal t ∷ sight EaAlign t ∷ []) c.add_first.new.counts.items
-    c.add_asked.new.counts.items last
-    c.add_asked.ensures (then_all hit aims (sight Rs1 t) (sight Rs2 t ∷ sight Rs1Val t ∷ sight
-    Rs2Val t ∷ sight ImmVal t ∷ sight EaAlign t ∷ []) c.add_asked.new.counts.items
-    c.add_asked-2.new.counts.items last
-    c.add_asked-2.ensures (then_all hit aims (sight Rs2 t) (sight Rs1Val t ∷ sight Rs2Val t ∷
-    sight ImmVal t ∷ sight EaAlign t ∷ []) c.add_asked-2.new.counts.items
-    c.add_asked-3.new.counts.items last
-    c.add_asked-3.ensures (then_all hit aims (sight Rs1Val t) (sight Rs2Val t ∷ sight ImmVal t ∷
-    sight EaAlign t ∷ []) c.add_asked-3.new.counts.items c.add_asked-4.new.counts.items last
-    c.add_asked-4.ensures (then_all hit aims (sight Rs2Val t) (sight ImmVal t ∷ sight EaAlign t ∷
-    []) c.add_asked-4.new.counts.items c.add_asked-5.new.counts.items last
-    c.add_asked-5.ensures (then_all hit aims (sight ImmVal t) (sight EaAlign t ∷ [])
-    c.add_asked-5.new.counts.items c.add_asked-6.new.counts.items last
-    c.add_asked-6.ensures (then_all hit aims (sight EaAlign t) ([]) c.add_asked-6.new.counts.items
-    c.add_asked-7.new.counts.items last
-    c.add_asked-7.ensures refl))))))))
+    c.add_field.new.counts.items last
+    c.add_field.ensures (then_all hit aims (sight Rs1 t) (sight Rs2 t ∷ sight Rs1Val t ∷ sight
+    Rs2Val t ∷ sight ImmVal t ∷ sight EaAlign t ∷ []) c.add_field.new.counts.items
+    c.add_field-2.new.counts.items last
+    c.add_field-2.ensures (then_all hit aims (sight Rs2 t) (sight Rs1Val t ∷ sight Rs2Val t ∷
+    sight ImmVal t ∷ sight EaAlign t ∷ []) c.add_field-2.new.counts.items
+    c.add_field-3.new.counts.items last
+    c.add_field-3.ensures (then_all hit aims (sight Rs1Val t) (sight Rs2Val t ∷ sight ImmVal t ∷
+    sight EaAlign t ∷ []) c.add_field-3.new.counts.items c.add_asked.new.counts.items last
+    c.add_asked.ensures (then_all hit aims (sight Rs2Val t) (sight ImmVal t ∷ sight EaAlign t ∷
+    []) c.add_asked.new.counts.items c.add_asked-2.new.counts.items last
+    c.add_asked-2.ensures (then_all hit aims (sight ImmVal t) (sight EaAlign t ∷ [])
+    c.add_asked-2.new.counts.items c.add_asked-3.new.counts.items last
+    c.add_asked-3.ensures (then_all hit aims (sight EaAlign t) ([]) c.add_asked-3.new.counts.items
+    c.add_asked-4.new.counts.items last
+    c.add_asked-4.ensures refl))))))))
     ∙ ap (λ (os : List (Option ℕ)). added_all hit os aims cs) (sights_visited t)
     ∙ all_added i v1 v2 aims cs

@@ -1,0 +1,92 @@
+-- Entries add what the cells of registers add.
+use Rattle.std.proofs.Common.{◌≡◌, ℕ, zero, suc, ℤ, pos, ◌+◌, ◌*◌, ◌/◌, ◌%◌, ◌<◌, ◌≤◌, Bool, true}
+use Rattle.std.proofs.Common.{false, List, [], ◌∷◌, ◌++◌, refl, sym, ap, subst, ◌∙◌, arith, length}
+use Rattle.std.proofs.Common.{get_or}
+use Rattle.std.proofs.lemmas.Bool.Decides.{nat_tests}
+use Rattle.std.specs.Ordering.{int_eq}
+use Rattle.std.specs.Prelude.{◌==◌}
+use Rattle.rvs_count.specs.Buckets.{bucket_count}
+use Rattle.rvs_count.specs.Cells.{asked_bucket, raised_cell}
+use Rattle.rvs_count.specs.Entries.{entry_at, is_field, is_look, look, raised_entry, register_count}
+use Rattle.rvs_count.specs.Entries.{HasEntries, IsEntry, IsEntryAt}
+use Rattle.rvs_count.specs.Index.{raised}
+use Rattle.rvs_count.specs.declared.asked.Asked.{Asked}
+use Rattle.rvs_count.specs.declared.asked.Asked.TheVariants.{Rd, Rs1, Rs2, Rs1Val, Rs2Val, ImmVal}
+use Rattle.rvs_count.specs.declared.asked.Asked.TheVariants.{EaAlign}
+use Rattle.rvs_count.specs.declared.cell.Cell.{Cell}
+use Rattle.rvs_count.proofs.Cells.{false_true}
+use Rattle.rvs_count.proofs.Marks.{any_default, pushed_each}
+
+-- one that says to look at the cell
+pub looks : (c : Cell) (z : ℤ) → IsEntry c z look
+looks c z = record {
+  few = λ h. false_true (is_look look) refl h;
+  adds = λ h counts. false_true (is_look look) refl h;
+  low = λ h. false_true (is_look look) refl h;
+}
+
+-- one that names nothing
+pub none_said : (c : Cell) (z : ℤ) → c.more ≡ false → int_eq c.second z ≡ false
+    → int_eq c.first z ≡ false → IsEntry c z 0
+none_said c z m s f = record {
+  few = λ h. m;
+  adds = λ h counts. rw (f, s) refl;
+  low = λ h. omega arith;
+}
+
+-- one that names a point
+pub one_said : (c : Cell) (z : ℤ) (e : ℕ) → c.more ≡ false → int_eq c.second z ≡ false
+    → int_eq c.first z ≡ true → e ≡ entry_at c.first_at → IsEntry c z e
+one_said c z e m s f is = record {
+  few = λ h. m;
+  adds = λ h counts. rw (f, s) (ap (λ e. raised_entry e counts) (sym (at h)));
+  low = λ h. omega (arith, at h);
+}
+  where
+    at : is_look e ≡ false → e ≡ suc c.first_at
+    at h = grind (arith, nat_tests)
+
+-- one more
+pub more_entries : (cells : List Cell) (es es' : List ℕ) (n e : ℕ) → HasEntries cells es
+    → length es ≡ n → IsEntryAt cells n e → es' ≡ es ++ e ∷ [] → HasEntries cells es'
+more_entries cells es es' n e has len is same =
+    subst (HasEntries cells) (sym same) (record {
+      each = λ k h. pushed_each (IsEntryAt cells) es e
+          (λ k d h. subst (IsEntryAt cells k) (any_default es k 0 d h) (has.each k h))
+          (subst (λ n. IsEntryAt cells n e) (sym len) is) k 0 h;
+    })
+
+-- the entry of a register in a field
+pub entry_in : (cells : List Cell) (entries : List ℕ) (block field r : ℕ) (d : Cell)
+    → HasEntries cells entries → field < 3 → r < 32
+    → block * register_count + (32 * field + r) < length entries
+    → IsEntry (get_or cells (block * bucket_count + (1 + (32 * field + r))) d) (pos r)
+    (get_or entries (block * register_count + (32 * field + r)) 0)
+entry_in cells entries block field r d has f l h =
+    let n = block * register_count + (32 * field + r) in
+    let is : IsEntry (get_or cells (n / register_count * bucket_count + (1 + n % register_count)) d)
+    (pos (n % 32)) (get_or entries n 0) = has.each n h d in
+    let whole : n / register_count ≡ block = omega arith in
+    let rest : n % register_count ≡ 32 * field + r = omega arith in
+    let own : n % 32 ≡ r = omega arith in
+    rw (whole, rest, own) at is
+
+-- the list of a register in a field
+pub rd_list : (r : ℕ) → r < 32 → asked_bucket Rd (pos r) ≡ 1 + (32 * 0 + r)
+rd_list r h = omega arith
+
+pub rs1_list : (r : ℕ) → r < 32 → asked_bucket Rs1 (pos r) ≡ 1 + (32 * 1 + r)
+rs1_list r h = omega arith
+
+pub rs2_list : (r : ℕ) → r < 32 → asked_bucket Rs2 (pos r) ≡ 1 + (32 * 2 + r)
+rs2_list r h = omega arith
+
+pub field_list : (q : Asked) (n : ℕ) → (q ≡ Rd → n ≡ 0) → (q ≡ Rs1 → n ≡ 1) → (q ≡ Rs2 → n ≡ 2)
+    → is_field q ≡ true → (r : ℕ) → r < 32 → asked_bucket q (pos r) ≡ 1 + (32 * n + r)
+field_list Rd n a b c h r l = rd_list r l ∙ ap (λ n. 1 + (32 * n + r)) (sym (a refl))
+field_list Rs1 n a b c h r l = rs1_list r l ∙ ap (λ n. 1 + (32 * n + r)) (sym (b refl))
+field_list Rs2 n a b c h r l = rs2_list r l ∙ ap (λ n. 1 + (32 * n + r)) (sym (c refl))
+field_list Rs1Val n a b c h r l = absurd cc
+field_list Rs2Val n a b c h r l = absurd cc
+field_list ImmVal n a b c h r l = absurd cc
+field_list EaAlign n a b c h r l = absurd cc
