@@ -1,4 +1,4 @@
-use Rattle.std.proofs.Common.{◌≡◌, ◌+◌, ℕ, sym, ap, ◌∙◌}
+use Rattle.std.proofs.Common.{◌+◌, sym, ap, ◌∙◌}
 use Rattle.rvs_log.proofs.Logs.{commit_size, line_length}
 use Rattle.rvs_log.proofs.written.log_line_length.Goals as goal
 
