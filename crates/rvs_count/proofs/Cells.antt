@@ -86,7 +86,7 @@ never_adds : (z : ℤ) (at : ℕ) (cs : List ℕ) → unsigned_abs z ≤ 2 ^ 32
     → raised (int_eq never z) at cs ≡ cs
 never_adds z at cs h = ap (λ b. raised b at cs) (not_never z h)
 
-false_true : {X : Type 0} (b : Bool) → b ≡ true → b ≡ false → X
+pub false_true : {X : Type 0} (b : Bool) → b ≡ true → b ≡ false → X
 false_true b t f =
     let bit : Bool → ℕ = λ b. cond b 1 0 in
     let e : bit true ≡ bit false = ap bit (sym t ∙ f) in

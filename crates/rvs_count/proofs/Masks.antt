@@ -1,14 +1,14 @@
 -- Signs as the bits of a mask.
-use Rattle.std.proofs.Common.{◌≡◌, ◌≢◌, ℕ, zero, suc, ◌+◌, ◌*◌, ◌/◌, ◌%◌, ◌^◌, ◌<◌, Bool, true}
+use Rattle.std.proofs.Common.{◌≡◌, ◌≢◌, ℕ, zero, suc, ◌+◌, ◌-◌, ◌*◌, ◌≤◌, ◌/◌, ◌%◌, ◌^◌, ◌<◌, Bool, true}
 use Rattle.std.proofs.Common.{false, cond, ◌&&◌, List, [], ◌∷◌, refl, sym, ap, ◌∙◌, arith, get_or}
-use Rattle.std.proofs.Common.{bit_and, bit_or}
+use Rattle.std.proofs.Common.{bit_and, bit_or, w32}
 use Rattle.std.proofs.lemmas.Bool.Decides.{nat_tests}
 use Rattle.std.proofs.lemmas.Nat.{one_shl}
-use Rattle.std.proofs.lemmas.Nat.Bits.{bit_at_and, bit_at_lowest, bit_at-lt, bit_at_or}
+use Rattle.std.proofs.lemmas.Nat.Bits.{bit_at_above, bit_at_and, bit_at_lowest, bit_at_not, bit_at-lt, bit_at_or}
 use Rattle.std.proofs.lemmas.Nat.Bits.{bit_at-pow_other, bit_at-pow_same, bit_at-suc, bit_at-zero}
 use Rattle.std.proofs.lemmas.Nat.Bits.{same_from_bits}
-use Rattle.std.specs.Int.{bit_at}
-use Rattle.std.specs.Prelude.{◌==◌}
+use Rattle.std.specs.Int.{bit_at, bit_not}
+use Rattle.std.specs.Prelude.{◌==◌, nat_lt}
 use Rattle.rvs_expr.specs.Meaning.{Table}
 use Rattle.rvs_count.specs.Signs.{has_all, has_signs, sign_at, sign_bit, signs_of, signs_word}
 
@@ -167,3 +167,45 @@ more_signs false t m n = refl
 pub no_signs : (t : Table) → has_signs 0 t ≡ true
 no_signs t = bits_there (signs_word (signs_of t)) 0
     (λ i e. absurd (omega (arith, e, bit_at-zero i)))
+
+-- ---- the bits that a word lacks
+-- a mask has no bit from 32 on
+within : (m i : ℕ) → m < 2 ^ 32 → bit_at m i ≡ 1 → i < 32
+within m i l e = turn (nat_lt i 32) refl
+  where
+    turn : (t : Bool) → nat_lt i 32 ≡ t → i < 32
+    turn true h = grind (arith, nat_tests)
+    turn false h =
+        let far : 32 ≤ i = grind (arith, nat_tests) in
+        absurd (omega (arith, e, bit_at_above m 32 i l far))
+
+pub lacks_none : (w m l : ℕ) → l ≡ bit_not w32 w → w < 2 ^ 32 → m < 2 ^ 32
+    → (bit_and l m == 0) ≡ has_all w m
+lacks_none w m l is ww mm = same_truth (bit_and l m == 0) (has_all w m) there back
+  where
+    turned : (i : ℕ) → i < 32 → bit_at l i ≡ 1 - bit_at w i
+    turned i h = ap (λ n. bit_at n i) is ∙ bit_at_not w32 w i ww h
+
+    there : (bit_and l m == 0) ≡ true → has_all w m ≡ true
+    there h = bits_there w m (λ i e.
+        let none : bit_at (bit_and l m) i ≡ 0 =
+        ap (λ n. bit_at n i) (equal (bit_and l m) 0 h) ∙ bit_at-zero i in
+        omega (arith, none, bit_at_and l m i, e, turned i (within m i mm e), bit_at-lt w i))
+
+    no_bit : has_all w m ≡ true → (i b : ℕ) → bit_at m i ≡ b → b < 2
+        → bit_at (bit_and l m) i ≡ bit_at 0 i
+    no_bit h i zero e b = omega (arith, bit_at_and l m i, e, bit_at-zero i)
+    no_bit h i (suc zero) e b =
+        omega (
+          arith,
+          bit_at_and l m i,
+          e,
+          bit_there w m h i e,
+          turned i (within m i mm e),
+          bit_at-zero i,
+        )
+    no_bit h i (suc (suc n)) e b = absurd (omega (arith, b))
+
+    back : has_all w m ≡ true → (bit_and l m == 0) ≡ true
+    back h = is_equal (bit_and l m) 0
+        (same_from_bits (bit_and l m) 0 (λ i. no_bit h i (bit_at m i) refl (bit_at-lt m i)))

@@ -1,19 +1,21 @@
 -- Entries add what the cells of registers add.
-use Rattle.std.proofs.Common.{◌≡◌, ℕ, zero, suc, ℤ, pos, ◌+◌, ◌*◌, ◌/◌, ◌%◌, ◌<◌, ◌≤◌, Bool, true}
+use Rattle.std.proofs.Common.{◌≡◌, ℕ, suc, ℤ, pos, ◌+◌, ◌*◌, ◌/◌, ◌%◌, ◌<◌, true}
 use Rattle.std.proofs.Common.{false, List, [], ◌∷◌, ◌++◌, refl, sym, ap, subst, ◌∙◌, arith, length}
 use Rattle.std.proofs.Common.{get_or}
 use Rattle.std.proofs.lemmas.Bool.Decides.{nat_tests}
 use Rattle.std.specs.Ordering.{int_eq}
-use Rattle.std.specs.Prelude.{◌==◌}
 use Rattle.rvs_count.specs.Buckets.{bucket_count}
-use Rattle.rvs_count.specs.Cells.{asked_bucket, raised_cell}
+use Rattle.rvs_insn.specs.Table.{op_count}
+use Rattle.rvs_count.specs.Cells.{asked_bucket, HasCells, IsCell}
 use Rattle.rvs_count.specs.Entries.{entry_at, is_field, is_look, look, raised_entry, register_count}
 use Rattle.rvs_count.specs.Entries.{HasEntries, IsEntry, IsEntryAt}
-use Rattle.rvs_count.specs.Index.{raised}
 use Rattle.rvs_count.specs.declared.asked.Asked.{Asked}
 use Rattle.rvs_count.specs.declared.asked.Asked.TheVariants.{Rd, Rs1, Rs2, Rs1Val, Rs2Val, ImmVal}
 use Rattle.rvs_count.specs.declared.asked.Asked.TheVariants.{EaAlign}
+use Rattle.rvs_count.specs.Shared.{HasBlocks}
 use Rattle.rvs_count.specs.declared.cell.Cell.{Cell}
+use Rattle.rvs_count.specs.declared.slot.Slot.{Slot}
+use Rattle.rvs_count.proofs.Blocks.{cell_in_block}
 use Rattle.rvs_count.proofs.Cells.{false_true}
 use Rattle.rvs_count.proofs.Marks.{any_default, pushed_each}
 
@@ -90,3 +92,41 @@ field_list Rs1Val n a b c h r l = absurd cc
 field_list Rs2Val n a b c h r l = absurd cc
 field_list ImmVal n a b c h r l = absurd cc
 field_list EaAlign n a b c h r l = absurd cc
+
+-- a mnemonic's cell of a register in a field, and its entry
+pub register_cell : (lists : List (List Slot)) (cells : List Cell) (blocks places entries got : List
+    ℕ)
+    (n field r : ℕ) (q : Asked) (d : Cell)
+    → HasCells lists cells → HasBlocks cells blocks → places ≡ blocks → HasEntries cells entries
+    → got ≡ entries → length blocks ≡ op_count → length cells ≡ op_count * bucket_count
+    → length entries ≡ op_count * register_count → n < op_count → field < 3 → r < 32
+    → 1 + (32 * field + r) ≡ asked_bucket q (pos r)
+    → IsCell q (get_or lists (n * bucket_count + (1 + (32 * field + r))) [])
+    (get_or cells (get_or places n 0 * bucket_count + (1 + (32 * field + r))) d)
+    × IsEntry (get_or cells (get_or places n 0 * bucket_count + (1 + (32 * field + r))) d) (pos r)
+    (get_or got (get_or places n 0 * register_count + (32 * field + r)) 0)
+register_cell lists cells blocks places entries got n field r q d has blocked at noted same bs cs es
+    m f l list = (cell, entry)
+  where
+    cell : IsCell q (get_or lists (n * bucket_count + (1 + (32 * field + r))) [])
+        (get_or cells (get_or places n 0 * bucket_count + (1 + (32 * field + r))) d)
+    cell =
+        cell_in_block lists cells cells blocks places n (1 + (32 * field + r)) q (pos r) d has
+        blocked refl at (omega (arith, bs, m)) (omega (arith, f, l)) list
+        (omega (arith, f, l, m, cs))
+
+    block_low : get_or places n 0 < op_count
+    block_low = subst (λ bs. get_or bs n 0 < op_count) (sym at)
+        (blocked.each n (omega (arith, bs, m))).0
+
+    within : (block : ℕ) → block < op_count
+        → block * register_count + (32 * field + r) < length entries
+    within block h = omega (arith, f, l, h, es)
+
+    entry : IsEntry (get_or cells (get_or places n 0 * bucket_count + (1 + (32 * field + r))) d)
+        (pos r) (get_or got (get_or places n 0 * register_count + (32 * field + r)) 0)
+    entry = subst (λ es. IsEntry
+        (get_or cells (get_or places n 0 * bucket_count + (1 + (32 * field + r))) d)
+        (pos r) (get_or es (get_or places n 0 * register_count + (32 * field + r)) 0)) (sym same)
+        (entry_in cells entries (get_or places n 0) field r d noted f l
+        (within (get_or places n 0) block_low))

@@ -1,5 +1,6 @@
 // Lists of at most two points, each by the value that it says.
-ghost use Rattle.std.specs.Prelude.{◌≡◌, ◌<◌, ◌≤◌, ◌%◌, ◌^◌, [], ◌∷◌, All, IfOk, List, length};
+ghost use Rattle.std.specs.Prelude.{◌≡◌, ◌<◌, ◌≤◌, ◌%◌, ◌^◌, [], ◌∷◌, All, IfOk, IfSome, List};
+ghost use Rattle.std.specs.Prelude.{length};
 ghost use Rattle.std.specs.Prelude.{slice_index_or, true, vec_len};
 ghost use Rattle.rvs_count.specs.Buckets.{bucket_count};
 ghost use Rattle.rvs_count.specs.Cells as spec;
@@ -20,23 +21,25 @@ const NEVER: i64 = -1_099_511_627_776;
 /// the list is for. So an instruction is held against them without a look at the points.
 #[derive(Clone, Copy)]
 pub struct Cell {
-    /// The value that the first says, and its place among the counts.
+    /// The value that the first says.
     pub first: i64,
-    pub first_at: usize,
     /// The same of the second.
     pub second: i64,
-    pub second_at: usize,
+    /// The place of the first among the counts.
+    pub first_at: u32,
+    /// The same of the second.
+    pub second_at: u32,
     /// The list has other points, and none of them is here.
     pub more: bool,
 }
 
-fn pair(first: i64, first_at: usize, second: i64, second_at: usize) -> Cell
+fn pair(first: i64, first_at: u32, second: i64, second_at: u32) -> Cell
     ensures { result ≡ spec.pair first first_at second second_at }
 {
     Cell {
         first,
-        first_at,
         second,
+        first_at,
         second_at,
         more: false,
     }
@@ -48,11 +51,23 @@ fn many() -> Cell
 {
     Cell {
         first: NEVER,
-        first_at: 0,
         second: NEVER,
+        first_at: 0,
         second_at: 0,
         more: true,
     }
+}
+
+/// The value that a point says of a fact, and its place, where that is below 2^32.
+fn told(asked: Asked, slot: &Slot<'_>) -> Option<(i64, u32)>
+    ensures value { IfSome result (λ found. spec.SaysValue asked slot.now found.0) }
+    ensures place { IfSome result (λ found. found.1 ≡ slot.now.at) }
+{
+    let value = said(asked, slot)?;
+    if slot.at > u32::MAX as usize {
+        return None;
+    }
+    Some((value, slot.at as u32))
 }
 
 #[tactic(auto, using(crate::proofs::Cells::many_adds, crate::proofs::Cells::none_adds))]
@@ -67,9 +82,9 @@ fn none(asked: Asked) -> Cell
 fn one(asked: Asked, slot: &Slot<'_>) -> Cell
     ensures { IsCell asked (slot.now ∷ []) result }
 {
-    match said(asked, slot) {
+    match told(asked, slot) {
         None => many(),
-        Some(value) => pair(value, slot.at, NEVER, 0),
+        Some((value, at)) => pair(value, at, NEVER, 0),
     }
 }
 
@@ -77,11 +92,11 @@ fn one(asked: Asked, slot: &Slot<'_>) -> Cell
 fn two(asked: Asked, first: &Slot<'_>, second: &Slot<'_>) -> Cell
     ensures { IsCell asked (first.now ∷ second.now ∷ []) result }
 {
-    match said(asked, first) {
+    match told(asked, first) {
         None => many(),
-        Some(value) => match said(asked, second) {
+        Some((value, at)) => match told(asked, second) {
             None => many(),
-            Some(other) => pair(value, first.at, other, second.at),
+            Some((other, other_at)) => pair(value, at, other, other_at),
         },
     }
 }
@@ -138,6 +153,6 @@ pub(crate) fn add_cell(cell: &Cell, value: i64, counts: &mut Vec<u64>)
     requires low { All (λ n. n ≤ 2 ^ 41) counts.old.items }
     ensures { counts.new.items ≡ spec.raised_cell cell.now value counts.old.items }
 {
-    raise_rare(counts, cell.first_at, cell.first == value);
-    raise_rare(counts, cell.second_at, cell.second == value);
+    raise_rare(counts, cell.first_at as usize, cell.first == value);
+    raise_rare(counts, cell.second_at as usize, cell.second == value);
 }

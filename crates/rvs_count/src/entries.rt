@@ -45,14 +45,10 @@ pub(crate) fn is_look(entry: u32) -> bool
 }
 
 /// One more than the place of the only point.
-fn entry_at(at: usize) -> u32
+fn entry_at(at: u32) -> u32
     ensures { result ≡ spec.entry_at at }
 {
-    if at < LOOK as usize - 1 {
-        at as u32 + 1
-    } else {
-        LOOK
-    }
+    if at < LOOK - 1 { at + 1 } else { LOOK }
 }
 
 /// What the cell of a register's list says: nothing; or one more than the place of its only point;

@@ -1,5 +1,6 @@
 // The signs of an instruction.
 ghost use Rattle.std.specs.Prelude.{◌≡◌, ◌<◌, ◌≤◌, Some, true};
+ghost use Rattle.std.specs.Int.{bit_not, w32};
 ghost use Rattle.rvs_count.specs.Signs as spec;
 ghost use Rattle.rvs_expr.specs.Meaning.{Table};
 
@@ -165,4 +166,16 @@ pub(crate) fn has_all(word: u32, mask: u32) -> bool
     ensures { result ≡ spec.has_all word mask }
 {
     word & mask == mask
+}
+
+/// Whether a word, which lacks these bits, has all bits of a mask. The word isn't looked at: where
+/// many masks are asked, what it lacks is found once, and each is one test.
+#[tactic(auto, using(crate::proofs::Masks::lacks_none))]
+#[inline(always)]
+pub(crate) fn lacks_none(word: u32, lacking: u32, mask: u32) -> bool
+    requires { lacking ≡ bit_not w32 word }
+    ensures { result ≡ spec.has_all word mask }
+{
+    let _ = word;
+    lacking & mask == 0
 }

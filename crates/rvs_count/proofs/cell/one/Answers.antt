@@ -8,5 +8,5 @@ pub returns-in-Some : goal.returns-in-Some
 returns-in-Some c =
     let fits : FitsSigned w64 c.in-Some.value = search rules in
     let same : to_z w64 (of_z w64 c.in-Some.value) ≡ c.in-Some.value = to_z-of_z _ _ fits in
-    one_adds c.args.asked c.args.slot.now c.in-Some.value c.pair.result c.in-Some.ensures
-    (rw same at c.pair.ensures)
+    one_adds c.args.asked c.args.slot.now c.in-Some.value c.pair.result c.in-Some.ensures.value
+    (rw (same, c.in-Some.ensures.place) at c.pair.ensures)

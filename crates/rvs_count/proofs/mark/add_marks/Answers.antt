@@ -17,7 +17,7 @@ loop-mark-preserved c =
     let hit = has_all signs m.mask in
     let rest = drop (c.loop-mark.mark-index + 1) c.args.marks.now in
     let e : c.raise.new.counts.items ≡ raised hit m.at cs =
-    c.raise.ensures.items ∙ ap (λ h. raised h m.at cs) c.has_all-hit.ensures in
+    c.raise.ensures.items ∙ ap (λ h. raised h m.at cs) c.lacks_none-hit.ensures in
     let P : List ℕ → Type 0 = λ l. All (λ (n : ℕ). n ≤ 2 ^ 41 + c.loop-mark.mark-index + 1) l in
     let low : P c.raise.new.counts.items =
     subst P (sym e) (raised_low hit cs m.at (2 ^ 41 + c.loop-mark.mark-index)
