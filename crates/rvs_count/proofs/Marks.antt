@@ -2,7 +2,8 @@
 use Rattle.std.proofs.Common.{◌≡◌, ℕ, zero, suc, ◌+◌, ◌*◌, ◌<◌, ◌≤◌, true, false, ◌&&◌, List}
 use Rattle.std.proofs.Common.{[]}
 use Rattle.std.proofs.Common.{◌∷◌, ◌++◌, Some, refl, sym, ap, subst, ◌∙◌, All, arith, length, drop}
-use Rattle.std.proofs.Common.{get_or}
+use Rattle.std.proofs.Common.{get_or, take}
+use Rattle.std.proofs.Math.Seq.{take-append_seam}
 use Rattle.std.proofs.lemmas.Bool.Decides.{nat_tests}
 use Rattle.std.specs.Prelude.{◌==◌}
 use Rattle.rvs_cgf.specs.Hits.{holds}
@@ -24,7 +25,7 @@ use Rattle.rvs_count.specs.declared.mark.Head.{Head}
 use Rattle.rvs_count.specs.declared.mark.Mark.{Mark}
 use Rattle.rvs_count.specs.declared.slot.Slot.{Slot}
 use Rattle.rvs_count.proofs.Masks.{first_always}
-use Rattle.rvs_count.proofs.Places.{added_bucket, slots_few, slots_low}
+use Rattle.rvs_count.proofs.Places.{added_bucket, raised_length, slots_few, slots_low}
 
 -- ---- lists that grow
 -- what is so of each of a list, and of one more
@@ -107,6 +108,17 @@ marks_low n k [] ms l has low i d h = absurd (omega arith)
 marks_low n k (s ∷ slots) ms l has low i d h =
     let is : IsMark n (get_or (s ∷ slots) i s) (get_or ms i d) = has.each i s d h in
     omega (arith, is.place, low i s (omega arith))
+
+pub marks_length : (word : ℕ) (ms : List Mark) (cs : List ℕ)
+    → length (raised_marks word ms cs) ≡ length cs
+marks_length word [] cs = refl
+marks_length word (m ∷ ms) cs =
+    marks_length word ms (raised (has_all word m.mask) m.at cs)
+    ∙ raised_length (has_all word m.mask) cs m.at
+
+-- counts that were lent come back
+pub lent_back : (n : ℕ) (new rest : List ℕ) → length new ≡ n → take n (new ++ rest) ≡ new
+lent_back n new rest e = ap (λ n. take n (new ++ rest)) (sym e) ∙ take-append_seam new rest
 
 -- going over the marks
 pub marks_next : (signs : ℕ) (ms : List Mark) (k : ℕ) (d : Mark) (cs : List ℕ)

@@ -10,7 +10,7 @@ ghost use Rattle.rvs_count.specs.declared.slot.Slot.{Slot as Entry};
 use crate::asked::{Asked, asked_at, said};
 use crate::buckets::BUCKETS;
 use crate::hits::raise_rare;
-use crate::slot::Slot;
+use crate::slot::{Slot, place_of};
 use rvs_base::{Items, NoMemory};
 use std::alloc::Global;
 
@@ -64,10 +64,8 @@ fn told(asked: Asked, slot: &Slot<'_>) -> Option<(i64, u32)>
     ensures place { IfSome result (λ found. found.1 ≡ slot.now.at) }
 {
     let value = said(asked, slot)?;
-    if slot.at > u32::MAX as usize {
-        return None;
-    }
-    Some((value, slot.at as u32))
+    let at = place_of(slot)?;
+    Some((value, at))
 }
 
 #[tactic(auto, using(crate::proofs::Cells::many_adds, crate::proofs::Cells::none_adds))]

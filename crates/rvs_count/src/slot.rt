@@ -64,3 +64,13 @@ impl<'g> Slot<'g> {
         }
     }
 }
+
+/// The place of a point among the counts, where it is below 2^32.
+pub(crate) fn place_of(slot: &Slot<'_>) -> Option<u32>
+    ensures { IfSome result (λ at. at ≡ slot.now.at) }
+{
+    if slot.at > u32::MAX as usize {
+        return None;
+    }
+    Some(slot.at as u32)
+}

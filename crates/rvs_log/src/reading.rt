@@ -315,12 +315,15 @@ fn commit_log_line(line: &[u8]) -> Option<Record<'_>>
 {
     let rest = core_front(line)?;
     let (pc, word, rest) = address_and_word(rest)?;
+    let commit = written(rest);
+    // Last, so that what the word decodes to is at hand where it is counted.
+    let insn = decode(word);
     Some(Record {
         line,
         pc,
         word,
-        insn: decode(word),
-        commit: written(rest),
+        insn,
+        commit,
     })
 }
 

@@ -1,7 +1,7 @@
 use Rattle.std.proofs.Common.{ℕ, ◌≡◌, ◌*◌, ◌<◌, ◌&&◌, List, [], Some, sym, ap, subst, ◌∙◌}
 use Rattle.std.proofs.Common.{All}
 use Rattle.std.proofs.Common.{arith}
-use Rattle.std.proofs.Common.{length, get_or, vec_len}
+use Rattle.std.proofs.Common.{drop, length, get_or, vec_len}
 use Rattle.rvs_cgf.specs.declared.group.Label.{Label}
 use Rattle.rvs_facts.specs.Mnemonics.{number}
 use Rattle.rvs_insn.specs.Fields.{Fields}
@@ -11,7 +11,7 @@ use Rattle.rvs_count.specs.Marks.{raised_marks, IsHead}
 use Rattle.rvs_count.specs.State.{added}
 use Rattle.rvs_count.specs.declared.mark.Head.{Head}
 use Rattle.rvs_count.specs.declared.mark.Mark.{Mark}
-use Rattle.rvs_count.proofs.Marks.{added_marks, few_marks, low_marks}
+use Rattle.rvs_count.proofs.Marks.{added_marks, few_marks, lent_back, low_marks, marks_length}
 use Rattle.rvs_count.proofs.index.Index.add_first.Goals as goal
 
 pub add_marks-requires-clause-within : goal.add_marks-requires-clause-within
@@ -26,11 +26,12 @@ add_marks-requires-clause-within c =
     (c.self.invariant.4.each n [] h (omega (arith, c.number.ensures.low, c.self.invariant.5))) in
     let low : n * bucket_count < length lists =
     omega (arith, c.number.ensures.low, c.self.invariant.1) in
-    let P : List Mark → Type 0 = λ l. All (λ (m : Mark). m.at < vec_len c.args.counts.now) l in
+    let P : List Mark → Type 0 = λ l. All (λ (m : Mark). m.at < length c.as_mut_slice.result.now) l in
     subst P (sym c.as_slice-else-head.ensures)
-    (low_marks c.self.inside.labels.now lists n h (vec_len c.args.counts.now) c.self.invariant.0 low
+    (low_marks c.self.inside.labels.now lists n h (length c.as_mut_slice.result.now)
+    c.self.invariant.0 low
     (ap (λ (ls : List Label). length (aims_in ls)) c.self.view_is ∙ sym c.requires.fits.count
-    ∙ sym c.args.counts.now.ok.0) is c.if-head.false)
+    ∙ sym (ap (λ (l : List ℕ). length l) c.as_mut_slice.ensures.value)) is c.if-head.false)
 
 pub add_marks-requires-clause-few : goal.add_marks-requires-clause-few
 add_marks-requires-clause-few c =
@@ -50,7 +51,7 @@ add_marks-requires-clause-few c =
       few_marks c.self.inside.labels.now lists n h c.self.invariant.0 low is c.if-head.false,
       ap (λ (ls : List Label). length (aims_in ls)) c.self.view_is,
       c.requires.fits.count,
-      c.args.counts.now.ok,
+      ap (λ (l : List ℕ). length l) c.as_mut_slice.ensures.value,
     )
 
 pub returns-else-head : goal.returns-else-head
@@ -67,15 +68,23 @@ returns-else-head c =
     omega (arith, c.number.ensures.low, c.self.invariant.1) in
     let cs = c.args.counts.now.items in
     let labels : c.self.inside.labels.now ≡ c.args.self.now = c.self.view_is in
-    added_marks c.self.inside.labels.now lists c.args.facts.now.insn c.args.facts.now.first
-    c.args.facts.now.second n h cs c.add_marks.new.counts.items c.self.invariant.0 low
+    let new = c.add_marks.new.counts in
+    let is_new : new ≡ raised_marks c.args.facts.now.signs h.marks cs =
+    c.add_marks.ensures
+    ∙ ap (λ (ms : List Mark). raised_marks c.args.facts.now.signs ms c.as_mut_slice.result.now)
+    c.as_slice-else-head.ensures
+    ∙ ap (λ (l : List ℕ). raised_marks c.args.facts.now.signs h.marks l)
+    c.as_mut_slice.ensures.value in
+    let whole : length new ≡ vec_len c.args.counts.now =
+    ap (λ (l : List ℕ). length l) is_new
+    ∙ marks_length c.args.facts.now.signs h.marks cs ∙ sym c.args.counts.now.ok.0 in
+    lent_back (vec_len c.args.counts.now) new (drop (length new) cs) whole
+    ∙ added_marks c.self.inside.labels.now lists c.args.facts.now.insn c.args.facts.now.first
+    c.args.facts.now.second n h cs new c.self.invariant.0 low
     (c.number.ensures.place ∙ ap (λ (i : Fields). number i.op) c.insn.view_is)
     (c.requires.fits.count ∙ sym (ap (λ (ls : List Label). length (aims_in ls)) labels)) is
     c.if-head.false
-    (c.add_marks.ensures
-    ∙ ap (λ (ms : List Mark). raised_marks c.args.facts.now.signs ms cs)
-    c.as_slice-else-head.ensures
-    ∙ ap (λ (w : ℕ). raised_marks w h.marks cs) c.args.facts.now.signs_known)
+    (is_new ∙ ap (λ (w : ℕ). raised_marks w h.marks cs) c.args.facts.now.signs_known)
     ∙ ap (λ (ls : List Label). added (λ a. is_seen (Some 0) a.point
     && hits_insn a (Some c.args.facts.now.insn) c.args.facts.now.first c.args.facts.now.second)
     (aims_in ls) cs) labels
