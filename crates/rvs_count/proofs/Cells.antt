@@ -1,7 +1,7 @@
 -- A cell adds what the points of its list add.
 use Rattle.std.proofs.Common.{◌≡◌, ℕ, ℤ, pos, ◌+◌, ◌*◌, ◌%◌, ◌<◌, ◌≤◌}
 use Rattle.std.proofs.Common.{◌^◌, Bool, true}
-use Rattle.std.proofs.Common.{false, cond, ◌&&◌, List, [], ◌∷◌, Option, Some, None, refl, sym, ap}
+use Rattle.std.proofs.Common.{false, cond, ◌&&◌, ◌||◌, List, [], ◌∷◌, Option, Some, None, refl, sym, ap}
 use Rattle.std.proofs.Common.{subst}
 use Rattle.std.proofs.Common.{◌∙◌, All, arith, length, get_or}
 use Rattle.std.proofs.lemmas.Bool.Decides.{nat_tests, Decides-int_eq}
@@ -18,7 +18,8 @@ use Rattle.rvs_facts.specs.Facts.{facts_of}
 use Rattle.rvs_facts.specs.Mnemonics.{number}
 use Rattle.rvs_insn.specs.Fields.{Fields}
 use Rattle.rvs_count.specs.Buckets.{is_seen, register_bucket, visited, bucket_count}
-use Rattle.rvs_count.specs.Cells.{asked_at, asked_bucket, fact, never, pair, raised_cell, sight}
+use Rattle.rvs_count.specs.Cells.{asked_at, asked_bucket, fact, may_hit, never, pair, raised_cell}
+use Rattle.rvs_count.specs.Cells.{sight}
 use Rattle.rvs_count.specs.Cells.{Fits, HasCells, IsCell, IsCellFor, SaysValue}
 use Rattle.rvs_count.specs.Counting.{Aim, aims_in, hits_insn}
 use Rattle.rvs_count.specs.Index.{added_all, insns_key, is_for, raised}
@@ -39,7 +40,7 @@ same_bool true b f g = sym (f refl)
 same_bool false true f g = g refl
 same_bool false false f g = refl
 
-int_turned : (x y : ℤ) → int_eq x y ≡ int_eq y x
+pub int_turned : (x y : ℤ) → int_eq x y ≡ int_eq y x
 int_turned x y =
     same_bool (int_eq x y) (int_eq y x)
     (λ h. (Decides-int_eq y x).1 (sym ((Decides-int_eq x y).0 h)))
@@ -72,7 +73,7 @@ pub number_says : (z : ℤ) (o : Option ℤ) (v : ℤ) → o ≡ Some v → is_v
 number_says z o v h = ap (λ o. is_value z o) h ∙ int_turned v z
 
 -- ---- what a cell adds
-not_never : (z : ℤ) → unsigned_abs z ≤ 2 ^ 32 → int_eq never z ≡ false
+pub not_never : (z : ℤ) → unsigned_abs z ≤ 2 ^ 32 → int_eq never z ≡ false
 not_never z h = turn (int_eq never z) refl
   where
     turn : (b : Bool) → int_eq never z ≡ b → b ≡ false
@@ -93,11 +94,19 @@ false_true b t f =
     absurd (omega (arith, e))
 
 -- one that says to look at the points
-pub many_adds : (q : Asked) (slots : List Slot) (c : Cell) → c.more ≡ true → IsCell q slots c
-many_adds q slots c h = record {
+pub many_adds : (q : Asked) (slots : List Slot) (c : Cell) → c.more ≡ true → c.first ≡ never
+    → IsCell q slots c
+many_adds q slots c h wide = record {
   adds = λ m op t z cs f s. false_true c.more h m;
   low = λ m n some low. false_true c.more h m;
+  spared = λ m op t z cs f s n.
+      false_true (may_hit c z) (is_open (int_eq c.first z || int_eq c.second z) (int_eq c.first
+      never) ((Decides-int_eq c.first never).1 wide)) n;
 }
+  where
+    is_open : (a b : Bool) → b ≡ true → (a || b) ≡ true
+    is_open true b h = refl
+    is_open false b h = h
 
 pub none_adds : (q : Asked) (c : Cell) → c ≡ pair never 0 never 0 → IsCell q [] c
 none_adds q c e = subst (IsCell q []) (sym e) is
@@ -107,6 +116,7 @@ none_adds q c e = subst (IsCell q []) (sym e) is
       adds = λ m op t z cs f s.
           ap (λ l. raised (int_eq never z) 0 l) (never_adds z 0 cs s) ∙ never_adds z 0 cs s;
       low = λ m n some low. (some, some);
+      spared = λ m op t z cs f s n. false_true false m refl;
     }
 
 pub one_adds : (q : Asked) (s : Slot) (y : ℤ) (c : Cell) → SaysValue q s y
@@ -119,6 +129,7 @@ one_adds q s y c says e = subst (IsCell q (s ∷ [])) (sym e) is
           never_adds z 0 (raised (int_eq y z) s.at cs) small
           ∙ ap (λ b. raised b s.at cs) (sym (says op t z f));
       low = λ m n some low. (low 0 s (omega arith), some);
+      spared = λ m op t z cs f small n. false_true false m refl;
     }
 
 pub two_add : (q : Asked) (s s' : Slot) (y y' : ℤ) (c : Cell) → SaysValue q s y
@@ -132,6 +143,7 @@ two_add q s s' y y' c says says' e = subst (IsCell q (s ∷ s' ∷ [])) (sym e) 
           ∙ ap (λ b. raised (holds (point_view s'.point.now) op t) s'.at (raised b s.at cs))
           (sym (says op t z f));
       low = λ m n some low. (low 0 s (omega arith), low 1 s (omega arith));
+      spared = λ m op t z cs f small n. false_true false m refl;
     }
 
 -- ---- the list of a fact's value
@@ -314,5 +326,21 @@ pub added_cell : (labels : List Label) (lists : List (List Slot)) (i : Fields) (
 added_cell labels lists i v1 v2 n b q z c cs cs' index h same low at l is m f small e =
     added_bucket labels i v1 v2 n b (get_or lists (n * bucket_count + b) []) cs cs' same low
     (index.each (n * bucket_count + b) [] h) l (e ∙ is.adds m i.op (facts_of i v1 v2) z cs f small)
+    ∙ ap (λ b. added (λ a. is_seen (Some b) a.point && hits_insn a (Some i) v1 v2)
+    (aims_in labels) cs) at
+
+-- a cell with more points, none of which may be hit
+pub spared_cell : (labels : List Label) (lists : List (List Slot)) (i : Fields) (v1 v2 n b : ℕ)
+    (q : Asked) (z : ℤ) (c : Cell) (cs : List ℕ)
+    → IsIndex insns_key labels lists → n * bucket_count + b < length lists → n ≡ number i.op
+    → b < bucket_count
+    → b ≡ asked_bucket q z → length cs ≡ length (aims_in labels)
+    → IsCell q (get_or lists (n * bucket_count + b) []) c → c.more ≡ true
+    → fact q (facts_of i v1 v2) ≡ Some z → unsigned_abs z ≤ 2 ^ 32 → may_hit c z ≡ false
+    → cs ≡ added (λ a. is_seen (Some (asked_bucket q z)) a.point && hits_insn a (Some i) v1 v2)
+    (aims_in labels) cs
+spared_cell labels lists i v1 v2 n b q z c cs index h same low at l is m f small none =
+    added_bucket labels i v1 v2 n b (get_or lists (n * bucket_count + b) []) cs cs same low
+    (index.each (n * bucket_count + b) [] h) l (is.spared m i.op (facts_of i v1 v2) z cs f small none)
     ∙ ap (λ b. added (λ a. is_seen (Some b) a.point && hits_insn a (Some i) v1 v2)
     (aims_in labels) cs) at

@@ -1,5 +1,6 @@
 pub mod Absent
 pub mod Blocks
+pub mod Bounding
 pub mod Built
 pub mod Cells
 pub mod Counts

@@ -1,5 +1,5 @@
 -- Lists of at most two points, each by the value that it says of the fact that the list is for.
-use Rattle.std.specs.Prelude.{◌≡◌, ℕ, ℤ, pos, negsuc, ◌+◌, ◌%◌, ◌^◌, ◌<◌, ◌≤◌, nat_lt, true, false}
+use Rattle.std.specs.Prelude.{◌≡◌, ℕ, ℤ, pos, negsuc, ◌+◌, ◌%◌, ◌^◌, ◌<◌, ◌≤◌, ◌||◌, nat_lt, Bool, true, false}
 use Rattle.std.specs.Prelude.{if◌then◌else◌, All, List, length, Option, Some, None, option_map}
 use Rattle.std.specs.Prelude.{slice_index_or, unsigned_abs}
 use Rattle.std.specs.Ordering.{int_eq}
@@ -62,6 +62,22 @@ abbrev pub SaysValue : Asked → Slot → ℤ → Type 0
 SaysValue q s z = (op : Op) (t : Table) (v : ℤ) → fact q t ≡ Some v
     → holds (point_view s.point.now) op t ≡ int_eq z v
 
+-- a point isn't hit by instructions of which a fact hasn't this value
+abbrev pub AsksValue : Asked → Slot → ℤ → Type 0
+AsksValue q s z = (op : Op) (t : Table) (v : ℤ) → fact q t ≡ Some v → int_eq z v ≡ false
+    → holds (point_view s.point.now) op t ≡ false
+
+-- none of the first n points is hit by instructions of which a fact has neither of two values
+abbrev pub AreBound : ℕ → Asked → List Slot → ℤ → ℤ → Type 0
+AreBound n q slots y z = (k : ℕ) (d : Slot) (op : Op) (t : Table) (v : ℤ) → k < n
+    → fact q t ≡ Some v → unsigned_abs v ≤ 2 ^ 32 → int_eq y v ≡ false → int_eq z v ≡ false
+    → holds (point_view (slice_index_or slots k d).point.now) op t ≡ false
+
+-- what is none of two values is neither a value nor one of two others
+abbrev pub Covers : ℤ → ℤ → ℤ → ℤ → ℤ → Type 0
+Covers z x y x' y' = (v : ℤ) → unsigned_abs v ≤ 2 ^ 32 → int_eq x' v ≡ false → int_eq y' v ≡ false
+    → (int_eq z v ≡ false) × ((int_eq x v ≡ false) × (int_eq y v ≡ false))
+
 -- a value that no fact has, -2 ^ 40
 abbrev pub never : ℤ
 never = negsuc 1099511627775
@@ -75,14 +91,21 @@ abbrev pub raised_cell : Cell → ℤ → List ℕ → List ℕ
 raised_cell c z counts =
     raised (int_eq c.second z) c.second_at (raised (int_eq c.first z) c.first_at counts)
 
+-- a point of a cell with more points may be hit
+abbrev pub may_hit : Cell → ℤ → Bool
+may_hit c z = (int_eq c.first z || int_eq c.second z) || int_eq c.first never
+
 -- a cell adds what the points of its list add, and names no other places, where it doesn't say that
--- there are more
+-- there are more; where it does, none adds but where it may
 pub record IsCell (q : Asked) (slots : List Slot) (c : Cell) : Type 0 where
   pub adds : c.more ≡ false → (op : Op) (t : Table) (z : ℤ) (counts : List ℕ)
       → fact q t ≡ Some z → unsigned_abs z ≤ 2 ^ 32
       → raised_cell c z counts ≡ raised_all (λ p. holds p op t) (places slots) counts
   pub low : c.more ≡ false → (n : ℕ) → 0 < n → All (λ (s : Slot). s.at < n) slots
       → (c.first_at < n) × (c.second_at < n)
+  pub spared : c.more ≡ true → (op : Op) (t : Table) (z : ℤ) (counts : List ℕ)
+      → fact q t ≡ Some z → unsigned_abs z ≤ 2 ^ 32 → may_hit c z ≡ false
+      → counts ≡ raised_all (λ p. holds p op t) (places slots) counts
 
 -- the cell of a list that is for a fact, or for none
 abbrev pub IsCellFor : Option Asked → List Slot → Cell → Type 0

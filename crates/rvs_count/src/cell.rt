@@ -8,6 +8,7 @@ ghost use Rattle.rvs_count.specs.Cells.{HasCells, IsCell, IsCellFor, asked_at};
 ghost use Rattle.rvs_count.specs.declared.slot.Slot.{Slot as Entry};
 
 use crate::asked::{Asked, asked_at, said};
+use crate::bounded::bound_of;
 use crate::buckets::BUCKETS;
 use crate::hits::raise_rare;
 use crate::slot::{Slot, place_of};
@@ -15,7 +16,7 @@ use rvs_base::{Items, NoMemory};
 use std::alloc::Global;
 
 /// A value that no fact has.
-const NEVER: i64 = -1_099_511_627_776;
+pub(crate) const NEVER: i64 = -1_099_511_627_776;
 
 /// What the points of a list say, where it has at most two and each says a value of the fact that
 /// the list is for. So an instruction is held against them without a look at the points.
@@ -29,7 +30,8 @@ pub struct Cell {
     pub first_at: u32,
     /// The same of the second.
     pub second_at: u32,
-    /// The list has other points, and none of them is here.
+    /// The list has other points, and none of them is here. Then these are values, one of which
+    /// the fact has where a point is hit, unless the first is one that no fact has.
     pub more: bool,
 }
 
@@ -47,7 +49,8 @@ fn pair(first: i64, first_at: u32, second: i64, second_at: u32) -> Cell
 
 /// A cell that says to look at the points.
 fn many() -> Cell
-    ensures { result.more ≡ true }
+    ensures more { result.more ≡ true }
+    ensures wide { result.first ≡ spec.never }
 {
     Cell {
         first: NEVER,
@@ -99,7 +102,23 @@ fn two(asked: Asked, first: &Slot<'_>, second: &Slot<'_>) -> Cell
     }
 }
 
-#[tactic(auto, using(crate::proofs::Cells::many_adds))]
+/// A cell of more points.
+#[tactic(auto, using(crate::proofs::Cells::many_adds, crate::proofs::Bounding::bound_adds))]
+fn more(asked: Asked, slots: &[Slot<'_>]) -> Cell
+    ensures { IsCell asked slots.now result }
+{
+    match bound_of(asked, slots) {
+        None => many(),
+        Some((first, second)) => Cell {
+            first,
+            second,
+            first_at: 0,
+            second_at: 0,
+            more: true,
+        },
+    }
+}
+
 fn cell_of(asked: Asked, slots: &[Slot<'_>]) -> Cell
     ensures { IsCell asked slots.now result }
 {
@@ -107,7 +126,7 @@ fn cell_of(asked: Asked, slots: &[Slot<'_>]) -> Cell
         [] => none(asked),
         [first] => one(asked, first),
         [first, second] => two(asked, first, second),
-        _ => many(),
+        _ => more(asked, slots),
     }
 }
 
@@ -141,6 +160,14 @@ pub(crate) fn cells(alloc: Global, lists: &[Items<Slot<'_>>]) -> Result<Items<Ce
         cells.push(cell_at(lists, number))?;
     }
     Ok(cells)
+}
+
+/// Whether a point of a cell with more points may be hit where its fact has this value.
+#[inline(always)]
+pub(crate) fn may_hit(cell: &Cell, value: i64) -> bool
+    ensures { result ≡ spec.may_hit cell.now value }
+{
+    cell.first == value || cell.second == value || cell.first == NEVER
 }
 
 /// Adds one to the counts of the points of a cell that say this value.

@@ -11,7 +11,7 @@ use Rattle.rvs_count.specs.Counting.{aims_in, hits_insn}
 use Rattle.rvs_count.specs.State.{added}
 use Rattle.rvs_count.specs.declared.cell.Cell.{Cell}
 use Rattle.rvs_count.proofs.Blocks.{cell_in_block}
-use Rattle.rvs_count.proofs.Cells.{added_cell, low_cell}
+use Rattle.rvs_count.proofs.Cells.{added_cell, low_cell, spared_cell}
 use Rattle.rvs_count.proofs.index.Index.add_value.Goals as goal
 
 pub add_cell-requires-clause-first : goal.add_cell-requires-clause-first
@@ -37,7 +37,7 @@ add_cell-requires-clause-first c =
     (omega (arith, c.asked_bucket-bucket.ensures.low, c.number.ensures.low, c.self.invariant.1))
     (ap (λ (ls : List Label). length (aims_in ls)) c.self.view_is ∙ sym c.requires.fits.count
     ∙ sym c.args.counts.now.ok.0)
-    (omega (arith, c.requires.fits.some, c.args.counts.now.ok.0)) is c.if-cell.false).0
+    (omega (arith, c.requires.fits.some, c.args.counts.now.ok.0)) is c.if-not-cell.true).0
 
 pub add_cell-requires-clause-second : goal.add_cell-requires-clause-second
 add_cell-requires-clause-second c =
@@ -62,10 +62,10 @@ add_cell-requires-clause-second c =
     (omega (arith, c.asked_bucket-bucket.ensures.low, c.number.ensures.low, c.self.invariant.1))
     (ap (λ (ls : List Label). length (aims_in ls)) c.self.view_is ∙ sym c.requires.fits.count
     ∙ sym c.args.counts.now.ok.0)
-    (omega (arith, c.requires.fits.some, c.args.counts.now.ok.0)) is c.if-cell.false).1
+    (omega (arith, c.requires.fits.some, c.args.counts.now.ok.0)) is c.if-not-cell.true).1
 
-pub returns-else-cell : goal.returns-else-cell
-returns-else-cell c =
+pub returns-then-not-cell : goal.returns-then-not-cell
+returns-then-not-cell c =
     let b = c.asked_bucket-bucket.result in
     let key = c.number.result * bucket_count + b in
     let blank : Cell =
@@ -90,8 +90,41 @@ returns-else-cell c =
     c.args.counts.now.items c.add_cell.new.counts.items c.self.invariant.0
     (omega (arith, c.asked_bucket-bucket.ensures.low, c.number.ensures.low, c.self.invariant.1))
     (c.number.ensures.place ∙ ap (λ (i : Fields). number i.op) c.insn.view_is)
-    c.asked_bucket-bucket.ensures.low at length_is is c.if-cell.false c.requires.fact
+    c.asked_bucket-bucket.ensures.low at length_is is c.if-not-cell.true c.requires.fact
     c.requires.small (rw same at c.add_cell.ensures)
+    ∙ ap (λ (ls : List Label). added (λ a. is_seen (Some (asked_bucket c.args.asked c.args.value))
+    a.point
+    && hits_insn a (Some c.args.facts.now.insn) c.args.facts.now.first c.args.facts.now.second)
+    (aims_in ls) c.args.counts.now.items) labels
+
+pub returns-else-may_hit : goal.returns-else-may_hit
+returns-else-may_hit c =
+    let b = c.asked_bucket-bucket.result in
+    let key = c.number.result * bucket_count + b in
+    let blank : Cell =
+    record { first = pos 0; first_at = 0; second = pos 0; second_at = 0; more = false } in
+    let n = c.number.result in
+    let cell : Cell =
+    get_or c.as_slice-2.result.now (get_or c.as_slice.result.now n 0 * bucket_count + b) blank in
+    let same : to_z w64 (of_z w64 c.args.value) ≡ c.args.value = to_z-of_z _ _ c.ranges.value in
+    let at : b ≡ asked_bucket c.args.asked c.args.value =
+    rw same at c.asked_bucket-bucket.ensures.value in
+    let is : IsCell c.args.asked (get_or c.self.inside.lists key []) cell =
+    cell_in_block c.self.inside.lists c.self.inside.cells c.as_slice-2.result.now
+    c.self.inside.blocks c.as_slice.result.now n b c.args.asked c.args.value blank
+    c.self.invariant.2 c.self.invariant.6 c.as_slice-2.ensures c.as_slice.ensures
+    (omega (arith, c.number.ensures.low, c.self.invariant.7)) c.asked_bucket-bucket.ensures.low at
+    (omega (arith, c.asked_bucket-bucket.ensures.low, c.number.ensures.low, c.self.invariant.3)) in
+    let labels : c.self.inside.labels.now ≡ c.args.self.now = c.self.view_is in
+    let length_is = c.requires.fits.count
+    ∙ sym (ap (λ (ls : List Label). length (aims_in ls)) labels) in
+    spared_cell c.self.inside.labels.now c.self.inside.lists c.args.facts.now.insn
+    c.args.facts.now.first c.args.facts.now.second c.number.result b c.args.asked c.args.value cell
+    c.args.counts.now.items c.self.invariant.0
+    (omega (arith, c.asked_bucket-bucket.ensures.low, c.number.ensures.low, c.self.invariant.1))
+    (c.number.ensures.place ∙ ap (λ (i : Fields). number i.op) c.insn.view_is)
+    c.asked_bucket-bucket.ensures.low at length_is is c.if-not-cell.false c.requires.fact
+    c.requires.small (rw same at (sym c.may_hit.ensures ∙ c.if-may_hit.false))
     ∙ ap (λ (ls : List Label). added (λ a. is_seen (Some (asked_bucket c.args.asked c.args.value))
     a.point
     && hits_insn a (Some c.args.facts.now.insn) c.args.facts.now.first c.args.facts.now.second)
