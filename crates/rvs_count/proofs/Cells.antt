@@ -1,7 +1,8 @@
 -- A cell adds what the points of its list add.
 use Rattle.std.proofs.Common.{◌≡◌, ℕ, ℤ, pos, ◌+◌, ◌*◌, ◌%◌, ◌<◌, ◌≤◌}
 use Rattle.std.proofs.Common.{◌^◌, Bool, true}
-use Rattle.std.proofs.Common.{false, cond, ◌&&◌, ◌||◌, List, [], ◌∷◌, Option, Some, None, refl, sym, ap}
+use Rattle.std.proofs.Common.{false, cond, ◌&&◌, ◌||◌, List, [], ◌∷◌, Option, Some, None, refl}
+use Rattle.std.proofs.Common.{sym, ap}
 use Rattle.std.proofs.Common.{subst}
 use Rattle.std.proofs.Common.{◌∙◌, All, arith, length, get_or}
 use Rattle.std.proofs.lemmas.Bool.Decides.{nat_tests, Decides-int_eq}
@@ -341,6 +342,7 @@ pub spared_cell : (labels : List Label) (lists : List (List Slot)) (i : Fields) 
     (aims_in labels) cs
 spared_cell labels lists i v1 v2 n b q z c cs index h same low at l is m f small none =
     added_bucket labels i v1 v2 n b (get_or lists (n * bucket_count + b) []) cs cs same low
-    (index.each (n * bucket_count + b) [] h) l (is.spared m i.op (facts_of i v1 v2) z cs f small none)
+    (index.each (n * bucket_count + b) [] h) l
+    (is.spared m i.op (facts_of i v1 v2) z cs f small none)
     ∙ ap (λ b. added (λ a. is_seen (Some b) a.point && hits_insn a (Some i) v1 v2)
     (aims_in labels) cs) at

@@ -4,8 +4,8 @@ ghost use Rattle.std.specs.Prelude.{None, if◌then◌else◌, length};
 ghost use Rattle.std.specs.Option.{option_map};
 ghost use Rattle.rvs_log.specs.Grammar.{hex_at, hex_digits, hex_run, hex_value};
 
-/// The value of a hexadecimal digit by its byte, and 2^32 for the other bytes, so that a sum with one
-/// of these shows it. A table has no branch that depends on the digit.
+/// The value of a hexadecimal digit by its byte, and 2^32 for the other bytes, so that a sum with
+/// one of these shows it. A table has no branch that depends on the digit.
 #[rattlefmt::skip]
 static VALUES: [u64; 256] = [
     4294967296, 4294967296, 4294967296, 4294967296, 4294967296, 4294967296, 4294967296, 4294967296,
@@ -77,7 +77,8 @@ fn counted(byte: u8) -> u64
     VALUES[usize::from(byte)]
 }
 
-/// The number that four bytes spell, where each is a hexadecimal digit; 2^32 or more where one isn't.
+/// The number that four bytes spell, where each is a hexadecimal digit, and 2^32 or more where one
+/// isn't.
 #[tactic(auto, using(crate::proofs::Values::four_counted, crate::proofs::Values::four_small))]
 #[inline(always)]
 fn four_digits(a: u8, b: u8, c: u8, d: u8) -> u64

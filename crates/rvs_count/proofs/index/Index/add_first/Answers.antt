@@ -26,7 +26,8 @@ add_marks-requires-clause-within c =
     (c.self.invariant.4.each n [] h (omega (arith, c.number.ensures.low, c.self.invariant.5))) in
     let low : n * bucket_count < length lists =
     omega (arith, c.number.ensures.low, c.self.invariant.1) in
-    let P : List Mark → Type 0 = λ l. All (λ (m : Mark). m.at < length c.as_mut_slice.result.now) l in
+    let P : List Mark → Type 0 =
+    λ l. All (λ (m : Mark). m.at < length c.as_mut_slice.result.now) l in
     subst P (sym c.as_slice-else-head.ensures)
     (low_marks c.self.inside.labels.now lists n h (length c.as_mut_slice.result.now)
     c.self.invariant.0 low
