@@ -16,10 +16,10 @@ use Rattle.rvs_count.specs.Index.{has_places, is_for, lengths_to, lists_number, 
 use Rattle.rvs_count.specs.Index.{window_fits, windows_key}
 use Rattle.rvs_count.specs.declared.key.ListKey.TheVariants.{Windows}
 
-abbrev any_has : ℕ → List Aim → Bool
+abbrev pub any_has : ℕ → List Aim → Bool
 any_has count aims = list_any (λ a. has_places count a.point.meaning) aims
 
-abbrev listed : ℕ → List ℕ → Bool
+abbrev pub listed : ℕ → List ℕ → Bool
 listed count ns = list_any (λ n. n == count) ns
 
 none_fits : (count n : ℕ) (m : Meaning) → has_places count m ≡ false
@@ -47,7 +47,7 @@ or_true true = refl
 or_true false = refl
 
 -- a number of places that some cross point has is noted
-noted : (aims : List Aim) (k m : ℕ) → 0 < k → k ≤ m → any_has k aims ≡ true
+pub noted : (aims : List Aim) (k m : ℕ) → 0 < k → k ≤ m → any_has k aims ≡ true
     → listed k (lengths_to aims m) ≡ true
 noted aims k zero some most h = absurd (omega (arith, some, most))
 noted aims k (suc m) some most h =

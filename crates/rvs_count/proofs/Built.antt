@@ -12,6 +12,7 @@ use Rattle.rvs_count.specs.Counting.{Aim, count, aims_in, aims_of_label, aims_of
 use Rattle.rvs_count.specs.Index.{PlacedPoint, places, admits, is_for, stands, places_for}
 use Rattle.rvs_count.specs.Index.{places_in}
 use Rattle.rvs_count.specs.State.{Tallied, tally_of}
+use Rattle.rvs_count.proofs.Following.{followed_nil}
 use Rattle.rvs_count.specs.declared.key.ListKey.{ListKey}
 use Rattle.rvs_count.specs.declared.slot.Slot.{Slot}
 use Rattle.rvs_base.specs.declared.asked.Window.{Window}
@@ -180,4 +181,5 @@ new_tally labels index windows counts words run i n w r =
     ap (λ ls. with ls counts words run) i
     ∙ ap (λ cs. with labels cs words run) (n ∙ zero_counts (aims_in labels))
     ∙ ap (λ ws. with labels (map (count []) (aims_in labels)) ws run) w
-    ∙ ap (λ run. with labels (map (count []) (aims_in labels)) zeros run) r
+    ∙ ap (λ run. with labels (map (count []) (aims_in labels)) zeros run)
+    (r ∙ sym (followed_nil labels))

@@ -8,8 +8,10 @@ use Rattle.rvs_log.specs.Entries.{Entry, entry_at}
 use Rattle.rvs_machine.specs.Traces.{word_of, rs1_of_word, rs2_of_word}
 use Rattle.rvs_count.specs.Counting.{Aim, aims_in, decoded, hits_insn}
 use Rattle.rvs_count.specs.Runs.{run_with}
-use Rattle.rvs_count.specs.State.{Tallied, added, counts_with, ends_run, with_entry}
+use Rattle.rvs_count.specs.State.{Tallied, added, counts_with, ends_run, followed}
+use Rattle.rvs_count.specs.State.{any_cross, with_entry}
 use Rattle.rvs_count.proofs.Counts.{apart}
+use Rattle.rvs_count.proofs.Following.{no_ends}
 use Rattle.rvs_count.proofs.Crossing.{AllSized, added_sum, none_added}
 
 -- an instruction that doesn't decode hits nothing
@@ -73,8 +75,22 @@ both_counted index crosses run run' cs cs1 cs2 words pc word i same s r first se
     cs)) r
     ∙ some_hit (aims_in index) run cs words pc word i s
 
+-- one pass, where no point is a cross point
+pub one_counted : (index : List Label) (run : List Fields) (cs cs1 : List ℕ) (words : List ℕ)
+    (pc word : ℕ) (i : Fields)
+    → any_cross (aims_in index) ≡ false → insn_of_word word ≡ Some i
+    → length cs1 ≡ length (aims_in index)
+    → cs1 ≡ added (λ a. hits_insn a (Some i) (word_of words i.rs1) (word_of words i.rs2))
+    (aims_in index) cs
+    → cs1 ≡ counts_with (aims_in index) (run_with run (decoded (entry_at words pc word)))
+    (entry_at words pc word) cs
+one_counted index run cs cs1 words pc word i none s size first =
+    no_ends (run_with run (Some i)) (aims_in index) cs1 none size
+    ∙ ap (λ l. added (λ a. ends_run a.point.meaning (run_with run (Some i))) (aims_in index) l) first
+    ∙ some_hit (aims_in index) run cs words pc word i s
+
 pub entry_counted : (t : Tallied) (b : Bool) (e : Entry) (cs : List ℕ) (run : List Fields)
-    → b ≡ true → run ≡ run_with t.run (decoded e)
+    → b ≡ true → run ≡ followed t.labels (run_with t.run (decoded e))
     → cs ≡ counts_with (aims_in t.labels) (run_with t.run (decoded e)) e t.counts
     → record {
       labels =

@@ -1,7 +1,7 @@
 -- What a tally's fields say, and what always holds of them.
 use Rattle.std.specs.Prelude.{◌≡◌, ◌≤◌, All, length}
 use Rattle.rvs_count.specs.Counting.{aims_in}
-use Rattle.rvs_count.specs.State.{Tallied}
+use Rattle.rvs_count.specs.State.{Tallied, followed}
 use Rattle.rvs_count.specs.declared.tally.Tally.TheInside.{Inside}
 
 abbrev pub tallied : Inside → Tallied
@@ -18,3 +18,4 @@ pub record IsSound (t : Inside) : Type 0 where
   pub crosses : t.crosses ≡ t.index
   pub count : length t.counts.items ≡ length (aims_in t.index)
   pub low : All (λ n. n ≤ t.instructions) t.counts.items
+  pub follows : t.run ≡ followed t.index t.run

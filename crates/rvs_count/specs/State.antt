@@ -1,6 +1,7 @@
 -- What a counter has after some bytes of a log.
 use Rattle.std.specs.Prelude.{ℕ, ◌+◌, ◌==◌, ◌||◌, Bool, true, false, if◌then◌else◌, List, [], ◌∷◌}
-use Rattle.std.specs.Prelude.{◌++◌, map, length, Option, Some}
+use Rattle.std.specs.Prelude.{◌++◌, cond, map, length, Option, Some}
+use Rattle.std.specs.List.{list_any}
 use Rattle.rvs_log.specs.Grammar.{Reading, Says, Writes, Nothing}
 use Rattle.rvs_log.specs.Lines.{whole_lines, tail_of, line_says, held, held_more, held_says}
 use Rattle.rvs_log.specs.Entries.{Entry, Heard, unheard, hear, heard, heard_write, entry_at}
@@ -13,8 +14,21 @@ use Rattle.rvs_count.specs.Counting.{Aim, aims_in, decoded, hits, count, is_in, 
 use Rattle.rvs_count.specs.Runs.{last, run_of, run_with}
 use Rattle.rvs_base.specs.declared.asked.Window.{Window}
 
+-- a point of this meaning is a cross point
+abbrev pub is_cross : Meaning → Bool
+is_cross (window ps) = true
+is_cross _ = false
+
+abbrev pub any_cross : List Aim → Bool
+any_cross aims = list_any (λ a. is_cross a.point.meaning) aims
+
+-- a run, which is followed where some point is a cross point
+abbrev pub followed : List Label → List Fields → List Fields
+followed labels run = cond (any_cross (aims_in labels)) run []
+
 -- what was counted in some lines: for these labels and windows, how often each point was hit and
--- how many instructions there were; and what of the lines matters for those that follow
+-- how many instructions there were; and what of the lines matters for those that follow: the last
+-- instructions, where they are followed, and what the registers hold
 pub record Tallied : Type 0 where
   pub labels : List Label
   pub windows : List Window
@@ -39,7 +53,7 @@ tally_from labels windows es h =
       windows = windows;
       counts = map (count es) (aims_in labels);
       instructions = length es;
-      run = run_of (map decoded es);
+      run = followed labels (run_of (map decoded es));
       heard = h;
     }
 
@@ -81,7 +95,7 @@ with_entry t true e =
       counts =
           counts_with (aims_in t.labels) (run_with t.run (decoded e)) e t.counts;
       instructions = t.instructions + 1;
-      run = run_with t.run (decoded e);
+      run = followed t.labels (run_with t.run (decoded e));
     }
 
 -- after one more line

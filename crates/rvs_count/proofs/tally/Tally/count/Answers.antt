@@ -1,4 +1,4 @@
-use Rattle.std.proofs.Common.{◌≡◌, ◌≤◌, ◌+◌, ℕ, true, List, Option, All, sym, ap, subst, ◌∙◌, arith}
+use Rattle.std.proofs.Common.{◌≡◌, ◌≤◌, ◌+◌, ℕ, false, true, List, Option, All, sym, ap, subst, ◌∙◌, arith}
 use Rattle.std.proofs.Common.{length}
 use Rattle.rvs_log.specs.Entries.{entry_at}
 use Rattle.rvs_insn.specs.Fields.{Fields}
@@ -6,20 +6,23 @@ use Rattle.rvs_cgf.specs.declared.group.Label.{Label}
 use Rattle.rvs_count.specs.Counting.{aims_in, decoded, is_in}
 use Rattle.rvs_count.specs.Runs.{run_with}
 use Rattle.rvs_count.specs.Sound.{tallied}
-use Rattle.rvs_count.specs.State.{Tallied, added, counts_with, ends_run, with_entry}
+use Rattle.rvs_count.specs.State.{Tallied, added, any_cross, counts_with, ends_run, followed}
+use Rattle.rvs_count.specs.State.{with_entry}
 use Rattle.rvs_count.proofs.Crossing.{aims_sized}
+use Rattle.rvs_count.proofs.Following.{followed_all, followed_nil, followed_none}
 use Rattle.rvs_count.proofs.Hitting.{added_length, added_low, both_counted, entry_counted, none_hit}
+use Rattle.rvs_count.proofs.Hitting.{one_counted}
 use Rattle.rvs_count.proofs.tally.Tally.count.Goals as goal
-use Rattle.rvs_count.proofs.tally.Tally.count.Goals.{After-add-in-Some}
+use Rattle.rvs_count.proofs.tally.Tally.count.Goals.{After-add-then-is_any, Else-is_any}
 
-pub add-requires-in-Some-clause-count : goal.add-requires-in-Some-clause-count
-add-requires-in-Some-clause-count c =
+pub add-requires-then-is_any-clause-count : goal.add-requires-then-is_any-clause-count
+add-requires-then-is_any-clause-count c =
     ap (λ l. length l) c.add.ensures
     ∙ added_length _ (aims_in c.self.inside.index) c.self.inside.counts.items c.self.invariant.count
     ∙ sym (ap (λ (ls : List Label). length (aims_in ls)) c.self.invariant.crosses)
 
-pub add-requires-in-Some-clause-low : goal.add-requires-in-Some-clause-low
-add-requires-in-Some-clause-low c =
+pub add-requires-then-is_any-clause-low : goal.add-requires-then-is_any-clause-low
+add-requires-then-is_any-clause-low c =
     let P : List ℕ → Type 0 = λ l. All (λ (n : ℕ). n ≤ c.self.inside.instructions + 1) l in
     let low : P c.add.new.counts.items =
     subst P (sym c.add.ensures) (added_low _ (aims_in c.self.inside.index)
@@ -28,8 +31,8 @@ add-requires-in-Some-clause-low c =
     λ k d l. omega (arith, low k d l, c.requires.low, same)
 
 -- what both passes add
-counted : (c : After-add-in-Some)
-    → c.add-in-Some.new.counts.items
+counted : (c : After-add-then-is_any)
+    → c.add-then-is_any.new.counts.items
     ≡ counts_with (aims_in c.self.inside.index)
     (run_with c.self.inside.run
     (decoded (entry_at c.self.inside.registers c.args.entry.now.pc c.args.entry.now.word)))
@@ -37,17 +40,47 @@ counted : (c : After-add-in-Some)
     c.self.inside.counts.items
 counted c =
     both_counted c.self.inside.index c.self.inside.crosses c.self.inside.run c.push.new.self
-    c.self.inside.counts.items c.add.new.counts.items c.add-in-Some.new.counts.items
+    c.self.inside.counts.items c.add.new.counts.items c.add-then-is_any.new.counts.items
     c.self.inside.registers
     c.args.entry.now.pc c.args.entry.now.word c.in-Some.insn c.self.invariant.crosses
     (sym c.requires.decoded ∙ c.in-Some.is) c.push.ensures c.add.ensures
-    (c.add-in-Some.ensures
+    (c.add-then-is_any.ensures
     ∙ ap (λ (run : List Fields). added (λ a. ends_run a.point.meaning run)
     (aims_in c.self.inside.crosses) c.add.new.counts.items)
-    c.as_slice-in-Some.ensures.items)
+    c.as_slice-then-is_any.ensures.items)
 
-pub invariant_of-self-in-Some : goal.invariant_of-self-in-Some
-invariant_of-self-in-Some c =
+-- a label has a cross point
+is_any : (c : After-add-then-is_any) → any_cross (aims_in c.self.inside.index) ≡ true
+is_any c =
+    sym (c.is_any.ensures
+    ∙ ap (λ (ls : List Label). any_cross (aims_in ls)) c.self.invariant.crosses)
+    ∙ c.if-is_any.true
+
+-- none has
+is_none : (c : Else-is_any) → any_cross (aims_in c.self.inside.index) ≡ false
+is_none c =
+    sym (c.is_any.ensures
+    ∙ ap (λ (ls : List Label). any_cross (aims_in ls)) c.self.invariant.crosses)
+    ∙ c.if-is_any.false
+
+-- what the first pass adds is all
+counted_once : (c : Else-is_any)
+    → c.add.new.counts.items
+    ≡ counts_with (aims_in c.self.inside.index)
+    (run_with c.self.inside.run
+    (decoded (entry_at c.self.inside.registers c.args.entry.now.pc c.args.entry.now.word)))
+    (entry_at c.self.inside.registers c.args.entry.now.pc c.args.entry.now.word)
+    c.self.inside.counts.items
+counted_once c =
+    one_counted c.self.inside.index c.self.inside.run c.self.inside.counts.items
+    c.add.new.counts.items c.self.inside.registers c.args.entry.now.pc c.args.entry.now.word
+    c.in-Some.insn (is_none c) (sym c.requires.decoded ∙ c.in-Some.is)
+    (ap (λ l. length l) c.add.ensures
+    ∙ added_length _ (aims_in c.self.inside.index) c.self.inside.counts.items
+    c.self.invariant.count) c.add.ensures
+
+pub invariant_of-self-then-is_any : goal.invariant_of-self-then-is_any
+invariant_of-self-then-is_any c =
     let P : List ℕ → Type 0 = λ l. All (λ (n : ℕ). n ≤ c.self.inside.instructions + 1) l in
     record {
       crosses = c.self.invariant.crosses;
@@ -57,34 +90,77 @@ invariant_of-self-in-Some c =
       low =
           subst P (sym (counted c)) (added_low _ (aims_in c.self.inside.index)
           c.self.inside.counts.items c.self.inside.instructions c.self.invariant.low);
+      follows = sym (followed_all c.self.inside.index c.push.new.self (is_any c));
     }
 
-pub returns-in-Some : goal.returns-in-Some
-returns-in-Some c =
+pub invariant_of-self-else-is_any : goal.invariant_of-self-else-is_any
+invariant_of-self-else-is_any c =
+    let P : List ℕ → Type 0 = λ l. All (λ (n : ℕ). n ≤ c.self.inside.instructions + 1) l in
+    record {
+      crosses = c.self.invariant.crosses;
+      count = ap (λ l. length l) c.add.ensures
+          ∙ added_length _ (aims_in c.self.inside.index) c.self.inside.counts.items
+          c.self.invariant.count;
+      low =
+          subst P (sym c.add.ensures) (added_low _ (aims_in c.self.inside.index)
+          c.self.inside.counts.items c.self.inside.instructions c.self.invariant.low);
+      follows = c.self.invariant.follows;
+    }
+
+pub returns-then-is_any : goal.returns-then-is_any
+returns-then-is_any c =
     let pc = c.args.entry.now.pc in
     let word = c.args.entry.now.word in
     let b : is_in c.self.inside.windows pc ≡ true =
     sym (c.leaves.ensures ∙ ap (λ ws. is_in ws pc) c.as_slice.ensures)
     ∙ c.if-leaves.true in
-    let r : c.push.new.self
-    ≡ run_with c.self.inside.run (decoded (entry_at c.self.inside.registers pc word)) =
+    let run = run_with c.self.inside.run (decoded (entry_at c.self.inside.registers pc word)) in
+    let r : c.push.new.self ≡ followed c.self.inside.index run =
     c.push.ensures
     ∙ ap (λ (o : Option Fields). run_with c.self.inside.run o)
-    (sym (sym c.requires.decoded ∙ c.in-Some.is)) in
+    (sym (sym c.requires.decoded ∙ c.in-Some.is))
+    ∙ sym (followed_all c.self.inside.index run (is_any c)) in
     let P : Tallied
     → Type 0 =
     λ t. record {
       labels = c.self.inside.index;
       windows = c.self.inside.windows;
-      counts = c.add-in-Some.new.counts.items;
+      counts = c.add-then-is_any.new.counts.items;
       instructions = c.self.inside.instructions + 1;
       run = c.push.new.self;
       heard = record { words = c.self.inside.registers; started = c.self.inside.started };
     }
     ≡ with_entry t (is_in t.windows pc) (entry_at t.heard.words pc word) in
     subst P c.self.view_is (entry_counted (tallied c.self.inside) (is_in c.self.inside.windows pc)
-    (entry_at c.self.inside.registers pc word) c.add-in-Some.new.counts.items c.push.new.self b
+    (entry_at c.self.inside.registers pc word) c.add-then-is_any.new.counts.items c.push.new.self b
     r (counted c))
+
+pub returns-else-is_any : goal.returns-else-is_any
+returns-else-is_any c =
+    let pc = c.args.entry.now.pc in
+    let word = c.args.entry.now.word in
+    let index = c.self.inside.index in
+    let b : is_in c.self.inside.windows pc ≡ true =
+    sym (c.leaves.ensures ∙ ap (λ ws. is_in ws pc) c.as_slice.ensures)
+    ∙ c.if-leaves.true in
+    let run = run_with c.self.inside.run (decoded (entry_at c.self.inside.registers pc word)) in
+    let r : c.self.inside.run ≡ followed index run =
+    c.self.invariant.follows ∙ followed_none index c.self.inside.run (is_none c)
+    ∙ sym (followed_none index run (is_none c)) in
+    let P : Tallied
+    → Type 0 =
+    λ t. record {
+      labels = index;
+      windows = c.self.inside.windows;
+      counts = c.add.new.counts.items;
+      instructions = c.self.inside.instructions + 1;
+      run = c.self.inside.run;
+      heard = record { words = c.self.inside.registers; started = c.self.inside.started };
+    }
+    ≡ with_entry t (is_in t.windows pc) (entry_at t.heard.words pc word) in
+    subst P c.self.view_is (entry_counted (tallied c.self.inside) (is_in c.self.inside.windows pc)
+    (entry_at c.self.inside.registers pc word) c.add.new.counts.items c.self.inside.run b r
+    (counted_once c))
 
 pub returns-in-None : goal.returns-in-None
 returns-in-None c =
@@ -95,8 +171,11 @@ returns-in-None c =
     ∙ c.if-leaves.true in
     let s = sym c.requires.decoded ∙ c.in-None.is in
     let r : c.clear.new.self
-    ≡ run_with c.self.inside.run (decoded (entry_at c.self.inside.registers pc word)) =
-    c.clear.ensures ∙ ap (λ (o : Option Fields). run_with c.self.inside.run o) (sym s) in
+    ≡ followed c.self.inside.index
+    (run_with c.self.inside.run (decoded (entry_at c.self.inside.registers pc word))) =
+    c.clear.ensures ∙ sym (followed_nil c.self.inside.index)
+    ∙ ap (λ (o : Option Fields). followed c.self.inside.index (run_with c.self.inside.run o))
+    (sym s) in
     let e : c.self.inside.counts.items
     ≡ counts_with (aims_in c.self.inside.index)
     (run_with c.self.inside.run (decoded (entry_at c.self.inside.registers pc word)))
