@@ -86,7 +86,8 @@ pub one_counted : (index : List Label) (run : List Fields) (cs cs1 : List ℕ) (
     (entry_at words pc word) cs
 one_counted index run cs cs1 words pc word i none s size first =
     no_ends (run_with run (Some i)) (aims_in index) cs1 none size
-    ∙ ap (λ l. added (λ a. ends_run a.point.meaning (run_with run (Some i))) (aims_in index) l) first
+    ∙ ap (λ l. added (λ a. ends_run a.point.meaning (run_with run (Some i))) (aims_in index) l)
+    first
     ∙ some_hit (aims_in index) run cs words pc word i s
 
 pub entry_counted : (t : Tallied) (b : Bool) (e : Entry) (cs : List ℕ) (run : List Fields)
