@@ -3,17 +3,17 @@ use Rattle.std.proofs.Common.{Some, None, ap, ◌∙◌}
 use Rattle.rvs_expr.specs.TypedView as typed
 use Rattle.rvs_expr.specs.Meaning.{holds}
 use Rattle.rvs_expr.proofs.Reading.{holds_by}
-use Rattle.rvs_expr.proofs.expr.Expr.eval.Goals as goal
+use Rattle.rvs_expr.proofs.expr.Expr.holds.Goals as goal
 
-pub returns-in-None-clause-value : goal.returns-in-None-clause-value
-returns-in-None-clause-value g c =
+pub returns-in-None : goal.returns-in-None
+returns-in-None g c =
     let t = g.F.Facts.table c.args.facts.now in
     holds_by t (typed.view c.self.inside.top) c.self.inside.names None c.self.invariant.2
     c.in-None.ensures
     ∙ ap (λ top. holds t (typed.view top)) c.self.view_is
 
-pub returns-in-Some-clause-value : goal.returns-in-Some-clause-value
-returns-in-Some-clause-value g c =
+pub returns-in-Some : goal.returns-in-Some
+returns-in-Some g c =
     let t = g.F.Facts.table c.args.facts.now in
     c.is_true.ensures
     ∙ holds_by t (typed.view c.self.inside.top) c.self.inside.names
