@@ -18,7 +18,7 @@ use Rattle.rvs_cross.specs.Sequences.{first_solutions, first_sequence}
 use Rattle.rvs_cross.proofs.Choices.{sum_same}
 use Rattle.rvs_cross.proofs.Solved.{SolveResult}
 
-used_map : (x : Variable) (ps : List code.Place)
+pub used_map : (x : Variable) (ps : List code.Place)
     → list_any (λ p. says_of x (place_view p)) ps ≡ is_used (map place_view ps) x
 used_map x [] = refl
 used_map x (p ∷ ps) = ap (λ b. says_of x (place_view p) || b) (used_map x ps)

@@ -3,12 +3,15 @@ pub mod Binding
 pub mod Choices
 pub mod Excluding
 pub mod Few
+pub mod Found
 pub mod Members
+pub mod Naming
 pub mod Names
 pub mod Noting
 pub mod Once
 pub mod Rows
 pub mod Searching
+pub mod Single
 pub mod Solutions
 pub mod Solved
 pub mod Turns

@@ -1,10 +1,12 @@
 pub mod Alone
 pub mod Assigned
+pub mod Bare
 pub mod Choosing
 pub mod Cross
 pub mod CrossView
 pub mod Entries
 pub mod First
+pub mod Listed
 pub mod Lists
 pub mod ListsView
 pub mod Once
@@ -12,5 +14,6 @@ pub mod Outcomes
 pub mod Parse
 pub mod Refusals
 pub mod Sequences
+pub mod Used
 pub mod Variables
 pub mod Windows

@@ -1,7 +1,10 @@
 // Cross points.
 ghost use Rattle.std.specs.Prelude.{◌≡◌, ◌≤◌, length};
 ghost use Rattle.std.proofs.Props.{props};
+ghost use Rattle.rvs_cross.specs.Used.{is_used, assigns_once};
+ghost use Rattle.rvs_cross.specs.declared.cross.Variable.TheVariants as variable;
 
+use crate::used::{assigns_once, is_used};
 use rvs_base::Items;
 use rvs_expr::Expr;
 use rvs_insn::Op;
@@ -49,10 +52,25 @@ pub struct Place {
     pub condition: Option<Expr>,
 }
 
+/// Which variables the places of a cross point say something of.
+#[derive(Clone, Copy)]
+pub(crate) struct Used {
+    pub(crate) first: bool,
+    pub(crate) second: bool,
+    pub(crate) third: bool,
+}
+
 /// A cross point: one to six places, for instructions one after the other.
 #[derive(Drop)]
 pub struct Cross {
     pub(crate) list: Items<Place>,
+    pub(crate) used: Used,
+    /// Whether no variable has two assignments.
+    pub(crate) once: bool,
+    ghost first: { used.first ≡ is_used list variable.First } by { Prim.hlevel props },
+    ghost second: { used.second ≡ is_used list variable.Second } by { Prim.hlevel props },
+    ghost third: { used.third ≡ is_used list variable.Third } by { Prim.hlevel props },
+    ghost alone: { once ≡ assigns_once list } by { Prim.hlevel props },
     ghost some: { 1 ≤ length list } by { Prim.hlevel props },
     ghost few: { length list ≤ 6 } by { Prim.hlevel props },
 }
@@ -66,7 +84,14 @@ impl Cross {
         requires few { length list ≤ 6 }
         ensures { result.list ≡ list }
     {
-        Cross { list }
+        let places = list.as_slice();
+        let used = Used {
+            first: is_used(places, Variable::First),
+            second: is_used(places, Variable::Second),
+            third: is_used(places, Variable::Third),
+        };
+        let once = assigns_once(places);
+        Cross { list, used, once }
     }
 }
 

@@ -3,11 +3,13 @@ ghost use Rattle.std.specs.Prelude.{◌≡◌, ◌+◌, ◌≤◌, option_map};
 ghost use Rattle.std.specs.List.{list_any, list_all};
 ghost use Rattle.rvs_expr.specs.TypedView as typed;
 ghost use Rattle.rvs_facts.specs.Mnemonics as spec;
+ghost use Rattle.rvs_cross.specs.Bare.{bare_view};
 ghost use Rattle.rvs_cross.specs.CrossView.{place_view};
 ghost use Rattle.rvs_cross.specs.Windows.{is_listed, is_set, meets, fits};
 
 use crate::cross::{Assignment, Place};
-use crate::values::{Named, Values, is_set};
+use crate::named::names_at;
+use crate::values::{Values, is_set};
 use rvs_base::Items;
 use rvs_expr::{Expr, Steps};
 use rvs_facts::is_same;
@@ -21,6 +23,7 @@ pub(crate) fn is_among(ops: &[Op], op: Op) -> bool
 }
 
 /// Whether the mnemonic is listed, which all are where no list is given.
+#[inline(always)]
 fn is_listed(ops: &Option<Items<Op>>, op: Op) -> bool
     ensures { result ≡ is_listed ops.now op }
 {
@@ -30,6 +33,7 @@ fn is_listed(ops: &Option<Items<Op>>, op: Op) -> bool
     }
 }
 
+#[inline(always)]
 fn all_set(values: &Values, insn: &Insn, sets: &[Assignment]) -> bool
     ensures { result ≡ list_all (is_set values.now insn.now) sets.now }
 {
@@ -38,6 +42,7 @@ fn all_set(values: &Values, insn: &Insn, sets: &[Assignment]) -> bool
 }
 
 /// Whether the expression, where there is one, is defined and true. It is at most one step.
+#[inline(always)]
 fn meets<L: Ledger>(
     values: &Values,
     insn: &Insn,
@@ -49,11 +54,12 @@ fn meets<L: Ledger>(
 {
     match condition {
         None => true,
-        Some(expr) => expr.eval(&Named { values, insn }, steps),
+        Some(expr) => expr.eval(&names_at(values, insn), steps),
     }
 }
 
 /// Whether the instruction is what the place asks for. It is at most one step.
+#[inline(always)]
 pub(crate) fn fits<L: Ledger>(
     values: &Values,
     place: &Place,
@@ -66,4 +72,19 @@ pub(crate) fn fits<L: Ledger>(
     is_listed(&place.ops, insn.op)
         && all_set(values, insn, place.sets.as_slice())
         && meets(values, insn, &place.condition, steps)
+}
+
+/// Whether the instruction is what the place asks for besides its assignments. It is at most one
+/// step.
+#[inline(always)]
+pub(crate) fn fits_bare<L: Ledger>(
+    values: &Values,
+    place: &Place,
+    insn: &Insn,
+    steps: &mut Steps<L>,
+) -> bool
+    ensures value { result ≡ fits values.now (bare_view place.now) insn.now }
+    ensures cost { steps.new ≤ steps.old + 1 }
+{
+    is_listed(&place.ops, insn.op) && meets(values, insn, &place.condition, steps)
 }

@@ -10,9 +10,11 @@ mod fitting;
 mod laws;
 mod lists;
 mod matching;
+mod named;
 mod parsing;
 mod refusal;
 mod solving;
+mod used;
 mod values;
 mod variables;
 

@@ -1,12 +1,15 @@
 // When neighbouring instructions match a cross point.
-ghost use Rattle.std.specs.Prelude.{◌≡◌, ◌+◌, ◌≤◌, length, map, Some};
+ghost use Rattle.std.specs.Prelude.{◌≡◌, ◌+◌, ◌≤◌, ◌&&◌, length, map, Some};
 ghost use Rattle.rvs_insn.specs.Fields.{IsRegister};
+ghost use Rattle.rvs_cross.specs.Bare.{bare_view};
 ghost use Rattle.rvs_cross.specs.CrossView.{place_view, cross_view};
 ghost use Rattle.rvs_cross.specs.Windows as windows;
-ghost use Rattle.rvs_cross.specs.Assigned.{assigned_field, assigned_in, assigned};
+ghost use Rattle.rvs_cross.specs.Assigned.{assigned_field, assigned};
+ghost use Rattle.rvs_cross.specs.Used.{is_bound, is_used};
 
-use crate::cross::{Assignment, Cross, Field, Place, Variable};
-use crate::fitting::fits;
+use crate::cross::{Assignment, Cross, Field, Place, Used, Variable};
+use crate::fitting::{fits, fits_bare};
+use crate::used::same_variable;
 use crate::values::{Values, register_in};
 use rvs_expr::Steps;
 use rvs_insn::Insn;
@@ -21,35 +24,53 @@ pub fn matches<L: Ledger>(cross: &Cross, window: &[Insn], steps: &mut Steps<L>) 
     ensures cost { steps.new ≤ steps.old + length cross.now.list }
 {
     let places = cross.list.as_slice();
+    let used = cross.used;
+    let first = found(used.first, places, Variable::First, window);
+    let second = found(used.second, places, Variable::Second, window);
+    let third = found(used.third, places, Variable::Third, window);
+    if !cross.once {
+        let values = Values {
+            first,
+            second,
+            third,
+        };
+        return all_fit(&values, places, window, steps);
+    }
     let values = Values {
-        first: assigned(places, Variable::First, window),
-        second: assigned(places, Variable::Second, window),
-        third: assigned(places, Variable::Third, window),
+        first,
+        second,
+        third,
     };
-    all_fit(&values, places, window, steps)
+    if !all_bound(used, &values) {
+        return false;
+    }
+    all_bare(&values, places, window, steps)
 }
 
-pub(crate) fn same_variable(left: Variable, right: Variable) -> bool
-    ensures { result ≡ windows.same_variable left right }
+#[inline(always)]
+fn is_bound(used: bool, value: Option<u8>) -> bool
+    ensures { result ≡ is_bound used value }
 {
-    matches!(
-        (left, right),
-        (Variable::First, Variable::First)
-            | (Variable::Second, Variable::Second)
-            | (Variable::Third, Variable::Third)
-    )
+    match value {
+        None => !used,
+        Some(_) => true,
+    }
 }
 
-/// Whether a place says something of a variable.
-pub(crate) fn says_of(place: &Place, variable: Variable) -> bool
-    ensures { result ≡ windows.says_of variable (place_view place.now) }
+/// Whether each variable that is used stands for a register. Where none has two assignments, they
+/// then hold.
+#[inline(always)]
+fn all_bound(used: Used, values: &Values) -> bool
+    ensures { result ≡ (is_bound used.first values.now.first
+        && (is_bound used.second values.now.second && is_bound used.third values.now.third)) }
 {
-    let sets = place.sets.as_slice();
-    sets.iter()
-        .any(|assignment| same_variable(variable, assignment.variable))
+    is_bound(used.first, values.first)
+        && is_bound(used.second, values.second)
+        && is_bound(used.third, values.third)
 }
 
 /// The field of the first of these assignments that says something of a variable.
+#[inline(always)]
 fn assigned_field(sets: &[Assignment], variable: Variable) -> Option<Field>
     ensures { result ≡ assigned_field variable sets.now }
 {
@@ -59,15 +80,8 @@ fn assigned_field(sets: &[Assignment], variable: Variable) -> Option<Field>
     first.map(|assignment| assignment.field)
 }
 
-/// The register that it finds.
-fn assigned_in(sets: &[Assignment], variable: Variable, insn: &Insn) -> Option<u8>
-    ensures value { result ≡ assigned_in variable sets.now insn.now }
-    ensures register { IsRegister result }
-{
-    register_in(insn, assigned_field(sets, variable)?)
-}
-
 /// The register that the first assignment of a variable finds.
+#[inline(always)]
 fn assigned(places: &[Place], variable: Variable, window: &[Insn]) -> Option<u8>
     requires { length window.now ≡ length places.now }
     ensures value { result ≡ assigned variable (map place_view places.now) window.now }
@@ -75,14 +89,31 @@ fn assigned(places: &[Place], variable: Variable, window: &[Insn]) -> Option<u8>
 {
     for (k, place) in places.iter().enumerate() {
         let insn = &window[k];
-        if says_of(place, variable) {
-            return assigned_in(place.sets.as_slice(), variable, insn);
+        match assigned_field(place.sets.as_slice(), variable) {
+            Some(field) => return register_in(insn, field),
+            None => {},
         }
     }
     None
 }
 
+/// The same, where no place is looked at for a variable of which none says anything.
+#[inline(always)]
+fn found(used: bool, places: &[Place], variable: Variable, window: &[Insn]) -> Option<u8>
+    requires long { length window.now ≡ length places.now }
+    requires used { used ≡ is_used places.now variable }
+    ensures value { result ≡ assigned variable (map place_view places.now) window.now }
+    ensures register { IsRegister result }
+{
+    if used {
+        assigned(places, variable, window)
+    } else {
+        None
+    }
+}
+
 /// Whether each instruction is what its place asks for.
+#[inline(never)]
 fn all_fit<L: Ledger>(
     values: &Values,
     places: &[Place],
@@ -96,6 +127,26 @@ fn all_fit<L: Ledger>(
 {
     for (k, place) in places.iter().enumerate() {
         if !fits(values, place, &window[k], steps) {
+            return false;
+        }
+    }
+    true
+}
+
+/// Whether each instruction is what its place asks for besides its assignments.
+fn all_bare<L: Ledger>(
+    values: &Values,
+    places: &[Place],
+    window: &[Insn],
+    steps: &mut Steps<L>,
+) -> bool
+    requires { length window.now ≡ length places.now }
+    ensures value { result ≡ windows.all_fit values.now (map bare_view places.now)
+        (map (λ i. Some i) window.now) }
+    ensures cost { steps.new ≤ steps.old + length places.now }
+{
+    for (k, place) in places.iter().enumerate() {
+        if !fits_bare(values, place, &window[k], steps) {
             return false;
         }
     }

@@ -1,17 +1,15 @@
 // The instructions that solve a cross point.
 ghost use Rattle.std.specs.Prelude.{◌≡◌, ◌+◌, ◌*◌, ◌≤◌, All, IfOk, IfSome, IfNone, length, map};
 ghost use Rattle.std.specs.Prelude.{flat_map, true, Some};
-ghost use Rattle.std.specs.List.{list_any};
 ghost use Rattle.rvs_insn.specs.Fields.{IsRegister};
 ghost use Rattle.rvs_cross.specs.CrossView.{place_view, cross_view};
 ghost use Rattle.rvs_cross.specs.Sequences.{IsComputing, Solvable, bound, count_of, first_sequence};
 ghost use Rattle.rvs_cross.specs.Sequences.{first_solutions, solutions};
-ghost use Rattle.rvs_cross.specs.Windows as windows;
 ghost use Rattle.rvs_cross.specs.Windows.{matches, with_third, with_second};
 
 use crate::choosing::{choices_for, solution};
 use crate::cross::{Cross, Place, Variable};
-use crate::matching::says_of;
+use crate::used::is_used;
 use crate::values::Values;
 use rvs_base::{Items, NoMemory};
 use rvs_expr::Steps;
@@ -60,13 +58,6 @@ fn first_of_all<L: Ledger>(
     let seconds = choices_for(is_used(places, Variable::Second));
     let thirds = choices_for(is_used(places, Variable::Third));
     first_over_firsts(alloc, places, spec, firsts, seconds, thirds, steps)
-}
-
-/// Whether a place says something of the variable.
-fn is_used(places: &[Place], variable: Variable) -> bool
-    ensures { result ≡ list_any (λ p. windows.says_of variable (place_view p)) places.now }
-{
-    places.iter().any(|place| says_of(place, variable))
 }
 
 fn first_over_firsts<L: Ledger>(

@@ -4,7 +4,6 @@ ghost use Rattle.rvs_insn.specs.Fields.{IsRegister};
 ghost use Rattle.rvs_cross.specs.Windows.{value_of, register_in, same_register, is_set};
 
 use crate::cross::{Assignment, Field, Variable};
-use rvs_expr::{Facts, NumName, RegName};
 use rvs_insn::Insn;
 use std::marker::Model;
 
@@ -31,6 +30,7 @@ impl Model for Values {
 }
 
 /// What a variable stands for.
+#[inline(always)]
 pub(crate) fn value_of(values: &Values, variable: Variable) -> Option<u8>
     ensures { result ≡ value_of values.now variable }
 {
@@ -42,6 +42,7 @@ pub(crate) fn value_of(values: &Values, variable: Variable) -> Option<u8>
 }
 
 /// The register in a field, where the instruction has that field.
+#[inline(always)]
 pub(crate) fn register_in(insn: &Insn, field: Field) -> Option<u8>
     ensures value { result ≡ register_in insn.now field }
     ensures register { IsRegister result }
@@ -53,6 +54,7 @@ pub(crate) fn register_in(insn: &Insn, field: Field) -> Option<u8>
     }
 }
 
+#[inline(always)]
 pub(crate) fn same_register(left: Option<u8>, right: Option<u8>) -> bool
     ensures { result ≡ same_register left right }
 {
@@ -63,39 +65,10 @@ pub(crate) fn same_register(left: Option<u8>, right: Option<u8>) -> bool
 }
 
 /// Whether the variable is the register in the field.
+#[inline(always)]
 pub(crate) fn is_set(values: &Values, insn: &Insn, assignment: &Assignment) -> bool
     ensures { result ≡ is_set values.now insn.now assignment.now }
 {
     let value = value_of(values, assignment.variable);
     same_register(value, register_in(insn, assignment.field))
-}
-
-/// The names of an expression: an instruction's registers, and variables.
-#[derive(Clone, Copy)]
-pub(crate) struct Named<'i> {
-    pub(crate) values: &'i Values,
-    pub(crate) insn: &'i Insn,
-}
-
-impl Facts for Named<'_> {
-    ghost use Rattle.rvs_cross.specs.Windows.{facts_with};
-
-    ghost table = { λ f. facts_with f.values.now f.insn.now };
-
-    fn reg(&self, name: RegName) -> Option<u8> {
-        let values = self.values;
-        let insn = self.insn;
-        match name {
-            RegName::Rd => insn.rd,
-            RegName::Rs1 => insn.rs1,
-            RegName::Rs2 => insn.rs2,
-            RegName::Var0 => values.first,
-            RegName::Var1 => values.second,
-            RegName::Var2 => values.third,
-        }
-    }
-
-    fn num(&self, _: NumName) -> Option<i64> {
-        None
-    }
 }
