@@ -4,6 +4,7 @@ pub mod Cuts
 pub mod Digits
 pub mod Fronts
 pub mod Logs
+pub mod Numbers
 pub mod Octets
 pub mod RunLogs
 pub mod WordParts

@@ -1,37 +1,23 @@
--- The table of the values of hexadecimal digits.
-use Rattle.std.proofs.Common.{◌≡◌, ◌⊎◌, inl, inr, ℕ, zero, suc, ◌+◌, ◌*◌, ◌<◌, ◌≤◌, Bool, true}
-use Rattle.std.proofs.Common.{false}
-use Rattle.std.proofs.Common.{cond, ◌&&◌, ◌||◌}
+-- The table of what hexadecimal digits count.
+use Rattle.std.proofs.Common.{◌≡◌, ℕ, zero, suc, ◌+◌, ◌*◌, ◌/◌, ◌%◌, ◌^◌, ◌<◌, ◌≤◌, Bool, true}
+use Rattle.std.proofs.Common.{false, ◌&&◌, cond}
 use Rattle.std.proofs.Common.{List, [], ◌∷◌, Option, Some, None, refl, sym, ap, ◌∙◌, length, get_or}
-use Rattle.std.proofs.Common.{arith}
+use Rattle.std.proofs.Common.{arith, subst}
 use Rattle.std.proofs.lemmas.Bool.Decides.{nat_tests}
-use Rattle.std.specs.Prelude.{◌==◌, nat_lt}
-use Rattle.rvs_log.specs.Grammar.{hex_run, hex_value}
+use Rattle.std.specs.Prelude.{◌==◌, nat_lt, IfSome}
+use Rattle.rvs_log.specs.Grammar.{first_write, hex_run, hex_value}
 use Rattle.rvs_log.proofs.Digits.{four_more}
-use Rattle.rvs_log.specs.declared.words.TheConstants.{VALUES}
+use Rattle.rvs_log.specs.declared.places.TheConstants.{PLACES}
 
-abbrev value_if : ℕ → Option ℕ
-value_if v = cond (nat_lt v 16) (Some v) None
+-- what an entry is for a digit, and for no digit
+abbrev is_entry : ℕ → Option ℕ → ℕ → Bool
+is_entry place None v = v == 4294967296
+is_entry place (Some d) v = (v == 16 ^ place * d) && nat_lt d 16
 
-abbrev same : Option ℕ → Option ℕ → Bool
-same None None = true
-same (Some a) (Some b) = a == b
-same None (Some b) = false
-same (Some a) None = false
-
-same_is : (a b : Option ℕ) → same a b ≡ true → a ≡ b
-same_is None None h = refl
-same_is (Some a) (Some b) h = ap (λ n. Some n) (equal a b h)
-  where
-    equal : (a b : ℕ) → (a == b) ≡ true → a ≡ b
-    equal a b h = grind (arith, nat_tests)
-same_is None (Some b) h = cc
-same_is (Some a) None h = cc
-
--- each value in turn, from a byte on
+-- each entry in turn, from a row on
 abbrev fits_from : ℕ → List ℕ → Bool
-fits_from b [] = true
-fits_from b (v ∷ vs) = same (value_if v) (hex_value b) && fits_from (b + 1) vs
+fits_from k [] = true
+fits_from k (v ∷ vs) = is_entry (k / 256) (hex_value (k % 256)) v && fits_from (k + 1) vs
 
 both : (a b : Bool) → (a && b) ≡ true → (a ≡ true) × (b ≡ true)
 both true true h = (refl, refl)
@@ -39,109 +25,161 @@ both true false h = cc
 both false b h = cc
 
 fits_at : (b : ℕ) (vs : List ℕ) (k : ℕ) → fits_from b vs ≡ true → k < length vs
-    → value_if (get_or vs k 0) ≡ hex_value (b + k)
+    → is_entry ((b + k) / 256) (hex_value ((b + k) % 256)) (get_or vs k 0) ≡ true
 fits_at b [] k h l = absurd (omega arith)
 fits_at b (v ∷ vs) zero h l =
-    let e : b ≡ b + 0 = omega arith in same_is (value_if v) (hex_value b) (both _ _ h).0
-    ∙ ap hex_value e
+    let e : b ≡ b + 0 = omega arith in
+    subst (λ n. is_entry (n / 256) (hex_value (n % 256)) v ≡ true) e (both _ _ h).0
 fits_at b (v ∷ vs) (suc k) h l =
-    let e : b + 1 + k
-    ≡ b + suc k = omega arith in fits_at (b + 1) vs k
-    (both (same (value_if v) (hex_value b)) (fits_from (b + 1) vs) h).1 (omega arith)
-    ∙ ap hex_value e
+    let e : b + 1 + k ≡ b + suc k = omega arith in
+    subst (λ n. is_entry (n / 256) (hex_value (n % 256)) (get_or vs k 0) ≡ true) e
+    (fits_at (b + 1) vs k
+    (both (is_entry (b / 256) (hex_value (b % 256)) v) (fits_from (b + 1) vs) h).1 (omega arith))
 
-pub value_at : (b : ℕ) → b < 256 → value_if (get_or VALUES b 0) ≡ hex_value b
-value_at b h = let e : 0 + b ≡ b = omega arith in fits_at 0 VALUES b refl h ∙ ap hex_value e
+entry_at : (place byte : ℕ) → place < 4 → byte < 256
+    → is_entry place (hex_value byte) (get_or PLACES (256 * place + byte) 0) ≡ true
+entry_at place byte p h =
+    let k = 256 * place + byte in
+    let e : (0 + k) / 256 ≡ place = omega arith in
+    let f : (0 + k) % 256 ≡ byte = omega arith in
+    subst (λ n. is_entry n (hex_value byte) (get_or PLACES k 0) ≡ true) e
+    (subst (λ n. is_entry ((0 + k) / 256) (hex_value n) (get_or PLACES k 0) ≡ true) f
+    (fits_at 0 PLACES k refl (omega arith)))
 
-pub value_some : (b : ℕ) → b < 256 → get_or VALUES b 0 < 16 → Some (get_or VALUES b 0) ≡ hex_value b
-value_some b h low =
-    sym (ap (λ t. cond t (Some (get_or VALUES b 0)) None) (is_low (get_or VALUES b 0) low))
-    ∙ value_at b h
-  where
-    is_low : (n : ℕ) → n < 16 → nat_lt n 16 ≡ true
-    is_low n h = grind (arith, nat_tests)
+equal : (a b : ℕ) → (a == b) ≡ true → a ≡ b
+equal a b h = grind (arith, nat_tests)
 
-pub value_none : (b : ℕ) → b < 256 → 16 ≤ get_or VALUES b 0 → None ≡ hex_value b
-value_none b h high =
-    sym (ap (λ t. cond t (Some (get_or VALUES b 0)) None) (is_high (get_or VALUES b 0) high))
-    ∙ value_at b h
-  where
-    is_high : (n : ℕ) → 16 ≤ n → nat_lt n 16 ≡ false
-    is_high n h = grind (arith, nat_tests)
+none_is : (place : ℕ) (o : Option ℕ) (v : ℕ) → is_entry place o v ≡ true → o ≡ None
+    → v ≡ 4294967296
+none_is place None v h e = equal v 4294967296 h
+none_is place (Some d) v h e = absurd cc
 
--- each entry is below 16, or it is 2^32
-abbrev is_entry : ℕ → Bool
-is_entry v = nat_lt v 16 || v == 4294967296
+digit_is : (place : ℕ) (o : Option ℕ) (v : ℕ) → is_entry place o v ≡ true
+    → IfSome o (λ d. (d < 16) × (v ≡ 16 ^ place * d))
+digit_is place None v h = tt
+digit_is place (Some d) v h = (
+  grind (arith, nat_tests, (both (v == 16 ^ place * d) (nat_lt d 16) h).1),
+  equal v (16 ^ place * d) (both (v == 16 ^ place * d) (nat_lt d 16) h).0,
+)
 
-abbrev are_entries : List ℕ → Bool
-are_entries [] = true
-are_entries (v ∷ vs) = is_entry v && are_entries vs
+pub place_none : (place byte k : ℕ) → place < 4 → byte < 256 → k ≡ byte → hex_value byte ≡ None
+    → get_or PLACES (256 * place + k) 0 ≡ 4294967296
+place_none place byte k p h same e =
+    subst (λ n. get_or PLACES (256 * place + n) 0 ≡ 4294967296) (sym same)
+    (none_is place (hex_value byte) (get_or PLACES (256 * place + byte) 0)
+    (entry_at place byte p h) e)
 
-either : (a b : Bool) → (a || b) ≡ true → (a ≡ true) ⊎ (b ≡ true)
-either true b h = inl refl
-either false b h = inr h
+pub place_digit : (place byte k : ℕ) → place < 4 → byte < 256 → k ≡ byte
+    → IfSome (hex_value byte) (λ d. (d < 16)
+    × (get_or PLACES (256 * place + k) 0 ≡ 16 ^ place * d))
+place_digit place byte k p h same =
+    subst (λ n. IfSome (hex_value byte) (λ d. (d < 16)
+    × (get_or PLACES (256 * place + n) 0 ≡ 16 ^ place * d))) (sym same)
+    (digit_is place (hex_value byte) (get_or PLACES (256 * place + byte) 0)
+    (entry_at place byte p h))
 
-entry_edge : (v : ℕ) → is_entry v ≡ true → (v < 16) ⊎ (v ≡ 4294967296)
-entry_edge v h = elim (either (nat_lt v 16) (v == 4294967296) h) [
-  | inl low ↦ inl (grind (arith, nat_tests))
-  | inr is ↦ inr (grind (arith, nat_tests))
-]
+digit_low : (place d : ℕ) → place < 4 → d < 16 → 16 ^ place * d ≤ 4294967296
+digit_low zero d p h = omega arith
+digit_low (suc zero) d p h = omega arith
+digit_low (suc (suc zero)) d p h = omega arith
+digit_low (suc (suc (suc zero))) d p h = omega arith
+digit_low (suc (suc (suc (suc n)))) d p h = absurd (omega arith)
 
-entry_at : (vs : List ℕ) (k : ℕ) → are_entries vs ≡ true → k < length vs
-    → (get_or vs k 0 < 16) ⊎ (get_or vs k 0 ≡ 4294967296)
-entry_at [] k h l = absurd (omega arith)
-entry_at (v ∷ vs) zero h l = entry_edge v (both (is_entry v) (are_entries vs) h).0
-entry_at (v ∷ vs) (suc k) h l = entry_at vs k (both (is_entry v) (are_entries vs) h).1 (omega arith)
+low_is : (place : ℕ) (o : Option ℕ) (v : ℕ) → place < 4 → is_entry place o v ≡ true → v ≤ 4294967296
+low_is place None v p h = let e = equal v 4294967296 h in omega (arith, e)
+low_is place (Some d) v p h =
+    let is = digit_is place (Some d) v h in
+    let low = digit_low place d p is.0 in
+    rw (is.1) low
 
-pub value_edge : (b : ℕ) → b < 256 → 16 ≤ get_or VALUES b 0 → get_or VALUES b 0 ≡ 4294967296
-value_edge b h high = elim (entry_at VALUES b refl h) [
-  | inl low ↦ absurd (omega (arith, low, high))
-  | inr is ↦ is
-]
+pub place_low : (place byte k : ℕ) → place < 4 → byte < 256 → k ≡ byte
+    → get_or PLACES (256 * place + k) 0 ≤ 4294967296
+place_low place byte k p h same =
+    subst (λ n. get_or PLACES (256 * place + n) 0 ≤ 4294967296) (sym same)
+    (low_is place (hex_value byte) (get_or PLACES (256 * place + byte) 0) p
+    (entry_at place byte p h))
 
-pub value_low : (b : ℕ) → b < 256 → get_or VALUES b 0 ≤ 4294967296
-value_low b h = elim (entry_at VALUES b refl h) [
-  | inl low ↦ omega (arith, low)
-  | inr is ↦ omega (arith, is)
-]
+-- what a digit counts at the last place
+pub value_is : (o : Option ℕ) (v : ℕ) → (o ≡ None → v ≡ 4294967296)
+    → IfSome o (λ d. (d < 16) × (v ≡ 16 ^ 0 * d)) → cond (nat_lt v 16) (Some v) None ≡ o
+value_is None v n s = rw (n refl) refl
+value_is (Some d) v n s =
+    let e : v ≡ d = omega (arith, s.1) in
+    let low : nat_lt d 16 ≡ true = grind (arith, nat_tests, s.0) in
+    rw (e, low) refl
 
-below : (w n : ℕ) → (16 ≤ w → w ≡ 4294967296) → w ≤ n → n < 4294967296 → w < 16
-below w n edge l h = by-test (nat_lt w 16) refl
-  where
-    by-test : (t : Bool) → nat_lt w 16 ≡ t → w < 16
-    by-test true is = grind (arith, nat_tests)
-    by-test false is =
-        let high : 16 ≤ w = grind (arith, nat_tests) in
-        let e = edge high in
-        absurd (omega (arith, e, l, h))
+-- a sum that stays small has digits alone
+found : (G : Type 0) (scale v : ℕ) (o : Option ℕ) → (o ≡ None → v ≡ 4294967296)
+    → IfSome o (λ d. (d < 16) × (v ≡ scale * d)) → v < 4294967296
+    → ((d : ℕ) → o ≡ Some d → d < 16 → v ≡ scale * d → G) → G
+found G scale v None n s h k = let e = n refl in absurd (omega (arith, e, h))
+found G scale v (Some d) n s h k = k d refl s.0 s.1
 
 -- four digits more, by what they count
-pub four_counted : (v a b c d w x y z : ℕ) (bs : List ℕ) → (w < 16 → Some w ≡ hex_value a)
-    → (16 ≤ w → w ≡ 4294967296) → (x < 16 → Some x ≡ hex_value b) → (16 ≤ x → x ≡ 4294967296)
-    → (y < 16 → Some y ≡ hex_value c) → (16 ≤ y → y ≡ 4294967296)
-    → (z < 16 → Some z ≡ hex_value d) → (16 ≤ z → z ≡ 4294967296)
-    → 16 * (16 * (16 * w + x) + y) + z < 4294967296
-    → hex_run v (a ∷ b ∷ c ∷ d ∷ bs)
-    ≡ hex_run (65536 * v + (16 * (16 * (16 * w + x) + y) + z)) bs
-four_counted v a b c d w x y z bs dw ew dx ex dy ey dz ez h =
-    let n = 16 * (16 * (16 * w + x) + y) + z in
-    let same : 4096 * w + 256 * x + 16 * y + z ≡ n = omega arith in
-    four_more v a b c d w x y z bs
-    (sym (dw (below w n ew (omega arith) h)))
-    (sym (dx (below x n ex (omega arith) h)))
-    (sym (dy (below y n ey (omega arith) h)))
-    (sym (dz (below z n ez (omega arith) h)))
-    ∙ ap (λ k. hex_run (65536 * v + k) bs) same
+pub four_counted : (v a b c d w x y z : ℕ) (bs : List ℕ)
+    → (hex_value a ≡ None → w ≡ 4294967296)
+    → IfSome (hex_value a) (λ k. (k < 16) × (w ≡ 16 ^ 3 * k))
+    → (hex_value b ≡ None → x ≡ 4294967296)
+    → IfSome (hex_value b) (λ k. (k < 16) × (x ≡ 16 ^ 2 * k))
+    → (hex_value c ≡ None → y ≡ 4294967296)
+    → IfSome (hex_value c) (λ k. (k < 16) × (y ≡ 16 ^ 1 * k))
+    → (hex_value d ≡ None → z ≡ 4294967296)
+    → IfSome (hex_value d) (λ k. (k < 16) × (z ≡ 16 ^ 0 * k))
+    → w + x + y + z < 4294967296
+    → hex_run v (a ∷ b ∷ c ∷ d ∷ bs) ≡ hex_run (65536 * v + (w + x + y + z)) bs
+four_counted v a b c d w x y z bs wn ws xn xs yn ys zn zs h =
+    let G = hex_run v (a ∷ b ∷ c ∷ d ∷ bs) ≡ hex_run (65536 * v + (w + x + y + z)) bs in
+    found G (16 ^ 3) w (hex_value a) wn ws (omega (arith, h)) (λ p ep lp wp.
+    found G (16 ^ 2) x (hex_value b) xn xs (omega (arith, h)) (λ q eq lq xq.
+    found G (16 ^ 1) y (hex_value c) yn ys (omega (arith, h)) (λ r er lr yr.
+    found G (16 ^ 0) z (hex_value d) zn zs (omega (arith, h)) (λ s es ls zs.
+    let same : 4096 * p + 256 * q + 16 * r + s ≡ w + x + y + z = omega (arith, wp, xq, yr, zs) in
+    four_more v a b c d p q r s bs ep eq er es
+    ∙ ap (λ k. hex_run (65536 * v + k) bs) same))))
 
 -- four digits are a small number
-pub four_small : (w x y z : ℕ) → (16 ≤ w → w ≡ 4294967296) → (16 ≤ x → x ≡ 4294967296)
-    → (16 ≤ y → y ≡ 4294967296) → (16 ≤ z → z ≡ 4294967296)
-    → 16 * (16 * (16 * w + x) + y) + z < 4294967296
-    → 16 * (16 * (16 * w + x) + y) + z < 65536
-four_small w x y z ew ex ey ez h =
-    let n = 16 * (16 * (16 * w + x) + y) + z in
-    let first = below w n ew (omega arith) h in
-    let second = below x n ex (omega arith) h in
-    let third = below y n ey (omega arith) h in
-    let fourth = below z n ez (omega arith) h in
-    omega (arith, first, second, third, fourth)
+pub four_small : (a b c d : Option ℕ) (w x y z : ℕ)
+    → (a ≡ None → w ≡ 4294967296) → IfSome a (λ k. (k < 16) × (w ≡ 16 ^ 3 * k))
+    → (b ≡ None → x ≡ 4294967296) → IfSome b (λ k. (k < 16) × (x ≡ 16 ^ 2 * k))
+    → (c ≡ None → y ≡ 4294967296) → IfSome c (λ k. (k < 16) × (y ≡ 16 ^ 1 * k))
+    → (d ≡ None → z ≡ 4294967296) → IfSome d (λ k. (k < 16) × (z ≡ 16 ^ 0 * k))
+    → w + x + y + z < 4294967296 → w + x + y + z < 65536
+four_small a b c d w x y z wn ws xn xs yn ys zn zs h =
+    let G = w + x + y + z < 65536 in
+    found G (16 ^ 3) w a wn ws (omega (arith, h)) (λ p ep lp wp.
+    found G (16 ^ 2) x b xn xs (omega (arith, h)) (λ q eq lq xq.
+    found G (16 ^ 1) y c yn ys (omega (arith, h)) (λ r er lr yr.
+    found G (16 ^ 0) z d zn zs (omega (arith, h)) (λ s es ls zs.
+    omega (arith, wp, xq, yr, zs, lp, lq, lr, ls)))))
+
+-- no write begins at a digit or behind it
+digit_skips : (a d : ℕ) (bs : List ℕ) → hex_value a ≡ Some d
+    → first_write false (a ∷ bs) ≡ first_write false bs
+digit_skips a d bs e = turn (a == 32) refl
+  where
+    turn : (t : Bool) → (a == 32) ≡ t → first_write t bs ≡ first_write false bs
+    turn true h =
+        let bad : Some d ≡ None = sym e ∙ ap hex_value (equal a 32 h) in
+        absurd cc
+    turn false h = refl
+
+-- nor among four digits
+pub four_skipped : (a b c d w x y z : ℕ) (bs : List ℕ)
+    → (hex_value a ≡ None → w ≡ 4294967296)
+    → IfSome (hex_value a) (λ k. (k < 16) × (w ≡ 16 ^ 3 * k))
+    → (hex_value b ≡ None → x ≡ 4294967296)
+    → IfSome (hex_value b) (λ k. (k < 16) × (x ≡ 16 ^ 2 * k))
+    → (hex_value c ≡ None → y ≡ 4294967296)
+    → IfSome (hex_value c) (λ k. (k < 16) × (y ≡ 16 ^ 1 * k))
+    → (hex_value d ≡ None → z ≡ 4294967296)
+    → IfSome (hex_value d) (λ k. (k < 16) × (z ≡ 16 ^ 0 * k))
+    → w + x + y + z < 4294967296
+    → first_write false (a ∷ b ∷ c ∷ d ∷ bs) ≡ first_write false bs
+four_skipped a b c d w x y z bs wn ws xn xs yn ys zn zs h =
+    let G = first_write false (a ∷ b ∷ c ∷ d ∷ bs) ≡ first_write false bs in
+    found G (16 ^ 3) w (hex_value a) wn ws (omega (arith, h)) (λ p ep lp wp.
+    found G (16 ^ 2) x (hex_value b) xn xs (omega (arith, h)) (λ q eq lq xq.
+    found G (16 ^ 1) y (hex_value c) yn ys (omega (arith, h)) (λ r er lr yr.
+    found G (16 ^ 0) z (hex_value d) zn zs (omega (arith, h)) (λ s es ls zs.
+    digit_skips a p (b ∷ c ∷ d ∷ bs) ep ∙ digit_skips b q (c ∷ d ∷ bs) eq
+    ∙ digit_skips c r (d ∷ bs) er ∙ digit_skips d s bs es))))

@@ -2,8 +2,17 @@
 use Rattle.std.specs.Prelude.{ℕ, List, Option, Some, codes}
 use Rattle.rvs_machine.specs.Written.{Write}
 use Rattle.rvs_text.specs.Options.{◌>>=◌}
-use Rattle.rvs_log.specs.Grammar.{after_byte, after_privilege, after_some, after_text}
-use Rattle.rvs_log.specs.Grammar.{at_end, blank, hex_at, is_capital, spaced}
+use Rattle.rvs_log.specs.Grammar.{after_brackets, after_byte, after_core, after_privilege}
+use Rattle.rvs_log.specs.Grammar.{after_some, after_text, at_end, blank, hex_at, is_capital}
+use Rattle.rvs_log.specs.Grammar.{pc_and_word, spaced}
+
+-- the address and the word behind a core and its privilege, and what follows them
+abbrev pub core_and_words : List ℕ → Option (ℕ × ℕ × List ℕ)
+core_and_words line = after_core line >>= pc_and_word
+
+-- the same behind the front of a Sail log
+abbrev pub brackets_and_words : List ℕ → Option (ℕ × ℕ × List ℕ)
+brackets_and_words line = after_brackets line >>= pc_and_word
 
 -- the word in parentheses after an address, and its bracket's other side: the address, the word and
 -- what follows

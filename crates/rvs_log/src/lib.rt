@@ -3,9 +3,11 @@
 
 mod follow;
 mod laws;
+mod places;
 mod plain;
 mod reading;
 mod registers;
+mod tokens;
 mod view;
 mod words;
 mod written;

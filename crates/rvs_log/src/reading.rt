@@ -2,18 +2,18 @@
 ghost use Rattle.std.specs.Prelude.{◌≡◌, ◌<◌, ◌∷◌, [], IfSome, true};
 ghost use Rattle.std.specs.Option.{option_copied, option_map};
 ghost use Rattle.rvs_insn.specs.Fields.{insn_of_word};
-ghost use Rattle.rvs_log.specs.Grammar.{after_all, after_byte, after_brackets, after_core};
+ghost use Rattle.rvs_log.specs.Grammar.{after_brackets, after_core};
 ghost use Rattle.rvs_log.specs.Grammar.{after_privilege};
-ghost use Rattle.rvs_log.specs.Grammar.{after_some, after_spaces, after_text, at_end, blank};
+ghost use Rattle.rvs_log.specs.Grammar.{after_text, blank};
 ghost use Rattle.rvs_log.specs.Grammar.{commit_log};
-ghost use Rattle.rvs_text.specs.Bytes.{is_digit};
-ghost use Rattle.rvs_log.specs.Grammar.{first_write, is_capital, pc_and_word, reading_of};
-ghost use Rattle.rvs_log.specs.Grammar.{register_at, sail_log, Says, spaced, write_at, write_if};
+ghost use Rattle.rvs_log.specs.Grammar.{first_write, pc_and_word, reading_of};
+ghost use Rattle.rvs_log.specs.Grammar.{sail_log, Says, write_at, write_if};
 ghost use Rattle.rvs_log.specs.Grammar.{write_line};
 ghost use Rattle.rvs_log.specs.Parts as part;
 ghost use Rattle.rvs_log.specs.Read.{said, IsDecoded, IsOf};
 
-use crate::plain::{plain_core, plain_words, plain_write};
+use crate::plain::{plain_commit, plain_line, plain_sail, plain_store, plain_words, plain_write};
+use crate::tokens::{byte_at, capitals, digits, register, spaces, token_end, without_spaces};
 use crate::words::word_at;
 use rvs_insn::{Insn, decode};
 use rvs_machine::Commit;
@@ -41,99 +41,6 @@ pub enum Line<'l> {
     Commit(Commit),
     /// Anything else.
     Other,
-}
-
-/// What follows a byte at the front.
-#[inline(always)]
-pub(crate) fn byte_at(text: &[u8], byte: u8) -> Option<&[u8]>
-    ensures { option_copied result ≡ after_byte byte text.now }
-{
-    match text {
-        [first, rest @ ..] if *first == byte => Some(rest),
-        _ => None,
-    }
-}
-
-/// The text without the spaces at its front.
-#[inline(always)]
-fn without_spaces(text: &[u8]) -> &[u8]
-    ensures { result.now ≡ after_spaces text.now }
-{
-    let mut text = text;
-    while let [first, rest @ ..] = text {
-        if *first != b' ' {
-            break;
-        }
-        text = rest;
-    }
-    text
-}
-
-/// What follows one or more spaces.
-#[inline(always)]
-fn spaces(text: &[u8]) -> Option<&[u8]>
-    ensures { option_copied result ≡ spaced text.now }
-{
-    let rest = byte_at(text, b' ')?;
-    Some(without_spaces(rest))
-}
-
-/// What follows one or more decimal digits.
-fn digits(text: &[u8]) -> Option<&[u8]>
-    ensures { option_copied result ≡ after_some is_digit text.now }
-{
-    match text {
-        [b'0'..=b'9', rest @ ..] => Some(without_digits(rest)),
-        _ => None,
-    }
-}
-
-fn without_digits(text: &[u8]) -> &[u8]
-    ensures { result.now ≡ after_all is_digit text.now }
-{
-    let mut text = text;
-    while let [first, rest @ ..] = text {
-        if !(*first >= b'0' && *first <= b'9') {
-            break;
-        }
-        text = rest;
-    }
-    text
-}
-
-/// What follows one or more capital letters.
-fn capitals(text: &[u8]) -> Option<&[u8]>
-    ensures { option_copied result ≡ after_some is_capital text.now }
-{
-    match text {
-        [b'A'..=b'Z', rest @ ..] => Some(without_capitals(rest)),
-        _ => None,
-    }
-}
-
-fn without_capitals(text: &[u8]) -> &[u8]
-    ensures { result.now ≡ after_all is_capital text.now }
-{
-    let mut text = text;
-    while let [first, rest @ ..] = text {
-        if !(*first >= b'A' && *first <= b'Z') {
-            break;
-        }
-        text = rest;
-    }
-    text
-}
-
-/// The text, where it is empty or begins with a space.
-#[inline(always)]
-pub(crate) fn token_end(text: &[u8]) -> Option<&[u8]>
-    ensures { option_copied result ≡ at_end text.now }
-{
-    match text {
-        [] => Some(text),
-        [b' ', ..] => Some(text),
-        _ => None,
-    }
 }
 
 /// An instruction's address and word, and what follows.
@@ -171,26 +78,6 @@ fn any_address_and_word(text: &[u8]) -> Option<(u32, u32, &[u8])>
     word_and_end(pc, rest)
 }
 
-/// A register's number, and what follows.
-#[inline(always)]
-pub(crate) fn register(text: &[u8]) -> Option<(u8, &[u8])>
-    ensures value { option_map (λ found. (found.0, found.1.now)) result ≡ register_at text.now }
-    ensures low { IfSome result (λ found. found.0 < 32) }
-{
-    match text {
-        [tens @ b'0'..=b'9', ones @ b'0'..=b'9', rest @ ..] => {
-            let number = 10 * (*tens - b'0') + (*ones - b'0');
-            if number >= 10 && number < 32 {
-                Some((number, rest))
-            } else {
-                None
-            }
-        },
-        [ones @ b'0'..=b'9', rest @ ..] => Some((*ones - b'0', rest)),
-        _ => None,
-    }
-}
-
 /// The word that a register got, after spaces, up to the end of its token.
 #[inline(always)]
 fn value_after(reg: u8, text: &[u8]) -> Option<Commit>
@@ -220,7 +107,18 @@ fn write_if_fresh(fresh: bool, text: &[u8]) -> Option<Commit>
     if fresh { write(text) } else { None }
 }
 
-/// The first write among the tokens of a text. Mostly the text begins with it.
+/// The first write among the tokens of a text. A store has none.
+#[inline(never)]
+fn late_written(text: &[u8]) -> Option<Commit>
+    ensures { result ≡ first_write true text.now }
+{
+    match plain_store(text) {
+        Some(_) => None,
+        None => any_written(text),
+    }
+}
+
+/// The same. Mostly the text begins with it.
 #[inline(always)]
 fn written(text: &[u8]) -> Option<Commit>
     ensures { result ≡ first_write true text.now }
@@ -229,7 +127,7 @@ fn written(text: &[u8]) -> Option<Commit>
         [] => None,
         _ => match plain_write(text) {
             Some(commit) => Some(commit),
-            None => any_written(text),
+            None => late_written(text),
         },
     }
 }
@@ -253,18 +151,6 @@ fn any_written(text: &[u8]) -> Option<Commit>
     None
 }
 
-/// What follows the privilege of a commit log's line.
-#[tactic(auto, using(crate::proofs::Straight::core_is))]
-#[inline(always)]
-fn core_front(line: &[u8]) -> Option<&[u8]>
-    ensures { option_copied result ≡ after_core line.now }
-{
-    match plain_core(line) {
-        Some(rest) => Some(without_spaces(rest)),
-        None => any_core_front(line),
-    }
-}
-
 /// What follows a colon and a privilege with spaces after each.
 #[inline(always)]
 fn colon_and_privilege(text: &[u8]) -> Option<&[u8]>
@@ -276,10 +162,10 @@ fn colon_and_privilege(text: &[u8]) -> Option<&[u8]>
     spaces(rest)
 }
 
-/// The same of any hart and privilege, and with any spaces.
+/// What follows the privilege of a commit log's line.
 #[tactic(auto, unfolding(crate::specs::Grammar::after_core))]
 #[inline(never)]
-fn any_core_front(line: &[u8]) -> Option<&[u8]>
+fn core_front(line: &[u8]) -> Option<&[u8]>
     ensures { option_copied result ≡ after_core line.now }
 {
     let rest = core_word(line)?;
@@ -306,6 +192,29 @@ fn privilege(text: &[u8]) -> Option<&[u8]>
     }
 }
 
+/// The address and the word that a line of a commit log says, and what follows them, with any hart
+/// and privilege and any spaces.
+#[inline(never)]
+fn any_line(line: &[u8]) -> Option<(u32, u32, &[u8])>
+    ensures { option_map (λ found. (found.0, found.1, found.2.now)) result
+        ≡ part.core_and_words line.now }
+{
+    let rest = core_front(line)?;
+    address_and_word(rest)
+}
+
+/// The same. Most lines are of one hart in machine mode.
+#[inline(always)]
+fn core_and_words(line: &[u8]) -> Option<(u32, u32, &[u8])>
+    ensures { option_map (λ found. (found.0, found.1, found.2.now)) result
+        ≡ part.core_and_words line.now }
+{
+    match plain_line(line) {
+        Some(found) => Some(found),
+        None => any_line(line),
+    }
+}
+
 /// A line of a commit log.
 #[inline(always)]
 fn commit_log_line(line: &[u8]) -> Option<Record<'_>>
@@ -313,8 +222,7 @@ fn commit_log_line(line: &[u8]) -> Option<Record<'_>>
     ensures whole { IfSome result (λ r. r.line.now ≡ line.now) }
     ensures decoded { IfSome result (λ r. r.insn ≡ insn_of_word r.word) }
 {
-    let rest = core_front(line)?;
-    let (pc, word, rest) = address_and_word(rest)?;
+    let (pc, word, rest) = core_and_words(line)?;
     let commit = written(rest);
     // Last, so that what the word decodes to is at hand where it is counted.
     let insn = decode(word);
@@ -350,14 +258,37 @@ fn sail_front(line: &[u8]) -> Option<&[u8]>
     capitals_and_colon(rest)
 }
 
+/// The address and the word that a line of a Sail log says, and what follows them, with any
+/// privilege and any spaces.
+#[inline(never)]
+fn any_sail(line: &[u8]) -> Option<(u32, u32, &[u8])>
+    ensures { option_map (λ found. (found.0, found.1, found.2.now)) result
+        ≡ part.brackets_and_words line.now }
+{
+    let rest = sail_front(line)?;
+    address_and_word(rest)
+}
+
+/// The same. Most lines are in machine mode.
+#[inline(always)]
+fn brackets_and_words(line: &[u8]) -> Option<(u32, u32, &[u8])>
+    ensures { option_map (λ found. (found.0, found.1, found.2.now)) result
+        ≡ part.brackets_and_words line.now }
+{
+    match plain_sail(line) {
+        Some(found) => Some(found),
+        None => any_sail(line),
+    }
+}
+
 /// A line of a Sail log.
+#[inline(always)]
 fn sail_log_line(line: &[u8]) -> Option<Record<'_>>
     ensures said { option_map (λ r. Says r.pc r.word r.commit) result ≡ sail_log line.now }
     ensures whole { IfSome result (λ r. r.line.now ≡ line.now) }
     ensures decoded { IfSome result (λ r. r.insn ≡ insn_of_word r.word) }
 {
-    let rest = sail_front(line)?;
-    let (pc, word, _) = address_and_word(rest)?;
+    let (pc, word, _) = brackets_and_words(line)?;
     Some(Record {
         line,
         pc,
@@ -399,15 +330,27 @@ fn arrow_and_value(reg: u8, text: &[u8]) -> Option<Commit>
     Some(Commit { reg, value })
 }
 
-/// A line that says a write alone.
+/// A line that says a write alone, with any spaces and digits.
 #[tactic(auto, unfolding(crate::specs::Grammar::write_line))]
-fn commit_line(line: &[u8]) -> Option<Commit>
+#[inline(never)]
+fn any_commit(line: &[u8]) -> Option<Commit>
     ensures { result ≡ write_line line.now }
 {
     let rest = byte_at(line, b'x')?;
     let (reg, rest) = register(rest)?;
     let rest = spaces(rest)?;
     arrow_and_value(reg, rest)
+}
+
+/// A line that says a write alone.
+#[inline(always)]
+fn commit_line(line: &[u8]) -> Option<Commit>
+    ensures { result ≡ write_line line.now }
+{
+    match plain_commit(line) {
+        Some(commit) => Some(commit),
+        None => any_commit(line),
+    }
 }
 
 /// What a line of a log says: an instruction, as Spike's commit log or a Sail log writes it; a word

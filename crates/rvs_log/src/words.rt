@@ -1,55 +1,19 @@
 // Words in hexadecimal digits.
 ghost use Rattle.std.specs.Prelude.{◌≡◌, ◌<◌, ◌≤◌, ◌==◌, ◌+◌, ◌*◌, ◌^◌, ◌∷◌, ℕ, List, IfSome, Some};
-ghost use Rattle.std.specs.Prelude.{None, if◌then◌else◌, length};
+ghost use Rattle.std.specs.Prelude.{None, false, if◌then◌else◌, length};
 ghost use Rattle.std.specs.Option.{option_map};
-ghost use Rattle.rvs_log.specs.Grammar.{hex_at, hex_digits, hex_run, hex_value};
+ghost use Rattle.rvs_log.specs.Grammar.{first_write, hex_at, hex_digits, hex_run, hex_value};
 
-/// The value of a hexadecimal digit by its byte, and 2^32 for the other bytes, so that a sum with
-/// one of these shows it. A table has no branch that depends on the digit.
-#[rattlefmt::skip]
-static VALUES: [u64; 256] = [
-    4294967296, 4294967296, 4294967296, 4294967296, 4294967296, 4294967296, 4294967296, 4294967296,
-    4294967296, 4294967296, 4294967296, 4294967296, 4294967296, 4294967296, 4294967296, 4294967296,
-    4294967296, 4294967296, 4294967296, 4294967296, 4294967296, 4294967296, 4294967296, 4294967296,
-    4294967296, 4294967296, 4294967296, 4294967296, 4294967296, 4294967296, 4294967296, 4294967296,
-    4294967296, 4294967296, 4294967296, 4294967296, 4294967296, 4294967296, 4294967296, 4294967296,
-    4294967296, 4294967296, 4294967296, 4294967296, 4294967296, 4294967296, 4294967296, 4294967296,
-    0, 1, 2, 3, 4, 5, 6, 7,
-    8, 9, 4294967296, 4294967296, 4294967296, 4294967296, 4294967296, 4294967296,
-    4294967296, 10, 11, 12, 13, 14, 15, 4294967296,
-    4294967296, 4294967296, 4294967296, 4294967296, 4294967296, 4294967296, 4294967296, 4294967296,
-    4294967296, 4294967296, 4294967296, 4294967296, 4294967296, 4294967296, 4294967296, 4294967296,
-    4294967296, 4294967296, 4294967296, 4294967296, 4294967296, 4294967296, 4294967296, 4294967296,
-    4294967296, 10, 11, 12, 13, 14, 15, 4294967296,
-    4294967296, 4294967296, 4294967296, 4294967296, 4294967296, 4294967296, 4294967296, 4294967296,
-    4294967296, 4294967296, 4294967296, 4294967296, 4294967296, 4294967296, 4294967296, 4294967296,
-    4294967296, 4294967296, 4294967296, 4294967296, 4294967296, 4294967296, 4294967296, 4294967296,
-    4294967296, 4294967296, 4294967296, 4294967296, 4294967296, 4294967296, 4294967296, 4294967296,
-    4294967296, 4294967296, 4294967296, 4294967296, 4294967296, 4294967296, 4294967296, 4294967296,
-    4294967296, 4294967296, 4294967296, 4294967296, 4294967296, 4294967296, 4294967296, 4294967296,
-    4294967296, 4294967296, 4294967296, 4294967296, 4294967296, 4294967296, 4294967296, 4294967296,
-    4294967296, 4294967296, 4294967296, 4294967296, 4294967296, 4294967296, 4294967296, 4294967296,
-    4294967296, 4294967296, 4294967296, 4294967296, 4294967296, 4294967296, 4294967296, 4294967296,
-    4294967296, 4294967296, 4294967296, 4294967296, 4294967296, 4294967296, 4294967296, 4294967296,
-    4294967296, 4294967296, 4294967296, 4294967296, 4294967296, 4294967296, 4294967296, 4294967296,
-    4294967296, 4294967296, 4294967296, 4294967296, 4294967296, 4294967296, 4294967296, 4294967296,
-    4294967296, 4294967296, 4294967296, 4294967296, 4294967296, 4294967296, 4294967296, 4294967296,
-    4294967296, 4294967296, 4294967296, 4294967296, 4294967296, 4294967296, 4294967296, 4294967296,
-    4294967296, 4294967296, 4294967296, 4294967296, 4294967296, 4294967296, 4294967296, 4294967296,
-    4294967296, 4294967296, 4294967296, 4294967296, 4294967296, 4294967296, 4294967296, 4294967296,
-    4294967296, 4294967296, 4294967296, 4294967296, 4294967296, 4294967296, 4294967296, 4294967296,
-    4294967296, 4294967296, 4294967296, 4294967296, 4294967296, 4294967296, 4294967296, 4294967296,
-    4294967296, 4294967296, 4294967296, 4294967296, 4294967296, 4294967296, 4294967296, 4294967296,
-];
+use crate::places::counted;
 
 /// The value of a hexadecimal digit.
-#[tactic(auto, using(crate::proofs::Values::value_some, crate::proofs::Values::value_none))]
+#[tactic(auto, using(crate::proofs::Values::value_is))]
 #[inline(always)]
 fn digit_value(byte: u8) -> Option<u32>
     ensures value { result ≡ hex_value byte }
     ensures small { IfSome result (λ d. d < 16) }
 {
-    let value = VALUES[usize::from(byte)];
+    let value = counted(0, byte);
     if value < 16 { Some(value as u32) } else { None }
 }
 
@@ -66,28 +30,18 @@ fn spelled(count: u32, value: u32, rest: &[u8]) -> Option<(u32, &[u8])>
     }
 }
 
-/// What a byte counts: its value as a digit, and 2^32 where it is none.
-#[tactic(auto, using(crate::proofs::Values::value_some))]
-#[inline(always)]
-fn counted(byte: u8) -> u64
-    ensures digit { result < 16 → Some result ≡ hex_value byte }
-    ensures edge { 16 ≤ result → result ≡ 4294967296 }
-    ensures low { result ≤ 4294967296 }
-{
-    VALUES[usize::from(byte)]
-}
-
 /// The number that four bytes spell, where each is a hexadecimal digit, and 2^32 or more where one
 /// isn't.
-#[tactic(auto, using(crate::proofs::Values::four_counted, crate::proofs::Values::four_small))]
 #[inline(always)]
 fn four_digits(a: u8, b: u8, c: u8, d: u8) -> u64
     ensures run { result < 2 ^ 32 → (v : ℕ) (bs : List ℕ) →
         hex_run v (a ∷ b ∷ c ∷ d ∷ bs) ≡ hex_run (65536 * v + result) bs }
+    ensures later { result < 2 ^ 32 → (bs : List ℕ) →
+        first_write false (a ∷ b ∷ c ∷ d ∷ bs) ≡ first_write false bs }
     ensures small { result < 2 ^ 32 → result < 65536 }
     ensures low { result < 2 ^ 45 }
 {
-    16 * (16 * (16 * counted(a) + counted(b)) + counted(c)) + counted(d)
+    counted(3, a) + counted(2, b) + counted(1, c) + counted(0, d)
 }
 
 /// The number that the first eight bytes spell, where they are hexadecimal digits, and what follows
@@ -95,6 +49,8 @@ fn four_digits(a: u8, b: u8, c: u8, d: u8) -> u64
 #[inline(always)]
 pub(crate) fn eight_digits(text: &[u8]) -> Option<(u32, &[u8])>
     ensures run { IfSome result (λ found. hex_run 0 text.now ≡ hex_run found.0 found.1.now) }
+    ensures later { IfSome result (λ found.
+        first_write false text.now ≡ first_write false found.1.now) }
     ensures count { IfSome result (λ found. 8 + length found.1.now ≡ length text.now) }
     ensures low { IfSome result (λ found. found.0 < 2 ^ 32) }
 {

@@ -1,6 +1,6 @@
 use Rattle.std.proofs.Common.{arith}
 use Rattle.std.proofs.lemmas.Grind.{common_steps}
-use Rattle.rvs_log.proofs.reading.register.Goals as goal
+use Rattle.rvs_log.proofs.tokens.register.Goals as goal
 
 pub returns-then-number-lt32-clause-value : goal.returns-then-number-lt32-clause-value
 returns-then-number-lt32-clause-value c = grind (arith, common_steps)
