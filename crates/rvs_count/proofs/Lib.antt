@@ -8,6 +8,7 @@ pub mod Crossing
 pub mod Ends
 pub mod Executing
 pub mod Feeding
+pub mod Filling
 pub mod Following
 pub mod Hitting
 pub mod Lengths

@@ -143,19 +143,17 @@ pub added_marks : (labels : List Label) (lists : List (List Slot)) (i : Fields) 
     → cs' ≡ added (λ a. is_seen (Some 0) a.point && hits_insn a (Some i) v1 v2) (aims_in labels) cs
 added_marks labels lists i v1 v2 n h cs cs' index l same len is m e =
     let key : n * bucket_count ≡ n * bucket_count + 0 = omega arith in
-    let slots = get_or lists (n * bucket_count) [] in
-    added_bucket labels i v1 v2 n 0 slots cs cs' same (omega arith)
+    added_bucket labels i v1 v2 n 0 (get_or lists (n * bucket_count) []) cs cs' same (omega arith)
     (index.each (n * bucket_count) [] l
     ∙ ap (λ k. places_for (is_for (insns_key k)) 0 (aims_in labels)) key)
-    len (e
-    ∙ marks_add n i.op (facts_of i v1 v2) slots h.marks cs (sym same) (is.all m) (is.marks m))
+    len (e ∙ is.adds m i.op (facts_of i v1 v2) cs (sym same))
 
 pub low_marks : (labels : List Label) (lists : List (List Slot)) (n : ℕ) (h : Head) (k : ℕ)
     → IsIndex insns_key labels lists → n * bucket_count < length lists → length (aims_in labels) ≡ k
-    → IsHead n (get_or lists (n * bucket_count) []) h → h.more ≡ false
+    → 0 < k → IsHead n (get_or lists (n * bucket_count) []) h → h.more ≡ false
     → All (λ (m : Mark). m.at < k) h.marks
-low_marks labels lists n h k index l e is m =
-    marks_low n k (get_or lists (n * bucket_count) []) h.marks (is.all m) (is.marks m)
+low_marks labels lists n h k index l e some is m =
+    is.low m k some
     (slots_low (is_for (insns_key (n * bucket_count))) (aims_in labels) (get_or lists
     (n * bucket_count) []) k
     (index.each (n * bucket_count) [] l) e)
@@ -163,11 +161,11 @@ low_marks labels lists n h k index l e is m =
 pub few_marks : (labels : List Label) (lists : List (List Slot)) (n : ℕ) (h : Head)
     → IsIndex insns_key labels lists → n * bucket_count < length lists
     → IsHead n (get_or lists (n * bucket_count) []) h → h.more ≡ false
-    → length h.marks ≤ length (aims_in labels)
+    → length h.marks ≤ length (aims_in labels) + 16
 few_marks labels lists n h index l is m =
     omega (
       arith,
-      is.all m,
+      is.few m,
       slots_few (is_for (insns_key (n * bucket_count))) (aims_in labels) (get_or lists
           (n * bucket_count) [])
           (index.each (n * bucket_count) [] l),

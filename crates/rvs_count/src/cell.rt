@@ -10,7 +10,7 @@ ghost use Rattle.rvs_count.specs.declared.slot.Slot.{Slot as Entry};
 use crate::asked::{Asked, asked_at, said};
 use crate::bounded::bound_of;
 use crate::buckets::BUCKETS;
-use crate::hits::raise_rare;
+use crate::hits::{raise, raise_rare};
 use crate::slot::{Slot, place_of};
 use rvs_base::{Items, NoMemory};
 use std::alloc::Global;
@@ -178,6 +178,6 @@ pub(crate) fn add_cell(cell: &Cell, value: i64, counts: &mut Vec<u64>)
     requires low { All (λ n. n ≤ 2 ^ 41) counts.old.items }
     ensures { counts.new.items ≡ spec.raised_cell cell.now value counts.old.items }
 {
-    raise_rare(counts, cell.first_at as usize, cell.first == value);
+    raise(counts, cell.first_at as usize, cell.first == value);
     raise_rare(counts, cell.second_at as usize, cell.second == value);
 }

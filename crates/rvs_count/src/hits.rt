@@ -5,7 +5,7 @@ ghost use Rattle.rvs_facts.specs.Facts.{facts_of};
 ghost use Rattle.rvs_count.specs.Index.{places, raised, raised_all};
 ghost use Rattle.rvs_count.specs.Signs.{signs_of, signs_word};
 
-use crate::known_facts::Known;
+use crate::known_facts::{Aligned, Known};
 use crate::slot::Slot;
 use rvs_expr::{Facts, Steps};
 use rvs_free::Free;
@@ -72,7 +72,8 @@ fn add_counted<L: Ledger>(blank: Blank, slots: &[Slot<'_>], facts: &Known, count
 {
     let mut steps: Steps<L> = Steps::new(blank, Free::new());
     let insn = &facts.insn;
-    add_hits(slots, insn.op, facts, facts.signs, counts, &mut steps);
+    let aligned = Aligned::new(*facts);
+    add_hits(slots, insn.op, &aligned, facts.signs, counts, &mut steps);
 }
 
 /// Adds one to the counts of the points that an instruction hits.

@@ -110,6 +110,42 @@ impl Facts for Known {
     }
 }
 
+/// The same with the alignment, which is worked out once for all points of a list.
+#[derive(Clone, Copy)]
+pub(crate) struct Aligned {
+    pub known: Known,
+    ea_align: Option<i64>,
+    ghost align_known: { ea_align
+        ≡ num_of known.insn known.first known.second EaAlign } by { Prim.hlevel props },
+    ghost align_small: { IfSome ea_align (λ z. unsigned_abs z ≤ 2 ^ 32) } by { Prim.hlevel props },
+}
+
+impl Aligned {
+    pub(crate) fn new(known: Known) -> Self
+        ensures { result.known ≡ known }
+    {
+        let ea_align = known.alignment();
+        Aligned { known, ea_align }
+    }
+}
+
+impl Facts for Aligned {
+    ghost use Rattle.rvs_facts.specs.Facts.{facts_of};
+
+    ghost table = { λ a. facts_of a.known.insn a.known.first a.known.second };
+
+    fn reg(&self, name: RegName) -> Option<u8> {
+        self.known.reg(name)
+    }
+
+    fn num(&self, name: NumName) -> Option<i64> {
+        match name {
+            NumName::EaAlign => self.ea_align,
+            _ => self.known.num(name),
+        }
+    }
+}
+
 /// A register as a number.
 #[inline(always)]
 fn number_of(register: Option<u8>) -> Option<i64>

@@ -48,10 +48,13 @@ fn remainder_bit(rest: i64) -> u32
     ensures value { result ≡ spec.rest_bits rest }
     ensures low { result ≤ 15 }
 {
-    u32::from(rest == 0)
-        + 2 * u32::from(rest == 1)
-        + 4 * u32::from(rest == 2)
-        + 8 * u32::from(rest == 3)
+    match rest {
+        0 => 1,
+        1 => 2,
+        2 => 4,
+        3 => 8,
+        _ => 0,
+    }
 }
 
 /// Whether two numbers are one, and whether they aren't, as two bits: none where one isn't there.

@@ -7,5 +7,5 @@ invariant-loop-mark l = record {
   same : raised_marks l.signs l.marks l.initial.counts
       ≡ raised_marks l.signs (drop l.mark-index l.marks) l.counts;
   len : length l.counts ≡ length l.initial.counts;
-  low : All (λ (n : ℕ). n ≤ 2 ^ 41 + l.mark-index) l.counts;
+  low : All (λ (n : ℕ). n ≤ 2 ^ 62 + l.mark-index) l.counts;
 }

@@ -1,21 +1,21 @@
-use Rattle.std.proofs.Common.{List, ap, arith, length}
-use Rattle.std.proofs.lemmas.List.{length_push}
+use Rattle.std.proofs.Common.{◌≡◌, Option, List, IfSome, false, refl, subst, length}
+use Rattle.rvs_count.specs.Marks.{HasMarks}
+use Rattle.rvs_count.specs.declared.mark.Head.{Head}
 use Rattle.rvs_count.specs.declared.mark.Mark.{Mark}
-use Rattle.rvs_count.proofs.Marks.{more_marks}
+use Rattle.rvs_count.proofs.Filling.{head_filled}
 use Rattle.rvs_count.proofs.mark.head_of.Goals as goal
 
-pub loop-slot-preserved : goal.loop-slot-preserved
-loop-slot-preserved c =
-    let e = c.in_ok-push-in-Some.ensures.added in
-    record {
-      has = more_marks c.args.mnemonic c.args.slots.now c.loop-slot.marks c.push.new.self
-          c.loop-slot.slot-index c.slot-item.result c.in-Some.mark c.loop-slot.invariant.has
-          c.loop-slot.invariant.count c.loop-slot-test.true c.slot-item.is c.in-Some.ensures e;
-      count =
-          omega (
-            arith,
-            ap (λ (l : List Mark). length l) e,
-            length_push c.loop-slot.marks c.in-Some.mark,
-            c.loop-slot.invariant.count,
-          );
-    }
+pub returns-in_ok-filled-in-Some : goal.returns-in_ok-filled-in-Some
+returns-in_ok-filled-in-Some c =
+    let n = c.args.mnemonic in
+    let slots = c.args.slots.now in
+    let filled : List Mark = c.in_ok-filled-in-Some.field-0 in
+    let head : Head = record { marks = filled; more = false } in
+    let has : HasMarks n slots c.in-Some.marks =
+    subst (λ (o : Option (List Mark)). IfSome o (HasMarks n slots)) c.in-Some.is
+    c.in_ok-marks_of.ensures.each in
+    let all : length c.in-Some.marks ≡ length slots =
+    subst (λ (o : Option (List Mark)). IfSome o (λ ms. length ms ≡ length slots)) c.in-Some.is
+    c.in_ok-marks_of.ensures.all in
+    head_filled n slots c.in-Some.marks filled head has all c.in_ok-filled-in-Some.ensures
+    refl

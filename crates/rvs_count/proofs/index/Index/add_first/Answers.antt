@@ -14,8 +14,8 @@ use Rattle.rvs_count.specs.declared.mark.Mark.{Mark}
 use Rattle.rvs_count.proofs.Marks.{added_marks, few_marks, lent_back, low_marks, marks_length}
 use Rattle.rvs_count.proofs.index.Index.add_first.Goals as goal
 
-pub add_marks-requires-clause-within : goal.add_marks-requires-clause-within
-add_marks-requires-clause-within c =
+pub add_groups-requires-clause-within : goal.add_groups-requires-clause-within
+add_groups-requires-clause-within c =
     let n = c.number.result in
     let h : Head = c.index-as_slice-number.result in
     let lists = c.self.inside.lists in
@@ -32,10 +32,12 @@ add_marks-requires-clause-within c =
     (low_marks c.self.inside.labels.now lists n h (length c.as_mut_slice.result.now)
     c.self.invariant.0 low
     (ap (λ (ls : List Label). length (aims_in ls)) c.self.view_is ∙ sym c.requires.fits.count
-    ∙ sym (ap (λ (l : List ℕ). length l) c.as_mut_slice.ensures.value)) is c.if-head.false)
+    ∙ sym (ap (λ (l : List ℕ). length l) c.as_mut_slice.ensures.value))
+    (omega (arith, c.requires.fits.some, ap (λ (l : List ℕ). length l) c.as_mut_slice.ensures.value))
+    is c.if-head.false)
 
-pub add_marks-requires-clause-few : goal.add_marks-requires-clause-few
-add_marks-requires-clause-few c =
+pub add_groups-requires-clause-few : goal.add_groups-requires-clause-few
+add_groups-requires-clause-few c =
     let n = c.number.result in
     let h : Head = c.index-as_slice-number.result in
     let lists = c.self.inside.lists in
@@ -69,9 +71,9 @@ returns-else-head c =
     omega (arith, c.number.ensures.low, c.self.invariant.1) in
     let cs = c.args.counts.now.items in
     let labels : c.self.inside.labels.now ≡ c.args.self.now = c.self.view_is in
-    let new = c.add_marks.new.counts in
+    let new = c.add_groups.new.counts in
     let is_new : new ≡ raised_marks c.args.facts.now.signs h.marks cs =
-    c.add_marks.ensures
+    c.add_groups.ensures
     ∙ ap (λ (ms : List Mark). raised_marks c.args.facts.now.signs ms c.as_mut_slice.result.now)
     c.as_slice-else-head.ensures
     ∙ ap (λ (l : List ℕ). raised_marks c.args.facts.now.signs h.marks l)

@@ -1,6 +1,6 @@
 use Rattle.std.proofs.Common.{◌≡◌, length}
 use Rattle.rvs_count.specs.Marks.{HasMarks}
-use Rattle.rvs_count.proofs.mark.head_of.Given as goal
+use Rattle.rvs_count.proofs.mark.marks_of.Given as goal
 
 abbrev pub invariant-loop-slot : goal.invariant-loop-slot
 invariant-loop-slot l = record {
