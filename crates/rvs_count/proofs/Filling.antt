@@ -1,5 +1,5 @@
 -- Blank marks change nothing.
-use Rattle.std.proofs.Common.{◌≡◌, ℕ, zero, suc, ◌+◌, ◌*◌, ◌^◌, ◌<◌, ◌≤◌, Bool, true, false, List}
+use Rattle.std.proofs.Common.{◌≡◌, ℕ, suc, ◌+◌, ◌*◌, ◌^◌, ◌<◌, ◌≤◌, Bool, true, false, List}
 use Rattle.std.proofs.Common.{[], ◌∷◌, ◌++◌, refl, sym, ap, subst, ◌∙◌, All, arith, length}
 use Rattle.std.proofs.lemmas.Bool.Decides.{nat_tests}
 use Rattle.std.proofs.lemmas.List.{length_push}
@@ -10,6 +10,7 @@ use Rattle.rvs_expr.specs.Meaning.{Table}
 use Rattle.rvs_count.specs.Index.{raised}
 use Rattle.rvs_count.specs.Marks.{raised_marks, AreFilled, HasMarks, IsHead}
 use Rattle.rvs_count.specs.Signs.{bit, has_all, signs_of, signs_word}
+use Rattle.rvs_count.specs.declared.mark.Audience.{Audience}
 use Rattle.rvs_count.specs.declared.mark.Head.{Head}
 use Rattle.rvs_count.specs.declared.mark.Mark.{Mark}
 use Rattle.rvs_count.specs.declared.slot.Slot.{Slot}
@@ -74,29 +75,30 @@ filled_more ms ms' ms'' was short e =
           ∙ ap (λ b. raised b 0 (raised_marks w ms' cs)) (blank_free w h)
           ∙ was.adds w cs h;
       low = λ n some low k d l.
-          pushed_each (λ k (m : Mark). m.at < n) ms' blank (λ k d l. was.low n some low k d l) some k
-          d l;
+          pushed_each (λ k (m : Mark). m.at < n) ms' blank (λ k d l. was.low n some low k d l) some
+          k d l;
       few = omega (arith, length_push ms' blank, short);
     })
 
 -- ---- a head
-pub head_more : (n : ℕ) (slots : List Slot) (h : Head) → h.more ≡ true → IsHead n slots h
-head_more n slots h more = record {
+pub head_more : (a : Audience) (slots : List Slot) (h : Head) → h.more ≡ true → IsHead a slots h
+head_more a slots h more = record {
   adds = λ m op t cs o. false_true h.more more m;
   low = λ m k some low. false_true h.more more m;
   few = λ m. false_true h.more more m;
 }
 
-pub head_filled : (n : ℕ) (slots : List Slot) (ms ms' : List Mark) (h : Head) → HasMarks n slots ms
-    → length ms ≡ length slots → AreFilled ms ms' → h.marks ≡ ms' → IsHead n slots h
-head_filled n slots ms ms' h has len filled e = record {
+pub head_filled : (a : Audience) (slots : List Slot) (ms ms' : List Mark) (h : Head)
+    → HasMarks a slots ms → length ms ≡ length slots → AreFilled ms ms' → h.marks ≡ ms'
+    → IsHead a slots h
+head_filled a slots ms ms' h has len filled e = record {
   adds = λ m op t cs o.
       ap (λ l. raised_marks (signs_word (signs_of t)) l cs) e
       ∙ filled.adds (signs_word (signs_of t)) cs (signs_low t)
-      ∙ marks_add n op t slots ms cs o len has;
+      ∙ marks_add a op t slots ms cs o len has;
   low = λ m k some low.
       subst (All (λ (m : Mark). m.at < k)) (sym e)
-      (filled.low k some (marks_low n k slots ms len has low));
+      (filled.low k some (marks_low a k slots ms len has low));
   few = λ m. omega (arith, filled.few, ap (λ (l : List Mark). length l) e, len);
 }
 

@@ -3,7 +3,7 @@ use Rattle.std.proofs.Common.{◌≡◌, ℕ, ℤ, pos, negsuc, ◌+◌, ◌<◌
 use Rattle.std.proofs.Common.{false, cond, List, [], ◌∷◌, Option, Some, None, refl, sym, ap, ◌∙◌}
 use Rattle.std.proofs.Common.{arith}
 use Rattle.std.proofs.lemmas.Bool.Decides.{nat_tests, Decides-int_eq}
-use Rattle.std.specs.Prelude.{◌==◌, ◌&&◌, option_map}
+use Rattle.std.specs.Prelude.{◌==◌, ◌&&◌, not, option_map}
 use Rattle.std.specs.Ordering.{int_eq}
 use Rattle.rvs_cgf.specs.Groups.{Point, Meaning, op_is, reg_is, regs, nums, window}
 use Rattle.rvs_cgf.specs.Hits.{holds, is_meant, is_register}
@@ -22,6 +22,7 @@ use Rattle.rvs_insn.specs.declared.op.Op.{Op}
 use Rattle.rvs_count.specs.Buckets.{residue, register_bucket, name_bucket, number_bucket}
 use Rattle.rvs_count.specs.Buckets.{equation_bucket, meaning_bucket, bucket_of, visited}
 use Rattle.rvs_count.specs.Buckets.{asked_by, but_zero, conjunct, first_there, bucket_count}
+use Rattle.rvs_count.specs.Buckets.{is_place}
 use Rattle.rvs_count.proofs.Turned.{both_hold}
 
 pub residue_low : (z : ℤ) → residue z < 67
@@ -236,7 +237,7 @@ equated_so f n z e t h = sym (equated_means f n z e t) ∙ h
 
 not_zero : (f : Formula) (o : Option (NumName × ℤ)) → Means f o → Means f (but_zero o)
 not_zero f None m n z e t h = cc
-not_zero f (Some p) m n z e t h = turn (int_eq p.1 (pos 0)) e
+not_zero f (Some p) m n z e t h = turn (int_eq p.1 (pos 0) && not (is_place p.0)) e
   where
     turn : (b : Bool) → cond b None (Some p) ≡ Some (n, z) → is_value z (t.num n) ≡ true
     turn true g = cc

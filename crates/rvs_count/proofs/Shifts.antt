@@ -1,28 +1,29 @@
 -- The run of instructions in an array of six.
 use Rattle.std.proofs.Common.{◌≡◌, ℕ, ◌+◌, ◌-◌, ◌<◌, ◌≤◌, ◌⊎◌, inl, inr, List, [], ◌∷◌, ◌++◌, sym}
-use Rattle.std.proofs.Common.{ap, ◌∙◌, length, drop, get_or, arith}
+use Rattle.std.proofs.Common.{ap, ◌∙◌, length, drop, get_or, refl, set, arith}
 use Rattle.std.proofs.lemmas.Bool.{cases_lt}
-use Rattle.std.proofs.lemmas.List.{drop-append-le, drop-drop, drop_all, drop_more, length-drop}
+use Rattle.std.proofs.lemmas.List.{drop-append-le, drop-drop, length-drop}
 use Rattle.std.proofs.lemmas.List.{length_push}
 use Rattle.std.specs.Prelude.{min}
 use Rattle.rvs_count.specs.Runs.{last}
 use Rattle.rvs_count.proofs.Sequels.{last_all}
 
+-- what a place holds becomes what the next one does
+abbrev pub moved : {X : Type 0} → List X → ℕ → X → List X
+moved list at other = set list at (get_or list (at + 1) other)
+
 -- the last five and one more
 pub shifted_is : {X : Type 0} (list : List X) (a b c d e x : X) → length list ≡ 6
-    → get_or list 1 a ∷ get_or list 2 b ∷ get_or list 3 c ∷ get_or list 4 d ∷ get_or list 5 e ∷ x
-    ∷ []
+    → set (moved (moved (moved (moved (moved list 0 a) 1 b) 2 c) 3 d) 4 e) 5 x
     ≡ drop 1 list ++ x ∷ []
-shifted_is {X = X} list a b c d e x size =
-    let at1 : drop 1 list ≡ get_or list 1 a ∷ drop 2 list = drop_more list 1 a (omega arith) in
-    let at2 : drop 2 list ≡ get_or list 2 b ∷ drop 3 list = drop_more list 2 b (omega arith) in
-    let at3 : drop 3 list ≡ get_or list 3 c ∷ drop 4 list = drop_more list 3 c (omega arith) in
-    let at4 : drop 4 list ≡ get_or list 4 d ∷ drop 5 list = drop_more list 4 d (omega arith) in
-    let at5 : drop 5 list ≡ get_or list 5 e ∷ drop 6 list = drop_more list 5 e (omega arith) in
-    let at6 : drop 6 list ≡ [] = drop_all 6 list (omega arith) in
-    let five : get_or list 1 a ∷ get_or list 2 b ∷ get_or list 3 c ∷ get_or list 4 d
-    ∷ get_or list 5 e ∷ [] ≡ drop 1 list = cc in
-    ap (λ (l : List X). l ++ x ∷ []) five
+shifted_is (p ∷ q ∷ r ∷ s ∷ t ∷ u ∷ []) a b c d e x size = refl
+shifted_is [] a b c d e x size = absurd (omega (arith, size))
+shifted_is (p ∷ []) a b c d e x size = absurd (omega (arith, size))
+shifted_is (p ∷ q ∷ []) a b c d e x size = absurd (omega (arith, size))
+shifted_is (p ∷ q ∷ r ∷ []) a b c d e x size = absurd (omega (arith, size))
+shifted_is (p ∷ q ∷ r ∷ s ∷ []) a b c d e x size = absurd (omega (arith, size))
+shifted_is (p ∷ q ∷ r ∷ s ∷ t ∷ []) a b c d e x size = absurd (omega (arith, size))
+shifted_is (p ∷ q ∷ r ∷ s ∷ t ∷ u ∷ v ∷ rest) a b c d e x size = absurd (omega (arith, size))
 
 -- one instruction more
 pub pushed_run : {X : Type 0} (list : List X) (x : X) (len more : ℕ) → length list ≡ 6 → len ≤ 6

@@ -1,5 +1,6 @@
 -- Where a point is looked for: lists of points, so that an instruction is held against few of them.
-use Rattle.std.specs.Prelude.{ℕ, ℤ, pos, ◌+◌, ◌%◌, ◌==◌, Bool, false, List, [], ◌∷◌, Option, Some}
+use Rattle.std.specs.Prelude.{ℕ, ℤ, pos, ◌+◌, ◌%◌, ◌==◌, ◌&&◌, not, Bool, true, false, List, []}
+use Rattle.std.specs.Prelude.{◌∷◌, Option, Some}
 use Rattle.std.specs.Prelude.{None, option_map, unsigned_abs, if◌then◌else◌}
 use Rattle.std.specs.Int.{int_rem_euclid}
 use Rattle.std.specs.Ordering.{int_eq}
@@ -45,10 +46,15 @@ abbrev pub first_there : {A : Type 0} → Option A → Option A → Option A
 first_there None o = o
 first_there (Some x) o = Some x
 
--- an equation with a number other than 0
+-- the place of an address within its word
+abbrev pub is_place : NumName → Bool
+is_place EaAlign = true
+is_place _ = false
+
+-- an equation of such a place, or with a number other than 0
 abbrev pub but_zero : Option (NumName × ℤ) → Option (NumName × ℤ)
 but_zero None = None
-but_zero (Some e) = if int_eq e.1 (pos 0) then None else Some e
+but_zero (Some e) = if int_eq e.1 (pos 0) && not (is_place e.0) then None else Some e
 
 -- the first of them among the parts of a conjunction
 abbrev pub conjunct : Formula → Option (NumName × ℤ)

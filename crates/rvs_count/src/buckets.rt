@@ -77,14 +77,25 @@ fn equation_bucket(equation: Option<(NumName, i64)>) -> usize
     }
 }
 
-/// An equation, where its number isn't 0: how a number compares with 0 is a sign.
+/// Whether a name is the place of an address within its word.
+fn is_place(name: NumName) -> bool
+    ensures { result ≡ spec.is_place name }
+{
+    match name {
+        NumName::EaAlign => true,
+        _ => false,
+    }
+}
+
+/// An equation, where its number isn't 0 or is a place: how another number compares with 0 is a
+/// sign.
 fn but_zero(equation: Option<(NumName, i64)>) -> Option<(NumName, i64)>
     ensures { result ≡ spec.but_zero equation }
 {
     match equation {
         None => None,
         Some((name, value)) => {
-            if value == 0 {
+            if value == 0 && !is_place(name) {
                 None
             } else {
                 Some((name, value))
@@ -93,7 +104,7 @@ fn but_zero(equation: Option<(NumName, i64)>) -> Option<(NumName, i64)>
     }
 }
 
-/// The first equation with a number other than 0 among the parts of a conjunction.
+/// The first such equation among the parts of a conjunction.
 fn conjunct(formula: &Formula) -> Option<(NumName, i64)>
     requires { IsNarrowFormula (view formula.now) }
     ensures { result ≡ spec.conjunct (view formula.now) }

@@ -159,14 +159,17 @@ fn number_of(register: Option<u8>) -> Option<i64>
 }
 
 impl Known {
-    /// The place of the address within its word, for loads and stores.
+    /// The place of the address within its word, for loads and stores. Of the instruction a copy is
+    /// looked at, so that these facts need not lie in memory.
+    #[inline(always)]
     fn alignment(&self) -> Option<i64>
         ensures value { result
             ≡ num_of self.now.insn self.now.first self.now.second EaAlign }
         ensures small { IfSome result (λ z. unsigned_abs z ≤ 2 ^ 32) }
     {
+        let insn = self.insn;
         let facts = InsnFacts {
-            insn: &self.insn,
+            insn: &insn,
             first: self.first,
             second: self.second,
         };
@@ -184,10 +187,10 @@ impl Known {
             Asked::Rd => number_of(self.reg(RegName::Rd)),
             Asked::Rs1 => number_of(self.reg(RegName::Rs1)),
             Asked::Rs2 => number_of(self.reg(RegName::Rs2)),
-            Asked::Rs1Val => self.num(NumName::Rs1Val),
-            Asked::Rs2Val => self.num(NumName::Rs2Val),
-            Asked::ImmVal => self.num(NumName::ImmVal),
-            Asked::EaAlign => self.num(NumName::EaAlign),
+            Asked::Rs1Val => self.rs1_val,
+            Asked::Rs2Val => self.rs2_val,
+            Asked::ImmVal => self.imm_val,
+            Asked::EaAlign => self.alignment(),
         }
     }
 }

@@ -23,12 +23,18 @@ impl Model for Run {
     ghost invariant = { λ r. (r.len ≤ 6) × (length r.list ≡ 6) };
 }
 
-/// The last five of six instructions, and one more.
-fn shifted(list: [Insn; 6], insn: Insn) -> [Insn; 6]
-    requires { length list ≡ 6 }
-    ensures { result ≡ drop 1 list ++ insn ∷ [] }
+/// Drops the first of six instructions, and adds one behind them.
+#[inline(always)]
+fn shift(list: &mut [Insn; 6], insn: &Insn)
+    requires { length list.old ≡ 6 }
+    ensures { list.new ≡ drop 1 list.old ++ insn.now ∷ [] }
 {
-    [list[1], list[2], list[3], list[4], list[5], insn]
+    list[0] = list[1];
+    list[1] = list[2];
+    list[2] = list[3];
+    list[3] = list[4];
+    list[4] = list[5];
+    list[5] = *insn;
 }
 
 /// The last of six instructions.
@@ -69,7 +75,7 @@ impl Run {
     pub(crate) fn push(&mut self, insn: &Insn)
         ensures { self.new ≡ run_with self.old (Some insn.now) }
     {
-        self.list = shifted(self.list, *insn);
+        shift(&mut self.list, insn);
         self.len = (self.len + 1).min(6);
     }
 

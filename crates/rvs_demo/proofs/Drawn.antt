@@ -1,11 +1,12 @@
 -- What is drawn can be encoded, and computes.
-use Rattle.std.proofs.Common.{◌≡◌, ℕ, ◌+◌, ◌%◌, ◌/◌, ◌<◌, Bool, true, false, ◌==◌, if◌then◌else◌}
+use Rattle.std.proofs.Common.{◌≡◌, ℕ, ◌+◌, ◌*◌, ◌%◌, ◌/◌, ◌^◌, ◌<◌, pos, Bool, true, false, ◌==◌}
+use Rattle.std.proofs.Common.{if◌then◌else◌}
 use Rattle.std.proofs.Common.{Some, None, refl, sym, subst, arith}
 use Rattle.rvs_insn.specs.declared.op.Format.{Format}
 use Rattle.rvs_insn.specs.declared.op.Format.TheVariants.{R}
 use Rattle.rvs_insn.specs.declared.op.Op.TheVariants.{Add, Sub, Xor, Or, And, Slt, Sltu, Mul}
 use Rattle.rvs_insn.specs.Table.{row}
-use Rattle.rvs_insn.specs.Word.{AreOf, IsEncodable}
+use Rattle.rvs_insn.specs.Word.{AreOf, IsEncodable, filler, imm_bits, word_of}
 use Rattle.rvs_demo.specs.Program.{drawn, drawn_op}
 
 form_by : (a b c d e f g : Bool)
@@ -30,3 +31,18 @@ drawn_encodable t =
     (λ (form : Format). AreOf form (Some (8 + t / 8 % 8)) (Some (8 + t / 64 % 8))
     (Some (8 + t / 512 % 8)) None)
     (sym (drawn_form (t % 8))) (low (t / 8), low (t / 64), low (t / 512))
+
+-- the word of what is drawn, which has no immediate
+pub drawn_word : (t : ℕ)
+    → (row (drawn_op (t % 8))).bits + 0x80 * (8 + t / 8 % 8) + 0x8000 * (8 + t / 64 % 8)
+    + 0x10_0000 * (8 + t / 512 % 8)
+    ≡ word_of (drawn t)
+drawn_word t =
+    let bits = (row (drawn_op (t % 8))).bits in
+    let rd = 8 + t / 8 % 8 in
+    let rs1 = 8 + t / 64 % 8 in
+    let rs2 = 8 + t / 512 % 8 in
+    subst
+    (λ (form : Format). bits + 0x80 * rd + 0x8000 * rs1 + 0x10_0000 * rs2
+    ≡ bits + rd * 2 ^ 7 + rs1 * 2 ^ 15 + rs2 * 2 ^ 20 + imm_bits form (pos 0) + filler form)
+    (sym (drawn_form (t % 8))) (omega arith)

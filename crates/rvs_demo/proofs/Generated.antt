@@ -18,19 +18,15 @@ split n i s less =
     ap (λ k. code (generated k s)) e
     ∙ flat_map-cons bytes_of (drawn (next_seed s / 256)) (generated (n - (i + 1)) (next_seed s))
 
-pub generated_next : (old now new all : List ℕ) (n i s next : ℕ) (insn : Fields) → i < n
+pub generated_next : (old now new all : List ℕ) (n i s next : ℕ) → i < n
     → old ++ all ≡ now ++ code (generated (n - i) s) → next ≡ next_seed s
-    → insn ≡ drawn (next / 256) → new ≡ now ++ bytes_of insn
+    → new ≡ now ++ bytes_of (drawn (next / 256))
     → old ++ all ≡ new ++ code (generated (n - (i + 1)) next)
-generated_next old now new all n i s next insn less inv is drawn_is pushed =
+generated_next old now new all n i s next less inv is pushed =
     let rest = code (generated (n - (i + 1)) next) in
     let more :
     bytes_of (drawn (next_seed s / 256)) ++ code (generated (n - (i + 1)) (next_seed s))
-    ≡ bytes_of insn ++ rest =
-    λ k. bytes_of (both (sym is) (sym drawn_is) k)
-    ++ code (generated (n - (i + 1)) (sym is k)) in
-    inv ∙ ap (λ l. now ++ l) (split n i s less ∙ more) ∙ sym (append_assoc now (bytes_of insn) rest)
-    ∙ ap (λ l. l ++ rest) (sym pushed)
-  where
-    both : next_seed s ≡ next → drawn (next / 256) ≡ insn → drawn (next_seed s / 256) ≡ insn
-    both e f = ap (λ k. drawn (k / 256)) e ∙ f
+    ≡ bytes_of (drawn (next / 256)) ++ rest =
+    ap (λ k. bytes_of (drawn (k / 256)) ++ code (generated (n - (i + 1)) k)) (sym is) in
+    inv ∙ ap (λ l. now ++ l) (split n i s less ∙ more)
+    ∙ sym (append_assoc now (bytes_of (drawn (next / 256))) rest) ∙ ap (λ l. l ++ rest) (sym pushed)

@@ -1,6 +1,7 @@
 // The program of the demonstration, in memory.
 ghost use Rattle.std.specs.Prelude.{◌≡◌, ◌≤◌, ◌<◌, ◌+◌, ◌%◌, ◌++◌, ◌^◌, All, IfOk, OnOk};
 ghost use Rattle.std.specs.Int.{w32, to_le_bytes};
+ghost use Rattle.rvs_insn.specs.Table.{row};
 ghost use Rattle.rvs_insn.specs.Word.{word_of, IsEncodable};
 ghost use Rattle.rvs_demo.specs.Program as spec;
 
@@ -29,43 +30,48 @@ fn next_seed(seed: u64) -> u64
     (seed * 1_103_515_245 + 12_345) % 0x8000_0000
 }
 
-/// The mnemonic of a number below 8.
-fn drawn_op(number: u64) -> Op
-    ensures { result ≡ spec.drawn_op number }
+/// The bits that the words of the mnemonic of a number below 8 have in common.
+fn drawn_bits(number: u64) -> u32
+    ensures bits { result ≡ (row (spec.drawn_op number)).bits }
+    ensures low { result ≤ 0x4000_7033 }
 {
     match number {
-        0 => Op::Add,
-        1 => Op::Sub,
-        2 => Op::Xor,
-        3 => Op::Or,
-        4 => Op::And,
-        5 => Op::Slt,
-        6 => Op::Sltu,
-        _ => Op::Mul,
+        0 => 0x0000_0033,
+        1 => 0x4000_0033,
+        2 => 0x0000_4033,
+        3 => 0x0000_6033,
+        4 => 0x0000_7033,
+        5 => 0x0000_2033,
+        6 => 0x0000_3033,
+        _ => 0x0200_0033,
     }
 }
 
 /// One of x8 to x15.
-fn drawn_register(number: u64) -> u8
+fn drawn_register(number: u64) -> u32
     ensures register { result ≡ 8 + number % 8 }
     ensures low { result < 32 }
 {
-    8 + (number % 8) as u8
+    8 + (number % 8) as u32
 }
 
-/// An instruction over x8 to x15.
-#[tactic(auto, using(crate::proofs::Drawn::drawn_encodable))]
-fn drawn(number: u64) -> Insn
-    ensures insn { result ≡ spec.drawn number }
-    ensures encodable { IsEncodable result }
+/// The word of an instruction over x8 to x15, which are all of the format R.
+#[tactic(auto, using(crate::proofs::Drawn::drawn_word))]
+fn drawn_word(number: u64) -> u32
+    ensures { result ≡ word_of (spec.drawn number) }
 {
-    Insn {
-        op: drawn_op(number % 8),
-        rd: Some(drawn_register(number / 8)),
-        rs1: Some(drawn_register(number / 64)),
-        rs2: Some(drawn_register(number / 512)),
-        imm: None,
-    }
+    let rd = drawn_register(number / 8);
+    let rs1 = drawn_register(number / 64);
+    let rs2 = drawn_register(number / 512);
+    drawn_bits(number % 8) + 0x80 * rd + 0x8000 * rs1 + 0x10_0000 * rs2
+}
+
+fn push_drawn(text: &mut Vec<u8>, number: u64) -> Result<(), NoMemory>
+    ensures { OnOk result (text.new.items
+        ≡ text.old.items ++ to_le_bytes w32 (word_of (spec.drawn number))) }
+{
+    text.extend_from_slice(&drawn_word(number).to_le_bytes())?;
+    Ok(())
 }
 
 fn push_insn(text: &mut Vec<u8>, insn: &Insn) -> Result<(), NoMemory>
@@ -85,7 +91,7 @@ fn push_generated(text: &mut Vec<u8>, count: u64, seed: u64) -> Result<(), NoMem
     let mut state = seed;
     for _ in 0..count {
         state = next_seed(state);
-        push_insn(text, &drawn(state / 256))?;
+        push_drawn(text, state / 256)?;
     }
     Ok(())
 }

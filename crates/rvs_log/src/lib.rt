@@ -14,7 +14,7 @@ mod written;
 
 pub use follow::{Cut, Follow, LONGEST};
 pub use laws::{lines_differ, logs_read_back};
-pub use reading::{Line, Record, read_line};
+pub use reading::{Line, Record, read_line, read_line_for};
 pub use registers::Registers;
 pub use view::{View, facts_of};
 pub use written::{log_line, log_line_length, log_record};

@@ -355,9 +355,10 @@ fn commit_line(line: &[u8]) -> Option<Commit>
 
 /// What a line of a log says: an instruction, as Spike's commit log or a Sail log writes it; a word
 /// written by the instruction before it, `xN <- 0x..`; or nothing that is read here. The line has
-/// no line feed and no carriage return at its end. It takes no memory.
+/// no line feed and no carriage return at its end. It takes no memory. Each type of readers has its
+/// own code, which is compiled into their loop.
 #[inline(always)]
-pub fn read_line(line: &[u8]) -> Line<'_>
+pub fn read_line_for<Reader>(line: &[u8]) -> Line<'_>
     ensures said { said result ≡ reading_of line.now }
     ensures whole { IsOf line.now result }
     ensures decoded { IsDecoded result }
@@ -381,4 +382,13 @@ pub fn read_line(line: &[u8]) -> Line<'_>
         },
         _ => Line::Other,
     }
+}
+
+/// The same for any reader.
+pub fn read_line(line: &[u8]) -> Line<'_>
+    ensures said { said result ≡ reading_of line.now }
+    ensures whole { IsOf line.now result }
+    ensures decoded { IsDecoded result }
+{
+    read_line_for::<()>(line)
 }

@@ -1,6 +1,8 @@
-use Rattle.std.proofs.Common.{List, ap, subst, arith, length}
+use Rattle.std.proofs.Common.{◌*◌, ℕ, List, ap, subst, arith, length}
 use Rattle.std.proofs.lemmas.List.{length_push}
+use Rattle.rvs_count.specs.Buckets.{bucket_count}
 use Rattle.rvs_count.specs.Marks.{IsHead}
+use Rattle.rvs_count.specs.declared.mark.Audience.TheVariants.{Mnemonic}
 use Rattle.rvs_count.specs.declared.mark.Head.{Head}
 use Rattle.rvs_count.specs.declared.slot.Slot.{Slot}
 use Rattle.rvs_count.proofs.Marks.{more_heads}
@@ -9,15 +11,16 @@ use Rattle.rvs_count.proofs.mark.heads.Goals as goal
 pub loop-number-preserved : goal.loop-number-preserved
 loop-number-preserved c =
     let e = c.in_ok-push.ensures.added in
+    let n = c.loop-number.number in
     let head : Head = c.in_ok-head_of.field-0 in
     let slots : List Slot = c.index-lists-number.result in
-    let is : IsHead c.loop-number.number slots head =
-    subst (λ s. IsHead c.loop-number.number s head) c.as_slice-slots.ensures
-    c.in_ok-head_of.ensures in
+    let is : IsHead (Mnemonic n) slots head =
+    subst (λ s. IsHead (Mnemonic n) s head) c.as_slice-slots.ensures c.in_ok-head_of.ensures in
     record {
-      each = more_heads c.args.lists.now c.loop-number.heads c.push.new.self c.loop-number.number
-          slots head c.loop-number.invariant.each c.loop-number.invariant.count
-          (omega (arith, c.loop-number-test.true, c.requires)) c.index-lists-number.is is e;
+      each = more_heads (λ n. Mnemonic n) (λ (n : ℕ). n * bucket_count) c.args.lists.now
+          c.loop-number.heads c.push.new.self n slots head c.loop-number.invariant.each
+          c.loop-number.invariant.count (omega (arith, c.loop-number-test.true, c.requires))
+          c.index-lists-number.is is e;
       count =
           omega (
             arith,

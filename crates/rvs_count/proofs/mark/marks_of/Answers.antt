@@ -8,7 +8,7 @@ pub loop-slot-preserved : goal.loop-slot-preserved
 loop-slot-preserved c =
     let e = c.in_ok-push-in-Some.ensures.added in
     record {
-      has = more_marks c.args.mnemonic c.args.slots.now c.loop-slot.marks c.push.new.self
+      has = more_marks c.args.audience c.args.slots.now c.loop-slot.marks c.push.new.self
           c.loop-slot.slot-index c.slot-item.result c.in-Some.mark c.loop-slot.invariant.has
           c.loop-slot.invariant.count c.loop-slot-test.true c.slot-item.is c.in-Some.ensures e;
       count =

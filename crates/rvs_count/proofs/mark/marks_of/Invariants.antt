@@ -4,6 +4,6 @@ use Rattle.rvs_count.proofs.mark.marks_of.Given as goal
 
 abbrev pub invariant-loop-slot : goal.invariant-loop-slot
 invariant-loop-slot l = record {
-  has : HasMarks l.mnemonic l.slots l.marks;
+  has : HasMarks l.audience l.slots l.marks;
   count : length l.marks ≡ l.slot-index;
 }

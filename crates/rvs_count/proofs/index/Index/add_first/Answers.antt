@@ -8,10 +8,12 @@ use Rattle.rvs_insn.specs.Fields.{Fields}
 use Rattle.rvs_count.specs.Buckets.{is_seen, bucket_count}
 use Rattle.rvs_count.specs.Counting.{aims_in, hits_insn}
 use Rattle.rvs_count.specs.Marks.{raised_marks, IsHead}
+use Rattle.rvs_count.specs.declared.mark.Audience.TheVariants.{Mnemonic}
 use Rattle.rvs_count.specs.State.{added}
 use Rattle.rvs_count.specs.declared.mark.Head.{Head}
 use Rattle.rvs_count.specs.declared.mark.Mark.{Mark}
-use Rattle.rvs_count.proofs.Marks.{added_marks, few_marks, lent_back, low_marks, marks_length}
+use Rattle.rvs_count.proofs.Marks.{added_marks, few_marks, head_at, lent_back, low_marks}
+use Rattle.rvs_count.proofs.Marks.{marks_length}
 use Rattle.rvs_count.proofs.index.Index.add_first.Goals as goal
 
 pub add_groups-requires-clause-within : goal.add_groups-requires-clause-within
@@ -19,39 +21,41 @@ add_groups-requires-clause-within c =
     let n = c.number.result in
     let h : Head = c.index-as_slice-number.result in
     let lists = c.self.inside.lists in
-    let at : h ≡ get_or c.self.inside.heads n h =
-    c.index-as_slice-number.is ∙ ap (λ (l : List Head). get_or l n h) c.as_slice.ensures in
-    let is : IsHead n (get_or lists (n * bucket_count) []) h =
-    subst (IsHead n (get_or lists (n * bucket_count) [])) (sym at)
-    (c.self.invariant.4.each n [] h (omega (arith, c.number.ensures.low, c.self.invariant.5))) in
+    let is : IsHead (Mnemonic n) (get_or lists (n * bucket_count) []) h =
+    head_at (λ n. Mnemonic n) (λ (n : ℕ). n * bucket_count) lists c.self.inside.heads
+    c.as_slice.result.now n h c.self.invariant.4 c.as_slice.ensures c.index-as_slice-number.is
+    (omega (arith, c.number.ensures.low, c.self.invariant.5)) in
     let low : n * bucket_count < length lists =
     omega (arith, c.number.ensures.low, c.self.invariant.1) in
     let P : List Mark → Type 0 =
     λ l. All (λ (m : Mark). m.at < length c.as_mut_slice.result.now) l in
     subst P (sym c.as_slice-else-head.ensures)
-    (low_marks c.self.inside.labels.now lists n h (length c.as_mut_slice.result.now)
-    c.self.invariant.0 low
+    (low_marks c.self.inside.labels.now lists (Mnemonic n) (n * bucket_count) h
+    (length c.as_mut_slice.result.now) c.self.invariant.0 low
     (ap (λ (ls : List Label). length (aims_in ls)) c.self.view_is ∙ sym c.requires.fits.count
     ∙ sym (ap (λ (l : List ℕ). length l) c.as_mut_slice.ensures.value))
-    (omega (arith, c.requires.fits.some, ap (λ (l : List ℕ). length l) c.as_mut_slice.ensures.value))
-    is c.if-head.false)
+    (omega (
+      arith,
+      c.requires.fits.some,
+      ap (λ (l : List ℕ). length l) c.as_mut_slice.ensures.value,
+    )) is c.if-head.false)
 
 pub add_groups-requires-clause-few : goal.add_groups-requires-clause-few
 add_groups-requires-clause-few c =
     let n = c.number.result in
     let h : Head = c.index-as_slice-number.result in
     let lists = c.self.inside.lists in
-    let at : h ≡ get_or c.self.inside.heads n h =
-    c.index-as_slice-number.is ∙ ap (λ (l : List Head). get_or l n h) c.as_slice.ensures in
-    let is : IsHead n (get_or lists (n * bucket_count) []) h =
-    subst (IsHead n (get_or lists (n * bucket_count) [])) (sym at)
-    (c.self.invariant.4.each n [] h (omega (arith, c.number.ensures.low, c.self.invariant.5))) in
+    let is : IsHead (Mnemonic n) (get_or lists (n * bucket_count) []) h =
+    head_at (λ n. Mnemonic n) (λ (n : ℕ). n * bucket_count) lists c.self.inside.heads
+    c.as_slice.result.now n h c.self.invariant.4 c.as_slice.ensures c.index-as_slice-number.is
+    (omega (arith, c.number.ensures.low, c.self.invariant.5)) in
     let low : n * bucket_count < length lists =
     omega (arith, c.number.ensures.low, c.self.invariant.1) in
     omega (
       arith,
       ap (λ (l : List Mark). length l) c.as_slice-else-head.ensures,
-      few_marks c.self.inside.labels.now lists n h c.self.invariant.0 low is c.if-head.false,
+      few_marks c.self.inside.labels.now lists (Mnemonic n) (n * bucket_count) h
+          c.self.invariant.0 low is c.if-head.false,
       ap (λ (ls : List Label). length (aims_in ls)) c.self.view_is,
       c.requires.fits.count,
       ap (λ (l : List ℕ). length l) c.as_mut_slice.ensures.value,
@@ -62,11 +66,10 @@ returns-else-head c =
     let n = c.number.result in
     let h : Head = c.index-as_slice-number.result in
     let lists = c.self.inside.lists in
-    let at : h ≡ get_or c.self.inside.heads n h =
-    c.index-as_slice-number.is ∙ ap (λ (l : List Head). get_or l n h) c.as_slice.ensures in
-    let is : IsHead n (get_or lists (n * bucket_count) []) h =
-    subst (IsHead n (get_or lists (n * bucket_count) [])) (sym at)
-    (c.self.invariant.4.each n [] h (omega (arith, c.number.ensures.low, c.self.invariant.5))) in
+    let is : IsHead (Mnemonic n) (get_or lists (n * bucket_count) []) h =
+    head_at (λ n. Mnemonic n) (λ (n : ℕ). n * bucket_count) lists c.self.inside.heads
+    c.as_slice.result.now n h c.self.invariant.4 c.as_slice.ensures c.index-as_slice-number.is
+    (omega (arith, c.number.ensures.low, c.self.invariant.5)) in
     let low : n * bucket_count < length lists =
     omega (arith, c.number.ensures.low, c.self.invariant.1) in
     let cs = c.args.counts.now.items in
@@ -81,10 +84,11 @@ returns-else-head c =
     let whole : length new ≡ vec_len c.args.counts.now =
     ap (λ (l : List ℕ). length l) is_new
     ∙ marks_length c.args.facts.now.signs h.marks cs ∙ sym c.args.counts.now.ok.0 in
+    let same = c.number.ensures.place ∙ ap (λ (i : Fields). number i.op) c.insn.view_is in
     lent_back (vec_len c.args.counts.now) new (drop (length new) cs) whole
     ∙ added_marks c.self.inside.labels.now lists c.args.facts.now.insn c.args.facts.now.first
-    c.args.facts.now.second n h cs new c.self.invariant.0 low
-    (c.number.ensures.place ∙ ap (λ (i : Fields). number i.op) c.insn.view_is)
+    c.args.facts.now.second n 0 (Mnemonic n) (n * bucket_count) h cs new c.self.invariant.0 low
+    (omega arith) (omega arith) same (sym same)
     (c.requires.fits.count ∙ sym (ap (λ (ls : List Label). length (aims_in ls)) labels)) is
     c.if-head.false
     (is_new ∙ ap (λ (w : ℕ). raised_marks w h.marks cs) c.args.facts.now.signs_known)

@@ -8,7 +8,7 @@ pub returns : goal.returns
 returns c =
     let insn = c.args.insn.now in
     let more = c.min-self-inside.result in
-    ap (λ (l : List Fields). drop (6 - more) l) c.shifted-self-inside.ensures
+    ap (λ (l : List Fields). drop (6 - more) l) c.shift.ensures
     ∙ pushed_run c.self.inside.list insn c.self.inside.len more c.self.invariant.1
     c.self.invariant.0 c.min-self-inside.ensures
     ∙ ap (λ (l : List Fields). last 6 (l ++ insn ∷ [])) c.self.view_is
