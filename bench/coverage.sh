@@ -1,6 +1,6 @@
 #!/usr/bin/env bash
 # Measures `rvsuite coverage` and `rvsuite propagate`, for a range in which every store saves, on long
-# logs against a C program that only parses them: seconds of user time, best of five, of the program
+# logs against a C program that only parses them: seconds of user and system time, best of five, of the program
 # that `./rvsuite` has built, each beside the C program in the same run. The logs are in the styles of
 # `log.py`, the groups none and those of `counted_groups.py`. Files are made once and kept in the
 # folder that the second argument names.
@@ -21,8 +21,8 @@ cc -O2 -o "$folder/parse" "$here/parse.c"
 
 best() {
     for _ in 1 2 3 4 5; do
-        { TIMEFORMAT=%U; time "$@" >/dev/null; } 2>&1
-    done | sort -n | head -1
+        { TIMEFORMAT='%U %S'; time "$@" >/dev/null; } 2>&1
+    done | awk '{ print $1 + $2 }' | sort -n | head -1
 }
 
 report() {

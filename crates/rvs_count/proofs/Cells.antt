@@ -32,7 +32,7 @@ use Rattle.rvs_count.specs.declared.asked.Asked.TheVariants.{EaAlign}
 use Rattle.rvs_count.specs.declared.cell.Cell.{Cell}
 use Rattle.rvs_count.specs.declared.slot.Slot.{Slot}
 use Rattle.rvs_count.proofs.Hitting.{added_length, added_low}
-use Rattle.rvs_count.proofs.Places.{added_bucket, slots_low}
+use Rattle.rvs_count.proofs.Places.{added_bucket, none_added, slots_low}
 use Rattle.rvs_count.proofs.Seen.{residue_low}
 
 -- ---- what a point says
@@ -293,6 +293,17 @@ then_all hit aims o os cs cs' cs'' e rest = rest ∙ ap (λ l. added_all hit os 
 
 pub sight_none : (q : Asked) (t : Table) → fact q t ≡ None → sight q t ≡ None
 sight_none q t e = ap (λ o. option_map (asked_bucket q) o) e
+
+-- a fact that isn't there adds nothing
+pub absent_adds : (labels : List Label) (i : Fields) (v1 v2 : ℕ) (q : Asked) (cs : List ℕ)
+    → length cs ≡ length (aims_in labels) → fact q (facts_of i v1 v2) ≡ None
+    → cs ≡ added (λ a. is_seen (sight q (facts_of i v1 v2)) a.point && hits_insn a (Some i) v1 v2)
+    (aims_in labels) cs
+absent_adds labels i v1 v2 q cs long none =
+    let hit : Aim → Bool = λ a. hits_insn a (Some i) v1 v2 in
+    none_added (aims_in labels) hit cs long
+    ∙ ap (λ (o : Option ℕ). added (λ a. is_seen o a.point && hit a) (aims_in labels) cs)
+    (sym (sight_none q (facts_of i v1 v2) none))
 
 -- ---- the cell of a list
 pub cell_in : (lists : List (List Slot)) (cells got : List Cell) (key b : ℕ) (q : Asked) (z : ℤ)

@@ -146,23 +146,11 @@ impl Facts for Aligned {
     }
 }
 
-/// A register as a number.
-#[inline(always)]
-fn number_of(register: Option<u8>) -> Option<i64>
-    ensures value { result ≡ option_map (λ n. pos n) register }
-    ensures small { IfSome result (λ z. unsigned_abs z ≤ 2 ^ 32) }
-{
-    match register {
-        None => None,
-        Some(number) => Some(i64::from(number)),
-    }
-}
-
 impl Known {
     /// The place of the address within its word, for loads and stores. Of the instruction a copy is
     /// looked at, so that these facts need not lie in memory.
     #[inline(always)]
-    fn alignment(&self) -> Option<i64>
+    pub(crate) fn alignment(&self) -> Option<i64>
         ensures value { result
             ≡ num_of self.now.insn self.now.first self.now.second EaAlign }
         ensures small { IfSome result (λ z. unsigned_abs z ≤ 2 ^ 32) }
@@ -174,23 +162,5 @@ impl Known {
             second: self.second,
         };
         facts.num(NumName::EaAlign)
-    }
-
-    /// The value of a fact.
-    #[inline(always)]
-    pub(crate) fn value(&self, asked: Asked) -> Option<i64>
-        ensures value { result
-            ≡ fact asked (facts_of self.now.insn self.now.first self.now.second) }
-        ensures small { IfSome result (λ z. unsigned_abs z ≤ 2 ^ 32) }
-    {
-        match asked {
-            Asked::Rd => number_of(self.reg(RegName::Rd)),
-            Asked::Rs1 => number_of(self.reg(RegName::Rs1)),
-            Asked::Rs2 => number_of(self.reg(RegName::Rs2)),
-            Asked::Rs1Val => self.rs1_val,
-            Asked::Rs2Val => self.rs2_val,
-            Asked::ImmVal => self.imm_val,
-            Asked::EaAlign => self.alignment(),
-        }
     }
 }

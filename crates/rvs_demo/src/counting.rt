@@ -22,17 +22,13 @@ fn count_step(machine: &mut Machine, counter: &mut Counter<'_>) -> bool
     ensures low { counter.new.fed ≤ counter.old.fed + 51 }
     ensures begun { counter.new.waiting ≡ Some [] }
 {
-    match machine.step() {
-        Event::Ran(executed) => {
-            counter.feed_executed(&executed);
-            true
-        },
-        Event::Halted(executed) => {
-            counter.feed_executed(&executed);
-            false
-        },
-        Event::Trapped(_) => false,
-    }
+    let (executed, goes_on) = match machine.step() {
+        Event::Ran(executed) => (executed, true),
+        Event::Halted(executed) => (executed, false),
+        Event::Trapped(_) => return false,
+    };
+    counter.feed_executed(&executed);
+    goes_on
 }
 
 /// Runs a machine for at most so many steps, and counts what is executed, as it comes, as its lines

@@ -1,20 +1,9 @@
-use Rattle.std.proofs.Common.{ℕ, Option, Some, ap, sym, ◌∙◌, ◌&&◌}
-use Rattle.rvs_facts.specs.Facts.{facts_of}
-use Rattle.rvs_count.specs.Buckets.{is_seen}
-use Rattle.rvs_count.specs.Counting.{Aim, aims_in, hits_insn}
-use Rattle.rvs_count.specs.State.{added}
-use Rattle.rvs_count.proofs.Cells.{sight_none}
-use Rattle.rvs_count.proofs.Places.{none_added}
+use Rattle.std.proofs.Common.{◌∙◌}
+use Rattle.rvs_count.proofs.Cells.{absent_adds}
 use Rattle.rvs_count.proofs.index.Index.add_fact.Goals as goal
 
 pub returns-in-None : goal.returns-in-None
 returns-in-None c =
-    let t = facts_of c.args.facts.now.insn c.args.facts.now.first c.args.facts.now.second in
-    let hit : Aim
-    → _ =
-    λ a. hits_insn a (Some c.args.facts.now.insn) c.args.facts.now.first
-    c.args.facts.now.second in
-    none_added (aims_in c.args.self.now) hit c.args.counts.now.items c.requires.fits.count
-    ∙ ap (λ (o : Option ℕ). added (λ a. is_seen o a.point && hit a) (aims_in c.args.self.now)
-    c.args.counts.now.items)
-    (sym (sight_none c.args.asked t (sym c.value.ensures.value ∙ c.in-None.is)))
+    absent_adds c.args.self.now c.args.facts.now.insn c.args.facts.now.first
+    c.args.facts.now.second c.args.asked c.args.counts.now.items c.requires.fits.count
+    (c.requires.fact ∙ c.in-None.is)

@@ -15,47 +15,48 @@ use Rattle.rvs_count.specs.declared.mark.Mark.{Mark}
 use Rattle.rvs_count.proofs.Marks.{added_marks, few_marks, head_at, lent_back, low_marks}
 use Rattle.rvs_count.proofs.Marks.{marks_length}
 use Rattle.rvs_count.proofs.index.Index.add_first.Goals as goal
+use Rattle.rvs_count.proofs.index.Index.add_first.Goals.{After-as_mut_slice}
+
+-- the first list has a head, and is there
+abbrev list_key : After-as_mut_slice → ℕ
+list_key c = c.number.result * bucket_count
+
+is_head : (c : After-as_mut_slice)
+    → IsHead (Mnemonic c.number.result) (get_or c.self.inside.lists (list_key c) [])
+    c.index-as_slice-number.result
+is_head c =
+    head_at (λ n. Mnemonic n) (λ (n : ℕ). n * bucket_count) c.self.inside.lists
+    c.self.inside.heads c.as_slice.result.now c.number.result c.index-as_slice-number.result
+    c.self.invariant.4 c.as_slice.ensures c.index-as_slice-number.is
+    (omega (arith, c.number.ensures.low, c.self.invariant.5))
+
+is_listed : (c : After-as_mut_slice) → list_key c < length c.self.inside.lists
+is_listed c = omega (arith, c.number.ensures.low, c.self.invariant.1)
 
 pub add_groups-requires-clause-within : goal.add_groups-requires-clause-within
 add_groups-requires-clause-within c =
-    let n = c.number.result in
-    let h : Head = c.index-as_slice-number.result in
-    let lists = c.self.inside.lists in
-    let is : IsHead (Mnemonic n) (get_or lists (n * bucket_count) []) h =
-    head_at (λ n. Mnemonic n) (λ (n : ℕ). n * bucket_count) lists c.self.inside.heads
-    c.as_slice.result.now n h c.self.invariant.4 c.as_slice.ensures c.index-as_slice-number.is
-    (omega (arith, c.number.ensures.low, c.self.invariant.5)) in
-    let low : n * bucket_count < length lists =
-    omega (arith, c.number.ensures.low, c.self.invariant.1) in
     let P : List Mark → Type 0 =
     λ l. All (λ (m : Mark). m.at < length c.as_mut_slice.result.now) l in
     subst P (sym c.as_slice-else-head.ensures)
-    (low_marks c.self.inside.labels.now lists (Mnemonic n) (n * bucket_count) h
-    (length c.as_mut_slice.result.now) c.self.invariant.0 low
+    (low_marks c.self.inside.labels.now c.self.inside.lists (Mnemonic c.number.result) (list_key c)
+    c.index-as_slice-number.result (length c.as_mut_slice.result.now) c.self.invariant.0
+    (is_listed c)
     (ap (λ (ls : List Label). length (aims_in ls)) c.self.view_is ∙ sym c.requires.fits.count
     ∙ sym (ap (λ (l : List ℕ). length l) c.as_mut_slice.ensures.value))
     (omega (
       arith,
       c.requires.fits.some,
       ap (λ (l : List ℕ). length l) c.as_mut_slice.ensures.value,
-    )) is c.if-head.false)
+    )) (is_head c) c.if-head.false)
 
 pub add_groups-requires-clause-few : goal.add_groups-requires-clause-few
 add_groups-requires-clause-few c =
-    let n = c.number.result in
-    let h : Head = c.index-as_slice-number.result in
-    let lists = c.self.inside.lists in
-    let is : IsHead (Mnemonic n) (get_or lists (n * bucket_count) []) h =
-    head_at (λ n. Mnemonic n) (λ (n : ℕ). n * bucket_count) lists c.self.inside.heads
-    c.as_slice.result.now n h c.self.invariant.4 c.as_slice.ensures c.index-as_slice-number.is
-    (omega (arith, c.number.ensures.low, c.self.invariant.5)) in
-    let low : n * bucket_count < length lists =
-    omega (arith, c.number.ensures.low, c.self.invariant.1) in
     omega (
       arith,
       ap (λ (l : List Mark). length l) c.as_slice-else-head.ensures,
-      few_marks c.self.inside.labels.now lists (Mnemonic n) (n * bucket_count) h
-          c.self.invariant.0 low is c.if-head.false,
+      few_marks c.self.inside.labels.now c.self.inside.lists (Mnemonic c.number.result) (list_key c)
+          c.index-as_slice-number.result c.self.invariant.0 (is_listed c) (is_head c)
+          c.if-head.false,
       ap (λ (ls : List Label). length (aims_in ls)) c.self.view_is,
       c.requires.fits.count,
       ap (λ (l : List ℕ). length l) c.as_mut_slice.ensures.value,
@@ -63,15 +64,9 @@ add_groups-requires-clause-few c =
 
 pub returns-else-head : goal.returns-else-head
 returns-else-head c =
+    let before = c.before.before.before in
     let n = c.number.result in
     let h : Head = c.index-as_slice-number.result in
-    let lists = c.self.inside.lists in
-    let is : IsHead (Mnemonic n) (get_or lists (n * bucket_count) []) h =
-    head_at (λ n. Mnemonic n) (λ (n : ℕ). n * bucket_count) lists c.self.inside.heads
-    c.as_slice.result.now n h c.self.invariant.4 c.as_slice.ensures c.index-as_slice-number.is
-    (omega (arith, c.number.ensures.low, c.self.invariant.5)) in
-    let low : n * bucket_count < length lists =
-    omega (arith, c.number.ensures.low, c.self.invariant.1) in
     let cs = c.args.counts.now.items in
     let labels : c.self.inside.labels.now ≡ c.args.self.now = c.self.view_is in
     let new = c.add_groups.new.counts in
@@ -86,11 +81,11 @@ returns-else-head c =
     ∙ marks_length c.args.facts.now.signs h.marks cs ∙ sym c.args.counts.now.ok.0 in
     let same = c.number.ensures.place ∙ ap (λ (i : Fields). number i.op) c.insn.view_is in
     lent_back (vec_len c.args.counts.now) new (drop (length new) cs) whole
-    ∙ added_marks c.self.inside.labels.now lists c.args.facts.now.insn c.args.facts.now.first
-    c.args.facts.now.second n 0 (Mnemonic n) (n * bucket_count) h cs new c.self.invariant.0 low
-    (omega arith) (omega arith) same (sym same)
-    (c.requires.fits.count ∙ sym (ap (λ (ls : List Label). length (aims_in ls)) labels)) is
-    c.if-head.false
+    ∙ added_marks c.self.inside.labels.now c.self.inside.lists c.args.facts.now.insn
+    c.args.facts.now.first c.args.facts.now.second n 0 (Mnemonic n) (list_key before) h cs new
+    c.self.invariant.0 (is_listed before) (omega arith) (omega arith) same (sym same)
+    (c.requires.fits.count ∙ sym (ap (λ (ls : List Label). length (aims_in ls)) labels))
+    (is_head before) c.if-head.false
     (is_new ∙ ap (λ (w : ℕ). raised_marks w h.marks cs) c.args.facts.now.signs_known)
     ∙ ap (λ (ls : List Label). added (λ a. is_seen (Some 0) a.point
     && hits_insn a (Some c.args.facts.now.insn) c.args.facts.now.first c.args.facts.now.second)

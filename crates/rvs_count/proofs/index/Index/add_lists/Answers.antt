@@ -44,6 +44,8 @@ add_field-requires-3 c = record {
 
 pub add_asked-requires : goal.add_asked-requires
 add_asked-requires c = record {
+  fact = sym c.args.facts.now.rs1_known;
+  small = c.args.facts.now.rs1_small;
   fits = fits_weaker (2 ^ 41) (omega arith) (fits_more _
       c.add_field-3.new.counts.items (fits_more _ c.add_field-2.new.counts.items (fits_more _
       c.add_field.new.counts.items
@@ -53,6 +55,8 @@ add_asked-requires c = record {
 
 pub add_asked-requires-2 : goal.add_asked-requires-2
 add_asked-requires-2 c = record {
+  fact = sym c.args.facts.now.rs2_known;
+  small = c.args.facts.now.rs2_small;
   fits = fits_weaker (2 ^ 41) (omega arith) (fits_more _
       c.add_asked.new.counts.items (fits_more _ c.add_field-3.new.counts.items (fits_more _
       c.add_field-2.new.counts.items (fits_more _ c.add_field.new.counts.items
@@ -62,6 +66,8 @@ add_asked-requires-2 c = record {
 
 pub add_asked-requires-3 : goal.add_asked-requires-3
 add_asked-requires-3 c = record {
+  fact = sym c.args.facts.now.imm_known;
+  small = c.args.facts.now.imm_small;
   fits = fits_weaker (2 ^ 41) (omega arith) (fits_more _
       c.add_asked-2.new.counts.items (fits_more _ c.add_asked.new.counts.items (fits_more _
       c.add_field-3.new.counts.items (fits_more _ c.add_field-2.new.counts.items (fits_more _
@@ -71,8 +77,8 @@ add_asked-requires-3 c = record {
       c.add_asked-2.ensures);
 }
 
-pub add_asked-requires-4 : goal.add_asked-requires-4
-add_asked-requires-4 c = record {
+pub add_aligned-requires : goal.add_aligned-requires
+add_aligned-requires c = record {
   fits = fits_weaker (2 ^ 41) (omega arith) (fits_more _
       c.add_asked-3.new.counts.items (fits_more _ c.add_asked-2.new.counts.items (fits_more _
       c.add_asked.new.counts.items (fits_more _ c.add_field-3.new.counts.items (fits_more _
@@ -91,7 +97,7 @@ returns c =
     let hit : Aim → _ = λ a. hits_insn a (Some i) v1 v2 in
     let aims = aims_in c.args.self.now in
     let cs = c.args.counts.now.items in
-    let last = c.add_asked-4.new.counts.items in
+    let last = c.add_aligned.new.counts.items in
     (then_all hit aims (Some 0) (sight Rd t ∷ sight Rs1 t ∷ sight Rs2 t ∷ sight Rs1Val t ∷ sight
     Rs2Val t ∷ sight ImmVal t ∷ sight EaAlign t ∷ []) cs c.add_first.new.counts.items last
     c.add_first.ensures (then_all hit aims (sight Rd t) (sight Rs1 t ∷ sight Rs2 t ∷ sight Rs1Val
@@ -110,7 +116,7 @@ returns c =
     c.add_asked-2.ensures (then_all hit aims (sight ImmVal t) (sight EaAlign t ∷ [])
     c.add_asked-2.new.counts.items c.add_asked-3.new.counts.items last
     c.add_asked-3.ensures (then_all hit aims (sight EaAlign t) ([]) c.add_asked-3.new.counts.items
-    c.add_asked-4.new.counts.items last
-    c.add_asked-4.ensures refl))))))))
+    c.add_aligned.new.counts.items last
+    c.add_aligned.ensures refl))))))))
     ∙ ap (λ (os : List (Option ℕ)). added_all hit os aims cs) (sights_visited t)
     ∙ all_added i v1 v2 aims cs

@@ -14,16 +14,17 @@ use Rattle.rvs_count.proofs.Following.{followed_all, followed_nil, followed_none
 use Rattle.rvs_count.proofs.Hitting.{added_length, added_low, both_counted, entry_counted, none_hit}
 use Rattle.rvs_count.proofs.Hitting.{one_counted}
 use Rattle.rvs_count.proofs.tally.Tally.count.Goals as goal
+use Rattle.rvs_count.proofs.tally.Tally.count.Given.{Over}
 use Rattle.rvs_count.proofs.tally.Tally.count.Goals.{After-add-then-is_any, Else-is_any}
 
 pub add-requires-then-is_any-clause-count : goal.add-requires-then-is_any-clause-count
-add-requires-then-is_any-clause-count c =
+add-requires-then-is_any-clause-count g c =
     ap (λ l. length l) c.add.ensures
     ∙ added_length _ (aims_in c.self.inside.index) c.self.inside.counts.items c.self.invariant.count
     ∙ sym (ap (λ (ls : List Label). length (aims_in ls)) c.self.invariant.crosses)
 
 pub add-requires-then-is_any-clause-low : goal.add-requires-then-is_any-clause-low
-add-requires-then-is_any-clause-low c =
+add-requires-then-is_any-clause-low g c =
     let P : List ℕ → Type 0 = λ l. All (λ (n : ℕ). n ≤ c.self.inside.instructions + 1) l in
     let low : P c.add.new.counts.items =
     subst P (sym c.add.ensures) (added_low _ (aims_in c.self.inside.index)
@@ -32,14 +33,14 @@ add-requires-then-is_any-clause-low c =
     λ k d l. omega (arith, low k d l, c.requires.low, same)
 
 -- what both passes add
-counted : (c : After-add-then-is_any)
+counted : (g : Over) (c : After-add-then-is_any g)
     → c.add-then-is_any.new.counts.items
     ≡ counts_with (aims_in c.self.inside.index)
     (run_with c.self.inside.run
     (decoded (entry_at c.self.inside.registers c.args.entry.now.pc c.args.entry.now.word)))
     (entry_at c.self.inside.registers c.args.entry.now.pc c.args.entry.now.word)
     c.self.inside.counts.items
-counted c =
+counted g c =
     both_counted c.self.inside.index c.self.inside.crosses c.self.inside.run c.push.new.self
     c.self.inside.counts.items c.add.new.counts.items c.add-then-is_any.new.counts.items
     c.self.inside.registers
@@ -51,51 +52,51 @@ counted c =
     c.as_slice-then-is_any.ensures.items)
 
 -- a label has a cross point
-is_any : (c : After-add-then-is_any) → any_cross (aims_in c.self.inside.index) ≡ true
-is_any c =
+is_any : (g : Over) (c : After-add-then-is_any g) → any_cross (aims_in c.self.inside.index) ≡ true
+is_any g c =
     sym (c.is_any.ensures
     ∙ ap (λ (ls : List Label). any_cross (aims_in ls)) c.self.invariant.crosses)
     ∙ c.if-is_any.true
 
 -- none has
-is_none : (c : Else-is_any) → any_cross (aims_in c.self.inside.index) ≡ false
-is_none c =
+is_none : (g : Over) (c : Else-is_any g) → any_cross (aims_in c.self.inside.index) ≡ false
+is_none g c =
     sym (c.is_any.ensures
     ∙ ap (λ (ls : List Label). any_cross (aims_in ls)) c.self.invariant.crosses)
     ∙ c.if-is_any.false
 
 -- what the first pass adds is all
-counted_once : (c : Else-is_any)
+counted_once : (g : Over) (c : Else-is_any g)
     → c.add.new.counts.items
     ≡ counts_with (aims_in c.self.inside.index)
     (run_with c.self.inside.run
     (decoded (entry_at c.self.inside.registers c.args.entry.now.pc c.args.entry.now.word)))
     (entry_at c.self.inside.registers c.args.entry.now.pc c.args.entry.now.word)
     c.self.inside.counts.items
-counted_once c =
+counted_once g c =
     one_counted c.self.inside.index c.self.inside.run c.self.inside.counts.items
     c.add.new.counts.items c.self.inside.registers c.args.entry.now.pc c.args.entry.now.word
-    c.in-Some.insn (is_none c) (sym c.requires.decoded ∙ c.in-Some.is)
+    c.in-Some.insn (is_none g c) (sym c.requires.decoded ∙ c.in-Some.is)
     (ap (λ l. length l) c.add.ensures
     ∙ added_length _ (aims_in c.self.inside.index) c.self.inside.counts.items
     c.self.invariant.count) c.add.ensures
 
 pub invariant_of-self-then-is_any : goal.invariant_of-self-then-is_any
-invariant_of-self-then-is_any c =
+invariant_of-self-then-is_any g c =
     let P : List ℕ → Type 0 = λ l. All (λ (n : ℕ). n ≤ c.self.inside.instructions + 1) l in
     record {
       crosses = c.self.invariant.crosses;
-      count = ap (λ l. length l) (counted c)
+      count = ap (λ l. length l) (counted g c)
           ∙ added_length _ (aims_in c.self.inside.index) c.self.inside.counts.items
           c.self.invariant.count;
       low =
-          subst P (sym (counted c)) (added_low _ (aims_in c.self.inside.index)
+          subst P (sym (counted g c)) (added_low _ (aims_in c.self.inside.index)
           c.self.inside.counts.items c.self.inside.instructions c.self.invariant.low);
-      follows = sym (followed_all c.self.inside.index c.push.new.self (is_any c));
+      follows = sym (followed_all c.self.inside.index c.push.new.self (is_any g c));
     }
 
 pub invariant_of-self-else-is_any : goal.invariant_of-self-else-is_any
-invariant_of-self-else-is_any c =
+invariant_of-self-else-is_any g c =
     let P : List ℕ → Type 0 = λ l. All (λ (n : ℕ). n ≤ c.self.inside.instructions + 1) l in
     record {
       crosses = c.self.invariant.crosses;
@@ -109,7 +110,7 @@ invariant_of-self-else-is_any c =
     }
 
 pub returns-then-is_any : goal.returns-then-is_any
-returns-then-is_any c =
+returns-then-is_any g c =
     let pc = c.args.entry.now.pc in
     let word = c.args.entry.now.word in
     let b : is_in c.self.inside.windows pc ≡ true =
@@ -120,7 +121,7 @@ returns-then-is_any c =
     c.push.ensures
     ∙ ap (λ (o : Option Fields). run_with c.self.inside.run o)
     (sym (sym c.requires.decoded ∙ c.in-Some.is))
-    ∙ sym (followed_all c.self.inside.index run (is_any c)) in
+    ∙ sym (followed_all c.self.inside.index run (is_any g c)) in
     let P : Tallied
     → Type 0 =
     λ t. record {
@@ -134,10 +135,10 @@ returns-then-is_any c =
     ≡ with_entry t (is_in t.windows pc) (entry_at t.heard.words pc word) in
     subst P c.self.view_is (entry_counted (tallied c.self.inside) (is_in c.self.inside.windows pc)
     (entry_at c.self.inside.registers pc word) c.add-then-is_any.new.counts.items c.push.new.self b
-    r (counted c))
+    r (counted g c))
 
 pub returns-else-is_any : goal.returns-else-is_any
-returns-else-is_any c =
+returns-else-is_any g c =
     let pc = c.args.entry.now.pc in
     let word = c.args.entry.now.word in
     let index = c.self.inside.index in
@@ -146,8 +147,8 @@ returns-else-is_any c =
     ∙ c.if-leaves.true in
     let run = run_with c.self.inside.run (decoded (entry_at c.self.inside.registers pc word)) in
     let r : c.self.inside.run ≡ followed index run =
-    c.self.invariant.follows ∙ followed_none index c.self.inside.run (is_none c)
-    ∙ sym (followed_none index run (is_none c)) in
+    c.self.invariant.follows ∙ followed_none index c.self.inside.run (is_none g c)
+    ∙ sym (followed_none index run (is_none g c)) in
     let P : Tallied
     → Type 0 =
     λ t. record {
@@ -161,10 +162,10 @@ returns-else-is_any c =
     ≡ with_entry t (is_in t.windows pc) (entry_at t.heard.words pc word) in
     subst P c.self.view_is (entry_counted (tallied c.self.inside) (is_in c.self.inside.windows pc)
     (entry_at c.self.inside.registers pc word) c.add.new.counts.items c.self.inside.run b r
-    (counted_once c))
+    (counted_once g c))
 
 pub returns-in-None : goal.returns-in-None
-returns-in-None c =
+returns-in-None g c =
     let pc = c.args.entry.now.pc in
     let word = c.args.entry.now.word in
     let b : is_in c.self.inside.windows pc ≡ true =

@@ -11,15 +11,14 @@ use Rattle.rvs_count.specs.State.{added}
 use Rattle.rvs_count.specs.Wanted.{IsWanted}
 use Rattle.rvs_count.specs.declared.wanted.Wanted.{Wanted}
 use Rattle.rvs_count.proofs.Wants.{unwanted}
-use Rattle.rvs_count.proofs.index.Index.add_asked.Goals as goal
+use Rattle.rvs_count.proofs.index.Index.wants.Goals as goal
 
-pub returns-else-has : goal.returns-else-has
-returns-else-has c =
+pub returns : goal.returns
+returns c = λ none cs long.
     let n = c.number.result in
     let i = c.args.facts.now.insn in
     let v1 = c.args.facts.now.first in
     let v2 = c.args.facts.now.second in
-    let cs = c.args.counts.now.items in
     let lists = c.self.inside.lists in
     let blank : Wanted =
     record {
@@ -39,7 +38,7 @@ returns-else-has c =
     unwanted c.self.inside.labels.now lists i v1 v2 n c.args.asked w cs c.self.invariant.0
     (omega (arith, c.number.ensures.low, c.self.invariant.1))
     (c.number.ensures.place ∙ ap (λ (i : Fields). number i.op) c.insn.view_is)
-    (c.requires.fits.count ∙ sym (ap (λ (ls : List Label). length (aims_in ls)) labels)) is
-    (sym c.has.ensures ∙ c.if-has.false)
+    (long ∙ sym (ap (λ (ls : List Label). length (aims_in ls)) labels)) is
+    (sym c.has.ensures ∙ none)
     ∙ ap (λ (ls : List Label). added (λ a. is_seen (sight c.args.asked (facts_of i v1 v2)) a.point
     && hits_insn a (Some i) v1 v2) (aims_in ls) cs) labels
