@@ -30,7 +30,7 @@ none_fits count n (reg_is r) h = refl
 none_fits count n (regs e) h = refl
 none_fits count n (nums e) h = refl
 
-neither : (a b : Bool) → (a || b) ≡ false → (a ≡ false) × (b ≡ false)
+pub neither : (a b : Bool) → (a || b) ≡ false → (a ≡ false) × (b ≡ false)
 neither false b h = (refl, h)
 neither true b h = absurd cc
 

@@ -11,14 +11,10 @@ use Rattle.rvs_count.specs.Counting.{Aim, aims_in, count, decoded, hits}
 use Rattle.rvs_count.specs.Index.{has_places, lengths_to}
 use Rattle.rvs_count.specs.Runs.{run_of, run_with}
 use Rattle.rvs_count.specs.State.{added, counts_with, ends_run, followed, any_cross, is_cross}
-use Rattle.rvs_count.proofs.Absent.{any_has, listed, noted}
+use Rattle.rvs_count.proofs.Absent.{any_has, listed, neither, noted}
 use Rattle.rvs_count.proofs.Counts.{counts_snoc}
 use Rattle.rvs_count.proofs.Crossing.{AllSized, IsSized, aims_sized}
 use Rattle.rvs_count.proofs.Lengths.{none_there}
-
-neither : (a b : Bool) → (a || b) ≡ false → (a ≡ false) × (b ≡ false)
-neither false b h = (refl, h)
-neither true b h = absurd cc
 
 -- ---- without cross points
 no_end : (m : Meaning) (run : List Fields) → is_cross m ≡ false → ends_run m run ≡ false
