@@ -3,3 +3,4 @@ pub mod Differences
 mod Counting
 mod Printing
 mod Worths
+mod Writing

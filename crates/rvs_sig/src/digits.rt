@@ -1,5 +1,6 @@
-// Lines of eight hexadecimal digits.
+// Lines of eight hexadecimal digits, by `hex`.
 ghost use Rattle.std.specs.Prelude.{◌≡◌, ◌≤◌, ◌<◌, ◌+◌, ◌*◌, ◌^◌, IfSome, Some, length};
+ghost use Rattle.rvs_base.specs.Number.{hex_word_of};
 ghost use Rattle.rvs_sig.specs.Digits.{AreWorths, worth_of};
 ghost use Rattle.rvs_sig.specs.Words.{HasLine};
 
@@ -73,4 +74,14 @@ fn worth_in(worths: &[u64; 256], byte: u8) -> u64
     ensures low { result ≤ 2 ^ 32 }
 {
     worths[usize::from(byte)]
+}
+
+/// The eight digits of a word, in lower case, the highest place first.
+pub(crate) fn word_digits(word: u32) -> [u8; 8]
+    ensures { result ≡ hex_word_of word }
+{
+    let bytes = word.to_be_bytes();
+    let mut digits = [0; 8];
+    hex::encode_to_slice(bytes.as_slice(), &mut digits).unwrap();
+    digits
 }

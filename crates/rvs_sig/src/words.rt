@@ -4,8 +4,8 @@ ghost use Rattle.rvs_sig.specs.Digits.{AreWorths};
 ghost use Rattle.rvs_sig.specs.Words.{HasLine, digits_of_line, text_of_words, word_of_line};
 ghost use Rattle.rvs_sig.specs.Words.{most_lines, words_of};
 
-use crate::digits::{digits_line, worths};
-use rvs_base::{Items, NoMemory, Text, first_line, hex_word};
+use crate::digits::{digits_line, word_digits, worths};
+use rvs_base::{Items, NoMemory, Text, first_line};
 use std::alloc::Global;
 
 const MOST_LINES: u32 = 262_144;
@@ -75,7 +75,7 @@ pub fn print_words(alloc: Global, words: &[u32]) -> Result<Text, NoMemory>
 {
     let mut bytes = Vec::new(alloc);
     for word in words {
-        bytes.extend_from_slice(&hex_word(*word))?;
+        bytes.extend_from_slice(&word_digits(*word))?;
         bytes.push(b'\n')?;
     }
     Ok(Text::from(String::from_utf8(bytes).unwrap()))
