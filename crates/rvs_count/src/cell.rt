@@ -172,11 +172,11 @@ pub(crate) fn may_hit(cell: &Cell, value: i64) -> bool
 
 /// Adds one to the counts of the points of a cell that say this value.
 #[inline(always)]
-pub(crate) fn add_cell(cell: &Cell, value: i64, counts: &mut Vec<u64>)
-    requires first { cell.now.first_at < vec_len counts.old }
-    requires second { cell.now.second_at < vec_len counts.old }
-    requires low { All (λ n. n ≤ 2 ^ 41) counts.old.items }
-    ensures { counts.new.items ≡ spec.raised_cell cell.now value counts.old.items }
+pub(crate) fn add_cell(cell: &Cell, value: i64, counts: &mut [u64])
+    requires first { cell.now.first_at < length counts.old }
+    requires second { cell.now.second_at < length counts.old }
+    requires low { All (λ n. n ≤ 2 ^ 41) counts.old }
+    ensures { counts.new ≡ spec.raised_cell cell.now value counts.old }
 {
     raise(counts, cell.first_at as usize, cell.first == value);
     raise_rare(counts, cell.second_at as usize, cell.second == value);

@@ -92,10 +92,10 @@ pub(crate) fn entries(alloc: Global, cells: &[Cell]) -> Result<Items<u32>, NoMem
 
 /// Adds one to the count of the point that an entry names.
 #[inline(always)]
-pub(crate) fn add_entry(entry: u32, counts: &mut Vec<u64>)
-    requires within { entry ≤ vec_len counts.old }
-    requires low { All (λ n. n ≤ 2 ^ 41) counts.old.items }
-    ensures { counts.new.items ≡ spec.raised_entry entry counts.old.items }
+pub(crate) fn add_entry(entry: u32, counts: &mut [u64])
+    requires within { entry ≤ length counts.old }
+    requires low { All (λ n. n ≤ 2 ^ 41) counts.old }
+    ensures { counts.new ≡ spec.raised_entry entry counts.old }
 {
     if entry > 0 {
         counts[entry as usize - 1] += 1;

@@ -14,22 +14,23 @@ use std::marker::Brand;
 use std::sync::ledger::{Blank, Ledger};
 
 /// Adds one to a count, where its point is hit.
-pub(crate) fn raise(counts: &mut Vec<u64>, at: usize, hit: bool)
-    requires within { at < vec_len counts.old }
-    requires room { All (λ n. n + 1 < 2 ^ 64) counts.old.items }
-    ensures items { counts.new.items ≡ raised hit at counts.old.items }
-    ensures len { vec_len counts.new ≡ vec_len counts.old }
+#[inline(always)]
+pub(crate) fn raise(counts: &mut [u64], at: usize, hit: bool)
+    requires within { at < length counts.old }
+    requires room { All (λ n. n + 1 < 2 ^ 64) counts.old }
+    ensures items { counts.new ≡ raised hit at counts.old }
+    ensures len { length counts.new ≡ length counts.old }
 {
     counts[at] += u64::from(hit);
 }
 
 /// The same where few are: a count that stays isn't looked at.
 #[inline(always)]
-pub(crate) fn raise_rare(counts: &mut Vec<u64>, at: usize, hit: bool)
-    requires within { at < vec_len counts.old }
-    requires room { All (λ n. n + 1 < 2 ^ 64) counts.old.items }
-    ensures items { counts.new.items ≡ raised hit at counts.old.items }
-    ensures len { vec_len counts.new ≡ vec_len counts.old }
+pub(crate) fn raise_rare(counts: &mut [u64], at: usize, hit: bool)
+    requires within { at < length counts.old }
+    requires room { All (λ n. n + 1 < 2 ^ 64) counts.old }
+    ensures items { counts.new ≡ raised hit at counts.old }
+    ensures len { length counts.new ≡ length counts.old }
 {
     if hit {
         counts[at] += 1;
@@ -42,15 +43,15 @@ fn add_hits<F: Facts, L: Ledger>(
     op: Op,
     facts: &F,
     signs: u32,
-    counts: &mut Vec<u64>,
+    counts: &mut [u64],
     steps: &mut Steps<L>,
 )
     requires signs { signs ≡ signs_word (signs_of (F.table facts.now)) }
-    requires within { All (λ s. s.at < vec_len counts.old) slots.now }
-    requires few { length slots.now ≤ vec_len counts.old }
-    requires low { All (λ n. n ≤ 2 ^ 41) counts.old.items }
-    ensures { counts.new.items
-        ≡ raised_all (λ p. holds p op (F.table facts.now)) (places slots.now) counts.old.items }
+    requires within { All (λ s. s.at < length counts.old) slots.now }
+    requires few { length slots.now ≤ length counts.old }
+    requires low { All (λ n. n ≤ 2 ^ 41) counts.old }
+    ensures { counts.new
+        ≡ raised_all (λ p. holds p op (F.table facts.now)) (places slots.now) counts.old }
 {
     for slot in slots {
         let hit = slot.holds(op, facts, signs, steps);
@@ -59,16 +60,16 @@ fn add_hits<F: Facts, L: Ledger>(
 }
 
 /// The same, with a counter of evaluations that no one reads.
-fn add_counted<L: Ledger>(blank: Blank, slots: &[Slot<'_>], facts: &Known, counts: &mut Vec<u64>)
+fn add_counted<L: Ledger>(blank: Blank, slots: &[Slot<'_>], facts: &Known, counts: &mut [u64])
     requires name { blank.name ≡ L.name }
     requires parts { blank.parts ≡ L.parts }
     requires some { 0 < blank.parts }
-    requires within { All (λ s. s.at < vec_len counts.old) slots.now }
-    requires few { length slots.now ≤ vec_len counts.old }
-    requires low { All (λ n. n ≤ 2 ^ 41) counts.old.items }
-    ensures { counts.new.items ≡ raised_all (λ p. holds p facts.now.insn.op
+    requires within { All (λ s. s.at < length counts.old) slots.now }
+    requires few { length slots.now ≤ length counts.old }
+    requires low { All (λ n. n ≤ 2 ^ 41) counts.old }
+    ensures { counts.new ≡ raised_all (λ p. holds p facts.now.insn.op
         (facts_of facts.now.insn facts.now.first facts.now.second))
-        (places slots.now) counts.old.items }
+        (places slots.now) counts.old }
 {
     let mut steps: Steps<L> = Steps::new(blank, Free::new());
     let insn = &facts.insn;
@@ -77,13 +78,13 @@ fn add_counted<L: Ledger>(blank: Blank, slots: &[Slot<'_>], facts: &Known, count
 }
 
 /// Adds one to the counts of the points that an instruction hits.
-pub(crate) fn add_insn(slots: &[Slot<'_>], facts: &Known, counts: &mut Vec<u64>)
-    requires within { All (λ s. s.at < vec_len counts.old) slots.now }
-    requires few { length slots.now ≤ vec_len counts.old }
-    requires low { All (λ n. n ≤ 2 ^ 41) counts.old.items }
-    ensures { counts.new.items ≡ raised_all (λ p. holds p facts.now.insn.op
+pub(crate) fn add_insn(slots: &[Slot<'_>], facts: &Known, counts: &mut [u64])
+    requires within { All (λ s. s.at < length counts.old) slots.now }
+    requires few { length slots.now ≤ length counts.old }
+    requires low { All (λ n. n ≤ 2 ^ 41) counts.old }
+    ensures { counts.new ≡ raised_all (λ p. holds p facts.now.insn.op
         (facts_of facts.now.insn facts.now.first facts.now.second))
-        (places slots.now) counts.old.items }
+        (places slots.now) counts.old }
 {
     add_counted::<Brand>(Blank::new(1), slots, facts, counts);
 }

@@ -28,15 +28,15 @@ fn is_hit<L: Ledger>(point: &Point, window: &[Insn], steps: &mut Steps<L>) -> bo
 fn add_hits<L: Ledger>(
     slots: &[Slot<'_>],
     window: &[Insn],
-    counts: &mut Vec<u64>,
+    counts: &mut [u64],
     steps: &mut Steps<L>,
 )
-    requires within { All (λ s. s.at < vec_len counts.old) slots.now }
-    requires few { length slots.now ≤ vec_len counts.old }
-    requires low { All (λ n. n ≤ 2 ^ 42) counts.old.items }
-    ensures { counts.new.items
+    requires within { All (λ s. s.at < length counts.old) slots.now }
+    requires few { length slots.now ≤ length counts.old }
+    requires low { All (λ n. n ≤ 2 ^ 42) counts.old }
+    ensures { counts.new
         ≡ raised_all (λ p. is_matched p.meaning window.now) (spec.places slots.now)
-        counts.old.items }
+        counts.old }
 {
     for slot in slots {
         let hit = is_hit(slot.point, window, steps);
@@ -45,29 +45,29 @@ fn add_hits<L: Ledger>(
 }
 
 /// The same, with a counter of evaluations that no one reads.
-fn add_counted<L: Ledger>(blank: Blank, slots: &[Slot<'_>], window: &[Insn], counts: &mut Vec<u64>)
+fn add_counted<L: Ledger>(blank: Blank, slots: &[Slot<'_>], window: &[Insn], counts: &mut [u64])
     requires name { blank.name ≡ L.name }
     requires parts { blank.parts ≡ L.parts }
     requires some { 0 < blank.parts }
-    requires within { All (λ s. s.at < vec_len counts.old) slots.now }
-    requires few { length slots.now ≤ vec_len counts.old }
-    requires low { All (λ n. n ≤ 2 ^ 42) counts.old.items }
-    ensures { counts.new.items
+    requires within { All (λ s. s.at < length counts.old) slots.now }
+    requires few { length slots.now ≤ length counts.old }
+    requires low { All (λ n. n ≤ 2 ^ 42) counts.old }
+    ensures { counts.new
         ≡ raised_all (λ p. is_matched p.meaning window.now) (spec.places slots.now)
-        counts.old.items }
+        counts.old }
 {
     let mut steps: Steps<L> = Steps::new(blank, Free::new());
     add_hits(slots, window, counts, &mut steps);
 }
 
 /// Adds one to the counts of the points of a list that these instructions match.
-pub(crate) fn add_matched(slots: &[Slot<'_>], window: &[Insn], counts: &mut Vec<u64>)
-    requires within { All (λ s. s.at < vec_len counts.old) slots.now }
-    requires few { length slots.now ≤ vec_len counts.old }
-    requires low { All (λ n. n ≤ 2 ^ 42) counts.old.items }
-    ensures { counts.new.items
+pub(crate) fn add_matched(slots: &[Slot<'_>], window: &[Insn], counts: &mut [u64])
+    requires within { All (λ s. s.at < length counts.old) slots.now }
+    requires few { length slots.now ≤ length counts.old }
+    requires low { All (λ n. n ≤ 2 ^ 42) counts.old }
+    ensures { counts.new
         ≡ raised_all (λ p. is_matched p.meaning window.now) (spec.places slots.now)
-        counts.old.items }
+        counts.old }
 {
     add_counted::<Brand>(Blank::new(1), slots, window, counts);
 }

@@ -37,6 +37,8 @@ mod Executables
 mod RunSteps
 mod RunReads
 mod DemoEnds
+mod Passed
+mod Signs
 mod RunEnds
 mod OneTest
 mod OneCount

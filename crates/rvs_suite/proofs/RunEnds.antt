@@ -32,7 +32,9 @@ use Rattle.rvs_suite.specs.GenerateTexts.{listing}
 use Rattle.rvs_suite.specs.RunTests.{Bench, tally_line, tallies, passes, with_one, verdict_of_all}
 use Rattle.rvs_suite.specs.RunTests.{RunInputs, run_inputs, bench_of, runs, run}
 use Rattle.rvs_suite.specs.RunLeft.{verdict_lines, passed_onto, with_all_judged}
-use Rattle.rvs_suite.specs.Judging.{run_inputs_in, tests_in, task_of, HasJudged, HasTestFiles, Runs}
+use Rattle.rvs_suite.specs.RunLeft.{task_of}
+use Rattle.rvs_suite.specs.Signing.{IsSigned}
+use Rattle.rvs_suite.specs.Judging.{run_inputs_in, tests_in, HasJudged, HasTestFiles, Runs}
 use Rattle.rvs_suite.specs.declared.gathering.Test.{Test}
 use Rattle.rvs_words.specs.declared.command.Command.TheVariants.{Run}
 use Rattle.rvs_suite.proofs.Answered.{RunsOn, ran-command}
@@ -44,8 +46,10 @@ use Rattle.rvs_suite.proofs.RunReads.{finds-run}
 use Rattle.rvs_suite.proofs.RunSteps.{first_did, contents_of, appended-twice, JudgedAll}
 use Rattle.rvs_suite.proofs.RunSteps.{judged-all}
 use Rattle.rvs_suite.proofs.Sparing.{run-spares}
+use Rattle.rvs_suite.proofs.Passed.{are-judged}
 use Rattle.rvs_suite.proofs.Signed.{has-test, proved}
-use Rattle.rvs_suite.proofs.Standing.{files-stand, test-of}
+use Rattle.rvs_suite.proofs.Signs.{signs}
+use Rattle.rvs_suite.proofs.Standing.{files-stand, test_by, test-of}
 use Rattle.rvs_suite.proofs.Tested.{groups-accepted, tested-run, runnable-run}
 use Rattle.rvs_suite.proofs.Untouched.{never-end, runs-on}
 use Rattle.rvs_suite.proofs.Written.{apart-inputs}
@@ -199,6 +203,8 @@ has-judged {call} program work inputs files end effects t goes saw did =
           t.files);
       out = ap (λ (c : Contents). c.out) new;
       verdict = left.verdict;
+      means = are-judged (bench_of program work inputs) (tests_in inputs) left.all.news end
+          left.all.each left.verdict;
     }
 
 -- by what the inputs come to
@@ -327,14 +333,27 @@ proved-there : {call : Call} (files : Files) (asked : RunArguments) → RunsOn c
 proved-there {call} files asked r inputs l k files' given inside selected
     solvable ended told =
     let has = has-test inputs.groups.isa l k solvable in
-    let t = test-of inputs.groups.isa inputs.groups.groups l has.0 inside selected has.1 in
-    let at = there files asked r inputs t.0 files' given t.1 ended told in
+    let at = there files asked r inputs (test_by inputs.groups.isa l has.0) files' given
+    (test-of inputs.groups.isa inputs.groups.groups l has.0 inside selected has.1) ended told in
     record {
       bytes = has.0;
-      there = ap (λ (name : List ℕ). files' (path_of asked.work name)) (sym t.2) ∙ at.text
-          ∙ ap (λ (x : List ℕ). Some x) t.3;
+      there = at.text;
       proved = proved inputs.groups l has.0 (tested-run files asked inputs given) inside
           selected has.1;
+    }
+
+-- where it is done, each test passes, and each label with a solvable point has one
+signed : {call : Call} (files : Files) (asked : RunArguments) → RunsOn call files (Run asked)
+    → call.status ≡ answer.Done → HasLeft (run_inputs_in files asked)
+    (λ inputs. IsSigned call (bench_of asked.program asked.work inputs) inputs.groups.groups
+    (tests_in inputs))
+signed {call} files asked r is =
+    let h = judged-done files asked r is in
+    record {
+      given = h.given;
+      accepted = h.accepted;
+      left = signs {call = call} asked.program asked.work h.given h.left
+          (tested-run files asked h.given h.accepted);
     }
 
 -- ---- the promise
@@ -348,6 +367,7 @@ judges {call} files asked r =
     let plan = run asked in
     let ran = ran-command r in
     record {
+      signed = signed files asked r;
       answered = record {
         done = judged-done files asked r;
         not_passed = judged-not_passed files asked r;

@@ -13,7 +13,7 @@ use Rattle.rvs_plan.specs.declared.stop.Stop.{Stop}
 use Rattle.rvs_plan.specs.declared.status.Finish.{Finish}
 use Rattle.rvs_sig.specs.Words.{text_of_words}
 use Rattle.rvs_device.specs.Printed.{verdict_line}
-use Rattle.rvs_suite.specs.Judging.{task_of}
+use Rattle.rvs_suite.specs.RunLeft.{task_of}
 use Rattle.rvs_suite.specs.Tests.{reference_words, executable_of}
 use Rattle.rvs_suite.specs.RunTests.{Bench, files_for, asks_elf, executable_for, passes, announces}
 use Rattle.rvs_suite.specs.RunTests.{writes_executable, judges_words, judges_one, judges_all}

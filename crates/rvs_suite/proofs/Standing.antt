@@ -115,14 +115,15 @@ test-with name steps true (Some text) t chosen is = (
 test-with name steps true None t chosen is = absurd cc
 test-with name steps false text t chosen is = absurd cc
 
-abbrev test_by : Isa → Label → List ℕ → Test
+-- the test of a label that has this text
+abbrev pub test_by : Isa → Label → List ℕ → Test
 test_by isa l text =
     record { name = l.name; text = text; steps = step_limit (cases_of isa l) }
 
 pub test-of : (isa : Isa) (ls : List Label) (l : Label) (text : List ℕ) → Contains ls l
     → l.selected ≡ true → text_of_label isa l ≡ Some text
-    → (t : Test) × Contains (tests_of isa ls) t × (t.name ≡ l.name) × (t.text ≡ text)
-test-of isa ls l text there selected is = (test_by isa l text, inside ls there, refl, refl)
+    → Contains (tests_of isa ls) (test_by isa l text)
+test-of isa ls l text there selected is = inside ls there
   where
     here : (k : Label) → k ≡ l → Contains (tests_of_label isa k) (test_by isa l text)
     here k same = subst (λ (m : Label). Contains (tests_of_label isa m) (test_by isa l text))
@@ -239,7 +240,7 @@ all-stand bench (t ∷ ts) (run ∷ runs) files u each apart (suc i, within, at)
     }
 
 -- ---- what a call has left
-among-runs : (news after : List DeviceRun) (run : DeviceRun) (before : Option (List DeviceRun))
+pub among-runs : (news after : List DeviceRun) (run : DeviceRun) (before : Option (List DeviceRun))
     → Contains news run → Some after ≡ option_map (λ (b : List DeviceRun). b ++ news) before
     → Contains after run
 among-runs news after run None there is = absurd cc

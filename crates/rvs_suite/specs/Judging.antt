@@ -19,9 +19,9 @@ use Rattle.rvs_normal.specs.Again.{names_are_apart}
 use Rattle.rvs_solver.specs.Solving.{IsSolvableAt}
 use Rattle.rvs_test.specs.Made.{text_of_label}
 use Rattle.rvs_device.specs.Command.{wants_elf}
-use Rattle.rvs_device.specs.Judging.{Spells, Task, task}
+use Rattle.rvs_device.specs.Judging.{Spells}
 use Rattle.rvs_device.specs.declared.verdicts.TestVerdict.TheVariants.{Pass}
-use Rattle.rvs_suite.specs.Answered.{Answered}
+use Rattle.rvs_suite.specs.Answered.{Answered, HasLeft}
 use Rattle.rvs_suite.specs.Call.{Call, Asks, NothingFailed, AnswersOnly}
 use Rattle.rvs_suite.specs.GenerateTexts.{listing}
 use Rattle.rvs_suite.specs.Generate.{path_of}
@@ -34,7 +34,8 @@ use Rattle.rvs_suite.specs.TestFiles.{IsOther, files_of}
 use Rattle.rvs_suite.specs.RunTests.{Bench, files_for, asks_elf, tally_line, verdict_of_all}
 use Rattle.rvs_suite.specs.RunTests.{RunInputs, bench_of}
 use Rattle.rvs_suite.specs.RunLeft.{IsRunOf, AreRunsOf, verdict_by, verdict_lines, passed_onto}
-use Rattle.rvs_suite.specs.RunLeft.{with_all_judged}
+use Rattle.rvs_suite.specs.RunLeft.{with_all_judged, task_of, AreJudged}
+use Rattle.rvs_suite.specs.Signing.{IsSigned}
 use Rattle.rvs_suite.specs.declared.gathering.Test.{Test}
 use Rattle.rvs_words.specs.declared.command.Command.TheVariants.{Run}
 use Rattle.rvs_words.specs.declared.command.RunArguments.{RunArguments}
@@ -67,13 +68,7 @@ pub record HasJudged (call : Call) (program work : List ℕ) (end : Finish)
       (passed_onto (bench_of program work inputs) 0 (tests_in inputs) runs)))
   pub verdict : end ≡ verdict_of_all (length (tests_in inputs))
       (passed_onto (bench_of program work inputs) 0 (tests_in inputs) runs)
-
--- what the device is asked on a test
-abbrev pub task_of : Bench → Test → Task
-task_of bench test =
-    task bench.device.command bench.program (files_for bench test).test
-    (files_for bench test).executable (files_for bench test).device
-    (reference_words bench.isa test)
+  pub means : AreJudged (bench_of program work inputs) end (tests_in inputs) runs
 
 -- a test passes exactly where what its run left spells the words of the reference machine
 abbrev pub PassesBySpelling : Bench → Test → DeviceRun → Type 0
@@ -106,6 +101,12 @@ pub record HasTestFiles (call : Call) (bench : Bench) (test : Test) (files' : Fi
 
 -- a call of `run` on these of these files, for this folder
 pub record Runs (call : Call) (files : Files) (asked : RunArguments) : Type 0 where
+  -- What may be signed where it is done: its inputs are accepted, each test passes, and each label
+  -- with a point that a choice hits has a test that is proved of its bytes alone, was run by this
+  -- device in this call, and left the words of the proved run.
+  pub signed : call.status ≡ Done → HasLeft (run_inputs_in files asked)
+      (λ inputs. IsSigned call (bench_of asked.program asked.work inputs) inputs.groups.groups
+      (tests_in inputs))
   -- it is done where its inputs are accepted and every test passes, and not passed where a test
   -- doesn't; each was judged; it is refused, or the host fails, at the first input that isn't
   -- accepted, and no test is refused, traps or runs on

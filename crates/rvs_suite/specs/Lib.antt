@@ -39,6 +39,7 @@ pub mod DeviceInput
 pub mod RunTests
 pub mod RunView
 pub mod RunLeft
+pub mod Signing
 pub mod Judging
 pub mod DatabaseInput
 pub mod Select

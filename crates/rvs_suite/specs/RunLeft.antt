@@ -1,9 +1,13 @@
 -- What `run` leaves: the runs of the device, the files, and the verdicts.
-use Rattle.std.specs.Prelude.{◌≡◌, ℕ, List, [], ◌∷◌, ◌++◌, Option, Some, None, ⊤}
+use Rattle.std.specs.Prelude.{◌≡◌, ℕ, List, [], ◌∷◌, ◌++◌, Option, Some, None, ⊤, All, Contains}
+use Rattle.std.specs.List.{zip}
 use Rattle.rvs_base.specs.Host.{Files, with_file, with_left}
 use Rattle.rvs_base.specs.declared.host.DeviceRun.{DeviceRun}
 use Rattle.rvs_sig.specs.Words.{text_of_words}
+use Rattle.rvs_plan.specs.declared.status.Finish.{Finish}
+use Rattle.rvs_plan.specs.declared.status.Finish.TheVariants as finish
 use Rattle.rvs_device.specs.Command.{started_with}
+use Rattle.rvs_device.specs.Judging.{Spells, Task, task}
 use Rattle.rvs_device.specs.Judged.{verdict_on}
 use Rattle.rvs_device.specs.Printed.{verdict_line}
 use Rattle.rvs_device.specs.declared.verdicts.TestVerdict.{TestVerdict}
@@ -30,6 +34,23 @@ AreRunsOf bench (test ∷ tests) (run ∷ runs) = IsRunOf bench test run × AreR
 -- the verdict on a test: what its run left, beside the words of the reference machine
 abbrev pub verdict_by : Bench → Test → DeviceRun → TestVerdict
 verdict_by bench test run = verdict_on run.status (reference_words bench.isa test) run.after
+
+-- what the device is asked on a test
+abbrev pub task_of : Bench → Test → Task
+task_of bench test =
+    task bench.device.command bench.program (files_for bench test).test
+    (files_for bench test).executable (files_for bench test).device
+    (reference_words bench.isa test)
+
+-- what the run on a test left spells the words of the reference machine
+abbrev pub HasSpelled : Bench → Test × DeviceRun → Type 0
+HasSpelled bench tried = Spells (task_of bench tried.0) tried.1.after
+
+-- all have, where the verdict on all is a pass; one hasn't, where it is none
+abbrev pub AreJudged : Bench → Finish → List Test → List DeviceRun → Type 0
+AreJudged bench finish.Done tests runs = All (HasSpelled bench) (zip tests runs)
+AreJudged bench finish.NotPassed tests runs =
+    (tried : Test × DeviceRun) × Contains (zip tests runs) tried × (HasSpelled bench tried → ⊥)
 
 -- the lines of the verdicts
 abbrev pub verdict_lines : Bench → List Test → List DeviceRun → List ℕ

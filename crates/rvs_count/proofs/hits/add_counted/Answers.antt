@@ -9,7 +9,7 @@ use Rattle.rvs_count.proofs.hits.add_counted.Goals as goal
 pub returns : goal.returns
 returns g c =
     let slots = places c.args.slots.now in
-    let cs = c.args.counts.now.items in
+    let cs = c.args.counts.now in
     let facts : Known = c.args.facts.now in
     c.add_hits.ensures
     ∙ ap (λ (k : Known). raised_all (λ p. holds p c.insn.inside.op

@@ -16,10 +16,10 @@ loop-mark-preserved c =
     let cs = c.loop-mark.counts in
     let hit = has_all signs m.mask in
     let rest = drop (c.loop-mark.mark-index + 1) c.args.marks.now in
-    let e : c.raise_at.new.counts ≡ raised hit m.at cs =
-    c.raise_at.ensures ∙ ap (λ h. raised h m.at cs) c.lacks_none-hit.ensures in
+    let e : c.raise.new.counts ≡ raised hit m.at cs =
+    c.raise.ensures.items ∙ ap (λ h. raised h m.at cs) c.lacks_none-hit.ensures in
     let P : List ℕ → Type 0 = λ l. All (λ (n : ℕ). n ≤ 2 ^ 62 + c.loop-mark.mark-index + 1) l in
-    let low : P c.raise_at.new.counts =
+    let low : P c.raise.new.counts =
     subst P (sym e) (raised_low hit cs m.at (2 ^ 62 + c.loop-mark.mark-index)
     c.loop-mark.invariant.low) in
     record {

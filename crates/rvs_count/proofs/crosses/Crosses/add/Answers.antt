@@ -19,7 +19,7 @@ add_lasts-requires-clause-short c =
 pub returns-then-not-is_empty : goal.returns-then-not-is_empty
 returns-then-not-is_empty c =
     let run = c.args.run.now in
-    let cs = c.args.counts.now.items in
+    let cs = c.args.counts.now in
     let aims = aims_in c.args.self.now in
     let all : c.as_slice-lengths.result.now ≡ lengths_to aims 6 =
     c.as_slice-lengths.ensures
@@ -32,7 +32,7 @@ returns-then-not-is_empty c =
 pub returns-else-not-is_empty : goal.returns-else-not-is_empty
 returns-else-not-is_empty c =
     let run = c.args.run.now in
-    let cs = c.args.counts.now.items in
+    let cs = c.args.counts.now in
     let aims = aims_in c.args.self.now in
     let all : c.as_slice-lengths.result.now ≡ lengths_to aims 6 =
     c.as_slice-lengths.ensures

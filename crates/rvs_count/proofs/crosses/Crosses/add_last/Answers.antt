@@ -5,5 +5,5 @@ use Rattle.rvs_count.proofs.crosses.Crosses.add_last.Goals as goal
 
 pub returns-else-count-run : goal.returns-else-count-run
 returns-else-count-run c =
-    sym (too_short c.args.count c.args.run.now (aims_in c.args.self.now) c.args.counts.now.items
+    sym (too_short c.args.count c.args.run.now (aims_in c.args.self.now) c.args.counts.now
     (omega (arith, c.if-count-run.false)))

@@ -16,14 +16,14 @@ add_last-requires-clause-low c =
 pub loop-count-preserved : goal.loop-count-preserved
 loop-count-preserved c =
     let aims = aims_in c.args.self.now in
-    let cs = c.loop-count.counts.items in
+    let cs = c.loop-count.counts in
     let at = c.loop-count.count-index in
     let P : List ℕ → Type 0 = λ l. All (λ (n : ℕ). n ≤ 2 ^ 41 + (at + 1)) l in
     let low : All (λ (n : ℕ). n ≤ 2 ^ 41 + at + 1) _ =
     added_low _ aims cs (2 ^ 41 + at) c.loop-count.invariant.low in
     record {
       same =
-          lasts_more c.args.lengths.now c.args.run.now aims cs c.add_last.new.counts.items at 0
+          lasts_more c.args.lengths.now c.args.run.now aims cs c.add_last.new.counts at 0
           c.loop-count-test.true c.add_last.ensures
           ∙ c.loop-count.invariant.same;
       count = ap (λ l. length l) c.add_last.ensures
@@ -34,5 +34,5 @@ loop-count-preserved c =
 pub returns : goal.returns
 returns c =
     sym (lasts_done c.args.lengths.now c.args.run.now (aims_in c.args.self.now)
-    c.loop-count.counts.items c.loop-count.count-index c.loop-count-test.false)
+    c.loop-count.counts c.loop-count.count-index c.loop-count-test.false)
     ∙ c.loop-count.invariant.same

@@ -5,8 +5,8 @@ use Rattle.rvs_count.proofs.crosses.Crosses.add_lasts.Given as goal
 
 abbrev pub invariant-loop-count : goal.invariant-loop-count
 invariant-loop-count l = record {
-  same : added_lasts (drop l.count-index l.lengths) l.run (aims_in l.self) l.counts.items
-      ≡ added_lasts l.lengths l.run (aims_in l.self) l.fn.counts.items;
-  count : length l.counts.items ≡ length (aims_in l.self);
-  low : All (λ (n : ℕ). n ≤ 2 ^ 41 + l.count-index) l.counts.items;
+  same : added_lasts (drop l.count-index l.lengths) l.run (aims_in l.self) l.counts
+      ≡ added_lasts l.lengths l.run (aims_in l.self) l.fn.counts;
+  count : length l.counts ≡ length (aims_in l.self);
+  low : All (λ (n : ℕ). n ≤ 2 ^ 41 + l.count-index) l.counts;
 }

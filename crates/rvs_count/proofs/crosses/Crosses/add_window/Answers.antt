@@ -16,7 +16,7 @@ add_matched-requires-clause-within c =
     (omega (arith, c.requires.some, c.requires.few, c.number.ensures.low, c.self.invariant.count))
     c.as_slice.ensures c.as_slice-slots.ensures c.index-as_slice-key.is in
     slots_low (is_for (windows_key key)) (aims_in c.self.inside.labels.now)
-    c.as_slice-slots.result.now (vec_len c.args.counts.now) mine
+    c.as_slice-slots.result.now (length c.args.counts.now) mine
     (ap (λ ls. length (aims_in ls)) c.self.view_is ∙ sym c.requires.count
     ∙ sym c.args.counts.now.ok.0)
 
@@ -50,7 +50,7 @@ returns c =
     let same : c.number.result ≡ number first.op =
     c.number.ensures.place ∙ ap (λ (i : Fields). number i.op) c.first.view_is in
     added_window c.args.self.now window first first key
-    c.as_slice-slots.result.now c.args.counts.now.items c.add_matched.new.counts.items
+    c.as_slice-slots.result.now c.args.counts.now c.add_matched.new.counts
     c.requires.some c.requires.few c.index-window-0.is (ap (λ n.
     (length window - 1) * op_count + n) same)
     (omega (arith, same, c.number.ensures.low))

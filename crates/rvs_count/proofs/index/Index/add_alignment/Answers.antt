@@ -6,5 +6,5 @@ use Rattle.rvs_count.proofs.index.Index.add_alignment.Goals as goal
 pub returns-in-None : goal.returns-in-None
 returns-in-None c =
     absent_adds c.args.self.now c.args.facts.now.insn c.args.facts.now.first
-    c.args.facts.now.second EaAlign c.args.counts.now.items c.requires.fits.count
+    c.args.facts.now.second EaAlign c.args.counts.now c.requires.fits.count
     (sym c.alignment.ensures.value ∙ c.in-None.is)

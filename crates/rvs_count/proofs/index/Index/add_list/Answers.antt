@@ -16,7 +16,7 @@ add_insn-requires-clause-within c =
     (omega (arith, c.requires.bucket, c.number.ensures.low, c.self.invariant.1))
     c.as_slice.ensures c.as_slice-slots.ensures c.index-as_slice-key.is in
     slots_low (is_for (insns_key key)) (aims_in c.self.inside.labels.now)
-    c.as_slice-slots.result.now (vec_len c.args.counts.now) mine
+    c.as_slice-slots.result.now (length c.args.counts.now) mine
     (ap (λ ls. length (aims_in ls)) c.self.view_is ∙ sym c.requires.fits.count
     ∙ sym c.args.counts.now.ok.0)
 
@@ -47,7 +47,7 @@ returns c =
     c.as_slice.ensures c.as_slice-slots.ensures c.index-as_slice-key.is in
     added_bucket c.args.self.now c.args.facts.insn c.args.facts.first
     c.args.facts.second c.number.result c.args.bucket c.as_slice-slots.result.now
-    c.args.counts.now.items c.add_insn.new.counts.items
+    c.args.counts.now c.add_insn.new.counts
     (c.number.ensures.place ∙ ap (λ (i : Fields). number i.op) c.insn.view_is) c.requires.bucket
     (mine ∙ ap (λ ls. places_for (is_for (insns_key key)) 0 (aims_in ls)) c.self.view_is)
     c.requires.fits.count c.add_insn.ensures

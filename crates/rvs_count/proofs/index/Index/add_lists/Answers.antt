@@ -17,7 +17,7 @@ add_field-requires c = record {
   small = c.args.facts.now.rd_small;
   fact = ap (option_map (λ n. pos n)) (sym c.args.facts.now.rd_known);
   fits = fits_weaker (2 ^ 41) (omega arith)
-      (fits_more _ c.add_first.new.counts.items c.requires.fits c.add_first.ensures);
+      (fits_more _ c.add_first.new.counts c.requires.fits c.add_first.ensures);
 }
 
 pub add_field-requires-2 : goal.add_field-requires-2
@@ -26,8 +26,8 @@ add_field-requires-2 c = record {
   small = c.args.facts.now.first_small;
   fact = ap (option_map (λ n. pos n)) (sym c.args.facts.now.first_known);
   fits = fits_weaker (2 ^ 41) (omega arith) (fits_more _
-      c.add_field.new.counts.items
-      (fits_more _ c.add_first.new.counts.items c.requires.fits c.add_first.ensures)
+      c.add_field.new.counts
+      (fits_more _ c.add_first.new.counts c.requires.fits c.add_first.ensures)
       c.add_field.ensures);
 }
 
@@ -37,8 +37,8 @@ add_field-requires-3 c = record {
   small = c.args.facts.now.second_small;
   fact = ap (option_map (λ n. pos n)) (sym c.args.facts.now.second_known);
   fits = fits_weaker (2 ^ 41) (omega arith) (fits_more _
-      c.add_field-2.new.counts.items (fits_more _ c.add_field.new.counts.items
-      (fits_more _ c.add_first.new.counts.items c.requires.fits c.add_first.ensures)
+      c.add_field-2.new.counts (fits_more _ c.add_field.new.counts
+      (fits_more _ c.add_first.new.counts c.requires.fits c.add_first.ensures)
       c.add_field.ensures) c.add_field-2.ensures);
 }
 
@@ -47,9 +47,9 @@ add_asked-requires c = record {
   fact = sym c.args.facts.now.rs1_known;
   small = c.args.facts.now.rs1_small;
   fits = fits_weaker (2 ^ 41) (omega arith) (fits_more _
-      c.add_field-3.new.counts.items (fits_more _ c.add_field-2.new.counts.items (fits_more _
-      c.add_field.new.counts.items
-      (fits_more _ c.add_first.new.counts.items c.requires.fits c.add_first.ensures)
+      c.add_field-3.new.counts (fits_more _ c.add_field-2.new.counts (fits_more _
+      c.add_field.new.counts
+      (fits_more _ c.add_first.new.counts c.requires.fits c.add_first.ensures)
       c.add_field.ensures) c.add_field-2.ensures) c.add_field-3.ensures);
 }
 
@@ -58,9 +58,9 @@ add_asked-requires-2 c = record {
   fact = sym c.args.facts.now.rs2_known;
   small = c.args.facts.now.rs2_small;
   fits = fits_weaker (2 ^ 41) (omega arith) (fits_more _
-      c.add_asked.new.counts.items (fits_more _ c.add_field-3.new.counts.items (fits_more _
-      c.add_field-2.new.counts.items (fits_more _ c.add_field.new.counts.items
-      (fits_more _ c.add_first.new.counts.items c.requires.fits c.add_first.ensures)
+      c.add_asked.new.counts (fits_more _ c.add_field-3.new.counts (fits_more _
+      c.add_field-2.new.counts (fits_more _ c.add_field.new.counts
+      (fits_more _ c.add_first.new.counts c.requires.fits c.add_first.ensures)
       c.add_field.ensures) c.add_field-2.ensures) c.add_field-3.ensures) c.add_asked.ensures);
 }
 
@@ -69,10 +69,10 @@ add_asked-requires-3 c = record {
   fact = sym c.args.facts.now.imm_known;
   small = c.args.facts.now.imm_small;
   fits = fits_weaker (2 ^ 41) (omega arith) (fits_more _
-      c.add_asked-2.new.counts.items (fits_more _ c.add_asked.new.counts.items (fits_more _
-      c.add_field-3.new.counts.items (fits_more _ c.add_field-2.new.counts.items (fits_more _
-      c.add_field.new.counts.items
-      (fits_more _ c.add_first.new.counts.items c.requires.fits c.add_first.ensures)
+      c.add_asked-2.new.counts (fits_more _ c.add_asked.new.counts (fits_more _
+      c.add_field-3.new.counts (fits_more _ c.add_field-2.new.counts (fits_more _
+      c.add_field.new.counts
+      (fits_more _ c.add_first.new.counts c.requires.fits c.add_first.ensures)
       c.add_field.ensures) c.add_field-2.ensures) c.add_field-3.ensures) c.add_asked.ensures)
       c.add_asked-2.ensures);
 }
@@ -80,10 +80,10 @@ add_asked-requires-3 c = record {
 pub add_aligned-requires : goal.add_aligned-requires
 add_aligned-requires c = record {
   fits = fits_weaker (2 ^ 41) (omega arith) (fits_more _
-      c.add_asked-3.new.counts.items (fits_more _ c.add_asked-2.new.counts.items (fits_more _
-      c.add_asked.new.counts.items (fits_more _ c.add_field-3.new.counts.items (fits_more _
-      c.add_field-2.new.counts.items (fits_more _ c.add_field.new.counts.items
-      (fits_more _ c.add_first.new.counts.items c.requires.fits c.add_first.ensures)
+      c.add_asked-3.new.counts (fits_more _ c.add_asked-2.new.counts (fits_more _
+      c.add_asked.new.counts (fits_more _ c.add_field-3.new.counts (fits_more _
+      c.add_field-2.new.counts (fits_more _ c.add_field.new.counts
+      (fits_more _ c.add_first.new.counts c.requires.fits c.add_first.ensures)
       c.add_field.ensures) c.add_field-2.ensures) c.add_field-3.ensures) c.add_asked.ensures)
       c.add_asked-2.ensures) c.add_asked-3.ensures);
 }
@@ -96,27 +96,27 @@ returns c =
     let t = facts_of i v1 v2 in
     let hit : Aim → _ = λ a. hits_insn a (Some i) v1 v2 in
     let aims = aims_in c.args.self.now in
-    let cs = c.args.counts.now.items in
-    let last = c.add_aligned.new.counts.items in
+    let cs = c.args.counts.now in
+    let last = c.add_aligned.new.counts in
     (then_all hit aims (Some 0) (sight Rd t ∷ sight Rs1 t ∷ sight Rs2 t ∷ sight Rs1Val t ∷ sight
-    Rs2Val t ∷ sight ImmVal t ∷ sight EaAlign t ∷ []) cs c.add_first.new.counts.items last
+    Rs2Val t ∷ sight ImmVal t ∷ sight EaAlign t ∷ []) cs c.add_first.new.counts last
     c.add_first.ensures (then_all hit aims (sight Rd t) (sight Rs1 t ∷ sight Rs2 t ∷ sight Rs1Val
-    t ∷ sight Rs2Val t ∷ sight ImmVal t ∷ sight EaAlign t ∷ []) c.add_first.new.counts.items
-    c.add_field.new.counts.items last
+    t ∷ sight Rs2Val t ∷ sight ImmVal t ∷ sight EaAlign t ∷ []) c.add_first.new.counts
+    c.add_field.new.counts last
     c.add_field.ensures (then_all hit aims (sight Rs1 t) (sight Rs2 t ∷ sight Rs1Val t ∷ sight
-    Rs2Val t ∷ sight ImmVal t ∷ sight EaAlign t ∷ []) c.add_field.new.counts.items
-    c.add_field-2.new.counts.items last
+    Rs2Val t ∷ sight ImmVal t ∷ sight EaAlign t ∷ []) c.add_field.new.counts
+    c.add_field-2.new.counts last
     c.add_field-2.ensures (then_all hit aims (sight Rs2 t) (sight Rs1Val t ∷ sight Rs2Val t ∷
-    sight ImmVal t ∷ sight EaAlign t ∷ []) c.add_field-2.new.counts.items
-    c.add_field-3.new.counts.items last
+    sight ImmVal t ∷ sight EaAlign t ∷ []) c.add_field-2.new.counts
+    c.add_field-3.new.counts last
     c.add_field-3.ensures (then_all hit aims (sight Rs1Val t) (sight Rs2Val t ∷ sight ImmVal t ∷
-    sight EaAlign t ∷ []) c.add_field-3.new.counts.items c.add_asked.new.counts.items last
+    sight EaAlign t ∷ []) c.add_field-3.new.counts c.add_asked.new.counts last
     c.add_asked.ensures (then_all hit aims (sight Rs2Val t) (sight ImmVal t ∷ sight EaAlign t ∷
-    []) c.add_asked.new.counts.items c.add_asked-2.new.counts.items last
+    []) c.add_asked.new.counts c.add_asked-2.new.counts last
     c.add_asked-2.ensures (then_all hit aims (sight ImmVal t) (sight EaAlign t ∷ [])
-    c.add_asked-2.new.counts.items c.add_asked-3.new.counts.items last
-    c.add_asked-3.ensures (then_all hit aims (sight EaAlign t) ([]) c.add_asked-3.new.counts.items
-    c.add_aligned.new.counts.items last
+    c.add_asked-2.new.counts c.add_asked-3.new.counts last
+    c.add_asked-3.ensures (then_all hit aims (sight EaAlign t) ([]) c.add_asked-3.new.counts
+    c.add_aligned.new.counts last
     c.add_aligned.ensures refl))))))))
     ∙ ap (λ (os : List (Option ℕ)). added_all hit os aims cs) (sights_visited t)
     ∙ all_added i v1 v2 aims cs

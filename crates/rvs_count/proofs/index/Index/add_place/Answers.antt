@@ -68,7 +68,7 @@ returns-else-head c =
     let before = c.before.before.before in
     let h : Head = c.index-as_slice-number.result in
     let b = number_bucket EaAlign (pos c.args.place) in
-    let cs = c.args.counts.now.items in
+    let cs = c.args.counts.now in
     let labels : c.self.inside.labels.now ≡ c.args.self.now = c.self.view_is in
     let new = c.add_groups_apart.new.counts in
     let is_new : new ≡ raised_marks c.args.facts.now.signs h.marks cs =
@@ -77,10 +77,10 @@ returns-else-head c =
     c.as_slice-else-head.ensures
     ∙ ap (λ (l : List ℕ). raised_marks c.args.facts.now.signs h.marks l)
     c.as_mut_slice.ensures.value in
-    let whole : length new ≡ vec_len c.args.counts.now =
+    let whole : length new ≡ length c.args.counts.now =
     ap (λ (l : List ℕ). length l) is_new
     ∙ marks_length c.args.facts.now.signs h.marks cs ∙ sym c.args.counts.now.ok.0 in
-    lent_back (vec_len c.args.counts.now) new (drop (length new) cs) whole
+    lent_back (length c.args.counts.now) new (drop (length new) cs) whole
     ∙ added_marks c.self.inside.labels.now c.self.inside.lists c.args.facts.now.insn
     c.args.facts.now.first c.args.facts.now.second c.number.result b
     (Aligned (pos c.args.place)) (list_key before) h cs new c.self.invariant.0

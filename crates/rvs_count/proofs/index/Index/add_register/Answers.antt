@@ -19,7 +19,7 @@ add_entry-requires-clause-within c =
     let r = c.args.register in
     let b = 1 + (32 * field + r) in
     let q = c.args.asked in
-    let cs = c.args.counts.now.items in
+    let cs = c.args.counts.now in
     let lists = c.self.inside.lists in
     let blank : Cell =
     record { first = pos 0; second = pos 0; first_at = 0; second_at = 0; more = false } in
@@ -46,7 +46,7 @@ add_entry-requires-clause-within c =
     ) in
     let low =
     low_cell c.self.inside.labels.now lists (n * bucket_count + b) q cell
-    (vec_len c.args.counts.now) c.self.invariant.0 within
+    (length c.args.counts.now) c.self.invariant.0 within
     (ap (λ (ls : List Label). length (aims_in ls)) c.self.view_is ∙ sym c.requires.fits.count
     ∙ sym c.args.counts.now.ok.0)
     (omega (arith, c.requires.fits.some, c.args.counts.now.ok.0)) is whole in
@@ -59,7 +59,7 @@ returns-else-is_look c =
     let r = c.args.register in
     let b = 1 + (32 * field + r) in
     let q = c.args.asked in
-    let cs = c.args.counts.now.items in
+    let cs = c.args.counts.now in
     let lists = c.self.inside.lists in
     let blank : Cell =
     record { first = pos 0; second = pos 0; first_at = 0; second_at = 0; more = false } in
@@ -89,7 +89,7 @@ returns-else-is_look c =
     ∙ sym (ap (λ (ls : List Label). length (aims_in ls)) labels) in
     let low : b < bucket_count = omega (arith, c.field_of.ensures.low, c.requires.small) in
     added_cell c.self.inside.labels.now lists c.args.facts.now.insn c.args.facts.now.first
-    c.args.facts.now.second n b q (pos r) cell cs c.add_entry.new.counts.items c.self.invariant.0
+    c.args.facts.now.second n b q (pos r) cell cs c.add_entry.new.counts c.self.invariant.0
     within (c.number.ensures.place ∙ ap (λ (i : Fields). number i.op) c.insn.view_is) low list
     length_is is whole c.requires.fact (omega (arith, c.requires.small))
     (rw c.from.ensures at c.add_entry.ensures ∙ sym (both.1.adds near cs))

@@ -6,7 +6,7 @@ use Rattle.rvs_count.proofs.index.Index.add_shape.Goals as goal
 
 pub returns : goal.returns
 returns c =
-    let cs = c.args.counts.now.items in
+    let cs = c.args.counts.now in
     let aims = aims_in c.args.self.now in
     let r = c.take_facts-facts.result in
     c.add_lists.ensures

@@ -8,4 +8,4 @@ pub returns-in_default : goal.returns-in_default
 returns-in_default _ c =
     c.add_other.ensures
     ∙ ap (λ (i : Fields). added (λ a. hits_insn a (Some i) c.args.first c.args.second)
-    (aims_in c.args.self.now) c.args.counts.now.items) c.insn.view_is
+    (aims_in c.args.self.now) c.args.counts.now) c.insn.view_is

@@ -33,7 +33,7 @@ add_cell-requires-clause-first c =
     (omega (arith, c.number.ensures.low, c.self.invariant.7)) c.asked_bucket-bucket.ensures.low at
     (omega (arith, c.asked_bucket-bucket.ensures.low, c.number.ensures.low, c.self.invariant.3)) in
     (low_cell c.self.inside.labels.now c.self.inside.lists key c.args.asked cell
-    (vec_len c.args.counts.now) c.self.invariant.0
+    (length c.args.counts.now) c.self.invariant.0
     (omega (arith, c.asked_bucket-bucket.ensures.low, c.number.ensures.low, c.self.invariant.1))
     (ap (λ (ls : List Label). length (aims_in ls)) c.self.view_is ∙ sym c.requires.fits.count
     ∙ sym c.args.counts.now.ok.0)
@@ -58,7 +58,7 @@ add_cell-requires-clause-second c =
     (omega (arith, c.number.ensures.low, c.self.invariant.7)) c.asked_bucket-bucket.ensures.low at
     (omega (arith, c.asked_bucket-bucket.ensures.low, c.number.ensures.low, c.self.invariant.3)) in
     (low_cell c.self.inside.labels.now c.self.inside.lists key c.args.asked cell
-    (vec_len c.args.counts.now) c.self.invariant.0
+    (length c.args.counts.now) c.self.invariant.0
     (omega (arith, c.asked_bucket-bucket.ensures.low, c.number.ensures.low, c.self.invariant.1))
     (ap (λ (ls : List Label). length (aims_in ls)) c.self.view_is ∙ sym c.requires.fits.count
     ∙ sym c.args.counts.now.ok.0)
@@ -87,7 +87,7 @@ returns-then-not-cell c =
     ∙ sym (ap (λ (ls : List Label). length (aims_in ls)) labels) in
     added_cell c.self.inside.labels.now c.self.inside.lists c.args.facts.now.insn
     c.args.facts.now.first c.args.facts.now.second c.number.result b c.args.asked c.args.value cell
-    c.args.counts.now.items c.add_cell.new.counts.items c.self.invariant.0
+    c.args.counts.now c.add_cell.new.counts c.self.invariant.0
     (omega (arith, c.asked_bucket-bucket.ensures.low, c.number.ensures.low, c.self.invariant.1))
     (c.number.ensures.place ∙ ap (λ (i : Fields). number i.op) c.insn.view_is)
     c.asked_bucket-bucket.ensures.low at length_is is c.if-not-cell.true c.requires.fact
@@ -95,7 +95,7 @@ returns-then-not-cell c =
     ∙ ap (λ (ls : List Label). added (λ a. is_seen (Some (asked_bucket c.args.asked c.args.value))
     a.point
     && hits_insn a (Some c.args.facts.now.insn) c.args.facts.now.first c.args.facts.now.second)
-    (aims_in ls) c.args.counts.now.items) labels
+    (aims_in ls) c.args.counts.now) labels
 
 pub returns-else-may_hit : goal.returns-else-may_hit
 returns-else-may_hit c =
@@ -120,7 +120,7 @@ returns-else-may_hit c =
     ∙ sym (ap (λ (ls : List Label). length (aims_in ls)) labels) in
     spared_cell c.self.inside.labels.now c.self.inside.lists c.args.facts.now.insn
     c.args.facts.now.first c.args.facts.now.second c.number.result b c.args.asked c.args.value cell
-    c.args.counts.now.items c.self.invariant.0
+    c.args.counts.now c.self.invariant.0
     (omega (arith, c.asked_bucket-bucket.ensures.low, c.number.ensures.low, c.self.invariant.1))
     (c.number.ensures.place ∙ ap (λ (i : Fields). number i.op) c.insn.view_is)
     c.asked_bucket-bucket.ensures.low at length_is is c.if-not-cell.false c.requires.fact
@@ -128,4 +128,4 @@ returns-else-may_hit c =
     ∙ ap (λ (ls : List Label). added (λ a. is_seen (Some (asked_bucket c.args.asked c.args.value))
     a.point
     && hits_insn a (Some c.args.facts.now.insn) c.args.facts.now.first c.args.facts.now.second)
-    (aims_in ls) c.args.counts.now.items) labels
+    (aims_in ls) c.args.counts.now) labels

@@ -15,26 +15,26 @@ use Rattle.rvs_count.proofs.Hitting.{added_length, added_low, both_counted, entr
 use Rattle.rvs_count.proofs.Hitting.{one_counted}
 use Rattle.rvs_count.proofs.tally.Tally.count.Goals as goal
 use Rattle.rvs_count.proofs.tally.Tally.count.Given.{Over}
-use Rattle.rvs_count.proofs.tally.Tally.count.Goals.{After-add-then-is_any, Else-is_any}
+use Rattle.rvs_count.proofs.tally.Tally.count.Goals.{After-add_run, Else-is_any}
 
-pub add-requires-then-is_any-clause-count : goal.add-requires-then-is_any-clause-count
-add-requires-then-is_any-clause-count g c =
-    ap (λ l. length l) c.add.ensures
+pub add_run-requires-clause-count : goal.add_run-requires-clause-count
+add_run-requires-clause-count g c =
+    ap (λ l. length l) c.add_insn.ensures
     ∙ added_length _ (aims_in c.self.inside.index) c.self.inside.counts.items c.self.invariant.count
     ∙ sym (ap (λ (ls : List Label). length (aims_in ls)) c.self.invariant.crosses)
 
-pub add-requires-then-is_any-clause-low : goal.add-requires-then-is_any-clause-low
-add-requires-then-is_any-clause-low g c =
+pub add_run-requires-clause-low : goal.add_run-requires-clause-low
+add_run-requires-clause-low g c =
     let P : List ℕ → Type 0 = λ l. All (λ (n : ℕ). n ≤ c.self.inside.instructions + 1) l in
-    let low : P c.add.new.counts.items =
-    subst P (sym c.add.ensures) (added_low _ (aims_in c.self.inside.index)
+    let low : P c.add_insn.new.counts.items =
+    subst P (sym c.add_insn.ensures) (added_low _ (aims_in c.self.inside.index)
     c.self.inside.counts.items c.self.inside.instructions c.self.invariant.low) in
     let same = ap (λ (t : Tallied). t.instructions) c.self.view_is in
     λ k d l. omega (arith, low k d l, c.requires.low, same)
 
 -- what both passes add
-counted : (g : Over) (c : After-add-then-is_any g)
-    → c.add-then-is_any.new.counts.items
+counted : (g : Over) (c : After-add_run g)
+    → c.add_run.new.counts.items
     ≡ counts_with (aims_in c.self.inside.index)
     (run_with c.self.inside.run
     (decoded (entry_at c.self.inside.registers c.args.entry.now.pc c.args.entry.now.word)))
@@ -42,17 +42,17 @@ counted : (g : Over) (c : After-add-then-is_any g)
     c.self.inside.counts.items
 counted g c =
     both_counted c.self.inside.index c.self.inside.crosses c.self.inside.run c.push.new.self
-    c.self.inside.counts.items c.add.new.counts.items c.add-then-is_any.new.counts.items
+    c.self.inside.counts.items c.add_insn.new.counts.items c.add_run.new.counts.items
     c.self.inside.registers
     c.args.entry.now.pc c.args.entry.now.word c.in-Some.insn c.self.invariant.crosses
-    (sym c.requires.decoded ∙ c.in-Some.is) c.push.ensures c.add.ensures
-    (c.add-then-is_any.ensures
+    (sym c.requires.decoded ∙ c.in-Some.is) c.push.ensures c.add_insn.ensures
+    (c.add_run.ensures
     ∙ ap (λ (run : List Fields). added (λ a. ends_run a.point.meaning run)
-    (aims_in c.self.inside.crosses) c.add.new.counts.items)
+    (aims_in c.self.inside.crosses) c.add_insn.new.counts.items)
     c.as_slice-then-is_any.ensures.items)
 
 -- a label has a cross point
-is_any : (g : Over) (c : After-add-then-is_any g) → any_cross (aims_in c.self.inside.index) ≡ true
+is_any : (g : Over) (c : After-add_run g) → any_cross (aims_in c.self.inside.index) ≡ true
 is_any g c =
     sym (c.is_any.ensures
     ∙ ap (λ (ls : List Label). any_cross (aims_in ls)) c.self.invariant.crosses)
@@ -67,7 +67,7 @@ is_none g c =
 
 -- what the first pass adds is all
 counted_once : (g : Over) (c : Else-is_any g)
-    → c.add.new.counts.items
+    → c.add_insn.new.counts.items
     ≡ counts_with (aims_in c.self.inside.index)
     (run_with c.self.inside.run
     (decoded (entry_at c.self.inside.registers c.args.entry.now.pc c.args.entry.now.word)))
@@ -75,11 +75,11 @@ counted_once : (g : Over) (c : Else-is_any g)
     c.self.inside.counts.items
 counted_once g c =
     one_counted c.self.inside.index c.self.inside.run c.self.inside.counts.items
-    c.add.new.counts.items c.self.inside.registers c.args.entry.now.pc c.args.entry.now.word
+    c.add_insn.new.counts.items c.self.inside.registers c.args.entry.now.pc c.args.entry.now.word
     c.in-Some.insn (is_none g c) (sym c.requires.decoded ∙ c.in-Some.is)
-    (ap (λ l. length l) c.add.ensures
+    (ap (λ l. length l) c.add_insn.ensures
     ∙ added_length _ (aims_in c.self.inside.index) c.self.inside.counts.items
-    c.self.invariant.count) c.add.ensures
+    c.self.invariant.count) c.add_insn.ensures
 
 pub invariant_of-self-then-is_any : goal.invariant_of-self-then-is_any
 invariant_of-self-then-is_any g c =
@@ -100,11 +100,11 @@ invariant_of-self-else-is_any g c =
     let P : List ℕ → Type 0 = λ l. All (λ (n : ℕ). n ≤ c.self.inside.instructions + 1) l in
     record {
       crosses = c.self.invariant.crosses;
-      count = ap (λ l. length l) c.add.ensures
+      count = ap (λ l. length l) c.add_insn.ensures
           ∙ added_length _ (aims_in c.self.inside.index) c.self.inside.counts.items
           c.self.invariant.count;
       low =
-          subst P (sym c.add.ensures) (added_low _ (aims_in c.self.inside.index)
+          subst P (sym c.add_insn.ensures) (added_low _ (aims_in c.self.inside.index)
           c.self.inside.counts.items c.self.inside.instructions c.self.invariant.low);
       follows = c.self.invariant.follows;
     }
@@ -127,14 +127,14 @@ returns-then-is_any g c =
     λ t. record {
       labels = c.self.inside.index;
       windows = c.self.inside.windows;
-      counts = c.add-then-is_any.new.counts.items;
+      counts = c.add_run.new.counts.items;
       instructions = c.self.inside.instructions + 1;
       run = c.push.new.self;
       heard = record { words = c.self.inside.registers; started = c.self.inside.started };
     }
     ≡ with_entry t (is_in t.windows pc) (entry_at t.heard.words pc word) in
     subst P c.self.view_is (entry_counted (tallied c.self.inside) (is_in c.self.inside.windows pc)
-    (entry_at c.self.inside.registers pc word) c.add-then-is_any.new.counts.items c.push.new.self b
+    (entry_at c.self.inside.registers pc word) c.add_run.new.counts.items c.push.new.self b
     r (counted g c))
 
 pub returns-else-is_any : goal.returns-else-is_any
@@ -154,14 +154,14 @@ returns-else-is_any g c =
     λ t. record {
       labels = index;
       windows = c.self.inside.windows;
-      counts = c.add.new.counts.items;
+      counts = c.add_insn.new.counts.items;
       instructions = c.self.inside.instructions + 1;
       run = c.self.inside.run;
       heard = record { words = c.self.inside.registers; started = c.self.inside.started };
     }
     ≡ with_entry t (is_in t.windows pc) (entry_at t.heard.words pc word) in
     subst P c.self.view_is (entry_counted (tallied c.self.inside) (is_in c.self.inside.windows pc)
-    (entry_at c.self.inside.registers pc word) c.add.new.counts.items c.self.inside.run b r
+    (entry_at c.self.inside.registers pc word) c.add_insn.new.counts.items c.self.inside.run b r
     (counted_once g c))
 
 pub returns-in-None : goal.returns-in-None
