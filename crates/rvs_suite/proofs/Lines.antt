@@ -2,8 +2,8 @@
 use Rattle.std.proofs.Common.{◌≡◌, ◌≢◌, ◌⊎◌, inl, inr, ℕ, Bool, true, false, List, [], Result, Ok}
 use Rattle.std.proofs.Common.{Err, refl, sym, ap, codes, ◌∙◌, subst}
 use Rattle.rvs_base.specs.Sink.{SinkState, appended}
-use Rattle.rvs_plan.specs.World.{World, Absence, Reading, Writing, Running, FirstFault}
-use Rattle.rvs_plan.specs.World.{FirstAbsence}
+use Rattle.rvs_plan.specs.World.{World, Absence, Failing, Reading, Writing, Running, Putting}
+use Rattle.rvs_plan.specs.World.{NoneFaulted, FirstFault, FirstAbsence}
 use Rattle.rvs_plan.specs.Meets.{StopsUnfaulted, NoFault}
 use Rattle.rvs_plan.specs.Account.{status_of, line_of, fault_line, Concludes}
 use Rattle.rvs_plan.specs.declared.stop.Stop.{Stop}
@@ -168,3 +168,26 @@ unfaulted-line status err err' (Err reason) c never = elim c.outcome [
   | inl whole ↦ whole.2
   | inr lost ↦ absurd (never lost.0)
 ]
+
+-- ---- a line that can't be put
+-- no call failed before it but one, which ended the work
+abbrev pub Ended : Absence → World → World → Type 0
+Ended absence old new = NoneFaulted absence old new ⊎ FirstAbsence absence old new
+    ⊎ ((failing : Failing) × FirstFault absence failing old new)
+
+has-ended : (absence : Absence) (old new : World) (result : Result Finish Stop)
+    → NoFault absence old new result → Ended absence old new
+has-ended absence old new (Ok end) u = inl u
+has-ended absence old new (Err why.Usage) u = inl u
+has-ended absence old new (Err (why.Refused text)) u = inl u
+has-ended absence old new (Err (why.NoFile name)) u = inr (inl u)
+has-ended absence old new (Err (why.CannotRead name)) u = inr (inr (Reading, u))
+has-ended absence old new (Err (why.CannotWrite name)) u = inr (inr (Writing, u))
+has-ended absence old new (Err (why.CannotRun test)) u = inr (inr (Running, u))
+has-ended absence old new (Err why.NoMemory) u = inl u
+has-ended absence old new (Err why.SinkFault) u = inr (inr (Putting, u))
+
+pub with-ended : {A B : Type 0} (absence : Absence) (old new : World) (result : Result Finish Stop)
+    → NoFault absence old new result → A ⊎ B → A ⊎ (B × Ended absence old new)
+with-ended absence old new result u (inl a) = inl a
+with-ended absence old new result u (inr b) = inr (b, has-ended absence old new result u)

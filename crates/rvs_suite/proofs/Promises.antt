@@ -28,7 +28,7 @@ use Rattle.rvs_suite.proofs.Running.{Ran, answers, answered, completes, usage, n
 use Rattle.rvs_suite.proofs.ValidateEnds.{checks}
 use Rattle.rvs_suite.proofs.ReferenceEnds.{refers}
 use Rattle.rvs_suite.proofs.Lines.{says-usage, says-no_memory, says-refused, says-host}
-use Rattle.rvs_suite.proofs.Lines.{says-nothing, unfaulted-line}
+use Rattle.rvs_suite.proofs.Lines.{says-nothing, unfaulted-line, with-ended}
 use Rattle.rvs_suite.proofs.Untouched.{untouched, untouched-absent}
 use Rattle.rvs_suite.proofs.CompareEnds.{compares}
 use Rattle.rvs_suite.proofs.GenerateEnds.{makes}
@@ -70,7 +70,9 @@ causes-promise {call} r =
       by_words = no_command r.ran;
       by_words_kept = r.ran.performs.unchanged;
       host_fault = (answers r.ran).host_fault;
-      sink_fault = (answers r.ran).sink_fault;
+      sink_fault = λ is.
+          with-ended (causes.absence_in call) (world_of call.old) (world_of call.new) r.ran.result
+          r.ran.performs.obeys.unfaulted ((answers r.ran).sink_fault is);
       unfaulted = (answers r.ran).unfaulted;
       missing = (answers r.ran).missing;
       line_usage = says-usage call.status call.old.err call.new.err r.ran.result r.ran.concludes;

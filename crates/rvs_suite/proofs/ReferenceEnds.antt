@@ -1,5 +1,6 @@
 -- What every call of `reference` promises.
-use Rattle.std.proofs.Common.{◌≡◌, ◌≤◌, ℕ, List, length, Option, Some, None, Result, Ok, Err, refl}
+use Rattle.std.proofs.Common.{◌≡◌, ◌≤◌, ℕ, Bool, true, false, List, length, Option, Some, None}
+use Rattle.std.proofs.Common.{Result, Ok, Err, refl, if◌then◌else◌}
 use Rattle.std.proofs.Common.{sym, ap, ◌∙◌, arith}
 use Rattle.rvs_base.specs.Host.{Files, with_file, written}
 use Rattle.rvs_base.specs.Sink.{appended}
@@ -9,17 +10,24 @@ use Rattle.rvs_plan.specs.World.{Contents, contents}
 use Rattle.rvs_plan.specs.declared.stop.Stop.{Stop}
 use Rattle.rvs_plan.specs.declared.status.Finish.TheVariants as finish
 use Rattle.rvs_insn.specs.Isa.{Isa}
+use Rattle.rvs_machine.specs.Image.{ImageValue}
+use Rattle.rvs_machine.specs.ImageText.{image_of_bytes}
+use Rattle.rvs_elf.specs.Executable.{image_of_elf}
+use Rattle.rvs_asm.specs.Answer.{answer}
+use Rattle.rvs_asm.specs.declared.refusal.AsmRefusal.{AsmRefusal}
+use Rattle.rvs_asm.proofs.Answered.{answered_stands}
 use Rattle.rvs_sig.specs.Words.{text_of_words}
 use Rattle.rvs_log.specs.Logs.{log_of}
 use Rattle.rvs_suite.specs.Answered.{OnDone}
 use Rattle.rvs_suite.specs.Call.{Call, world_of}
 use Rattle.rvs_suite.specs.GroupFiles.{and_then}
-use Rattle.rvs_suite.specs.Halting.{BothHalt, with_log}
+use Rattle.rvs_suite.specs.Halting.{BothHalt, NamesText, TextHalts, with_log}
 use Rattle.rvs_suite.specs.Reference.{test_limit, trial, records}
 use Rattle.rvs_suite.specs.Referencing as referencing
 use Rattle.rvs_suite.specs.Referencing.{trial_in, run_in}
 use Rattle.rvs_suite.specs.Specification.{said_in, specification}
-use Rattle.rvs_suite.specs.TestRun.{accepted, found_end, limit_of, test_found}
+use Rattle.rvs_suite.specs.TestRun.{accepted, found_end, limit_of, test_found, is_image_name}
+use Rattle.rvs_suite.specs.TestRun.{is_executable_name, file_found, executable_found, text_found}
 use Rattle.rvs_suite.specs.TestTexts.{ran_line}
 use Rattle.rvs_suite.specs.declared.test_run.Run.{Run}
 use Rattle.rvs_words.specs.declared.command.Command.TheVariants.{Reference}
@@ -101,6 +109,35 @@ bounded words files asked run asks both =
     test.halts in
     omega (arith, limit, long)
 
+-- the image of a text stands to it
+text-found : (i e : Bool) (name : List ℕ) (image : ImageValue) (file elf : Result ImageValue (List ℕ))
+    (text : Result ImageValue AsmRefusal) → i ≡ false → e ≡ false
+    → (if i then file else (if e then elf else text_found name text)) ≡ Ok image
+    → text ≡ Ok image
+text-found true e name image file elf text p q is = absurd cc
+text-found false true name image file elf text p q is = absurd cc
+text-found false false name image file elf (Ok other) p q is =
+    let same : other ≡ image = cc in ap Ok same
+text-found false false name image file elf (Err refusal) p q is = absurd cc
+
+text-halts : (files : Files) (isa test : List ℕ) (steps : Option ℕ) (run : Run) → NamesText test
+    → BothHalt files isa test steps run → TextHalts files isa test steps run
+text-halts files isa test steps run named both =
+    let t = both.test_halts in
+    let spec = both.said.spec in
+    record {
+      said = both.said;
+      says = both.says;
+      bytes = t.bytes;
+      there = t.there;
+      image = t.image;
+      stands = answered_stands spec t.bytes t.image
+          (text-found (is_image_name test) (is_executable_name test) test t.image
+          (file_found test (image_of_bytes t.bytes)) (executable_found test (image_of_elf t.bytes))
+          (answer spec t.bytes) named.0 named.1 t.spelt);
+      halts = t.halts;
+    }
+
 pub refers : {call : Call} (files : Files) (asked : ReferenceArguments)
     → RunsOn call files (Reference asked)
     → referencing.Refers call files asked
@@ -114,6 +151,9 @@ refers {call} files asked r = record {
             ∙ out-recorded (contents (world_of call.old)) asked.signature asked.log run;
       });
   halts = both-halt files asked.isa asked.test asked.steps;
+  assembled = λ run is named.
+      text-halts files asked.isa asked.test asked.steps run named
+      (both-halt files asked.isa asked.test asked.steps run is);
   logged = λ run is octets.
       halting_entries files asked.isa asked.test asked.steps run
       (both-halt files asked.isa asked.test asked.steps run is) octets;

@@ -3,7 +3,7 @@ use Rattle.std.specs.Prelude.{◌≡◌, ◌≢◌, ◌⊎◌, true, false, List
 use Rattle.rvs_base.specs.Faults.{raised}
 use Rattle.rvs_base.specs.Host.{is_told}
 use Rattle.rvs_plan.specs.World.{Later, LaterSink, Absence, Failing, Reading, Writing, Running}
-use Rattle.rvs_plan.specs.World.{Putting, FirstFault, FirstAbsence}
+use Rattle.rvs_plan.specs.World.{Putting, NoneFaulted, FirstFault, FirstAbsence}
 use Rattle.rvs_base.specs.Sink.{appended}
 use Rattle.rvs_plan.specs.Account.{NoneChanged, fault_line}
 use Rattle.rvs_plan.specs.declared.status.Status.TheVariants as answer
@@ -29,6 +29,11 @@ EndsAt call failing =
 abbrev pub EndsAtAbsence : Call → Type 0
 EndsAtAbsence call = FirstAbsence (absence_in call) (world_of call.old) (world_of call.new)
 
+-- its work had ended: no call failed in it but one, which was the first that did
+abbrev pub HasEnded : Call → Type 0
+HasEnded call = NoneFaulted (absence_in call) (world_of call.old) (world_of call.new)
+    ⊎ EndsAtAbsence call ⊎ ((failing : Failing) × EndsAt call failing)
+
 -- The line of a host fault names a file, or the test file of a device run, and says what failed:
 -- that was counted once, and nothing else failed.
 abbrev pub HasHostLine : Call → Type 0
@@ -46,10 +51,11 @@ pub record Promise (call : Call) : Type 0 where
   pub by_words_kept : Asks call Unknown → world_of call.new ≡ world_of call.old
   -- a count rose where a host that doesn't tell fails
   pub host_fault : call.status ≡ answer.HostFault → is_told call.old.host ≡ false → HostRose call
-  -- the output failed once, and nothing else did, or the sink for errors failed once
+  -- the output failed once, and nothing else did, or the sink for errors failed once, behind work
+  -- that had ended
   pub sink_fault : call.status ≡ answer.SinkFault
       → (EndsAt call Putting × (call.new.err.faults ≡ call.old.err.faults))
-      ⊎ (call.new.err.faults ≡ raised call.old.err.faults)
+      ⊎ ((call.new.err.faults ≡ raised call.old.err.faults) × HasEnded call)
   -- no fault is passed over: with any other status no count has changed, but that of reading by
   -- `run` where a host that doesn't tell has no signature of a device; nor has one where a told
   -- host lacks a file
