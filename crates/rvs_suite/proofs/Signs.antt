@@ -70,15 +70,15 @@ signs {call} program work inputs judged tested =
     let isa = inputs.groups.isa in
     let bench = bench_of program work inputs in
     let of_run : (test : Test) → Contains (tests_in inputs) test → Passes call bench test =
-      λ test there.
-        let p = passed bench (tests_in inputs) judged.runs judged.each judged.means test there in
-        record {
-          run = p.run;
-          made = λ runs is. among-runs judged.runs runs p.run call.old.host.runs p.among
-              (sym is ∙ judged.made);
-          is_run = p.is_run;
-          spells = p.spells;
-        } in
+    λ test there.
+    let p = passed bench (tests_in inputs) judged.runs judged.each judged.means test there in
+    record {
+      run = p.run;
+      made = λ runs is. among-runs judged.runs runs p.run call.old.host.runs p.among
+          (sym is ∙ judged.made);
+      is_run = p.is_run;
+      spells = p.spells;
+    } in
     record {
       all = of_run;
       each = λ l k there selected solvable.

@@ -33,10 +33,11 @@
 //     cuts LO:HI LOG FILE         the numbers of `propagate` for a group file: of a log that the
 //                                 last run left, once for each of its places, cut there, and of
 //                                 the same log byte by byte
+//     splits LOG FILE             the same of the counts of `coverage`
 use crate::runs::{NO_FAULTS, fault, faulty, tell_on};
 use crate::slow::slow;
 use crate::stage::{first_word, host_of, number};
-use crate::{faults, groups, tracking};
+use crate::{faults, groups, splitting, tracking};
 use rvs_base::{MemoryHost, release};
 use std::alloc::Global;
 use std::mem;
@@ -161,6 +162,9 @@ fn look(
     }
     if verb == "cuts" {
         tracking::tell(alloc, row, host, report)?;
+    }
+    if verb == "splits" {
+        splitting::tell(alloc, row, host, report)?;
     }
     if verb == "points" {
         groups::tell_points(alloc, row, report)?;
