@@ -8,6 +8,7 @@ usage: hostile.py PROGRAM FOLDER [NAME ..]
 FOLDER is made, and keeps the last input. SCALE=0.01 makes all of them smaller."""
 import itertools
 import os
+import random
 import re
 import subprocess
 import sys
@@ -132,6 +133,25 @@ def no_order(scale):
     """A text of labels in no order, so that a look-up passes none that lie close to each other."""
     places = (0x9E3779 * k % 0x1000000 for k in itertools.count())
     put("t.S", filled(int(MOST * scale), ("l%x:\n" % place for place in places), END))
+    return REFERENCE
+
+
+def alike(scale):
+    """Labels that a table takes for one where its hash has no key: their first 24 characters lead
+    the hash of `indexmap` to 0 whatever follows."""
+    word = 1 << 64
+    multiplier, start = 0x9E3779B97F4A7C15, 0x243F6A8885A308D3
+    letters = b"ABCDEFGHIJKLMNOPQRSTUVWXYZabcdefghijklmnopqrstuvwxyz0123456789_.$"
+    rng = random.Random(1)
+    while True:
+        first = bytes([rng.choice(letters[:52])] + [rng.choice(letters) for _ in range(15)])
+        left = int.from_bytes(first[:8], "little") ^ (start + 32) % word
+        product = left * (int.from_bytes(first[8:], "little") ^ multiplier)
+        state = (product % word ^ product // word).to_bytes(8, "little")
+        if all(byte in letters for byte in state):
+            break
+    front = (first + state).decode()
+    put("t.S", filled(int(MOST * scale), (f"{front}{k:08d}:\n" for k in itertools.count()), END))
     return REFERENCE
 
 
@@ -291,6 +311,7 @@ ROWS = {
     waiting: (3, r"rvsuite: t.S: asm [58] line \d+"),
     long_line: (3, r"rvsuite: t.S: asm 9 line 2"),
     no_order: (3, r"rvsuite: t.S: trap 4 pc 0x80000000 0x80000000"),
+    alike: (3, r"rvsuite: t.S: trap 4 pc 0x80000000 0x80000000"),
     far: (0, r"total 1 tests, 1 pass, 0 fail"),
     far_points: (0, r"total 1 tests, 1 pass, 0 fail"),
     limits_normal: (0, r"    '.*': 0"),
