@@ -1,138 +1,177 @@
--- How much is read on ways through plans that follow one another.
-use Rattle.std.proofs.Common.{◌≡◌, ℕ, ◌+◌, List, [], ◌∷◌, ◌++◌, length, sum, Option, Result}
-use Rattle.std.proofs.Common.{Ok, Err, refl, ap, arith}
-use Rattle.std.proofs.lemmas.List.{length-append}
-use Rattle.std.proofs.lemmas.List.Sums.{sum_by-append}
-use Rattle.rvs_base.specs.Host.{HostState, IsUnread}
+-- What is read on ways through plans that follow one another.
+use Rattle.std.proofs.Common.{◌≡◌, List, [], ◌∷◌, ◌++◌, Option, Some, None, Result, Ok, Err, refl}
+use Rattle.std.proofs.Common.{sym, ap, subst, ◌∙◌, ℕ}
+use Rattle.rvs_base.specs.Host.{Files, HostState, Tells, IsUnread}
 use Rattle.rvs_base.specs.File.{ReadsAtMost}
-use Rattle.rvs_plan.specs.Effect.{Effect, Read, Device, Did}
+use Rattle.rvs_base.proofs.Reading.{ReadsAtMost-behind}
+use Rattle.rvs_plan.specs.World.{World, contents}
+use Rattle.rvs_plan.specs.Effect.{Effect, Read, Device, Did, after, Saw}
 use Rattle.rvs_plan.specs.Plan.{Plan, Ends, Does, Asks, Runs, ◌>>=◌, gives, Goes}
-use Rattle.rvs_plan.specs.Reads.{bounds_on, ReadsOnWay, ReadsFor}
-use Rattle.rvs_plan.proofs.Reaching.{Goes-append, Goes-then}
+use Rattle.rvs_plan.specs.Reads.{TakesOn, ReadsOnWay, ReadsThrough, ReadsFor}
+use Rattle.rvs_plan.proofs.Reaching.{Goes-append, Goes-then, Saw-append, after-append}
 use Rattle.rvs_plan.specs.declared.stop.Stop.{Stop}
-
--- the bounds on one way, and then on another
-bounds-append : {A : Type 0} (plan mid rest : Plan A) (es es' : List Effect) → Goes plan es mid
-    → Goes mid es' rest → bounds_on plan (es ++ es') ≡ bounds_on plan es ++ bounds_on mid es'
-bounds-append plan mid rest [] es' g h = ap (λ (p : Plan _). bounds_on p es') g
-bounds-append (Ends end) mid rest (e ∷ es) es' g h = absurd g
-bounds-append (Does deed plan) mid rest (Did d ∷ es) es' g h =
-    bounds-append plan mid rest es es' g.1 h
-bounds-append (Does deed plan) mid rest (Read n found ∷ es) es' g h = absurd g
-bounds-append (Does deed plan) mid rest (Device w t s answer ∷ es) es' g h = absurd g
-bounds-append (Asks name bound next) mid rest (Did d ∷ es) es' g h = absurd g
-bounds-append (Asks name bound next) mid rest (Read n found ∷ es) es' g h =
-    ap (λ (ls : List ℕ). bound ∷ ls) (bounds-append (next found) mid rest es es' g.1 h)
-bounds-append (Asks name bound next) mid rest (Device w t s answer ∷ es) es' g h = absurd g
-bounds-append (Runs words test signature next) mid rest (Did d ∷ es) es' g h = absurd g
-bounds-append (Runs words test signature next) mid rest (Read n found ∷ es) es' g h = absurd g
-bounds-append (Runs words test signature next) mid rest (Device w t s answer ∷ es) es' g h =
-    bounds-append (next answer) mid rest es es' g.3 h
-
--- a way of a first piece is one of the whole, with the same bounds
-bounds-then : {A B : Type 0} (next : A → Plan B) (p q : Plan A) (es : List Effect) → Goes p es q
-    → bounds_on (p >>= next) es ≡ bounds_on p es
-bounds-then next p q [] g = refl
-bounds-then next (Ends end) q (e ∷ es) g = absurd g
-bounds-then next (Does deed p) q (Did d ∷ es) g = bounds-then next p q es g.1
-bounds-then next (Does deed p) q (Read n found ∷ es) g = absurd g
-bounds-then next (Does deed p) q (Device w t s answer ∷ es) g = absurd g
-bounds-then next (Asks name bound rest) q (Did d ∷ es) g = absurd g
-bounds-then next (Asks name bound rest) q (Read n found ∷ es) g =
-    ap (λ (ls : List ℕ). bound ∷ ls) (bounds-then next (rest found) q es g.1)
-bounds-then next (Asks name bound rest) q (Device w t s answer ∷ es) g = absurd g
-bounds-then next (Runs words test signature rest) q (Did d ∷ es) g = absurd g
-bounds-then next (Runs words test signature rest) q (Read n found ∷ es) g = absurd g
-bounds-then next (Runs words test signature rest) q (Device w t s answer ∷ es) g =
-    bounds-then next (rest answer) q es g.3
 
 pub IsUnread-same : {h : HostState} → IsUnread h h
 IsUnread-same = record { openings = refl; taken = refl }
 
--- nothing was read on a way
-pub ReadsOnWay-unread : {A : Type 0} {plan rest : Plan A} {old new : HostState}
-    (effects : List Effect) → Goes plan effects rest → IsUnread old new
-    → ReadsOnWay plan rest old new
-ReadsOnWay-unread effects goes unread = record {
-  effects = effects;
-  goes = goes;
-  reads = record {
-    opened = omega (arith, unread.openings);
-    taken = omega (arith, unread.taken);
-  };
-}
+IsUnread-trans : {a b c : HostState} → IsUnread a b → IsUnread b c → IsUnread a c
+IsUnread-trans u v =
+    record { openings = v.openings ∙ u.openings; taken = v.taken ∙ u.taken }
 
--- no way was gone
-pub ReadsOnWay-start : {A : Type 0} (plan : Plan A) {old new : HostState} → IsUnread old new
-    → ReadsOnWay plan plan old new
-ReadsOnWay-start plan unread = ReadsOnWay-unread [] refl unread
-
--- a file was read
-pub ReadsOnWay-ask : {A : Type 0} {name : List ℕ} {bound : ℕ} {next : Option (List ℕ) → Plan A}
-    {rest : Plan A} {old new : HostState} (found : Option (List ℕ)) → next found ≡ rest
-    → ReadsAtMost 1 bound old new → ReadsOnWay (Asks name bound next) rest old new
-ReadsOnWay-ask {name = name} found e reads = record {
-  effects = Read name found ∷ [];
-  goes = (refl, e);
-  reads = record { opened = omega (arith, reads.opened); taken = omega (arith, reads.taken) };
-}
-
-pub ReadsAtMost-then : {n m a b : ℕ} {old mid new : HostState} → ReadsAtMost n a old mid
-    → ReadsAtMost m b mid new → ReadsAtMost (n + m) (a + b) old new
-ReadsAtMost-then first next = record {
-  opened = omega (arith, first.opened, next.opened);
-  taken = omega (arith, first.taken, next.taken);
-}
-
--- the bounds of both ways
-together : (ls ms : List ℕ) (all : List ℕ) {old new : HostState} → all ≡ ls ++ ms → ReadsAtMost
-    (length ls + length ms) (sum ls + sum ms) old new
-    → ReadsAtMost (length all) (sum all) old new
-together ls ms all e reads =
-    let bytes = sum_by-append (λ (bound : ℕ). bound) ls ms in
-    rw e (record {
-      opened = omega (arith, reads.opened, length-append ls ms);
-      taken = omega (arith, reads.taken, bytes);
-    })
+-- nothing was read before it
+TakesOn-behind : {A : Type 0} (plan : Plan A) (es : List Effect) (a b c : HostState)
+    → IsUnread a b → TakesOn plan es b c → TakesOn plan es a c
+TakesOn-behind plan [] a b c u t = IsUnread-trans u t
+TakesOn-behind (Ends end) (e ∷ es) a b c u t = absurd t
+TakesOn-behind (Does deed plan) (Did d ∷ es) a b c u t = TakesOn-behind plan es a b c u t
+TakesOn-behind (Does deed plan) (Read n found ∷ es) a b c u t = absurd t
+TakesOn-behind (Does deed plan) (Device w g s answer ∷ es) a b c u t = absurd t
+TakesOn-behind (Asks name bound next) (Did d ∷ es) a b c u t = absurd t
+TakesOn-behind (Asks name bound next) (Read n found ∷ es) a b c u t =
+    (t.0, ReadsAtMost-behind u t.1, t.2)
+TakesOn-behind (Asks name bound next) (Device w g s answer ∷ es) a b c u t = absurd t
+TakesOn-behind (Runs words test signature next) (Did d ∷ es) a b c u t = absurd t
+TakesOn-behind (Runs words test signature next) (Read n found ∷ es) a b c u t = absurd t
+TakesOn-behind (Runs words test signature next) (Device w g s answer ∷ es) a b c u t =
+    TakesOn-behind (next answer) es a b c u t
 
 -- one way, and then another
-ReadsOnWay-trans : {A : Type 0} {plan mid rest : Plan A} {old between new : HostState}
-    → ReadsOnWay plan mid old between → ReadsOnWay mid rest between new
-    → ReadsOnWay plan rest old new
-ReadsOnWay-trans {plan = plan} {mid = mid} {rest = rest} first next = record {
+TakesOn-append : {A : Type 0} (plan mid rest : Plan A) (es es' : List Effect) (a b c : HostState)
+    → Goes plan es mid → TakesOn plan es a b → TakesOn mid es' b c → TakesOn plan (es ++ es') a c
+TakesOn-append plan mid rest [] es' a b c g t v =
+    TakesOn-behind plan es' a b c t (subst (λ (p : Plan _). TakesOn p es' b c) (sym g) v)
+TakesOn-append (Ends end) mid rest (e ∷ es) es' a b c g t v = absurd g
+TakesOn-append (Does deed plan) mid rest (Did d ∷ es) es' a b c g t v =
+    TakesOn-append plan mid rest es es' a b c g.1 t v
+TakesOn-append (Does deed plan) mid rest (Read n found ∷ es) es' a b c g t v = absurd g
+TakesOn-append (Does deed plan) mid rest (Device w x s answer ∷ es) es' a b c g t v = absurd g
+TakesOn-append (Asks name bound next) mid rest (Did d ∷ es) es' a b c g t v = absurd g
+TakesOn-append (Asks name bound next) mid rest (Read n found ∷ es) es' a b c g t v =
+    (t.0, t.1, TakesOn-append (next found) mid rest es es' t.0 b c g.1 t.2 v)
+TakesOn-append (Asks name bound next) mid rest (Device w x s answer ∷ es) es' a b c g t v = absurd g
+TakesOn-append (Runs words test signature next) mid rest (Did d ∷ es) es' a b c g t v = absurd g
+TakesOn-append (Runs words test signature next) mid rest (Read n found ∷ es) es' a b c g t v = absurd g
+TakesOn-append (Runs words test signature next) mid rest (Device w x s answer ∷ es) es' a b c g t v =
+    TakesOn-append (next answer) mid rest es es' a b c g.3 t v
+
+-- a way of a first piece is one of the whole
+TakesOn-then : {A B : Type 0} (next : A → Plan B) (p q : Plan A) (es : List Effect)
+    (a b : HostState) → Goes p es q → TakesOn p es a b → TakesOn (p >>= next) es a b
+TakesOn-then next p q [] a b g t = t
+TakesOn-then next (Ends end) q (e ∷ es) a b g t = absurd g
+TakesOn-then next (Does deed p) q (Did d ∷ es) a b g t = TakesOn-then next p q es a b g.1 t
+TakesOn-then next (Does deed p) q (Read n found ∷ es) a b g t = absurd g
+TakesOn-then next (Does deed p) q (Device w x s answer ∷ es) a b g t = absurd g
+TakesOn-then next (Asks name bound rest) q (Did d ∷ es) a b g t = absurd g
+TakesOn-then next (Asks name bound rest) q (Read n found ∷ es) a b g t =
+    (t.0, t.1, TakesOn-then next (rest found) q es t.0 b g.1 t.2)
+TakesOn-then next (Asks name bound rest) q (Device w x s answer ∷ es) a b g t = absurd g
+TakesOn-then next (Runs words test signature rest) q (Did d ∷ es) a b g t = absurd g
+TakesOn-then next (Runs words test signature rest) q (Read n found ∷ es) a b g t = absurd g
+TakesOn-then next (Runs words test signature rest) q (Device w x s answer ∷ es) a b g t =
+    TakesOn-then next (rest answer) q es a b g.3 t
+
+-- no way was gone
+pub ReadsOnWay-start : {A : Type 0} (plan : Plan A) {old new : World}
+    → IsUnread old.host new.host → ReadsOnWay plan plan old new
+ReadsOnWay-start plan unread =
+    record { effects = []; goes = refl; saw = λ files t. tt; reads = unread }
+
+pub ReadsThrough-start : {A : Type 0} (a : A) (w : World) → ReadsThrough (gives a) a w w
+unfolding ReadsOnWay-start
+ReadsThrough-start a w =
+    record { way = ReadsOnWay-start (gives a) IsUnread-same; did = λ files t. refl }
+
+-- what a file holds, where that is told
+abbrev pub held : Option Files → List ℕ → Option (List ℕ)
+held None name = None
+held (Some files) name = files name
+
+pub held-there : (told : Option Files) (name : List ℕ) (files : Files) → told ≡ Some files
+    → files name ≡ held told name
+held-there None name files is = absurd cc
+held-there (Some f) name files is =
+    let same : f ≡ files = cc in sym (ap (λ (g : Files). g name) same)
+
+-- a file was read, and this follows
+pub ReadsOnWay-ask : {A : Type 0} {name : List ℕ} {bound : ℕ} {next : Option (List ℕ) → Plan A}
+    {rest : Plan A} {old new : World} (found : Option (List ℕ)) → next found ≡ rest
+    → ((files : Files) → Tells old.host files → files name ≡ found)
+    → ReadsAtMost 1 bound old.host new.host → ReadsOnWay (Asks name bound next) rest old new
+ReadsOnWay-ask {name = name} {old = old} {new = new} found e is reads = record {
+  effects = Read name found ∷ [];
+  goes = (refl, e);
+  saw = λ files t. (
+    (λ files' told'. is files' (record { files = told'; rest = t.rest; runs = t.runs })),
+    tt,
+  );
+  reads = (new.host, reads, IsUnread-same);
+}
+
+pub ReadsThrough-ask : {A : Type 0} {name : List ℕ} {bound : ℕ}
+    {next : Option (List ℕ) → Plan A} {a : A} {old new : World} (found : Option (List ℕ))
+    → next found ≡ gives a → ((files : Files) → Tells old.host files → files name ≡ found)
+    → ReadsAtMost 1 bound old.host new.host → contents new ≡ contents old
+    → ReadsThrough (Asks name bound next) a old new
+unfolding ReadsOnWay-ask
+ReadsThrough-ask found e is reads same =
+    record { way = ReadsOnWay-ask found e is reads; did = λ files t. same }
+
+-- one way, all of whose effects were done, and then another
+ReadsOnWay-trans : {A : Type 0} {plan mid rest : Plan A} {old between new : World}
+    → ((files : Files) → Tells old.host files
+    → (files' : Files) × Tells between.host files')
+    → (first : ReadsOnWay plan mid old between)
+    → ((files : Files) → Tells old.host files
+    → contents between ≡ after first.effects (contents old))
+    → ReadsOnWay mid rest between new → ReadsOnWay plan rest old new
+ReadsOnWay-trans {A} {plan} {mid} {rest} {old} {between} {new} tells first did next = record {
   effects = first.effects ++ next.effects;
   goes = Goes-append plan mid rest first.effects next.effects first.goes next.goes;
-  reads = together (bounds_on plan first.effects) (bounds_on mid next.effects)
-      (bounds_on plan (first.effects ++ next.effects))
-      (bounds-append plan mid rest first.effects next.effects first.goes next.goes)
-      (ReadsAtMost-then first.reads next.reads);
+  saw = λ files t.
+      let later = tells files t in
+      Saw-append first.effects next.effects (contents old) (first.saw files t)
+      (subst (λ c. Saw next.effects c) (did files t) (next.saw later.0 later.1));
+  reads =
+      TakesOn-append plan mid rest first.effects next.effects old.host between.host new.host
+      first.goes first.reads next.reads;
 }
 
 -- a way of a first piece is one of the whole
-ReadsOnWay-then : {A B : Type 0} (next : A → Plan B) {p q : Plan A} {old new : HostState}
+ReadsOnWay-then : {A B : Type 0} (next : A → Plan B) {p q : Plan A} {old new : World}
     → ReadsOnWay p q old new → ReadsOnWay (p >>= next) (q >>= next) old new
-ReadsOnWay-then next {p} {q} way = record {
+ReadsOnWay-then next {p} {q} {old} {new} way = record {
   effects = way.effects;
   goes = Goes-then next p q way.effects way.goes;
-  reads = rw (bounds-then next p q way.effects way.goes) way.reads;
+  saw = way.saw;
+  reads = TakesOn-then next p q way.effects old.host new.host way.goes way.reads;
 }
 
 -- a first piece that gave a value, and what follows it
 pub ReadsFor-then : {A B : Type 0} (next : A → Plan B) {p : Plan A} {a : A}
-    {old mid : HostState} (new : HostState) (result : Result B Stop) → ReadsFor p old mid (Ok a)
-    → ReadsFor (next a) mid new result → ReadsFor (p >>= next) old new result
-ReadsFor-then next new (Ok b) first then = ReadsOnWay-trans (ReadsOnWay-then next first) then
-ReadsFor-then next new (Err stop) first then =
-    (then.0, ReadsOnWay-trans (ReadsOnWay-then next first) then.1)
+    {old mid : World} (new : World) (result : Result B Stop)
+    → ((files : Files) → Tells old.host files → (files' : Files) × Tells mid.host files')
+    → ReadsFor p old mid (Ok a) → ReadsFor (next a) mid new result
+    → ReadsFor (p >>= next) old new result
+unfolding ReadsOnWay-then ReadsOnWay-trans
+ReadsFor-then next {old = old} new (Ok b) tells first then = record {
+  way = ReadsOnWay-trans tells (ReadsOnWay-then next first.way) first.did then.way;
+  did = λ files t.
+      let later = tells files t in
+      then.did later.0 later.1 ∙ ap (after then.way.effects) (first.did files t)
+      ∙ sym (after-append first.way.effects then.way.effects (contents old));
+}
+ReadsFor-then next new (Err stop) tells first then =
+    (then.0, ReadsOnWay-trans tells (ReadsOnWay-then next first.way) first.did then.1)
 
 -- a first piece that stopped
 pub ReadsFor-stop : {A B : Type 0} (next : A → Plan B) {p : Plan A} (stop : Stop)
-    {old new : HostState} → ReadsFor p old new (Err stop)
+    {old new : World} → ReadsFor p old new (Err stop)
     → ReadsFor {A = B} (p >>= next) old new (Err stop)
 ReadsFor-stop next stop first = (first.0 >>= next, ReadsOnWay-then next first.1)
 
--- by any result, some way was gone
-pub ReadsFor-way : {A : Type 0} {plan : Plan A} {old new : HostState} (result : Result A Stop)
+-- by any result, this way was gone
+pub ReadsFor-way : {A : Type 0} {plan : Plan A} {old new : World} (result : Result A Stop)
     → ReadsFor plan old new result → (rest : Plan A) × ReadsOnWay plan rest old new
-ReadsFor-way (Ok a) reads = (gives a, reads)
+ReadsFor-way (Ok a) reads = (gives a, reads.way)
 ReadsFor-way (Err stop) reads = reads
