@@ -1,6 +1,6 @@
 -- What reading a signature file back comes to.
 use Rattle.std.proofs.Common.{◌≡◌, ◌<◌, ◌+◌, inl, inr, ℕ, ℤ, true, not, nat_lt, List, length}
-use Rattle.std.proofs.Common.{Option}
+use Rattle.std.proofs.Common.{Option, None, zero, suc, [], ◌∷◌, arith}
 use Rattle.std.proofs.Common.{Some, Ok, refl, sym, ap, ◌∙◌}
 use Rattle.std.proofs.lemmas.Bool.{lt-ltb}
 use Rattle.rvs_base.specs.Host.{HostState, ReadsOnly, LacksFile}
@@ -27,6 +27,7 @@ back-found signature status reference bytes old new verdict r whole same most is
   comes = record {
     of_file = λ files tells. is ∙ ap (λ (left : Option (List ℕ)). verdict_on status reference left)
         (sym (whole.whole files tells));
+    of_some = (Some bytes, is);
     counts = quiet verdict r same;
   };
 }
@@ -42,6 +43,7 @@ back-absent signature status reference old new r most lacks = record {
   comes = record {
     of_file = λ files tells. ap (λ (left : Option (List ℕ)). verdict_on status reference left)
         (sym (lacks.lacks files tells));
+    of_some = (None, refl);
     counts = record {
       reads = λ known. elim known [
         | inl told ↦ lacks.unfaulted told
@@ -59,6 +61,10 @@ long-verdict status reference bytes longer =
     let long : nat_lt signature_limit (length bytes) ≡ true =
     lt-ltb signature_limit (length bytes) longer in rw long refl
 
+longer : (n : ℕ) → (xs : List ℕ) × (n < length xs)
+longer zero = (0 ∷ [], omega arith)
+longer (suc n) = let more = longer n in (0 ∷ more.0, omega (arith, more.1))
+
 -- it is too long
 pub back-long : (signature : List ℕ) (status : ℤ) (reference : List ℕ) (old new : HostState)
     → ReadsOnly old new → ReadsAtMost 1 (signature_limit + 1) old new
@@ -72,6 +78,9 @@ back-long signature status reference old new r most long same = record {
         let file = long.longer files tells in
         sym (ap (λ (left : Option (List ℕ)). verdict_on status reference left) file.1
         ∙ long-verdict status reference file.0 file.2);
+    of_some =
+        let long = longer signature_limit in
+        (Some long.0, sym (long-verdict status reference long.0 long.1));
     counts = quiet (TooLong status) r same;
   };
 }

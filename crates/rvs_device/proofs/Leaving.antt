@@ -120,6 +120,7 @@ judges-no_memory t h = record {
   later = Later-start h;
   at_most = ReadsAtMost-none (record { openings = refl; taken = refl });
   cause = record { reads = refl; writes = refl; devices = refl };
+  some = tt;
   left = λ files runs tells is. inl (record {
     same = is;
     left = tells.files ∙ ap (λ (f : Files). Some f) (same_files t.signature files);
@@ -162,6 +163,7 @@ judges-unwritten t old new w s once = record {
       output = out.faults;
     };
   };
+  some = tt;
   left = λ files runs tells is.
       let now = spoilt_files t.signature old.files new.files files tells.files s in
       let covered = with_left-of t.signature files now.0 now.2.others in (
@@ -206,6 +208,7 @@ judges-not_run t old mid new w wrote quiet r failed once = record {
       output = out.faults;
     };
   };
+  some = tt;
   left = λ files runs tells is.
       let before = with_file t.signature [] files in
       let now = changed_files t.signature mid.files new.files before
@@ -296,6 +299,11 @@ judges-read t old mid ran new status (Ok verdict) m back = record {
     writes = back.comes.counts.writes ∙ m.runs.writing ∙ m.quiet;
     devices = back.comes.counts.devices ∙ m.done ∙ m.wrote.running;
   };
+  some = record {
+    status = status;
+    found = back.comes.of_some.0;
+    is = back.comes.of_some.1;
+  };
   left = λ files runs tells is.
       let run = made-run t old mid ran status files runs m tells is in
       let told : is_told ran ≡ true = (made-later m).told ∙ is_told-Tells tells in (
@@ -319,6 +327,7 @@ judges-read t old mid ran new status (Err Read) m back = record {
       output = out.faults;
     };
   };
+  some = tt;
   left = λ files runs tells is. let run = made-run t old mid ran status files runs m tells is in
       (run.0, RanOnce-reads back.reads_only run.1);
 }
@@ -330,6 +339,7 @@ judges-read t old mid ran new status (Err NoMemory) m back = record {
     writes = back.reads_only.writing ∙ m.runs.writing ∙ m.quiet;
     devices = back.reads_only.running ∙ m.done ∙ m.wrote.running;
   };
+  some = tt;
   left = λ files runs tells is. let run = made-run t old mid ran status files runs m tells is in
       inr (run.0, RanOnce-reads back.reads_only run.1);
 }

@@ -1,9 +1,10 @@
 -- Judging meets its plan.
 use Rattle.std.proofs.Common.{◌≡◌, ◌≢◌, ◌⊎◌, inl, inr, ℕ, Bool, true, false, is_some, if◌then◌else◌}
 use Rattle.std.proofs.Common.{List, [], ◌∷◌, ◌++◌, Option, Some, None, Result, Ok, Err, IfErr}
-use Rattle.std.proofs.Common.{bytes_eq, refl, sym, ap, subst, ◌∙◌, ◌+◌, pos, arith}
+use Rattle.std.proofs.Common.{bytes_eq, refl, sym, ap, subst, ◌∙◌, ◌+◌, pos}
 use Rattle.std.proofs.lemmas.Slice.Eq.{bytes_eq-Decides}
-use Rattle.rvs_base.specs.Host.{Files, HostState, Tells, MaySpoil, Spoils, written, with_file}
+use Rattle.rvs_base.specs.Host.{Files, HostState, Tells, is_told, MaySpoil, Spoils, written}
+use Rattle.rvs_base.specs.Host.{with_file}
 use Rattle.rvs_base.specs.Host.{with_left, run_over, ChangesOne}
 use Rattle.rvs_base.specs.declared.host.DeviceRun.{DeviceRun}
 use Rattle.rvs_base.specs.File.{ReadsAtMost}
@@ -14,10 +15,12 @@ use Rattle.rvs_plan.specs.World as plan
 use Rattle.rvs_plan.specs.Effect.{Answer, Write, Effect, Read, Device, Did, after, left_by}
 use Rattle.rvs_plan.specs.Effect.{run_added}
 use Rattle.rvs_plan.specs.Plan.{Plan, Ends}
-use Rattle.rvs_plan.specs.Reads.{ReadsOnWay, ReadsFor}
+use Rattle.rvs_plan.specs.Reads.{ReadsOnWay, ReadsThrough, ReadsFor}
+use Rattle.rvs_plan.proofs.Amounts.{IsUnread-same}
 use Rattle.rvs_plan.specs.Meets.{Reaches, Follows, HasCause, NoFault, MeetsWith}
 use Rattle.rvs_plan.proofs.Reaching.{Reaches-start}
 use Rattle.rvs_plan.proofs.Sequence.{LaterSink-start, FirstFault-weaker, FirstFault-rose}
+use Rattle.rvs_plan.proofs.Sequence.{told-Tells, is_told-Tells}
 use Rattle.rvs_device.specs.Judged.{signature_limit, verdict_on}
 use Rattle.rvs_device.specs.Judging.{Task, RanOnce, RanNone, Left, Judges}
 use Rattle.rvs_device.specs.Plans.{judged, read_back, run_and_read, stopped}
@@ -279,37 +282,64 @@ judged-unfaulted t out old new (Err fault.NoMemory) j = record {
 }
 
 -- ---- what was read
--- judging goes this way where the device answers so and this is found
-way : (t : Task) {old new : HostState} {rest : Plan TestVerdict} (answer : Answer)
-    (found : Option (List ℕ)) → Ends (Ok (verdict_on answer.status t.reference found)) ≡ rest
-    → ReadsAtMost 1 (signature_limit + 1) old new → ReadsOnWay (judged t) rest old new
-way t answer found e most = record {
+-- what a device left is what its file then holds
+left-back : (t : Task) (answer : Answer) (before : Option Files) (files' : Files)
+    → left_by t.signature answer (written t.signature [] before) ≡ Some files'
+    → files' t.signature ≡ answer.left
+left-back t answer None files' e = absurd cc
+left-back t answer (Some f) files' e =
+    let same : with_left t.signature answer.left (with_file t.signature [] f) ≡ files' = cc in
+    ap (λ (g : Files). g t.signature) (sym same)
+    ∙ at_name t.signature answer.left (with_file t.signature [] f)
+
+-- judging goes this way where the device answers so
+way : (t : Task) (out : SinkState) {old new : HostState} {rest : Plan TestVerdict}
+    (answer : Answer) → Ends (Ok (verdict_on answer.status t.reference answer.left)) ≡ rest
+    → ReadsAtMost 1 (signature_limit + 1) old new
+    → ReadsOnWay (judged t) rest (world old out) (world new out)
+way t out {old} {new} answer e most = record {
   effects =
-      emptying t ∷ Device t.words t.test t.signature answer ∷ Read t.signature found ∷ [];
+      emptying t ∷ Device t.words t.test t.signature answer ∷ Read t.signature answer.left ∷ [];
   goes = (refl, (refl, refl, refl, (refl, e)));
-  reads = record { opened = omega (arith, most.opened); taken = omega (arith, most.taken) };
+  saw = λ files tells. (tt, (tt, (left-back t answer old.files, tt)));
+  reads = (new, most, IsUnread-same);
 }
 
--- where judging stopped, some way was gone
-stopped_way : (t : Task) (old new : HostState) (fault : JudgeFault)
-    → ReadsAtMost 1 (signature_limit + 1) old new
-    → ReadsFor (judged t) old new (stopped t (Err fault))
-stopped_way t old new fault most =
-    (_, way t (record { left = None; status = pos 0 }) None refl most)
+-- it was gone to its end: where files are told by the run that was made
+through : (t : Task) (out : SinkState) (old new : HostState) (verdict : TestVerdict)
+    → Judges t old new (Ok verdict)
+    → ReadsThrough (judged t) verdict (world old out) (world new out)
+unfolding way
+through t out old new verdict j = by-told (is_told old) refl
+  where
+    end : (answer : Answer) → verdict ≡ verdict_on answer.status t.reference answer.left
+        → Ends (Ok (verdict_on answer.status t.reference answer.left)) ≡ Ends (Ok verdict)
+    end answer is = ap (λ (v : TestVerdict). Ends (Ok v)) (sym is)
 
-read : (t : Task) (files : Files) (runs : List DeviceRun) (old new : HostState)
-    (result : Result TestVerdict JudgeFault) → ReadsAtMost 1 (signature_limit + 1) old new
-    → Left t files runs new result → ReadsFor (judged t) old new (stopped t result)
-read t files runs old new (Ok verdict) most left = way t (answer_of left.0) left.0.after
-    (ap (λ (v : TestVerdict). Ends (Ok v)) (sym left.2)) most
-read t files runs old new (Err fault) most left = stopped_way t old new fault most
+    by-told : (b : Bool) → is_told old ≡ b
+        → ReadsThrough (judged t) verdict (world old out) (world new out)
+    by-told true is =
+        let told = told-Tells old is in
+        let runs = told_runs old.runs told.1.runs in
+        let left = j.left told.0 runs.0 told.1 runs.1 in
+        record {
+          way = way t out (answer_of left.0) (end (answer_of left.0) left.2) j.at_most;
+          did = λ files tells.
+              ran_did t out told.0 runs.0 old new left.0 told.1.files runs.1 left.1;
+        }
+    by-told false is =
+        let answer : Answer = record { left = j.some.found; status = j.some.status } in
+        record {
+          way = way t out answer (end answer j.some.is) j.at_most;
+          did = λ files tells. let no : true ≡ false = sym (is_told-Tells tells) ∙ is in absurd cc;
+        }
 
-judged-reading : (t : Task) (old new : HostState) (result : Result TestVerdict JudgeFault)
-    → Judges t old new result
-    → (files : Files) → Tells old files → ReadsFor (judged t) old new (stopped t result)
-judged-reading t old new result j files tells =
-    let runs = told_runs old.runs tells.runs in
-    read t files runs.0 old new result j.at_most (j.left files runs.0 tells runs.1)
+judged-reading : (t : Task) (out : SinkState) (old new : HostState)
+    (result : Result TestVerdict JudgeFault) → Judges t old new result
+    → ReadsFor (judged t) (world old out) (world new out) (stopped t result)
+judged-reading t out old new (Ok verdict) j = through t out old new verdict j
+judged-reading t out old new (Err fault) j =
+    (_, way t out (record { left = None; status = pos 0 }) refl j.at_most)
 
 pub Meets-judged : (t : Task) (out : SinkState) (old new : HostState)
     (result : Result TestVerdict JudgeFault) → Judges t old new result → MeetsWith IsAnswer
@@ -319,5 +349,5 @@ Meets-judged t out old new result j = record {
   cause = judged-cause t out old new result j;
   unfaulted = judged-unfaulted t out old new result j;
   told = judged-follows t out old new result j;
-  reading = judged-reading t old new result j;
+  reading = judged-reading t out old new result j;
 }

@@ -1,5 +1,5 @@
 -- What reading a signature file back comes to.
-use Rattle.std.specs.Prelude.{◌≡◌, ◌+◌, ℕ, ℤ, List, Result, Ok, Err}
+use Rattle.std.specs.Prelude.{◌≡◌, ◌+◌, ℕ, ℤ, List, Option, Result, Ok, Err}
 use Rattle.rvs_base.specs.Faults.{raised}
 use Rattle.rvs_base.specs.Host.{Files, HostState, ReadsOnly, Tells}
 use Rattle.rvs_base.specs.File.{ReadsAtMost}
@@ -9,11 +9,13 @@ use Rattle.rvs_device.specs.declared.verdicts.TestVerdict.{TestVerdict}
 use Rattle.rvs_device.specs.declared.judging.JudgeFault.{JudgeFault}
 use Rattle.rvs_device.specs.declared.judging.JudgeFault.TheVariants.{Write, Run, Read, NoMemory}
 
--- the verdict is that of what the file holds
+-- the verdict is that of what the file holds, where that is told, and of something else where it
+-- isn't
 pub record Finds (signature : List ℕ) (status : ℤ) (reference : List ℕ)
     (old new : HostState) (verdict : TestVerdict) : Type 0 where
   pub of_file : (files : Files) → Tells old files
       → verdict ≡ verdict_on status reference (files signature)
+  pub of_some : (found : Option (List ℕ)) × (verdict ≡ verdict_on status reference found)
   pub counts : Verdicts old new verdict
 
 -- why there is none: reading failed, or want of memory

@@ -56,7 +56,6 @@ pub planned-promise : {call : Call} → RanCall call → planned.Promise call
 planned-promise r files t =
     record {
       effects = (answers r.ran).effects files t;
-      reads = (answers r.ran).reading files t;
       answered = answered r.ran files t;
       completes = completes r.ran files t;
       untouched = untouched r.ran files t;
@@ -66,6 +65,7 @@ planned-promise r files t =
 pub causes-promise : {call : Call} → RanCall call → causes.Promise call
 causes-promise {call} r =
     record {
+      reads = (answers r.ran).reading;
       usage = usage r.ran;
       by_words = no_command r.ran;
       by_words_kept = r.ran.performs.unchanged;

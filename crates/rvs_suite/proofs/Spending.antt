@@ -1,13 +1,13 @@
 -- Plans that read a few files at most.
-use Rattle.std.proofs.Common.{◌≤◌, ◌+◌, ◌-◌, ℕ, List, [], ◌∷◌, length, sum, Option, Result, Ok, Err}
+use Rattle.std.proofs.Common.{◌≤◌, ◌+◌, ◌-◌, ℕ, List, [], ◌∷◌, Option, Result, Ok, Err}
 use Rattle.std.proofs.Common.{arith}
 use Rattle.std.specs.Prelude.{⊤}
-use Rattle.std.proofs.lemmas.List.Sums.{sum_by-cons}
 use Rattle.rvs_base.specs.File.{ReadsAtMost}
-use Rattle.rvs_base.specs.Host.{Files}
+use Rattle.rvs_base.specs.Host.{Files, HostState}
+use Rattle.rvs_base.proofs.Reading.{ReadsAtMost-none}
 use Rattle.rvs_plan.specs.Effect.{Answer, Effect, Read, Device, Did}
-use Rattle.rvs_plan.specs.Plan.{Plan, Ends, Does, Asks, Runs, Goes, followed, ◌>>=◌}
-use Rattle.rvs_plan.specs.Reads.{bounds_on}
+use Rattle.rvs_plan.specs.Plan.{Plan, Ends, Does, Asks, Runs, followed, ◌>>=◌}
+use Rattle.rvs_plan.specs.Reads.{TakesOn}
 use Rattle.rvs_plan.specs.declared.stop.Stop.{Stop}
 use Rattle.rvs_suite.specs.Call.{Call}
 use Rattle.rvs_suite.specs.Plans.{plan_of}
@@ -59,34 +59,39 @@ Spends-then (Asks name bound rest) next n b m c s then = (
 Spends-then (Runs words test signature rest) next n b m c s then =
     λ answer. Spends-then (rest answer) next n b m c (s answer) then
 
+ReadsAtMost-then : {n m a b : ℕ} {old mid new : HostState} → ReadsAtMost n a old mid
+    → ReadsAtMost m b mid new → ReadsAtMost (n + m) (a + b) old new
+ReadsAtMost-then first next = record {
+  opened = omega (arith, first.opened, next.opened);
+  taken = omega (arith, first.taken, next.taken);
+}
+
 -- what is read on any way through such a plan
-on_way : {A : Type 0} (plan rest : Plan A) (effects : List Effect) (n b : ℕ) → Spends n b plan
-    → Goes plan effects rest
-    → (length (bounds_on plan effects) ≤ n) × (sum (bounds_on plan effects) ≤ b)
-on_way plan rest [] n b s goes = (omega arith, omega arith)
-on_way (Ends end) rest (e ∷ es) n b s goes = absurd goes
-on_way (Does deed plan) rest (Did d ∷ es) n b s goes = on_way plan rest es n b s goes.1
-on_way (Does deed plan) rest (Read name found ∷ es) n b s goes = absurd goes
-on_way (Does deed plan) rest (Device w t g answer ∷ es) n b s goes = absurd goes
-on_way (Asks name bound next) rest (Read m found ∷ es) n b s goes =
-    let less = on_way (next found) rest es (n - 1) (b - bound) (s.2 found) goes.1 in
-    let cons = sum_by-cons (λ (x : ℕ). x) bound (bounds_on (next found) es) in
-    (omega (arith, less.0, s.0), omega (arith, less.1, s.1, cons))
-on_way (Asks name bound next) rest (Device w t g answer ∷ es) n b s goes = absurd goes
-on_way (Asks name bound next) rest (Did d ∷ es) n b s goes = absurd goes
-on_way (Runs words test signature next) rest (Device w t g answer ∷ es) n b s goes =
-    on_way (next answer) rest es n b (s answer) goes.3
-on_way (Runs words test signature next) rest (Read name found ∷ es) n b s goes = absurd goes
-on_way (Runs words test signature next) rest (Did d ∷ es) n b s goes = absurd goes
+on_way : {A : Type 0} (plan : Plan A) (effects : List Effect) (n b : ℕ) (old new : HostState)
+    → Spends n b plan → TakesOn plan effects old new → ReadsAtMost n b old new
+on_way plan [] n b old new s t = ReadsAtMost-none t
+on_way (Ends end) (e ∷ es) n b old new s t = absurd t
+on_way (Does deed plan) (Did d ∷ es) n b old new s t = on_way plan es n b old new s t
+on_way (Does deed plan) (Read name found ∷ es) n b old new s t = absurd t
+on_way (Does deed plan) (Device w x g answer ∷ es) n b old new s t = absurd t
+on_way (Asks name bound next) (Read m found ∷ es) n b old new s t =
+    let both = ReadsAtMost-then t.1 (on_way (next found) es (n - 1) (b - bound) t.0 new
+    (s.2 found) t.2) in
+    record {
+      opened = omega (arith, both.opened, s.0);
+      taken = omega (arith, both.taken, s.1);
+    }
+on_way (Asks name bound next) (Device w x g answer ∷ es) n b old new s t = absurd t
+on_way (Asks name bound next) (Did d ∷ es) n b old new s t = absurd t
+on_way (Runs words test signature next) (Device w x g answer ∷ es) n b old new s t =
+    on_way (next answer) es n b old new (s answer) t
+on_way (Runs words test signature next) (Read name found ∷ es) n b old new s t = absurd t
+on_way (Runs words test signature next) (Did d ∷ es) n b old new s t = absurd t
 
 -- a call of a command whose plan is such
 pub spent : {call : Call} {files : Files} {command : Command} (n b : ℕ)
     → RunsOn call files command → Spends n b (plan_of command)
     → ReadsAtMost n b call.old.host call.new.host
-spent {call} {files} n b r s =
-    let way = (answers (ran-command r)).reading files r.told in
-    let bounds = on_way _ way.0 way.1.effects n b s way.1.goes in
-    record {
-      opened = omega (arith, bounds.0, way.1.reads.opened);
-      taken = omega (arith, bounds.1, way.1.reads.taken);
-    }
+spent {call} n b r s =
+    let way = (answers (ran-command r)).reading in
+    on_way _ way.1.effects n b call.old.host call.new.host s way.1.reads

@@ -4,11 +4,14 @@ use Rattle.rvs_base.specs.Faults.{raised}
 use Rattle.rvs_base.specs.Host.{is_told}
 use Rattle.rvs_plan.specs.World.{Later, LaterSink, Absence, Failing, Reading, Writing, Running}
 use Rattle.rvs_plan.specs.World.{Putting, NoneFaulted, FirstFault, FirstAbsence}
+use Rattle.rvs_plan.specs.Plan.{Plan}
+use Rattle.rvs_plan.specs.Reads.{ReadsOnWay}
 use Rattle.rvs_base.specs.Sink.{appended}
 use Rattle.rvs_plan.specs.Account.{NoneChanged, fault_line}
+use Rattle.rvs_plan.specs.declared.status.Finish.{Finish}
 use Rattle.rvs_plan.specs.declared.status.Status.TheVariants as answer
 use Rattle.rvs_words.specs.Commands.{command_of}
-use Rattle.rvs_suite.specs.Plans.{absence_of}
+use Rattle.rvs_suite.specs.Plans.{absence_of, effects_of}
 use Rattle.rvs_suite.specs.Call.{Call, world_of, Asks, HostRose}
 use Rattle.rvs_words.specs.declared.command.Command.TheVariants.{Unknown}
 
@@ -44,6 +47,12 @@ HasHostLine call = (name : List ℕ)
     ⊎ (HasLine call (codes "cannot run ") name × EndsAt call Running))
 
 pub record Promise (call : Call) : Type 0 where
+  -- What was read is what some way through the effects that the words mean reads, and where files
+  -- are told the way that what they hold leads to: each file was opened once at most where the way
+  -- reads it, and no more of its bytes were taken than the way says, of an input its limit and one
+  -- byte.
+  pub reads : (rest : Plan Finish)
+      × ReadsOnWay (effects_of call.words) rest (world_of call.old) (world_of call.new)
   -- it says how it is used where its words are no command
   pub usage : call.status ≡ answer.Usage → Asks call Unknown
   pub by_words : Asks call Unknown → (call.status ≡ answer.Usage) ⊎ (call.status ≡ answer.NoMemory)
