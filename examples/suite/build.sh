@@ -9,6 +9,7 @@
 #
 # usage: build.sh SUITE OUT [ISA]
 set -eu
+[ $# -ge 2 ] && [ -d "$1" ] || { echo 'usage: build.sh SUITE OUT [ISA]' >&2; exit 2; }
 export LC_ALL=C
 here=$(cd "$(dirname "$0")" && pwd)
 program=${RVSUITE:-$here/../../rvsuite}
