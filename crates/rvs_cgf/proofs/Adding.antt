@@ -4,6 +4,7 @@ use Rattle.std.proofs.Common.{[], ◌∷◌, Ok, Err, refl, subst, arith, bytes_
 use Rattle.std.specs.Prelude.{nat_le, if◌then◌else◌}
 use Rattle.rvs_insn.specs.Isa.{Isa}
 use Rattle.rvs_tree.specs.Data.{Data, Pairs, own_pairs, is_map}
+use Rattle.rvs_abstract.specs.declared.families.Families.{Families}
 use Rattle.rvs_abstract.specs.Calls as calls
 use Rattle.rvs_cgf.specs.Keys.{is_printable}
 use Rattle.rvs_cgf.specs.Groups.{Meaning, Point, Skipped, Said, means, nothing, wrong, says, admits}
@@ -186,56 +187,62 @@ pairs-kept P kept place a b size other t u h e =
     steps-kept P (with_jth place a b) (count_of a) (jth-kept P kept place a b size other)
     (count_of a) zero (omega arith) t u h e
 
-called-kept : (P : Taken → Type 0) → Kept P (IsOf kind.ValComb) → (place : EntryNames)
-    → is_printable place.node ≡ true → is_printable place.key ≡ true → (a : calls.CallReading)
-    → calls.call_of place.key ≡ a → (t u : Taken) → P t → called place a t ≡ Ok u → P u
-called-kept P kept place n p (Ok (calls.points r)) is t u h e =
-    values-kept P kept place r (call-size place.key r is) t u h e
-called-kept P kept place n p (Ok (calls.pairs a b)) is t u h e =
-    let sizes = pairs-size place.key a b is in
+called-kept : (P : Taken → Type 0) → Kept P (IsOf kind.ValComb) → (families : Families)
+    (place : EntryNames) → is_printable place.node ≡ true → is_printable place.key ≡ true
+    → (a : calls.CallReading) → calls.call_of families place.key ≡ a → (t u : Taken) → P t
+    → called place a t ≡ Ok u → P u
+called-kept P kept families place n p (Ok (calls.points r)) is t u h e =
+    values-kept P kept place r (call-size families place.key r is) t u h e
+called-kept P kept families place n p (Ok (calls.pairs a b)) is t u h e =
+    let sizes = pairs-size families place.key a b is in
     pairs-kept P kept place a b (and-left (is_sized a) (is_sized b) sizes)
     (and-right (is_sized a) (is_sized b) sizes) t u h e
-called-kept P kept place n p (Ok calls.skipped) is t u h e =
+called-kept P kept families place n p (Ok calls.skipped) is t u h e =
     skip-kept P (IsOf kind.ValComb) kept place n p t u h e
-called-kept P kept place n p (Err r) is t u h e = err-not _ u e
+called-kept P kept families place n p (Err r) is t u h e = err-not _ u e
 
-abstract-kept : (P : Taken → Type 0) → Kept P (IsOf kind.ValComb) → (place : EntryNames)
-    → is_printable place.node ≡ true → (d : Data) (t u : Taken) → P t
-    → abstract_entry place d t ≡ Ok u → P u
-abstract-kept P kept place n d t u h e =
+abstract-kept : (P : Taken → Type 0) → Kept P (IsOf kind.ValComb) → (families : Families)
+    (place : EntryNames) → is_printable place.node ≡ true → (d : Data) (t u : Taken) → P t
+    → abstract_entry families place d t ≡ Ok u → P u
+abstract-kept P kept families place n d t u h e =
     holds-then (is_shaped place.key d) place fault.BadShape
-    (called place (calls.call_of place.key) t) u e
-    (λ s g. called-kept P kept place n (printable-is place.key d s) (calls.call_of place.key) refl
-    t u h g)
+    (called place (calls.call_of families place.key) t) u e
+    (λ s g. called-kept P kept families place n (printable-is place.key d s)
+    (calls.call_of families place.key) refl t u h g)
 
-families-kept : (P : Taken → Type 0) → Kept P (IsOf kind.ValComb) → (place : EntryNames) (d : Data)
-    (t u : Taken) → P t → abstract_node place d t ≡ Ok u → P u
-families-kept P kept place d t u h e =
+families-kept : (P : Taken → Type 0) → Kept P (IsOf kind.ValComb) → (families : Families)
+    (place : EntryNames) (d : Data) (t u : Taken) → P t → abstract_node families place d t ≡ Ok u
+    → P u
+families-kept P kept families place d t u h e =
     let node = at_node place.label abstract_key in
-    bind-ok (entries place d) (λ es. for_each (under node abstract_entry) es t) u e
-    (λ es _ g. each-kept P (under node abstract_entry)
-    (λ key. abstract-kept P kept (at_key node key) refl) es t u h g)
+    bind-ok (entries place d) (λ es. for_each (under node (abstract_entry families)) es t) u e
+    (λ es _ g. each-kept P (under node (abstract_entry families))
+    (λ key. abstract-kept P kept families (at_key node key) refl) es t u h g)
 
-pub entry-kept : (P : Taken → Type 0) (isa : Isa) (k : Kind) → Kept P (IsOf k)
-    → same_kind k kind.Mnemonic ≡ false → (place : EntryNames) → is_printable place.node ≡ true
-    → (d : Data) (t u : Taken) → P t → entry_of isa k place d t ≡ Ok u → P u
-entry-kept P isa k kept other place n d t u h e =
-    if-ok (holds_families k place.key) (abstract_node place d t) (add_entry isa k place d t) u e
+pub entry-kept : (P : Taken → Type 0) (isa : Isa) (families : Families) (k : Kind)
+    → Kept P (IsOf k) → same_kind k kind.Mnemonic ≡ false → (place : EntryNames)
+    → is_printable place.node ≡ true
+    → (d : Data) (t u : Taken) → P t → entry_of isa families k place d t ≡ Ok u → P u
+entry-kept P isa families k kept other place n d t u h e =
+    if-ok (holds_families k place.key) (abstract_node families place d t)
+    (add_entry isa k place d t) u e
     (λ b g. families-kept P (subst (λ (j : Kind). Kept P (IsOf j))
-    (kind-is k kind.ValComb (and-left (same_kind k kind.ValComb) _ b)) kept) place d t u h g)
+    (kind-is k kind.ValComb (and-left (same_kind k kind.ValComb) _ b)) kept) families place d t u
+    h g)
     (λ b g. point-kept P (IsOf k) isa place k kept (λ m p is a. record {
       meant = record { printable = p; said = is };
       other = other;
       kind_is = refl;
     }) n d t u h g)
 
-pub entries-kept : (P : Taken → Type 0) (isa : Isa) (k : Kind) (place : EntryNames)
-    → ((key : List ℕ) (d : Data) (t u : Taken) → P t → entry_of isa k (at_key place key) d t ≡ Ok u
-    → P u)
-    → (d : Data) (t u : Taken) → P t → all_entries isa k place d t ≡ Ok u → P u
-entries-kept P isa k place step d t u h e =
-    bind-ok (entries place d) (λ es. for_each (under place (entry_of isa k)) es t) u e
-    (λ es _ g. each-kept P (under place (entry_of isa k)) step es t u h g)
+pub entries-kept : (P : Taken → Type 0) (isa : Isa) (families : Families) (k : Kind)
+    (place : EntryNames)
+    → ((key : List ℕ) (d : Data) (t u : Taken) → P t
+    → entry_of isa families k (at_key place key) d t ≡ Ok u → P u)
+    → (d : Data) (t u : Taken) → P t → all_entries isa families k place d t ≡ Ok u → P u
+entries-kept P isa families k place step d t u h e =
+    bind-ok (entries place d) (λ es. for_each (under place (entry_of isa families k)) es t) u e
+    (λ es _ g. each-kept P (under place (entry_of isa families k)) step es t u h g)
 
 skipped-kept : (P : Taken → Type 0) (Q : Point → Type 0) → Kept P Q
     → (place : EntryNames) → is_printable place.node ≡ true → (d : Data) (t u : Taken) → P t

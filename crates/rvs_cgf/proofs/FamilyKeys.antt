@@ -15,7 +15,9 @@ use Rattle.rvs_abstract.specs.Values.{length_of, value_of, as_read, alternate, s
 use Rattle.rvs_abstract.specs.Values.{unsigned_edge, edge, whole_digits, root, negated, middle_root}
 use Rattle.rvs_abstract.specs.Values.{lowest_root, highest_root, special, one_below, special_value}
 use Rattle.rvs_abstract.specs.Calls as calls
-use Rattle.rvs_abstract.specs.Calls.{Ranged, CallReading, Cut, first, trimmed, call_of}
+use Rattle.rvs_abstract.specs.Calls.{Ranged, CallReading, Cut, first, first_item, trimmed, call_of}
+use Rattle.rvs_abstract.specs.declared.families.Families.{Families}
+use Rattle.rvs_abstract.specs.declared.families.Families.TheVariants.{All}
 use Rattle.rvs_abstract.specs.declared.factor.Factor.{Factor}
 use Rattle.rvs_abstract.specs.declared.family.Family.{Family}
 use Rattle.rvs_abstract.specs.declared.family.Family.TheVariants.{WalkingOnes, WalkingZeros}
@@ -239,24 +241,27 @@ shaped-sized f (Some v) (Some s) None = refl
 shaped-sized f (Some v) None signed = refl
 shaped-sized f None s signed = refl
 
-two-sized : (f : Family) (a b : List ℕ) (signed : Option Bool)
-    → sized (calls.with_two f a b signed) ≡ true
-two-sized f a b signed =
-    shaped-sized f (calls.var_of (trimmed a)) (calls.size_of (trimmed b)) signed
+two-sized : (families : Families) (f : Family) (a b : List ℕ) (signed : Option Bool)
+    → sized (calls.with_two families f a b signed) ≡ true
+two-sized families f a b signed =
+    shaped-sized f (calls.var_of (trimmed a)) (calls.size_of families (trimmed b)) signed
 
-third-sized : (f : Family) (a b : List ℕ) (c : Cut) → sized (calls.with_third f a b c) ≡ true
-third-sized f a b (c, Some rest) = refl
-third-sized f a b (c, None) = if-sized (calls.is_filter (trimmed c)) (Ok calls.skipped)
-    (calls.with_two f a b (calls.signed_of (trimmed c))) refl
-    (two-sized f a b (calls.signed_of (trimmed c)))
+third-sized : (families : Families) (f : Family) (a b : List ℕ) (c : Cut)
+    → sized (calls.with_third families f a b c) ≡ true
+third-sized families f a b (c, Some rest) = refl
+third-sized families f a b (c, None) = if-sized (calls.is_filter (trimmed c)) (Ok calls.skipped)
+    (calls.with_two families f a b (calls.signed_of (trimmed c))) refl
+    (two-sized families f a b (calls.signed_of (trimmed c)))
 
-second-sized : (f : Family) (a : List ℕ) (c : Cut) → sized (calls.with_second f a c) ≡ true
-second-sized f a (b, None) = two-sized f a b (Some true)
-second-sized f a (b, Some rest) = third-sized f a b (first rest)
+second-sized : (families : Families) (f : Family) (a : List ℕ) (c : Cut)
+    → sized (calls.with_second families f a c) ≡ true
+second-sized families f a (b, None) = two-sized families f a b (Some true)
+second-sized families f a (b, Some rest) = third-sized families f a b (first rest)
 
-first-sized : (f : Family) (c : Cut) → sized (calls.with_first f c) ≡ true
-first-sized f (a, None) = refl
-first-sized f (a, Some rest) = second-sized f a (first rest)
+first-sized : (families : Families) (f : Family) (c : Cut) → sized (calls.with_first families f c)
+    ≡ true
+first-sized families f (a, None) = refl
+first-sized families f (a, Some rest) = second-sized families f a (first rest)
 
 factor-sized : (f : Factor) → sized_if (calls.of_factor f) ≡ true
 factor-sized f = of_size-sized SpDataset f.var f.signed f.size
@@ -285,48 +290,53 @@ behind_listed-sized s signed a (b, None) =
 from_list-sized : (s : Option (Option ℕ)) (signed : Option Bool) (c : Cut)
     → sized (calls.from_list s signed c) ≡ true
 from_list-sized s signed (a, None) = with_factor-sized (calls.listed s signed a)
-from_list-sized s signed (a, Some rest) = behind_listed-sized s signed a (first rest)
+from_list-sized s signed (a, Some rest) = behind_listed-sized s signed a (first_item rest)
 
 in_list-sized : (s : Option (Option ℕ)) (signed : Option Bool) (o : Option (List ℕ))
     → sized (calls.in_list s signed o) ≡ true
-in_list-sized s signed (Some inside) = from_list-sized s signed (first inside)
+in_list-sized s signed (Some inside) = from_list-sized s signed (first_item inside)
 in_list-sized s signed None = refl
 
 special_third-sized : (a b : List ℕ) (c : Cut) → sized (calls.special_third a b c) ≡ true
 special_third-sized a b (c, Some rest) = refl
-special_third-sized a b (c, None) = in_list-sized (calls.size_of (trimmed a))
+special_third-sized a b (c, None) = in_list-sized (calls.size_of All (trimmed a))
     (calls.signed_of (trimmed c)) (calls.bracketed (trimmed b))
 
 special_second-sized : (a : List ℕ) (c : Cut) → sized (calls.special_second a c) ≡ true
-special_second-sized a (b, Some rest) = special_third-sized a b (first rest)
+special_second-sized a (b, Some rest) = special_third-sized a b (first_item rest)
 special_second-sized a (b, None) = if-sized (calls.names_sign (trimmed b)) _ _
-    (sources-sized (calls.size_of (trimmed a)) (calls.signed_of (trimmed b)))
-    (in_list-sized (calls.size_of (trimmed a)) (Some true) (calls.bracketed (trimmed b)))
+    (sources-sized (calls.size_of All (trimmed a)) (calls.signed_of (trimmed b)))
+    (in_list-sized (calls.size_of All (trimmed a)) (Some true) (calls.bracketed (trimmed b)))
 
 special-sized : (c : Cut) → sized (calls.special_call c) ≡ true
-special-sized (a, None) = sources-sized (calls.size_of (trimmed a)) (Some true)
-special-sized (a, Some rest) = special_second-sized a (first rest)
+special-sized (a, None) = sources-sized (calls.size_of All (trimmed a)) (Some true)
+special-sized (a, Some rest) = special_second-sized a (first_item rest)
 
-named-sized : (name inside : List ℕ) (o : Option Family) → sized (calls.named name inside o) ≡ true
-named-sized name inside (Some f) = first-sized f (first inside)
-named-sized name inside None = if-sized (calls.is_special name) _ _ (special-sized (first inside))
-    (if-sized (calls.is_skipped name) (Ok calls.skipped) (Err UnknownFunction) refl refl)
+named-sized : (families : Families) (name inside : List ℕ) (o : Option Family)
+    → sized (calls.named families name inside o) ≡ true
+named-sized families name inside (Some f) = first-sized families f (first inside)
+named-sized families name inside None =
+    if-sized (calls.is_special families name) _ _ (special-sized (first_item inside))
+    (if-sized (calls.is_skipped families name) (Ok calls.skipped) (Err UnknownFunction) refl refl)
 
-called-sized : (name : List ℕ) (o : Option (List ℕ)) → sized (calls.called name o) ≡ true
-called-sized name None = refl
-called-sized name (Some inside) = named-sized name inside (calls.family_of name)
+called-sized : (families : Families) (name : List ℕ) (o : Option (List ℕ))
+    → sized (calls.called families name o) ≡ true
+called-sized families name None = refl
+called-sized families name (Some inside) =
+    named-sized families name inside (calls.family_of name)
 
-call-sized : (text : List ℕ) → sized (call_of text) ≡ true
+call-sized : (families : Families) (text : List ℕ) → sized (call_of families text) ≡ true
 unfolding call_of
-call-sized text = called-sized (take (calls.name_length text) text) (calls.inside_of text)
+call-sized families text =
+    called-sized families (take (calls.name_length text) text) (calls.inside_of text)
 
-pub call-size : (text : List ℕ) (r : Ranged) → call_of text ≡ Ok (calls.points r)
-    → is_sized r ≡ true
-call-size text r e = ap sized (sym e) ∙ call-sized text
+pub call-size : (families : Families) (text : List ℕ) (r : Ranged)
+    → call_of families text ≡ Ok (calls.points r) → is_sized r ≡ true
+call-size families text r e = ap sized (sym e) ∙ call-sized families text
 
-pub pairs-size : (text : List ℕ) (a b : Ranged) → call_of text ≡ Ok (calls.pairs a b)
-    → (is_sized a && is_sized b) ≡ true
-pairs-size text a b e = ap sized (sym e) ∙ call-sized text
+pub pairs-size : (families : Families) (text : List ℕ) (a b : Ranged)
+    → call_of families text ≡ Ok (calls.pairs a b) → (is_sized a && is_sized b) ≡ true
+pairs-size families text a b e = ap sized (sym e) ∙ call-sized families text
 
 -- ---- the keys of small values mean the values
 pub value_meant : (v : NumName) (z : ℤ) → Small z → IsMeant (value_point v z)

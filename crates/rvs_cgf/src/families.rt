@@ -13,7 +13,7 @@ use crate::group::{Kind, Meaning, Point};
 use crate::place::{At, at_key};
 use crate::refusal::{CgfKind, CgfRefusal};
 use crate::walk::{Taken, add, is_shaped, no_memory, refusal, skip};
-use rvs_abstract::{AbstractRefusal, Call, Family4, len, read_call, value};
+use rvs_abstract::{AbstractRefusal, Call, Families, Family4, len, read_call, value};
 use rvs_base::{NoMemory, Text};
 use rvs_expr::{Expr, NumName, parse_num};
 use rvs_tree::Tree;
@@ -248,34 +248,43 @@ fn called(
 /// One entry of `abstract_comb`.
 fn abstract_entry(
     alloc: Global,
+    families: Families,
     place: At<'_>,
     entry: &Tree,
     taken: Taken,
 ) -> Result<Taken, CgfRefusal>
     ensures { AnswersWith taken_view result
-        (spec.abstract_entry (place_view place.entry) (tree.view entry.now) (taken_view taken)) }
+        (spec.abstract_entry families (place_view place.entry) (tree.view entry.now)
+        (taken_view taken)) }
 {
     if !is_shaped(place.key, entry) {
         return Err(refusal(alloc, place, CgfKind::BadShape));
     }
-    called(alloc, place, read_call(place.key), taken)
+    called(alloc, place, read_call(families, place.key), taken)
 }
 
 /// The entries of `abstract_comb`, which is a map.
 pub fn abstract_map(
     alloc: Global,
+    families: Families,
     place: At<'_>,
     entries: &Tree,
     taken: Taken,
 ) -> Result<Taken, CgfRefusal>
     requires { IsTrue (is_map (tree.view entries.now)) }
     ensures { AnswersWith taken_view result
-        (spec.for_each (spec.under (place_view place.entry) spec.abstract_entry)
+        (spec.for_each (spec.under (place_view place.entry) (spec.abstract_entry families))
         (own_pairs (tree.view entries.now)) (taken_view taken)) }
 {
     let mut taken = taken;
     for i in 0..entries.len() {
-        match abstract_entry(alloc, at_key(place, entries.key(i)), entries.item(i), taken) {
+        match abstract_entry(
+            alloc,
+            families,
+            at_key(place, entries.key(i)),
+            entries.item(i),
+            taken,
+        ) {
             Ok(next) => taken = next,
             Err(why) => return Err(why),
         }
