@@ -264,8 +264,8 @@ label-read isa families l d p m sp =
     ∙ ap (λ o. selects l.name (config_holds isa o) >>= (λ b. chosen isa families l.name d b))
     (none-at bs (own_pairs d) sp (codes "config") no-config)
     ∙ bind-yes (main_of l.name d)
-    (λ x. first_points isa families (at_node l.name x.0) x.1 >>=
-    (λ t. nodes isa families l.name d t))
+    (λ x. first_points isa families (at_node l.name x.0) x.1
+    >>= (λ t. nodes isa families l.name d t))
     (codes "mnemonics", main.node)
     (ap (λ o. main_node l.name o (value_at (codes "opcode") d)) main.there ∙ ap
     (main_node l.name (Some main.node))
@@ -313,8 +313,9 @@ labels-read isa families (l ∷ ls) (e ∷ es) pl sp out n few small =
     let here : label_step isa families l.name e.1 (listed-at out n)
     ≡ Ok (listed-at (out ++ bare l ∷ []) (n + size_of l)) =
     if-no (bytes_eq l.name (codes "datasets")) (Ok (listed-at out n)) (holds
-    (nat_lt (length out) 256) (at_label l.name) fault.TooManyLabels >>
-    (label_of isa families l.name e.1 >>= (λ x. with_label l.name x (listed-at out n)))) p.own_name
+    (nat_lt (length out) 256) (at_label l.name) fault.TooManyLabels
+    >> (label_of isa families l.name e.1
+    >>= (λ x. with_label l.name x (listed-at out n)))) p.own_name
     ∙ holds-yes (nat_lt (length out) 256) (at_label l.name) fault.TooManyLabels
     (label_of isa families l.name e.1 >>= (λ x. with_label l.name x (listed-at out n)))
     (below (length out) (length ls) 256 few)
