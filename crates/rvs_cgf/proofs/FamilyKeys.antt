@@ -258,8 +258,8 @@ second-sized : (families : Families) (f : Family) (a : List ℕ) (c : Cut)
 second-sized families f a (b, None) = two-sized families f a b (Some true)
 second-sized families f a (b, Some rest) = third-sized families f a b (first rest)
 
-first-sized : (families : Families) (f : Family) (c : Cut) → sized (calls.with_first families f c)
-    ≡ true
+first-sized : (families : Families) (f : Family) (c : Cut)
+    → sized (calls.with_first families f c) ≡ true
 first-sized families f (a, None) = refl
 first-sized families f (a, Some rest) = second-sized families f a (first rest)
 

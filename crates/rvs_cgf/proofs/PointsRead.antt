@@ -86,8 +86,8 @@ add-yes place p t h c =
 
 -- reading the point's key under a kind adds the point
 abbrev pub Reads : Isa → Kind → Point → Type 0
-Reads isa k p = (families : Families) (place : EntryNames) (d : Data) (t : Taken) → is_scalar d
-    ≡ true
+Reads isa k p = (families : Families) (place : EntryNames) (d : Data) (t : Taken)
+    → is_scalar d ≡ true
     → has p.kind p.key t.points ≡ false → nat_le 2048 t.count ≡ false
     → entry_of isa families k (at_key place p.key) d t ≡ Ok (with_point p t)
 

@@ -227,8 +227,8 @@ some-main (p ∷ ps) h = omega arith
 abbrev ok-label : Label → Found Label
 ok-label l = Ok l
 
-label-read : (isa : Isa) (families : Families) (l : Label) (d : Data) → IsPlain isa l → is_map d
-    ≡ true
+label-read : (isa : Isa) (families : Families) (l : Label) (d : Data) → IsPlain isa l
+    → is_map d ≡ true
     → SpellsNodes (blocks l.points) (own_pairs d) → label_of isa families l.name d ≡ Ok (bare l)
 label-read isa families l d p m sp =
     let bs = blocks l.points in

@@ -186,8 +186,8 @@ role-goes : (isa : Isa) (families : Families) (label main : List ℕ) (ops : Lis
     (e : List ℕ × Data)
     (es : Pairs) → role_of main ≡ role.Main → not (named_among e.0 es) ≡ true → Goes main ops n
     (e ∷ es)
-    → (r : Role) → Suits e.0 r → role_of e.0 ≡ r → by_role isa families (at_node label e.0) e.1 r n
-    ≡ Ok m
+    → (r : Role) → Suits e.0 r → role_of e.0 ≡ r
+    → by_role isa families (at_node label e.0) e.1 r n ≡ Ok m
     → Goes main ops m es
 role-goes isa families label main ops n m e es is own h role.Main good here done = subst
     (λ (x : Nodes). Goes main ops x es) (ok-is (with_first n) m done) (main-goes main ops n e es h)
@@ -214,8 +214,8 @@ role-goes isa families label main ops n m e es is own h role.PassedOver good her
 role-goes isa families label main ops n m e es is own h role.Unknown good here done =
     err-not _ m done
 
-nodes-go : (isa : Isa) (families : Families) (label main : List ℕ) (ops : List Op) → role_of main
-    ≡ role.Main
+nodes-go : (isa : Isa) (families : Families) (label main : List ℕ) (ops : List Op)
+    → role_of main ≡ role.Main
     → (es : Pairs) (n m : Nodes) → keys_are_own es ≡ true → Goes main ops n es
     → for_each (node_step isa families label) es n ≡ Ok m → Goes main ops m []
 nodes-go isa families label main ops is [] n m own h e =

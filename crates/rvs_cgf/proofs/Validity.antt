@@ -283,8 +283,8 @@ main-point isa key m p is a = by-op (op_of_name key) m is (λ op f s. record {
   admitted_op = ap (admits isa) (sym s) ∙ a;
 })
 
-pub mnemonic-kept : (isa : Isa) (families : Families) (place : EntryNames) → is_printable place.node
-    ≡ true
+pub mnemonic-kept : (isa : Isa) (families : Families) (place : EntryNames)
+    → is_printable place.node ≡ true
     → (d : Data) (t u : Taken) → Mains isa t → entry_of isa families kind.Mnemonic place d t ≡ Ok u
     → Mains isa u
 mnemonic-kept isa families place n = point-kept (Mains isa) (IsMain isa) isa place kind.Mnemonic

@@ -111,8 +111,8 @@ IsNamed name l = (l.name ≡ name) × (notes_are_printable l ≡ true)
 name-printable : (name : List ℕ) → is_label_name name ≡ true → is_printable name ≡ true
 name-printable name h = plain-inked name (name-plain name h)
 
-label-named : (isa : Isa) (families : Families) (name : List ℕ) (d : Data) → is_label_name name
-    ≡ true
+label-named : (isa : Isa) (families : Families) (name : List ℕ) (d : Data)
+    → is_label_name name ≡ true
     → Has (IsNamed name) (selected_label isa families name d)
 label-named isa families name d h =
     has-next (IsNamed name) (main_of name d) _ (λ m.
