@@ -4,26 +4,27 @@ use Rattle.std.proofs.Common.{[], ◌∷◌, Ok, Err, refl, subst, arith, bytes_
 use Rattle.std.specs.Prelude.{nat_le, if◌then◌else◌}
 use Rattle.rvs_insn.specs.Isa.{Isa}
 use Rattle.rvs_tree.specs.Data.{Data, Pairs, own_pairs, is_map}
-use Rattle.rvs_expr_text.specs.declared.lexeme.NumName.{NumName}
+use Rattle.rvs_abstract.specs.declared.families.Families.{Families}
 use Rattle.rvs_abstract.specs.Calls as calls
-use Rattle.rvs_abstract.specs.Sizes.{is_size}
-use Rattle.rvs_abstract.specs.declared.family.Family.{Family}
 use Rattle.rvs_cgf.specs.Keys.{is_printable}
 use Rattle.rvs_cgf.specs.Groups.{Meaning, Point, Skipped, Said, means, nothing, wrong, says, admits}
 use Rattle.rvs_cgf.specs.Groups.{EntryNames, at_node, at_key, Refusal, Found, refused, ◌>>=◌, ◌>>◌}
 use Rattle.rvs_cgf.specs.Groups.{holds, Taken, same_kind, point, has, with_point, add, with_skipped}
 use Rattle.rvs_cgf.specs.Groups.{skip, is_empty_scalar, entries, for_each, abstract_key, is_shaped}
-use Rattle.rvs_cgf.specs.Groups.{add_said, add_entry, value_point, values, called, abstract_entry}
+use Rattle.rvs_cgf.specs.Groups.{add_said, add_entry, Ranged, value_point, pair_point, each_step}
+use Rattle.rvs_cgf.specs.Groups.{kth, count_of, add_kth, values, add_pair, with_jth, pairs, called}
+use Rattle.rvs_cgf.specs.Groups.{abstract_entry}
 use Rattle.rvs_cgf.specs.Groups.{under, abstract_node, holds_families, entry_of, all_entries}
-use Rattle.rvs_cgf.specs.Groups.{skipped_entry, each_skipped, passed_over, length_of, value_of}
+use Rattle.rvs_cgf.specs.Groups.{skipped_entry, each_skipped, passed_over}
 use Rattle.rvs_cgf.specs.Valid.{IsMeant}
 use Rattle.rvs_cgf.specs.declared.group.Kind.{Kind}
 use Rattle.rvs_cgf.specs.declared.group.Kind.TheVariants as kind
 use Rattle.rvs_cgf.specs.declared.refusal.CgfKind.{CgfKind}
 use Rattle.rvs_cgf.specs.declared.refusal.CgfKind.TheVariants as fault
 use Rattle.rvs_cgf.proofs.SameKinds.{kind-is}
-use Rattle.rvs_cgf.proofs.Distinct.{and-left, and-is}
-use Rattle.rvs_cgf.proofs.FamilyKeys.{call-size, value-small, value_meant}
+use Rattle.rvs_cgf.proofs.Distinct.{and-left, and-right, and-is}
+use Rattle.rvs_cgf.proofs.FamilyKeys.{Small, is_sized, call-size, pairs-size, value-small}
+use Rattle.rvs_cgf.proofs.FamilyKeys.{value_meant, pair_meant}
 
 -- ---- answers
 abbrev pub ok : {A : Type 0} → A → Found A
@@ -131,69 +132,117 @@ pub record IsOf (k : Kind) (p : Point) : Type 0 where
   pub other : same_kind p.kind kind.Mnemonic ≡ false
   pub kind_is : p.kind ≡ k
 
-values-kept : (P : Taken → Type 0) → Kept P (IsOf kind.ValComb)
-    → (place : EntryNames) (f : Family) (v : NumName) (s : ℕ) (signed : Bool) → is_size f s ≡ true
-    → (n k : ℕ) → k + n ≤ length_of f s signed → (t u : Taken) → P t
-    → values place f v s signed k n t ≡ Ok u → P u
-values-kept P kept place f v s signed size zero k within t u h e = subst P (ok-is t u e) h
-values-kept P kept place f v s signed size (suc n) k within t u h e =
-    let z = value_of f s signed k in
-    let below : k < length_of f s signed = omega arith in
-    bind-ok (add place (value_point v z) t) (λ w. values place f v s signed (suc k) n w) u e
-    (λ w g r. values-kept P kept place f v s signed size n (suc k) (omega arith) w u
-    (add-kept P (IsOf kind.ValComb) kept place (value_point v z) t w h (record {
-      meant = value_meant v z (value-small f s signed k size below);
+-- ---- families
+steps-kept : (P : Taken → Type 0) (f : ℕ → Taken → Found Taken) (m : ℕ)
+    → ((k : ℕ) (t u : Taken) → k < m → P t → f k t ≡ Ok u → P u)
+    → (n k : ℕ) → k + n ≤ m → (t u : Taken) → P t → each_step f k n t ≡ Ok u → P u
+steps-kept P f m step zero k within t u h e = subst P (ok-is t u e) h
+steps-kept P f m step (suc n) k within t u h e =
+    bind-ok (f k t) (λ w. each_step f (suc k) n w) u e
+    (λ w g r. steps-kept P f m step n (suc k) (omega arith) w u
+    (step k t w (omega arith) h g) r)
+
+small-kth : (r : Ranged) (k : ℕ) → is_sized r ≡ true → k < count_of r → Small (kth r k)
+small-kth r k size below = value-small r.family r.size r.signed k size below
+
+kth-kept : (P : Taken → Type 0) → Kept P (IsOf kind.ValComb) → (place : EntryNames) (r : Ranged)
+    → is_sized r ≡ true → (k : ℕ) (t u : Taken) → k < count_of r → P t
+    → add_kth place r k t ≡ Ok u → P u
+kth-kept P kept place r size k t u below h e =
+    add-kept P (IsOf kind.ValComb) kept place (value_point r.var (kth r k)) t u h (record {
+      meant = value_meant r.var (kth r k) (small-kth r k size below);
       other = refl;
       kind_is = refl;
-    }) g) r)
+    }) e
 
-called-kept : (P : Taken → Type 0) → Kept P (IsOf kind.ValComb) → (place : EntryNames)
-    → is_printable place.node ≡ true → is_printable place.key ≡ true → (a : calls.CallReading)
-    → calls.call_of place.key ≡ a → (t u : Taken) → P t → called place a t ≡ Ok u → P u
-called-kept P kept place n p (Ok (calls.points f v s signed)) is t u h e = values-kept P kept place
-    f v s signed (call-size place.key f v s signed is) (length_of f s signed) zero (omega arith)
-    t u h e
-called-kept P kept place n p (Ok calls.skipped) is t u h e =
+values-kept : (P : Taken → Type 0) → Kept P (IsOf kind.ValComb) → (place : EntryNames) (r : Ranged)
+    → is_sized r ≡ true → (t u : Taken) → P t → values place r t ≡ Ok u → P u
+values-kept P kept place r size t u h e =
+    steps-kept P (add_kth place r) (count_of r) (kth-kept P kept place r size) (count_of r) zero
+    (omega arith) t u h e
+
+pair-kept : (P : Taken → Type 0) → Kept P (IsOf kind.ValComb) → (place : EntryNames)
+    (a b : Ranged) → is_sized a ≡ true → is_sized b ≡ true → (j : ℕ) → j < count_of a
+    → (k : ℕ) (t u : Taken) → k < count_of b → P t → add_pair place a b j k t ≡ Ok u → P u
+pair-kept P kept place a b size other j low k t u below h e =
+    add-kept P (IsOf kind.ValComb) kept place (pair_point a.var (kth a j) b.var (kth b k)) t u h
+    (record {
+      meant = pair_meant a.var (kth a j) b.var (kth b k) (small-kth a j size low)
+          (small-kth b k other below);
+      other = refl;
+      kind_is = refl;
+    }) e
+
+jth-kept : (P : Taken → Type 0) → Kept P (IsOf kind.ValComb) → (place : EntryNames)
+    (a b : Ranged) → is_sized a ≡ true → is_sized b ≡ true → (j : ℕ) (t u : Taken)
+    → j < count_of a → P t → with_jth place a b j t ≡ Ok u → P u
+jth-kept P kept place a b size other j t u low h e =
+    steps-kept P (add_pair place a b j) (count_of b) (pair-kept P kept place a b size other j low)
+    (count_of b) zero (omega arith) t u h e
+
+pairs-kept : (P : Taken → Type 0) → Kept P (IsOf kind.ValComb) → (place : EntryNames)
+    (a b : Ranged) → is_sized a ≡ true → is_sized b ≡ true → (t u : Taken) → P t
+    → pairs place a b t ≡ Ok u → P u
+pairs-kept P kept place a b size other t u h e =
+    steps-kept P (with_jth place a b) (count_of a) (jth-kept P kept place a b size other)
+    (count_of a) zero (omega arith) t u h e
+
+called-kept : (P : Taken → Type 0) → Kept P (IsOf kind.ValComb) → (families : Families)
+    (place : EntryNames) → is_printable place.node ≡ true → is_printable place.key ≡ true
+    → (a : calls.CallReading) → calls.call_of families place.key ≡ a → (t u : Taken) → P t
+    → called place a t ≡ Ok u → P u
+called-kept P kept families place n p (Ok (calls.points r)) is t u h e =
+    values-kept P kept place r (call-size families place.key r is) t u h e
+called-kept P kept families place n p (Ok (calls.pairs a b)) is t u h e =
+    let sizes = pairs-size families place.key a b is in
+    pairs-kept P kept place a b (and-left (is_sized a) (is_sized b) sizes)
+    (and-right (is_sized a) (is_sized b) sizes) t u h e
+called-kept P kept families place n p (Ok calls.skipped) is t u h e =
     skip-kept P (IsOf kind.ValComb) kept place n p t u h e
-called-kept P kept place n p (Err r) is t u h e = err-not _ u e
+called-kept P kept families place n p (Err r) is t u h e = err-not _ u e
 
-abstract-kept : (P : Taken → Type 0) → Kept P (IsOf kind.ValComb) → (place : EntryNames)
-    → is_printable place.node ≡ true → (d : Data) (t u : Taken) → P t
-    → abstract_entry place d t ≡ Ok u → P u
-abstract-kept P kept place n d t u h e =
+abstract-kept : (P : Taken → Type 0) → Kept P (IsOf kind.ValComb) → (families : Families)
+    (place : EntryNames) → is_printable place.node ≡ true → (d : Data) (t u : Taken) → P t
+    → abstract_entry families place d t ≡ Ok u → P u
+abstract-kept P kept families place n d t u h e =
     holds-then (is_shaped place.key d) place fault.BadShape
-    (called place (calls.call_of place.key) t) u e
-    (λ s g. called-kept P kept place n (printable-is place.key d s) (calls.call_of place.key) refl
-    t u h g)
+    (called place (calls.call_of families place.key) t) u e
+    (λ s g. called-kept P kept families place n (printable-is place.key d s)
+    (calls.call_of families place.key) refl t u h g)
 
-families-kept : (P : Taken → Type 0) → Kept P (IsOf kind.ValComb) → (place : EntryNames) (d : Data)
-    (t u : Taken) → P t → abstract_node place d t ≡ Ok u → P u
-families-kept P kept place d t u h e =
+families-kept : (P : Taken → Type 0) → Kept P (IsOf kind.ValComb) → (families : Families)
+    (place : EntryNames) (d : Data) (t u : Taken) → P t → abstract_node families place d t ≡ Ok u
+    → P u
+families-kept P kept families place d t u h e =
     let node = at_node place.label abstract_key in
-    bind-ok (entries place d) (λ es. for_each (under node abstract_entry) es t) u e
-    (λ es _ g. each-kept P (under node abstract_entry)
-    (λ key. abstract-kept P kept (at_key node key) refl) es t u h g)
+    bind-ok (entries place d) (λ es. for_each (under node (abstract_entry families)) es t) u e
+    (λ es _ g. each-kept P (under node (abstract_entry families))
+    (λ key. abstract-kept P kept families (at_key node key) refl) es t u h g)
 
-pub entry-kept : (P : Taken → Type 0) (isa : Isa) (k : Kind) → Kept P (IsOf k)
-    → same_kind k kind.Mnemonic ≡ false → (place : EntryNames) → is_printable place.node ≡ true
-    → (d : Data) (t u : Taken) → P t → entry_of isa k place d t ≡ Ok u → P u
-entry-kept P isa k kept other place n d t u h e =
-    if-ok (holds_families k place.key) (abstract_node place d t) (add_entry isa k place d t) u e
+pub entry-kept : (P : Taken → Type 0) (isa : Isa) (families : Families) (k : Kind)
+    → Kept P (IsOf k) → same_kind k kind.Mnemonic ≡ false → (place : EntryNames)
+    → is_printable place.node ≡ true
+    → (d : Data) (t u : Taken) → P t → entry_of isa families k place d t ≡ Ok u → P u
+entry-kept P isa families k kept other place n d t u h e =
+    if-ok (holds_families k place.key) (abstract_node families place d t)
+    (add_entry isa k place d t) u e
     (λ b g. families-kept P (subst (λ (j : Kind). Kept P (IsOf j))
-    (kind-is k kind.ValComb (and-left (same_kind k kind.ValComb) _ b)) kept) place d t u h g)
+    (kind-is k kind.ValComb (and-left (same_kind k kind.ValComb) _ b)) kept) families place d t u
+    h g)
     (λ b g. point-kept P (IsOf k) isa place k kept (λ m p is a. record {
       meant = record { printable = p; said = is };
       other = other;
       kind_is = refl;
     }) n d t u h g)
 
-pub entries-kept : (P : Taken → Type 0) (isa : Isa) (k : Kind) (place : EntryNames)
-    → ((key : List ℕ) (d : Data) (t u : Taken) → P t → entry_of isa k (at_key place key) d t ≡ Ok u
-    → P u)
-    → (d : Data) (t u : Taken) → P t → all_entries isa k place d t ≡ Ok u → P u
-entries-kept P isa k place step d t u h e =
-    bind-ok (entries place d) (λ es. for_each (under place (entry_of isa k)) es t) u e
-    (λ es _ g. each-kept P (under place (entry_of isa k)) step es t u h g)
+pub entries-kept : (P : Taken → Type 0) (isa : Isa) (families : Families) (k : Kind)
+    (place : EntryNames)
+    → ((key : List ℕ) (d : Data) (t u : Taken) → P t
+    → entry_of isa families k (at_key place key) d t ≡ Ok u → P u)
+    → (d : Data) (t u : Taken) → P t → all_entries isa families k place d t ≡ Ok u → P u
+entries-kept P isa families k place step d t u h e =
+    bind-ok (entries place d) (λ es. for_each (under place (entry_of isa families k)) es t) u e
+    (λ es _ g. each-kept P (under place (entry_of isa families k)) step es t u h g)
 
 skipped-kept : (P : Taken → Type 0) (Q : Point → Type 0) → Kept P Q
     → (place : EntryNames) → is_printable place.node ≡ true → (d : Data) (t u : Taken) → P t

@@ -1,42 +1,37 @@
--- The values of families are small, so that the key of each is read as its value; and keys are
--- printable.
-use Rattle.std.proofs.Common.{◌≡◌, ℕ, zero, suc, ◌+◌, ◌-◌, ◌*◌, ◌%◌, ◌^◌, ◌<◌, ◌≤◌, Bool, true}
-use Rattle.std.proofs.Common.{false, ◌&&◌, List, [], ◌∷◌, ◌++◌, Option, Some, None, Ok, Err}
+-- The values of families are small, so that the key of each is read as its value.
+use Rattle.std.proofs.Common.{◌≡◌, ℕ, zero, suc, ◌+◌, ◌-◌, ◌*◌, ◌/◌, ◌%◌, ◌^◌, ◌<◌, ◌≤◌, Bool, true}
+use Rattle.std.proofs.Common.{false, ◌&&◌, List, take, Option, Some, None, Ok, Err}
 use Rattle.std.proofs.Common.{refl, sym, ap, ◌∙◌, arith}
-use Rattle.std.specs.Prelude.{ℤ, pos, negsuc, ◌-ℤ◌, neg_ℤ, unsigned_abs, nat_le, nat_lt, ◌==◌}
-use Rattle.std.specs.Prelude.{if◌then◌else◌, codes}
-use Rattle.std.specs.Fmt.{decimal, signed_decimal}
+use Rattle.std.specs.Prelude.{ℤ, pos, negsuc, ◌+ℤ◌, ◌-ℤ◌, neg_ℤ, unsigned_abs, nat_le, nat_lt, ◌==◌}
+use Rattle.std.specs.Prelude.{int_lt, if◌then◌else◌}
 use Rattle.std.proofs.lemmas.Bool.Decides.{nat_tests}
 use Rattle.std.proofs.lemmas.Int.{ints}
-use Rattle.std.proofs.lemmas.List.Folds.{list_all-append}
-use Rattle.rvs_expr_text.specs.Words as words
 use Rattle.rvs_expr_text.specs.declared.lexeme.NumName.{NumName}
-use Rattle.rvs_expr_text.specs.declared.lexeme.NumName.TheVariants.{Rs1Val, Rs2Val, ImmVal, EaAlign}
-use Rattle.rvs_expr.specs.Equation.{name_of, key_of}
-use Rattle.rvs_expr.proofs.Decimals.{AllDigit, decimal-is, key-read}
+use Rattle.rvs_expr_text.specs.declared.lexeme.NumName.TheVariants.{Rs1Val, Rs2Val}
+use Rattle.rvs_expr.specs.Equation.{key_of}
+use Rattle.rvs_expr.proofs.Decimals.{key-read}
 use Rattle.rvs_abstract.specs.Sizes.{is_size, least_size}
 use Rattle.rvs_abstract.specs.Values.{length_of, value_of, as_read, alternate, signed_edge}
-use Rattle.rvs_abstract.specs.Values.{unsigned_edge, edge}
-use Rattle.rvs_abstract.specs.Calls.{points, skipped, CallReading, in_size, shaped, with_two}
-use Rattle.rvs_abstract.specs.Calls.{with_third}
-use Rattle.rvs_abstract.specs.Calls.{with_second, with_first, named, called, call_of, Cut, first}
-use Rattle.rvs_abstract.specs.Calls.{is_filter, trimmed, signed_of, var_of, size_of, inside_of}
-use Rattle.rvs_abstract.specs.Calls.{name_length, family_of, is_skipped as passes_over, is_letter}
-use Rattle.rvs_abstract.specs.Calls.{without_spaces}
+use Rattle.rvs_abstract.specs.Values.{unsigned_edge, edge, whole_digits, root, negated, middle_root}
+use Rattle.rvs_abstract.specs.Values.{lowest_root, highest_root, special, one_below, special_value}
+use Rattle.rvs_abstract.specs.Calls as calls
+use Rattle.rvs_abstract.specs.Calls.{Ranged, CallReading, Cut, first, first_item, trimmed, call_of}
+use Rattle.rvs_abstract.specs.declared.families.Families.{Families}
+use Rattle.rvs_abstract.specs.declared.families.Families.TheVariants.{All}
+use Rattle.rvs_abstract.specs.declared.factor.Factor.{Factor}
 use Rattle.rvs_abstract.specs.declared.family.Family.{Family}
 use Rattle.rvs_abstract.specs.declared.family.Family.TheVariants.{WalkingOnes, WalkingZeros}
-use Rattle.rvs_abstract.specs.declared.family.Family.TheVariants.{Alternate, EdgeDataset}
-use Rattle.rvs_abstract.specs.declared.call.AbstractRefusal.TheVariants.{BadSize}
+use Rattle.rvs_abstract.specs.declared.family.Family.TheVariants.{Alternate, EdgeDataset, SpDataset}
+use Rattle.rvs_abstract.specs.declared.call.AbstractRefusal.TheVariants.{UnknownFunction}
 use Rattle.rvs_abstract.proofs.Powers.{within_32, within_31, below_32, some_power}
-use Rattle.rvs_cgf.specs.Keys.{is_printable, is_skipped, is_left_out, begins, has_double, calls}
-use Rattle.rvs_cgf.specs.Keys.{has_call, is_operator_word}
+use Rattle.rvs_abstract.proofs.Roots.{root-small}
+use Rattle.rvs_cgf.specs.Keys.{is_skipped}
 use Rattle.rvs_cgf.specs.Says.{of_formula}
-use Rattle.rvs_cgf.specs.Groups.{nums, nothing, value_point}
+use Rattle.rvs_cgf.specs.Groups.{nums, nothing, value_point, pair_point, pair_key}
 use Rattle.rvs_cgf.specs.Valid.{IsMeant}
-use Rattle.rvs_cgf.proofs.Distinct.{and-right, and-is, or-fails, if-no}
-use Rattle.std.specs.List.{list_any}
-use Rattle.std.specs.Prelude.{not}
-use Rattle.std.specs.Prelude.{take, drop}
+use Rattle.rvs_cgf.proofs.Distinct.{and-right, and-is, if-no}
+use Rattle.rvs_cgf.proofs.PlainKeys.{plain-shows, plain-read, key-plain, pair-plain}
+use Rattle.rvs_cgf.proofs.PairKeys.{pair-read}
 
 -- ---- values
 abbrev pub Small : ℤ → Type 0
@@ -96,6 +91,86 @@ edge-small : (signed : Bool) (h k : ℕ) → h ≤ 2 ^ 31 → Small (edge signed
 edge-small true h k e = signed-small h k e
 edge-small false h k e = unsigned-small h k e
 
+-- ---- special values: a number below 2 ^ 32 either way, or a neighbour of it
+abbrev Strict : ℤ → Type 0
+Strict z = unsigned_abs z < 2 ^ 32
+
+if-strict : (b : Bool) (x y : ℤ) → Strict x → (b ≡ false → Strict y)
+    → Strict (if b then x else y)
+if-strict true x y h k = h
+if-strict false x y h k = k refl
+
+some : (w p : ℕ) → nat_lt w p ≡ false → 1 ≤ p → 1 ≤ w
+some w p e h = grind (arith, nat_tests)
+
+less-strict : (w p : ℕ) → 1 ≤ w → w < 2 ^ 32 → p ≤ 2 ^ 32 → Strict (pos w -ℤ pos p)
+less-strict w p h k e = omega (arith, ints)
+
+read-strict : (s w : ℕ) (signed : Bool) → s ≤ 32 → w < 2 ^ 32 → Strict (as_read s signed w)
+read-strict s w true h k =
+    if-strict (nat_lt w (2 ^ (s - 1))) (pos w) (pos w -ℤ pos (2 ^ s)) k
+    (λ e. less-strict w (2 ^ s) (some w (2 ^ (s - 1)) e (some_power (s - 1))) k (within_32 s h))
+read-strict s w false h k = k
+
+digits-strict : (s w : ℕ) (signed : Bool) → s ≤ 32 → Strict (as_read s signed (whole_digits s w))
+digits-strict s w signed h = read-strict s (whole_digits s w) signed h (mod-small w
+    (2 ^ (4 * (s / 4))) (some_power (4 * (s / 4))) (within_32 (4 * (s / 4)) (omega arith)))
+
+root-strict : (n : ℕ) → n < 2 ^ 32 → root n < 2 ^ 32
+root-strict n h = omega (arith, root-small n)
+
+negated-strict : (signed : Bool) (n : ℕ) → n < 2 ^ 32 → Strict (negated signed n)
+negated-strict true n h = omega (arith, ints)
+negated-strict false n h = h
+
+middle-strict : (s : ℕ) (signed : Bool) → s ≤ 32 → Strict (middle_root s signed)
+middle-strict s signed h =
+    negated-strict signed (root (2 ^ (4 * (s / 4) - 1)))
+    (root-strict (2 ^ (4 * (s / 4) - 1)) (below_32 (4 * (s / 4) - 1) (omega arith)))
+
+lowest-strict : (s : ℕ) (signed : Bool) → s ≤ 32 → Strict (lowest_root s signed)
+lowest-strict s true h = negated-strict true (root (2 ^ (s - 1)))
+    (root-strict (2 ^ (s - 1)) (below_32 (s - 1) (omega arith)))
+lowest-strict s false h = omega arith
+
+highest-strict : (s : ℕ) (signed : Bool) → s ≤ 32 → Strict (highest_root s signed)
+highest-strict s true h =
+    root-strict (2 ^ (s - 1) - 1) (omega (arith, below_32 (s - 1) (omega arith)))
+highest-strict s false h = root-strict (2 ^ s - 1) (omega (arith, within_32 s h, some_power s))
+
+special-strict : (s : ℕ) (signed : Bool) (k : ℕ) → s ≤ 32 → Strict (special s signed k)
+special-strict s signed k h =
+    if-strict (k == 0) (pos 3) _ (omega arith)
+    (λ a. if-strict (k == 1) _ _ (digits-strict s 0x5555_5555 signed h)
+    (λ b. if-strict (k == 2) _ _ (digits-strict s 0xaaaa_aaaa signed h)
+    (λ c. if-strict (k == 3) (pos 5) _ (omega arith)
+    (λ d. if-strict (k == 4) _ _ (digits-strict s 0x3333_3333 signed h)
+    (λ e. if-strict (k == 5) _ _ (digits-strict s 0x6666_6666 signed h)
+    (λ f. if-strict (k == 6) (middle_root s signed) _ (middle-strict s signed h)
+    (λ g. if-strict (k == 7) (lowest_root s signed) (highest_root s signed)
+    (lowest-strict s signed h) (λ i. highest-strict s signed h))))))))
+
+strict-small : (z : ℤ) → Strict z → Small z
+strict-small z h = omega (arith, h)
+
+less_one-small : (z : ℤ) → Strict z → Small (z -ℤ pos 1)
+less_one-small (pos n) h = omega (arith, ints)
+less_one-small (negsuc n) h = omega (arith, ints)
+
+more_one-small : (z : ℤ) → Strict z → Small (z +ℤ pos 1)
+more_one-small (pos n) h = omega (arith, ints)
+more_one-small (negsuc n) h = omega (arith, ints)
+
+special-small : (s : ℕ) (signed : Bool) (k : ℕ) → s ≤ 32 → Small (special_value s signed k)
+special-small s signed k h =
+    let near : (i : ℕ) → Strict (special s signed i) = λ i. special-strict s signed i h in
+    if-small (nat_lt k 9) (special s signed k) _ (strict-small (special s signed k) (near k))
+    (if-small (nat_lt k 18) (one_below (special s signed (k - 9)))
+    (special s signed (k - 18) +ℤ pos 1)
+    (if-small (int_lt (pos 0) (special s signed (k - 9))) _ (pos 0)
+    (less_one-small (special s signed (k - 9)) (near (k - 9))) (omega arith))
+    (more_one-small (special s signed (k - 18)) (near (k - 18))))
+
 size-small : (f : Family) (s : ℕ) → is_size f s ≡ true → s ≤ 32
 size-small f s e = below s (and-right (nat_le (least_size f) s) (nat_le s 32) e)
   where
@@ -112,148 +187,171 @@ value-small Alternate s signed k e h = let small : s ≤ 32 = size-small Alterna
     read-small s (alternate s k) signed small (alternate-small s k small)
 value-small EdgeDataset s signed k e h = let small : s ≤ 32 = size-small EdgeDataset s e in
     edge-small signed (2 ^ (s - 1)) k (within_31 (s - 1) (omega arith))
+value-small SpDataset s signed k e h = special-small s signed k (size-small SpDataset s e)
 
--- ---- a call's size
+-- ---- a call's sizes
+abbrev pub is_sized : Ranged → Bool
+is_sized r = is_size r.family r.size
+
 abbrev sized : CallReading → Bool
-sized (Ok (points f v s signed)) = is_size f s
-sized (Ok skipped) = true
+sized (Ok (calls.points r)) = is_sized r
+sized (Ok (calls.pairs a b)) = is_sized a && is_sized b
+sized (Ok calls.skipped) = true
 sized (Err e) = true
 
-if-sized : (b : Bool) (x y : CallReading) → (b ≡ true → sized x ≡ true) → sized y ≡ true
+abbrev sized_if : Option Ranged → Bool
+sized_if (Some r) = is_sized r
+sized_if None = true
+
+if-sized : (b : Bool) (x y : CallReading) → sized x ≡ true → sized y ≡ true
     → sized (if b then x else y) ≡ true
-if-sized true x y h k = h refl
+if-sized true x y h k = h
 if-sized false x y h k = k
 
+if-sized_if : (b : Bool) (r : Ranged) → (b ≡ true → is_sized r ≡ true)
+    → sized_if (if b then Some r else None) ≡ true
+if-sized_if true r h = h refl
+if-sized_if false r h = refl
+
+of_size-sized : (f : Family) (v : NumName) (signed : Bool) (o : Option ℕ)
+    → sized_if (calls.of_size f v signed o) ≡ true
+of_size-sized f v signed (Some s) = if-sized_if (is_size f s)
+    (record { family = f; var = v; size = s; signed = signed }) (λ e. e)
+of_size-sized f v signed None = refl
+
+one-sized : (o : Option Ranged) → sized_if o ≡ true → sized (calls.sized o) ≡ true
+one-sized (Some r) e = e
+one-sized None e = refl
+
+both-sized : (o p : Option Ranged) → sized_if o ≡ true → sized_if p ≡ true
+    → sized (calls.both_sized o p) ≡ true
+both-sized (Some a) (Some b) e h = and-is (is_sized a) (is_sized b) e h
+both-sized (Some a) None e h = refl
+both-sized None p e h = refl
+
 in_size-sized : (f : Family) (v : NumName) (signed : Bool) (o : Option ℕ)
-    → sized (in_size f v signed o) ≡ true
-in_size-sized f v signed (Some s) =
-    if-sized (is_size f s) (Ok (points f v s signed)) (Err BadSize) (λ e. e) refl
-in_size-sized f v signed None = refl
+    → sized (calls.in_size f v signed o) ≡ true
+in_size-sized f v signed o =
+    one-sized (calls.of_size f v signed o) (of_size-sized f v signed o)
 
 shaped-sized : (f : Family) (v : Option NumName) (s : Option (Option ℕ)) (signed : Option Bool)
-    → sized (shaped f v s signed) ≡ true
+    → sized (calls.shaped f v s signed) ≡ true
 shaped-sized f (Some v) (Some s) (Some signed) = in_size-sized f v signed s
 shaped-sized f (Some v) (Some s) None = refl
 shaped-sized f (Some v) None signed = refl
 shaped-sized f None s signed = refl
 
-two-sized : (f : Family) (a b : List ℕ) (signed : Option Bool)
-    → sized (with_two f a b signed) ≡ true
-two-sized f a b signed = shaped-sized f (var_of (trimmed a)) (size_of (trimmed b)) signed
+two-sized : (families : Families) (f : Family) (a b : List ℕ) (signed : Option Bool)
+    → sized (calls.with_two families f a b signed) ≡ true
+two-sized families f a b signed =
+    shaped-sized f (calls.var_of (trimmed a)) (calls.size_of families (trimmed b)) signed
 
-third-sized : (f : Family) (a b : List ℕ) (c : Cut) → sized (with_third f a b c) ≡ true
-third-sized f a b (c, Some rest) = refl
-third-sized f a b (c, None) = if-sized (is_filter (trimmed c)) (Ok skipped)
-    (with_two f a b (signed_of (trimmed c))) (λ e. refl) (two-sized f a b (signed_of (trimmed c)))
+third-sized : (families : Families) (f : Family) (a b : List ℕ) (c : Cut)
+    → sized (calls.with_third families f a b c) ≡ true
+third-sized families f a b (c, Some rest) = refl
+third-sized families f a b (c, None) = if-sized (calls.is_filter (trimmed c)) (Ok calls.skipped)
+    (calls.with_two families f a b (calls.signed_of (trimmed c))) refl
+    (two-sized families f a b (calls.signed_of (trimmed c)))
 
-second-sized : (f : Family) (a : List ℕ) (c : Cut) → sized (with_second f a c) ≡ true
-second-sized f a (b, None) = two-sized f a b (Some true)
-second-sized f a (b, Some rest) = third-sized f a b (first rest)
+second-sized : (families : Families) (f : Family) (a : List ℕ) (c : Cut)
+    → sized (calls.with_second families f a c) ≡ true
+second-sized families f a (b, None) = two-sized families f a b (Some true)
+second-sized families f a (b, Some rest) = third-sized families f a b (first rest)
 
-first-sized : (f : Family) (c : Cut) → sized (with_first f c) ≡ true
-first-sized f (a, None) = refl
-first-sized f (a, Some rest) = second-sized f a (first rest)
+first-sized : (families : Families) (f : Family) (c : Cut)
+    → sized (calls.with_first families f c) ≡ true
+first-sized families f (a, None) = refl
+first-sized families f (a, Some rest) = second-sized families f a (first rest)
 
-named-sized : (name inside : List ℕ) (o : Option Family) → sized (named name inside o) ≡ true
-named-sized name inside (Some f) = first-sized f (first inside)
-named-sized name inside None = if-sized (passes_over name) (Ok skipped) _ (λ e. refl) refl
+factor-sized : (f : Factor) → sized_if (calls.of_factor f) ≡ true
+factor-sized f = of_size-sized SpDataset f.var f.signed f.size
 
-called-sized : (name : List ℕ) (o : Option (List ℕ)) → sized (called name o) ≡ true
-called-sized name None = refl
-called-sized name (Some inside) = named-sized name inside (family_of name)
+with_factor-sized : (o : Option Factor) → sized (calls.with_factor o) ≡ true
+with_factor-sized (Some f) = one-sized (calls.of_factor f) (factor-sized f)
+with_factor-sized None = refl
 
-call-sized : (text : List ℕ) → sized (call_of text) ≡ true
+with_factors-sized : (o p : Option Factor) → sized (calls.with_factors o p) ≡ true
+with_factors-sized (Some f) (Some g) =
+    both-sized (calls.of_factor f) (calls.of_factor g) (factor-sized f) (factor-sized g)
+with_factors-sized (Some f) None = refl
+with_factors-sized None p = refl
+
+sources-sized : (s : Option (Option ℕ)) (signed : Option Bool)
+    → sized (calls.sources s signed) ≡ true
+sources-sized s signed = with_factors-sized (calls.factor_of (Some Rs1Val) s signed)
+    (calls.factor_of (Some Rs2Val) s signed)
+
+behind_listed-sized : (s : Option (Option ℕ)) (signed : Option Bool) (a : List ℕ) (c : Cut)
+    → sized (calls.behind_listed s signed a c) ≡ true
+behind_listed-sized s signed a (b, Some rest) = refl
+behind_listed-sized s signed a (b, None) =
+    with_factors-sized (calls.listed s signed a) (calls.listed s signed b)
+
+from_list-sized : (s : Option (Option ℕ)) (signed : Option Bool) (c : Cut)
+    → sized (calls.from_list s signed c) ≡ true
+from_list-sized s signed (a, None) = with_factor-sized (calls.listed s signed a)
+from_list-sized s signed (a, Some rest) = behind_listed-sized s signed a (first_item rest)
+
+in_list-sized : (s : Option (Option ℕ)) (signed : Option Bool) (o : Option (List ℕ))
+    → sized (calls.in_list s signed o) ≡ true
+in_list-sized s signed (Some inside) = from_list-sized s signed (first_item inside)
+in_list-sized s signed None = refl
+
+special_third-sized : (a b : List ℕ) (c : Cut) → sized (calls.special_third a b c) ≡ true
+special_third-sized a b (c, Some rest) = refl
+special_third-sized a b (c, None) = in_list-sized (calls.size_of All (trimmed a))
+    (calls.signed_of (trimmed c)) (calls.bracketed (trimmed b))
+
+special_second-sized : (a : List ℕ) (c : Cut) → sized (calls.special_second a c) ≡ true
+special_second-sized a (b, Some rest) = special_third-sized a b (first_item rest)
+special_second-sized a (b, None) = if-sized (calls.names_sign (trimmed b)) _ _
+    (sources-sized (calls.size_of All (trimmed a)) (calls.signed_of (trimmed b)))
+    (in_list-sized (calls.size_of All (trimmed a)) (Some true) (calls.bracketed (trimmed b)))
+
+special-sized : (c : Cut) → sized (calls.special_call c) ≡ true
+special-sized (a, None) = sources-sized (calls.size_of All (trimmed a)) (Some true)
+special-sized (a, Some rest) = special_second-sized a (first_item rest)
+
+named-sized : (families : Families) (name inside : List ℕ) (o : Option Family)
+    → sized (calls.named families name inside o) ≡ true
+named-sized families name inside (Some f) = first-sized families f (first inside)
+named-sized families name inside None =
+    if-sized (calls.is_special families name) _ _ (special-sized (first_item inside))
+    (if-sized (calls.is_skipped families name) (Ok calls.skipped) (Err UnknownFunction) refl refl)
+
+called-sized : (families : Families) (name : List ℕ) (o : Option (List ℕ))
+    → sized (calls.called families name o) ≡ true
+called-sized families name None = refl
+called-sized families name (Some inside) =
+    named-sized families name inside (calls.family_of name)
+
+call-sized : (families : Families) (text : List ℕ) → sized (call_of families text) ≡ true
 unfolding call_of
-call-sized text = called-sized (take (name_length text) text) (inside_of text)
+call-sized families text =
+    called-sized families (take (calls.name_length text) text) (calls.inside_of text)
 
-pub call-size : (text : List ℕ) (f : Family) (v : NumName) (s : ℕ) (signed : Bool)
-    → call_of text ≡ Ok (points f v s signed) → is_size f s ≡ true
-call-size text f v s signed e = ap sized (sym e) ∙ call-sized text
+pub call-size : (families : Families) (text : List ℕ) (r : Ranged)
+    → call_of families text ≡ Ok (calls.points r) → is_sized r ≡ true
+call-size families text r e = ap sized (sym e) ∙ call-sized families text
 
--- ---- keys
-abbrev shows : ℕ → Bool
-shows c = nat_le 32 c && nat_le c 126
+pub pairs-size : (families : Families) (text : List ℕ) (a b : Ranged)
+    → call_of families text ≡ Ok (calls.pairs a b) → (is_sized a && is_sized b) ≡ true
+pairs-size families text a b e = ap sized (sym e) ∙ call-sized families text
 
-digit-shows : (c : ℕ) → words.is_digit c ≡ true → shows c ≡ true
-digit-shows c e = grind (arith, nat_tests)
-
-digits-show : (ds : List ℕ) → AllDigit ds → is_printable ds ≡ true
-digits-show [] h = refl
-digits-show (d ∷ ds) h = and-is (shows d) (is_printable ds) (digit-shows d h.0) (digits-show ds h.1)
-
-pub printable-append : (xs ys : List ℕ) → is_printable xs ≡ true → is_printable ys ≡ true
-    → is_printable (xs ++ ys) ≡ true
-printable-append xs ys h k =
-    list_all-append shows xs ys ∙ and-is (is_printable xs) (is_printable ys) h k
-
-name-shows : (v : NumName) → is_printable (name_of v) ≡ true
-name-shows Rs1Val = refl
-name-shows Rs2Val = refl
-name-shows ImmVal = refl
-name-shows EaAlign = refl
-
-number-shows : (z : ℤ) → Small z → is_printable (signed_decimal z) ≡ true
-number-shows (pos n) h = digits-show (decimal n) (decimal-is n (omega arith)).digits
-number-shows (negsuc n) h = digits-show (decimal (suc n)) (decimal-is (suc n) (omega arith)).digits
-
-key-shows : (v : NumName) (z : ℤ) → Small z → is_printable (key_of v z) ≡ true
-key-shows v z h = printable-append (name_of v) (codes " == " ++ signed_decimal z) (name-shows v)
-    (printable-append (codes " == ") (signed_decimal z) refl (number-shows z h))
-
--- ---- such keys aren't passed over
-digit-kept : (c : ℕ) → words.is_digit c ≡ true → is_left_out c ≡ false
-digit-kept c e = grind (arith, nat_tests)
-
-digits-kept : (ds : List ℕ) → AllDigit ds → list_any is_left_out ds ≡ false
-digits-kept [] h = refl
-digits-kept (d ∷ ds) h =
-    or-fails (is_left_out d) (list_any is_left_out ds) (digit-kept d h.0) (digits-kept ds h.1)
-
-no-mark : (b c : ℕ) → words.is_digit c ≡ true → 57 < b → (c == b) ≡ false
-no-mark b c e h = grind (arith, nat_tests)
-
-digits-single : (b : ℕ) → 57 < b → (ds : List ℕ) → AllDigit ds → has_double b ds ≡ false
-digits-single b m [] h = refl
-digits-single b m (d ∷ ds) h = or-fails ((d == b) && begins b ds) (has_double b ds)
-    (ap (λ x. x && begins b ds) (no-mark b d h.0 m)) (digits-single b m ds h.1)
-
-no-letter : (c : ℕ) → words.is_digit c ≡ true → is_letter c ≡ false
-no-letter c e = grind (arith, nat_tests)
-
-digits-call : (ds : List ℕ) (n : ℕ) → AllDigit ds → has_call n ds ≡ false
-digits-call [] n h = refl
-digits-call (d ∷ ds) (suc n) h = digits-call ds n h.1
-digits-call (d ∷ ds) zero h = or-fails (calls d (d ∷ ds)) (has_call (name_length (d ∷ ds) - 1) ds)
-    (ap (λ x. x && (not (is_operator_word (take (name_length (d ∷ ds)) (d ∷ ds)))
-    && begins 40 (without_spaces (drop (name_length (d ∷ ds)) (d ∷ ds))))) (no-letter d h.0))
-    (digits-call ds (name_length (d ∷ ds) - 1) h.1)
-
-tail-read : (v : NumName) (ds : List ℕ) → list_any is_left_out ds ≡ false → has_double 60 ds ≡ false
-    → has_double 62 ds ≡ false → has_call zero ds ≡ false
-    → is_skipped (name_of v ++ (codes " == " ++ ds)) ≡ false
-unfolding is_skipped
-tail-read Rs1Val ds a b c d = or-fails _ _ a (or-fails _ _ b (or-fails _ _ c d))
-tail-read Rs2Val ds a b c d = or-fails _ _ a (or-fails _ _ b (or-fails _ _ c d))
-tail-read ImmVal ds a b c d = or-fails _ _ a (or-fails _ _ b (or-fails _ _ c d))
-tail-read EaAlign ds a b c d = or-fails _ _ a (or-fails _ _ b (or-fails _ _ c d))
-
-value_read : (v : NumName) (z : ℤ) → Small z → is_skipped (key_of v z) ≡ false
-value_read v (pos n) h =
-    let ds = (decimal-is n (omega arith)).digits in
-    tail-read v (decimal n) (digits-kept (decimal n) ds)
-    (digits-single 60 (omega arith) (decimal n) ds)
-    (digits-single 62 (omega arith) (decimal n) ds) (digits-call (decimal n) zero ds)
-value_read v (negsuc n) h =
-    let ds = (decimal-is (suc n) (omega arith)).digits in
-    tail-read v (45 ∷ decimal (suc n)) (digits-kept (decimal (suc n)) ds)
-    (digits-single 60 (omega arith) (decimal (suc n)) ds)
-    (digits-single 62 (omega arith) (decimal (suc n)) ds)
-    (digits-call (decimal (suc n)) zero ds)
-
--- the key of a small value means the value
+-- ---- the keys of small values mean the values
 pub value_meant : (v : NumName) (z : ℤ) → Small z → IsMeant (value_point v z)
 value_meant v z h = record {
-  printable = key-shows v z h;
-  said = if-no (is_skipped (key_of v z)) nothing _ (value_read v z h)
+  printable = plain-shows (key_of v z) (key-plain v z h);
+  said = if-no (is_skipped (key_of v z)) nothing _ (plain-read (key_of v z) (key-plain v z h))
       ∙ ap (of_formula nums) (key-read v z h);
 }
+
+pub pair_meant : (v : NumName) (x : ℤ) (w : NumName) (y : ℤ) → Small x → Small y
+    → IsMeant (pair_point v x w y)
+pair_meant v x w y h k =
+    let plain = pair-plain v x w y h k in
+    record {
+      printable = plain-shows (pair_key v x w y) plain;
+      said = if-no (is_skipped (pair_key v x w y)) nothing _ (plain-read (pair_key v x w y) plain)
+          ∙ ap (of_formula nums) (pair-read v x w y h k);
+    }

@@ -3,51 +3,59 @@ use Rattle.std.proofs.Common.{◌≡◌, ℕ, ◌+◌, List, [], drop, Some, Ok,
 use Rattle.std.specs.Prelude.{slice_get, IsTrue}
 use Rattle.rvs_insn.specs.Isa.{Isa}
 use Rattle.rvs_tree.specs.Data.{Data, own_pairs, keys_of, members_of, is_map}
+use Rattle.rvs_abstract.specs.declared.families.Families.{Families}
 use Rattle.rvs_cgf.specs.Groups.{Found, Refusal, Listed, label_step, nothing_listed, for_each}
 use Rattle.rvs_cgf.specs.Writing.{Told, told, told_of, nothing_told}
 use Rattle.rvs_cgf.proofs.Loops.{each-more, each-fails}
 
 -- the labels that were written are those before an entry
-pub record Stands (isa : Isa) (d : Data) (i : ℕ) (t : Told) : Type 0 where
+pub record Stands (isa : Isa) (families : Families) (d : Data) (i : ℕ) (t : Told) : Type 0 where
   pub listed : Listed
   pub is : t ≡ told listed
-  pub same : for_each (label_step isa) (drop i (own_pairs d)) listed
-      ≡ for_each (label_step isa) (own_pairs d) nothing_listed
+  pub same : for_each (label_step isa families) (drop i (own_pairs d)) listed
+      ≡ for_each (label_step isa families) (own_pairs d) nothing_listed
 
-pub stands-first : (isa : Isa) (d : Data) → Stands isa d 0 nothing_told
-stands-first isa d = record { listed = nothing_listed; is = refl; same = refl }
+pub stands-first : (isa : Isa) (families : Families) (d : Data)
+    → Stands isa families d 0 nothing_told
+stands-first isa families d = record { listed = nothing_listed; is = refl; same = refl }
 
-pub stands-more : (isa : Isa) (d : Data) (i : ℕ) (k : List ℕ) (v : Data) (t u : Told)
-    (s : Stands isa d i t)
+pub stands-more : (isa : Isa) (families : Families) (d : Data) (i : ℕ) (k : List ℕ) (v : Data)
+    (t u : Told)
+    (s : Stands isa families d i t)
     → IsTrue (is_map d) → slice_get (keys_of d) i ≡ Some k → slice_get (members_of d) i ≡ Some v
-    → told_of (label_step isa k v s.listed) ≡ Ok u → Stands isa d (i + 1) u
-stands-more isa d i k v t u s m e g h = by-step (label_step isa k v s.listed) refl h
+    → told_of (label_step isa families k v s.listed) ≡ Ok u → Stands isa families d (i + 1) u
+stands-more isa families d i k v t u s m e g h =
+    by-step (label_step isa families k v s.listed) refl h
   where
-    by-step : (r : Found Listed) → label_step isa k v s.listed ≡ r → told_of r ≡ Ok u
-        → Stands isa d (i + 1) u
+    by-step : (r : Found Listed) → label_step isa families k v s.listed ≡ r → told_of r ≡ Ok u
+        → Stands isa families d (i + 1) u
     by-step (Ok next) same h = record {
       listed = next;
       is = cc;
-      same = each-more (label_step isa) d i k v s.listed next m e g same ∙ s.same;
+      same = each-more (label_step isa families) d i k v s.listed next m e g same ∙ s.same;
     }
     by-step (Err why) same h = cc
 
-pub stands-fails : (isa : Isa) (d : Data) (i : ℕ) (k : List ℕ) (v : Data) (t : Told) (why : Refusal)
-    (s : Stands isa d i t)
+pub stands-fails : (isa : Isa) (families : Families) (d : Data) (i : ℕ) (k : List ℕ) (v : Data)
+    (t : Told) (why : Refusal)
+    (s : Stands isa families d i t)
     → IsTrue (is_map d) → slice_get (keys_of d) i ≡ Some k → slice_get (members_of d) i ≡ Some v
-    → told_of (label_step isa k v s.listed) ≡ Err why
-    → told_of (for_each (label_step isa) (own_pairs d) nothing_listed) ≡ Err why
-stands-fails isa d i k v t why s m e g h = by-step (label_step isa k v s.listed) refl h
+    → told_of (label_step isa families k v s.listed) ≡ Err why
+    → told_of (for_each (label_step isa families) (own_pairs d) nothing_listed) ≡ Err why
+stands-fails isa families d i k v t why s m e g h =
+    by-step (label_step isa families k v s.listed) refl h
   where
-    by-step : (r : Found Listed) → label_step isa k v s.listed ≡ r → told_of r ≡ Err why
-        → told_of (for_each (label_step isa) (own_pairs d) nothing_listed) ≡ Err why
+    by-step : (r : Found Listed) → label_step isa families k v s.listed ≡ r → told_of r ≡ Err why
+        → told_of (for_each (label_step isa families) (own_pairs d) nothing_listed) ≡ Err why
     by-step (Ok next) same h = cc
     by-step (Err other) same h =
-        ap told_of (sym s.same ∙ each-fails (label_step isa) d i k v s.listed other m e g same) ∙ h
+        ap told_of (sym s.same ∙ each-fails (label_step isa families) d i k v s.listed other m e g
+        same) ∙ h
 
-pub stands-done : (isa : Isa) (d : Data) (i : ℕ) (t : Told) (s : Stands isa d i t)
+pub stands-done : (isa : Isa) (families : Families) (d : Data) (i : ℕ) (t : Told)
+    (s : Stands isa families d i t)
     → drop i (own_pairs d) ≡ []
-    → told_of (for_each (label_step isa) (own_pairs d) nothing_listed) ≡ Ok t
-stands-done isa d i t s none =
-    ap told_of (sym s.same ∙ ap (λ es. for_each (label_step isa) es s.listed) none)
+    → told_of (for_each (label_step isa families) (own_pairs d) nothing_listed) ≡ Ok t
+stands-done isa families d i t s none =
+    ap told_of (sym s.same ∙ ap (λ es. for_each (label_step isa families) es s.listed) none)
     ∙ ap (λ x. Ok x) (sym s.is)

@@ -10,6 +10,7 @@ use Rattle.rvs_tree.specs.Data.{Data, scalar, sequence, mapping, Pairs, own_pair
 use Rattle.rvs_tree.specs.Data.{is_scalar}
 use Rattle.rvs_expr.specs.Parse.{parse}
 use Rattle.rvs_cross.specs.Parse.{parse as parse_cross}
+use Rattle.rvs_abstract.specs.declared.families.Families.{Families}
 use Rattle.rvs_cgf.specs.Keys.{is_printable, is_skipped}
 use Rattle.rvs_cgf.specs.Says.{of_cross}
 use Rattle.rvs_cgf.specs.Groups.{Meaning, Point, Skipped, Said, means, says, admits}
@@ -85,15 +86,17 @@ add-yes place p t h c =
 
 -- reading the point's key under a kind adds the point
 abbrev pub Reads : Isa → Kind → Point → Type 0
-Reads isa k p = (place : EntryNames) (d : Data) (t : Taken) → is_scalar d ≡ true
+Reads isa k p = (families : Families) (place : EntryNames) (d : Data) (t : Taken)
+    → is_scalar d ≡ true
     → has p.kind p.key t.points ≡ false → nat_le 2048 t.count ≡ false
-    → entry_of isa k (at_key place p.key) d t ≡ Ok (with_point p t)
+    → entry_of isa families k (at_key place p.key) d t ≡ Ok (with_point p t)
 
 pub reads_by : (isa : Isa) (p : Point) → IsMeant p → admits isa p.meaning ≡ true
     → Reads isa p.kind p
-reads_by isa p meant f place d t s h c =
+reads_by isa p meant f families place d t s h c =
     let here = at_key place p.key in
-    if-no (holds_families p.kind p.key) (abstract_node here d t) (add_entry isa p.kind here d t)
+    if-no (holds_families p.kind p.key) (abstract_node families here d t)
+    (add_entry isa p.kind here d t)
     (and-last (same_kind p.kind kind.ValComb) (bytes_eq p.key abstract_key)
     (not-abstract p.kind p.key p.meaning meant.said (bytes_eq p.key abstract_key) refl))
     ∙ holds-yes (is_shaped p.key d) here fault.BadShape
@@ -132,31 +135,33 @@ none-before (q ∷ ts) ps p d =
 pub room : (n m : ℕ) → n + suc m ≤ 2048 → nat_le 2048 n ≡ false
 room n m h = grind (arith, nat_tests)
 
-pub block-read : (isa : Isa) (k : Kind) (place : EntryNames) (ps : List Point)
+pub block-read : (isa : Isa) (families : Families) (k : Kind) (place : EntryNames) (ps : List Point)
     (es : Pairs) → SpellsKeys ps es → ReadsAll isa k ps → (t : Taken)
     → are_distinct (t.points ++ ps) ≡ true
     → t.count + length ps ≤ 2048
-    → for_each (under place (entry_of isa k)) es t
+    → for_each (under place (entry_of isa families k)) es t
     ≡ Ok (taken-at (t.count + length ps) (t.points ++ ps) t.skipped)
-block-read isa k place [] [] sp rd t d n = ap ok-taken (taken-is t.count (t.count + 0) t.points
+block-read isa families k place [] [] sp rd t d n =
+    ap ok-taken (taken-is t.count (t.count + 0) t.points
     (t.points ++ []) t.skipped (omega arith) (sym (append-nil t.points)))
-block-read isa k place [] (e ∷ es) sp rd t d n = absurd sp
-block-read isa k place (p ∷ ps) [] sp rd t d n = absurd sp
-block-read isa k place (p ∷ ps) (e ∷ es) sp rd t d n =
-    let here = ap (λ key. entry_of isa k (at_key place key) e.1 t) sp.0
-    ∙ rd.0 place e.1 t sp.1 (none-before t.points ps p d) (room t.count (length ps) n) in
-    bind-yes (entry_of isa k (at_key place e.0) e.1 t)
-    (λ u. for_each (under place (entry_of isa k)) es u)
+block-read isa families k place [] (e ∷ es) sp rd t d n = absurd sp
+block-read isa families k place (p ∷ ps) [] sp rd t d n = absurd sp
+block-read isa families k place (p ∷ ps) (e ∷ es) sp rd t d n =
+    let here = ap (λ key. entry_of isa families k (at_key place key) e.1 t) sp.0
+    ∙ rd.0 families place e.1 t sp.1 (none-before t.points ps p d) (room t.count (length ps) n) in
+    bind-yes (entry_of isa families k (at_key place e.0) e.1 t)
+    (λ u. for_each (under place (entry_of isa families k)) es u)
     (with_point p t) here
-    ∙ block-read isa k place ps es sp.2 rd.1 (with_point p t)
+    ∙ block-read isa families k place ps es sp.2 rd.1 (with_point p t)
     (ap are_distinct (append_assoc t.points (p ∷ []) ps) ∙ d) (omega arith)
     ∙ ap ok-taken (taken-is (suc t.count + length ps) (t.count + suc (length ps))
     ((t.points ++ p ∷ []) ++ ps) (t.points ++ p ∷ ps) t.skipped (omega arith)
     (append_assoc t.points (p ∷ []) ps))
 
-pub entries-read : (isa : Isa) (k : Kind) (place : EntryNames) (m : Data) (t u : Taken)
-    → is_map m ≡ true → for_each (under place (entry_of isa k)) (own_pairs m) t ≡ Ok u
-    → all_entries isa k place m t ≡ Ok u
-entries-read isa k place m t u e h =
-    bind-yes (entries place m) (λ es. for_each (under place (entry_of isa k)) es t)
+pub entries-read : (isa : Isa) (families : Families) (k : Kind) (place : EntryNames) (m : Data)
+    (t u : Taken)
+    → is_map m ≡ true → for_each (under place (entry_of isa families k)) (own_pairs m) t ≡ Ok u
+    → all_entries isa families k place m t ≡ Ok u
+entries-read isa families k place m t u e h =
+    bind-yes (entries place m) (λ es. for_each (under place (entry_of isa families k)) es t)
     (own_pairs m) (entries-yes place m e) ∙ h

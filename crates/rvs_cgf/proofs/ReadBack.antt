@@ -9,6 +9,7 @@ use Rattle.std.proofs.lemmas.List.Sums.{sum_by-cons}
 use Rattle.rvs_insn.specs.Isa.{Isa}
 use Rattle.rvs_insn.specs.Names.{is_admitted_op}
 use Rattle.rvs_tree.specs.Data.{Data, Pairs, own_pairs, is_map, value_at, value_among}
+use Rattle.rvs_abstract.specs.declared.families.Families.{Families}
 use Rattle.rvs_cgf.specs.Keys.{is_label_name}
 use Rattle.rvs_cgf.specs.Groups.{Point, Label, at_label, at_node, Found, refused, ◌>>=◌, ◌>>◌}
 use Rattle.rvs_cgf.specs.Groups.{holds, Taken, same_kind, is_empty_scalar, entries, all_entries}
@@ -63,58 +64,64 @@ abbrev ok-nodes : Nodes → Found Nodes
 ok-nodes n = Ok n
 
 -- the nodes are read to all points, with some number of them known
-record End (isa : Isa) (label : List ℕ) (es : Pairs) (n : Nodes) (all : List Point) : Type 0 where
+record End (isa : Isa) (families : Families) (label : List ℕ) (es : Pairs) (n : Nodes)
+    (all : List Point) : Type 0 where
   pub count : ℕ
-  pub read_is : for_each (node_step isa label) es n
+  pub read_is : for_each (node_step isa families label) es n
       ≡ Ok (nodes-at (taken-at count all n.taken.skipped) [])
 
-step-main : (isa : Isa) (label : List ℕ) (b : Block) (key : List ℕ) (d : Data) (n : Nodes)
+step-main : (isa : Isa) (families : Families) (label : List ℕ) (b : Block) (key : List ℕ) (d : Data)
+    (n : Nodes)
     → key ≡ kind_name b.kind → same_kind b.kind kind.Mnemonic ≡ true
-    → node_step isa label key d n ≡ Ok (with_first n)
-step-main isa label b key d n k e = ap (λ x. node_step isa label x d n) k
-    ∙ ap (λ r. by_role isa (at_node label (kind_name b.kind)) d r n) (role-main b.kind e)
+    → node_step isa families label key d n ≡ Ok (with_first n)
+step-main isa families label b key d n k e = ap (λ x. node_step isa families label x d n) k
+    ∙ ap (λ r. by_role isa families (at_node label (kind_name b.kind)) d r n) (role-main b.kind e)
 
-step-other : (isa : Isa) (label : List ℕ) (b : Block) (key : List ℕ) (d : Data) (n : Nodes)
+step-other : (isa : Isa) (families : Families) (label : List ℕ) (b : Block) (key : List ℕ)
+    (d : Data) (n : Nodes)
     → key ≡ kind_name b.kind → same_kind b.kind kind.Mnemonic ≡ false → is_map d ≡ true
     → SpellsKeys b.points (own_pairs d) → ReadsAll isa b.kind b.points
     → are_distinct (n.taken.points ++ b.points) ≡ true → n.taken.count + length b.points ≤ 2048
-    → node_step isa label key d n ≡ Ok (nodes-at
+    → node_step isa families label key d n ≡ Ok (nodes-at
     (taken-at (n.taken.count + length b.points) (n.taken.points ++ b.points) n.taken.skipped)
     n.first)
-step-other isa label b key d n k e m sp rd dis few =
+step-other isa families label b key d n k e m sp rd dis few =
     let place = at_node label (kind_name b.kind) in
-    ap (λ x. node_step isa label x d n) k
-    ∙ ap (λ r. by_role isa place d r n) (role-other b.kind e)
-    ∙ ap (kept_first n) (entries-read isa b.kind place d n.taken
+    ap (λ x. node_step isa families label x d n) k
+    ∙ ap (λ r. by_role isa families place d r n) (role-other b.kind e)
+    ∙ ap (kept_first n) (entries-read isa families b.kind place d n.taken
     (taken-at (n.taken.count + length b.points) (n.taken.points ++ b.points) n.taken.skipped) m
-    (block-read isa b.kind place b.points (own_pairs d) sp rd n.taken dis few))
+    (block-read isa families b.kind place b.points (own_pairs d) sp rd n.taken dis few))
 
-nodes-read : (isa : Isa) (label : List ℕ) (bs : List Block) (es : Pairs) → SpellsNodes bs es
+nodes-read : (isa : Isa) (families : Families) (label : List ℕ) (bs : List Block) (es : Pairs)
+    → SpellsNodes bs es
     → AllRead isa bs → kinds_are_apart bs ≡ true → (n : Nodes) → n.first ≡ main_in bs
     → (all : List Point) → n.taken.points ++ points_in bs ≡ all → are_distinct all ≡ true
-    → n.taken.count + length (points_in bs) ≤ 2048 + length n.first → End isa label es n all
-nodes-read isa label [] [] sp rd ap' n f all is d few = record {
+    → n.taken.count + length (points_in bs) ≤ 2048 + length n.first
+    → End isa families label es n all
+nodes-read isa families label [] [] sp rd ap' n f all is d few = record {
   count = n.taken.count;
   read_is = ap (λ xs. ok-nodes (nodes-at n.taken xs)) f ∙ ap
       (λ xs. ok-nodes (nodes-at (taken-at n.taken.count xs n.taken.skipped) []))
       (sym (append-nil n.taken.points) ∙ is);
 }
-nodes-read isa label [] (e ∷ es) sp rd ap' n f all is d few = absurd sp
-nodes-read isa label (b ∷ bs) [] sp rd ap' n f all is d few = absurd sp
-nodes-read isa label (b ∷ bs) (e ∷ es) sp rd apart n f all is d few =
+nodes-read isa families label [] (e ∷ es) sp rd ap' n f all is d few = absurd sp
+nodes-read isa families label (b ∷ bs) [] sp rd ap' n f all is d few = absurd sp
+nodes-read isa families label (b ∷ bs) (e ∷ es) sp rd apart n f all is d few =
     let long = length-append b.points (points_in bs) in
     cases (same_kind b.kind kind.Mnemonic)
     (λ main.
     let own : n.first ≡ b.points = f ∙ under-yes b bs main in
-    let rest = nodes-read isa label bs es sp.3 rd.1 (rest-apart b bs apart) (with_first n)
+    let rest = nodes-read isa families label bs es sp.3 rd.1 (rest-apart b bs apart) (with_first n)
     (sym (under-none bs (others-apart b bs main apart))) all
     (ap (λ xs. (n.taken.points ++ xs) ++ points_in bs) own
     ∙ append_assoc n.taken.points b.points (points_in bs) ∙ is) d
     (omega (arith, ap length own, long, few)) in
     record {
       count = rest.count;
-      read_is = bind-yes (node_step isa label e.0 e.1 n) (λ m. for_each (node_step isa label) es m)
-          (with_first n) (step-main isa label b e.0 e.1 n sp.0 main) ∙ rest.read_is;
+      read_is = bind-yes (node_step isa families label e.0 e.1 n)
+          (λ m. for_each (node_step isa families label) es m)
+          (with_first n) (step-main isa families label b e.0 e.1 n sp.0 main) ∙ rest.read_is;
     })
     (λ other.
     let own : n.first ≡ main_in bs = f ∙ under-no b bs other in
@@ -123,13 +130,14 @@ nodes-read isa label (b ∷ bs) (e ∷ es) sp rd apart n f all is d few =
     n.first in
     let here : n.taken.count + length b.points ≤ 2048 =
     omega (arith, ap length own, long, few, under-short bs) in
-    let rest = nodes-read isa label bs es sp.3 rd.1 (rest-apart b bs apart) next own all
+    let rest = nodes-read isa families label bs es sp.3 rd.1 (rest-apart b bs apart) next own all
     (append_assoc n.taken.points b.points (points_in bs) ∙ is) d (omega (arith, long, few)) in
     record {
       count = rest.count;
       read_is =
-          bind-yes (node_step isa label e.0 e.1 n) (λ m. for_each (node_step isa label) es m) next
-          (step-other isa label b e.0 e.1 n sp.0 other sp.1 sp.2 rd.0
+          bind-yes (node_step isa families label e.0 e.1 n)
+          (λ m. for_each (node_step isa families label) es m) next
+          (step-other isa families label b e.0 e.1 n sp.0 other sp.1 sp.2 rd.0
           (front-distinct (n.taken.points ++ b.points) (points_in bs)
           (ap are_distinct (append_assoc n.taken.points b.points (points_in bs) ∙ is) ∙ d))
           here)
@@ -219,9 +227,10 @@ some-main (p ∷ ps) h = omega arith
 abbrev ok-label : Label → Found Label
 ok-label l = Ok l
 
-label-read : (isa : Isa) (l : Label) (d : Data) → IsPlain isa l → is_map d ≡ true
-    → SpellsNodes (blocks l.points) (own_pairs d) → label_of isa l.name d ≡ Ok (bare l)
-label-read isa l d p m sp =
+label-read : (isa : Isa) (families : Families) (l : Label) (d : Data) → IsPlain isa l
+    → is_map d ≡ true
+    → SpellsNodes (blocks l.points) (own_pairs d) → label_of isa families l.name d ≡ Ok (bare l)
+label-read isa families l d p m sp =
     let bs = blocks l.points in
     let first = main_in bs in
     let whole : points_in bs ≡ l.points = blocks-points l.points in
@@ -235,31 +244,35 @@ label-read isa l d p m sp =
     let few : length (points_in bs) ≤ 2048 = omega (arith, ap length whole, p.valid.few) in
     let taken = taken-at (0 + length first) first [] in
     let place = at_node l.name (codes "mnemonics") in
-    let firsts : first_points isa place main.node ≡ Ok taken =
-    bind-yes (all_entries isa kind.Mnemonic place main.node nothing_taken)
+    let firsts : first_points isa families place main.node ≡ Ok taken =
+    bind-yes (all_entries isa families kind.Mnemonic place main.node nothing_taken)
     (λ t. some_points place t) taken
-    (entries-read isa kind.Mnemonic place main.node nothing_taken taken main.is_node
-    (block-read isa kind.Mnemonic place first (own_pairs main.node) main.spelled
+    (entries-read isa families kind.Mnemonic place main.node nothing_taken taken main.is_node
+    (block-read isa families kind.Mnemonic place first (own_pairs main.node) main.spelled
     (reads-under isa bs reads) nothing_taken (under-distinct bs distinct)
     (omega (arith, few, under-short bs))))
     ∙ holds-yes (not (0 + length first == 0)) place fault.BadShape (Ok taken)
     (counted (length first) some) in
-    let end = nodes-read isa l.name bs (own_pairs d) sp reads p.apart (starting taken) refl l.points
+    let end = nodes-read isa families l.name bs (own_pairs d) sp reads p.apart (starting taken) refl
+    l.points
     whole p.valid.distinct (omega (arith, few)) in
     if-yes (is_label_name l.name)
-    (if is_map d then map_label isa l.name d else refused (at_label l.name) fault.BadShape)
+    (if is_map d then map_label isa families l.name d else refused (at_label l.name) fault.BadShape)
     (refused (at_label l.name) fault.BadLabelName) p.valid.named
-    ∙ if-yes (is_map d) (map_label isa l.name d) (refused (at_label l.name) fault.BadShape) m
-    ∙ ap (λ o. selects l.name (config_holds isa o) >>= (λ b. chosen isa l.name d b))
+    ∙ if-yes (is_map d) (map_label isa families l.name d) (refused (at_label l.name) fault.BadShape)
+    m
+    ∙ ap (λ o. selects l.name (config_holds isa o) >>= (λ b. chosen isa families l.name d b))
     (none-at bs (own_pairs d) sp (codes "config") no-config)
     ∙ bind-yes (main_of l.name d)
-    (λ x. first_points isa (at_node l.name x.0) x.1 >>= (λ t. nodes isa l.name d t))
+    (λ x. first_points isa families (at_node l.name x.0) x.1
+    >>= (λ t. nodes isa families l.name d t))
     (codes "mnemonics", main.node)
     (ap (λ o. main_node l.name o (value_at (codes "opcode") d)) main.there ∙ ap
     (main_node l.name (Some main.node))
     (none-at bs (own_pairs d) sp (codes "opcode") no-opcode))
-    ∙ bind-yes (first_points isa place main.node) (λ t. nodes isa l.name d t) taken firsts
-    ∙ bind-yes (for_each (node_step isa l.name) (own_pairs d) (starting taken))
+    ∙ bind-yes (first_points isa families place main.node) (λ t. nodes isa families l.name d t)
+    taken firsts
+    ∙ bind-yes (for_each (node_step isa families l.name) (own_pairs d) (starting taken))
     (λ n. Ok (finished l.name (ops_of first) n)) (nodes-at (taken-at end.count l.points []) [])
     end.read_is
     ∙ ap (λ os. ok-label (record {
@@ -283,55 +296,61 @@ below n m k h = grind (arith, nat_tests)
 at-most : (n m k : ℕ) → n + m ≤ k → nat_le n k ≡ true
 at-most n m k h = grind (arith, nat_tests)
 
-labels-read : (isa : Isa) (ls : List Label) (es : Pairs) → ArePlain isa ls → SpellsLabels ls es
+labels-read : (isa : Isa) (families : Families) (ls : List Label) (es : Pairs) → ArePlain isa ls
+    → SpellsLabels ls es
     → (out : List Label) (n : ℕ) → length out + length ls ≤ 256 → n + sum_by size_of ls ≤ 65536
-    → for_each (label_step isa) es (listed-at out n)
+    → for_each (label_step isa families) es (listed-at out n)
     ≡ Ok (listed-at (out ++ map bare ls) (n + sum_by size_of ls))
-labels-read isa [] [] pl sp out n few small =
+labels-read isa families [] [] pl sp out n few small =
     ap (λ xs. ok-listed (listed-at xs n)) (sym (append-nil out))
     ∙ ap (λ k. ok-listed (listed-at (out ++ []) k)) (omega arith)
-labels-read isa [] (e ∷ es) pl sp out n few small = absurd sp
-labels-read isa (l ∷ ls) [] pl sp out n few small = absurd sp
-labels-read isa (l ∷ ls) (e ∷ es) pl sp out n few small =
+labels-read isa families [] (e ∷ es) pl sp out n few small = absurd sp
+labels-read isa families (l ∷ ls) [] pl sp out n few small = absurd sp
+labels-read isa families (l ∷ ls) (e ∷ es) pl sp out n few small =
     let p = pl.0 in
     let added : sum_by size_of (l ∷ ls) ≡ size_of l + sum_by size_of ls =
     sum_by-cons size_of l ls in
-    let here : label_step isa l.name e.1 (listed-at out n)
+    let here : label_step isa families l.name e.1 (listed-at out n)
     ≡ Ok (listed-at (out ++ bare l ∷ []) (n + size_of l)) =
     if-no (bytes_eq l.name (codes "datasets")) (Ok (listed-at out n)) (holds
-    (nat_lt (length out) 256) (at_label l.name) fault.TooManyLabels >>
-    (label_of isa l.name e.1 >>= (λ x. with_label l.name x (listed-at out n)))) p.own_name
+    (nat_lt (length out) 256) (at_label l.name) fault.TooManyLabels
+    >> (label_of isa families l.name e.1
+    >>= (λ x. with_label l.name x (listed-at out n)))) p.own_name
     ∙ holds-yes (nat_lt (length out) 256) (at_label l.name) fault.TooManyLabels
-    (label_of isa l.name e.1 >>= (λ x. with_label l.name x (listed-at out n)))
+    (label_of isa families l.name e.1 >>= (λ x. with_label l.name x (listed-at out n)))
     (below (length out) (length ls) 256 few)
-    ∙ bind-yes (label_of isa l.name e.1) (λ x. with_label l.name x (listed-at out n)) (bare l)
-    (label-read isa l e.1 p sp.1 sp.2)
+    ∙ bind-yes (label_of isa families l.name e.1) (λ x. with_label l.name x (listed-at out n))
+    (bare l)
+    (label-read isa families l e.1 p sp.1 sp.2)
     ∙ holds-yes (nat_le (n + size_of l) 65536) (at_label l.name) fault.TooManyPoints
     (Ok (listed-at (out ++ bare l ∷ []) (n + size_of l)))
     (at-most (n + size_of l) (sum_by size_of ls) 65536 (omega (arith, small, added))) in
-    bind-yes (label_step isa e.0 e.1 (listed-at out n)) (λ next. for_each (label_step isa) es next)
+    bind-yes (label_step isa families e.0 e.1 (listed-at out n))
+    (λ next. for_each (label_step isa families) es next)
     (listed-at (out ++ bare l ∷ []) (n + size_of l))
-    (ap (λ k. label_step isa k e.1 (listed-at out n)) sp.0 ∙ here)
-    ∙ labels-read isa ls es pl.1 sp.3 (out ++ bare l ∷ []) (n + size_of l)
+    (ap (λ k. label_step isa families k e.1 (listed-at out n)) sp.0 ∙ here)
+    ∙ labels-read isa families ls es pl.1 sp.3 (out ++ bare l ∷ []) (n + size_of l)
     (omega (arith, few, length-append out (bare l ∷ []))) (omega (arith, small, added))
     ∙ ap (λ xs. ok-listed (listed-at xs ((n + size_of l) + sum_by size_of ls)))
     (append_assoc out (bare l ∷ []) (map bare ls))
     ∙ ap (λ k. ok-listed (listed-at (out ++ bare l ∷ map bare ls) k)) (omega (arith, added))
 
-spelled-by : (isa : Isa) (ls : List Label) (d : Data) → ArePlain isa ls → length ls ≤ 256
-    → sum_by size_of ls ≤ 65536 → SpellsAll ls d → groups_of isa d ≡ Ok (map bare ls)
+spelled-by : (isa : Isa) (families : Families) (ls : List Label) (d : Data) → ArePlain isa ls
+    → length ls ≤ 256
+    → sum_by size_of ls ≤ 65536 → SpellsAll ls d → groups_of isa families d ≡ Ok (map bare ls)
 unfolding groups_of
-spelled-by isa [] d pl few small sp = bind-yes (entries (at_label []) d)
-    (λ es. for_each (label_step isa) es nothing_listed >>= (λ listed. Ok listed.labels)) []
+spelled-by isa families [] d pl few small sp = bind-yes (entries (at_label []) d)
+    (λ es. for_each (label_step isa families) es nothing_listed >>= (λ listed. Ok listed.labels)) []
     (if-yes (is_empty_scalar d) (Ok []) _ sp)
-spelled-by isa (l ∷ ls) d pl few small sp =
+spelled-by isa families (l ∷ ls) d pl few small sp =
     bind-yes (entries (at_label []) d)
-    (λ es. for_each (label_step isa) es nothing_listed >>= (λ listed. Ok listed.labels))
+    (λ es. for_each (label_step isa families) es nothing_listed >>= (λ listed. Ok listed.labels))
     (own_pairs d)
     (entries-yes (at_label []) d sp.1)
-    ∙ bind-yes (for_each (label_step isa) (own_pairs d) nothing_listed) (λ listed. Ok listed.labels)
+    ∙ bind-yes (for_each (label_step isa families) (own_pairs d) nothing_listed)
+    (λ listed. Ok listed.labels)
     (listed-at (map bare (l ∷ ls)) (0 + sum_by size_of (l ∷ ls)))
-    (labels-read isa (l ∷ ls) (own_pairs d) pl sp.2 [] 0 (omega (arith, few))
+    (labels-read isa families (l ∷ ls) (own_pairs d) pl sp.2 [] 0 (omega (arith, few))
     (omega (arith, small)))
 
 -- a label is plain for every core that admits its mnemonics
@@ -362,7 +381,9 @@ all-plain-for isa other (l ∷ ls) p a = (
 
 -- a tree that spells plain groups within the limits gives their selected labels again, with nothing
 -- skipped
-pub spelled_is_read : (isa other : Isa) (ls : List Label) (d : Data) → CanBeSpelled isa ls
-    → are_admitted other ls ≡ true → Spells ls d → groups_of other d ≡ Ok (map bare (selected ls))
-spelled_is_read isa other ls d c a sp = spelled-by other (selected ls) d
+pub spelled_is_read : (isa other : Isa) (families : Families) (ls : List Label) (d : Data)
+    → CanBeSpelled isa ls
+    → are_admitted other ls ≡ true → Spells ls d → groups_of other families d
+    ≡ Ok (map bare (selected ls))
+spelled_is_read isa other families ls d c a sp = spelled-by other families (selected ls) d
     (all-plain-for isa other (selected ls) c.plain a) c.few_labels c.few_points sp

@@ -13,6 +13,7 @@ use Rattle.std.proofs.lemmas.List.Filters.{length-filter_both, sum_by-filter_bot
 use Rattle.rvs_insn.specs.Isa.{Isa}
 use Rattle.rvs_insn.specs.declared.op.Op.{Op}
 use Rattle.rvs_tree.specs.Data.{Data, Pairs, own_pairs, is_map, value_at, value_among}
+use Rattle.rvs_abstract.specs.declared.families.Families.{Families}
 use Rattle.rvs_cgf.specs.Keys.{is_label_name}
 use Rattle.rvs_cgf.specs.Groups.{Point, Label, at_label, at_node, at_key, refused, ◌>>=◌, Taken}
 use Rattle.rvs_cgf.specs.Groups.{same_kind, entries, all_entries, passed_over, role_of, Nodes}
@@ -181,25 +182,28 @@ same-goes main ops n e es h left w is = record {
   pending = left;
 }
 
-role-goes : (isa : Isa) (label main : List ℕ) (ops : List Op) (n m : Nodes) (e : List ℕ × Data)
+role-goes : (isa : Isa) (families : Families) (label main : List ℕ) (ops : List Op) (n m : Nodes)
+    (e : List ℕ × Data)
     (es : Pairs) → role_of main ≡ role.Main → not (named_among e.0 es) ≡ true → Goes main ops n
     (e ∷ es)
-    → (r : Role) → Suits e.0 r → role_of e.0 ≡ r → by_role isa (at_node label e.0) e.1 r n ≡ Ok m
+    → (r : Role) → Suits e.0 r → role_of e.0 ≡ r
+    → by_role isa families (at_node label e.0) e.1 r n ≡ Ok m
     → Goes main ops m es
-role-goes isa label main ops n m e es is own h role.Main good here done = subst
+role-goes isa families label main ops n m e es is own h role.Main good here done = subst
     (λ (x : Nodes). Goes main ops x es) (ok-is (with_first n) m done) (main-goes main ops n e es h)
-role-goes isa label main ops n m e es is own h role.Config good here done =
+role-goes isa families label main ops n m e es is own h role.Config good here done =
     subst (λ (x : Nodes). Goes main ops x es) (ok-is n m done) (same-goes main ops n e es h
     (pass-on main n.first e es is role.Config here (λ x. cc) h.pending) n.taken refl)
-role-goes isa label main ops n m e es is own h (role.Entries k) good here done =
+role-goes isa families label main ops n m e es is own h (role.Entries k) good here done =
     let place = at_node label e.0 in
-    bind-ok (all_entries isa k place e.1 n.taken) (λ t. Ok (nodes-at t n.first)) m done
+    bind-ok (all_entries isa families k place e.1 n.taken) (λ t. Ok (nodes-at t n.first)) m done
     (λ w a r. subst (λ (x : Nodes). Goes main ops x es) (ok-is (nodes-at w n.first) m r)
     (added-goes main ops n e es k is here own h w
-    (entries-kept (Grows k n.taken.points) isa k place (λ key. entry-kept (Grows k n.taken.points)
-    isa k (grows-kept k n.taken.points) (good.node_of k refl).other (at_key place key)
+    (entries-kept (Grows k n.taken.points) isa families k place
+    (λ key. entry-kept (Grows k n.taken.points)
+    isa families k (grows-kept k n.taken.points) (good.node_of k refl).other (at_key place key)
     (good.printable refl)) e.1 n.taken w (grows-start k n.taken) a)))
-role-goes isa label main ops n m e es is own h role.PassedOver good here done =
+role-goes isa families label main ops n m e es is own h role.PassedOver good here done =
     let place = at_node label e.0 in
     bind-ok (passed_over place e.1 n.taken) (λ t. Ok (nodes-at t n.first)) m done
     (λ w a r. subst (λ (x : Nodes). Goes main ops x es) (ok-is (nodes-at w n.first) m r)
@@ -207,18 +211,21 @@ role-goes isa label main ops n m e es is own h role.PassedOver good here done =
     (λ x. cc) h.pending) w
     (passed-kept (λ t. t.points ≡ n.taken.points) (λ p. ⊥) (same-kept n.taken.points) place
     (good.printable refl) e.1 n.taken w refl a)))
-role-goes isa label main ops n m e es is own h role.Unknown good here done = err-not _ m done
+role-goes isa families label main ops n m e es is own h role.Unknown good here done =
+    err-not _ m done
 
-nodes-go : (isa : Isa) (label main : List ℕ) (ops : List Op) → role_of main ≡ role.Main
+nodes-go : (isa : Isa) (families : Families) (label main : List ℕ) (ops : List Op)
+    → role_of main ≡ role.Main
     → (es : Pairs) (n m : Nodes) → keys_are_own es ≡ true → Goes main ops n es
-    → for_each (node_step isa label) es n ≡ Ok m → Goes main ops m []
-nodes-go isa label main ops is [] n m own h e =
+    → for_each (node_step isa families label) es n ≡ Ok m → Goes main ops m []
+nodes-go isa families label main ops is [] n m own h e =
     subst (λ (x : Nodes). Goes main ops x []) (ok-is n m e) h
-nodes-go isa label main ops is (x ∷ es) n m own h e =
-    bind-ok (node_step isa label x.0 x.1 n) (λ k. for_each (node_step isa label) es k) m e
-    (λ k g r. nodes-go isa label main ops is es k m
+nodes-go isa families label main ops is (x ∷ es) n m own h e =
+    bind-ok (node_step isa families label x.0 x.1 n)
+    (λ k. for_each (node_step isa families label) es k) m e
+    (λ k g r. nodes-go isa families label main ops is es k m
     (and-right (not (named_among x.0 es)) (keys_are_own es) own)
-    (role-goes isa label main ops n k x es is
+    (role-goes isa families label main ops n k x es is
     (and-left (not (named_among x.0 es)) (keys_are_own es) own) h (role_of x.0) (role-suits x.0)
     refl g) r)
 
@@ -259,17 +266,18 @@ main-there name d m e =
           ∙ there-named (codes "opcode") (own_pairs d) m.1 v;
     })
 
-label-plain : (isa : Isa) (name : List ℕ) (d : Data) (l : Label) → is_label_name name ≡ true
+label-plain : (isa : Isa) (families : Families) (name : List ℕ) (d : Data) (l : Label)
+    → is_label_name name ≡ true
     → bytes_eq name (codes "datasets") ≡ false → keys_are_own (own_pairs d) ≡ true
-    → selected_label isa name d ≡ Ok l → IsPlain isa l
-label-plain isa name d l named other own e =
-    let valid = label-valid isa name d l named e in
-    bind-ok (main_of name d) (λ m. first_points isa (at_node name m.0) m.1
-    >>= (λ first. nodes isa name d first)) l e
-    (λ m a r. bind-ok (first_points isa (at_node name m.0) m.1)
-    (λ first. nodes isa name d first) l r
+    → selected_label isa families name d ≡ Ok l → IsPlain isa l
+label-plain isa families name d l named other own e =
+    let valid = label-valid isa families name d l named e in
+    bind-ok (main_of name d) (λ m. first_points isa families (at_node name m.0) m.1
+    >>= (λ first. nodes isa families name d first)) l e
+    (λ m a r. bind-ok (first_points isa families (at_node name m.0) m.1)
+    (λ first. nodes isa families name d first) l r
     (λ first b s.
-    let mains = (first-mains isa name d m first a b).0 in
+    let mains = (first-mains isa families name d m first a b).0 in
     let main = main-there name d m a in
     let begin : Goes m.0 (ops_of first.points) (starting first) (own_pairs d) = record {
       stand = refl;
@@ -279,10 +287,10 @@ label-plain isa name d l named other own e =
       ops_are = refl;
       pending = inr main.there;
     } in
-    bind-ok (for_each (node_step isa name) (own_pairs d) (starting first))
+    bind-ok (for_each (node_step isa families name) (own_pairs d) (starting first))
     (λ n. Ok (finished name (ops_of first.points) n)) l s
     (λ n f k.
-    let goes = nodes-go isa name m.0 (ops_of first.points) main.role_main (own_pairs d)
+    let goes = nodes-go isa families name m.0 (ops_of first.points) main.role_main (own_pairs d)
     (starting first) n own begin f in
     let label : finished name (ops_of first.points) n ≡ l =
     ok-is (finished name (ops_of first.points) n) l k in
@@ -303,23 +311,27 @@ label-plain isa name d l named other own e =
 abbrev pub IsPlainIfSelected : Isa → Label → Type 0
 IsPlainIfSelected isa l = l.selected ≡ true → IsPlain isa l
 
-chosen-plain : (isa : Isa) (name : List ℕ) (d : Data) (b : Bool) (l : Label)
+chosen-plain : (isa : Isa) (families : Families) (name : List ℕ) (d : Data) (b : Bool) (l : Label)
     → is_label_name name ≡ true → bytes_eq name (codes "datasets") ≡ false
-    → keys_are_own (own_pairs d) ≡ true → chosen isa name d b ≡ Ok l → IsPlainIfSelected isa l
-chosen-plain isa name d true l named other own e = λ s. label-plain isa name d l named other own e
-chosen-plain isa name d false l named other own e =
+    → keys_are_own (own_pairs d) ≡ true → chosen isa families name d b ≡ Ok l
+    → IsPlainIfSelected isa l
+chosen-plain isa families name d true l named other own e =
+    λ s. label-plain isa families name d l named other own e
+chosen-plain isa families name d false l named other own e =
     subst (IsPlainIfSelected isa) (ok-is (unselected name) l e) (λ s. cc)
 
-of-plain : (isa : Isa) (name : List ℕ) (d : Data) (l : Label)
+of-plain : (isa : Isa) (families : Families) (name : List ℕ) (d : Data) (l : Label)
     → bytes_eq name (codes "datasets") ≡ false → keys_are_own (own_pairs d) ≡ true
-    → label_of isa name d ≡ Ok l → IsPlainIfSelected isa l
-of-plain isa name d l other own e =
+    → label_of isa families name d ≡ Ok l → IsPlainIfSelected isa l
+of-plain isa families name d l other own e =
     if-ok (is_label_name name)
-    (if is_map d then map_label isa name d else refused (at_label name) fault.BadShape)
+    (if is_map d then map_label isa families name d else refused (at_label name) fault.BadShape)
     (refused (at_label name) fault.BadLabelName) l e
-    (λ named g. if-ok (is_map d) (map_label isa name d) (refused (at_label name) fault.BadShape) l g
+    (λ named g. if-ok (is_map d) (map_label isa families name d)
+    (refused (at_label name) fault.BadShape) l g
     (λ m r. bind-ok (selects name (config_holds isa (value_at (codes "config") d)))
-    (λ b. chosen isa name d b) l r (λ b a s. chosen-plain isa name d b l named other own s))
+    (λ b. chosen isa families name d b) l r
+    (λ b a s. chosen-plain isa families name d b l named other own s))
     (λ m r. err-not _ l r))
     (λ n g. err-not _ l g)
 
@@ -338,34 +350,35 @@ one-more n e = grind (arith, nat_tests)
 still-small : (n : ℕ) → nat_le n 65536 ≡ true → n ≤ 65536
 still-small n e = grind (arith, nat_tests)
 
-step-plain : (isa : Isa) (name : List ℕ) (d : Data) (l m : Listed)
-    → keys_are_own (own_pairs d) ≡ true → Plainly isa l → label_step isa name d l ≡ Ok m
+step-plain : (isa : Isa) (families : Families) (name : List ℕ) (d : Data) (l m : Listed)
+    → keys_are_own (own_pairs d) ≡ true → Plainly isa l → label_step isa families name d l ≡ Ok m
     → Plainly isa m
-step-plain isa name d l m own h e =
+step-plain isa families name d l m own h e =
     if-ok (bytes_eq name (codes "datasets")) (Ok l) _ m e
     (λ b g. subst (Plainly isa) (ok-is l m g) h)
     (λ b g. holds-then (nat_lt (length l.labels) 256) (at_label name) fault.TooManyLabels
-    (label_of isa name d >>= (λ x. with_label name x l)) m g
-    (λ few r. bind-ok (label_of isa name d) (λ x. with_label name x l) m r
+    (label_of isa families name d >>= (λ x. with_label name x l)) m g
+    (λ few r. bind-ok (label_of isa families name d) (λ x. with_label name x l) m r
     (λ x a s. holds-then (nat_le (l.total + size_of x) 65536) (at_label name) fault.TooManyPoints
     (Ok (listed-at (l.labels ++ x ∷ []) (l.total + size_of x))) m s
     (λ c k. subst (Plainly isa) (ok-is (listed-at (l.labels ++ x ∷ []) (l.total + size_of x)) m k)
     (record {
-      plain = All-push (IsPlainIfSelected isa) l.labels x h.plain (of-plain isa name d x b own a);
+      plain = All-push (IsPlainIfSelected isa) l.labels x h.plain
+          (of-plain isa families name d x b own a);
       few = omega (arith, one-more (length l.labels) few, length-append l.labels (x ∷ []));
       total_is = omega
           (arith, h.total_is, sum_by-append size_of l.labels (x ∷ []), sum_by-cons size_of x []);
       small = still-small (l.total + size_of x) c;
     })))))
 
-pub each_plain : (isa : Isa) (es : Pairs) (l m : Listed)
+pub each_plain : (isa : Isa) (families : Families) (es : Pairs) (l m : Listed)
     → list_all (λ e. keys_are_own (own_pairs e.1)) es ≡ true → Plainly isa l
-    → for_each (label_step isa) es l ≡ Ok m → Plainly isa m
-each_plain isa [] l m own h e = subst (Plainly isa) (ok-is l m e) h
-each_plain isa (x ∷ es) l m own h e =
-    bind-ok (label_step isa x.0 x.1 l) (λ k. for_each (label_step isa) es k) m e
-    (λ k g r. each_plain isa es k m (and-right (keys_are_own (own_pairs x.1)) _ own)
-    (step-plain isa x.0 x.1 l k (and-left (keys_are_own (own_pairs x.1)) _ own) h g) r)
+    → for_each (label_step isa families) es l ≡ Ok m → Plainly isa m
+each_plain isa families [] l m own h e = subst (Plainly isa) (ok-is l m e) h
+each_plain isa families (x ∷ es) l m own h e =
+    bind-ok (label_step isa families x.0 x.1 l) (λ k. for_each (label_step isa families) es k) m e
+    (λ k g r. each_plain isa families es k m (and-right (keys_are_own (own_pairs x.1)) _ own)
+    (step-plain isa families x.0 x.1 l k (and-left (keys_are_own (own_pairs x.1)) _ own) h g) r)
 
 -- ---- the selected ones
 selected-plain : (isa : Isa) (ls : List Label) → All (IsPlainIfSelected isa) ls
@@ -379,16 +392,18 @@ selected-plain isa (l ∷ ls) h =
     by true e rest = (All-head (IsPlainIfSelected isa) l ls h e, rest)
     by false e rest = rest
 
-pub groups-spelled : (isa : Isa) (d : Data) (ls : List Label) → nodes_are_own d ≡ true
-    → groups_of isa d ≡ Ok ls → CanBeSpelled isa ls
+pub groups-spelled : (isa : Isa) (families : Families) (d : Data) (ls : List Label)
+    → nodes_are_own d ≡ true
+    → groups_of isa families d ≡ Ok ls → CanBeSpelled isa ls
 unfolding groups_of
-groups-spelled isa d ls own e =
+groups-spelled isa families d ls own e =
     bind-ok (entries (at_label []) d)
-    (λ es. for_each (label_step isa) es nothing_listed >>= (λ listed. Ok listed.labels)) ls e
-    (λ es there r. bind-ok (for_each (label_step isa) es nothing_listed)
+    (λ es. for_each (label_step isa families) es nothing_listed >>= (λ listed. Ok listed.labels)) ls
+    e
+    (λ es there r. bind-ok (for_each (label_step isa families) es nothing_listed)
     (λ listed. Ok listed.labels) ls r
     (λ listed a s.
-    let p = each_plain isa es nothing_listed listed
+    let p = each_plain isa families es nothing_listed listed
     (entries-are (λ es. list_all (λ e. keys_are_own (own_pairs e.1)) es ≡ true) (at_label []) d es
     there refl own) (record {
       plain = All-nil (IsPlainIfSelected isa);
@@ -413,8 +428,9 @@ groups-spelled isa d ls own e =
       );
     })))
 
-pub read_spelled : (isa : Isa) (d : Data) (r : Result (List Read) CgfRefusal)
-    → AnswersWith (map label_view) r (groups_of isa d)
+pub read_spelled : (isa : Isa) (families : Families) (d : Data) (r : Result (List Read) CgfRefusal)
+    → AnswersWith (map label_view) r (groups_of isa families d)
     → IfOk r (λ ls. nodes_are_own d ≡ true → CanBeSpelled isa (map label_view ls))
-read_spelled isa d (Ok ls) e = λ own. groups-spelled isa d (map label_view ls) own e
-read_spelled isa d (Err x) e = tt
+read_spelled isa families d (Ok ls) e =
+    λ own. groups-spelled isa families d (map label_view ls) own e
+read_spelled isa families d (Err x) e = tt

@@ -18,6 +18,7 @@ use Rattle.rvs_insn.specs.declared.op.Op.{Op}
 use Rattle.rvs_tree.specs.Data.{Data, Pairs, own_pairs, is_map, value_at}
 use Rattle.rvs_facts.specs.Mnemonics.{number, is_same}
 use Rattle.rvs_facts.proofs.Places.{same_number}
+use Rattle.rvs_abstract.specs.declared.families.Families.{Families}
 use Rattle.rvs_cgf.specs.Keys.{is_label_name, is_printable}
 use Rattle.rvs_cgf.specs.Says.{of_op}
 use Rattle.rvs_cgf.specs.Groups.{Meaning, op_is, Point, Label, means, says, admits}
@@ -105,27 +106,28 @@ pub kept-fits : (n m : Nodes) (found-of : Found Taken)
 kept-fits n m found-of h e = bind-ok found-of (λ t. Ok (at n.first t)) m e
     (λ u g r. subst Fits (ok-is (at n.first u) m r) (h u g))
 
-role-fits : (isa : Isa) (label node : List ℕ) (d : Data) (r : Role) → Suits node r
-    → (n m : Nodes) → Fits n → by_role isa (at_node label node) d r n ≡ Ok m → Fits m
-role-fits isa label node d role.Main good n m h e =
+role-fits : (isa : Isa) (families : Families) (label node : List ℕ) (d : Data) (r : Role)
+    → Suits node r
+    → (n m : Nodes) → Fits n → by_role isa families (at_node label node) d r n ≡ Ok m → Fits m
+role-fits isa families label node d role.Main good n m h e =
     subst Fits (ok-is (with_first n) m e) (first-fits n h)
-role-fits isa label node d role.Config good n m h e = subst Fits (ok-is n m e) h
-role-fits isa label node d (role.Entries k) good n m h e =
+role-fits isa families label node d role.Config good n m h e = subst Fits (ok-is n m e) h
+role-fits isa families label node d (role.Entries k) good n m h e =
     let place = at_node label node in
-    kept-fits n m (all_entries isa k place d n.taken)
-    (λ u g. entries-kept (λ t. Fits (at n.first t)) isa k place (λ key. entry-kept
-    (λ t. Fits (at n.first t)) isa k (fits-kept k n.first) (good.node_of k refl).other
+    kept-fits n m (all_entries isa families k place d n.taken)
+    (λ u g. entries-kept (λ t. Fits (at n.first t)) isa families k place (λ key. entry-kept
+    (λ t. Fits (at n.first t)) isa families k (fits-kept k n.first) (good.node_of k refl).other
     (at_key place key) (good.printable refl)) d n.taken u h g) e
-role-fits isa label node d role.PassedOver good n m h e =
+role-fits isa families label node d role.PassedOver good n m h e =
     kept-fits n m (passed_over (at_node label node) d n.taken) (λ u g. passed-kept
     (λ t. Fits (at n.first t)) (IsOf kind.Mnemonic) (fits-kept kind.Mnemonic n.first)
     (at_node label node) (good.printable refl) d n.taken u h g) e
-role-fits isa label node d role.Unknown good n m h e = err-not _ m e
+role-fits isa families label node d role.Unknown good n m h e = err-not _ m e
 
-nodes-fit : (isa : Isa) (label : List ℕ) (es : Pairs) (n m : Nodes) → Fits n
-    → for_each (node_step isa label) es n ≡ Ok m → Fits m
-nodes-fit isa label = each-kept Fits (node_step isa label)
-    (λ node d n m h e. role-fits isa label node d (role_of node) (role-suits node) n m h e)
+nodes-fit : (isa : Isa) (families : Families) (label : List ℕ) (es : Pairs) (n m : Nodes) → Fits n
+    → for_each (node_step isa families label) es n ≡ Ok m → Fits m
+nodes-fit isa families label = each-kept Fits (node_step isa families label)
+    (λ node d n m h e. role-fits isa families label node d (role_of node) (role-suits node) n m h e)
 
 -- ---- mnemonics
 some-is : {A : Type 0} (x y : A) → Some x ≡ Some y → x ≡ y
@@ -281,10 +283,11 @@ main-point isa key m p is a = by-op (op_of_name key) m is (λ op f s. record {
   admitted_op = ap (admits isa) (sym s) ∙ a;
 })
 
-pub mnemonic-kept : (isa : Isa) (place : EntryNames) → is_printable place.node ≡ true
-    → (d : Data) (t u : Taken) → Mains isa t → entry_of isa kind.Mnemonic place d t ≡ Ok u
+pub mnemonic-kept : (isa : Isa) (families : Families) (place : EntryNames)
+    → is_printable place.node ≡ true
+    → (d : Data) (t u : Taken) → Mains isa t → entry_of isa families kind.Mnemonic place d t ≡ Ok u
     → Mains isa u
-mnemonic-kept isa place n = point-kept (Mains isa) (IsMain isa) isa place kind.Mnemonic
+mnemonic-kept isa families place n = point-kept (Mains isa) (IsMain isa) isa place kind.Mnemonic
     (mains-kept isa) (main-point isa place.key) n
 
 pub nothing-main : (isa : Isa) → Mains isa nothing_taken
@@ -328,36 +331,41 @@ some-there n m k e f g = above n k (f ∙ g) e
     above : (n k : ℕ) → k ≡ n → not (n == 0) ≡ true → 0 < k
     above n k h e = grind (arith, nat_tests)
 
-pub first-mains : (isa : Isa) (name : List ℕ) (d : Data) (m : List ℕ × Data) (first : Taken)
-    → main_of name d ≡ Ok m → first_points isa (at_node name m.0) m.1 ≡ Ok first
+pub first-mains : (isa : Isa) (families : Families) (name : List ℕ) (d : Data) (m : List ℕ × Data)
+    (first : Taken)
+    → main_of name d ≡ Ok m → first_points isa families (at_node name m.0) m.1 ≡ Ok first
     → Mains isa first × (not (first.count == 0) ≡ true)
-first-mains isa name d m first a b =
+first-mains isa families name d m first a b =
     let place = at_node name m.0 in
-    bind-ok (all_entries isa kind.Mnemonic place m.1 nothing_taken) (λ t. some_points place t)
+    bind-ok (all_entries isa families kind.Mnemonic place m.1 nothing_taken)
+    (λ t. some_points place t)
     first b
     (λ t c g. holds-then (not (t.count == 0)) place fault.BadShape (Ok t) first g
     (λ some same. (
-      subst (Mains isa) (ok-is t first same) (entries-kept (Mains isa) isa kind.Mnemonic place
-          (λ key. mnemonic-kept isa (at_key place key) (main-printable name d m a)) m.1
+      subst (Mains isa) (ok-is t first same)
+          (entries-kept (Mains isa) isa families kind.Mnemonic place
+          (λ key. mnemonic-kept isa families (at_key place key) (main-printable name d m a)) m.1
           nothing_taken t (nothing-main isa) c),
       ap (λ (x : Taken). not (x.count == 0)) (sym (ok-is t first same)) ∙ some,
     )))
 
-pub label-valid : (isa : Isa) (name : List ℕ) (d : Data) (l : Label) → is_label_name name ≡ true
-    → selected_label isa name d ≡ Ok l → IsValid isa l
-label-valid isa name d l named e =
-    bind-ok (main_of name d) (λ m. first_points isa (at_node name m.0) m.1
-    >>= (λ first. nodes isa name d first)) l e
-    (λ m a r. bind-ok (first_points isa (at_node name m.0) m.1)
-    (λ first. nodes isa name d first) l r
+pub label-valid : (isa : Isa) (families : Families) (name : List ℕ) (d : Data) (l : Label)
+    → is_label_name name ≡ true
+    → selected_label isa families name d ≡ Ok l → IsValid isa l
+label-valid isa families name d l named e =
+    bind-ok (main_of name d) (λ m. first_points isa families (at_node name m.0) m.1
+    >>= (λ first. nodes isa families name d first)) l e
+    (λ m a r. bind-ok (first_points isa families (at_node name m.0) m.1)
+    (λ first. nodes isa families name d first) l r
     (λ first b s.
-    let p = first-mains isa name d m first a b in
+    let p = first-mains isa families name d m first a b in
     let mains = p.0 in
-    bind-ok (for_each (node_step isa name) (own_pairs d) (starting first))
+    bind-ok (for_each (node_step isa families name) (own_pairs d) (starting first))
     (λ n. Ok (finished name (ops_of first.points) n)) l s
     (λ n f k.
     let fits =
-    nodes-fit isa name (own_pairs d) (starting first) n (starting-fits isa first mains) f in
+    nodes-fit isa families name (own_pairs d) (starting first) n (starting-fits isa first mains) f
+    in
     subst (IsValid isa) (ok-is (finished name (ops_of first.points) n) l k) (record {
       named = named;
       some_op = some-there first.count (length first.points) (length (ops_of first.points)) p.1
@@ -370,37 +378,40 @@ label-valid isa name d l named e =
     }))))
 
 -- ---- labels
-chosen-good : (isa : Isa) (name : List ℕ) (d : Data) (b : Bool) (l : Label)
-    → is_label_name name ≡ true → chosen isa name d b ≡ Ok l → IsValidIfSelected isa l
-chosen-good isa name d true l named e = λ s. label-valid isa name d l named e
-chosen-good isa name d false l named e =
+chosen-good : (isa : Isa) (families : Families) (name : List ℕ) (d : Data) (b : Bool) (l : Label)
+    → is_label_name name ≡ true → chosen isa families name d b ≡ Ok l → IsValidIfSelected isa l
+chosen-good isa families name d true l named e = λ s. label-valid isa families name d l named e
+chosen-good isa families name d false l named e =
     subst (IsValidIfSelected isa) (ok-is (unselected name) l e) (λ s. cc)
 
-label-good : (isa : Isa) (name : List ℕ) (d : Data) (l : Label) → label_of isa name d ≡ Ok l
+label-good : (isa : Isa) (families : Families) (name : List ℕ) (d : Data) (l : Label)
+    → label_of isa families name d ≡ Ok l
     → IsValidIfSelected isa l
-label-good isa name d l e =
+label-good isa families name d l e =
     if-ok (is_label_name name)
-    (if is_map d then map_label isa name d else refused (at_label name) fault.BadShape)
+    (if is_map d then map_label isa families name d else refused (at_label name) fault.BadShape)
     (refused (at_label name) fault.BadLabelName) l e
-    (λ named g. if-ok (is_map d) (map_label isa name d) (refused (at_label name) fault.BadShape) l g
+    (λ named g. if-ok (is_map d) (map_label isa families name d)
+    (refused (at_label name) fault.BadShape) l g
     (λ m r. bind-ok (selects name (config_holds isa (value_at (codes "config") d)))
-    (λ b. chosen isa name d b) l r (λ b a s. chosen-good isa name d b l named s))
+    (λ b. chosen isa families name d b) l r (λ b a s. chosen-good isa families name d b l named s))
     (λ m r. err-not _ l r))
     (λ n g. err-not _ l g)
 
 abbrev pub Goods : Isa → Listed → Type 0
 Goods isa listed = All (IsValidIfSelected isa) listed.labels
 
-step-good : (isa : Isa) (name : List ℕ) (d : Data) (l m : Listed) → Goods isa l
-    → label_step isa name d l ≡ Ok m → Goods isa m
-step-good isa name d l m h e =
+step-good : (isa : Isa) (families : Families) (name : List ℕ) (d : Data) (l m : Listed)
+    → Goods isa l
+    → label_step isa families name d l ≡ Ok m → Goods isa m
+step-good isa families name d l m h e =
     if-ok (bytes_eq name (codes "datasets")) (Ok l)
     (holds (nat_lt (length l.labels) 256) (at_label name)
-    fault.TooManyLabels >> (label_of isa name d >>= (λ x. with_label name x l))) m e
+    fault.TooManyLabels >> (label_of isa families name d >>= (λ x. with_label name x l))) m e
     (λ b g. subst (Goods isa) (ok-is l m g) h)
     (λ b g. holds-then (nat_lt (length l.labels) 256) (at_label name) fault.TooManyLabels
-    (label_of isa name d >>= (λ x. with_label name x l)) m g
-    (λ few r. bind-ok (label_of isa name d) (λ x. with_label name x l) m r
+    (label_of isa families name d >>= (λ x. with_label name x l)) m g
+    (λ few r. bind-ok (label_of isa families name d) (λ x. with_label name x l) m r
     (λ x a s. holds-then (nat_le (l.total + size_of x) 65536) (at_label name) fault.TooManyPoints
     (Ok (record {
       labels = l.labels ++ x ∷ [];
@@ -409,19 +420,22 @@ step-good isa name d l m h e =
     (λ c k. subst (Goods isa) (ok-is (record {
       labels = l.labels ++ x ∷ [];
       total = l.total + size_of x;
-    }) m k) (All-push (IsValidIfSelected isa) l.labels x h (label-good isa name d x a))))))
+    }) m k) (All-push (IsValidIfSelected isa) l.labels x h (label-good isa families name d x a))))))
 
-pub groups_good : (isa : Isa) (d : Data) (ls : List Label) → groups_of isa d ≡ Ok ls
+pub groups_good : (isa : Isa) (families : Families) (d : Data) (ls : List Label)
+    → groups_of isa families d ≡ Ok ls
     → All (IsValidIfSelected isa) ls
 unfolding groups_of
-groups_good isa d ls e =
+groups_good isa families d ls e =
     bind-ok (entries (at_label []) d)
-    (λ es. for_each (label_step isa) es nothing_listed >>= (λ listed. Ok listed.labels)) ls e
-    (λ es _ r. bind-ok (for_each (label_step isa) es nothing_listed)
+    (λ es. for_each (label_step isa families) es nothing_listed >>= (λ listed. Ok listed.labels)) ls
+    e
+    (λ es _ r. bind-ok (for_each (label_step isa families) es nothing_listed)
     (λ listed. Ok listed.labels) ls r
     (λ listed a s. subst (λ (xs : List Label). All (IsValidIfSelected isa) xs)
     (ok-is listed.labels ls s)
-    (each-kept (Goods isa) (label_step isa) (step-good isa) es nothing_listed listed
+    (each-kept (Goods isa) (label_step isa families) (step-good isa families) es nothing_listed
+    listed
     (All-nil (IsValidIfSelected isa)) a)))
 
 All-map : {A B : Type 0} (P : B → Type 0) (f : A → B) (xs : List A) → All P (map f xs)
@@ -430,9 +444,9 @@ All-map P f [] h = All-nil (λ x. P (f x))
 All-map P f (x ∷ xs) h = All-cons (λ x. P (f x)) x xs (All-head P (f x) (map f xs) h)
     (All-map P f xs (All-tail P (f x) (map f xs) h))
 
-pub read_valid : (isa : Isa) (d : Data) (r : Result (List Read) CgfRefusal)
-    → AnswersWith (map label_view) r (groups_of isa d)
+pub read_valid : (isa : Isa) (families : Families) (d : Data) (r : Result (List Read) CgfRefusal)
+    → AnswersWith (map label_view) r (groups_of isa families d)
     → IfOk r (All (λ l. IsValidIfSelected isa (label_view l)))
-read_valid isa d (Ok ls) e =
-    All-map (IsValidIfSelected isa) label_view ls (groups_good isa d (map label_view ls) e)
-read_valid isa d (Err r) e = tt
+read_valid isa families d (Ok ls) e =
+    All-map (IsValidIfSelected isa) label_view ls (groups_good isa families d (map label_view ls) e)
+read_valid isa families d (Err r) e = tt

@@ -2,12 +2,13 @@
 use Rattle.std.specs.Prelude.{ℕ, List, [], length, Ok}
 use Rattle.rvs_insn.specs.Isa.{Isa}
 use Rattle.rvs_tree.specs.Data.{Data}
+use Rattle.rvs_abstract.specs.declared.families.Families.{Families}
 use Rattle.rvs_cgf.specs.Groups.{Found, ◌>>=◌, Listed, groups_of}
 use Rattle.rvs_cgf.specs.Print.{normal_text}
 
 -- the normal text of a tree's groups
-abbrev pub normal_of : Isa → Data → Found (List ℕ)
-normal_of isa d = groups_of isa d >>= (λ groups. Ok (normal_text groups))
+abbrev pub normal_of : Isa → Families → Data → Found (List ℕ)
+normal_of isa families d = groups_of isa families d >>= (λ groups. Ok (normal_text groups))
 
 -- labels by their normal text, how many they are, and the sum of their points times mnemonics
 pub record Told : Type 0 where

@@ -19,6 +19,7 @@ use crate::print::push_label;
 use crate::refusal::{CgfKind, CgfRefusal};
 use crate::walk::{holds, no_memory, refusal};
 use crate::written::Written;
+use rvs_abstract::Families;
 use rvs_base::{NoMemory, Text, release};
 use rvs_insn::IsaSpec;
 use rvs_tree::Tree;
@@ -71,20 +72,21 @@ fn with_label(
 fn write_step(
     alloc: Global,
     isa: &IsaSpec,
+    families: Families,
     name: &str,
     entries: &Tree,
     written: Written,
 ) -> Result<Written, CgfRefusal>
     ensures { (listed : spec.Listed) → written_view written ≡ told listed
         → AnswersWith written_view result
-        (told_of (spec.label_step isa.now name.now (trees.view entries.now) listed)) }
+        (told_of (spec.label_step isa.now families name.now (trees.view entries.now) listed)) }
 {
     if name == "datasets" {
         return Ok(written);
     }
     let few = written.count < MOST_LABELS;
     holds(alloc, few, at_label(name), CgfKind::TooManyLabels)?;
-    let label = label_of(alloc, isa, name, entries)?;
+    let label = label_of(alloc, isa, families, name, entries)?;
     let written = with_label(alloc, name, &label, written);
     release(label);
     written
@@ -101,15 +103,20 @@ fn nothing_written(alloc: Global) -> Written
 }
 
 /// The labels of a map, written out.
-fn write_labels(alloc: Global, isa: &IsaSpec, root: &Tree) -> Result<Written, CgfRefusal>
+fn write_labels(
+    alloc: Global,
+    isa: &IsaSpec,
+    families: Families,
+    root: &Tree,
+) -> Result<Written, CgfRefusal>
     requires { IsTrue (is_map (trees.view root.now)) }
     ensures { AnswersWith written_view result
-        (told_of (spec.for_each (spec.label_step isa.now) (own_pairs (trees.view root.now))
+        (told_of (spec.for_each (spec.label_step isa.now families) (own_pairs (trees.view root.now))
         spec.nothing_listed)) }
 {
     let mut written = nothing_written(alloc);
     for i in 0..root.len() {
-        match write_step(alloc, isa, root.key(i), root.item(i), written) {
+        match write_step(alloc, isa, families, root.key(i), root.item(i), written) {
             Ok(next) => written = next,
             Err(why) => return Err(why),
         }
@@ -124,8 +131,13 @@ fn write_labels(alloc: Global, isa: &IsaSpec, root: &Tree) -> Result<Written, Cg
 ///
 /// [`CgfRefusal`], as `read_groups` has it.
 #[tactic(auto, unfolding(crate::specs::Groups::groups_of))]
-pub fn write_groups(alloc: Global, tree: &Tree, isa: &IsaSpec) -> Result<Text, CgfRefusal>
-    ensures { AnswersWith (λ text. text) result (normal_of isa.now (trees.view tree.now)) }
+pub fn write_groups(
+    alloc: Global,
+    tree: &Tree,
+    isa: &IsaSpec,
+    families: Families,
+) -> Result<Text, CgfRefusal>
+    ensures { AnswersWith (λ text. text) result (normal_of isa.now families (trees.view tree.now)) }
 {
     if is_empty_scalar(tree) {
         return Ok(Text::new(alloc));
@@ -135,7 +147,7 @@ pub fn write_groups(alloc: Global, tree: &Tree, isa: &IsaSpec) -> Result<Text, C
             text,
             count: _,
             total: _,
-        } = write_labels(alloc, isa, tree)?;
+        } = write_labels(alloc, isa, families, tree)?;
         return Ok(text);
     }
     Err(refusal(alloc, at_label(""), CgfKind::BadShape))

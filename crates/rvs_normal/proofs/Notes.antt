@@ -7,6 +7,7 @@ use Rattle.std.specs.List.{list_any, list_all}
 use Rattle.std.proofs.lemmas.List.Folds.{list_any-append, list_all-append}
 use Rattle.rvs_insn.specs.Isa.{Isa}
 use Rattle.rvs_tree.specs.Data.{Data, Pairs, own_pairs, is_map}
+use Rattle.rvs_abstract.specs.declared.families.Families.{Families}
 use Rattle.rvs_cgf.specs.Keys.{is_printable, is_label_name}
 use Rattle.rvs_cgf.specs.Groups.{Point, Label, EntryNames, at_label, at_node, at_key, Found, ◌>>=◌}
 use Rattle.rvs_cgf.specs.Groups.{◌>>◌, holds, Taken, Nodes, Listed, entries, all_entries}
@@ -73,31 +74,35 @@ noted-kept Q = record {
 abbrev NodesNoted : Nodes → Type 0
 NodesNoted n = Noted n.taken
 
-role-noted : (isa : Isa) (label node : List ℕ) (d : Data) (r : Role) (n : Nodes) → Suits node r
-    → NodesNoted n → Has NodesNoted (by_role isa (at_node label node) d r n)
-role-noted isa label node d role.Main n good h = h
-role-noted isa label node d role.Config n good h = h
-role-noted isa label node d (role.Entries k) n good h =
+role-noted : (isa : Isa) (families : Families) (label node : List ℕ) (d : Data) (r : Role)
+    (n : Nodes) → Suits node r
+    → NodesNoted n → Has NodesNoted (by_role isa families (at_node label node) d r n)
+role-noted isa families label node d role.Main n good h = h
+role-noted isa families label node d role.Config n good h = h
+role-noted isa families label node d (role.Entries k) n good h =
     let place = at_node label node in
-    has-then Noted NodesNoted (all_entries isa k place d n.taken) _
-    (has-of Noted (all_entries isa k place d n.taken) (λ u g. entries-kept Noted isa k place
-    (λ key. entry-kept Noted isa k (noted-kept (IsOf k)) (good.node_of k refl).other
+    has-then Noted NodesNoted (all_entries isa families k place d n.taken) _
+    (has-of Noted (all_entries isa families k place d n.taken)
+    (λ u g. entries-kept Noted isa families k place
+    (λ key. entry-kept Noted isa families k (noted-kept (IsOf k)) (good.node_of k refl).other
     (at_key place key) (good.printable refl)) d n.taken u h g))
     (λ t m. m)
-role-noted isa label node d role.PassedOver n good h =
+role-noted isa families label node d role.PassedOver n good h =
     let place = at_node label node in
     has-then Noted NodesNoted (passed_over place d n.taken) _
     (has-of Noted (passed_over place d n.taken) (λ u g. passed-kept Noted (λ p. ⊥)
     (noted-kept (λ p. ⊥)) place (good.printable refl) d n.taken u h g))
     (λ t m. m)
-role-noted isa label node d role.Unknown n good h = tt
+role-noted isa families label node d role.Unknown n good h = tt
 
-nodes-noted : (isa : Isa) (label : List ℕ) (es : Pairs) (n : Nodes) → NodesNoted n
-    → Has NodesNoted (for_each (node_step isa label) es n)
-nodes-noted isa label [] n h = h
-nodes-noted isa label (e ∷ es) n h = has-then NodesNoted NodesNoted (node_step isa label e.0 e.1 n)
-    _ (role-noted isa label e.0 e.1 (role_of e.0) n (role-suits e.0) h)
-    (λ m k. nodes-noted isa label es m k)
+nodes-noted : (isa : Isa) (families : Families) (label : List ℕ) (es : Pairs) (n : Nodes)
+    → NodesNoted n
+    → Has NodesNoted (for_each (node_step isa families label) es n)
+nodes-noted isa families label [] n h = h
+nodes-noted isa families label (e ∷ es) n h =
+    has-then NodesNoted NodesNoted (node_step isa families label e.0 e.1 n)
+    _ (role-noted isa families label e.0 e.1 (role_of e.0) n (role-suits e.0) h)
+    (λ m k. nodes-noted isa families label es m k)
 
 -- ---- labels
 abbrev IsNamed : List ℕ → Label → Type 0
@@ -106,31 +111,34 @@ IsNamed name l = (l.name ≡ name) × (notes_are_printable l ≡ true)
 name-printable : (name : List ℕ) → is_label_name name ≡ true → is_printable name ≡ true
 name-printable name h = plain-inked name (name-plain name h)
 
-label-named : (isa : Isa) (name : List ℕ) (d : Data) → is_label_name name ≡ true
-    → Has (IsNamed name) (selected_label isa name d)
-label-named isa name d h =
+label-named : (isa : Isa) (families : Families) (name : List ℕ) (d : Data)
+    → is_label_name name ≡ true
+    → Has (IsNamed name) (selected_label isa families name d)
+label-named isa families name d h =
     has-next (IsNamed name) (main_of name d) _ (λ m.
-    has-next (IsNamed name) (first_points isa (at_node name m.0) m.1) _ (λ first.
+    has-next (IsNamed name) (first_points isa families (at_node name m.0) m.1) _ (λ first.
     has-then NodesNoted (IsNamed name)
-    (for_each (node_step isa name) (own_pairs d) (starting first)) _
-    (nodes-noted isa name (own_pairs d) (starting first) refl)
+    (for_each (node_step isa families name) (own_pairs d) (starting first)) _
+    (nodes-noted isa families name (own_pairs d) (starting first) refl)
     (λ n k. (
       refl,
       and-true (is_printable name) (list_all is_note n.taken.skipped)
           (name-printable name h) k,
     ))))
 
-chosen-named : (isa : Isa) (name : List ℕ) (d : Data) (b : Bool) → is_label_name name ≡ true
-    → Has (IsNamed name) (chosen isa name d b)
-chosen-named isa name d true h = label-named isa name d h
-chosen-named isa name d false h =
+chosen-named : (isa : Isa) (families : Families) (name : List ℕ) (d : Data) (b : Bool)
+    → is_label_name name ≡ true
+    → Has (IsNamed name) (chosen isa families name d b)
+chosen-named isa families name d true h = label-named isa families name d h
+chosen-named isa families name d false h =
     (refl, and-true (is_printable name) true (name-printable name h) refl)
 
-of-named : (isa : Isa) (name : List ℕ) (d : Data) → Has (IsNamed name) (label_of isa name d)
-of-named isa name d =
+of-named : (isa : Isa) (families : Families) (name : List ℕ) (d : Data)
+    → Has (IsNamed name) (label_of isa families name d)
+of-named isa families name d =
     has-if (IsNamed name) (is_label_name name) _ _
     (λ h. has-if (IsNamed name) (is_map d) _ _
-    (λ _. has-next (IsNamed name) (selects name _) _ (λ b. chosen-named isa name d b h))
+    (λ _. has-next (IsNamed name) (selects name _) _ (λ b. chosen-named isa families name d b h))
     (λ _. tt))
     (λ _. tt)
 
@@ -188,17 +196,18 @@ any-turned k (e ∷ es) h =
     or-false (bytes_eq k e.0) (list_any (λ f. bytes_eq k f.0) es) (eq-back e.0 k p.0)
     (any-turned k es p.1)
 
-step-well : (isa : Isa) (e : List ℕ × Data) (es : Pairs) (l : Listed)
+step-well : (isa : Isa) (families : Families) (e : List ℕ × Data) (es : Pairs) (l : Listed)
     → list_any (λ f. bytes_eq f.0 e.0) es ≡ false → Well (e ∷ es) l
-    → Has (Well es) (label_step isa e.0 e.1 l)
-step-well isa e es l own w =
+    → Has (Well es) (label_step isa families e.0 e.1 l)
+step-well isa families e es l own w =
     has-if (Well es) (bytes_eq e.0 (codes "datasets")) (Ok l) (holds (nat_lt (length l.labels) 256)
-    (at_label e.0) fault.TooManyLabels >> (label_of isa e.0 e.1 >>= (λ m. with_label e.0 m l)))
+    (at_label e.0) fault.TooManyLabels
+    >> (label_of isa families e.0 e.1 >>= (λ m. with_label e.0 m l)))
     (λ _. record { apart = w.apart; notes = w.notes; later = later-less l.labels e es w.later })
     (λ _. has-holds (Well es) (nat_lt (length l.labels) 256) (at_label e.0) fault.TooManyLabels
-    (label_of isa e.0 e.1 >>= (λ m. with_label e.0 m l))
-    (λ _. has-then (IsNamed e.0) (Well es) (label_of isa e.0 e.1) (λ m. with_label e.0 m l)
-    (of-named isa e.0 e.1)
+    (label_of isa families e.0 e.1 >>= (λ m. with_label e.0 m l))
+    (λ _. has-then (IsNamed e.0) (Well es) (label_of isa families e.0 e.1) (λ m. with_label e.0 m l)
+    (of-named isa families e.0 e.1)
     (λ m n. has-holds (Well es) (nat_le (l.total + size_of m) 65536) (at_label e.0)
     fault.TooManyPoints
     (Ok (record {
@@ -213,28 +222,29 @@ step-well isa e es l own w =
           ∙ any-turned e.0 es own);
     }))))
 
-each-well : (isa : Isa) (es : Pairs) (l : Listed) → keys_are_own es ≡ true → Well es l
-    → Has (Well []) (for_each (label_step isa) es l)
-each-well isa [] l own w = w
-each-well isa (e ∷ es) l own w =
+each-well : (isa : Isa) (families : Families) (es : Pairs) (l : Listed) → keys_are_own es ≡ true
+    → Well es l
+    → Has (Well []) (for_each (label_step isa families) es l)
+each-well isa families [] l own w = w
+each-well isa families (e ∷ es) l own w =
     let p = both (not (list_any (λ f. bytes_eq f.0 e.0) es)) (keys_are_own es) own in
-    has-then (Well es) (Well []) (label_step isa e.0 e.1 l) _
-    (step-well isa e es l (not-true (list_any (λ f. bytes_eq f.0 e.0) es) p.0) w)
-    (λ m v. each-well isa es m p.1 v)
+    has-then (Well es) (Well []) (label_step isa families e.0 e.1 l) _
+    (step-well isa families e es l (not-true (list_any (λ f. bytes_eq f.0 e.0) es) p.0) w)
+    (λ m v. each-well isa families es m p.1 v)
 
 pub record IsWell (ls : List Label) : Type 0 where
   pub apart : names_are_apart ls ≡ true
   pub notes : AllNotes ls
 
-groups-well : (isa : Isa) (d : Data) → keys_are_own (own_pairs d) ≡ true
-    → Has IsWell (groups_of isa d)
+groups-well : (isa : Isa) (families : Families) (d : Data) → keys_are_own (own_pairs d) ≡ true
+    → Has IsWell (groups_of isa families d)
 unfolding groups_of
-groups-well isa d own =
+groups-well isa families d own =
     has-then (λ es. keys_are_own es ≡ true) IsWell (entries (at_label []) d) _
     (has-of (λ es. keys_are_own es ≡ true) (entries (at_label []) d)
     (λ es g. entries-are (λ es. keys_are_own es ≡ true) (at_label []) d es g refl own))
-    (λ es k. has-then (Well []) IsWell (for_each (label_step isa) es nothing_listed) _
-    (each-well isa es nothing_listed k (record {
+    (λ es k. has-then (Well []) IsWell (for_each (label_step isa families) es nothing_listed) _
+    (each-well isa families es nothing_listed k (record {
       apart = refl;
       notes = tt;
       later = tt;
@@ -243,6 +253,7 @@ groups-well isa d own =
       notes = w.notes;
     }))
 
-pub read-well : (isa : Isa) (d : Data) (ls : List Label) → keys_are_own (own_pairs d) ≡ true
-    → groups_of isa d ≡ Ok ls → IsWell ls
-read-well isa d ls own e = subst (Has IsWell) e (groups-well isa d own)
+pub read-well : (isa : Isa) (families : Families) (d : Data) (ls : List Label)
+    → keys_are_own (own_pairs d) ≡ true
+    → groups_of isa families d ≡ Ok ls → IsWell ls
+read-well isa families d ls own e = subst (Has IsWell) e (groups-well isa families d own)

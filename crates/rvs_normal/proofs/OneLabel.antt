@@ -70,5 +70,6 @@ example-read isa =
       tree = r.tree;
       is = ap answer (sym text_is) ∙ r.is;
       spells = r.spells;
-      groups_are = spelled_is_read isa isa (example ∷ []) r.tree (can isa) refl r.spells;
+      groups_are = λ families.
+          spelled_is_read isa isa families (example ∷ []) r.tree (can isa) refl r.spells;
     }

@@ -16,6 +16,7 @@ use Rattle.rvs_yaml_text.specs.Text.{lines_of, words_of}
 use Rattle.rvs_yaml.specs.Checks.{Checked, ◌>>=◌, ◌>>◌}
 use Rattle.rvs_yaml.specs.Block.{tree_of}
 use Rattle.rvs_yaml.specs.Parsed.{within_limits, front, at_end, answer_after, answer}
+use Rattle.rvs_abstract.specs.declared.families.Families.{Families}
 use Rattle.rvs_cgf.specs.Keys.{is_printable}
 use Rattle.rvs_cgf.specs.Groups.{Point, Label, size_of, groups_of, ops_of}
 use Rattle.rvs_cgf.specs.Print.{doubled, doubled_byte, head_line, point_line, points_text}
@@ -261,35 +262,39 @@ record WasRead (isa : Isa) (ls : List Label) : Type 0 where
   printed : ArePrinted ls
   apart : names_are_apart (selected ls) ≡ true
 
-was-read : (isa : Isa) (bytes : List ℕ) (d : Data) (ls : List Label) → answer bytes ≡ Ok d
-    → groups_of isa d ≡ Ok ls → WasRead isa ls
-was-read isa bytes d ls a g =
+was-read : (isa : Isa) (families : Families) (bytes : List ℕ) (d : Data) (ls : List Label)
+    → answer bytes ≡ Ok d
+    → groups_of isa families d ≡ Ok ls → WasRead isa ls
+was-read isa families bytes d ls a g =
     let owned = answer-owned bytes d a in
-    let can = groups-spelled isa d ls (nodes-own d owned) g in
-    let well = read-well isa d ls (top-own d owned) g in
+    let can = groups-spelled isa families d ls (nodes-own d owned) g in
+    let well = read-well isa families d ls (top-own d owned) g in
     record {
       can = can;
       printed = all-printed isa ls can.plain well.notes;
       apart = selected-apart ls well.apart;
     }
 
-pub read-again : (isa other : Isa) (bytes : List ℕ) (d : Data) (ls : List Label)
-    → answer bytes ≡ Ok d → groups_of isa d ≡ Ok ls → KeepsLimit (normal_text ls)
+pub read-again : (isa other : Isa) (families : Families) (bytes : List ℕ) (d : Data)
+    (ls : List Label)
+    → answer bytes ≡ Ok d → groups_of isa families d ≡ Ok ls → KeepsLimit (normal_text ls)
     → are_admitted other ls ≡ true → IsReadAgain other ls
-read-again isa other bytes d ls a g keeps admits =
-    let w = was-read isa bytes d ls a g in
+read-again isa other families bytes d ls a g keeps admits =
+    let w = was-read isa families bytes d ls a g in
     let r = printed-is-read ls w.printed (all-some isa (selected ls) w.can.plain) w.apart
     (printed-few ls w.printed w.apart keeps) in
     record {
       tree = r.tree;
       is = r.is;
-      groups_are = spelled_is_read isa other ls r.tree w.can admits r.spells;
+      groups_are = λ any. spelled_is_read isa other any ls r.tree w.can admits r.spells;
     }
 
-pub short-keeps : (isa : Isa) (bytes : List ℕ) (d : Data) (ls : List Label) → answer bytes ≡ Ok d
-    → groups_of isa d ≡ Ok ls → length (normal_text ls) ≤ 4194304 → KeepsLimit (normal_text ls)
-short-keeps isa bytes d ls a g short =
-    let w = was-read isa bytes d ls a g in
+pub short-keeps : (isa : Isa) (families : Families) (bytes : List ℕ) (d : Data) (ls : List Label)
+    → answer bytes ≡ Ok d
+    → groups_of isa families d ≡ Ok ls → length (normal_text ls) ≤ 4194304
+    → KeepsLimit (normal_text ls)
+short-keeps isa families bytes d ls a g short =
+    let w = was-read isa families bytes d ls a g in
     printed-keeps ls w.printed w.apart (omega (
       arith,
       whole-cost (selected ls),
@@ -301,7 +306,8 @@ short-keeps isa bytes d ls a g short =
       short,
     ))
 
-pub own-admitted : (isa : Isa) (bytes : List ℕ) (d : Data) (ls : List Label) → answer bytes ≡ Ok d
-    → groups_of isa d ≡ Ok ls → are_admitted isa ls ≡ true
-own-admitted isa bytes d ls a g =
-    plain-admitted isa (selected ls) (was-read isa bytes d ls a g).can.plain
+pub own-admitted : (isa : Isa) (families : Families) (bytes : List ℕ) (d : Data) (ls : List Label)
+    → answer bytes ≡ Ok d
+    → groups_of isa families d ≡ Ok ls → are_admitted isa ls ≡ true
+own-admitted isa families bytes d ls a g =
+    plain-admitted isa (selected ls) (was-read isa families bytes d ls a g).can.plain

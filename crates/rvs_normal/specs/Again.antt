@@ -8,6 +8,7 @@ use Rattle.rvs_tree.specs.Value.{Value}
 use Rattle.rvs_yaml_text.specs.Text.{lines_of, words_of}
 use Rattle.rvs_yaml.specs.Block.{tree_of}
 use Rattle.rvs_yaml.specs.Parsed.{answer}
+use Rattle.rvs_abstract.specs.declared.families.Families.{Families}
 use Rattle.rvs_cgf.specs.Keys.{is_printable}
 use Rattle.rvs_cgf.specs.Groups.{Label, groups_of}
 use Rattle.rvs_cgf.specs.Print.{normal_text}
@@ -27,9 +28,10 @@ notes_are_printable l =
 abbrev pub KeepsLimit : List ℕ → Type 0
 KeepsLimit text = (v : Value) → tree_of (words_of 1 false (lines_of text)) ≡ Ok v → v.nodes ≤ 500000
 
--- the normal text is accepted, and gives for this core the selected labels with the same mnemonics
--- and points, and nothing skipped
+-- the normal text is accepted, and gives for this core, whichever families are read, the selected
+-- labels with the same mnemonics and points, and nothing skipped
 pub record IsReadAgain (isa : Isa) (groups : List Label) : Type 0 where
   pub tree : Data
   pub is : answer (normal_text groups) ≡ Ok tree
-  pub groups_are : groups_of isa tree ≡ Ok (map bare (selected groups))
+  pub groups_are : (families : Families)
+      → groups_of isa families tree ≡ Ok (map bare (selected groups))

@@ -1,7 +1,7 @@
 // Group files, as they are printed or refused.
 use crate::stage::{number, plain};
 use rvs_base::{Items, NoMemory, Text, release};
-use rvs_cgf::{CgfRefusal, Groups, normal_text, read_groups, refusal_text};
+use rvs_cgf::{CgfRefusal, Families, Groups, normal_text, read_groups, refusal_text};
 use rvs_count::count_log;
 use rvs_insn::IsaSpec;
 use std::alloc::Global;
@@ -21,7 +21,7 @@ fn printed(alloc: Global, file: &str) -> Result<Text, NoMemory> {
     let Ok(tree) = rvs_yaml::parse(alloc, file.as_bytes()) else {
         return Ok(Text::new(alloc));
     };
-    match read_groups(alloc, &tree, &CORE) {
+    match read_groups(alloc, &tree, &CORE, Families::Stated) {
         Ok(groups) => normal_text(alloc, &groups),
         Err(refusal) => refusal_text(alloc, &refusal),
     }
@@ -38,7 +38,7 @@ pub fn tell_file(alloc: Global, row: &str, report: &mut String) -> Result<(), Fa
 /// The groups of a file.
 pub fn groups_of(alloc: Global, file: &str) -> Result<Groups, Fail> {
     let tree = rvs_yaml::parse(alloc, file.as_bytes()).map_err(|_| "no tree")?;
-    let groups = read_groups(alloc, &tree, &CORE).map_err(|_| "no groups")?;
+    let groups = read_groups(alloc, &tree, &CORE, Families::Stated).map_err(|_| "no groups")?;
     Ok(groups)
 }
 
@@ -127,7 +127,7 @@ fn tell_refusal(alloc: Global, refusal: &CgfRefusal, report: &mut String) -> Res
 /// Adds how many points the first label of a file has and skips, or why the file is refused.
 fn tell_read(alloc: Global, file: &str, report: &mut String) -> Result<(), Fail> {
     let tree = rvs_yaml::parse(alloc, file.as_bytes()).map_err(|_| "no tree")?;
-    let found = read_groups(alloc, &tree, &CORE);
+    let found = read_groups(alloc, &tree, &CORE, Families::Stated);
     release(tree);
     match found {
         Ok(groups) => {

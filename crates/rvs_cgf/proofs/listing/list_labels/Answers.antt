@@ -7,7 +7,8 @@ use Rattle.rvs_cgf.proofs.listing.list_labels.Goals as goal
 
 pub loop-i-preserved : goal.loop-i-preserved
 loop-i-preserved c =
-    each-more (label_step c.args.isa.now) (view c.args.root.now) c.loop-i.i c.key.result.now
+    each-more (label_step c.args.isa.now c.args.families) (view c.args.root.now) c.loop-i.i
+    c.key.result.now
     (view c.item.result.now) (listed_view c.loop-i.listed) (listed_view c.in-Ok.next) c.requires
     c.key.ensures c.item.ensures c.in-Ok.ensures
     ∙ c.loop-i.invariant
@@ -15,6 +16,7 @@ loop-i-preserved c =
 pub returns-in-Err : goal.returns-in-Err
 returns-in-Err c = λ k.
     sym c.loop-i.invariant
-    ∙ each-fails (label_step c.args.isa.now) (view c.args.root.now) c.loop-i.i c.key.result.now
+    ∙ each-fails (label_step c.args.isa.now c.args.families) (view c.args.root.now) c.loop-i.i
+    c.key.result.now
     (view c.item.result.now) (listed_view c.loop-i.listed) (refusal_view c.in-Err.why)
     c.requires c.key.ensures c.item.ensures (c.in-Err.ensures k)

@@ -6,6 +6,6 @@ use Rattle.rvs_cgf.specs.GroupView.{listed_view}
 use Rattle.rvs_cgf.proofs.listing.list_labels.Given as goal
 
 abbrev pub invariant-loop-i : goal.invariant-loop-i
-invariant-loop-i l = for_each (label_step l.isa) (drop l.i (own_pairs (view l.root)))
+invariant-loop-i l = for_each (label_step l.isa l.families) (drop l.i (own_pairs (view l.root)))
     (listed_view l.listed)
-    ≡ for_each (label_step l.isa) (own_pairs (view l.root)) nothing_listed
+    ≡ for_each (label_step l.isa l.families) (own_pairs (view l.root)) nothing_listed

@@ -1,0 +1,25 @@
+use Rattle.std.proofs.Common.{◌<◌, ◌∙◌, sym, arith}
+use Rattle.rvs_abstract.specs.CallView.{ranged_view}
+use Rattle.rvs_cgf.specs.Groups.{add_kth, count_of}
+use Rattle.rvs_cgf.specs.GroupView.{taken_view, refusal_view}
+use Rattle.rvs_cgf.specs.PlaceView.{place_view}
+use Rattle.rvs_cgf.proofs.Loops.{step-more, step-fails}
+use Rattle.rvs_cgf.proofs.families.family_values.Goals as goal
+
+pub loop-k-preserved : goal.loop-k-preserved
+loop-k-preserved c =
+    let f = ranged_view c.args.f.now in
+    let below : c.loop-k.k < count_of f =
+    omega (arith, c.loop-k-test.true, c.len-k-end.ensures) in
+    step-more (add_kth (place_view c.args.place) f) (count_of f) c.loop-k.k
+    (taken_view c.loop-k.taken) (taken_view c.in-Ok.next) below c.in-Ok.ensures
+    ∙ c.loop-k.invariant
+
+pub returns-in-Err : goal.returns-in-Err
+returns-in-Err c = λ k.
+    let f = ranged_view c.args.f.now in
+    let below : c.loop-k.k < count_of f =
+    omega (arith, c.loop-k-test.true, c.len-k-end.ensures) in
+    sym c.loop-k.invariant
+    ∙ step-fails (add_kth (place_view c.args.place) f) (count_of f) c.loop-k.k
+    (taken_view c.loop-k.taken) (refusal_view c.in-Err.why) below (c.in-Err.ensures k)
