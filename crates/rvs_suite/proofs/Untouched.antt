@@ -219,11 +219,11 @@ stops_untouched (Run asked) first =
     (runs-on asked.program asked.work inputs) goes))
 stops_untouched (Coverage asked) first =
     untouched-then (covering.reported asked) print_text
-    (reads-reported (covering.reports asked.windows) asked.isa asked.groups asked.log)
+    (reads-reported (covering.measure asked.windows) asked.isa asked.groups asked.logs)
     (λ report effects stop c goes. absurd (goes-on (print_text report) effects stop tt goes))
 stops_untouched (Propagate asked) first =
     untouched-then (propagating.reported asked) print_text
-    (reads-reported (propagating.reports asked.signature) asked.isa asked.groups asked.log)
+    (reads-reported (propagating.measure asked.signature) asked.isa asked.groups asked.logs)
     (λ report effects stop c goes. absurd (goes-on (print_text report) effects stop tt goes))
 stops_untouched (RunDatabase asked) first = absurd first
 stops_untouched (Select asked) first =

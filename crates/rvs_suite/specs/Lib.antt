@@ -22,6 +22,7 @@ pub mod Seen
 pub mod GroupsView
 pub mod Normalize
 pub mod Normalizing
+pub mod Summing
 pub mod LogReport
 pub mod Coverage
 pub mod Covering

@@ -18,12 +18,26 @@ use Rattle.rvs_suite.specs.Covering.{HasReported}
 use Rattle.rvs_suite.specs.GroupFiles.{Inputs, inputs_in}
 use Rattle.rvs_log.specs.Lines.{log_limit}
 use Rattle.rvs_suite.specs.Propagate.{report_in}
+use Rattle.rvs_suite.specs.LogReport.{AreLogs}
+use Rattle.rvs_suite.specs.Summing.{over}
+use Rattle.rvs_base.specs.declared.asked.Window.{Window}
 use Rattle.rvs_words.specs.declared.command.Command.TheVariants.{Propagate}
 use Rattle.rvs_words.specs.declared.command.PropagateArguments.{PropagateArguments}
 
 -- the named log has these bytes
 abbrev pub IsLog : Files → List ℕ → List ℕ → Type 0
 IsLog files log bytes = (files log ≡ Some bytes) × (length bytes ≤ log_limit)
+
+-- of several logs: how many hits of a point reach the signature, how many there are, and how many
+-- instructions
+abbrev pub reached_in : Window → List (List ℕ) → Aim → ℕ
+reached_in range logs a = over (λ log. reached range.lo range.hi (acts_of log) a) logs
+
+abbrev pub hits_in : List (List ℕ) → Aim → ℕ
+hits_in logs a = over (λ log. hit_count (entries_of log) a) logs
+
+abbrev pub entries_in : List (List ℕ) → ℕ
+entries_in logs = over (λ log. length (entries_of log)) logs
 
 -- the first of two instructions alone hits the point
 abbrev pub IsFirst : Aim → Act → Act → Type 0
@@ -34,20 +48,28 @@ pub record Propagates (call : Call) (files : Files) (asked : PropagateArguments)
   -- it is done where all files are accepted, and has put the report; it is refused, or the host
   -- fails, at the first file that isn't
   pub answered : Answered call (report_in files asked) (OnDone (HasReported call))
-  -- the numbers of the report are those of the log: how many of the hits of each point of the
-  -- groups reach the signature, how many hits there are, and how many instructions
-  pub numbers : (inputs : Inputs) (bytes : List ℕ)
+  -- the numbers of the report are those of the logs, each by itself and then added up: how many of
+  -- the hits of each point of the groups reach the signature, how many hits there are, and how many
+  -- instructions
+  pub numbers : (inputs : Inputs) (logs : List (List ℕ))
       → inputs_in files asked.isa asked.groups ≡ Ok inputs
-      → IsLog files asked.log bytes → call.status ≡ Done
+      → AreLogs files asked.logs logs → call.status ≡ Done
+      → HasReported call (report_of inputs.groups
+      (map (reached_in asked.signature logs) (aims_of inputs.groups))
+      (map (hits_in logs) (aims_of inputs.groups)) (entries_in logs))
+  -- so those of one log are its own
+  pub single : (inputs : Inputs) (log bytes : List ℕ)
+      → inputs_in files asked.isa asked.groups ≡ Ok inputs → asked.logs ≡ log ∷ []
+      → IsLog files log bytes → call.status ≡ Done
       → HasReported call (report_of inputs.groups
       (map (reached asked.signature.lo asked.signature.hi (acts_of bytes)) (aims_of inputs.groups))
       (map (hit_count (entries_of bytes)) (aims_of inputs.groups)) (length (entries_of bytes)))
   -- so where the log has two instructions, of which the first alone hits the one point of the one
   -- label, and the second stores its result in the signature, the report counts one of one
-  pub one : (isa' : Isa) (l : Label) (p : Point) (hit store : Act) (bytes : List ℕ)
+  pub one : (isa' : Isa) (l : Label) (p : Point) (hit store : Act) (log bytes : List ℕ)
       → inputs_in files asked.isa asked.groups ≡ Ok (record { isa = isa'; groups = l ∷ [] })
-      → IsTrue l.selected → l.points ≡ p ∷ []
-      → IsLog files asked.log bytes → acts_of bytes ≡ hit ∷ store ∷ []
+      → IsTrue l.selected → l.points ≡ p ∷ [] → asked.logs ≡ log ∷ []
+      → IsLog files log bytes → acts_of bytes ≡ hit ∷ store ∷ []
       → IsFirst (record { ops = l.ops; point = p }) hit store
       → (target_of hit.entry == 0) ≡ false
       → saves_register asked.signature.lo asked.signature.hi (target_of hit.entry) store.entry

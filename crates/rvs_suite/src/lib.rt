@@ -22,6 +22,7 @@ mod run;
 mod run_database;
 mod selecting;
 mod suite;
+mod summing;
 mod test_files;
 mod test_run;
 mod texts;

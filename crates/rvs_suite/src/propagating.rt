@@ -1,35 +1,38 @@
 // The command `propagate`.
-ghost use Rattle.std.specs.Prelude.{◌≡◌, ◌≤◌, ◌^◌, [], ℕ, List, IfOk};
+ghost use Rattle.std.specs.Prelude.{◌≡◌, ◌≤◌, ◌^◌, [], ℕ, List, IfOk, length};
 ghost use Rattle.rvs_base.specs.Sink.{SinkState};
 ghost use Rattle.rvs_plan.specs.World.{world};
-ghost use Rattle.rvs_plan.specs.Plan.{Asks, Ends};
 ghost use Rattle.rvs_plan.specs.Meets.{Meets};
 ghost use Rattle.rvs_cgf.specs.declared.group.Label.{Label};
+ghost use Rattle.rvs_count.specs.Counting.{aims_in};
 ghost use Rattle.rvs_count.specs.State.{ended};
 ghost use Rattle.rvs_prop.specs.State.{state_of};
 ghost use Rattle.rvs_base.specs.declared.asked.Window.{Window as Span};
 ghost use Rattle.rvs_suite.specs.GroupsView.{groups_view};
-ghost use Rattle.rvs_suite.specs.LogReport.{log_bound, found_by};
-ghost use Rattle.rvs_suite.specs.Propagate.{report_on, reports, reported, propagate};
+ghost use Rattle.rvs_suite.specs.Propagate.{untracked, tracked_with, report_on, measure, reported};
+ghost use Rattle.rvs_suite.specs.Propagate.{AreLong, propagate};
 ghost use Rattle.rvs_log.specs.Lines.{log_limit};
+ghost use Rattle.rvs_suite.specs.LogReport.{takes_log, takes_logs, reads_logs};
 
 use crate::covering::LOG_LIMIT;
 use crate::group_files::read_inputs;
 use crate::printing::print_text;
-use rvs_base::{Host, NoMemory, Sink, Text};
+use crate::summing::plus_each;
+use rvs_base::{Host, Items, NoMemory, Sink, Text, Window};
 use rvs_cgf::Groups;
-use rvs_count::LogFault;
+use rvs_count::{LogFault, zeros};
 use rvs_plan::{Finish, Stop, too_long};
-use rvs_prop::{Tracker, track_file};
+use rvs_prop::{Tracked, Tracker, propagation_text, track_file};
 use rvs_words::{PropagateArguments, owned};
 use std::alloc::Global;
 
 /// Counts how many hits of coverage points have their instruction's result stored in the signature,
-/// and puts the report. The log is read in one pass, in memory that doesn't depend on its length.
+/// and puts the report. Each log is tracked by itself and read in one pass, in memory that doesn't
+/// depend on its length, and the numbers are added up.
 ///
 /// # Errors
 ///
-/// [`Stop`]; nothing is put before the log has been read to its end.
+/// [`Stop`]; nothing is put before the last log has been read to its end.
 pub fn propagate_log<H: Host, O: Sink>(
     alloc: Global,
     asked: &PropagateArguments,
@@ -54,61 +57,159 @@ fn read_report<H: Host>(
         (world (H.state host.old) out) (world (H.state host.new) out) result }
 {
     let inputs = read_inputs(alloc, host, &asked.isa, &asked.groups)?;
-    track_named(alloc, host, &inputs.groups, asked)
+    report_logs(alloc, host, &inputs.groups, asked)
 }
 
-/// Tracks hits in the named log, and makes the report.
-fn track_named<H: Host>(
+/// Tracks hits in all logs, and makes the report.
+fn report_logs<H: Host>(
     alloc: Global,
     host: &mut H,
     groups: &Groups,
     asked: &PropagateArguments,
 ) -> Result<Text, Stop>
     ensures { (out : SinkState) → Meets
-        (Asks asked.now.log log_bound (λ found. Ends
-        (found_by (reports asked.now.signature) (groups_view groups.now) asked.now.log found)))
+        (reads_logs (measure asked.now.signature) asked.now.logs (groups_view groups.now))
         (world (H.state host.old) out) (world (H.state host.new) out) result }
 {
-    let range = asked.signature;
-    let mut tracker = Tracker::new(alloc, groups, range.lo, range.hi)?;
-    track_with(alloc, host, &mut tracker, asked.log.as_str())
+    let tracked = track_all(alloc, host, groups, asked)?;
+    Ok(report_of(alloc, groups, &tracked)?)
 }
 
-/// Tracks hits in the named log with a new tracker, and makes the report.
+#[tactic(auto, unfolding(crate::specs::Propagate::report_on))]
+fn report_of(alloc: Global, groups: &Groups, tracked: &Tracked) -> Result<Text, NoMemory>
+    requires { AreLong (length (aims_in groups.now)) tracked.now }
+    ensures { IfOk result (λ text. text ≡ report_on (groups_view groups.now) tracked.now) }
+{
+    let reached = tracked.reached.as_slice();
+    let hits = tracked.hits.as_slice();
+    propagation_text(alloc, groups, reached, hits, tracked.instructions)
+}
+
+/// Nothing tracked of the points of groups.
+fn nothing(alloc: Global, groups: &Groups) -> Result<Tracked, NoMemory>
+    ensures tracked { IfOk result (λ t. t ≡ untracked (groups_view groups.now)) }
+    ensures long { IfOk result (AreLong (length (aims_in groups.now))) }
+{
+    let reached = zeros(alloc, groups.as_slice())?;
+    let hits = zeros(alloc, groups.as_slice())?;
+    Ok(Tracked {
+        reached: Items::from(reached),
+        hits: Items::from(hits),
+        instructions: 0,
+    })
+}
+
+/// Tracks hits in all logs, one after the other.
+fn track_all<H: Host>(
+    alloc: Global,
+    host: &mut H,
+    groups: &Groups,
+    asked: &PropagateArguments,
+) -> Result<Tracked, Stop>
+    ensures met { (out : SinkState) → Meets
+        (takes_logs (tracked_with asked.now.signature (groups_view groups.now))
+        (untracked (groups_view groups.now)) asked.now.logs)
+        (world (H.state host.old) out) (world (H.state host.new) out) result }
+    ensures long { IfOk result (AreLong (length (aims_in groups.now))) }
+{
+    let none = nothing(alloc, groups)?;
+    track_onto(
+        alloc,
+        host,
+        groups,
+        asked.signature,
+        none,
+        asked.logs.as_slice(),
+    )
+}
+
+/// Tracks hits in some logs more, one after the other.
+fn track_onto<H: Host>(
+    alloc: Global,
+    host: &mut H,
+    groups: &Groups,
+    range: Window,
+    none: Tracked,
+    logs: &[Text],
+) -> Result<Tracked, Stop>
+    requires { AreLong (length (aims_in groups.now)) none }
+    ensures met { (out : SinkState) → Meets
+        (takes_logs (tracked_with range (groups_view groups.now)) none logs.now)
+        (world (H.state host.old) out) (world (H.state host.new) out) result }
+    ensures long { IfOk result (AreLong (length (aims_in groups.now))) }
+{
+    let mut tracked = none;
+    for log in logs {
+        tracked = track_one(alloc, host, groups, range, tracked, log.as_str())?;
+    }
+    Ok(tracked)
+}
+
+/// Tracks hits in the named log, by itself, onto what was tracked before.
+fn track_one<H: Host>(
+    alloc: Global,
+    host: &mut H,
+    groups: &Groups,
+    range: Window,
+    tracked: Tracked,
+    log: &str,
+) -> Result<Tracked, Stop>
+    ensures met { (out : SinkState) → Meets
+        (takes_log (tracked_with range (groups_view groups.now)) tracked log.now)
+        (world (H.state host.old) out) (world (H.state host.new) out) result }
+    ensures long { (n : ℕ) → AreLong n tracked → IfOk result (AreLong n) }
+{
+    let mut tracker = Tracker::new(alloc, groups, range.lo, range.hi)?;
+    track_with(alloc, host, &mut tracker, tracked, log)
+}
+
+/// Tracks hits in the named log with a new tracker, onto what was tracked before.
 // The buffer for the log would lie on the stack under every command if this were inlined.
 #[inline(never)]
 fn track_with<H: Host>(
     alloc: Global,
     host: &mut H,
     tracker: &mut Tracker<'_>,
+    tracked: Tracked,
     log: &str,
-) -> Result<Text, Stop>
-    ensures { (out : SinkState) (groups : List Label) (range : Span)
+) -> Result<Tracked, Stop>
+    ensures met { (out : SinkState) (groups : List Label) (range : Span)
         → tracker.old ≡ state_of groups range.lo range.hi [] 0 → tracker.new.fed ≤ log_limit
-        → Meets
-        (Asks log.now log_bound (λ found. Ends
-        (found_by (reports range) (groups_view groups) log.now found)))
+        → Meets (takes_log (tracked_with range (groups_view groups)) tracked log.now)
         (world (H.state host.old) out) (world (H.state host.new) out) result }
+    ensures long { (n : ℕ) → AreLong n tracked → IfOk result (AreLong n) }
 {
     let name = owned(alloc, log)?;
     match track_file(host, log, tracker) {
-        Ok(()) => Ok(report_at_end(alloc, tracker)?),
+        Ok(()) => Ok(with_ended(tracked, tracker)),
         Err(LogFault::NoFile) => Err(Stop::NoFile(name)),
         Err(LogFault::Failed) => Err(Stop::CannotRead(name)),
         Err(LogFault::TooLong) => Err(Stop::Refused(too_long(alloc, log, LOG_LIMIT)?)),
     }
 }
 
-/// The report of a tracker at the end of its log.
-fn report_at_end(alloc: Global, tracker: &mut Tracker<'_>) -> Result<Text, NoMemory>
+/// With what a tracker has at the end of its log.
+fn with_ended(tracked: Tracked, tracker: &mut Tracker<'_>) -> Tracked
     ensures state { (labels : List Label) (lo hi : ℕ) (bytes : List ℕ) (n : ℕ)
         → tracker.old ≡ state_of labels lo hi bytes n
         → tracker.new ≡ state_of labels lo hi (ended bytes) n }
-    ensures report { IfOk result (λ text.
-        (labels : List Label) (range : Span) (bytes : List ℕ) (n : ℕ)
+    ensures tracked { (labels : List Label) (range : Span) (bytes : List ℕ) (n : ℕ)
         → tracker.old ≡ state_of labels range.lo range.hi bytes n
-        → text ≡ report_on (groups_view labels) range bytes) }
+        → result ≡ tracked_with range (groups_view labels) tracked bytes }
+    ensures long { (n : ℕ) → AreLong n tracked → AreLong n result }
 {
     tracker.finish();
-    tracker.report(alloc)
+    let Tracked {
+        reached: before,
+        hits: behind,
+        instructions: earlier,
+    } = tracked;
+    let stored = tracker.reached();
+    let hit = tracker.hits();
+    let ran = tracker.instructions();
+    Tracked {
+        reached: plus_each(before, stored),
+        hits: plus_each(behind, hit),
+        instructions: earlier.saturating_add(ran),
+    }
 }

@@ -95,14 +95,14 @@ validates_are_read program isa m =
     (pair (codes "--isa") isa ∷ []) (Validate (record { isa = isa.text }))
     (option_alone (codes "--isa") isa-name isa (and-left (may_stand isa) true m)) refl refl
 
-enough : (values : List Value) → 1 ≤ length values → length values ≤ 64
-    → (nat_le 1 (length (map text_of values)) && nat_le (length (map text_of values)) 64) ≡ true
-enough values low high = simp length-map (grind (arith, nat_tests))
+enough : (most : ℕ) (values : List Value) → 1 ≤ length values → length values ≤ most
+    → (nat_le 1 (length (map text_of values)) && nat_le (length (map text_of values)) most) ≡ true
+enough most values low high = simp length-map (grind (arith, nat_tests))
 
-some : (values : List Value) → 1 ≤ length values → length values ≤ 64
-    → some_of 64 (map text_of values) ≡ Some (map text_of values)
-some values low high =
-    ap (λ (b : Bool). cond b (Some (map text_of values)) None) (enough values low high)
+some : (most : ℕ) (values : List Value) → 1 ≤ length values → length values ≤ most
+    → some_of most (map text_of values) ≡ Some (map text_of values)
+some most values low high =
+    ap (λ (b : Bool). cond b (Some (map text_of values)) None) (enough most values low high)
 
 pub normalize-of : (values : Values) (isa : List ℕ) (groups : List (List ℕ))
     → only (values (codes "--isa")) ≡ Some isa
@@ -148,7 +148,7 @@ normalizes_are_read program isa groups m few =
     (normalize-of (of-values (pair (codes "--isa") isa ∷ rest)) isa.text (map text_of groups)
     (ap (λ vs. only (isa.text ∷ vs)) (values_other (codes "--isa") (codes "--cgf") refl groups []))
     (ap (some_of 64) (own-values (codes "--cgf") cgf-name groups [] refl)
-    ∙ some groups few.0 few.1))
+    ∙ some 64 groups few.0 few.1))
 
 pub generate-of : (values : Values) (isa work : List ℕ) (groups : List (List ℕ))
     → only (values (codes "--isa")) ≡ Some isa
@@ -178,7 +178,7 @@ generates_are_read program isa work groups m few =
     (ap (λ vs. only (isa.text ∷ vs))
     (values_other (codes "--isa") (codes "--cgf") refl groups behind))
     (ap (some_of 64) (own-values (codes "--cgf") cgf-name groups behind refl)
-    ∙ some groups few.0 few.1)
+    ∙ some 64 groups few.0 few.1)
     (ap only (values_other (codes "--work") (codes "--cgf") refl groups behind)))
 
 pub run-of : (program : List ℕ) (values : Values) (isa device work : List ℕ)
@@ -233,92 +233,101 @@ runs_are_read program isa device work groups m few =
     (ap (λ vs. only (isa.text ∷ vs))
     (values_other (codes "--isa") (codes "--cgf") refl groups behind))
     (ap (some_of 64) (own-values (codes "--cgf") cgf-name groups behind refl)
-    ∙ some groups few.0 few.1)
+    ∙ some 64 groups few.0 few.1)
     (ap only (values_other (codes "--device") (codes "--cgf") refl groups behind))
     (ap only (values_other (codes "--work") (codes "--cgf") refl groups behind))))
 
-pub coverage-of : (values : Values) (isa log : List ℕ) (groups : List (List ℕ))
+pub coverage-of : (values : Values) (isa : List ℕ) (groups logs : List (List ℕ))
     (kept : List Window)
     → only (values (codes "--isa")) ≡ Some isa
     → some_of 64 (values (codes "--cgf")) ≡ Some groups
-    → only (values (codes "--log")) ≡ Some log
+    → some_of 4096 (values (codes "--log")) ≡ Some logs
     → windows_of (values (codes "--window")) ≡ Some kept
     → coverage_of values ≡ Some (Coverage
-    (record { isa = isa; groups = groups; log = log; windows = kept }))
-coverage-of values isa log groups kept a b c d =
-    λ k. a k >>= (λ isa. b k >>= (λ groups. c k >>= (λ log. d k >>= (λ windows. Some (Coverage
-    (record { isa = isa; groups = groups; log = log; windows = windows }))))))
+    (record { isa = isa; groups = groups; logs = logs; windows = kept }))
+coverage-of values isa groups logs kept a b c d =
+    λ k. a k >>= (λ isa. b k >>= (λ groups. c k >>= (λ logs. d k >>= (λ windows. Some (Coverage
+    (record { isa = isa; groups = groups; logs = logs; windows = windows }))))))
 
 pub coverages_are_read : CoveragesAreRead
-coverages_are_read program isa log groups windows kept m w few fit =
-    let m1 = others-stand isa (log ∷ groups) m in
+coverages_are_read program isa groups logs windows kept m l w few many fit =
     let ends = pairs (codes "--window") windows ++ [] in
-    let behind = pair (codes "--log") log ∷ ends in
+    let behind = pairs (codes "--log") logs ++ ends in
     let rest = pairs (codes "--cgf") groups ++ behind in
-    let last = option (codes "--log") log ++ options (codes "--window") windows in
+    let last = options (codes "--log") logs ++ options (codes "--window") windows in
     let words = options (codes "--cgf") groups ++ last in
     let read =
-    option_read (codes "--isa") isa-name isa words rest (first-stands isa (log ∷ groups) m)
-    (options_read (codes "--cgf") cgf-name groups last behind (others-stand log groups m1)
-    (option_read (codes "--log") log-name log (options (codes "--window") windows) ends
-    (first-stands log groups m1)
+    option_read (codes "--isa") isa-name isa words rest (first-stands isa groups m)
+    (options_read (codes "--cgf") cgf-name groups last behind (others-stand isa groups m)
+    (options_read (codes "--log") log-name logs (options (codes "--window") windows) ends l
     (options_alone (codes "--window") window-name windows w))) in
+    let without = λ (name : List ℕ) (a : bytes_eq (codes "--log") name
+    ≡ false) (b : bytes_eq (codes "--window") name ≡ false).
+    values_other name (codes "--log") a logs ends
+    ∙ values_other name (codes "--window") b windows [] in
     of-pairs coverage_options coverage_of (option (codes "--isa") isa ++ words)
     (pair (codes "--isa") isa ∷ rest) _ read
     (known_pairs coverage_options (codes "--cgf") refl groups behind
+    ∙ known_pairs coverage_options (codes "--log") refl logs ends
     ∙ known_pairs coverage_options (codes "--window") refl windows [])
-    (coverage-of (of-values (pair (codes "--isa") isa ∷ rest)) isa.text log.text
-    (map text_of groups) kept
+    (coverage-of (of-values (pair (codes "--isa") isa ∷ rest)) isa.text (map text_of groups)
+    (map text_of logs) kept
     (ap (λ vs. only (isa.text ∷ vs))
     (values_other (codes "--isa") (codes "--cgf") refl groups behind
-    ∙ values_other (codes "--isa") (codes "--window") refl windows []))
+    ∙ without (codes "--isa") refl refl))
     (ap (some_of 64) (own-values (codes "--cgf") cgf-name groups behind
-    (values_other (codes "--cgf") (codes "--window") refl windows []))
-    ∙ some groups few.0 few.1)
-    (ap only (values_other (codes "--log") (codes "--cgf") refl groups behind)
-    ∙ ap (λ vs. only (log.text ∷ vs))
+    (without (codes "--cgf") refl refl))
+    ∙ some 64 groups few.0 few.1)
+    (ap (some_of 4096) (values_other (codes "--log") (codes "--cgf") refl groups behind
+    ∙ own-values (codes "--log") log-name logs ends
     (values_other (codes "--log") (codes "--window") refl windows []))
+    ∙ some 4096 logs many.0 many.1)
     (ap windows_of (values_other (codes "--window") (codes "--cgf") refl groups behind
+    ∙ values_other (codes "--window") (codes "--log") refl logs ends
     ∙ own-values (codes "--window") window-name windows [] refl) ∙ fit))
 
-pub propagate-of : (values : Values) (isa log : List ℕ) (groups : List (List ℕ)) (range : Window)
+pub propagate-of : (values : Values) (isa : List ℕ) (groups logs : List (List ℕ)) (range : Window)
     → only (values (codes "--isa")) ≡ Some isa
     → some_of 64 (values (codes "--cgf")) ≡ Some groups
-    → only (values (codes "--log")) ≡ Some log
+    → some_of 4096 (values (codes "--log")) ≡ Some logs
     → range_of (values (codes "--signature")) ≡ Some range
     → propagate_of values ≡ Some (Propagate
-    (record { isa = isa; groups = groups; log = log; signature = range }))
-propagate-of values isa log groups range a b c d =
-    λ k. a k >>= (λ isa. b k >>= (λ groups. c k >>= (λ log. d k >>= (λ signature. Some (Propagate
-    (record { isa = isa; groups = groups; log = log; signature = signature }))))))
+    (record { isa = isa; groups = groups; logs = logs; signature = range }))
+propagate-of values isa groups logs range a b c d =
+    λ k. a k >>= (λ isa. b k >>= (λ groups. c k >>= (λ logs. d k >>= (λ signature. Some (Propagate
+    (record { isa = isa; groups = groups; logs = logs; signature = signature }))))))
 
 pub propagates_are_read : PropagatesAreRead
-propagates_are_read program isa log signature groups range m few fit =
-    let m1 = others-stand isa (log ∷ signature ∷ groups) m in
-    let m2 = others-stand log (signature ∷ groups) m1 in
+propagates_are_read program isa signature groups logs range m l few many fit =
+    let m1 = others-stand isa (signature ∷ groups) m in
     let ends = pair (codes "--signature") signature ∷ [] in
-    let behind = pair (codes "--log") log ∷ ends in
+    let behind = pairs (codes "--log") logs ++ ends in
     let rest = pairs (codes "--cgf") groups ++ behind in
-    let last = option (codes "--log") log ++ option (codes "--signature") signature in
+    let last = options (codes "--log") logs ++ option (codes "--signature") signature in
     let words = options (codes "--cgf") groups ++ last in
     let read = option_read (codes "--isa") isa-name isa words rest
-    (first-stands isa (log ∷ signature ∷ groups) m)
-    (options_read (codes "--cgf") cgf-name groups last behind (others-stand signature groups m2)
-    (option_read (codes "--log") log-name log (option (codes "--signature") signature) ends
-    (first-stands log (signature ∷ groups) m1)
+    (first-stands isa (signature ∷ groups) m)
+    (options_read (codes "--cgf") cgf-name groups last behind (others-stand signature groups m1)
+    (options_read (codes "--log") log-name logs (option (codes "--signature") signature) ends l
     (option_alone (codes "--signature") signature-name signature
-    (first-stands signature groups m2)))) in
+    (first-stands signature groups m1)))) in
     of-pairs propagate_options propagate_of (option (codes "--isa") isa ++ words)
     (pair (codes "--isa") isa ∷ rest) _ read
-    (known_pairs propagate_options (codes "--cgf") refl groups behind)
-    (propagate-of (of-values (pair (codes "--isa") isa ∷ rest)) isa.text log.text
-    (map text_of groups) range
+    (known_pairs propagate_options (codes "--cgf") refl groups behind
+    ∙ known_pairs propagate_options (codes "--log") refl logs ends)
+    (propagate-of (of-values (pair (codes "--isa") isa ∷ rest)) isa.text (map text_of groups)
+    (map text_of logs) range
     (ap (λ vs. only (isa.text ∷ vs))
-    (values_other (codes "--isa") (codes "--cgf") refl groups behind))
-    (ap (some_of 64) (own-values (codes "--cgf") cgf-name groups behind refl)
-    ∙ some groups few.0 few.1)
-    (ap only (values_other (codes "--log") (codes "--cgf") refl groups behind))
-    (ap range_of (values_other (codes "--signature") (codes "--cgf") refl groups behind) ∙ fit))
+    (values_other (codes "--isa") (codes "--cgf") refl groups behind
+    ∙ values_other (codes "--isa") (codes "--log") refl logs ends))
+    (ap (some_of 64) (own-values (codes "--cgf") cgf-name groups behind
+    (values_other (codes "--cgf") (codes "--log") refl logs ends))
+    ∙ some 64 groups few.0 few.1)
+    (ap (some_of 4096) (values_other (codes "--log") (codes "--cgf") refl groups behind
+    ∙ own-values (codes "--log") log-name logs ends refl)
+    ∙ some 4096 logs many.0 many.1)
+    (ap range_of (values_other (codes "--signature") (codes "--cgf") refl groups behind
+    ∙ values_other (codes "--signature") (codes "--log") refl logs ends) ∙ fit))
 
 pub reference-of : (values : Values) (isa test signature : List ℕ) (log : Option (List ℕ))
     (count : Option ℕ)

@@ -53,6 +53,10 @@ listed (Some value) = value ∷ []
 abbrev pub AreGroups : List Value → Type 0
 AreGroups groups = (1 ≤ length groups) × (length groups ≤ 64)
 
+-- one to 4,096 execution logs
+abbrev pub AreLogs : List Value → Type 0
+AreLogs logs = (1 ≤ length logs) × (length logs ≤ 4096)
+
 abbrev pub ComparesAreRead : Type 0
 ComparesAreRead =
     (program left right : List ℕ) → stands_alone left ≡ true → stands_alone right ≡ true
@@ -101,31 +105,31 @@ ReferencesAreRead =
 -- the windows needn't stand
 abbrev pub CoveragesAreRead : Type 0
 CoveragesAreRead =
-    (program : List ℕ) (isa log : Value) (groups windows : List Value) (kept : List Window)
-    → AllMayStand (isa ∷ log ∷ groups) → AllMayStand windows → AreGroups groups
-    → windows_of (map text_of windows) ≡ Some kept
+    (program : List ℕ) (isa : Value) (groups logs windows : List Value) (kept : List Window)
+    → AllMayStand (isa ∷ groups) → AllMayStand logs → AllMayStand windows → AreGroups groups
+    → AreLogs logs → windows_of (map text_of windows) ≡ Some kept
     → command_of (program ∷ codes "coverage" ∷ option (codes "--isa") isa
     ++ (options (codes "--cgf") groups
-    ++ (option (codes "--log") log ++ options (codes "--window") windows)))
+    ++ (options (codes "--log") logs ++ options (codes "--window") windows)))
     ≡ Coverage (record {
       isa = isa.text;
       groups = map text_of groups;
-      log = log.text;
+      logs = map text_of logs;
       windows = kept;
     })
 
 abbrev pub PropagatesAreRead : Type 0
 PropagatesAreRead =
-    (program : List ℕ) (isa log signature : Value) (groups : List Value) (range : Window)
-    → AllMayStand (isa ∷ log ∷ signature ∷ groups) → AreGroups groups
+    (program : List ℕ) (isa signature : Value) (groups logs : List Value) (range : Window)
+    → AllMayStand (isa ∷ signature ∷ groups) → AllMayStand logs → AreGroups groups → AreLogs logs
     → window_of signature.text ≡ Some range
     → command_of (program ∷ codes "propagate" ∷ option (codes "--isa") isa
     ++ (options (codes "--cgf") groups
-    ++ (option (codes "--log") log ++ option (codes "--signature") signature)))
+    ++ (options (codes "--log") logs ++ option (codes "--signature") signature)))
     ≡ Propagate (record {
       isa = isa.text;
       groups = map text_of groups;
-      log = log.text;
+      logs = map text_of logs;
       signature = range;
     })
 

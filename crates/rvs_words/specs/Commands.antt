@@ -41,6 +41,10 @@ some_of most values = if nat_le 1 (length values) && nat_le (length values) most
 abbrev pub most_groups : ℕ
 most_groups = 64
 
+-- so many execution logs may be named
+abbrev pub most_logs : ℕ
+most_logs = 4096
+
 -- the values of each option, by its name
 abbrev pub Values : Type 0
 Values = List ℕ → List (List ℕ)
@@ -108,9 +112,9 @@ abbrev pub coverage_of : Values → Option Command
 coverage_of values = do
   isa ← only (values (codes "--isa"))
   groups ← some_of most_groups (values (codes "--cgf"))
-  log ← only (values (codes "--log"))
+  logs ← some_of most_logs (values (codes "--log"))
   windows ← windows_of (values (codes "--window"))
-  Some (Coverage (record { isa = isa; groups = groups; log = log; windows = windows }))
+  Some (Coverage (record { isa = isa; groups = groups; logs = logs; windows = windows }))
 
 abbrev pub propagate_options : List (List ℕ)
 propagate_options = codes "--isa" ∷ codes "--cgf" ∷ codes "--log" ∷ codes "--signature" ∷ []
@@ -120,9 +124,9 @@ abbrev pub propagate_of : Values → Option Command
 propagate_of values = do
   isa ← only (values (codes "--isa"))
   groups ← some_of most_groups (values (codes "--cgf"))
-  log ← only (values (codes "--log"))
+  logs ← some_of most_logs (values (codes "--log"))
   signature ← range_of (values (codes "--signature"))
-  Some (Propagate (record { isa = isa; groups = groups; log = log; signature = signature }))
+  Some (Propagate (record { isa = isa; groups = groups; logs = logs; signature = signature }))
 
 abbrev pub select_options : List (List ℕ)
 select_options = codes "--isa" ∷ codes "--database" ∷ []

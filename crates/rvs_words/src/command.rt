@@ -16,7 +16,7 @@ pub enum Command {
     Generate(GenerateArguments),
     /// Run a test on the reference machine, and write its signature.
     Reference(ReferenceArguments),
-    /// Count which coverage points the instructions of a log hit.
+    /// Count which coverage points the instructions of logs hit.
     Coverage(CoverageArguments),
     /// Count how many hits of coverage points have their result stored in the signature.
     Propagate(PropagateArguments),
@@ -88,8 +88,8 @@ pub struct CoverageArguments {
     pub isa: Text,
     /// The group files, one to 64, in the order in which they are joined.
     pub groups: Items<Text>,
-    /// The execution log.
-    pub log: Text,
+    /// The execution logs, one to 4,096, in their order.
+    pub logs: Items<Text>,
     /// The windows of addresses whose instructions are counted, up to 16; all where there are none.
     pub windows: Items<Window>,
 }
@@ -101,8 +101,8 @@ pub struct PropagateArguments {
     pub isa: Text,
     /// The group files, one to 64, in the order in which they are joined.
     pub groups: Items<Text>,
-    /// The execution log.
-    pub log: Text,
+    /// The execution logs, one to 4,096, in their order.
+    pub logs: Items<Text>,
     /// The addresses of the signature.
     pub signature: Window,
 }

@@ -1,7 +1,8 @@
 // The command lines that name coverage group files.
 ghost use Rattle.std.specs.Prelude.{◌≡◌, codes};
 ghost use Rattle.rvs_words.specs.Words.{texts, values_of};
-ghost use Rattle.rvs_words.specs.Commands.{some_of, most_groups, with_options, normalize_options};
+ghost use Rattle.rvs_words.specs.Commands.{some_of, most_groups, most_logs, with_options};
+ghost use Rattle.rvs_words.specs.Commands.{normalize_options};
 ghost use Rattle.rvs_words.specs.Commands.{normalize_of, generate_options, generate_of};
 ghost use Rattle.rvs_words.specs.Commands.{coverage_options, coverage_of};
 ghost use Rattle.rvs_words.specs.Commands.{propagate_options, propagate_of};
@@ -19,6 +20,9 @@ use std::alloc::Global;
 
 /// The most group files that may be named.
 const MOST_GROUPS: usize = 64;
+
+/// The most execution logs that may be named.
+const MOST_LOGS: usize = 4096;
 
 /// Reads the words behind `normalize`.
 ///
@@ -81,9 +85,24 @@ pub fn read_coverage(alloc: Global, words: &[String]) -> Result<Command, Unread>
     Ok(Command::Coverage(CoverageArguments {
         isa: only_value(alloc, pairs, "--isa")?,
         groups: group_files(alloc, pairs)?,
-        log: only_value(alloc, pairs, "--log")?,
+        logs: log_files(alloc, pairs)?,
         windows: given_windows(alloc, pairs)?,
     }))
+}
+
+/// The values of `--log`.
+///
+/// # Errors
+///
+/// [`Unread`]: `NoCommand` where it doesn't stand, or stands more than 4,096 times.
+fn log_files(alloc: Global, pairs: &[Pair]) -> Result<Items<Text>, Unread>
+    ensures { Answers result (some_of most_logs (values_of (codes "--log") pairs.now)) }
+{
+    let files = values(alloc, pairs, "--log")?;
+    match files.as_slice().len() {
+        1..=MOST_LOGS => Ok(files),
+        _ => Err(Unread::NoCommand),
+    }
 }
 
 /// The windows that the values of `--window` spell.
@@ -111,7 +130,7 @@ pub fn read_propagate(alloc: Global, words: &[String]) -> Result<Command, Unread
     Ok(Command::Propagate(PropagateArguments {
         isa: only_value(alloc, pairs, "--isa")?,
         groups: group_files(alloc, pairs)?,
-        log: only_value(alloc, pairs, "--log")?,
+        logs: log_files(alloc, pairs)?,
         signature: given_range(alloc, pairs)?,
     }))
 }
