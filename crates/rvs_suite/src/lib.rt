@@ -15,6 +15,7 @@ mod judging;
 mod listing;
 mod making;
 mod normalizing;
+mod parting;
 mod printing;
 mod propagating;
 mod reference;

@@ -9,6 +9,8 @@ use Rattle.rvs_words.specs.Words.{is_positional, pairs_of, is_among, options_in,
 use Rattle.rvs_words.specs.Words.{are_known, only}
 use Rattle.rvs_words.specs.Words.{at_most_one}
 use Rattle.rvs_words.specs.Windows.{windows_of, range_of}
+use Rattle.rvs_words.specs.PartWords.{parts_of}
+use Rattle.rvs_parts.specs.Parts.{PartValue}
 use Rattle.rvs_text.specs.Options.{◌>>=◌}
 use Rattle.rvs_words.specs.Commands.{Values, with_options, some_of, steps_of}
 use Rattle.rvs_words.specs.Commands.{validate_options, validate_of}
@@ -51,6 +53,9 @@ steps-name = record { alone = refl; joined = λ byte text. refl; same = refl }
 
 pub work-name : IsName (codes "--work")
 work-name = record { alone = refl; joined = λ byte text. refl; same = refl }
+
+pub part-name : IsName (codes "--part")
+part-name = record { alone = refl; joined = λ byte text. refl; same = refl }
 
 window-name : IsName (codes "--window")
 window-name = record { alone = refl; joined = λ byte text. refl; same = refl }
@@ -122,7 +127,7 @@ pub others-stand : (value : Value) (values : List Value) → AllMayStand (value 
 others-stand value values m = and-right (may_stand value) (list_all may_stand values) m
 
 -- the values of one option among pairs of which the first are its own
-own-values : (name : List ℕ) → IsName name → (values : List Value) (more : List Pair)
+pub own-values : (name : List ℕ) → IsName name → (values : List Value) (more : List Pair)
     → values_of name more ≡ []
     → values_of name (pairs name values ++ more) ≡ map text_of values
 own-values name is values more none =
@@ -151,52 +156,73 @@ normalizes_are_read program isa groups m few =
     ∙ some 64 groups few.0 few.1))
 
 pub generate-of : (values : Values) (isa work : List ℕ) (groups : List (List ℕ))
+    (part : Option PartValue)
     → only (values (codes "--isa")) ≡ Some isa
     → some_of 64 (values (codes "--cgf")) ≡ Some groups
     → only (values (codes "--work")) ≡ Some work
-    → generate_of values ≡ Some (Generate (record { isa = isa; groups = groups; work = work }))
-generate-of values isa work groups a b c =
-    λ k. a k >>= (λ isa. b k >>= (λ groups. c k >>= (λ work.
-    Some (Generate (record { isa = isa; groups = groups; work = work })))))
+    → parts_of (values (codes "--part")) ≡ Some part
+    → generate_of values
+    ≡ Some (Generate (record { isa = isa; groups = groups; work = work; part = part }))
+generate-of values isa work groups part a b c d =
+    λ k. a k >>= (λ isa. b k >>= (λ groups. c k >>= (λ work. d k >>= (λ part.
+    Some (Generate (record { isa = isa; groups = groups; work = work; part = part }))))))
 
 pub generates_are_read : GeneratesAreRead
-generates_are_read program isa work groups m few =
+generates_are_read program isa work groups part kept m p few fit =
     let m1 = others-stand isa (work ∷ groups) m in
-    let behind = pair (codes "--work") work ∷ [] in
+    let ends = pairs (codes "--part") (listed part) ++ [] in
+    let behind = pair (codes "--work") work ∷ ends in
     let rest = pairs (codes "--cgf") groups ++ behind in
-    let words = options (codes "--cgf") groups ++ option (codes "--work") work in
+    let last = option (codes "--work") work ++ options (codes "--part") (listed part) in
+    let words = options (codes "--cgf") groups ++ last in
     let read =
     option_read (codes "--isa") isa-name isa words rest (first-stands isa (work ∷ groups) m)
-    (options_read (codes "--cgf") cgf-name groups (option (codes "--work") work) behind
-    (others-stand work groups m1)
-    (option_alone (codes "--work") work-name work (first-stands work groups m1))) in
+    (options_read (codes "--cgf") cgf-name groups last behind (others-stand work groups m1)
+    (option_read (codes "--work") work-name work (options (codes "--part") (listed part)) ends
+    (first-stands work groups m1) (options_alone (codes "--part") part-name (listed part) p))) in
     of-pairs generate_options generate_of (option (codes "--isa") isa ++ words)
     (pair (codes "--isa") isa ∷ rest) _ read
-    (known_pairs generate_options (codes "--cgf") refl groups behind)
+    (known_pairs generate_options (codes "--cgf") refl groups behind
+    ∙ known_pairs generate_options (codes "--part") refl (listed part) [])
     (generate-of (of-values (pair (codes "--isa") isa ∷ rest)) isa.text work.text
-    (map text_of groups)
+    (map text_of groups) kept
     (ap (λ vs. only (isa.text ∷ vs))
-    (values_other (codes "--isa") (codes "--cgf") refl groups behind))
-    (ap (some_of 64) (own-values (codes "--cgf") cgf-name groups behind refl)
+    (values_other (codes "--isa") (codes "--cgf") refl groups behind
+    ∙ values_other (codes "--isa") (codes "--part") refl (listed part) []))
+    (ap (some_of 64) (own-values (codes "--cgf") cgf-name groups behind
+    (values_other (codes "--cgf") (codes "--part") refl (listed part) []))
     ∙ some 64 groups few.0 few.1)
-    (ap only (values_other (codes "--work") (codes "--cgf") refl groups behind)))
+    (ap only (values_other (codes "--work") (codes "--cgf") refl groups behind)
+    ∙ ap (λ vs. only (work.text ∷ vs))
+    (values_other (codes "--work") (codes "--part") refl (listed part) []))
+    (ap parts_of (values_other (codes "--part") (codes "--cgf") refl groups behind
+    ∙ own-values (codes "--part") part-name (listed part) [] refl) ∙ fit))
 
 pub run-of : (program : List ℕ) (values : Values) (isa device work : List ℕ)
-    (groups : List (List ℕ))
+    (groups : List (List ℕ)) (part : Option PartValue)
     → only (values (codes "--isa")) ≡ Some isa
     → some_of 64 (values (codes "--cgf")) ≡ Some groups
     → only (values (codes "--device")) ≡ Some device
     → only (values (codes "--work")) ≡ Some work
+    → parts_of (values (codes "--part")) ≡ Some part
     → run_groups_of program values ≡ Some (Run (record {
       program = program;
       isa = isa;
       groups = groups;
       device = device;
       work = work;
+      part = part;
     }))
-run-of program values isa device work groups a b c d =
-    λ k. a k >>= (λ isa. b k >>= (λ groups. c k >>= (λ device. d k >>= (λ work. Some (Run
-    (record { program = program; isa = isa; groups = groups; device = device; work = work }))))))
+run-of program values isa device work groups part a b c d e =
+    λ k. a k >>= (λ isa. b k >>= (λ groups. c k >>= (λ device. d k >>= (λ work.
+    e k >>= (λ part. Some (Run (record {
+      program = program;
+      isa = isa;
+      groups = groups;
+      device = device;
+      work = work;
+      part = part;
+    })))))))
 
 -- without a database, a run is over group files
 over-groups : (program : List ℕ) (values : Values) (command : Command)
@@ -209,33 +235,47 @@ over-groups program values command none asks =
     ∙ asks
 
 pub runs_are_read : RunsAreRead
-runs_are_read program isa device work groups m few =
+runs_are_read program isa device work groups part kept m p few fit =
     let m1 = others-stand isa (device ∷ work ∷ groups) m in
     let m2 = others-stand device (work ∷ groups) m1 in
-    let behind = pair (codes "--device") device ∷ pair (codes "--work") work ∷ [] in
+    let ends = pairs (codes "--part") (listed part) ++ [] in
+    let second = pair (codes "--work") work ∷ ends in
+    let behind = pair (codes "--device") device ∷ second in
     let rest = pairs (codes "--cgf") groups ++ behind in
-    let last = option (codes "--device") device ++ option (codes "--work") work in
+    let third = option (codes "--work") work ++ options (codes "--part") (listed part) in
+    let last = option (codes "--device") device ++ third in
     let words = options (codes "--cgf") groups ++ last in
     let read = option_read (codes "--isa") isa-name isa words rest
     (first-stands isa (device ∷ work ∷ groups) m)
     (options_read (codes "--cgf") cgf-name groups last behind (others-stand work groups m2)
-    (option_read (codes "--device") device-name device (option (codes "--work") work)
-    (pair (codes "--work") work ∷ [])
+    (option_read (codes "--device") device-name device third second
     (first-stands device (work ∷ groups) m1)
-    (option_alone (codes "--work") work-name work (first-stands work groups m2)))) in
+    (option_read (codes "--work") work-name work (options (codes "--part") (listed part)) ends
+    (first-stands work groups m2)
+    (options_alone (codes "--part") part-name (listed part) p)))) in
+    let without = λ (name : List ℕ) (a : bytes_eq (codes "--part") name
+    ≡ false). values_other name (codes "--part") a (listed part) [] in
     of-pairs run_options (run_of program) (option (codes "--isa") isa ++ words)
     (pair (codes "--isa") isa ∷ rest) _ read
-    (known_pairs run_options (codes "--cgf") refl groups behind)
+    (known_pairs run_options (codes "--cgf") refl groups behind
+    ∙ known_pairs run_options (codes "--part") refl (listed part) [])
     (over-groups program (of-values (pair (codes "--isa") isa ∷ rest)) _
-    (values_other (codes "--database") (codes "--cgf") refl groups behind)
+    (values_other (codes "--database") (codes "--cgf") refl groups behind
+    ∙ without (codes "--database") refl)
     (run-of program (of-values (pair (codes "--isa") isa ∷ rest)) isa.text device.text work.text
-    (map text_of groups)
+    (map text_of groups) kept
     (ap (λ vs. only (isa.text ∷ vs))
-    (values_other (codes "--isa") (codes "--cgf") refl groups behind))
-    (ap (some_of 64) (own-values (codes "--cgf") cgf-name groups behind refl)
+    (values_other (codes "--isa") (codes "--cgf") refl groups behind
+    ∙ without (codes "--isa") refl))
+    (ap (some_of 64) (own-values (codes "--cgf") cgf-name groups behind
+    (without (codes "--cgf") refl))
     ∙ some 64 groups few.0 few.1)
-    (ap only (values_other (codes "--device") (codes "--cgf") refl groups behind))
-    (ap only (values_other (codes "--work") (codes "--cgf") refl groups behind))))
+    (ap only (values_other (codes "--device") (codes "--cgf") refl groups behind)
+    ∙ ap (λ vs. only (device.text ∷ vs)) (without (codes "--device") refl))
+    (ap only (values_other (codes "--work") (codes "--cgf") refl groups behind)
+    ∙ ap (λ vs. only (work.text ∷ vs)) (without (codes "--work") refl))
+    (ap parts_of (values_other (codes "--part") (codes "--cgf") refl groups behind
+    ∙ own-values (codes "--part") part-name (listed part) [] refl) ∙ fit)))
 
 pub coverage-of : (values : Values) (isa : List ℕ) (groups logs : List (List ℕ))
     (kept : List Window)

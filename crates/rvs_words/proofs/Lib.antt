@@ -1,6 +1,7 @@
 mod WordRows
 mod OptionPairs
 mod OptionValues
+mod PartValues
 mod CommandWords
 mod DatabaseWords
 mod OptionOrder
@@ -9,3 +10,4 @@ mod FirstCuts
 mod OptionNames
 mod WindowCuts
 mod WindowTexts
+mod PartTexts

@@ -8,6 +8,8 @@ use Rattle.rvs_base.specs.Number.{hex_word_of}
 use Rattle.rvs_words.specs.Words.{pairs_of, values_of}
 use Rattle.rvs_words.specs.Commands.{most_steps, number_of, steps_of, is_given, command_of}
 use Rattle.rvs_words.specs.Windows.{window_of, windows_of}
+use Rattle.rvs_words.specs.PartWords.{parts_of}
+use Rattle.rvs_parts.specs.Parts.{PartValue}
 use Rattle.rvs_words.specs.declared.words.Pair.{Pair}
 use Rattle.rvs_base.specs.declared.asked.Window.{Window}
 use Rattle.rvs_words.specs.declared.command.Command.TheVariants.{Compare, Validate, Normalize}
@@ -78,11 +80,19 @@ NormalizesAreRead =
 
 abbrev pub GeneratesAreRead : Type 0
 GeneratesAreRead =
-    (program : List ℕ) (isa work : Value) (groups : List Value)
-    → AllMayStand (isa ∷ work ∷ groups) → AreGroups groups
+    (program : List ℕ) (isa work : Value) (groups : List Value) (part : Option Value)
+    (kept : Option PartValue)
+    → AllMayStand (isa ∷ work ∷ groups) → AllMayStand (listed part) → AreGroups groups
+    → parts_of (map text_of (listed part)) ≡ Some kept
     → command_of (program ∷ codes "generate" ∷ option (codes "--isa") isa
-    ++ (options (codes "--cgf") groups ++ option (codes "--work") work))
-    ≡ Generate (record { isa = isa.text; groups = map text_of groups; work = work.text })
+    ++ (options (codes "--cgf") groups
+    ++ (option (codes "--work") work ++ options (codes "--part") (listed part))))
+    ≡ Generate (record {
+      isa = isa.text;
+      groups = map text_of groups;
+      work = work.text;
+      part = kept;
+    })
 
 -- the log and the steps needn't stand
 abbrev pub ReferencesAreRead : Type 0
@@ -135,32 +145,38 @@ PropagatesAreRead =
 
 abbrev pub RunsAreRead : Type 0
 RunsAreRead =
-    (program : List ℕ) (isa device work : Value) (groups : List Value)
-    → AllMayStand (isa ∷ device ∷ work ∷ groups) → AreGroups groups
+    (program : List ℕ) (isa device work : Value) (groups : List Value) (part : Option Value)
+    (kept : Option PartValue)
+    → AllMayStand (isa ∷ device ∷ work ∷ groups) → AllMayStand (listed part) → AreGroups groups
+    → parts_of (map text_of (listed part)) ≡ Some kept
     → command_of (program ∷ codes "run" ∷ option (codes "--isa") isa
-    ++ (options (codes "--cgf") groups
-    ++ (option (codes "--device") device ++ option (codes "--work") work)))
+    ++ (options (codes "--cgf") groups ++ (option (codes "--device") device
+    ++ (option (codes "--work") work ++ options (codes "--part") (listed part)))))
     ≡ Run (record {
       program = program;
       isa = isa.text;
       groups = map text_of groups;
       device = device.text;
       work = work.text;
+      part = kept;
     })
 
 abbrev pub RunsOverDatabasesAreRead : Type 0
 RunsOverDatabasesAreRead =
-    (program : List ℕ) (isa database device work : Value)
-    → AllMayStand (isa ∷ database ∷ device ∷ work ∷ [])
+    (program : List ℕ) (isa database device work : Value) (part : Option Value)
+    (kept : Option PartValue)
+    → AllMayStand (isa ∷ database ∷ device ∷ work ∷ []) → AllMayStand (listed part)
+    → parts_of (map text_of (listed part)) ≡ Some kept
     → command_of (program ∷ codes "run" ∷ option (codes "--isa") isa
-    ++ (option (codes "--database") database
-    ++ (option (codes "--device") device ++ option (codes "--work") work)))
+    ++ (option (codes "--database") database ++ (option (codes "--device") device
+    ++ (option (codes "--work") work ++ options (codes "--part") (listed part)))))
     ≡ RunDatabase (record {
       program = program;
       isa = isa.text;
       database = database.text;
       device = device.text;
       work = work.text;
+      part = kept;
     })
 
 -- a run with both group files and a database, or with neither, is no command
@@ -207,6 +223,13 @@ OptionsChangePlaces =
     → pairs_of words ≡ Some (front ++ first ∷ second ∷ behind)
     → pairs_of others ≡ Some (front ++ second ∷ first ∷ behind)
     → command_of (program ∷ name ∷ words) ≡ command_of (program ∷ name ∷ others)
+
+-- the text of a part gives it
+abbrev pub PartsAreRead : Type 0
+PartsAreRead =
+    (at of : ℕ) → 1 ≤ at → at ≤ of → of ≤ 4096
+    → parts_of ((decimal at ++ (codes "/" ++ decimal of)) ∷ [])
+    ≡ Some (Some (record { at = at; of = of }))
 
 -- the texts of windows below 2^32, of eight digits an address
 abbrev pub window_text : Window → List ℕ

@@ -7,6 +7,7 @@ use Rattle.rvs_base.specs.Digits.{short_number}
 use Rattle.rvs_base.specs.Asked.{size_of}
 use Rattle.rvs_words.specs.Words.{is_positional, is_among, options_in, values_of, only, at_most_one}
 use Rattle.rvs_words.specs.Windows.{windows_of, range_of}
+use Rattle.rvs_words.specs.PartWords.{parts_of}
 use Rattle.rvs_words.specs.declared.command.Command.{Command}
 use Rattle.rvs_words.specs.declared.command.Command.TheVariants.{Unknown, Compare, Validate}
 use Rattle.rvs_words.specs.declared.command.Command.TheVariants.{Normalize, Generate, Reference}
@@ -80,14 +81,15 @@ normalize_of values = do
   Some (Normalize (record { isa = isa; groups = groups }))
 
 abbrev pub generate_options : List (List ℕ)
-generate_options = codes "--isa" ∷ codes "--cgf" ∷ codes "--work" ∷ []
+generate_options = codes "--isa" ∷ codes "--cgf" ∷ codes "--work" ∷ codes "--part" ∷ []
 
 abbrev pub generate_of : Values → Option Command
 generate_of values = do
   isa ← only (values (codes "--isa"))
   groups ← some_of most_groups (values (codes "--cgf"))
   work ← only (values (codes "--work"))
-  Some (Generate (record { isa = isa; groups = groups; work = work }))
+  part ← parts_of (values (codes "--part"))
+  Some (Generate (record { isa = isa; groups = groups; work = work; part = part }))
 
 abbrev pub reference_options : List (List ℕ)
 reference_options =
@@ -139,7 +141,8 @@ select_of values = do
 
 abbrev pub run_options : List (List ℕ)
 run_options =
-    codes "--isa" ∷ codes "--cgf" ∷ codes "--database" ∷ codes "--device" ∷ codes "--work" ∷ []
+    codes "--isa" ∷ codes "--cgf" ∷ codes "--database" ∷ codes "--device" ∷ codes "--work"
+    ∷ codes "--part" ∷ []
 
 -- the program's own name stands for it in the words of a device
 abbrev pub run_groups_of : List ℕ → Values → Option Command
@@ -148,8 +151,15 @@ run_groups_of program values = do
   groups ← some_of most_groups (values (codes "--cgf"))
   device ← only (values (codes "--device"))
   work ← only (values (codes "--work"))
-  Some (Run
-      (record { program = program; isa = isa; groups = groups; device = device; work = work }))
+  part ← parts_of (values (codes "--part"))
+  Some (Run (record {
+    program = program;
+    isa = isa;
+    groups = groups;
+    device = device;
+    work = work;
+    part = part;
+  }))
 
 abbrev pub run_database_of : List ℕ → Values → Option Command
 run_database_of program values = do
@@ -157,8 +167,15 @@ run_database_of program values = do
   database ← only (values (codes "--database"))
   device ← only (values (codes "--device"))
   work ← only (values (codes "--work"))
-  Some (RunDatabase
-      (record { program = program; isa = isa; database = database; device = device; work = work }))
+  part ← parts_of (values (codes "--part"))
+  Some (RunDatabase (record {
+    program = program;
+    isa = isa;
+    database = database;
+    device = device;
+    work = work;
+    part = part;
+  }))
 
 -- whether an option stands
 abbrev pub is_given : List (List ℕ) → Bool

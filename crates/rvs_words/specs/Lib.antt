@@ -1,5 +1,6 @@
 pub mod Words
 pub mod Commands
 pub mod Windows
+pub mod PartWords
 pub mod Reading
 pub mod CommandLaws

@@ -1,5 +1,6 @@
 // What a command line asks for.
 use rvs_base::{DemoSize, Items, Text, Window};
+use rvs_parts::Part;
 
 /// A command with what it is given.
 #[derive(Drop)]
@@ -64,6 +65,8 @@ pub struct GenerateArguments {
     pub groups: Items<Text>,
     /// The folder of the tests, which has to be there.
     pub work: Text,
+    /// The part of the labels, where one is asked for.
+    pub part: Option<Part>,
 }
 
 /// What `reference` is given.
@@ -120,6 +123,8 @@ pub struct RunArguments {
     pub device: Text,
     /// The folder of the tests and signatures, which has to be there.
     pub work: Text,
+    /// The part of the labels, where one is asked for.
+    pub part: Option<Part>,
 }
 
 /// What `run` is given, where it is over a database.
@@ -135,6 +140,8 @@ pub struct RunDatabaseArguments {
     pub device: Text,
     /// The folder of the signatures, which has to be there.
     pub work: Text,
+    /// The part of the tests, where one is asked for.
+    pub part: Option<Part>,
 }
 
 /// What `select` is given.

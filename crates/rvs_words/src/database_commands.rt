@@ -7,6 +7,7 @@ ghost use Rattle.rvs_words.specs.Reading.{Answers};
 
 use crate::command::{Command, RunArguments, RunDatabaseArguments, SelectArguments};
 use crate::group_commands::group_files;
+use crate::parts::read_part;
 use crate::unread::Unread;
 use crate::words::{Pair, only_value, owned, read_options, values};
 use rvs_base::NoMemory;
@@ -36,7 +37,14 @@ pub fn read_select(alloc: Global, words: &[String]) -> Result<Command, Unread>
 pub fn read_run(alloc: Global, program: &str, words: &[String]) -> Result<Command, Unread>
     ensures { Answers result (with_options run_options (run_of program.now) (texts words.now)) }
 {
-    let names = ["--isa", "--cgf", "--database", "--device", "--work"];
+    let names = [
+        "--isa",
+        "--cgf",
+        "--database",
+        "--device",
+        "--work",
+        "--part",
+    ];
     let options = read_options(alloc, words, &names)?;
     read_source(alloc, program, options.as_slice())
 }
@@ -81,6 +89,7 @@ fn run_groups(alloc: Global, program: &str, pairs: &[Pair]) -> Result<Command, U
     let groups = group_files(alloc, pairs)?;
     let device = only_value(alloc, pairs, "--device")?;
     let work = only_value(alloc, pairs, "--work")?;
+    let part = read_part(alloc, pairs)?;
     let program = owned(alloc, program)?;
     Ok(Command::Run(RunArguments {
         program,
@@ -88,6 +97,7 @@ fn run_groups(alloc: Global, program: &str, pairs: &[Pair]) -> Result<Command, U
         groups,
         device,
         work,
+        part,
     }))
 }
 
@@ -103,6 +113,7 @@ fn run_database(alloc: Global, program: &str, pairs: &[Pair]) -> Result<Command,
     let database = only_value(alloc, pairs, "--database")?;
     let device = only_value(alloc, pairs, "--device")?;
     let work = only_value(alloc, pairs, "--work")?;
+    let part = read_part(alloc, pairs)?;
     let program = owned(alloc, program)?;
     Ok(Command::RunDatabase(RunDatabaseArguments {
         program,
@@ -110,5 +121,6 @@ fn run_database(alloc: Global, program: &str, pairs: &[Pair]) -> Result<Command,
         database,
         device,
         work,
+        part,
     }))
 }

@@ -12,6 +12,7 @@ ghost use Rattle.rvs_words.specs.Reading.{Answers};
 use crate::command::{
     Command, CoverageArguments, GenerateArguments, NormalizeArguments, PropagateArguments,
 };
+use crate::parts::read_part;
 use crate::unread::Unread;
 use crate::windows::{read_range, read_windows};
 use crate::words::{Pair, only_value, read_options, values};
@@ -63,12 +64,13 @@ pub fn group_files(alloc: Global, pairs: &[Pair]) -> Result<Items<Text>, Unread>
 pub fn read_generate(alloc: Global, words: &[String]) -> Result<Command, Unread>
     ensures { Answers result (with_options generate_options generate_of (texts words.now)) }
 {
-    let options = read_options(alloc, words, &["--isa", "--cgf", "--work"])?;
+    let options = read_options(alloc, words, &["--isa", "--cgf", "--work", "--part"])?;
     let pairs = options.as_slice();
     Ok(Command::Generate(GenerateArguments {
         isa: only_value(alloc, pairs, "--isa")?,
         groups: group_files(alloc, pairs)?,
         work: only_value(alloc, pairs, "--work")?,
+        part: read_part(alloc, pairs)?,
     }))
 }
 

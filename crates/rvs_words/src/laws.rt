@@ -6,6 +6,7 @@ ghost use Rattle.rvs_words.specs.CommandLaws.{RunsOverDatabasesAreRead, RunsHave
 ghost use Rattle.rvs_words.specs.CommandLaws.{SelectsAreRead, DemosAreRead};
 ghost use Rattle.rvs_words.specs.CommandLaws.{OptionsArePairs, OptionsChangePlaces, StepsAreRead};
 ghost use Rattle.rvs_words.specs.CommandLaws.{CountsAreRead, WindowsAreRead, RangesAreRead};
+ghost use Rattle.rvs_words.specs.CommandLaws.{PartsAreRead};
 
 /// The words of each command, with its options in the usual order, ask for that command with these
 /// values, for all names: whichever form each option has, with any list of one to 64 group files,
@@ -39,4 +40,5 @@ pub fn numbers_are_read()
     ensures count { CountsAreRead }
     ensures windows { WindowsAreRead }
     ensures range { RangesAreRead }
+    ensures part { PartsAreRead }
 {}

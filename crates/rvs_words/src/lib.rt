@@ -5,6 +5,7 @@ mod command;
 mod database_commands;
 mod group_commands;
 mod laws;
+mod parts;
 mod reading;
 mod unread;
 mod windows;

@@ -1,6 +1,7 @@
 use Rattle.rvs_words.proofs.laws.numbers_are_read.Goals as goal
 use Rattle.rvs_words.proofs.CommandNumbers.{steps_are_read, counts_are_read}
 use Rattle.rvs_words.proofs.WindowTexts.{windows_are_read, ranges_are_read}
+use Rattle.rvs_words.proofs.PartTexts.{parts_are_read}
 
 pub returns-clause-steps : goal.returns-clause-steps
 returns-clause-steps c = steps_are_read
@@ -13,3 +14,6 @@ returns-clause-windows c = windows_are_read
 
 pub returns-clause-range : goal.returns-clause-range
 returns-clause-range c = ranges_are_read
+
+pub returns-clause-part : goal.returns-clause-part
+returns-clause-part c = parts_are_read
