@@ -2,6 +2,7 @@ mod WordRows
 mod OptionPairs
 mod OptionValues
 mod PartValues
+mod FamilyValues
 mod CommandWords
 mod DatabaseWords
 mod OptionOrder

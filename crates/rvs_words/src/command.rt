@@ -1,4 +1,5 @@
 // What a command line asks for.
+use rvs_abstract::Families;
 use rvs_base::{DemoSize, Items, Text, Window};
 use rvs_parts::Part;
 
@@ -54,6 +55,8 @@ pub struct NormalizeArguments {
     pub isa: Text,
     /// The group files, one to 64, in the order in which they are joined.
     pub groups: Items<Text>,
+    /// Which families of the groups' abstract points are read.
+    pub families: Families,
 }
 
 /// What `generate` is given.
@@ -67,6 +70,8 @@ pub struct GenerateArguments {
     pub work: Text,
     /// The part of the labels, where one is asked for.
     pub part: Option<Part>,
+    /// Which families of the groups' abstract points are read.
+    pub families: Families,
 }
 
 /// What `reference` is given.
@@ -95,6 +100,8 @@ pub struct CoverageArguments {
     pub logs: Items<Text>,
     /// The windows of addresses whose instructions are counted, up to 16; all where there are none.
     pub windows: Items<Window>,
+    /// Which families of the groups' abstract points are read.
+    pub families: Families,
 }
 
 /// What `propagate` is given.
@@ -104,8 +111,17 @@ pub struct PropagateArguments {
     pub isa: Text,
     /// The group files, one to 64, in the order in which they are joined.
     pub groups: Items<Text>,
-    /// The execution logs, one to 4,096, in their order.
-    pub logs: Items<Text>,
+    /// The execution logs, one to 4,096, in their order, each with its signature.
+    pub logs: Items<SignedLog>,
+    /// Which families of the groups' abstract points are read.
+    pub families: Families,
+}
+
+/// An execution log of a test that leaves a signature.
+#[derive(Drop)]
+pub struct SignedLog {
+    /// The log's file.
+    pub name: Text,
     /// The addresses of the signature.
     pub signature: Window,
 }
@@ -125,6 +141,8 @@ pub struct RunArguments {
     pub work: Text,
     /// The part of the labels, where one is asked for.
     pub part: Option<Part>,
+    /// Which families of the groups' abstract points are read.
+    pub families: Families,
 }
 
 /// What `run` is given, where it is over a database.

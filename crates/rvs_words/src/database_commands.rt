@@ -6,6 +6,7 @@ ghost use Rattle.rvs_words.specs.Commands.{run_options, run_groups_of, run_datab
 ghost use Rattle.rvs_words.specs.Reading.{Answers};
 
 use crate::command::{Command, RunArguments, RunDatabaseArguments, SelectArguments};
+use crate::families::read_families;
 use crate::group_commands::group_files;
 use crate::parts::read_part;
 use crate::unread::Unread;
@@ -44,6 +45,7 @@ pub fn read_run(alloc: Global, program: &str, words: &[String]) -> Result<Comman
         "--device",
         "--work",
         "--part",
+        "--families",
     ];
     let options = read_options(alloc, words, &names)?;
     read_source(alloc, program, options.as_slice())
@@ -53,14 +55,15 @@ pub fn read_run(alloc: Global, program: &str, words: &[String]) -> Result<Comman
 ///
 /// # Errors
 ///
-/// [`Unread`]: `NoCommand` also where there are both group files and a database, or neither.
+/// [`Unread`]: `NoCommand` also where there are both group files and a database, or neither, and
+/// where families are given with a database.
 fn read_source(alloc: Global, program: &str, pairs: &[Pair]) -> Result<Command, Unread>
     ensures { Answers result (run_of program.now (λ name. values_of name pairs.now)) }
 {
     if !is_given(alloc, pairs, "--database")? {
         return run_groups(alloc, program, pairs);
     }
-    if is_given(alloc, pairs, "--cgf")? {
+    if is_given(alloc, pairs, "--cgf")? || is_given(alloc, pairs, "--families")? {
         return Err(Unread::NoCommand);
     }
     run_database(alloc, program, pairs)
@@ -90,6 +93,7 @@ fn run_groups(alloc: Global, program: &str, pairs: &[Pair]) -> Result<Command, U
     let device = only_value(alloc, pairs, "--device")?;
     let work = only_value(alloc, pairs, "--work")?;
     let part = read_part(alloc, pairs)?;
+    let families = read_families(alloc, pairs)?;
     let program = owned(alloc, program)?;
     Ok(Command::Run(RunArguments {
         program,
@@ -98,6 +102,7 @@ fn run_groups(alloc: Global, program: &str, pairs: &[Pair]) -> Result<Command, U
         device,
         work,
         part,
+        families,
     }))
 }
 

@@ -21,9 +21,7 @@ pub fn read_part(alloc: Global, pairs: &[Pair]) -> Result<Option<Part>, Unread>
 {
     match optional_value(alloc, pairs, "--part")? {
         None => Ok(None),
-        Some(text) => Ok(Some(
-            part_in(text.as_str().as_bytes()).ok_or(Unread::NoCommand)?,
-        )),
+        Some(text) => Ok(Some(part_in(text.as_str().as_bytes()).ok_or(Unread::NoCommand)?)),
     }
 }
 
