@@ -2,6 +2,8 @@
 use Rattle.std.proofs.Common.{◌≡◌, ◌≤◌, ℕ, ◌&&◌, Bool, true, false, if◌then◌else◌, List, [], ◌∷◌}
 use Rattle.std.proofs.Common.{length, Option, Some, None, unwrap_or, nat_le, bytes_eq, codes, refl}
 use Rattle.std.proofs.Common.{subst, arith}
+use Rattle.std.specs.Prelude.{map, option_and_then, ◌==◌}
+use Rattle.std.proofs.lemmas.List.{length-map}
 use Rattle.std.proofs.lemmas.Bool.Decides.{nat_tests}
 use Rattle.rvs_text.specs.Options.{◌>>=◌}
 use Rattle.rvs_words.specs.Commands.{Values, some_of, most_logs, with_options, compare_of}
@@ -12,37 +14,84 @@ use Rattle.rvs_words.specs.Commands.{validate_options, normalize_options, genera
 use Rattle.rvs_words.specs.Commands.{reference_options, coverage_options, propagate_options}
 use Rattle.rvs_words.specs.Commands.{run_options, select_options}
 use Rattle.rvs_words.specs.Words.{values_of}
+use Rattle.rvs_words.specs.Windows.{all_windows}
+use Rattle.rvs_words.specs.LogWords.{signed_log, signed_each, with_each, with_ranges}
+use Rattle.rvs_words.specs.LogWords.{signed_logs}
+use Rattle.rvs_base.specs.declared.asked.Window.{Window}
+use Rattle.rvs_words.specs.declared.command.SignedLog.{SignedLog}
 use Rattle.rvs_words.specs.declared.command.Command.{Command}
 use Rattle.rvs_words.specs.declared.command.Command.TheVariants.{Unknown, Coverage, Propagate}
 use Rattle.rvs_words.specs.declared.command.CoverageArguments.{CoverageArguments}
 use Rattle.rvs_words.specs.declared.command.PropagateArguments.{PropagateArguments}
 use Rattle.rvs_suite.proofs.StepLimits.{InAll, none-in, some-in, then-in, either-in}
 
-abbrev logs-in : Command → List (List ℕ)
-logs-in (Coverage asked) = asked.logs
-logs-in (Propagate asked) = asked.logs
-logs-in _ = []
+abbrev logs-in : Command → ℕ
+logs-in (Coverage asked) = length asked.logs
+logs-in (Propagate asked) = length asked.logs
+logs-in _ = 0
 
 -- few logs
-abbrev IsFew : List (List ℕ) → Type 0
-IsFew logs = length logs ≤ most_logs
+abbrev IsFew : ℕ → Type 0
+IsFew logs = logs ≤ most_logs
 
 abbrev HasFew : Command → Type 0
 HasFew command = IsFew (logs-in command)
 
-none-few : IsFew []
+none-few : IsFew 0
 none-few = omega arith
+
+abbrev AreFew : List (List ℕ) → Type 0
+AreFew logs = IsFew (length logs)
 
 few-of : (values : List (List ℕ)) (b : Bool)
     → (nat_le 1 (length values) && nat_le (length values) most_logs) ≡ b
-    → InAll IsFew (if b then Some values else None)
+    → InAll AreFew (if b then Some values else None)
 few-of values true is = some-in values (grind (arith, nat_tests))
 few-of values false is = none-in
 
-some-few : (values logs : List (List ℕ)) → some_of most_logs values ≡ Some logs → IsFew logs
+some-few : (values logs : List (List ℕ)) → some_of most_logs values ≡ Some logs
+    → IsFew (length logs)
 some-few values logs is =
     (few-of values (nat_le 1 (length values) && nat_le (length values) most_logs) refl).holds logs
     is
+
+-- there are no more logs with ranges than names
+abbrev NoMore : List (List ℕ) → List SignedLog → Type 0
+NoMore names logs = length logs ≤ length names
+
+each-few : (names : List (List ℕ)) (ranges : List Window) → NoMore names (signed_each names ranges)
+each-few [] ranges = omega arith
+each-few (name ∷ names) [] = omega arith
+each-few (name ∷ names) (range ∷ ranges) = omega (arith, each-few names ranges)
+
+with-each-few : (names : List (List ℕ)) (ranges : List Window)
+    → InAll (NoMore names) (with_each names ranges)
+with-each-few names ranges =
+    either-in (length ranges == length names) _ _
+    (some-in (signed_each names ranges) (each-few names ranges)) none-in
+
+alike-few : (names : List (List ℕ)) (range : Window)
+    → NoMore names (map (λ name. signed_log name range) names)
+alike-few names range = omega (arith, length-map names (λ name. signed_log name range))
+
+ranged-few : (names : List (List ℕ)) (ranges : List Window)
+    → InAll (NoMore names) (with_ranges names ranges)
+ranged-few names [] = with-each-few names []
+ranged-few names (range ∷ []) = some-in _ (alike-few names range)
+ranged-few names (range ∷ second ∷ ranges) = with-each-few names (range ∷ second ∷ ranges)
+
+spelled-few : (names : List (List ℕ)) (o : Option (List Window))
+    → InAll (NoMore names) (option_and_then (with_ranges names) o)
+spelled-few names None = none-in
+spelled-few names (Some ranges) = ranged-few names ranges
+
+signed-few : (values names texts : List (List ℕ)) (logs : List SignedLog)
+    → some_of most_logs values ≡ Some names
+    → signed_logs names texts ≡ Some logs → IsFew (length logs)
+signed-few values names texts logs is signed =
+    let few = some-few values names is in
+    let least = (spelled-few names (all_windows texts)).holds logs signed in
+    omega (arith, few, least)
 
 by-compare : (words : List (List ℕ)) → InAll HasFew (compare_of words)
 by-compare [] = none-in
@@ -66,7 +115,7 @@ by-coverage : (values : Values) → InAll HasFew (coverage_of values)
 by-coverage values = search (then-in, some-in, some-few) depth 12
 
 by-propagate : (values : Values) → InAll HasFew (propagate_of values)
-by-propagate values = search (then-in, some-in, some-few) depth 12
+by-propagate values = search (then-in, some-in, signed-few) depth 12
 
 by-select : (values : Values) → InAll HasFew (select_of values)
 by-select values = search (then-in, some-in, none-few) depth 12
@@ -79,7 +128,8 @@ by-database program values = search (then-in, some-in, none-few) depth 12
 
 by-run : (program : List ℕ) (values : Values) → InAll HasFew (run_of program values)
 by-run program values =
-    either-in _ _ _ (either-in _ _ _ none-in (by-database program values))
+    either-in _ _ _
+    (either-in _ _ _ none-in (either-in _ _ _ none-in (by-database program values)))
     (by-groups program values)
 
 by-demo : (words : List (List ℕ)) → InAll HasFew (demo_of words)

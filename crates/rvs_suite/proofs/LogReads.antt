@@ -1,6 +1,8 @@
 -- Reading logs for a report: it only reads, and what it finds over given files.
 use Rattle.std.proofs.Common.{◌≡◌, ◌≤◌, ◌<◌, ◌+◌, ◌-◌, ◌*◌, ℕ, List, [], ◌∷◌, length, nat_lt, Some, Result}
 use Rattle.std.proofs.Common.{Ok, Err, IfOk, if◌then◌else◌, refl, sym, ap, ◌∙◌, arith}
+use Rattle.std.specs.Prelude.{map}
+use Rattle.std.specs.List.{zip}
 use Rattle.std.proofs.lemmas.Bool.{lt-ltb, le-ltb, cond-true, cond-false}
 use Rattle.rvs_base.specs.Host.{Files, HostState}
 use Rattle.rvs_base.specs.File.{ReadsAtMost}
@@ -19,41 +21,45 @@ use Rattle.rvs_suite.proofs.Readers.{OnlyReads, OnlyReads-then}
 use Rattle.rvs_suite.proofs.Finding.{Finds}
 use Rattle.rvs_suite.proofs.GroupInputs.{reads-inputs, finds-inputs, finds-and_then}
 
-reads-logs : {A : Type 0} (more : A → List ℕ → A) (known : A) (names : List (List ℕ))
-    → OnlyReads (takes_logs more known names)
-reads-logs more known [] = tt
-reads-logs more known (name ∷ names) = OnlyReads-then (takes_log more known name)
-    (λ now. takes_logs more now names) (λ found. tt) (λ now. reads-logs more now names)
+reads-logs : {L A : Type 0} (named : L → List ℕ) (more : L → A → List ℕ → A) (known : A)
+    (logs : List L) → OnlyReads (takes_logs named more known logs)
+reads-logs named more known [] = tt
+reads-logs named more known (log ∷ logs) = OnlyReads-then (takes_log (more log) known (named log))
+    (λ now. takes_logs named more now logs) (λ found. tt) (λ now. reads-logs named more now logs)
 
-reads-report : {A : Type 0} (m : Measure A) (logs : List (List ℕ)) (groups : List Label)
+reads-report : {L A : Type 0} (m : Measure L A) (logs : List L) (groups : List Label)
     → OnlyReads (reads_logs m logs groups)
-reads-report m logs groups = OnlyReads-then (takes_logs (m.more groups) (m.none groups) logs)
-    (reports m groups) (reads-logs (m.more groups) (m.none groups) logs) (λ known. tt)
+reads-report m logs groups =
+    OnlyReads-then (takes_logs m.name (m.more groups) (m.none groups) logs)
+    (reports m logs groups) (reads-logs m.name (m.more groups) (m.none groups) logs) (λ known. tt)
 
-pub reads-reported : {A : Type 0} (m : Measure A) (isa : List ℕ) (names logs : List (List ℕ))
-    → OnlyReads (log_reported m isa names logs)
+pub reads-reported : {L A : Type 0} (m : Measure L A) (isa : List ℕ) (names : List (List ℕ))
+    (logs : List L) → OnlyReads (log_reported m isa names logs)
 reads-reported m isa names logs = OnlyReads-then (group_inputs isa names)
     (λ inputs. reads_logs m logs inputs.groups)
     (reads-inputs isa names) (λ inputs. reads-report m logs inputs.groups)
 
-finds-logs : {A : Type 0} (files : Files) (more : A → List ℕ → A) (known : A)
-    (names : List (List ℕ))
-    → Finds files (takes_logs more known names) (logs_in files more known names)
-finds-logs files more known [] = refl
-finds-logs files more known (name ∷ names) = finds-and_then files (takes_log more known name)
-    (λ now. takes_logs more now names) (with_found more known name (files name))
-    (λ now. logs_in files more now names) refl (λ now. finds-logs files more now names)
+finds-logs : {L A : Type 0} (files : Files) (named : L → List ℕ) (more : L → A → List ℕ → A)
+    (known : A) (logs : List L)
+    → Finds files (takes_logs named more known logs) (logs_in files named more known logs)
+finds-logs files named more known [] = refl
+finds-logs files named more known (log ∷ logs) =
+    finds-and_then files (takes_log (more log) known (named log))
+    (λ now. takes_logs named more now logs)
+    (with_found (more log) known (named log) (files (named log)))
+    (λ now. logs_in files named more now logs) refl (λ now. finds-logs files named more now logs)
 
-finds-report : {A : Type 0} (files : Files) (m : Measure A) (logs : List (List ℕ))
+finds-report : {L A : Type 0} (files : Files) (m : Measure L A) (logs : List L)
     (groups : List Label)
     → Finds files (reads_logs m logs groups) (reported_in m files logs groups)
 finds-report files m logs groups =
-    finds-and_then files (takes_logs (m.more groups) (m.none groups) logs) (reports m groups)
-    (logs_in files (m.more groups) (m.none groups) logs) (λ known. Ok (m.report groups known))
-    (finds-logs files (m.more groups) (m.none groups) logs) (λ known. refl)
+    finds-and_then files (takes_logs m.name (m.more groups) (m.none groups) logs)
+    (reports m logs groups) (logs_in files m.name (m.more groups) (m.none groups) logs)
+    (λ known. Ok (m.report groups logs known))
+    (finds-logs files m.name (m.more groups) (m.none groups) logs) (λ known. refl)
 
-pub finds-reported : {A : Type 0} (files : Files) (m : Measure A) (isa : List ℕ)
-    (names logs : List (List ℕ))
+pub finds-reported : {L A : Type 0} (files : Files) (m : Measure L A) (isa : List ℕ)
+    (names : List (List ℕ)) (logs : List L)
     → Finds files (log_reported m isa names logs) (log_report_in m files isa names logs)
 finds-reported files m isa names logs =
     finds-and_then files (group_inputs isa names) (λ inputs. reads_logs m logs inputs.groups)
@@ -76,7 +82,7 @@ refuses-log more known name bytes text long is =
     ∙ ap (λ (t : List ℕ). Err (Refused t)) (sym is)
 
 -- ---- logs that are there
-as-many : (files : Files) (names logs : List (List ℕ)) → AreLogs files names logs
+pub as-many : (files : Files) (names logs : List (List ℕ)) → AreLogs files names logs
     → length logs ≡ length names
 as-many files [] [] are = refl
 as-many files [] (log ∷ logs) are = absurd are
@@ -88,33 +94,33 @@ pub few-logs : (files : Files) (names logs : List (List ℕ)) → AreLogs files 
     → length names ≤ 4096 → 0 + 1_099_511_627_776 * length logs ≤ 18_446_744_073_709_551_615
 few-logs files names logs are few = omega (arith, as-many files names logs are, few)
 
--- what they come to together
-abbrev pub known_of : {A : Type 0} → (A → List ℕ → A) → A → List (List ℕ) → A
+-- what logs with these bytes come to together
+abbrev pub known_of : {L A : Type 0} → (L → A → List ℕ → A) → A → List (L × List ℕ) → A
 known_of more known [] = known
-known_of more known (log ∷ logs) = known_of more (more known log) logs
+known_of more known (log ∷ logs) = known_of more (more log.0 known log.1) logs
 
-found-logs : {A : Type 0} (files : Files) (more : A → List ℕ → A) (known : A)
-    (names logs : List (List ℕ)) → AreLogs files names logs
-    → logs_in files more known names ≡ Ok (known_of more known logs)
-found-logs files more known [] [] are = refl
-found-logs files more known [] (log ∷ logs) are = absurd are
-found-logs files more known (name ∷ names) [] are = absurd are
-found-logs {A} files more known (name ∷ names) (log ∷ logs) are =
-    ap (λ (r : Result A Stop). and_then r (λ now. logs_in files more now names))
-    (ap (with_found more known name) are.0
-    ∙ accepts-log more known name log (more known log) are.1 refl)
-    ∙ found-logs files more (more known log) names logs are.2
+found-logs : {L A : Type 0} (files : Files) (named : L → List ℕ) (more : L → A → List ℕ → A)
+    (known : A) (logs : List L) (bytes : List (List ℕ)) → AreLogs files (map named logs) bytes
+    → logs_in files named more known logs ≡ Ok (known_of more known (zip logs bytes))
+found-logs files named more known [] [] are = refl
+found-logs files named more known [] (log ∷ bytes) are = absurd are
+found-logs files named more known (log ∷ logs) [] are = absurd are
+found-logs {L} {A} files named more known (log ∷ logs) (here ∷ bytes) are =
+    ap (λ (r : Result A Stop). and_then r (λ now. logs_in files named more now logs))
+    (ap (with_found (more log) known (named log)) are.0
+    ∙ accepts-log (more log) known (named log) here (more log known here) are.1 refl)
+    ∙ found-logs files named more (more log known here) logs bytes are.2
 
 -- the report over given files, where these are accepted and the logs are there
-pub found-report : {A : Type 0} (files : Files) (m : Measure A) (isa : List ℕ)
-    (names logs : List (List ℕ)) (inputs : Inputs) (bytes : List (List ℕ))
-    → inputs_in files isa names ≡ Ok inputs → AreLogs files logs bytes
-    → log_report_in m files isa names logs
-    ≡ Ok (m.report inputs.groups (known_of (m.more inputs.groups) (m.none inputs.groups) bytes))
-found-report {A} files m isa names logs inputs bytes given are =
+pub found-report : {L A : Type 0} (files : Files) (m : Measure L A) (isa : List ℕ)
+    (names : List (List ℕ)) (logs : List L) (inputs : Inputs) (bytes : List (List ℕ))
+    → inputs_in files isa names ≡ Ok inputs → AreLogs files (map m.name logs) bytes
+    → log_report_in m files isa names logs ≡ Ok (m.report inputs.groups logs
+    (known_of (m.more inputs.groups) (m.none inputs.groups) (zip logs bytes)))
+found-report {L} {A} files m isa names logs inputs bytes given are =
     ap (λ (r : Result Inputs Stop). and_then r (λ i. reported_in m files logs i.groups)) given
-    ∙ ap (λ (r : Result A Stop). and_then r (λ known. Ok (m.report inputs.groups known)))
-    (found-logs files (m.more inputs.groups) (m.none inputs.groups) logs bytes are)
+    ∙ ap (λ (r : Result A Stop). and_then r (λ known. Ok (m.report inputs.groups logs known)))
+    (found-logs files m.name (m.more inputs.groups) (m.none inputs.groups) logs bytes are)
 
 -- what holds of a result, where there is one
 pub IfOk-map : {A E : Type 0} {P Q : A → Type 0} (r : Result A E) → ((a : A) → P a → Q a)

@@ -1,6 +1,9 @@
 -- What every call of `propagate` promises.
 use Rattle.std.proofs.Common.{◌≡◌, ◌≤◌, ◌+◌, ◌*◌, ℕ, Bool, true, false, List, [], ◌∷◌, map, length}
-use Rattle.std.proofs.Common.{if◌then◌else◌, Some, Ok, refl, sym, ap, subst, ◌∙◌, arith}
+use Rattle.std.proofs.Common.{if◌then◌else◌, Some, Ok, refl, sym, ap, subst, ◌∙◌, arith, ◌++◌}
+use Rattle.std.proofs.Common.{append-nil, append_assoc}
+use Rattle.std.specs.List.{zip}
+use Rattle.std.proofs.lemmas.Slice.Zip.{seconds-zip}
 use Rattle.rvs_base.specs.Host.{Files}
 use Rattle.rvs_plan.specs.World.{Contents}
 use Rattle.rvs_plan.specs.declared.status.Status.TheVariants.{Done}
@@ -14,19 +17,20 @@ use Rattle.rvs_cgf.specs.Groups.{Meaning, op_is, reg_is, regs, nums, window}
 use Rattle.rvs_count.specs.Counting.{Aim, aims_of, hits}
 use Rattle.rvs_prop.specs.Acts.{Act, acts_of}
 use Rattle.rvs_prop.proofs.Listing.{acts_are_entries}
-use Rattle.rvs_prop.specs.declared.whole.Tracked.{Tracked}
+use Rattle.rvs_suite.specs.declared.propagating.Traced.{Traced}
 use Rattle.rvs_prop.specs.Reach.{reached, reaches}
 use Rattle.std.specs.Prelude.{◌&&◌}
 use Rattle.rvs_prop.specs.Report.{report_of}
 use Rattle.rvs_prop.specs.State.{hit_count, hits_for}
-use Rattle.rvs_base.specs.declared.asked.Window.{Window}
+use Rattle.rvs_words.specs.declared.command.SignedLog.{SignedLog}
 use Rattle.rvs_suite.specs.Call.{Call}
 use Rattle.rvs_suite.specs.Answered.{Answered, OnDone}
 use Rattle.rvs_suite.specs.Covering.{HasReported}
 use Rattle.rvs_suite.specs.GroupFiles.{Inputs, inputs_in}
 use Rattle.rvs_suite.specs.Printing.{print_text}
-use Rattle.rvs_suite.specs.Propagate.{measure, untracked, tracked_with, report_on, report_in}
-use Rattle.rvs_suite.specs.Propagate.{reported, propagate}
+use Rattle.rvs_suite.specs.Propagate.{measure, untracked, tracked_with, tracks_more, file_name}
+use Rattle.rvs_suite.specs.Propagate.{report_on, report_with, report_in, reported, propagate}
+use Rattle.rvs_suite.specs.LogLines.{lines_of_many}
 use Rattle.rvs_suite.specs.LogReport.{AreLogs}
 use Rattle.rvs_suite.specs.Summing.{sum_up_to_most, over, summed}
 use Rattle.rvs_suite.specs.Propagating as propagating
@@ -34,11 +38,12 @@ use Rattle.rvs_words.specs.declared.command.Command.TheVariants.{Propagate}
 use Rattle.rvs_words.specs.declared.command.PropagateArguments.{PropagateArguments}
 use Rattle.rvs_suite.proofs.Answered.{Works, RunsOn, answered}
 use Rattle.rvs_suite.proofs.CoverageEnds.{counted-report}
-use Rattle.rvs_suite.proofs.Sums.{plus_map, AreLow, summed_all, zeros_map}
+use Rattle.rvs_suite.proofs.Sums.{plus_map, AreLow, summed_all, over_map, zeros_map, map_map}
+use Rattle.rvs_suite.proofs.Sums.{total_map}
 use Rattle.rvs_suite.proofs.LogAmounts.{log-few, count-few}
 use Rattle.rvs_suite.proofs.LogLimits.{propagate-few}
-use Rattle.rvs_suite.proofs.LogReads.{reads-reported, finds-reported, known_of, few-logs}
-use Rattle.rvs_suite.proofs.LogReads.{found-report}
+use Rattle.rvs_suite.proofs.LogReads.{reads-reported, finds-reported, known_of, as-many}
+use Rattle.rvs_suite.proofs.LogReads.{few-logs, found-report}
 use Rattle.rvs_suite.proofs.OneReached.{one-reached}
 use Rattle.rvs_suite.proofs.Keeping.{WritesNone, WritesNone-then, reads-none, keeps}
 use Rattle.rvs_suite.proofs.Tested.{good-inputs, valid-good}
@@ -50,45 +55,51 @@ works files asked = record {
   deeds = print_text;
   ends = λ _. finish.Done;
   plan = refl;
-  finds = finds-reported files (measure asked.signature) asked.isa asked.groups asked.logs;
+  finds = finds-reported files measure asked.isa asked.groups asked.logs;
   does = λ report. refl;
 }
 
 writes-propagate : (asked : PropagateArguments) → WritesNone (propagate asked)
 writes-propagate asked = WritesNone-then (reported asked) print_text
     (reads-none (reported asked)
-    (reads-reported (measure asked.signature) asked.isa asked.groups asked.logs))
+    (reads-reported measure asked.isa asked.groups asked.logs))
     (λ report. tt)
 
 -- ---- what is tracked in several logs
-abbrev reached-by : Window → Aim → List ℕ → ℕ
-reached-by range a log = reached range.lo range.hi (acts_of log) a
+-- a log with its bytes
+abbrev Log : Type 0
+Log = SignedLog × List ℕ
 
-abbrev hits-by : Aim → List ℕ → ℕ
-hits-by a log = hit_count (entries_of log) a
+abbrev hits-by : Aim → Log → ℕ
+hits-by a log = hit_count (entries_of log.1) a
 
-abbrev all-by : List ℕ → ℕ
-all-by log = length (entries_of log)
+abbrev all-by : Log → ℕ
+all-by log = length (entries_of log.1)
 
-abbrev tracked-at : List Label → (Aim → ℕ) → (Aim → ℕ) → ℕ → Tracked
-tracked-at groups f g n =
-    record { reached = map f (aims_of groups); hits = map g (aims_of groups); instructions = n }
+abbrev tracked-at : List Label → (Aim → ℕ) → (Aim → ℕ) → List ℕ → Traced
+tracked-at groups f g ns =
+    record { reached = map f (aims_of groups); hits = map g (aims_of groups); ran = ns }
 
-known-all : (range : Window) (groups : List Label) (f g : Aim → ℕ) (n : ℕ)
-    (logs : List (List ℕ))
-    → known_of (tracked_with range groups) (tracked-at groups f g n) logs
-    ≡ tracked-at groups (λ a. summed (reached-by range a) (f a) logs)
-    (λ a. summed (hits-by a) (g a) logs) (summed all-by n logs)
+known-all : (groups : List Label) (f g : Aim → ℕ) (ns : List ℕ) (logs : List Log)
+    → known_of (tracks_more groups) (tracked-at groups f g ns) logs
+    ≡ tracked-at groups (λ a. summed (propagating.reached_of a) (f a) logs)
+    (λ a. summed (hits-by a) (g a) logs) (ns ++ map all-by logs)
 unfolding tracked_with
-known-all range groups f g n [] = refl
-known-all range groups f g n (log ∷ logs) =
-    (λ i. known_of (tracked_with range groups) (record {
-      reached = plus_map f (λ a. reached-by range a log) (aims_of groups) i;
+known-all groups f g ns [] = ap (tracked-at groups f g) (sym (append-nil ns))
+known-all groups f g ns (log ∷ logs) =
+    let rest = known-all groups (λ a. sum_up_to_most (f a) (propagating.reached_of a log))
+    (λ a. sum_up_to_most (g a) (hits-by a log)) (ns ++ all-by log ∷ []) logs in
+    (λ i. known_of (tracks_more groups) (record {
+      reached = plus_map f (λ a. propagating.reached_of a log) (aims_of groups) i;
       hits = plus_map g (λ a. hits-by a log) (aims_of groups) i;
-      instructions = sum_up_to_most n (all-by log);
+      ran = ns ++ all-by log ∷ [];
     }) logs)
-    ∙ known-all range groups (λ a. sum_up_to_most (f a) (reached-by range a log))
-    (λ a. sum_up_to_most (g a) (hits-by a log)) (sum_up_to_most n (all-by log)) logs
+    ∙ rest
+    ∙ ap (tracked-at groups
+    (λ a. summed (propagating.reached_of a) (sum_up_to_most (f a) (propagating.reached_of a log))
+    logs)
+    (λ a. summed (hits-by a) (sum_up_to_most (g a) (hits-by a log)) logs))
+    (append_assoc ns (all-by log ∷ []) (map all-by logs))
 
 one-more : (b : Bool) (n m : ℕ) → n ≤ m → (if b then 1 else 0) + n ≤ 1 + m
 one-more true n m low = omega (arith, low)
@@ -115,112 +126,186 @@ hits-few (regs f) es a is = count-few es a
 hits-few (nums f) es a is = count-few es a
 hits-few (window ps) es a is = omega arith
 
-low-reached : (files : Files) (range : Window) (a : Aim) (names logs : List (List ℕ))
-    → AreLogs files names logs → AreLow (reached-by range a) logs
-low-reached files range a [] [] are = tt
-low-reached files range a [] (log ∷ logs) are = absurd are
-low-reached files range a (name ∷ names) [] are = absurd are
-low-reached files range a (name ∷ names) (log ∷ logs) are = (
+abbrev Have : Files → List SignedLog → List (List ℕ) → Type 0
+Have files signed logs = AreLogs files (map file_name signed) logs
+
+low-reached : (files : Files) (a : Aim) (signed : List SignedLog) (logs : List (List ℕ))
+    → Have files signed logs → AreLow (propagating.reached_of a) (zip signed logs)
+low-reached files a [] [] are = tt
+low-reached files a [] (log ∷ logs) are = absurd are
+low-reached files a (name ∷ signed) [] are = absurd are
+low-reached files a (name ∷ signed) (log ∷ logs) are = (
   omega (
     arith,
-    acts-few range.lo range.hi (acts_of log) a,
+    acts-few name.signature.lo name.signature.hi (acts_of log) a,
     as-entries log,
     log-few log,
     are.1,
   ),
-  low-reached files range a names logs are.2,
+  low-reached files a signed logs are.2,
 )
 
-low-hits : (files : Files) (a : Aim) (names logs : List (List ℕ))
-    → AreLogs files names logs → AreLow (hits-by a) logs
+low-hits : (files : Files) (a : Aim) (signed : List SignedLog) (logs : List (List ℕ))
+    → Have files signed logs → AreLow (hits-by a) (zip signed logs)
 low-hits files a [] [] are = tt
 low-hits files a [] (log ∷ logs) are = absurd are
-low-hits files a (name ∷ names) [] are = absurd are
-low-hits files a (name ∷ names) (log ∷ logs) are = (
+low-hits files a (name ∷ signed) [] are = absurd are
+low-hits files a (name ∷ signed) (log ∷ logs) are = (
   omega (arith, hits-few a.point.meaning (entries_of log) a refl, log-few log, are.1),
-  low-hits files a names logs are.2,
+  low-hits files a signed logs are.2,
 )
 
+abbrev all-in : List ℕ → ℕ
+all-in log = length (entries_of log)
+
 low-all : (files : Files) (names logs : List (List ℕ))
-    → AreLogs files names logs → AreLow all-by logs
+    → AreLogs files names logs → AreLow all-in logs
 low-all files [] [] are = tt
 low-all files [] (log ∷ logs) are = absurd are
 low-all files (name ∷ names) [] are = absurd are
 low-all files (name ∷ names) (log ∷ logs) are =
     (omega (arith, log-few log, are.1), low-all files names logs are.2)
 
+-- logs with their bytes, by the bytes alone
+as-many-bytes : (files : Files) (signed : List SignedLog) (logs : List (List ℕ))
+    → Have files signed logs → length logs ≡ length signed
+as-many-bytes files signed logs are =
+    as-many files (map file_name signed) logs are ∙ length-map signed file_name
+
+the-bytes : (files : Files) (signed : List SignedLog) (logs : List (List ℕ))
+    → Have files signed logs → map (λ (log : Log). log.1) (zip signed logs) ≡ logs
+the-bytes files signed logs are = seconds-zip signed logs (as-many-bytes files signed logs are)
+
+over-bytes : (f : List ℕ → ℕ) (files : Files) (signed : List SignedLog) (logs : List (List ℕ))
+    → Have files signed logs → over (λ (log : Log). f log.1) (zip signed logs) ≡ over f logs
+over-bytes f files signed logs are =
+    sym (over_map f (λ (log : Log). log.1) (zip signed logs))
+    ∙ ap (over f) (the-bytes files signed logs are)
+
+ran-bytes : (files : Files) (signed : List SignedLog) (logs : List (List ℕ))
+    → Have files signed logs → map all-by (zip signed logs) ≡ propagating.ran_in logs
+ran-bytes files signed logs are =
+    sym (map_map all-in (λ (log : Log). log.1) (zip signed logs))
+    ∙ ap (map all-in) (the-bytes files signed logs are)
+
+few-names : (signed : List SignedLog) → length signed ≤ 4096
+    → length (map file_name signed) ≤ 4096
+few-names signed few = omega (arith, length-map signed file_name, few)
+
+room-bytes : (files : Files) (signed : List SignedLog) (logs : List (List ℕ))
+    → Have files signed logs → length signed ≤ 4096
+    → 0 + 1_099_511_627_776 * length logs ≤ 18_446_744_073_709_551_615
+room-bytes files signed logs are few =
+    few-logs files (map file_name signed) logs are (few-names signed few)
+
+room-logs : (files : Files) (signed : List SignedLog) (logs : List (List ℕ))
+    → Have files signed logs → length signed ≤ 4096
+    → 0 + 1_099_511_627_776 * length (zip signed logs) ≤ 18_446_744_073_709_551_615
+room-logs files signed logs are few =
+    let long : length (zip signed logs) ≡ length logs =
+    sym (length-map (zip signed logs) (λ (log : Log). log.1))
+    ∙ ap (λ (ls : List (List ℕ)). length ls) (the-bytes files signed logs are) in
+    omega (arith, long, room-bytes files signed logs are few)
+
 -- all of it, of logs that are there
-known-exact : (files : Files) (range : Window) (groups : List Label)
-    (names logs : List (List ℕ)) → AreLogs files names logs → length names ≤ 4096
-    → known_of (tracked_with range groups) (untracked groups) logs
-    ≡ tracked-at groups (propagating.reached_in range logs) (propagating.hits_in logs)
-    (propagating.entries_in logs)
-known-exact files range groups names logs are few =
-    let room = few-logs files names logs are few in
-    (λ i. known_of (tracked_with range groups) (record {
+known-exact : (files : Files) (groups : List Label) (signed : List SignedLog)
+    (logs : List (List ℕ)) → Have files signed logs → length signed ≤ 4096
+    → known_of (tracks_more groups) (untracked groups) (zip signed logs)
+    ≡ tracked-at groups (propagating.reached_in signed logs) (propagating.hits_in logs)
+    (propagating.ran_in logs)
+known-exact files groups signed logs are few =
+    let room = room-logs files signed logs are few in
+    (λ i. known_of (tracks_more groups) (record {
       reached = zeros_map (aims_of groups) i;
       hits = zeros_map (aims_of groups) i;
-      instructions = 0;
-    }) logs)
-    ∙ known-all range groups (λ a. 0) (λ a. 0) 0 logs
+      ran = [];
+    }) (zip signed logs))
+    ∙ known-all groups (λ a. 0) (λ a. 0) [] (zip signed logs)
     ∙ (λ i. tracked-at groups
-    (λ a. summed_all (reached-by range a) logs (low-reached files range a names logs are) room
-    i)
-    (λ a. summed_all (hits-by a) logs (low-hits files a names logs are) room i)
-    (summed_all all-by logs (low-all files names logs are) room i))
+    (λ a. summed_all (propagating.reached_of a) (zip signed logs)
+    (low-reached files a signed logs are) room i)
+    (λ a. (summed_all (hits-by a) (zip signed logs) (low-hits files a signed logs are) room
+    ∙ over-bytes (λ log. hit_count (entries_of log) a) files signed logs are) i)
+    (ran-bytes files signed logs are i))
 
-abbrev report-of : List Label → Tracked → List ℕ
-report-of groups tracked = report_of groups tracked.reached tracked.hits tracked.instructions
-
-the-report : (groups : List Label) (tracked : Tracked)
-    → report_on groups tracked ≡ report-of groups tracked
+the-report : (groups : List Label) (signed : List SignedLog) (tracked : Traced)
+    → report_on groups signed tracked ≡ report_with groups signed tracked
 unfolding report_on
-the-report groups tracked = refl
+the-report groups signed tracked = refl
+
+-- the report on the bytes of logs
+abbrev on-bytes : List Label → List SignedLog → List (List ℕ) → List ℕ
+on-bytes groups signed logs =
+    lines_of_many (map file_name signed) (propagating.ran_in logs)
+    ++ report_of groups (map (propagating.reached_in signed logs) (aims_of groups))
+    (map (propagating.hits_in logs) (aims_of groups)) (propagating.entries_in logs)
+
+with-total : (files : Files) (groups : List Label) (signed : List SignedLog)
+    (logs : List (List ℕ)) → Have files signed logs → length signed ≤ 4096
+    → report_with groups signed (tracked-at groups (propagating.reached_in signed logs)
+    (propagating.hits_in logs) (propagating.ran_in logs)) ≡ on-bytes groups signed logs
+with-total files groups signed logs are few =
+    ap (λ (n : ℕ). lines_of_many (map file_name signed) (propagating.ran_in logs)
+    ++ report_of groups (map (propagating.reached_in signed logs) (aims_of groups))
+    (map (propagating.hits_in logs) (aims_of groups)) n)
+    (total_map all-in logs (low-all files (map file_name signed) logs are)
+    (room-bytes files signed logs are few))
 
 reported-numbers : {call : Call} (files : Files) (asked : PropagateArguments)
     → Answered call (report_in files asked) (OnDone (HasReported call))
     → length asked.logs ≤ 4096
     → (inputs : Inputs) (logs : List (List ℕ)) → inputs_in files asked.isa asked.groups ≡ Ok inputs
-    → AreLogs files asked.logs logs → call.status ≡ Done
-    → HasReported call (report_of inputs.groups
-    (map (propagating.reached_in asked.signature logs) (aims_of inputs.groups))
-    (map (propagating.hits_in logs) (aims_of inputs.groups)) (propagating.entries_in logs))
+    → Have files asked.logs logs → call.status ≡ Done
+    → HasReported call (on-bytes inputs.groups asked.logs logs)
 reported-numbers {call} files asked a few inputs logs given are done =
-    let known = known_of (tracked_with asked.signature inputs.groups) (untracked inputs.groups)
-    logs in
-    let same = the-report inputs.groups known
-    ∙ ap (report-of inputs.groups)
-    (known-exact files asked.signature inputs.groups asked.logs logs are few) in
+    let known = known_of (tracks_more inputs.groups) (untracked inputs.groups)
+    (zip asked.logs logs) in
+    let same = the-report inputs.groups asked.logs known
+    ∙ ap (report_with inputs.groups asked.logs)
+    (known-exact files inputs.groups asked.logs logs are few)
+    ∙ with-total files inputs.groups asked.logs logs are few in
     subst (HasReported call) same
-    (counted-report call (report_in files asked) (report_on inputs.groups known)
-    (found-report files (measure asked.signature) asked.isa asked.groups asked.logs inputs logs
-    given are)
+    (counted-report call (report_in files asked) (report_on inputs.groups asked.logs known)
+    (found-report files measure asked.isa asked.groups asked.logs inputs logs given are)
     (a.done done))
 
 -- ---- one log
-one-log : (files : Files) (names : List (List ℕ)) (log bytes : List ℕ)
-    → names ≡ log ∷ [] → propagating.IsLog files log bytes → AreLogs files names (bytes ∷ [])
-one-log files names log bytes is is_log =
-    subst (λ (ns : List (List ℕ)). AreLogs files ns (bytes ∷ [])) (sym is)
+one-log : (files : Files) (signed : List SignedLog) (log : SignedLog) (bytes : List ℕ)
+    → signed ≡ log ∷ [] → propagating.IsLog files log.name bytes
+    → Have files signed (bytes ∷ [])
+one-log files signed log bytes is is_log =
+    subst (λ (ls : List SignedLog). Have files ls (bytes ∷ [])) (sym is)
     (is_log.0, is_log.1, tt)
 
 no-more : (n : ℕ) → n + 0 ≡ n
 no-more n = omega arith
 
+-- the report on one log
+abbrev on-one : List Label → SignedLog → List ℕ → List ℕ
+on-one groups log bytes = report_of groups
+    (map (reached log.signature.lo log.signature.hi (acts_of bytes)) (aims_of groups))
+    (map (hit_count (entries_of bytes)) (aims_of groups)) (length (entries_of bytes))
+
+single-report : (groups : List Label) (signed : List SignedLog) (log : SignedLog)
+    (bytes : List ℕ) → signed ≡ log ∷ []
+    → on-bytes groups signed (bytes ∷ []) ≡ on-one groups log bytes
+single-report groups signed log bytes single =
+    ap (λ (ls : List SignedLog). on-bytes groups ls (bytes ∷ [])) single
+    ∙ (λ i. report_of groups
+    (map (λ a. no-more (reached log.signature.lo log.signature.hi (acts_of bytes) a) i)
+    (aims_of groups))
+    (map (λ a. no-more (hit_count (entries_of bytes) a) i) (aims_of groups))
+    (no-more (length (entries_of bytes)) i))
+
 reported-single : {call : Call} (files : Files) (asked : PropagateArguments)
     → Answered call (report_in files asked) (OnDone (HasReported call))
     → length asked.logs ≤ 4096
-    → (inputs : Inputs) (log bytes : List ℕ) → inputs_in files asked.isa asked.groups ≡ Ok inputs
-    → asked.logs ≡ log ∷ [] → propagating.IsLog files log bytes → call.status ≡ Done
-    → HasReported call (report_of inputs.groups
-    (map (reached asked.signature.lo asked.signature.hi (acts_of bytes)) (aims_of inputs.groups))
-    (map (hit_count (entries_of bytes)) (aims_of inputs.groups)) (length (entries_of bytes)))
+    → (inputs : Inputs) (log : SignedLog) (bytes : List ℕ)
+    → inputs_in files asked.isa asked.groups ≡ Ok inputs
+    → asked.logs ≡ log ∷ [] → propagating.IsLog files log.name bytes → call.status ≡ Done
+    → HasReported call (on-one inputs.groups log bytes)
 reported-single {call} files asked a few inputs log bytes given single is_log done =
-    subst (HasReported call) (λ i. report_of inputs.groups
-    (map (λ a. no-more (reached asked.signature.lo asked.signature.hi (acts_of bytes) a) i)
-    (aims_of inputs.groups))
-    (map (λ a. no-more (hit_count (entries_of bytes) a) i) (aims_of inputs.groups))
-    (no-more (length (entries_of bytes)) i))
+    subst (HasReported call) (single-report inputs.groups asked.logs log bytes single)
     (reported-numbers files asked a few inputs (bytes ∷ []) given
     (one-log files asked.logs log bytes single is_log) done)
 
@@ -238,7 +323,7 @@ propagates {call} files asked r =
       one = λ isa' l p hit store log bytes given selected points single is_log two first some saved
           done.
           subst (HasReported call)
-          (one-reached asked.signature.lo asked.signature.hi l p hit store bytes selected points
+          (one-reached log.signature.lo log.signature.hi l p hit store bytes selected points
           two first some saved)
           (reported-single files asked a few (record { isa = isa'; groups = l ∷ [] }) log bytes
           given single is_log done);

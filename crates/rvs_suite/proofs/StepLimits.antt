@@ -133,7 +133,8 @@ by-database program values = search (then-in, some-in, none-in) depth 12
 
 by-run : (program : List ℕ) (values : Values) → InAll IsFew (run_of program values)
 by-run program values =
-    either-in _ _ _ (either-in _ _ _ none-in (by-database program values))
+    either-in _ _ _
+    (either-in _ _ _ none-in (either-in _ _ _ none-in (by-database program values)))
     (by-groups program values)
 
 by-demo : (words : List (List ℕ)) → InAll IsFew (demo_of words)

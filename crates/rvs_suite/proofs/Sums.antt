@@ -9,6 +9,7 @@ use Rattle.std.proofs.lemmas.List.{take-append-drop}
 use Rattle.std.specs.Prelude.{⊤}
 use Rattle.std.proofs.Math.Nat.{min-eq_left}
 use Rattle.rvs_suite.specs.Summing.{sum_up_to_most, plus_each, added_at, over, summed}
+use Rattle.rvs_suite.specs.Summing.{total_of}
 
 pub plus_none : (ns : List ℕ) → plus_each ns [] ≡ ns
 plus_none [] = refl
@@ -100,6 +101,21 @@ pub over_map : {X Y : Type 0} (f : Y → ℕ) (g : X → Y) (xs : List X)
     → over f (map g xs) ≡ over (λ x. f (g x)) xs
 over_map f g [] = refl
 over_map f g (x ∷ xs) = ap (λ (n : ℕ). f (g x) + n) (over_map f g xs)
+
+pub map_map : {X Y Z : Type 0} (f : Y → Z) (g : X → Y) (xs : List X)
+    → map f (map g xs) ≡ map (λ x. f (g x)) xs
+map_map f g [] = refl
+map_map {X} {Y} {Z} f g (x ∷ xs) = ap (λ (zs : List Z). f (g x) ∷ zs) (map_map f g xs)
+
+summed_map : {X : Type 0} (f : X → ℕ) (n : ℕ) (xs : List X)
+    → summed (λ m. m) n (map f xs) ≡ summed f n xs
+summed_map f n [] = refl
+summed_map f n (x ∷ xs) = summed_map f (sum_up_to_most n (f x)) xs
+
+pub total_map : {X : Type 0} (f : X → ℕ) (xs : List X) → AreLow f xs
+    → 0 + 1_099_511_627_776 * length xs ≤ 18_446_744_073_709_551_615
+    → total_of (map f xs) ≡ over f xs
+total_map f xs low few = summed_map f 0 xs ∙ summed_all f xs low few
 
 pub zeros_map : {X : Type 0} (xs : List X) → replicate {A = ℕ} (length xs) 0 ≡ map (λ x. 0) xs
 zeros_map [] = refl

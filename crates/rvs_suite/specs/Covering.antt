@@ -1,6 +1,6 @@
 -- What every call of `coverage` promises.
-use Rattle.std.specs.Prelude.{◌≡◌, ◌≤◌, List, [], ◌∷◌, ℕ, map, length, Contains, Option, Some, Ok}
-use Rattle.std.specs.Prelude.{IsTrue}
+use Rattle.std.specs.Prelude.{◌≡◌, ◌≤◌, ◌+◌, ◌++◌, List, [], ◌∷◌, ℕ, map, length, Contains}
+use Rattle.std.specs.Prelude.{Option, Some, Ok, IsTrue}
 use Rattle.rvs_base.specs.Host.{Files, Tells}
 use Rattle.rvs_base.specs.Sink.{appended}
 use Rattle.rvs_plan.specs.declared.status.Status.TheVariants.{Done}
@@ -15,6 +15,7 @@ use Rattle.rvs_suite.specs.Answered.{Answered, OnDone}
 use Rattle.rvs_suite.specs.Call.{Call, Asks}
 use Rattle.rvs_suite.specs.Coverage.{report_in}
 use Rattle.rvs_suite.specs.LogReport.{AreLogs}
+use Rattle.rvs_suite.specs.LogLines.{log_line, lines_of_many}
 use Rattle.rvs_suite.specs.Summing.{over}
 use Rattle.rvs_base.specs.declared.asked.Window.{Window}
 use Rattle.rvs_log.specs.Lines.{log_limit}
@@ -45,6 +46,10 @@ pub record AreLogsOf (files : Files) (names : List (List ℕ)) (logs : List (Lis
 abbrev pub counted_in : List Window → List (List Entry) → Aim → ℕ
 counted_in windows logs a = over (λ es. count (kept windows es) a) logs
 
+-- how many instructions of each log the windows leave, and of all together
+abbrev pub ran_in : List Window → List (List Entry) → List ℕ
+ran_in windows logs = map (λ es. length (kept windows es)) logs
+
 abbrev pub instructions_in : List Window → List (List Entry) → ℕ
 instructions_in windows logs = over (λ es. length (kept windows es)) logs
 
@@ -55,14 +60,26 @@ pub record Covers (call : Call) (files : Files) (asked : CoverageArguments) : Ty
   pub answered : Answered call (report_in files asked)
       (OnDone (HasReported call))
   -- the numbers of the report are those of the logs' instructions that the windows leave: how many
-  -- hit each point of the groups, and how many there are, each log by itself and then added up
+  -- hit each point of the groups, and how many there are, each log by itself and then added up;
+  -- before it stands a line for each log, where there are several
   pub counts : (inputs : Inputs) (logs : List (List Entry))
       → inputs_in files asked.isa asked.groups ≡ Ok inputs
       → AreLogsOf files asked.logs logs → call.status ≡ Done
-      → HasReported call (report_of inputs.groups
-      (map (counted_in asked.windows logs) (aims_of inputs.groups))
+      → HasReported call (lines_of_many asked.logs (ran_in asked.windows logs)
+      ++ report_of inputs.groups (map (counted_in asked.windows logs) (aims_of inputs.groups))
       (instructions_in asked.windows logs))
-  -- so those of one log are its own
+  -- so of two logs, each counted by itself, the numbers are added
+  pub two : (inputs : Inputs) (log other : List ℕ) (first second : List Entry)
+      → inputs_in files asked.isa asked.groups ≡ Ok inputs → asked.logs ≡ log ∷ other ∷ []
+      → IsLogOf files log first → IsLogOf files other second → call.status ≡ Done
+      → HasReported call
+      ((log_line log (length (kept asked.windows first))
+      ++ (log_line other (length (kept asked.windows second)) ++ []))
+      ++ report_of inputs.groups
+      (map (λ a. count (kept asked.windows first) a + count (kept asked.windows second) a)
+      (aims_of inputs.groups))
+      (length (kept asked.windows first) + length (kept asked.windows second)))
+  -- and those of one log are its own
   pub alone : (inputs : Inputs) (log : List ℕ) (entries : List Entry)
       → inputs_in files asked.isa asked.groups ≡ Ok inputs → asked.logs ≡ log ∷ []
       → IsLogOf files log entries → call.status ≡ Done

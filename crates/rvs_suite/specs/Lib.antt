@@ -24,6 +24,7 @@ pub mod Normalize
 pub mod Normalizing
 pub mod Summing
 pub mod LogReport
+pub mod LogLines
 pub mod Coverage
 pub mod Covering
 pub mod Propagate

@@ -15,11 +15,13 @@ use Rattle.rvs_suite.specs.GroupFiles.{Inputs, and_then, inputs_in, group_inputs
 abbrev pub log_bound : ℕ
 log_bound = log_limit + piece_limit
 
--- what is known of logs, for groups: of none, with the bytes of one more, and as a report
-pub record Measure (A : Type 0) : Type 0 where
+-- what is known of logs, for groups: of none, with the bytes of one more, and as a report; and what
+-- the file of a log is called
+pub record Measure (L A : Type 0) : Type 0 where
+  pub name : L → List ℕ
   pub none : List Label → A
-  pub more : List Label → A → List ℕ → A
-  pub report : List Label → A → List ℕ
+  pub more : List Label → L → A → List ℕ → A
+  pub report : List Label → List L → A → List ℕ
 
 -- with the named log more, where it is there
 abbrev pub with_found : {A : Type 0} → (A → List ℕ → A) → A → List ℕ → Option (List ℕ)
@@ -30,22 +32,24 @@ with_found more known name (Some log) =
     else Ok (more known log)
 
 -- ---- over given files
--- with the named logs more, in their order; the first that isn't there, or is too long, is told
-abbrev pub logs_in : {A : Type 0} → Files → (A → List ℕ → A) → A → List (List ℕ) → Result A Stop
-logs_in files more known [] = Ok known
-logs_in files more known (name ∷ names) =
-    and_then (with_found more known name (files name)) (λ now. logs_in files more now names)
+-- with these logs more, in their order; the first that isn't there, or is too long, is told
+abbrev pub logs_in : {L A : Type 0} → Files → (L → List ℕ) → (L → A → List ℕ → A) → A → List L
+    → Result A Stop
+logs_in files named more known [] = Ok known
+logs_in files named more known (log ∷ logs) =
+    and_then (with_found (more log) known (named log) (files (named log)))
+    (λ now. logs_in files named more now logs)
 
--- the report on the named logs, for these groups
-abbrev pub reported_in : {A : Type 0} → Measure A → Files → List (List ℕ) → List Label
+-- the report on logs, for these groups
+abbrev pub reported_in : {L A : Type 0} → Measure L A → Files → List L → List Label
     → Result (List ℕ) Stop
 reported_in m files logs groups =
-    and_then (logs_in files (m.more groups) (m.none groups) logs)
-    (λ known. Ok (m.report groups known))
+    and_then (logs_in files m.name (m.more groups) (m.none groups) logs)
+    (λ known. Ok (m.report groups logs known))
 
 -- that for the groups that the ISA file and the group files give
-abbrev pub log_report_in : {A : Type 0} → Measure A → Files → List ℕ → List (List ℕ)
-    → List (List ℕ) → Result (List ℕ) Stop
+abbrev pub log_report_in : {L A : Type 0} → Measure L A → Files → List ℕ → List (List ℕ)
+    → List L → Result (List ℕ) Stop
 log_report_in m files isa names logs =
     and_then (inputs_in files isa names) (λ inputs. reported_in m files logs inputs.groups)
 
@@ -63,20 +67,21 @@ abbrev pub takes_log : {A : Type 0} → (A → List ℕ → A) → A → List �
 takes_log more known name = Asks name log_bound (λ found. Ends (with_found more known name found))
 
 -- logs are read, one after the other
-abbrev pub takes_logs : {A : Type 0} → (A → List ℕ → A) → A → List (List ℕ) → Plan A
-takes_logs more known [] = gives known
-takes_logs more known (name ∷ names) =
-    takes_log more known name >>= (λ now. takes_logs more now names)
+abbrev pub takes_logs : {L A : Type 0} → (L → List ℕ) → (L → A → List ℕ → A) → A → List L → Plan A
+takes_logs named more known [] = gives known
+takes_logs named more known (log ∷ logs) =
+    takes_log (more log) known (named log) >>= (λ now. takes_logs named more now logs)
 
-abbrev pub reports : {A : Type 0} → Measure A → List Label → A → Plan (List ℕ)
-reports m groups known = gives (m.report groups known)
+abbrev pub reports : {L A : Type 0} → Measure L A → List L → List Label → A → Plan (List ℕ)
+reports m logs groups known = gives (m.report groups logs known)
 
 -- all logs are read, and the report made
-abbrev pub reads_logs : {A : Type 0} → Measure A → List (List ℕ) → List Label → Plan (List ℕ)
-reads_logs m logs groups = takes_logs (m.more groups) (m.none groups) logs >>= reports m groups
+abbrev pub reads_logs : {L A : Type 0} → Measure L A → List L → List Label → Plan (List ℕ)
+reads_logs m logs groups =
+    takes_logs m.name (m.more groups) (m.none groups) logs >>= reports m logs groups
 
 -- the ISA file and the group files are read and checked, and then the logs are read
-abbrev pub log_reported : {A : Type 0} → Measure A → List ℕ → List (List ℕ) → List (List ℕ)
+abbrev pub log_reported : {L A : Type 0} → Measure L A → List ℕ → List (List ℕ) → List L
     → Plan (List ℕ)
 log_reported m isa names logs = do
   inputs ← group_inputs isa names

@@ -26,3 +26,7 @@ over f (x ∷ xs) = f x + over f xs
 abbrev pub summed : {X : Type 0} → (X → ℕ) → ℕ → List X → ℕ
 summed f n [] = n
 summed f n (x ∷ xs) = summed f (sum_up_to_most n (f x)) xs
+
+-- the sum of numbers, in code
+abbrev pub total_of : List ℕ → ℕ
+total_of ns = summed (λ n. n) 0 ns

@@ -9,22 +9,32 @@ ghost use Rattle.rvs_count.specs.State.{ended, state_of};
 ghost use Rattle.rvs_base.specs.declared.asked.Window.{Window as Span};
 ghost use Rattle.rvs_suite.specs.GroupsView.{groups_view};
 ghost use Rattle.rvs_suite.specs.Coverage.{uncounted, counted_with, report_on, measure, reported};
-ghost use Rattle.rvs_suite.specs.Coverage.{coverage};
+ghost use Rattle.rvs_suite.specs.Coverage.{file_name, counts_more, coverage};
 ghost use Rattle.rvs_log.specs.Lines.{log_limit};
 ghost use Rattle.rvs_suite.specs.LogReport.{takes_log, takes_logs, reads_logs};
 
 use crate::group_files::read_inputs;
+use crate::log_lines::under_lines;
 use crate::printing::print_text;
-use crate::summing::plus_each;
+use crate::summing::{plus_each, total_of, with_number};
 use rvs_base::{Host, Items, NoMemory, Sink, Text, Window};
 use rvs_cgf::Groups;
-use rvs_count::{Counted, Counter, LogFault, count_file, report_text, zeros};
+use rvs_count::{Counter, LogFault, count_file, report_text, zeros};
 use rvs_plan::{Finish, Stop, too_long};
 use rvs_words::{CoverageArguments, owned};
 use std::alloc::Global;
 
 /// The greatest length of a log in bytes: 2^40.
 pub(crate) const LOG_LIMIT: u64 = 1 << 40;
+
+/// What was counted in some logs.
+#[derive(Drop)]
+pub struct Covered {
+    /// How often each point of the groups was hit.
+    pub counts: Items<u64>,
+    /// How many instructions the windows leave of each log, in order.
+    pub ran: Items<u64>,
+}
 
 /// Counts which points of coverage groups the instructions of logs hit, and puts the report. Where
 /// windows are given, the instructions in them alone are counted. Each log is counted by itself and
@@ -72,27 +82,36 @@ fn report_logs<H: Host>(
         (world (H.state host.old) out) (world (H.state host.new) out) result }
 {
     let counted = count_all(alloc, host, groups, asked)?;
-    Ok(report_of(alloc, groups, &counted)?)
+    Ok(report_of(alloc, groups, asked.logs.as_slice(), &counted)?)
 }
 
 #[tactic(auto, unfolding(crate::specs::Coverage::report_on))]
-fn report_of(alloc: Global, groups: &Groups, counted: &Counted) -> Result<Text, NoMemory>
+fn report_of(
+    alloc: Global,
+    groups: &Groups,
+    names: &[Text],
+    counted: &Covered,
+) -> Result<Text, NoMemory>
     requires { length counted.now.counts ≡ length (aims_in groups.now) }
-    ensures { IfOk result (λ text. text ≡ report_on (groups_view groups.now) counted.now) }
+    ensures { IfOk result
+        (λ text. text ≡ report_on (groups_view groups.now) names.now counted.now) }
 {
     let counts = counted.counts.as_slice();
-    report_text(alloc, groups, counts, counted.instructions)
+    let ran = counted.ran.as_slice();
+    let report = report_text(alloc, groups, counts, total_of(ran))?;
+    under_lines(alloc, names, ran, report)
 }
 
-/// Nothing counted of the points of groups.
-fn nothing(alloc: Global, groups: &Groups) -> Result<Counted, NoMemory>
+/// Nothing counted of the points of groups, with room for so many logs.
+fn nothing(alloc: Global, groups: &Groups, logs: usize) -> Result<Covered, NoMemory>
     ensures counted { IfOk result (λ c. c ≡ uncounted (groups_view groups.now)) }
     ensures long { IfOk result (λ c. length c.counts ≡ length (aims_in groups.now)) }
 {
     let counts = zeros(alloc, groups.as_slice())?;
-    Ok(Counted {
+    let ran = Vec::with_capacity(alloc, logs)?;
+    Ok(Covered {
         counts: Items::from(counts),
-        instructions: 0,
+        ran: Items::from(ran),
     })
 }
 
@@ -102,14 +121,14 @@ fn count_all<H: Host>(
     host: &mut H,
     groups: &Groups,
     asked: &CoverageArguments,
-) -> Result<Counted, Stop>
+) -> Result<Covered, Stop>
     ensures met { (out : SinkState) → Meets
-        (takes_logs (counted_with asked.now.windows (groups_view groups.now))
+        (takes_logs file_name (counts_more asked.now.windows (groups_view groups.now))
         (uncounted (groups_view groups.now)) asked.now.logs)
         (world (H.state host.old) out) (world (H.state host.new) out) result }
     ensures long { IfOk result (λ c. length c.counts ≡ length (aims_in groups.now)) }
 {
-    let none = nothing(alloc, groups)?;
+    let none = nothing(alloc, groups, asked.logs.as_slice().len())?;
     let windows = asked.windows.as_slice();
     count_onto(alloc, host, groups, windows, none, asked.logs.as_slice())
 }
@@ -120,12 +139,12 @@ fn count_onto<H: Host>(
     host: &mut H,
     groups: &Groups,
     windows: &[Window],
-    none: Counted,
+    none: Covered,
     logs: &[Text],
-) -> Result<Counted, Stop>
+) -> Result<Covered, Stop>
     requires { length none.counts ≡ length (aims_in groups.now) }
     ensures met { (out : SinkState) → Meets
-        (takes_logs (counted_with windows.now (groups_view groups.now)) none logs.now)
+        (takes_logs file_name (counts_more windows.now (groups_view groups.now)) none logs.now)
         (world (H.state host.old) out) (world (H.state host.new) out) result }
     ensures long { IfOk result (λ c. length c.counts ≡ length (aims_in groups.now)) }
 {
@@ -142,9 +161,9 @@ fn count_one<H: Host>(
     host: &mut H,
     groups: &Groups,
     windows: &[Window],
-    counted: Counted,
+    counted: Covered,
     log: &str,
-) -> Result<Counted, Stop>
+) -> Result<Covered, Stop>
     ensures met { (out : SinkState) → Meets
         (takes_log (counted_with windows.now (groups_view groups.now)) counted log.now)
         (world (H.state host.old) out) (world (H.state host.new) out) result }
@@ -162,9 +181,9 @@ fn count_with<H: Host>(
     alloc: Global,
     host: &mut H,
     counter: &mut Counter<'_>,
-    counted: Counted,
+    counted: Covered,
     log: &str,
-) -> Result<Counted, Stop>
+) -> Result<Covered, Stop>
     ensures met { (out : SinkState) (groups : List Label) (windows : List Span)
         → counter.old ≡ state_of groups windows [] 0 → counter.new.fed ≤ log_limit
         → Meets (takes_log (counted_with windows (groups_view groups)) counted log.now)
@@ -173,7 +192,7 @@ fn count_with<H: Host>(
 {
     let name = owned(alloc, log)?;
     match count_file(host, log, counter) {
-        Ok(()) => Ok(with_ended(counted, counter)),
+        Ok(()) => Ok(with_ended(counted, counter)?),
         Err(LogFault::NoFile) => Err(Stop::NoFile(name)),
         Err(LogFault::Failed) => Err(Stop::CannotRead(name)),
         Err(LogFault::TooLong) => Err(Stop::Refused(too_long(alloc, log, LOG_LIMIT)?)),
@@ -181,24 +200,23 @@ fn count_with<H: Host>(
 }
 
 /// With what a counter has at the end of its log.
-fn with_ended(counted: Counted, counter: &mut Counter<'_>) -> Counted
+fn with_ended(counted: Covered, counter: &mut Counter<'_>) -> Result<Covered, NoMemory>
     ensures state { (labels : List Label) (windows : List Span) (bytes : List ℕ) (n : ℕ)
         → counter.old ≡ state_of labels windows bytes n
         → counter.new ≡ state_of labels windows (ended bytes) n }
     ensures counted { (labels : List Label) (windows : List Span) (bytes : List ℕ) (n : ℕ)
         → counter.old ≡ state_of labels windows bytes n
-        → result ≡ counted_with windows (groups_view labels) counted bytes }
-    ensures long { length result.counts ≡ length counted.counts }
+        → IfOk result (λ c. c ≡ counted_with windows (groups_view labels) counted bytes) }
+    ensures long { IfOk result (λ c. length c.counts ≡ length counted.counts) }
 {
     counter.finish();
-    let Counted {
+    let Covered {
         counts: before,
-        instructions: earlier,
+        ran: earlier,
     } = counted;
     let more = counter.counts();
-    let ran = counter.instructions();
-    Counted {
-        counts: plus_each(before, more),
-        instructions: earlier.saturating_add(ran),
-    }
+    let last = counter.instructions();
+    let counts = plus_each(before, more);
+    let ran = with_number(earlier, last)?;
+    Ok(Covered { counts, ran })
 }

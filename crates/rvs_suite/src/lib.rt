@@ -13,6 +13,7 @@ mod group_files;
 mod isa_file;
 mod judging;
 mod listing;
+mod log_lines;
 mod making;
 mod normalizing;
 mod parting;

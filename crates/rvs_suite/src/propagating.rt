@@ -1,5 +1,5 @@
 // The command `propagate`.
-ghost use Rattle.std.specs.Prelude.{◌≡◌, ◌≤◌, ◌^◌, [], ℕ, List, IfOk, length};
+ghost use Rattle.std.specs.Prelude.{◌≡◌, ◌≤◌, ◌^◌, [], ℕ, List, IfOk, length, map};
 ghost use Rattle.rvs_base.specs.Sink.{SinkState};
 ghost use Rattle.rvs_plan.specs.World.{world};
 ghost use Rattle.rvs_plan.specs.Meets.{Meets};
@@ -10,21 +10,33 @@ ghost use Rattle.rvs_prop.specs.State.{state_of};
 ghost use Rattle.rvs_base.specs.declared.asked.Window.{Window as Span};
 ghost use Rattle.rvs_suite.specs.GroupsView.{groups_view};
 ghost use Rattle.rvs_suite.specs.Propagate.{untracked, tracked_with, report_on, measure, reported};
-ghost use Rattle.rvs_suite.specs.Propagate.{AreLong, propagate};
+ghost use Rattle.rvs_suite.specs.Propagate.{AreLong, file_name, tracks_more, propagate};
 ghost use Rattle.rvs_log.specs.Lines.{log_limit};
 ghost use Rattle.rvs_suite.specs.LogReport.{takes_log, takes_logs, reads_logs};
 
 use crate::covering::LOG_LIMIT;
 use crate::group_files::read_inputs;
+use crate::log_lines::under_lines;
 use crate::printing::print_text;
-use crate::summing::plus_each;
+use crate::summing::{plus_each, total_of, with_number};
 use rvs_base::{Host, Items, NoMemory, Sink, Text, Window};
 use rvs_cgf::Groups;
 use rvs_count::{LogFault, zeros};
 use rvs_plan::{Finish, Stop, too_long};
-use rvs_prop::{Tracked, Tracker, propagation_text, track_file};
-use rvs_words::{PropagateArguments, owned};
+use rvs_prop::{Tracker, propagation_text, track_file};
+use rvs_words::{PropagateArguments, SignedLog, owned};
 use std::alloc::Global;
+
+/// What was tracked in some logs.
+#[derive(Drop)]
+pub struct Traced {
+    /// How many hits of each point of the groups reached the signature.
+    pub reached: Items<u64>,
+    /// How often each point was hit.
+    pub hits: Items<u64>,
+    /// How many instructions each log has, in order.
+    pub ran: Items<u64>,
+}
 
 /// Counts how many hits of coverage points have their instruction's result stored in the signature,
 /// and puts the report. Each log is tracked by itself and read in one pass, in memory that doesn't
@@ -68,34 +80,55 @@ fn report_logs<H: Host>(
     asked: &PropagateArguments,
 ) -> Result<Text, Stop>
     ensures { (out : SinkState) → Meets
-        (reads_logs (measure asked.now.signature) asked.now.logs (groups_view groups.now))
+        (reads_logs measure asked.now.logs (groups_view groups.now))
         (world (H.state host.old) out) (world (H.state host.new) out) result }
 {
     let tracked = track_all(alloc, host, groups, asked)?;
-    Ok(report_of(alloc, groups, &tracked)?)
+    Ok(report_of(alloc, groups, asked.logs.as_slice(), &tracked)?)
 }
 
 #[tactic(auto, unfolding(crate::specs::Propagate::report_on))]
-fn report_of(alloc: Global, groups: &Groups, tracked: &Tracked) -> Result<Text, NoMemory>
+fn report_of(
+    alloc: Global,
+    groups: &Groups,
+    logs: &[SignedLog],
+    tracked: &Traced,
+) -> Result<Text, NoMemory>
     requires { AreLong (length (aims_in groups.now)) tracked.now }
-    ensures { IfOk result (λ text. text ≡ report_on (groups_view groups.now) tracked.now) }
+    ensures { IfOk result
+        (λ text. text ≡ report_on (groups_view groups.now) logs.now tracked.now) }
 {
+    let names = names_of(alloc, logs)?;
     let reached = tracked.reached.as_slice();
     let hits = tracked.hits.as_slice();
-    propagation_text(alloc, groups, reached, hits, tracked.instructions)
+    let ran = tracked.ran.as_slice();
+    let report = propagation_text(alloc, groups, reached, hits, total_of(ran))?;
+    under_lines(alloc, names.as_slice(), ran, report)
 }
 
-/// Nothing tracked of the points of groups.
-fn nothing(alloc: Global, groups: &Groups) -> Result<Tracked, NoMemory>
+/// The names of the logs' files.
+fn names_of(alloc: Global, logs: &[SignedLog]) -> Result<Items<Text>, NoMemory>
+    ensures { IfOk result (λ names. names ≡ map file_name logs.now) }
+{
+    let mut names = Items::new(alloc);
+    for log in logs {
+        names.push(owned(alloc, log.name.as_str())?)?;
+    }
+    Ok(names)
+}
+
+/// Nothing tracked of the points of groups, with room for so many logs.
+fn nothing(alloc: Global, groups: &Groups, logs: usize) -> Result<Traced, NoMemory>
     ensures tracked { IfOk result (λ t. t ≡ untracked (groups_view groups.now)) }
     ensures long { IfOk result (AreLong (length (aims_in groups.now))) }
 {
     let reached = zeros(alloc, groups.as_slice())?;
     let hits = zeros(alloc, groups.as_slice())?;
-    Ok(Tracked {
+    let ran = Vec::with_capacity(alloc, logs)?;
+    Ok(Traced {
         reached: Items::from(reached),
         hits: Items::from(hits),
-        instructions: 0,
+        ran: Items::from(ran),
     })
 }
 
@@ -105,22 +138,16 @@ fn track_all<H: Host>(
     host: &mut H,
     groups: &Groups,
     asked: &PropagateArguments,
-) -> Result<Tracked, Stop>
+) -> Result<Traced, Stop>
     ensures met { (out : SinkState) → Meets
-        (takes_logs (tracked_with asked.now.signature (groups_view groups.now))
+        (takes_logs file_name (tracks_more (groups_view groups.now))
         (untracked (groups_view groups.now)) asked.now.logs)
         (world (H.state host.old) out) (world (H.state host.new) out) result }
     ensures long { IfOk result (AreLong (length (aims_in groups.now))) }
 {
-    let none = nothing(alloc, groups)?;
-    track_onto(
-        alloc,
-        host,
-        groups,
-        asked.signature,
-        none,
-        asked.logs.as_slice(),
-    )
+    let logs = asked.logs.as_slice();
+    let none = nothing(alloc, groups, logs.len())?;
+    track_onto(alloc, host, groups, none, logs)
 }
 
 /// Tracks hits in some logs more, one after the other.
@@ -128,19 +155,25 @@ fn track_onto<H: Host>(
     alloc: Global,
     host: &mut H,
     groups: &Groups,
-    range: Window,
-    none: Tracked,
-    logs: &[Text],
-) -> Result<Tracked, Stop>
+    none: Traced,
+    logs: &[SignedLog],
+) -> Result<Traced, Stop>
     requires { AreLong (length (aims_in groups.now)) none }
     ensures met { (out : SinkState) → Meets
-        (takes_logs (tracked_with range (groups_view groups.now)) none logs.now)
+        (takes_logs file_name (tracks_more (groups_view groups.now)) none logs.now)
         (world (H.state host.old) out) (world (H.state host.new) out) result }
     ensures long { IfOk result (AreLong (length (aims_in groups.now))) }
 {
     let mut tracked = none;
     for log in logs {
-        tracked = track_one(alloc, host, groups, range, tracked, log.as_str())?;
+        tracked = track_one(
+            alloc,
+            host,
+            groups,
+            log.signature,
+            tracked,
+            log.name.as_str(),
+        )?;
     }
     Ok(tracked)
 }
@@ -151,9 +184,9 @@ fn track_one<H: Host>(
     host: &mut H,
     groups: &Groups,
     range: Window,
-    tracked: Tracked,
+    tracked: Traced,
     log: &str,
-) -> Result<Tracked, Stop>
+) -> Result<Traced, Stop>
     ensures met { (out : SinkState) → Meets
         (takes_log (tracked_with range (groups_view groups.now)) tracked log.now)
         (world (H.state host.old) out) (world (H.state host.new) out) result }
@@ -170,9 +203,9 @@ fn track_with<H: Host>(
     alloc: Global,
     host: &mut H,
     tracker: &mut Tracker<'_>,
-    tracked: Tracked,
+    tracked: Traced,
     log: &str,
-) -> Result<Tracked, Stop>
+) -> Result<Traced, Stop>
     ensures met { (out : SinkState) (groups : List Label) (range : Span)
         → tracker.old ≡ state_of groups range.lo range.hi [] 0 → tracker.new.fed ≤ log_limit
         → Meets (takes_log (tracked_with range (groups_view groups)) tracked log.now)
@@ -181,7 +214,7 @@ fn track_with<H: Host>(
 {
     let name = owned(alloc, log)?;
     match track_file(host, log, tracker) {
-        Ok(()) => Ok(with_ended(tracked, tracker)),
+        Ok(()) => Ok(with_ended(tracked, tracker)?),
         Err(LogFault::NoFile) => Err(Stop::NoFile(name)),
         Err(LogFault::Failed) => Err(Stop::CannotRead(name)),
         Err(LogFault::TooLong) => Err(Stop::Refused(too_long(alloc, log, LOG_LIMIT)?)),
@@ -189,27 +222,26 @@ fn track_with<H: Host>(
 }
 
 /// With what a tracker has at the end of its log.
-fn with_ended(tracked: Tracked, tracker: &mut Tracker<'_>) -> Tracked
+fn with_ended(tracked: Traced, tracker: &mut Tracker<'_>) -> Result<Traced, NoMemory>
     ensures state { (labels : List Label) (lo hi : ℕ) (bytes : List ℕ) (n : ℕ)
         → tracker.old ≡ state_of labels lo hi bytes n
         → tracker.new ≡ state_of labels lo hi (ended bytes) n }
     ensures tracked { (labels : List Label) (range : Span) (bytes : List ℕ) (n : ℕ)
         → tracker.old ≡ state_of labels range.lo range.hi bytes n
-        → result ≡ tracked_with range (groups_view labels) tracked bytes }
-    ensures long { (n : ℕ) → AreLong n tracked → AreLong n result }
+        → IfOk result (λ t. t ≡ tracked_with range (groups_view labels) tracked bytes) }
+    ensures long { (n : ℕ) → AreLong n tracked → IfOk result (AreLong n) }
 {
     tracker.finish();
-    let Tracked {
+    let Traced {
         reached: before,
         hits: behind,
-        instructions: earlier,
+        ran: earlier,
     } = tracked;
     let stored = tracker.reached();
     let hit = tracker.hits();
-    let ran = tracker.instructions();
-    Tracked {
-        reached: plus_each(before, stored),
-        hits: plus_each(behind, hit),
-        instructions: earlier.saturating_add(ran),
-    }
+    let last = tracker.instructions();
+    let reached = plus_each(before, stored);
+    let hits = plus_each(behind, hit);
+    let ran = with_number(earlier, last)?;
+    Ok(Traced { reached, hits, ran })
 }

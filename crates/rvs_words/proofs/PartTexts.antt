@@ -1,6 +1,6 @@
 -- The text of a part gives it.
 use Rattle.std.proofs.Common.{◌≡◌, ◌≤◌, ◌<◌, ◌^◌, ℕ, ◌+◌, Bool, true, false, cond, List, [], ◌∷◌}
-use Rattle.std.proofs.Common.{◌++◌, length, Option, Some, None, refl, sym, ap, subst, ◌∙◌, arith}
+use Rattle.std.proofs.Common.{◌++◌, length, Some, None, refl, ap, ◌∙◌, arith}
 use Rattle.std.proofs.lemmas.Bool.Decides.{nat_tests}
 use Rattle.std.proofs.lemmas.Bool.{le-leb}
 use Rattle.std.proofs.lemmas.Fmt.{length-decimal-le, decimal-digits_of}
@@ -12,7 +12,7 @@ use Rattle.std.specs.Int.Digits.{digits_of as places_of}
 use Rattle.rvs_base.specs.Lines.{before, after}
 use Rattle.rvs_base.proofs.Readings.{digits_of-decimal}
 use Rattle.rvs_parts.specs.Parts.{part_between}
-use Rattle.rvs_words.specs.PartWords.{part_number, part_of, parts_of}
+use Rattle.rvs_words.specs.PartWords.{part_number}
 use Rattle.rvs_words.specs.CommandLaws.{PartsAreRead}
 use Rattle.rvs_words.proofs.FirstCuts.{not-left, not-right}
 

@@ -3,9 +3,9 @@ use Rattle.std.proofs.lemmas.Result.{err_from_is_err_and}
 use Rattle.rvs_plan.specs.World.{world}
 use Rattle.rvs_plan.proofs.Sequence.{Meets-no_memory}
 use Rattle.rvs_plan.specs.Meets.{Meets}
-use Rattle.rvs_count.specs.declared.whole.Counted.{Counted}
+use Rattle.rvs_suite.specs.declared.covering.Covered.{Covered}
 use Rattle.rvs_suite.specs.GroupsView.{groups_view}
-use Rattle.rvs_suite.specs.Coverage.{counted_with}
+use Rattle.rvs_suite.specs.Coverage.{file_name, counts_more}
 use Rattle.rvs_suite.specs.LogReport.{takes_logs}
 use Rattle.rvs_suite.proofs.covering.count_all.Goals as goal
 
@@ -17,8 +17,8 @@ returns-in_err-none-clause-met g c = λ out.
 pub returns-clause-met : goal.returns-clause-met
 returns-clause-met g c = λ out.
     let asked = c.args.asked.now in
-    let more = counted_with asked.windows (groups_view c.args.groups.now) in
+    let more = counts_more asked.windows (groups_view c.args.groups.now) in
     let old = world (g.H.Host.state c.args.host.now) out in
     let new = world (g.H.Host.state c.count_onto.new.host) out in
-    subst (λ (none : Counted). Meets (takes_logs more none asked.logs) old new c.count_onto.result)
+    subst (λ (none : Covered). Meets (takes_logs file_name more none asked.logs) old new c.count_onto.result)
     c.in_ok-none.ensures.counted (rw (c.as_slice-windows.ensures, c.as_slice.ensures) at (c.count_onto.ensures.met out))

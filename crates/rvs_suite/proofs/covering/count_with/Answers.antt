@@ -37,12 +37,20 @@ short groups windows bytes after c is within = let fed : c.fed ≡ 0 + length by
     ap (λ (s : CountState). s.fed) is ∙ fed_of groups windows after (0 + length bytes) in
     omega (arith, fed, within)
 
+pub returns-in_err-with_ended-in-Ok-clause-met : goal.returns-in_err-with_ended-in-Ok-clause-met
+returns-in_err-with_ended-in-Ok-clause-met g c = λ out groups windows begun few.
+    let p = err_from_is_err_and c.from_residual-in_err-with_ended-in-Ok.result
+    c.from_residual-in_err-with_ended-in-Ok.ensures.1 in
+    rw (p.1, p.2) (asks-no_memory out _ log_bound _ c.in-Ok.ensures.reads_only
+    c.in-Ok.ensures.unfaulted (at_most-log c.args.counter.now.fed c.in-Ok.ensures.at_most))
+
 pub returns-in-Ok-clause-met : goal.returns-in-Ok-clause-met
 returns-in-Ok-clause-met g c = λ out groups windows begun few.
     let name = c.args.log.now in
     let feeds = c.in-Ok.ensures.whole in
     let fed = feeds.fed.state groups windows [] 0 begun in
-    let with = c.with_ended.ensures.counted groups windows feeds.bytes
+    let now = c.in_ok-with_ended-in-Ok.field-0 in
+    let with = c.in_ok-with_ended-in-Ok.ensures.counted groups windows feeds.bytes
     (0 + length feeds.bytes) fed in
     let at_end = c.with_ended.ensures.state groups windows feeds.bytes
     (0 + length feeds.bytes) fed in
@@ -50,9 +58,9 @@ returns-in-Ok-clause-met g c = λ out groups windows begun few.
     at_end few in
     asks-accepted out name log_bound
     (with_found (counted_with windows (groups_view groups)) c.args.counted name) feeds.bytes
-    c.with_ended.result c.in-Ok.ensures.reads_only feeds.whole
+    now c.in-Ok.ensures.reads_only feeds.whole
     (accepts-log (counted_with windows (groups_view groups)) c.args.counted name feeds.bytes
-    c.with_ended.result within with)
+    now within with)
     c.in-Ok.ensures.unfaulted (at_most-log c.args.counter.now.fed c.in-Ok.ensures.at_most)
 
 pub returns-in-Err-NoFile-clause-met : goal.returns-in-Err-NoFile-clause-met

@@ -10,7 +10,7 @@ use Rattle.std.proofs.Common.{List, ℕ}
 
 -- what follows when the inputs are read
 abbrev next : PropagateArguments → Inputs → Plan (List ℕ)
-next asked inputs = reads_logs (measure asked.signature) asked.logs inputs.groups
+next asked inputs = reads_logs measure asked.logs inputs.groups
 
 pub returns-in_err-inputs : goal.returns-in_err-inputs
 returns-in_err-inputs g c = λ out.

@@ -37,12 +37,20 @@ short groups lo hi bytes after c is within = let fed : c.fed ≡ 0 + length byte
     ap (λ (s : TrackState). s.fed) is ∙ fed_of groups lo hi after (0 + length bytes) in
     omega (arith, fed, within)
 
+pub returns-in_err-with_ended-in-Ok-clause-met : goal.returns-in_err-with_ended-in-Ok-clause-met
+returns-in_err-with_ended-in-Ok-clause-met g c = λ out groups range begun few.
+    let p = err_from_is_err_and c.from_residual-in_err-with_ended-in-Ok.result
+    c.from_residual-in_err-with_ended-in-Ok.ensures.1 in
+    rw (p.1, p.2) (asks-no_memory out _ log_bound _ c.in-Ok.ensures.reads_only
+    c.in-Ok.ensures.unfaulted (at_most-log c.args.tracker.now.fed c.in-Ok.ensures.at_most))
+
 pub returns-in-Ok-clause-met : goal.returns-in-Ok-clause-met
 returns-in-Ok-clause-met g c = λ out groups range begun few.
     let name = c.args.log.now in
     let feeds = c.in-Ok.ensures.whole in
     let fed = feeds.fed.state groups range.lo range.hi [] 0 begun in
-    let with = c.with_ended.ensures.tracked groups range feeds.bytes
+    let now = c.in_ok-with_ended-in-Ok.field-0 in
+    let with = c.in_ok-with_ended-in-Ok.ensures.tracked groups range feeds.bytes
     (0 + length feeds.bytes) fed in
     let at_end = c.with_ended.ensures.state groups range.lo range.hi feeds.bytes
     (0 + length feeds.bytes) fed in
@@ -50,9 +58,9 @@ returns-in-Ok-clause-met g c = λ out groups range begun few.
     c.with_ended.new.tracker at_end few in
     asks-accepted out name log_bound
     (with_found (tracked_with range (groups_view groups)) c.args.tracked name) feeds.bytes
-    c.with_ended.result c.in-Ok.ensures.reads_only feeds.whole
+    now c.in-Ok.ensures.reads_only feeds.whole
     (accepts-log (tracked_with range (groups_view groups)) c.args.tracked name feeds.bytes
-    c.with_ended.result within with)
+    now within with)
     c.in-Ok.ensures.unfaulted (at_most-log c.args.tracker.now.fed c.in-Ok.ensures.at_most)
 
 pub returns-in-Err-NoFile-clause-met : goal.returns-in-Err-NoFile-clause-met
