@@ -15,7 +15,9 @@ use Rattle.rvs_select.specs.declared.refusal.SelectRefusal.{SelectRefusal}
 use Rattle.rvs_select.proofs.Accepted.{accepts, read_few}
 use Rattle.rvs_suite.specs.GroupFiles.{and_then}
 use Rattle.rvs_suite.specs.DatabaseInput.{database_limit, checked_end, tree_end, checks}
-use Rattle.rvs_suite.specs.DatabaseInput.{database_file, database_in}
+use Rattle.rvs_suite.specs.DatabaseInput.{database_file, database_in, marked, gives_marked}
+use Rattle.rvs_suite.specs.DatabaseInput.{marked_file, marked_in}
+use Rattle.rvs_parts.specs.Parts.{PartValue}
 use Rattle.rvs_suite.specs.DeviceInput.{device_file, device_in}
 use Rattle.rvs_suite.specs.JudgingDatabase.{database_inputs_in}
 use Rattle.rvs_suite.specs.RunDatabase.{DatabaseInputs, with_device, device_behind}
@@ -57,6 +59,12 @@ finds-selection files asked = finds-and_then files (specification asked.isa)
     (λ said. database_in files said.spec asked.database) (finds-specification files asked.isa)
     (λ said. finds-database files said.spec asked.database)
 
+pub finds-marked : (files : Files) (part : Option PartValue) (isa : Isa) (name : List ℕ)
+    → Finds files (marked_file part isa name) (marked_in files part isa name)
+finds-marked files part isa name = finds-and_then files (database_file isa name)
+    (gives_marked part) (database_in files isa name) (λ entries. Ok (marked part entries))
+    (finds-database files isa name) (λ entries. refl)
+
 -- ---- the inputs of a run over a database
 abbrev inputs-with : Isa → List Entry → Told → Result DatabaseInputs Stop
 inputs-with isa entries told = Ok (record { isa = isa; entries = entries; device = told })
@@ -65,13 +73,13 @@ pub finds-database-inputs : (files : Files) (asked : RunDatabaseArguments)
     → Finds files (database_inputs asked) (database_inputs_in files asked)
 finds-database-inputs files asked = finds-and_then files (specification asked.isa)
     (λ said. database_behind asked said.spec) (said_in files asked.isa)
-    (λ said. and_then (database_in files said.spec asked.database)
+    (λ said. and_then (marked_in files asked.part said.spec asked.database)
     (λ entries. and_then (device_in files asked.device) (inputs-with said.spec entries)))
     (finds-specification files asked.isa)
-    (λ said. finds-and_then files (database_file said.spec asked.database)
-    (device_behind asked.device said.spec) (database_in files said.spec asked.database)
+    (λ said. finds-and_then files (marked_file asked.part said.spec asked.database)
+    (device_behind asked.device said.spec) (marked_in files asked.part said.spec asked.database)
     (λ entries. and_then (device_in files asked.device) (inputs-with said.spec entries))
-    (finds-database files said.spec asked.database)
+    (finds-marked files asked.part said.spec asked.database)
     (λ entries. finds-and_then files (device_file asked.device) (with_device said.spec entries)
     (device_in files asked.device) (inputs-with said.spec entries)
     (finds-device files asked.device) (λ told. refl)))

@@ -14,7 +14,9 @@ use Rattle.rvs_suite.specs.Specification.{isa_limit, checks, specification, byte
 use Rattle.rvs_suite.specs.GroupTexts.{groups_name}
 use Rattle.rvs_suite.specs.GroupFiles.{groups_limit, joined, room, within_limit, join_found}
 use Rattle.rvs_suite.specs.GroupFiles.{and_then, text_in, groups_found, inputs_of, inputs_in, joins}
-use Rattle.rvs_suite.specs.GroupFiles.{joins_all, group_files, group_inputs}
+use Rattle.rvs_suite.specs.GroupFiles.{joins_all, group_files, group_inputs, parted_inputs}
+use Rattle.rvs_suite.specs.GroupFiles.{labels_in, gives_part, part_inputs}
+use Rattle.rvs_parts.specs.Parts.{PartValue}
 use Rattle.rvs_suite.proofs.Readers.{OnlyReads, OnlyReads-then}
 use Rattle.rvs_suite.proofs.Finding.{Finds, finds-then}
 
@@ -136,3 +138,16 @@ finds-inputs files isa names =
     (text_in files None names) (λ text. inputs_of said.spec (groups_found said.spec text)))
     (finds-groups files said.spec names) (given-after files said.spec
     (text_in files None names)))
+
+-- ---- the labels of a part
+pub reads-labels : (part : Option PartValue) (isa : List ℕ) (names : List (List ℕ))
+    → OnlyReads (part_inputs part isa names)
+reads-labels part isa names = OnlyReads-then (group_inputs isa names) (gives_part part)
+    (reads-inputs isa names) (λ inputs. tt)
+
+pub finds-labels : (files : Files) (part : Option PartValue) (isa : List ℕ)
+    (names : List (List ℕ))
+    → Finds files (part_inputs part isa names) (labels_in files part isa names)
+finds-labels files part isa names = finds-and_then files (group_inputs isa names) (gives_part part)
+    (inputs_in files isa names) (λ inputs. Ok (parted_inputs part inputs))
+    (finds-inputs files isa names) (λ inputs. refl)

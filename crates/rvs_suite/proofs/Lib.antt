@@ -20,6 +20,9 @@ mod GroupInputs
 mod NormalAgain
 mod NormalPlan
 mod NormalizeEnds
+mod Sums
+mod LogAmounts
+mod LogLimits
 mod LogReads
 mod ImageBytes
 mod LogEntries

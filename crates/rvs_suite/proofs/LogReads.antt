@@ -1,6 +1,8 @@
--- Reading a log for a report: it only reads, and what it finds over given files.
-use Rattle.std.proofs.Common.{◌≡◌, ◌≤◌, ◌<◌, ◌+◌, ◌-◌, ℕ, Bool, List, length, nat_lt, Some, Result}
+-- Reading logs for a report: it only reads, and what it finds over given files.
+use Rattle.std.proofs.Common.{◌≡◌, ◌≤◌, ◌<◌, ◌+◌, ◌-◌, ◌*◌, ℕ, List, [], ◌∷◌, length, nat_lt, Some, Result}
 use Rattle.std.proofs.Common.{Ok, Err, IfOk, if◌then◌else◌, refl, sym, ap, ◌∙◌, arith}
+use Rattle.std.specs.Prelude.{map}
+use Rattle.std.specs.List.{zip}
 use Rattle.std.proofs.lemmas.Bool.{lt-ltb, le-ltb, cond-true, cond-false}
 use Rattle.rvs_base.specs.Host.{Files, HostState}
 use Rattle.rvs_base.specs.File.{ReadsAtMost}
@@ -11,52 +13,114 @@ use Rattle.rvs_cgf.specs.Groups.{Label}
 use Rattle.rvs_suite.specs.GroupFiles.{Inputs, and_then, inputs_in, group_inputs}
 use Rattle.rvs_log.specs.Lines.{log_limit}
 use Rattle.rvs_count.specs.Feeds.{piece_limit}
-use Rattle.rvs_suite.specs.LogReport.{Reports, log_bound, found_by, log_report_in, reads_log}
+use Rattle.rvs_suite.specs.LogReport.{Measure, AreLogs, log_bound, with_found, logs_in}
+use Rattle.rvs_suite.specs.LogReport.{reported_in}
+use Rattle.rvs_suite.specs.LogReport.{log_report_in, takes_log, takes_logs, reports, reads_logs}
 use Rattle.rvs_suite.specs.LogReport.{log_reported}
 use Rattle.rvs_suite.proofs.Readers.{OnlyReads, OnlyReads-then}
 use Rattle.rvs_suite.proofs.Finding.{Finds}
 use Rattle.rvs_suite.proofs.GroupInputs.{reads-inputs, finds-inputs, finds-and_then}
 
-pub reads-reported : (report : Reports) (isa : List ℕ) (names : List (List ℕ)) (log : List ℕ)
-    → OnlyReads (log_reported report isa names log)
-reads-reported report isa names log = OnlyReads-then (group_inputs isa names) (reads_log report log)
-    (reads-inputs isa names) (λ inputs found. tt)
+reads-logs : {L A : Type 0} (named : L → List ℕ) (more : L → A → List ℕ → A) (known : A)
+    (logs : List L) → OnlyReads (takes_logs named more known logs)
+reads-logs named more known [] = tt
+reads-logs named more known (log ∷ logs) = OnlyReads-then (takes_log (more log) known (named log))
+    (λ now. takes_logs named more now logs) (λ found. tt) (λ now. reads-logs named more now logs)
 
-pub finds-reported : (files : Files) (report : Reports) (isa : List ℕ) (names : List (List ℕ))
-    (log : List ℕ)
-    → Finds files (log_reported report isa names log) (log_report_in report files isa names log)
-finds-reported files report isa names log =
-    finds-and_then files (group_inputs isa names) (reads_log report log)
-    (inputs_in files isa names) (λ inputs. found_by report inputs.groups log (files log))
-    (finds-inputs files isa names) (λ inputs. refl)
+reads-report : {L A : Type 0} (m : Measure L A) (logs : List L) (groups : List Label)
+    → OnlyReads (reads_logs m logs groups)
+reads-report m logs groups =
+    OnlyReads-then (takes_logs m.name (m.more groups) (m.none groups) logs)
+    (reports m logs groups) (reads-logs m.name (m.more groups) (m.none groups) logs) (λ known. tt)
 
--- the report over given files, where these are accepted and the log is there
-pub found-report : (files : Files) (report : Reports) (isa : List ℕ) (names : List (List ℕ))
-    (log : List ℕ) (inputs : Inputs) (bytes : List ℕ)
-    → inputs_in files isa names ≡ Ok inputs → files log ≡ Some bytes → length bytes ≤ log_limit
-    → log_report_in report files isa names log ≡ Ok (report inputs.groups bytes)
-found-report files report isa names log inputs bytes given there short =
-    ap (λ (r : Result Inputs Stop). and_then r
-    (λ i. found_by report i.groups log (files log)))
-    given
-    ∙ ap (found_by report inputs.groups log) there
-    ∙ ap (λ (long : Bool). if long then Err (Refused (too_long_text log log_limit)) else Ok
-    (report inputs.groups bytes)) (le-ltb log_limit (length bytes) short)
+pub reads-reported : {L A : Type 0} (m : Measure L A) (isa : List ℕ) (names : List (List ℕ))
+    (logs : List L) → OnlyReads (log_reported m isa names logs)
+reads-reported m isa names logs = OnlyReads-then (group_inputs isa names)
+    (λ inputs. reads_logs m logs inputs.groups)
+    (reads-inputs isa names) (λ inputs. reads-report m logs inputs.groups)
+
+finds-logs : {L A : Type 0} (files : Files) (named : L → List ℕ) (more : L → A → List ℕ → A)
+    (known : A) (logs : List L)
+    → Finds files (takes_logs named more known logs) (logs_in files named more known logs)
+finds-logs files named more known [] = refl
+finds-logs files named more known (log ∷ logs) =
+    finds-and_then files (takes_log (more log) known (named log))
+    (λ now. takes_logs named more now logs)
+    (with_found (more log) known (named log) (files (named log)))
+    (λ now. logs_in files named more now logs) refl (λ now. finds-logs files named more now logs)
+
+finds-report : {L A : Type 0} (files : Files) (m : Measure L A) (logs : List L)
+    (groups : List Label)
+    → Finds files (reads_logs m logs groups) (reported_in m files logs groups)
+finds-report files m logs groups =
+    finds-and_then files (takes_logs m.name (m.more groups) (m.none groups) logs)
+    (reports m logs groups) (logs_in files m.name (m.more groups) (m.none groups) logs)
+    (λ known. Ok (m.report groups logs known))
+    (finds-logs files m.name (m.more groups) (m.none groups) logs) (λ known. refl)
+
+pub finds-reported : {L A : Type 0} (files : Files) (m : Measure L A) (isa : List ℕ)
+    (names : List (List ℕ)) (logs : List L)
+    → Finds files (log_reported m isa names logs) (log_report_in m files isa names logs)
+finds-reported files m isa names logs =
+    finds-and_then files (group_inputs isa names) (λ inputs. reads_logs m logs inputs.groups)
+    (inputs_in files isa names) (λ inputs. reported_in m files logs inputs.groups)
+    (finds-inputs files isa names) (λ inputs. finds-report files m logs inputs.groups)
 
 -- a log that is kept, and one that is too long
-pub accepts-log : (report : Reports) (groups : List Label) (name bytes text : List ℕ)
-    → length bytes ≤ log_limit → text ≡ report groups bytes
-    → found_by report groups name (Some bytes) ≡ Ok text
-accepts-log report groups name bytes text short is =
+pub accepts-log : {A : Type 0} (more : A → List ℕ → A) (known : A) (name bytes : List ℕ) (now : A)
+    → length bytes ≤ log_limit → now ≡ more known bytes
+    → with_found more known name (Some bytes) ≡ Ok now
+accepts-log more known name bytes now short is =
     cond-false (nat_lt log_limit (length bytes)) _ _ (le-ltb log_limit (length bytes) short)
     ∙ ap Ok (sym is)
 
-pub refuses-log : (report : Reports) (groups : List Label) (name bytes text : List ℕ)
+pub refuses-log : {A : Type 0} (more : A → List ℕ → A) (known : A) (name bytes text : List ℕ)
     → log_limit < length bytes → text ≡ too_long_text name log_limit
-    → found_by report groups name (Some bytes) ≡ Err (Refused text)
-refuses-log report groups name bytes text long is =
+    → with_found more known name (Some bytes) ≡ Err (Refused text)
+refuses-log more known name bytes text long is =
     cond-true (nat_lt log_limit (length bytes)) _ _ (lt-ltb log_limit (length bytes) long)
     ∙ ap (λ (t : List ℕ). Err (Refused t)) (sym is)
+
+-- ---- logs that are there
+pub as-many : (files : Files) (names logs : List (List ℕ)) → AreLogs files names logs
+    → length logs ≡ length names
+as-many files [] [] are = refl
+as-many files [] (log ∷ logs) are = absurd are
+as-many files (name ∷ names) [] are = absurd are
+as-many files (name ∷ names) (log ∷ logs) are =
+    omega (arith, as-many files names logs are.2)
+
+pub few-logs : (files : Files) (names logs : List (List ℕ)) → AreLogs files names logs
+    → length names ≤ 4096 → 0 + 1_099_511_627_776 * length logs ≤ 18_446_744_073_709_551_615
+few-logs files names logs are few = omega (arith, as-many files names logs are, few)
+
+-- what logs with these bytes come to together
+abbrev pub known_of : {L A : Type 0} → (L → A → List ℕ → A) → A → List (L × List ℕ) → A
+known_of more known [] = known
+known_of more known (log ∷ logs) = known_of more (more log.0 known log.1) logs
+
+found-logs : {L A : Type 0} (files : Files) (named : L → List ℕ) (more : L → A → List ℕ → A)
+    (known : A) (logs : List L) (bytes : List (List ℕ)) → AreLogs files (map named logs) bytes
+    → logs_in files named more known logs ≡ Ok (known_of more known (zip logs bytes))
+found-logs files named more known [] [] are = refl
+found-logs files named more known [] (log ∷ bytes) are = absurd are
+found-logs files named more known (log ∷ logs) [] are = absurd are
+found-logs {L} {A} files named more known (log ∷ logs) (here ∷ bytes) are =
+    ap (λ (r : Result A Stop). and_then r (λ now. logs_in files named more now logs))
+    (ap (with_found (more log) known (named log)) are.0
+    ∙ accepts-log (more log) known (named log) here (more log known here) are.1 refl)
+    ∙ found-logs files named more (more log known here) logs bytes are.2
+
+-- the report over given files, where these are accepted and the logs are there
+pub found-report : {L A : Type 0} (files : Files) (m : Measure L A) (isa : List ℕ)
+    (names : List (List ℕ)) (logs : List L) (inputs : Inputs) (bytes : List (List ℕ))
+    → inputs_in files isa names ≡ Ok inputs → AreLogs files (map m.name logs) bytes
+    → log_report_in m files isa names logs ≡ Ok (m.report inputs.groups logs
+    (known_of (m.more inputs.groups) (m.none inputs.groups) (zip logs bytes)))
+found-report {L} {A} files m isa names logs inputs bytes given are =
+    ap (λ (r : Result Inputs Stop). and_then r (λ i. reported_in m files logs i.groups)) given
+    ∙ ap (λ (r : Result A Stop). and_then r (λ known. Ok (m.report inputs.groups logs known)))
+    (found-logs files m.name (m.more inputs.groups) (m.none inputs.groups) logs bytes are)
 
 -- what holds of a result, where there is one
 pub IfOk-map : {A E : Type 0} {P Q : A → Type 0} (r : Result A E) → ((a : A) → P a → Q a)

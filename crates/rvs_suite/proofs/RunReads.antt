@@ -6,13 +6,13 @@ use Rattle.rvs_plan.specs.Inputs.{input, part_end}
 use Rattle.rvs_plan.specs.declared.stop.Stop.{Stop}
 use Rattle.rvs_yaml.specs.Parsed.{answer}
 use Rattle.rvs_device.specs.DeviceFile.{Told}
-use Rattle.rvs_suite.specs.GroupFiles.{Inputs, and_then, inputs_in, group_inputs}
+use Rattle.rvs_suite.specs.GroupFiles.{Inputs, and_then, labels_in, part_inputs}
 use Rattle.rvs_suite.specs.DeviceInput.{device_limit, tree_end, checks, device_file, device_in}
 use Rattle.rvs_suite.specs.RunTests.{RunInputs, run_inputs}
 use Rattle.rvs_suite.specs.Judging.{run_inputs_in}
 use Rattle.rvs_suite.proofs.Readers.{OnlyReads, OnlyReads-then}
 use Rattle.rvs_suite.proofs.Finding.{Finds}
-use Rattle.rvs_suite.proofs.GroupInputs.{reads-inputs, finds-inputs, finds-and_then}
+use Rattle.rvs_suite.proofs.GroupInputs.{reads-labels, finds-labels, finds-and_then}
 use Rattle.rvs_words.specs.declared.command.RunArguments.{RunArguments}
 
 abbrev with_device : Inputs → Told → Plan RunInputs
@@ -28,8 +28,8 @@ reads-device device inputs = OnlyReads-then (device_file device) (with_device in
 
 pub reads-run : (asked : RunArguments)
     → OnlyReads (run_inputs asked)
-reads-run asked = OnlyReads-then (group_inputs asked.isa asked.groups) (device_behind asked.device)
-    (reads-inputs asked.isa asked.groups) (reads-device asked.device)
+reads-run asked = OnlyReads-then (part_inputs asked.part asked.isa asked.groups) (device_behind asked.device)
+    (reads-labels asked.part asked.isa asked.groups) (reads-device asked.device)
 
 told-by : (files : Files) (device : List ℕ) (bytes : Result (List ℕ) Stop) → Finds files
     (followed bytes (checks device)) (and_then bytes (λ b. tree_end device (answer b)))
@@ -44,12 +44,12 @@ finds-device files device =
 pub finds-run : (files : Files) (asked : RunArguments)
     → Finds files (run_inputs asked) (run_inputs_in files asked)
 finds-run files asked =
-    finds-and_then files (group_inputs asked.isa asked.groups) (device_behind asked.device)
-    (inputs_in files asked.isa asked.groups)
+    finds-and_then files (part_inputs asked.part asked.isa asked.groups) (device_behind asked.device)
+    (labels_in files asked.part asked.isa asked.groups)
     (λ inputs. and_then (device_in files asked.device) (λ told. Ok (record {
       groups = inputs;
       device = told;
-    }))) (finds-inputs files asked.isa asked.groups) (λ inputs.
+    }))) (finds-labels files asked.part asked.isa asked.groups) (λ inputs.
     finds-and_then files (device_file asked.device) (with_device inputs)
     (device_in files asked.device)
     (λ told. Ok (record {

@@ -28,7 +28,7 @@ use Rattle.rvs_cgf.specs.Groups.{Label}
 use Rattle.rvs_test.specs.Made.{cases_of, text_of_label}
 use Rattle.rvs_test_text.specs.TestText.{step_limit}
 use Rattle.rvs_suite.specs.Printing.{print_text}
-use Rattle.rvs_suite.specs.GroupFiles.{group_inputs, inputs_in}
+use Rattle.rvs_suite.specs.GroupFiles.{part_inputs, labels_in}
 use Rattle.rvs_suite.specs.GenerateTexts.{listing}
 use Rattle.rvs_suite.specs.Generate.{path_of, writes_text, writes_test, writes_tests, written_tests}
 use Rattle.rvs_suite.specs.Generate.{generates, generate}
@@ -42,7 +42,7 @@ use Rattle.rvs_suite.specs.TestFiles.{IsOther, files_of}
 use Rattle.rvs_suite.specs.Judging.{run_inputs_in, tests_in}
 use Rattle.rvs_suite.specs.Plans.{plan_of}
 use Rattle.rvs_suite.proofs.Finding.{Finds}
-use Rattle.rvs_suite.proofs.GroupInputs.{finds-inputs}
+use Rattle.rvs_suite.proofs.GroupInputs.{finds-labels}
 use Rattle.rvs_suite.proofs.RunReads.{finds-run}
 use Rattle.rvs_suite.proofs.Running.{Ran, answers}
 use Rattle.rvs_words.specs.declared.command.Command.{Command}
@@ -305,11 +305,11 @@ spares-tests other work isa (l ∷ ls) apart =
     (λ test there. apart test (Contains-append_right first later test there)))
 
 spares-generate : (files : Files) (other : List ℕ) (asked : GenerateArguments)
-    → IsNoTest asked.work (inputs_in files asked.isa asked.groups) other
+    → IsNoTest asked.work (labels_in files asked.part asked.isa asked.groups) other
     → SparesOver files other (generate asked)
 spares-generate files other asked apart = spares-found files other
-    (group_inputs asked.isa asked.groups) (generates asked.work)
-    (inputs_in files asked.isa asked.groups) (finds-inputs files asked.isa asked.groups)
+    (part_inputs asked.part asked.isa asked.groups) (generates asked.work)
+    (labels_in files asked.part asked.isa asked.groups) (finds-labels files asked.part asked.isa asked.groups)
     (λ inputs given. Spares-then other
     (written_tests asked.work inputs.isa inputs.groups) print_text
     (Spares-then other (writes_tests asked.work inputs.isa inputs.groups)
@@ -391,7 +391,7 @@ reference-spares r files files' asked other t is apart unlogged told =
 pub generate-spares : {command : Command} {old new : World} {err err' : SinkState} {status : Status}
     → Ran command old new err err' status → (files files' : Files) (asked : GenerateArguments)
     (other : List ℕ) → Tells old.host files → command ≡ Generate asked
-    → IsNoTest asked.work (inputs_in files asked.isa asked.groups) other
+    → IsNoTest asked.work (labels_in files asked.part asked.isa asked.groups) other
     → new.host.files ≡ Some files' → files' other ≡ files other
 generate-spares r files files' asked other t is apart told =
     spares r files files' (Generate asked) other t is (spares-generate files other asked apart) told

@@ -33,18 +33,18 @@ use Rattle.rvs_suite.specs.declared.test_run.Run.{Run}
 use Rattle.rvs_suite.specs.TestRun.{is_image_name, is_executable_name, usual_limit, limit_of}
 
 -- ---- what holds of a value that may not be there
-record InAll {A : Type 0} (P : A → Type 0) (o : Option A) : Type 0 where
+pub record InAll {A : Type 0} (P : A → Type 0) (o : Option A) : Type 0 where
   pub holds : (a : A) → o ≡ Some a → P a
 
-none-in : {A : Type 0} {P : A → Type 0} → InAll P None
+pub none-in : {A : Type 0} {P : A → Type 0} → InAll P None
 none-in = record { holds = λ a e. absurd cc }
 
-some-in : {A : Type 0} {P : A → Type 0} (a : A) → P a → InAll P (Some a)
+pub some-in : {A : Type 0} {P : A → Type 0} (a : A) → P a → InAll P (Some a)
 some-in {A} {P} a p = record {
   holds = λ b e. let same : a ≡ b = cc in subst P same p;
 }
 
-then-in : {A B : Type 0} {P : B → Type 0} (o : Option A) (f : A → Option B)
+pub then-in : {A B : Type 0} {P : B → Type 0} (o : Option A) (f : A → Option B)
     → ((a : A) → o ≡ Some a → InAll P (f a)) → InAll P (o >>= f)
 then-in None f h = none-in
 then-in (Some a) f h = h a refl
@@ -54,7 +54,7 @@ chain-in : {A B : Type 0} {P : B → Type 0} (f : A → Option B) (o : Option A)
 chain-in f None h = none-in
 chain-in f (Some a) h = h a
 
-either-in : {A : Type 0} {P : A → Type 0} (b : Bool) (x y : Option A) → InAll P x → InAll P y
+pub either-in : {A : Type 0} {P : A → Type 0} (b : Bool) (x y : Option A) → InAll P x → InAll P y
     → InAll P (if b then x else y)
 either-in true x y p q = p
 either-in false x y p q = q
@@ -133,7 +133,8 @@ by-database program values = search (then-in, some-in, none-in) depth 12
 
 by-run : (program : List ℕ) (values : Values) → InAll IsFew (run_of program values)
 by-run program values =
-    either-in _ _ _ (either-in _ _ _ none-in (by-database program values))
+    either-in _ _ _
+    (either-in _ _ _ none-in (either-in _ _ _ none-in (by-database program values)))
     (by-groups program values)
 
 by-demo : (words : List (List ℕ)) → InAll IsFew (demo_of words)

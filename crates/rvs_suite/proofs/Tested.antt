@@ -24,7 +24,9 @@ use Rattle.rvs_test.proofs.Joined.{label_runs, accounted}
 use Rattle.rvs_device.specs.DeviceFile.{Told}
 use Rattle.rvs_suite.specs.Specification.{said_in}
 use Rattle.rvs_suite.specs.GroupFiles.{Inputs, and_then, text_in, checked_groups, tree_groups}
-use Rattle.rvs_suite.specs.GroupFiles.{groups_found, inputs_of, inputs_in}
+use Rattle.rvs_suite.specs.GroupFiles.{groups_found, inputs_of, inputs_in, parted_inputs, labels_in}
+use Rattle.rvs_parts.specs.Parts.{PartValue, is_in, parted_from}
+use Rattle.std.proofs.Common.{◌+◌}
 use Rattle.rvs_suite.specs.DeviceInput.{device_in}
 use Rattle.rvs_suite.specs.Tests.{IsRunnable, test_with, tests_of_label, tests_of}
 use Rattle.rvs_suite.specs.RunTests.{RunInputs}
@@ -63,6 +65,32 @@ pub good-inputs : (files : Files) (isa : List ℕ) (names : List (List ℕ)) (in
     → inputs_in files isa names ≡ Ok inputs → IsGood inputs
 good-inputs files isa names inputs given = subst (λ (r : Result Inputs Stop). IfOk r IsGood) given
     (good-said files names (said_in files isa))
+
+-- ---- those of a part
+kept-by : {X : Type 0} (P : X → Type 0) (b : Bool) (x : X) (rest : List X) → P x → All P rest
+    → All P (if b then x ∷ rest else rest)
+kept-by P true x rest first later = All-cons P x rest first later
+kept-by P false x rest first later = later
+
+pub all-parted : {X : Type 0} (P : X → Type 0) (part : Option PartValue) (place : ℕ) (xs : List X)
+    → All P xs → All P (parted_from part place xs)
+all-parted P part place [] all = all
+all-parted P part place (x ∷ xs) all =
+    kept-by P (is_in part place) x (parted_from part (place + 1) xs) (All-head P x xs all)
+    (all-parted P part (place + 1) xs (All-tail P x xs all))
+
+good-part : (part : Option PartValue) (r : Result Inputs Stop) → IfOk r IsGood
+    → IfOk (and_then r (λ inputs. Ok (parted_inputs part inputs))) IsGood
+good-part part (Ok inputs) good = record {
+  valid = all-parted (IsValidIfSelected inputs.isa) part 0 inputs.groups good.valid;
+}
+good-part part (Err stop) good = tt
+
+pub good-labels : (files : Files) (part : Option PartValue) (isa : List ℕ) (names : List (List ℕ))
+    (inputs : Inputs) → labels_in files part isa names ≡ Ok inputs → IsGood inputs
+good-labels files part isa names inputs given =
+    subst (λ (r : Result Inputs Stop). IfOk r IsGood) given
+    (good-part part (inputs_in files isa names) (good-said files names (said_in files isa)))
 
 pub valid-good : (inputs : Inputs) (l : Label) → IsGood inputs → Contains inputs.groups l
     → IsTrue l.selected → IsValid inputs.isa l
@@ -104,6 +132,12 @@ pub tested : (files : Files) (isa : List ℕ) (names : List (List ℕ)) (inputs 
     → inputs_in files isa names ≡ Ok inputs → AreTested inputs
 tested files isa names inputs given =
     tested-good inputs (good-inputs files isa names inputs given)
+
+pub tested-labels : (files : Files) (part : Option PartValue) (isa : List ℕ)
+    (names : List (List ℕ)) (inputs : Inputs)
+    → labels_in files part isa names ≡ Ok inputs → AreTested inputs
+tested-labels files part isa names inputs given =
+    tested-good inputs (good-labels files part isa names inputs given)
 
 -- ---- each test can be run
 runnable-with : (isa : Isa) (l : Label) (text : Option (List ℕ)) → IsValid isa l
@@ -147,16 +181,16 @@ groups-of (Err stop) found = tt
 
 pub groups-accepted : (files : Files) (asked : RunArguments)
     (inputs : RunInputs) → run_inputs_in files asked ≡ Ok inputs
-    → inputs_in files asked.isa asked.groups ≡ Ok inputs.groups
+    → labels_in files asked.part asked.isa asked.groups ≡ Ok inputs.groups
 groups-accepted files asked inputs given = subst
     (λ (r : Result RunInputs Stop).
-    IfOk r (λ (i : RunInputs). inputs_in files asked.isa asked.groups ≡ Ok i.groups)) given
-    (groups-of (inputs_in files asked.isa asked.groups) (device_in files asked.device))
+    IfOk r (λ (i : RunInputs). labels_in files asked.part asked.isa asked.groups ≡ Ok i.groups)) given
+    (groups-of (labels_in files asked.part asked.isa asked.groups) (device_in files asked.device))
 
 pub tested-run : (files : Files) (asked : RunArguments)
     (inputs : RunInputs) → run_inputs_in files asked ≡ Ok inputs
     → AreTested inputs.groups
-tested-run files asked inputs given = tested files asked.isa asked.groups inputs.groups
+tested-run files asked inputs given = tested-labels files asked.part asked.isa asked.groups inputs.groups
     (groups-accepted files asked inputs given)
 
 pub runnable-run : (files : Files) (asked : RunArguments)
@@ -164,7 +198,7 @@ pub runnable-run : (files : Files) (asked : RunArguments)
     → Contains (tests_of inputs.groups.isa inputs.groups.groups) test
     → IsRunnable inputs.groups.isa test
 runnable-run files asked inputs test given there =
-    let good = good-inputs files asked.isa asked.groups inputs.groups
+    let good = good-labels files asked.part asked.isa asked.groups inputs.groups
     (groups-accepted files asked inputs given) in
     All-contains (IsRunnable inputs.groups.isa)
     (tests_of inputs.groups.isa inputs.groups.groups) test

@@ -24,7 +24,7 @@ use Rattle.rvs_suite.specs.Demonstrate.{demonstrate}
 use Rattle.rvs_suite.specs.Specification.{specification}
 use Rattle.rvs_cgf.specs.Groups.{Label}
 use Rattle.rvs_test.specs.Made.{text_of_label}
-use Rattle.rvs_suite.specs.GroupFiles.{Inputs, group_inputs}
+use Rattle.rvs_suite.specs.GroupFiles.{Inputs, group_inputs, part_inputs}
 use Rattle.rvs_suite.specs.GenerateTexts.{listing}
 use Rattle.rvs_suite.specs.Generate.{path_of, writes_text, writes_test, writes_tests, written_tests}
 use Rattle.rvs_suite.specs.Generate.{generates}
@@ -41,7 +41,7 @@ use Rattle.rvs_suite.specs.RunTests.{run_inputs, bench_of, runs}
 use Rattle.rvs_suite.specs.Plans.{plan_of, ReadsFirst}
 use Rattle.rvs_suite.proofs.Ends.{was_refused, WasMissing, was_missing}
 use Rattle.rvs_suite.proofs.Readers.{OnlyReads, OnlyReads-then}
-use Rattle.rvs_suite.proofs.GroupInputs.{reads-specification, reads-inputs}
+use Rattle.rvs_suite.proofs.GroupInputs.{reads-specification, reads-inputs, reads-labels}
 use Rattle.rvs_suite.proofs.LogReads.{reads-reported}
 use Rattle.rvs_suite.proofs.RunReads.{reads-run}
 use Rattle.rvs_suite.proofs.DatabaseReads.{reads-selection}
@@ -208,8 +208,8 @@ stops_untouched (Normalize asked) first =
     (reads-inputs asked.isa asked.groups) (λ inputs effects stop c goes.
     absurd (goes-on (print_normal inputs) effects stop tt goes))
 stops_untouched (Generate asked) first =
-    untouched-then (group_inputs asked.isa asked.groups) (generates asked.work)
-    (reads-inputs asked.isa asked.groups) (λ inputs effects stop c goes.
+    untouched-then (part_inputs asked.part asked.isa asked.groups) (generates asked.work)
+    (reads-labels asked.part asked.isa asked.groups) (λ inputs effects stop c goes.
     absurd (goes-on (generates asked.work inputs) effects stop (generates-on asked.work inputs)
     goes))
 stops_untouched (Run asked) first =
@@ -219,11 +219,11 @@ stops_untouched (Run asked) first =
     (runs-on asked.program asked.work inputs) goes))
 stops_untouched (Coverage asked) first =
     untouched-then (covering.reported asked) print_text
-    (reads-reported (covering.reports asked.windows) asked.isa asked.groups asked.log)
+    (reads-reported (covering.measure asked.windows) asked.isa asked.groups asked.logs)
     (λ report effects stop c goes. absurd (goes-on (print_text report) effects stop tt goes))
 stops_untouched (Propagate asked) first =
     untouched-then (propagating.reported asked) print_text
-    (reads-reported (propagating.reports asked.signature) asked.isa asked.groups asked.log)
+    (reads-reported (propagating.measure asked.signature) asked.isa asked.groups asked.logs)
     (λ report effects stop c goes. absurd (goes-on (print_text report) effects stop tt goes))
 stops_untouched (RunDatabase asked) first = absurd first
 stops_untouched (Select asked) first =

@@ -22,7 +22,9 @@ use Rattle.rvs_normal.proofs.Truths.{both, or-both, not-true}
 use Rattle.rvs_test.specs.Made.{text_of_label}
 use Rattle.rvs_suite.specs.Specification.{said_in}
 use Rattle.rvs_suite.specs.GroupFiles.{Inputs, and_then, text_in, checked_groups, tree_groups}
-use Rattle.rvs_suite.specs.GroupFiles.{groups_found, inputs_of, inputs_in}
+use Rattle.rvs_suite.specs.GroupFiles.{groups_found, inputs_of, inputs_in, parted_inputs, labels_in}
+use Rattle.rvs_parts.specs.Parts.{PartValue, is_in, parted_from}
+use Rattle.std.specs.Prelude.{◌+◌, ◌&&◌, ◌||◌}
 use Rattle.rvs_suite.specs.Generate.{path_of}
 use Rattle.rvs_suite.specs.Generating.{with_text, with_test, with_tests}
 use Rattle.rvs_suite.proofs.Paths.{same-ending}
@@ -65,6 +67,66 @@ pub apart-inputs : (files : Files) (isa : List ℕ) (names : List (List ℕ)) (i
 apart-inputs files isa names inputs given =
     subst (λ (r : Result Inputs Stop). IfOk r AreApart) given
     (apart-said files names (said_in files isa))
+
+-- ---- those of a part
+kept-any : (test : Label → Bool) (b : Bool) (l : Label) (rest : List Label) → test l ≡ false
+    → list_any test rest ≡ false → list_any test (if b then l ∷ rest else rest) ≡ false
+kept-any test true l rest first later = ap (λ (t : Bool). t || list_any test rest) first ∙ later
+kept-any test false l rest first later = later
+
+or-left : (a b : Bool) → (a || b) ≡ false → a ≡ false
+or-left true b is = absurd cc
+or-left false b is = refl
+
+or-right : (a b : Bool) → (a || b) ≡ false → b ≡ false
+or-right true b is = absurd cc
+or-right false b is = is
+
+none-parted : (test : Label → Bool) (part : Option PartValue) (place : ℕ) (ls : List Label)
+    → list_any test ls ≡ false → list_any test (parted_from part place ls) ≡ false
+none-parted test part place [] none = refl
+none-parted test part place (l ∷ ls) none =
+    kept-any test (is_in part place) l (parted_from part (place + 1) ls)
+    (or-left (test l) (list_any test ls) none)
+    (none-parted test part (place + 1) ls (or-right (test l) (list_any test ls) none))
+
+kept-apart : (b other : Bool) (l : Label) (rest : List Label)
+    → list_any (λ (m : Label). bytes_eq l.name m.name) rest ≡ false
+    → names_are_apart rest ≡ true → names_are_apart (if b then l ∷ rest else rest) ≡ true
+kept-apart true other l rest none apart =
+    ap (λ (t : Bool). not t && names_are_apart rest) none ∙ apart
+kept-apart false other l rest none apart = apart
+
+first-apart : (a b : Bool) → (not a && b) ≡ true → a ≡ false
+first-apart true b is = absurd cc
+first-apart false b is = refl
+
+rest-apart : (a b : Bool) → (not a && b) ≡ true → b ≡ true
+rest-apart true b is = absurd cc
+rest-apart false b is = is
+
+apart-parted : (part : Option PartValue) (place : ℕ) (ls : List Label)
+    → names_are_apart ls ≡ true → names_are_apart (parted_from part place ls) ≡ true
+apart-parted part place [] apart = refl
+apart-parted part place (l ∷ ls) apart =
+    let same = λ (m : Label). bytes_eq l.name m.name in
+    kept-apart (is_in part place) true l (parted_from part (place + 1) ls)
+    (none-parted same part (place + 1) ls
+    (first-apart (list_any same ls) (names_are_apart ls) apart))
+    (apart-parted part (place + 1) ls
+    (rest-apart (list_any same ls) (names_are_apart ls) apart))
+
+apart-part : (part : Option PartValue) (r : Result Inputs Stop) → IfOk r AreApart
+    → IfOk (and_then r (λ inputs. Ok (parted_inputs part inputs))) AreApart
+apart-part part (Ok inputs) apart = apart-parted part 0 inputs.groups apart
+apart-part part (Err stop) apart = tt
+
+pub apart-labels : (files : Files) (part : Option PartValue) (isa : List ℕ)
+    (names : List (List ℕ)) (inputs : Inputs)
+    → labels_in files part isa names ≡ Ok inputs → names_are_apart inputs.groups ≡ true
+apart-labels files part isa names inputs given =
+    subst (λ (r : Result Inputs Stop). IfOk r AreApart) given
+    (apart-part part (inputs_in files isa names) (apart-said files names (said_in files isa)))
 
 -- ---- so their tests are different files
 apart-paths : (work a b : List ℕ) → bytes_eq a b ≡ false → path_of work a ≢ path_of work b

@@ -1,5 +1,5 @@
 -- What `coverage` does.
-use Rattle.std.specs.Prelude.{ℕ, List, map, length, Option, Result}
+use Rattle.std.specs.Prelude.{ℕ, List, [], ◌∷◌, ◌++◌, map, length, replicate, Result}
 use Rattle.rvs_base.specs.Host.{Files}
 use Rattle.rvs_plan.specs.Plan.{Plan, ◌>>=◌}
 use Rattle.rvs_plan.specs.declared.stop.Stop.{Stop}
@@ -8,39 +8,58 @@ use Rattle.rvs_log.specs.Entries.{entries_of}
 use Rattle.rvs_cgf.specs.Groups.{Label}
 use Rattle.rvs_count.specs.Counting.{aims_of, count, kept}
 use Rattle.rvs_count.specs.Report.{report_of}
+use Rattle.rvs_suite.specs.declared.covering.Covered.{Covered}
 use Rattle.rvs_base.specs.declared.asked.Window.{Window}
 use Rattle.rvs_suite.specs.Printing.{print_text}
-use Rattle.rvs_suite.specs.GroupFiles.{Inputs}
-use Rattle.rvs_suite.specs.LogReport.{Reports, found_by, log_report_in, reads_log, log_reported}
+use Rattle.rvs_suite.specs.Summing.{plus_each, total_of}
+use Rattle.rvs_suite.specs.LogLines.{lines_of_many}
+use Rattle.rvs_suite.specs.LogReport.{Measure, log_report_in, log_reported}
 use Rattle.rvs_words.specs.declared.command.CoverageArguments.{CoverageArguments}
 
--- the report on a log: how many of its instructions the windows leave, and how many of these hit
--- each point
-unfoldable pub report_on : List Label → List Window → List ℕ → List ℕ
-report_on groups windows log =
-    report_of groups (map (count (kept windows (entries_of log))) (aims_of groups))
-    (length (kept windows (entries_of log)))
+-- nothing was counted of these groups' points
+abbrev pub uncounted : List Label → Covered
+uncounted groups = record { counts = replicate (length (aims_of groups)) 0; ran = [] }
+
+-- with a log more: how many of its instructions the windows leave, and how many of these hit each
+-- point; the registers and the neighbours begin anew with it
+unfoldable pub counted_with : List Window → List Label → Covered → List ℕ → Covered
+counted_with windows groups covered log = record {
+  counts = plus_each covered.counts (map (count (kept windows (entries_of log))) (aims_of groups));
+  ran = covered.ran ++ length (kept windows (entries_of log)) ∷ [];
+}
+
+-- the report of this many hits and instructions; of several logs, their lines stand before it
+abbrev pub report_with : List Label → List (List ℕ) → Covered → List ℕ
+report_with groups names covered =
+    lines_of_many names covered.ran ++ report_of groups covered.counts (total_of covered.ran)
+
+unfoldable pub report_on : List Label → List (List ℕ) → Covered → List ℕ
+report_on groups names covered = report_with groups names covered
+
+-- a log is named by its file
+abbrev pub file_name : List ℕ → List ℕ
+file_name name = name
+
+abbrev pub counts_more : List Window → List Label → List ℕ → Covered → List ℕ → Covered
+counts_more windows groups name = counted_with windows groups
 
 -- for the windows of a command line
-abbrev pub reports : List Window → Reports
-reports windows groups log = report_on groups windows log
-
--- the same of the bytes of the named file, where it is there
-abbrev pub report_found : List Label → List Window → List ℕ → Option (List ℕ) → Result (List ℕ) Stop
-report_found groups windows name found = found_by (reports windows) groups name found
+abbrev pub measure : List Window → Measure (List ℕ) Covered
+measure windows = record {
+  name = file_name;
+  none = uncounted;
+  more = counts_more windows;
+  report = report_on;
+}
 
 -- ---- over given files
 abbrev pub report_in : Files → CoverageArguments → Result (List ℕ) Stop
 report_in files asked =
-    log_report_in (reports asked.windows) files asked.isa asked.groups asked.log
+    log_report_in (measure asked.windows) files asked.isa asked.groups asked.logs
 
 -- ---- as plans
--- the log is read and counted
-abbrev pub counts_log : CoverageArguments → Inputs → Plan (List ℕ)
-counts_log asked inputs = reads_log (reports asked.windows) asked.log inputs
-
 abbrev pub reported : CoverageArguments → Plan (List ℕ)
-reported asked = log_reported (reports asked.windows) asked.isa asked.groups asked.log
+reported asked = log_reported (measure asked.windows) asked.isa asked.groups asked.logs
 
 -- and then the report is put
 abbrev pub coverage : CoverageArguments → Plan Finish

@@ -1,10 +1,11 @@
 -- What comes of a database of tests.
-use Rattle.std.specs.Prelude.{ℕ, List, ◌++◌, Result, Ok, Err, codes}
+use Rattle.std.specs.Prelude.{ℕ, ◌+◌, Bool, ◌&&◌, List, [], ◌∷◌, ◌++◌, Option, Result, Ok, Err, codes}
 use Rattle.rvs_base.specs.Host.{Files}
-use Rattle.rvs_plan.specs.Plan.{Plan, Ends, ◌>>=◌}
+use Rattle.rvs_plan.specs.Plan.{Plan, Ends, gives, ◌>>=◌}
 use Rattle.rvs_plan.specs.Inputs.{input, part_end}
 use Rattle.rvs_plan.specs.declared.stop.Stop.{Stop}
 use Rattle.rvs_plan.specs.declared.stop.Stop.TheVariants.{Refused}
+use Rattle.rvs_parts.specs.Parts.{PartValue, is_in}
 use Rattle.rvs_insn.specs.Isa.{Isa}
 use Rattle.rvs_yaml.specs.Parsed.{Parsed, answer}
 use Rattle.rvs_select.specs.Database.{database_of}
@@ -45,3 +46,27 @@ abbrev pub database_in : Files → Isa → List ℕ → Result (List Entry) Stop
 database_in files isa name =
     and_then (part_end database_limit name name database_limit (files name))
     (λ bytes. tree_end isa name (answer bytes))
+
+-- ---- a part of its tests
+abbrev pub marked_one : Bool → Entry → Entry
+marked_one is entry = record { name = entry.name; selected = entry.selected && is }
+
+-- the tests that are outside a part, where one is asked for, aren't selected; the first of these
+-- stands at this place
+abbrev pub marked_from : Option PartValue → ℕ → List Entry → List Entry
+marked_from part place [] = []
+marked_from part place (entry ∷ entries) =
+    marked_one (is_in part place) entry ∷ marked_from part (place + 1) entries
+
+abbrev pub marked : Option PartValue → List Entry → List Entry
+marked part entries = marked_from part 0 entries
+
+abbrev pub gives_marked : Option PartValue → List Entry → Plan (List Entry)
+gives_marked part entries = gives (marked part entries)
+
+abbrev pub marked_file : Option PartValue → Isa → List ℕ → Plan (List Entry)
+marked_file part isa name = database_file isa name >>= gives_marked part
+
+abbrev pub marked_in : Files → Option PartValue → Isa → List ℕ → Result (List Entry) Stop
+marked_in files part isa name =
+    and_then (database_in files isa name) (λ entries. Ok (marked part entries))

@@ -10,7 +10,7 @@ use Rattle.rvs_cgf.specs.Groups.{Label}
 use Rattle.rvs_test.specs.Made.{text_of_label}
 use Rattle.rvs_suite.specs.Printing.{print_text}
 use Rattle.rvs_suite.specs.GenerateTexts.{Totals, none, label_text, with_labels, listing}
-use Rattle.rvs_suite.specs.GroupFiles.{Inputs, group_inputs}
+use Rattle.rvs_suite.specs.GroupFiles.{Inputs, part_inputs}
 use Rattle.rvs_words.specs.declared.command.GenerateArguments.{GenerateArguments}
 
 -- the test of a label is this file
@@ -56,5 +56,5 @@ generates work inputs = do
 -- the files are read and checked, and then the tests are made
 abbrev pub generate : GenerateArguments → Plan Finish
 generate asked = do
-  inputs ← group_inputs asked.isa asked.groups
+  inputs ← part_inputs asked.part asked.isa asked.groups
   generates asked.work inputs

@@ -10,6 +10,7 @@ use Rattle.rvs_yaml.specs.Parsed.{Parsed, answer}
 use Rattle.rvs_insn.specs.Isa.{Isa}
 use Rattle.rvs_cgf.specs.Groups.{Label, Refusal, groups_of}
 use Rattle.rvs_suite.specs.Specification.{yaml_text, said_in, specification}
+use Rattle.rvs_parts.specs.Parts.{PartValue, parted}
 use Rattle.rvs_suite.specs.GroupTexts.{groups_name, group_text}
 
 -- all group files together, with the line feeds between them, have at most this many bytes: 4 MiB
@@ -69,6 +70,14 @@ abbrev pub inputs_in : Files → List ℕ → List (List ℕ) → Result Inputs 
 inputs_in files isa names = and_then (said_in files isa) (λ said. and_then
     (text_in files None names) (λ text. inputs_of said.spec (groups_found said.spec text)))
 
+-- the labels of a part, where one is asked for
+abbrev pub parted_inputs : Option PartValue → Inputs → Inputs
+parted_inputs part inputs = record { isa = inputs.isa; groups = parted part inputs.groups }
+
+abbrev pub labels_in : Files → Option PartValue → List ℕ → List (List ℕ) → Result Inputs Stop
+labels_in files part isa names =
+    and_then (inputs_in files isa names) (λ inputs. Ok (parted_inputs part inputs))
+
 -- ---- as plans
 -- what the files so far leave of the limit, for the next and the line feed before it
 abbrev pub room : Option (List ℕ) → ℕ
@@ -97,3 +106,10 @@ group_inputs isa names = do
   said ← specification isa
   groups ← group_files said.spec names
   gives (record { isa = said.spec; groups = groups })
+
+abbrev pub gives_part : Option PartValue → Inputs → Plan Inputs
+gives_part part inputs = gives (parted_inputs part inputs)
+
+-- all of them are read and checked, and those of a part are kept
+abbrev pub part_inputs : Option PartValue → List ℕ → List (List ℕ) → Plan Inputs
+part_inputs part isa names = group_inputs isa names >>= gives_part part

@@ -25,7 +25,7 @@ use Rattle.rvs_suite.specs.Answered.{Answered}
 use Rattle.rvs_suite.specs.Call.{Call, Asks, NothingFailed, AnswersOnly}
 use Rattle.rvs_suite.specs.GenerateTexts.{listing}
 use Rattle.rvs_suite.specs.Generate.{path_of}
-use Rattle.rvs_suite.specs.GroupFiles.{and_then, inputs_in}
+use Rattle.rvs_suite.specs.GroupFiles.{and_then, labels_in}
 use Rattle.rvs_suite.specs.DeviceInput.{device_in}
 use Rattle.rvs_suite.specs.Tested.{AreTested}
 use Rattle.rvs_suite.specs.Headline.{IsProved, HasProvedTest}
@@ -43,7 +43,7 @@ use Rattle.rvs_words.specs.declared.command.RunArguments.{RunArguments}
 -- there or is refused
 abbrev pub run_inputs_in : Files → RunArguments → Result RunInputs Stop
 run_inputs_in files asked =
-    and_then (inputs_in files asked.isa asked.groups) (λ inputs.
+    and_then (labels_in files asked.part asked.isa asked.groups) (λ inputs.
     and_then (device_in files asked.device) (λ told.
     Ok (record { groups = inputs; device = told })))
 

@@ -17,7 +17,7 @@ use Rattle.rvs_device.specs.Judging.{Spells}
 use Rattle.rvs_device.specs.declared.verdicts.TestVerdict.TheVariants.{Pass}
 use Rattle.rvs_suite.specs.Answered.{HasLeft, HasRefused, HasMissed}
 use Rattle.rvs_suite.specs.Call.{Call, world_of, Asks, NothingFailed, HostRose, AnswersOnly}
-use Rattle.rvs_suite.specs.DatabaseInput.{database_in}
+use Rattle.rvs_suite.specs.DatabaseInput.{marked_in}
 use Rattle.rvs_suite.specs.DatabaseLeft.{made_in, Trial, with_trials, AreTrialsOf, task_on}
 use Rattle.rvs_suite.specs.DatabaseLeft.{trial_verdict, trial_lines, trials_passed, runs_of}
 use Rattle.rvs_suite.specs.DeviceInput.{device_in}
@@ -39,7 +39,7 @@ use Rattle.rvs_words.specs.declared.command.RunDatabaseArguments.{RunDatabaseArg
 abbrev pub database_inputs_in : Files → RunDatabaseArguments → Result DatabaseInputs Stop
 database_inputs_in files asked =
     and_then (said_in files asked.isa) (λ said.
-    and_then (database_in files said.spec asked.database) (λ entries.
+    and_then (marked_in files asked.part said.spec asked.database) (λ entries.
     and_then (device_in files asked.device) (λ told.
     Ok (record { isa = said.spec; entries = entries; device = told }))))
 

@@ -22,7 +22,9 @@ pub mod Seen
 pub mod GroupsView
 pub mod Normalize
 pub mod Normalizing
+pub mod Summing
 pub mod LogReport
+pub mod LogLines
 pub mod Coverage
 pub mod Covering
 pub mod Propagate

@@ -1,8 +1,8 @@
--- Commands that put a report on an execution log, for an ISA file and group files.
-use Rattle.std.specs.Prelude.{ℕ, ◌+◌, nat_lt, if◌then◌else◌, List, length, Option, Some, None}
-use Rattle.std.specs.Prelude.{Result, Ok, Err}
+-- Commands that put a report on execution logs, for an ISA file and group files.
+use Rattle.std.specs.Prelude.{◌≡◌, ◌≤◌, ℕ, ◌+◌, nat_lt, if◌then◌else◌, List, [], ◌∷◌, length}
+use Rattle.std.specs.Prelude.{Option, Some, None, Result, Ok, Err, ⊤}
 use Rattle.rvs_base.specs.Host.{Files}
-use Rattle.rvs_plan.specs.Plan.{Plan, Ends, Asks, ◌>>=◌}
+use Rattle.rvs_plan.specs.Plan.{Plan, Ends, Asks, gives, ◌>>=◌}
 use Rattle.rvs_plan.specs.Inputs.{too_long_text}
 use Rattle.rvs_plan.specs.declared.stop.Stop.{Stop}
 use Rattle.rvs_plan.specs.declared.stop.Stop.TheVariants.{Refused, NoFile}
@@ -15,33 +15,74 @@ use Rattle.rvs_suite.specs.GroupFiles.{Inputs, and_then, inputs_in, group_inputs
 abbrev pub log_bound : ℕ
 log_bound = log_limit + piece_limit
 
--- the report on the bytes of a log, for these groups
-abbrev pub Reports : Type 0
-Reports = List Label → List ℕ → List ℕ
+-- what is known of logs, for groups: of none, with the bytes of one more, and as a report; and what
+-- the file of a log is called
+pub record Measure (L A : Type 0) : Type 0 where
+  pub name : L → List ℕ
+  pub none : List Label → A
+  pub more : List Label → L → A → List ℕ → A
+  pub report : List Label → List L → A → List ℕ
 
--- that on the named log, where it is there
-abbrev pub found_by : Reports → List Label → List ℕ → Option (List ℕ) → Result (List ℕ) Stop
-found_by report groups name None = Err (NoFile name)
-found_by report groups name (Some log) =
+-- with the named log more, where it is there
+abbrev pub with_found : {A : Type 0} → (A → List ℕ → A) → A → List ℕ → Option (List ℕ)
+    → Result A Stop
+with_found more known name None = Err (NoFile name)
+with_found more known name (Some log) =
     if nat_lt log_limit (length log) then Err (Refused (too_long_text name log_limit))
-    else Ok (report groups log)
+    else Ok (more known log)
 
 -- ---- over given files
--- the report on the named log, for the groups that the ISA file and the group files give
-abbrev pub log_report_in : Reports → Files → List ℕ → List (List ℕ) → List ℕ
+-- with these logs more, in their order; the first that isn't there, or is too long, is told
+abbrev pub logs_in : {L A : Type 0} → Files → (L → List ℕ) → (L → A → List ℕ → A) → A → List L
+    → Result A Stop
+logs_in files named more known [] = Ok known
+logs_in files named more known (log ∷ logs) =
+    and_then (with_found (more log) known (named log) (files (named log)))
+    (λ now. logs_in files named more now logs)
+
+-- the report on logs, for these groups
+abbrev pub reported_in : {L A : Type 0} → Measure L A → Files → List L → List Label
     → Result (List ℕ) Stop
-log_report_in report files isa names log =
-    and_then (inputs_in files isa names)
-    (λ inputs. found_by report inputs.groups log (files log))
+reported_in m files logs groups =
+    and_then (logs_in files m.name (m.more groups) (m.none groups) logs)
+    (λ known. Ok (m.report groups logs known))
+
+-- that for the groups that the ISA file and the group files give
+abbrev pub log_report_in : {L A : Type 0} → Measure L A → Files → List ℕ → List (List ℕ)
+    → List L → Result (List ℕ) Stop
+log_report_in m files isa names logs =
+    and_then (inputs_in files isa names) (λ inputs. reported_in m files logs inputs.groups)
+
+-- the named logs are there, with these bytes, and none is too long
+abbrev pub AreLogs : Files → List (List ℕ) → List (List ℕ) → Type 0
+AreLogs files [] [] = ⊤
+AreLogs files [] (log ∷ logs) = ⊥
+AreLogs files (name ∷ names) [] = ⊥
+AreLogs files (name ∷ names) (log ∷ logs) =
+    (files name ≡ Some log) × (length log ≤ log_limit) × AreLogs files names logs
 
 -- ---- as plans
--- the log is read, and the report made
-abbrev pub reads_log : Reports → List ℕ → Inputs → Plan (List ℕ)
-reads_log report log inputs =
-    Asks log log_bound (λ found. Ends (found_by report inputs.groups log found))
+-- a log is read, and known with those before it
+abbrev pub takes_log : {A : Type 0} → (A → List ℕ → A) → A → List ℕ → Plan A
+takes_log more known name = Asks name log_bound (λ found. Ends (with_found more known name found))
 
--- the ISA file and the group files are read and checked, and then the log is read
-abbrev pub log_reported : Reports → List ℕ → List (List ℕ) → List ℕ → Plan (List ℕ)
-log_reported report isa names log = do
+-- logs are read, one after the other
+abbrev pub takes_logs : {L A : Type 0} → (L → List ℕ) → (L → A → List ℕ → A) → A → List L → Plan A
+takes_logs named more known [] = gives known
+takes_logs named more known (log ∷ logs) =
+    takes_log (more log) known (named log) >>= (λ now. takes_logs named more now logs)
+
+abbrev pub reports : {L A : Type 0} → Measure L A → List L → List Label → A → Plan (List ℕ)
+reports m logs groups known = gives (m.report groups logs known)
+
+-- all logs are read, and the report made
+abbrev pub reads_logs : {L A : Type 0} → Measure L A → List L → List Label → Plan (List ℕ)
+reads_logs m logs groups =
+    takes_logs m.name (m.more groups) (m.none groups) logs >>= reports m logs groups
+
+-- the ISA file and the group files are read and checked, and then the logs are read
+abbrev pub log_reported : {L A : Type 0} → Measure L A → List ℕ → List (List ℕ) → List L
+    → Plan (List ℕ)
+log_reported m isa names logs = do
   inputs ← group_inputs isa names
-  reads_log report log inputs
+  reads_logs m logs inputs.groups

@@ -10,7 +10,7 @@ use Rattle.rvs_elf.specs.Written.{elf_of}
 use Rattle.rvs_device.specs.DeviceFile.{Told}
 use Rattle.rvs_device.specs.declared.verdicts.TestVerdict.{TestVerdict}
 use Rattle.rvs_select.specs.declared.database.Entry.{Entry}
-use Rattle.rvs_suite.specs.DatabaseInput.{database_file}
+use Rattle.rvs_suite.specs.DatabaseInput.{marked_file}
 use Rattle.rvs_suite.specs.DeviceInput.{device_file}
 use Rattle.rvs_suite.specs.Reference.{test_limit}
 use Rattle.rvs_suite.specs.RunTests.{Bench, asks_elf, if_asked, judges_words, writes_executable}
@@ -104,7 +104,8 @@ abbrev pub device_behind : List ℕ → Isa → List Entry → Plan DatabaseInpu
 device_behind device isa entries = device_file device >>= with_device isa entries
 
 abbrev pub database_behind : RunDatabaseArguments → Isa → Plan DatabaseInputs
-database_behind asked isa = database_file isa asked.database >>= device_behind asked.device isa
+database_behind asked isa =
+    marked_file asked.part isa asked.database >>= device_behind asked.device isa
 
 -- the ISA file is read and checked, then the database, and then the device file
 abbrev pub database_inputs : RunDatabaseArguments → Plan DatabaseInputs

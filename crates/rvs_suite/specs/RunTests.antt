@@ -14,7 +14,7 @@ use Rattle.rvs_device.specs.Judging.{task}
 use Rattle.rvs_device.specs.Printed.{verdict_line}
 use Rattle.rvs_device.specs.declared.verdicts.TestVerdict.{TestVerdict}
 use Rattle.rvs_device.specs.declared.verdicts.TestVerdict.TheVariants.{Pass}
-use Rattle.rvs_suite.specs.GroupFiles.{Inputs, group_inputs}
+use Rattle.rvs_suite.specs.GroupFiles.{Inputs, part_inputs}
 use Rattle.rvs_suite.specs.GenerateTexts.{listing}
 use Rattle.rvs_suite.specs.TestFiles.{files_of}
 use Rattle.rvs_suite.specs.Tests.{reference_words, executable_of, tests_of}
@@ -136,7 +136,7 @@ pub record RunInputs : Type 0 where
 -- the ISA file and the group files are read and checked, and then the device file is
 abbrev pub run_inputs : RunArguments → Plan RunInputs
 run_inputs asked = do
-  inputs ← group_inputs asked.isa asked.groups
+  inputs ← part_inputs asked.part asked.isa asked.groups
   told ← device_file asked.device
   gives (record { groups = inputs; device = told })
 

@@ -1,22 +1,25 @@
 // The command `coverage`.
-ghost use Rattle.std.specs.Prelude.{◌≡◌, ◌≤◌, ◌^◌, [], ℕ, List, IfOk};
+ghost use Rattle.std.specs.Prelude.{◌≡◌, ◌≤◌, ◌^◌, [], ℕ, List, IfOk, length};
 ghost use Rattle.rvs_base.specs.Sink.{SinkState};
 ghost use Rattle.rvs_plan.specs.World.{world};
-ghost use Rattle.rvs_plan.specs.Plan.{Asks, Ends};
 ghost use Rattle.rvs_plan.specs.Meets.{Meets};
 ghost use Rattle.rvs_cgf.specs.declared.group.Label.{Label};
+ghost use Rattle.rvs_count.specs.Counting.{aims_in};
 ghost use Rattle.rvs_count.specs.State.{ended, state_of};
 ghost use Rattle.rvs_base.specs.declared.asked.Window.{Window as Span};
 ghost use Rattle.rvs_suite.specs.GroupsView.{groups_view};
-ghost use Rattle.rvs_suite.specs.Coverage.{report_on, report_found, reported, coverage};
+ghost use Rattle.rvs_suite.specs.Coverage.{uncounted, counted_with, report_on, measure, reported};
+ghost use Rattle.rvs_suite.specs.Coverage.{file_name, counts_more, coverage};
 ghost use Rattle.rvs_log.specs.Lines.{log_limit};
-ghost use Rattle.rvs_suite.specs.LogReport.{log_bound};
+ghost use Rattle.rvs_suite.specs.LogReport.{takes_log, takes_logs, reads_logs};
 
 use crate::group_files::read_inputs;
+use crate::log_lines::under_lines;
 use crate::printing::print_text;
-use rvs_base::{Host, Items, NoMemory, Sink, Text};
+use crate::summing::{plus_each, total_of, with_number};
+use rvs_base::{Host, Items, NoMemory, Sink, Text, Window};
 use rvs_cgf::Groups;
-use rvs_count::{Counter, LogFault, count_file};
+use rvs_count::{Counter, LogFault, count_file, report_text, zeros};
 use rvs_plan::{Finish, Stop, too_long};
 use rvs_words::{CoverageArguments, owned};
 use std::alloc::Global;
@@ -24,13 +27,22 @@ use std::alloc::Global;
 /// The greatest length of a log in bytes: 2^40.
 pub(crate) const LOG_LIMIT: u64 = 1 << 40;
 
-/// Counts which points of coverage groups the instructions of a log hit, and puts the report. Where
-/// windows are given, the instructions in them alone are counted. The log is read in one pass, in
-/// memory that doesn't depend on its length.
+/// What was counted in some logs.
+#[derive(Drop)]
+pub struct Covered {
+    /// How often each point of the groups was hit.
+    pub counts: Items<u64>,
+    /// How many instructions the windows leave of each log, in order.
+    pub ran: Items<u64>,
+}
+
+/// Counts which points of coverage groups the instructions of logs hit, and puts the report. Where
+/// windows are given, the instructions in them alone are counted. Each log is counted by itself and
+/// read in one pass, in memory that doesn't depend on its length, and the numbers are added up.
 ///
 /// # Errors
 ///
-/// [`Stop`]; nothing is put before the log has been read to its end.
+/// [`Stop`]; nothing is put before the last log has been read to its end.
 pub fn cover_log<H: Host, O: Sink>(
     alloc: Global,
     asked: &CoverageArguments,
@@ -55,61 +67,156 @@ fn read_report<H: Host>(
         (world (H.state host.old) out) (world (H.state host.new) out) result }
 {
     let inputs = read_inputs(alloc, host, &asked.isa, &asked.groups)?;
-    count_named(alloc, host, &inputs.groups, asked)
+    report_logs(alloc, host, &inputs.groups, asked)
 }
 
-/// Counts in the named log, and makes the report.
-fn count_named<H: Host>(
+/// Counts in all logs, and makes the report.
+fn report_logs<H: Host>(
     alloc: Global,
     host: &mut H,
     groups: &Groups,
     asked: &CoverageArguments,
 ) -> Result<Text, Stop>
     ensures { (out : SinkState) → Meets
-        (Asks asked.now.log log_bound (λ found.
-        Ends (report_found (groups_view groups.now) asked.now.windows asked.now.log found)))
+        (reads_logs (measure asked.now.windows) asked.now.logs (groups_view groups.now))
         (world (H.state host.old) out) (world (H.state host.new) out) result }
 {
-    let windows = Items::from(asked.windows.as_slice().to_vec(alloc)?);
-    let mut counter = Counter::new(alloc, groups, windows)?;
-    count_with(alloc, host, &mut counter, asked.log.as_str())
+    let counted = count_all(alloc, host, groups, asked)?;
+    Ok(report_of(alloc, groups, asked.logs.as_slice(), &counted)?)
 }
 
-/// Counts in the named log with a new counter, and makes the report.
+#[tactic(auto, unfolding(crate::specs::Coverage::report_on))]
+fn report_of(
+    alloc: Global,
+    groups: &Groups,
+    names: &[Text],
+    counted: &Covered,
+) -> Result<Text, NoMemory>
+    requires { length counted.now.counts ≡ length (aims_in groups.now) }
+    ensures { IfOk result
+        (λ text. text ≡ report_on (groups_view groups.now) names.now counted.now) }
+{
+    let counts = counted.counts.as_slice();
+    let ran = counted.ran.as_slice();
+    let report = report_text(alloc, groups, counts, total_of(ran))?;
+    under_lines(alloc, names, ran, report)
+}
+
+/// Nothing counted of the points of groups, with room for so many logs.
+fn nothing(alloc: Global, groups: &Groups, logs: usize) -> Result<Covered, NoMemory>
+    ensures counted { IfOk result (λ c. c ≡ uncounted (groups_view groups.now)) }
+    ensures long { IfOk result (λ c. length c.counts ≡ length (aims_in groups.now)) }
+{
+    let counts = zeros(alloc, groups.as_slice())?;
+    let ran = Vec::with_capacity(alloc, logs)?;
+    Ok(Covered {
+        counts: Items::from(counts),
+        ran: Items::from(ran),
+    })
+}
+
+/// Counts in all logs, one after the other.
+fn count_all<H: Host>(
+    alloc: Global,
+    host: &mut H,
+    groups: &Groups,
+    asked: &CoverageArguments,
+) -> Result<Covered, Stop>
+    ensures met { (out : SinkState) → Meets
+        (takes_logs file_name (counts_more asked.now.windows (groups_view groups.now))
+        (uncounted (groups_view groups.now)) asked.now.logs)
+        (world (H.state host.old) out) (world (H.state host.new) out) result }
+    ensures long { IfOk result (λ c. length c.counts ≡ length (aims_in groups.now)) }
+{
+    let none = nothing(alloc, groups, asked.logs.as_slice().len())?;
+    let windows = asked.windows.as_slice();
+    count_onto(alloc, host, groups, windows, none, asked.logs.as_slice())
+}
+
+/// Counts in some logs more, one after the other.
+fn count_onto<H: Host>(
+    alloc: Global,
+    host: &mut H,
+    groups: &Groups,
+    windows: &[Window],
+    none: Covered,
+    logs: &[Text],
+) -> Result<Covered, Stop>
+    requires { length none.counts ≡ length (aims_in groups.now) }
+    ensures met { (out : SinkState) → Meets
+        (takes_logs file_name (counts_more windows.now (groups_view groups.now)) none logs.now)
+        (world (H.state host.old) out) (world (H.state host.new) out) result }
+    ensures long { IfOk result (λ c. length c.counts ≡ length (aims_in groups.now)) }
+{
+    let mut counted = none;
+    for log in logs {
+        counted = count_one(alloc, host, groups, windows, counted, log.as_str())?;
+    }
+    Ok(counted)
+}
+
+/// Counts in the named log, by itself, onto what was counted before.
+fn count_one<H: Host>(
+    alloc: Global,
+    host: &mut H,
+    groups: &Groups,
+    windows: &[Window],
+    counted: Covered,
+    log: &str,
+) -> Result<Covered, Stop>
+    ensures met { (out : SinkState) → Meets
+        (takes_log (counted_with windows.now (groups_view groups.now)) counted log.now)
+        (world (H.state host.old) out) (world (H.state host.new) out) result }
+    ensures long { IfOk result (λ c. length c.counts ≡ length counted.counts) }
+{
+    let kept = Items::from(windows.to_vec(alloc)?);
+    let mut counter = Counter::new(alloc, groups, kept)?;
+    count_with(alloc, host, &mut counter, counted, log)
+}
+
+/// Counts in the named log with a new counter, onto what was counted before.
 // The buffer for the log would lie on the stack under every command if this were inlined.
 #[inline(never)]
 fn count_with<H: Host>(
     alloc: Global,
     host: &mut H,
     counter: &mut Counter<'_>,
+    counted: Covered,
     log: &str,
-) -> Result<Text, Stop>
-    ensures { (out : SinkState) (groups : List Label) (windows : List Span)
+) -> Result<Covered, Stop>
+    ensures met { (out : SinkState) (groups : List Label) (windows : List Span)
         → counter.old ≡ state_of groups windows [] 0 → counter.new.fed ≤ log_limit
-        → Meets
-        (Asks log.now log_bound (λ found. Ends
-        (report_found (groups_view groups) windows log.now found)))
+        → Meets (takes_log (counted_with windows (groups_view groups)) counted log.now)
         (world (H.state host.old) out) (world (H.state host.new) out) result }
+    ensures long { IfOk result (λ c. length c.counts ≡ length counted.counts) }
 {
     let name = owned(alloc, log)?;
     match count_file(host, log, counter) {
-        Ok(()) => Ok(report_at_end(alloc, counter)?),
+        Ok(()) => Ok(with_ended(counted, counter)?),
         Err(LogFault::NoFile) => Err(Stop::NoFile(name)),
         Err(LogFault::Failed) => Err(Stop::CannotRead(name)),
         Err(LogFault::TooLong) => Err(Stop::Refused(too_long(alloc, log, LOG_LIMIT)?)),
     }
 }
 
-/// The report of a counter at the end of its log.
-fn report_at_end(alloc: Global, counter: &mut Counter<'_>) -> Result<Text, NoMemory>
+/// With what a counter has at the end of its log.
+fn with_ended(counted: Covered, counter: &mut Counter<'_>) -> Result<Covered, NoMemory>
     ensures state { (labels : List Label) (windows : List Span) (bytes : List ℕ) (n : ℕ)
         → counter.old ≡ state_of labels windows bytes n
         → counter.new ≡ state_of labels windows (ended bytes) n }
-    ensures report { IfOk result (λ text.
-        (labels : List Label) (windows : List Span) (bytes : List ℕ) (n : ℕ)
+    ensures counted { (labels : List Label) (windows : List Span) (bytes : List ℕ) (n : ℕ)
         → counter.old ≡ state_of labels windows bytes n
-        → text ≡ report_on (groups_view labels) windows bytes) }
+        → IfOk result (λ c. c ≡ counted_with windows (groups_view labels) counted bytes) }
+    ensures long { IfOk result (λ c. length c.counts ≡ length counted.counts) }
 {
     counter.finish();
-    counter.report(alloc)
+    let Covered {
+        counts: before,
+        ran: earlier,
+    } = counted;
+    let more = counter.counts();
+    let last = counter.instructions();
+    let counts = plus_each(before, more);
+    let ran = with_number(earlier, last)?;
+    Ok(Covered { counts, ran })
 }

@@ -13,9 +13,10 @@ ghost use Rattle.rvs_suite.specs.GroupsView.{groups_view, inputs_view};
 ghost use Rattle.rvs_suite.specs.Generate.{IsSaid, done, path_of, writes_text, writes_test};
 ghost use Rattle.rvs_suite.specs.Generate.{writes_tests, written_tests, generate};
 
-use crate::group_files::{Inputs, read_inputs};
+use crate::group_files::Inputs;
 use crate::listing::{push_total, push_unselected};
 use crate::making::{Said, say_made};
+use crate::parting::read_labels;
 use crate::printing::print_text;
 use crate::test_files::test_path;
 use rvs_base::{Host, Sink, Text};
@@ -42,7 +43,7 @@ pub fn generate_tests<H: Host, O: Sink>(
         (world (H.state host.old) (O.state out.old))
         (world (H.state host.new) (O.state out.new)) result }
 {
-    let inputs = read_inputs(alloc, host, &asked.isa, &asked.groups)?;
+    let inputs = read_labels(alloc, host, &asked.isa, &asked.groups, asked.part)?;
     let text = write_tests(alloc, host, &asked.work, &inputs)?;
     print_text(&text, out)
 }

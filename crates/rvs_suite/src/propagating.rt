@@ -1,35 +1,50 @@
 // The command `propagate`.
-ghost use Rattle.std.specs.Prelude.{◌≡◌, ◌≤◌, ◌^◌, [], ℕ, List, IfOk};
+ghost use Rattle.std.specs.Prelude.{◌≡◌, ◌≤◌, ◌^◌, [], ℕ, List, IfOk, length, map};
 ghost use Rattle.rvs_base.specs.Sink.{SinkState};
 ghost use Rattle.rvs_plan.specs.World.{world};
-ghost use Rattle.rvs_plan.specs.Plan.{Asks, Ends};
 ghost use Rattle.rvs_plan.specs.Meets.{Meets};
 ghost use Rattle.rvs_cgf.specs.declared.group.Label.{Label};
+ghost use Rattle.rvs_count.specs.Counting.{aims_in};
 ghost use Rattle.rvs_count.specs.State.{ended};
 ghost use Rattle.rvs_prop.specs.State.{state_of};
 ghost use Rattle.rvs_base.specs.declared.asked.Window.{Window as Span};
 ghost use Rattle.rvs_suite.specs.GroupsView.{groups_view};
-ghost use Rattle.rvs_suite.specs.LogReport.{log_bound, found_by};
-ghost use Rattle.rvs_suite.specs.Propagate.{report_on, reports, reported, propagate};
+ghost use Rattle.rvs_suite.specs.Propagate.{untracked, tracked_with, report_on, measure, reported};
+ghost use Rattle.rvs_suite.specs.Propagate.{AreLong, file_name, tracks_more, propagate};
 ghost use Rattle.rvs_log.specs.Lines.{log_limit};
+ghost use Rattle.rvs_suite.specs.LogReport.{takes_log, takes_logs, reads_logs};
 
 use crate::covering::LOG_LIMIT;
 use crate::group_files::read_inputs;
+use crate::log_lines::under_lines;
 use crate::printing::print_text;
-use rvs_base::{Host, NoMemory, Sink, Text};
+use crate::summing::{plus_each, total_of, with_number};
+use rvs_base::{Host, Items, NoMemory, Sink, Text, Window};
 use rvs_cgf::Groups;
-use rvs_count::LogFault;
+use rvs_count::{LogFault, zeros};
 use rvs_plan::{Finish, Stop, too_long};
-use rvs_prop::{Tracker, track_file};
-use rvs_words::{PropagateArguments, owned};
+use rvs_prop::{Tracker, propagation_text, track_file};
+use rvs_words::{PropagateArguments, SignedLog, owned};
 use std::alloc::Global;
 
+/// What was tracked in some logs.
+#[derive(Drop)]
+pub struct Traced {
+    /// How many hits of each point of the groups reached the signature.
+    pub reached: Items<u64>,
+    /// How often each point was hit.
+    pub hits: Items<u64>,
+    /// How many instructions each log has, in order.
+    pub ran: Items<u64>,
+}
+
 /// Counts how many hits of coverage points have their instruction's result stored in the signature,
-/// and puts the report. The log is read in one pass, in memory that doesn't depend on its length.
+/// and puts the report. Each log is tracked by itself and read in one pass, in memory that doesn't
+/// depend on its length, and the numbers are added up.
 ///
 /// # Errors
 ///
-/// [`Stop`]; nothing is put before the log has been read to its end.
+/// [`Stop`]; nothing is put before the last log has been read to its end.
 pub fn propagate_log<H: Host, O: Sink>(
     alloc: Global,
     asked: &PropagateArguments,
@@ -54,61 +69,179 @@ fn read_report<H: Host>(
         (world (H.state host.old) out) (world (H.state host.new) out) result }
 {
     let inputs = read_inputs(alloc, host, &asked.isa, &asked.groups)?;
-    track_named(alloc, host, &inputs.groups, asked)
+    report_logs(alloc, host, &inputs.groups, asked)
 }
 
-/// Tracks hits in the named log, and makes the report.
-fn track_named<H: Host>(
+/// Tracks hits in all logs, and makes the report.
+fn report_logs<H: Host>(
     alloc: Global,
     host: &mut H,
     groups: &Groups,
     asked: &PropagateArguments,
 ) -> Result<Text, Stop>
     ensures { (out : SinkState) → Meets
-        (Asks asked.now.log log_bound (λ found. Ends
-        (found_by (reports asked.now.signature) (groups_view groups.now) asked.now.log found)))
+        (reads_logs measure asked.now.logs (groups_view groups.now))
         (world (H.state host.old) out) (world (H.state host.new) out) result }
 {
-    let range = asked.signature;
-    let mut tracker = Tracker::new(alloc, groups, range.lo, range.hi)?;
-    track_with(alloc, host, &mut tracker, asked.log.as_str())
+    let tracked = track_all(alloc, host, groups, asked)?;
+    Ok(report_of(alloc, groups, asked.logs.as_slice(), &tracked)?)
 }
 
-/// Tracks hits in the named log with a new tracker, and makes the report.
+#[tactic(auto, unfolding(crate::specs::Propagate::report_on))]
+fn report_of(
+    alloc: Global,
+    groups: &Groups,
+    logs: &[SignedLog],
+    tracked: &Traced,
+) -> Result<Text, NoMemory>
+    requires { AreLong (length (aims_in groups.now)) tracked.now }
+    ensures { IfOk result
+        (λ text. text ≡ report_on (groups_view groups.now) logs.now tracked.now) }
+{
+    let names = names_of(alloc, logs)?;
+    let reached = tracked.reached.as_slice();
+    let hits = tracked.hits.as_slice();
+    let ran = tracked.ran.as_slice();
+    let report = propagation_text(alloc, groups, reached, hits, total_of(ran))?;
+    under_lines(alloc, names.as_slice(), ran, report)
+}
+
+/// The names of the logs' files.
+fn names_of(alloc: Global, logs: &[SignedLog]) -> Result<Items<Text>, NoMemory>
+    ensures { IfOk result (λ names. names ≡ map file_name logs.now) }
+{
+    let mut names = Items::new(alloc);
+    for log in logs {
+        names.push(owned(alloc, log.name.as_str())?)?;
+    }
+    Ok(names)
+}
+
+/// Nothing tracked of the points of groups, with room for so many logs.
+fn nothing(alloc: Global, groups: &Groups, logs: usize) -> Result<Traced, NoMemory>
+    ensures tracked { IfOk result (λ t. t ≡ untracked (groups_view groups.now)) }
+    ensures long { IfOk result (AreLong (length (aims_in groups.now))) }
+{
+    let reached = zeros(alloc, groups.as_slice())?;
+    let hits = zeros(alloc, groups.as_slice())?;
+    let ran = Vec::with_capacity(alloc, logs)?;
+    Ok(Traced {
+        reached: Items::from(reached),
+        hits: Items::from(hits),
+        ran: Items::from(ran),
+    })
+}
+
+/// Tracks hits in all logs, one after the other.
+fn track_all<H: Host>(
+    alloc: Global,
+    host: &mut H,
+    groups: &Groups,
+    asked: &PropagateArguments,
+) -> Result<Traced, Stop>
+    ensures met { (out : SinkState) → Meets
+        (takes_logs file_name (tracks_more (groups_view groups.now))
+        (untracked (groups_view groups.now)) asked.now.logs)
+        (world (H.state host.old) out) (world (H.state host.new) out) result }
+    ensures long { IfOk result (AreLong (length (aims_in groups.now))) }
+{
+    let logs = asked.logs.as_slice();
+    let none = nothing(alloc, groups, logs.len())?;
+    track_onto(alloc, host, groups, none, logs)
+}
+
+/// Tracks hits in some logs more, one after the other.
+fn track_onto<H: Host>(
+    alloc: Global,
+    host: &mut H,
+    groups: &Groups,
+    none: Traced,
+    logs: &[SignedLog],
+) -> Result<Traced, Stop>
+    requires { AreLong (length (aims_in groups.now)) none }
+    ensures met { (out : SinkState) → Meets
+        (takes_logs file_name (tracks_more (groups_view groups.now)) none logs.now)
+        (world (H.state host.old) out) (world (H.state host.new) out) result }
+    ensures long { IfOk result (AreLong (length (aims_in groups.now))) }
+{
+    let mut tracked = none;
+    for log in logs {
+        tracked = track_one(
+            alloc,
+            host,
+            groups,
+            log.signature,
+            tracked,
+            log.name.as_str(),
+        )?;
+    }
+    Ok(tracked)
+}
+
+/// Tracks hits in the named log, by itself, onto what was tracked before.
+fn track_one<H: Host>(
+    alloc: Global,
+    host: &mut H,
+    groups: &Groups,
+    range: Window,
+    tracked: Traced,
+    log: &str,
+) -> Result<Traced, Stop>
+    ensures met { (out : SinkState) → Meets
+        (takes_log (tracked_with range (groups_view groups.now)) tracked log.now)
+        (world (H.state host.old) out) (world (H.state host.new) out) result }
+    ensures long { (n : ℕ) → AreLong n tracked → IfOk result (AreLong n) }
+{
+    let mut tracker = Tracker::new(alloc, groups, range.lo, range.hi)?;
+    track_with(alloc, host, &mut tracker, tracked, log)
+}
+
+/// Tracks hits in the named log with a new tracker, onto what was tracked before.
 // The buffer for the log would lie on the stack under every command if this were inlined.
 #[inline(never)]
 fn track_with<H: Host>(
     alloc: Global,
     host: &mut H,
     tracker: &mut Tracker<'_>,
+    tracked: Traced,
     log: &str,
-) -> Result<Text, Stop>
-    ensures { (out : SinkState) (groups : List Label) (range : Span)
+) -> Result<Traced, Stop>
+    ensures met { (out : SinkState) (groups : List Label) (range : Span)
         → tracker.old ≡ state_of groups range.lo range.hi [] 0 → tracker.new.fed ≤ log_limit
-        → Meets
-        (Asks log.now log_bound (λ found. Ends
-        (found_by (reports range) (groups_view groups) log.now found)))
+        → Meets (takes_log (tracked_with range (groups_view groups)) tracked log.now)
         (world (H.state host.old) out) (world (H.state host.new) out) result }
+    ensures long { (n : ℕ) → AreLong n tracked → IfOk result (AreLong n) }
 {
     let name = owned(alloc, log)?;
     match track_file(host, log, tracker) {
-        Ok(()) => Ok(report_at_end(alloc, tracker)?),
+        Ok(()) => Ok(with_ended(tracked, tracker)?),
         Err(LogFault::NoFile) => Err(Stop::NoFile(name)),
         Err(LogFault::Failed) => Err(Stop::CannotRead(name)),
         Err(LogFault::TooLong) => Err(Stop::Refused(too_long(alloc, log, LOG_LIMIT)?)),
     }
 }
 
-/// The report of a tracker at the end of its log.
-fn report_at_end(alloc: Global, tracker: &mut Tracker<'_>) -> Result<Text, NoMemory>
+/// With what a tracker has at the end of its log.
+fn with_ended(tracked: Traced, tracker: &mut Tracker<'_>) -> Result<Traced, NoMemory>
     ensures state { (labels : List Label) (lo hi : ℕ) (bytes : List ℕ) (n : ℕ)
         → tracker.old ≡ state_of labels lo hi bytes n
         → tracker.new ≡ state_of labels lo hi (ended bytes) n }
-    ensures report { IfOk result (λ text.
-        (labels : List Label) (range : Span) (bytes : List ℕ) (n : ℕ)
+    ensures tracked { (labels : List Label) (range : Span) (bytes : List ℕ) (n : ℕ)
         → tracker.old ≡ state_of labels range.lo range.hi bytes n
-        → text ≡ report_on (groups_view labels) range bytes) }
+        → IfOk result (λ t. t ≡ tracked_with range (groups_view labels) tracked bytes) }
+    ensures long { (n : ℕ) → AreLong n tracked → IfOk result (AreLong n) }
 {
     tracker.finish();
-    tracker.report(alloc)
+    let Traced {
+        reached: before,
+        hits: behind,
+        ran: earlier,
+    } = tracked;
+    let stored = tracker.reached();
+    let hit = tracker.hits();
+    let last = tracker.instructions();
+    let reached = plus_each(before, stored);
+    let hits = plus_each(behind, hit);
+    let ran = with_number(earlier, last)?;
+    Ok(Traced { reached, hits, ran })
 }

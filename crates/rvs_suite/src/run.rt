@@ -12,8 +12,8 @@ ghost use Rattle.rvs_suite.specs.RunView.{bench_view};
 
 use crate::device_file::read_device_file;
 use crate::gathering::{Test, gather_tests};
-use crate::group_files::read_inputs;
 use crate::judging::{Bench, judge_one};
+use crate::parting::read_labels;
 use rvs_base::{Host, NoMemory, Sink, Text};
 use rvs_device::Device;
 use rvs_insn::IsaSpec;
@@ -38,7 +38,7 @@ pub fn run_tests<H: Host, O: Sink>(
         (world (H.state host.old) (O.state out.old))
         (world (H.state host.new) (O.state out.new)) result }
 {
-    let inputs = read_inputs(alloc, host, &asked.isa, &asked.groups)?;
+    let inputs = read_labels(alloc, host, &asked.isa, &asked.groups, asked.part)?;
     let device = read_device_file(alloc, host, &asked.device)?;
     let gathered = gather_tests(alloc, &inputs)?;
     let bench = bench_of(alloc, asked, device, inputs.isa)?;

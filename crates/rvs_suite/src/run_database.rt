@@ -10,10 +10,10 @@ ghost use Rattle.rvs_suite.specs.TestRun.{Accepts};
 ghost use Rattle.rvs_suite.specs.RunView.{bench_view};
 ghost use Rattle.rvs_suite.specs.RunDatabase as spec;
 
-use crate::database_file::read_database_file;
 use crate::device_file::read_device_file;
 use crate::isa_file::read_isa;
 use crate::judging::{Bench, Made, executable_of, judge_words, print_verdict, write_executable};
+use crate::parting::read_marked;
 use crate::reference::TEST_LIMIT;
 use crate::run::{print_totals, with_one};
 use crate::test_files::TestFiles;
@@ -57,7 +57,7 @@ pub fn run_selected<H: Host, O: Sink>(
 {
     let said = read_isa(alloc, host, &asked.isa)?;
     let isa = said.spec;
-    let database = read_database_file(alloc, host, &isa, &asked.database)?;
+    let database = read_marked(alloc, host, &isa, &asked.database, asked.part)?;
     let device = read_device_file(alloc, host, &asked.device)?;
     let bench = bench_of(alloc, asked, device, isa)?;
     judge_database(alloc, host, out, &bench, database.as_slice())

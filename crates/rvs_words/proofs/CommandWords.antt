@@ -2,13 +2,18 @@
 use Rattle.std.proofs.Common.{◌≡◌, ◌≤◌, ℕ, Bool, true, false, cond, List, [], ◌∷◌, ◌++◌, length}
 use Rattle.std.proofs.Common.{Option, Some, None, refl, ap, ◌∙◌, bytes_eq, codes, append-nil, arith}
 use Rattle.std.specs.Prelude.{◌&&◌, nat_le, map, option_map, option_and_then, unwrap_or}
-use Rattle.std.specs.List.{list_all}
+use Rattle.std.specs.List.{list_all, list_any}
 use Rattle.std.proofs.lemmas.Bool.Decides.{nat_tests}
 use Rattle.std.proofs.lemmas.List.{length-map}
 use Rattle.rvs_words.specs.Words.{is_positional, pairs_of, is_among, options_in, values_of}
 use Rattle.rvs_words.specs.Words.{are_known, only}
 use Rattle.rvs_words.specs.Words.{at_most_one}
-use Rattle.rvs_words.specs.Windows.{windows_of, range_of}
+use Rattle.rvs_words.specs.Windows.{windows_of}
+use Rattle.rvs_words.specs.FamilyWords.{families_of}
+use Rattle.rvs_words.specs.LogWords.{signed_logs}
+use Rattle.rvs_abstract.specs.declared.families.Families.{Families}
+use Rattle.rvs_words.specs.PartWords.{parts_of}
+use Rattle.rvs_parts.specs.Parts.{PartValue}
 use Rattle.rvs_text.specs.Options.{◌>>=◌}
 use Rattle.rvs_words.specs.Commands.{Values, with_options, some_of, steps_of}
 use Rattle.rvs_words.specs.Commands.{validate_options, validate_of}
@@ -17,6 +22,7 @@ use Rattle.rvs_words.specs.Commands.{reference_options, reference_of, coverage_o
 use Rattle.rvs_words.specs.Commands.{propagate_options, propagate_of, run_options, run_of}
 use Rattle.rvs_words.specs.Commands.{run_groups_of, run_database_of, is_given}
 use Rattle.rvs_words.specs.declared.words.Pair.{Pair}
+use Rattle.rvs_words.specs.declared.command.SignedLog.{SignedLog}
 use Rattle.rvs_base.specs.declared.asked.Window.{Window}
 use Rattle.rvs_words.specs.declared.command.Command.{Command}
 use Rattle.rvs_words.specs.declared.command.Command.TheVariants.{Unknown, Compare, Validate}
@@ -51,6 +57,12 @@ steps-name = record { alone = refl; joined = λ byte text. refl; same = refl }
 
 pub work-name : IsName (codes "--work")
 work-name = record { alone = refl; joined = λ byte text. refl; same = refl }
+
+pub part-name : IsName (codes "--part")
+part-name = record { alone = refl; joined = λ byte text. refl; same = refl }
+
+families-name : IsName (codes "--families")
+families-name = record { alone = refl; joined = λ byte text. refl; same = refl }
 
 window-name : IsName (codes "--window")
 window-name = record { alone = refl; joined = λ byte text. refl; same = refl }
@@ -95,22 +107,24 @@ validates_are_read program isa m =
     (pair (codes "--isa") isa ∷ []) (Validate (record { isa = isa.text }))
     (option_alone (codes "--isa") isa-name isa (and-left (may_stand isa) true m)) refl refl
 
-enough : (values : List Value) → 1 ≤ length values → length values ≤ 64
-    → (nat_le 1 (length (map text_of values)) && nat_le (length (map text_of values)) 64) ≡ true
-enough values low high = simp length-map (grind (arith, nat_tests))
+enough : (most : ℕ) (values : List Value) → 1 ≤ length values → length values ≤ most
+    → (nat_le 1 (length (map text_of values)) && nat_le (length (map text_of values)) most) ≡ true
+enough most values low high = simp length-map (grind (arith, nat_tests))
 
-some : (values : List Value) → 1 ≤ length values → length values ≤ 64
-    → some_of 64 (map text_of values) ≡ Some (map text_of values)
-some values low high =
-    ap (λ (b : Bool). cond b (Some (map text_of values)) None) (enough values low high)
+some : (most : ℕ) (values : List Value) → 1 ≤ length values → length values ≤ most
+    → some_of most (map text_of values) ≡ Some (map text_of values)
+some most values low high =
+    ap (λ (b : Bool). cond b (Some (map text_of values)) None) (enough most values low high)
 
-pub normalize-of : (values : Values) (isa : List ℕ) (groups : List (List ℕ))
+pub normalize-of : (values : Values) (isa : List ℕ) (groups : List (List ℕ)) (read : Families)
     → only (values (codes "--isa")) ≡ Some isa
     → some_of 64 (values (codes "--cgf")) ≡ Some groups
-    → normalize_of values ≡ Some (Normalize (record { isa = isa; groups = groups }))
-normalize-of values isa groups a b =
-    λ k. a k >>= (λ isa. b k >>= (λ groups.
-    Some (Normalize (record { isa = isa; groups = groups }))))
+    → families_of (values (codes "--families")) ≡ Some read
+    → normalize_of values
+    ≡ Some (Normalize (record { isa = isa; groups = groups; families = read }))
+normalize-of values isa groups read a b c =
+    λ k. a k >>= (λ isa. b k >>= (λ groups. c k >>= (λ families.
+    Some (Normalize (record { isa = isa; groups = groups; families = families })))))
 
 -- all values stand where the first does and the others do
 pub first-stands : (value : Value) (values : List Value) → AllMayStand (value ∷ values)
@@ -122,7 +136,7 @@ pub others-stand : (value : Value) (values : List Value) → AllMayStand (value 
 others-stand value values m = and-right (may_stand value) (list_all may_stand values) m
 
 -- the values of one option among pairs of which the first are its own
-own-values : (name : List ℕ) → IsName name → (values : List Value) (more : List Pair)
+pub own-values : (name : List ℕ) → IsName name → (values : List Value) (more : List Pair)
     → values_of name more ≡ []
     → values_of name (pairs name values ++ more) ≡ map text_of values
 own-values name is values more none =
@@ -135,68 +149,177 @@ compares_are_read program left right a b =
     ap (λ (t : Bool). unwrap_or (cond (t && is_positional right) both None) Unknown) a
     ∙ ap (λ (t : Bool). unwrap_or (cond t both None) Unknown) b
 
+-- the last option of a command that names group files
+abbrev last-pairs : Option Value → List Pair
+last-pairs families = pairs (codes "--families") (listed families) ++ []
+
+abbrev last-words : Option Value → List (List ℕ)
+last-words families = options (codes "--families") (listed families)
+
+last-read : (families : Option Value) → AllMayStand (listed families)
+    → pairs_of (last-words families) ≡ Some (last-pairs families)
+last-read families m = options_alone (codes "--families") families-name (listed families) m
+
+not-last : (name : List ℕ) → bytes_eq (codes "--families") name ≡ false
+    → (families : Option Value) → values_of name (last-pairs families) ≡ []
+not-last name e families = values_other name (codes "--families") e (listed families) []
+
+last-known : (names : List (List ℕ))
+    → list_any (λ (known : List ℕ). bytes_eq (codes "--families") known) names ≡ true
+    → (families : Option Value) → are_known names (last-pairs families) ≡ true
+last-known names e families = known_pairs names (codes "--families") e (listed families) []
+
+last-value : (families : Option Value)
+    → values_of (codes "--families") (last-pairs families) ≡ map text_of (listed families)
+last-value families = own-values (codes "--families") families-name (listed families) [] refl
+
 pub normalizes_are_read : NormalizesAreRead
-normalizes_are_read program isa groups m few =
-    let rest = pairs (codes "--cgf") groups ++ [] in
-    let read = option_read (codes "--isa") isa-name isa (options (codes "--cgf") groups) rest
-    (first-stands isa groups m)
-    (options_alone (codes "--cgf") cgf-name groups (others-stand isa groups m)) in
-    of-pairs normalize_options normalize_of
-    (option (codes "--isa") isa ++ options (codes "--cgf") groups)
-    (pair (codes "--isa") isa ∷ rest) _ read
-    (known_pairs normalize_options (codes "--cgf") refl groups [])
-    (normalize-of (of-values (pair (codes "--isa") isa ∷ rest)) isa.text (map text_of groups)
-    (ap (λ vs. only (isa.text ∷ vs)) (values_other (codes "--isa") (codes "--cgf") refl groups []))
-    (ap (some_of 64) (own-values (codes "--cgf") cgf-name groups [] refl)
-    ∙ some groups few.0 few.1))
+normalizes_are_read program isa groups families read m f few which =
+    let ends = last-pairs families in
+    let rest = pairs (codes "--cgf") groups ++ ends in
+    let words = options (codes "--cgf") groups ++ last-words families in
+    let stand = option_read (codes "--isa") isa-name isa words rest (first-stands isa groups m)
+    (options_read (codes "--cgf") cgf-name groups (last-words families) ends
+    (others-stand isa groups m) (last-read families f)) in
+    of-pairs normalize_options normalize_of (option (codes "--isa") isa ++ words)
+    (pair (codes "--isa") isa ∷ rest) _ stand
+    (known_pairs normalize_options (codes "--cgf") refl groups ends
+    ∙ last-known normalize_options refl families)
+    (normalize-of (of-values (pair (codes "--isa") isa ∷ rest)) isa.text (map text_of groups) read
+    (ap (λ vs. only (isa.text ∷ vs))
+    (values_other (codes "--isa") (codes "--cgf") refl groups ends
+    ∙ not-last (codes "--isa") refl families))
+    (ap (some_of 64) (own-values (codes "--cgf") cgf-name groups ends
+    (not-last (codes "--cgf") refl families))
+    ∙ some 64 groups few.0 few.1)
+    (ap families_of (values_other (codes "--families") (codes "--cgf") refl groups ends
+    ∙ last-value families) ∙ which))
 
 pub generate-of : (values : Values) (isa work : List ℕ) (groups : List (List ℕ))
+    (part : Option PartValue) (read : Families)
     → only (values (codes "--isa")) ≡ Some isa
     → some_of 64 (values (codes "--cgf")) ≡ Some groups
     → only (values (codes "--work")) ≡ Some work
-    → generate_of values ≡ Some (Generate (record { isa = isa; groups = groups; work = work }))
-generate-of values isa work groups a b c =
-    λ k. a k >>= (λ isa. b k >>= (λ groups. c k >>= (λ work.
-    Some (Generate (record { isa = isa; groups = groups; work = work })))))
+    → parts_of (values (codes "--part")) ≡ Some part
+    → families_of (values (codes "--families")) ≡ Some read
+    → generate_of values ≡ Some (Generate (record {
+      isa = isa;
+      groups = groups;
+      work = work;
+      part = part;
+      families = read;
+    }))
+generate-of values isa work groups part read a b c d e =
+    λ k. a k >>= (λ isa. b k >>= (λ groups. c k >>= (λ work. d k >>= (λ part.
+    e k >>= (λ families. Some (Generate (record {
+      isa = isa;
+      groups = groups;
+      work = work;
+      part = part;
+      families = families;
+    })))))))
+
+-- a part and families, each of which needn't stand
+abbrev part-pairs : Option Value → Option Value → List Pair
+part-pairs part families = pairs (codes "--part") (listed part) ++ last-pairs families
+
+abbrev part-words : Option Value → Option Value → List (List ℕ)
+part-words part families = options (codes "--part") (listed part) ++ last-words families
+
+part-read : (part families : Option Value) → AllMayStand (listed part)
+    → AllMayStand (listed families)
+    → pairs_of (part-words part families) ≡ Some (part-pairs part families)
+part-read part families p f =
+    options_read (codes "--part") part-name (listed part) (last-words families)
+    (last-pairs families) p (last-read families f)
+
+not-part : (name : List ℕ) → bytes_eq (codes "--part") name ≡ false
+    → bytes_eq (codes "--families") name ≡ false
+    → (part families : Option Value) → values_of name (part-pairs part families) ≡ []
+not-part name a b part families =
+    values_other name (codes "--part") a (listed part) (last-pairs families)
+    ∙ not-last name b families
+
+part-known : (names : List (List ℕ))
+    → list_any (λ (known : List ℕ). bytes_eq (codes "--part") known) names ≡ true
+    → list_any (λ (known : List ℕ). bytes_eq (codes "--families") known) names ≡ true
+    → (part families : Option Value) → are_known names (part-pairs part families) ≡ true
+part-known names a b part families =
+    known_pairs names (codes "--part") a (listed part) (last-pairs families)
+    ∙ last-known names b families
+
+part-value : (part families : Option Value)
+    → values_of (codes "--part") (part-pairs part families) ≡ map text_of (listed part)
+part-value part families =
+    own-values (codes "--part") part-name (listed part) (last-pairs families)
+    (not-last (codes "--part") refl families)
+
+part-families : (part families : Option Value)
+    → values_of (codes "--families") (part-pairs part families) ≡ map text_of (listed families)
+part-families part families =
+    values_other (codes "--families") (codes "--part") refl (listed part) (last-pairs families)
+    ∙ last-value families
 
 pub generates_are_read : GeneratesAreRead
-generates_are_read program isa work groups m few =
+generates_are_read program isa work groups part families kept read m p f few fit which =
     let m1 = others-stand isa (work ∷ groups) m in
-    let behind = pair (codes "--work") work ∷ [] in
+    let ends = part-pairs part families in
+    let behind = pair (codes "--work") work ∷ ends in
     let rest = pairs (codes "--cgf") groups ++ behind in
-    let words = options (codes "--cgf") groups ++ option (codes "--work") work in
-    let read =
+    let last = option (codes "--work") work ++ part-words part families in
+    let words = options (codes "--cgf") groups ++ last in
+    let stand =
     option_read (codes "--isa") isa-name isa words rest (first-stands isa (work ∷ groups) m)
-    (options_read (codes "--cgf") cgf-name groups (option (codes "--work") work) behind
-    (others-stand work groups m1)
-    (option_alone (codes "--work") work-name work (first-stands work groups m1))) in
+    (options_read (codes "--cgf") cgf-name groups last behind (others-stand work groups m1)
+    (option_read (codes "--work") work-name work (part-words part families) ends
+    (first-stands work groups m1) (part-read part families p f))) in
     of-pairs generate_options generate_of (option (codes "--isa") isa ++ words)
-    (pair (codes "--isa") isa ∷ rest) _ read
-    (known_pairs generate_options (codes "--cgf") refl groups behind)
+    (pair (codes "--isa") isa ∷ rest) _ stand
+    (known_pairs generate_options (codes "--cgf") refl groups behind
+    ∙ part-known generate_options refl refl part families)
     (generate-of (of-values (pair (codes "--isa") isa ∷ rest)) isa.text work.text
-    (map text_of groups)
+    (map text_of groups) kept read
     (ap (λ vs. only (isa.text ∷ vs))
-    (values_other (codes "--isa") (codes "--cgf") refl groups behind))
-    (ap (some_of 64) (own-values (codes "--cgf") cgf-name groups behind refl)
-    ∙ some groups few.0 few.1)
-    (ap only (values_other (codes "--work") (codes "--cgf") refl groups behind)))
+    (values_other (codes "--isa") (codes "--cgf") refl groups behind
+    ∙ not-part (codes "--isa") refl refl part families))
+    (ap (some_of 64) (own-values (codes "--cgf") cgf-name groups behind
+    (not-part (codes "--cgf") refl refl part families))
+    ∙ some 64 groups few.0 few.1)
+    (ap only (values_other (codes "--work") (codes "--cgf") refl groups behind)
+    ∙ ap (λ vs. only (work.text ∷ vs)) (not-part (codes "--work") refl refl part families))
+    (ap parts_of (values_other (codes "--part") (codes "--cgf") refl groups behind
+    ∙ part-value part families) ∙ fit)
+    (ap families_of (values_other (codes "--families") (codes "--cgf") refl groups behind
+    ∙ part-families part families) ∙ which))
 
 pub run-of : (program : List ℕ) (values : Values) (isa device work : List ℕ)
-    (groups : List (List ℕ))
+    (groups : List (List ℕ)) (part : Option PartValue) (read : Families)
     → only (values (codes "--isa")) ≡ Some isa
     → some_of 64 (values (codes "--cgf")) ≡ Some groups
     → only (values (codes "--device")) ≡ Some device
     → only (values (codes "--work")) ≡ Some work
+    → parts_of (values (codes "--part")) ≡ Some part
+    → families_of (values (codes "--families")) ≡ Some read
     → run_groups_of program values ≡ Some (Run (record {
       program = program;
       isa = isa;
       groups = groups;
       device = device;
       work = work;
+      part = part;
+      families = read;
     }))
-run-of program values isa device work groups a b c d =
-    λ k. a k >>= (λ isa. b k >>= (λ groups. c k >>= (λ device. d k >>= (λ work. Some (Run
-    (record { program = program; isa = isa; groups = groups; device = device; work = work }))))))
+run-of program values isa device work groups part read a b c d e f =
+    λ k. a k >>= (λ isa. b k >>= (λ groups. c k >>= (λ device. d k >>= (λ work.
+    e k >>= (λ part. f k >>= (λ families. Some (Run (record {
+      program = program;
+      isa = isa;
+      groups = groups;
+      device = device;
+      work = work;
+      part = part;
+      families = families;
+    }))))))))
 
 -- without a database, a run is over group files
 over-groups : (program : List ℕ) (values : Values) (command : Command)
@@ -204,121 +327,193 @@ over-groups : (program : List ℕ) (values : Values) (command : Command)
     → run_of program values ≡ Some command
 over-groups program values command none asks =
     ap (λ databases. cond (is_given databases)
-    (cond (is_given (values (codes "--cgf"))) None (run_database_of program values))
+    (cond (is_given (values (codes "--cgf"))) None (cond (is_given (values (codes "--families")))
+    None (run_database_of program values)))
     (run_groups_of program values)) none
     ∙ asks
 
 pub runs_are_read : RunsAreRead
-runs_are_read program isa device work groups m few =
+runs_are_read program isa device work groups part families kept read m p f few fit which =
     let m1 = others-stand isa (device ∷ work ∷ groups) m in
     let m2 = others-stand device (work ∷ groups) m1 in
-    let behind = pair (codes "--device") device ∷ pair (codes "--work") work ∷ [] in
+    let ends = part-pairs part families in
+    let second = pair (codes "--work") work ∷ ends in
+    let behind = pair (codes "--device") device ∷ second in
     let rest = pairs (codes "--cgf") groups ++ behind in
-    let last = option (codes "--device") device ++ option (codes "--work") work in
+    let third = option (codes "--work") work ++ part-words part families in
+    let last = option (codes "--device") device ++ third in
     let words = options (codes "--cgf") groups ++ last in
-    let read = option_read (codes "--isa") isa-name isa words rest
+    let stand = option_read (codes "--isa") isa-name isa words rest
     (first-stands isa (device ∷ work ∷ groups) m)
     (options_read (codes "--cgf") cgf-name groups last behind (others-stand work groups m2)
-    (option_read (codes "--device") device-name device (option (codes "--work") work)
-    (pair (codes "--work") work ∷ [])
+    (option_read (codes "--device") device-name device third second
     (first-stands device (work ∷ groups) m1)
-    (option_alone (codes "--work") work-name work (first-stands work groups m2)))) in
+    (option_read (codes "--work") work-name work (part-words part families) ends
+    (first-stands work groups m2) (part-read part families p f)))) in
     of-pairs run_options (run_of program) (option (codes "--isa") isa ++ words)
-    (pair (codes "--isa") isa ∷ rest) _ read
-    (known_pairs run_options (codes "--cgf") refl groups behind)
+    (pair (codes "--isa") isa ∷ rest) _ stand
+    (known_pairs run_options (codes "--cgf") refl groups behind
+    ∙ part-known run_options refl refl part families)
     (over-groups program (of-values (pair (codes "--isa") isa ∷ rest)) _
-    (values_other (codes "--database") (codes "--cgf") refl groups behind)
+    (values_other (codes "--database") (codes "--cgf") refl groups behind
+    ∙ not-part (codes "--database") refl refl part families)
     (run-of program (of-values (pair (codes "--isa") isa ∷ rest)) isa.text device.text work.text
-    (map text_of groups)
-    (ap (λ vs. only (isa.text ∷ vs))
-    (values_other (codes "--isa") (codes "--cgf") refl groups behind))
-    (ap (some_of 64) (own-values (codes "--cgf") cgf-name groups behind refl)
-    ∙ some groups few.0 few.1)
-    (ap only (values_other (codes "--device") (codes "--cgf") refl groups behind))
-    (ap only (values_other (codes "--work") (codes "--cgf") refl groups behind))))
-
-pub coverage-of : (values : Values) (isa log : List ℕ) (groups : List (List ℕ))
-    (kept : List Window)
-    → only (values (codes "--isa")) ≡ Some isa
-    → some_of 64 (values (codes "--cgf")) ≡ Some groups
-    → only (values (codes "--log")) ≡ Some log
-    → windows_of (values (codes "--window")) ≡ Some kept
-    → coverage_of values ≡ Some (Coverage
-    (record { isa = isa; groups = groups; log = log; windows = kept }))
-coverage-of values isa log groups kept a b c d =
-    λ k. a k >>= (λ isa. b k >>= (λ groups. c k >>= (λ log. d k >>= (λ windows. Some (Coverage
-    (record { isa = isa; groups = groups; log = log; windows = windows }))))))
-
-pub coverages_are_read : CoveragesAreRead
-coverages_are_read program isa log groups windows kept m w few fit =
-    let m1 = others-stand isa (log ∷ groups) m in
-    let ends = pairs (codes "--window") windows ++ [] in
-    let behind = pair (codes "--log") log ∷ ends in
-    let rest = pairs (codes "--cgf") groups ++ behind in
-    let last = option (codes "--log") log ++ options (codes "--window") windows in
-    let words = options (codes "--cgf") groups ++ last in
-    let read =
-    option_read (codes "--isa") isa-name isa words rest (first-stands isa (log ∷ groups) m)
-    (options_read (codes "--cgf") cgf-name groups last behind (others-stand log groups m1)
-    (option_read (codes "--log") log-name log (options (codes "--window") windows) ends
-    (first-stands log groups m1)
-    (options_alone (codes "--window") window-name windows w))) in
-    of-pairs coverage_options coverage_of (option (codes "--isa") isa ++ words)
-    (pair (codes "--isa") isa ∷ rest) _ read
-    (known_pairs coverage_options (codes "--cgf") refl groups behind
-    ∙ known_pairs coverage_options (codes "--window") refl windows [])
-    (coverage-of (of-values (pair (codes "--isa") isa ∷ rest)) isa.text log.text
-    (map text_of groups) kept
+    (map text_of groups) kept read
     (ap (λ vs. only (isa.text ∷ vs))
     (values_other (codes "--isa") (codes "--cgf") refl groups behind
-    ∙ values_other (codes "--isa") (codes "--window") refl windows []))
+    ∙ not-part (codes "--isa") refl refl part families))
     (ap (some_of 64) (own-values (codes "--cgf") cgf-name groups behind
-    (values_other (codes "--cgf") (codes "--window") refl windows []))
-    ∙ some groups few.0 few.1)
-    (ap only (values_other (codes "--log") (codes "--cgf") refl groups behind)
-    ∙ ap (λ vs. only (log.text ∷ vs))
-    (values_other (codes "--log") (codes "--window") refl windows []))
-    (ap windows_of (values_other (codes "--window") (codes "--cgf") refl groups behind
-    ∙ own-values (codes "--window") window-name windows [] refl) ∙ fit))
+    (not-part (codes "--cgf") refl refl part families))
+    ∙ some 64 groups few.0 few.1)
+    (ap only (values_other (codes "--device") (codes "--cgf") refl groups behind)
+    ∙ ap (λ vs. only (device.text ∷ vs)) (not-part (codes "--device") refl refl part families))
+    (ap only (values_other (codes "--work") (codes "--cgf") refl groups behind)
+    ∙ ap (λ vs. only (work.text ∷ vs)) (not-part (codes "--work") refl refl part families))
+    (ap parts_of (values_other (codes "--part") (codes "--cgf") refl groups behind
+    ∙ part-value part families) ∙ fit)
+    (ap families_of (values_other (codes "--families") (codes "--cgf") refl groups behind
+    ∙ part-families part families) ∙ which)))
 
-pub propagate-of : (values : Values) (isa log : List ℕ) (groups : List (List ℕ)) (range : Window)
+pub coverage-of : (values : Values) (isa : List ℕ) (groups logs : List (List ℕ))
+    (kept : List Window) (read : Families)
     → only (values (codes "--isa")) ≡ Some isa
     → some_of 64 (values (codes "--cgf")) ≡ Some groups
-    → only (values (codes "--log")) ≡ Some log
-    → range_of (values (codes "--signature")) ≡ Some range
+    → some_of 4096 (values (codes "--log")) ≡ Some logs
+    → windows_of (values (codes "--window")) ≡ Some kept
+    → families_of (values (codes "--families")) ≡ Some read
+    → coverage_of values ≡ Some (Coverage (record {
+      isa = isa;
+      groups = groups;
+      logs = logs;
+      windows = kept;
+      families = read;
+    }))
+coverage-of values isa groups logs kept read a b c d e =
+    λ k. a k >>= (λ isa. b k >>= (λ groups. c k >>= (λ logs. d k >>= (λ windows.
+    e k >>= (λ families. Some (Coverage (record {
+      isa = isa;
+      groups = groups;
+      logs = logs;
+      windows = windows;
+      families = families;
+    })))))))
+
+pub coverages_are_read : CoveragesAreRead
+coverages_are_read program isa groups logs windows families kept read m l w f few many fit which =
+    let final = last-pairs families in
+    let ends = pairs (codes "--window") windows ++ final in
+    let behind = pairs (codes "--log") logs ++ ends in
+    let rest = pairs (codes "--cgf") groups ++ behind in
+    let third = options (codes "--window") windows ++ last-words families in
+    let last = options (codes "--log") logs ++ third in
+    let words = options (codes "--cgf") groups ++ last in
+    let stand =
+    option_read (codes "--isa") isa-name isa words rest (first-stands isa groups m)
+    (options_read (codes "--cgf") cgf-name groups last behind (others-stand isa groups m)
+    (options_read (codes "--log") log-name logs third ends l
+    (options_read (codes "--window") window-name windows (last-words families) final w
+    (last-read families f)))) in
+    let without = λ (name : List ℕ) (a : bytes_eq (codes "--log") name
+    ≡ false) (b : bytes_eq (codes "--window") name
+    ≡ false) (c : bytes_eq (codes "--families") name ≡ false).
+    values_other name (codes "--log") a logs ends
+    ∙ values_other name (codes "--window") b windows final
+    ∙ not-last name c families in
+    of-pairs coverage_options coverage_of (option (codes "--isa") isa ++ words)
+    (pair (codes "--isa") isa ∷ rest) _ stand
+    (known_pairs coverage_options (codes "--cgf") refl groups behind
+    ∙ known_pairs coverage_options (codes "--log") refl logs ends
+    ∙ known_pairs coverage_options (codes "--window") refl windows final
+    ∙ last-known coverage_options refl families)
+    (coverage-of (of-values (pair (codes "--isa") isa ∷ rest)) isa.text (map text_of groups)
+    (map text_of logs) kept read
+    (ap (λ vs. only (isa.text ∷ vs))
+    (values_other (codes "--isa") (codes "--cgf") refl groups behind
+    ∙ without (codes "--isa") refl refl refl))
+    (ap (some_of 64) (own-values (codes "--cgf") cgf-name groups behind
+    (without (codes "--cgf") refl refl refl))
+    ∙ some 64 groups few.0 few.1)
+    (ap (some_of 4096) (values_other (codes "--log") (codes "--cgf") refl groups behind
+    ∙ own-values (codes "--log") log-name logs ends
+    (values_other (codes "--log") (codes "--window") refl windows final
+    ∙ not-last (codes "--log") refl families))
+    ∙ some 4096 logs many.0 many.1)
+    (ap windows_of (values_other (codes "--window") (codes "--cgf") refl groups behind
+    ∙ values_other (codes "--window") (codes "--log") refl logs ends
+    ∙ own-values (codes "--window") window-name windows final
+    (not-last (codes "--window") refl families)) ∙ fit)
+    (ap families_of (values_other (codes "--families") (codes "--cgf") refl groups behind
+    ∙ values_other (codes "--families") (codes "--log") refl logs ends
+    ∙ values_other (codes "--families") (codes "--window") refl windows final
+    ∙ last-value families) ∙ which))
+
+pub propagate-of : (values : Values) (isa : List ℕ) (groups logs : List (List ℕ))
+    (signed : List SignedLog) (read : Families)
+    → only (values (codes "--isa")) ≡ Some isa
+    → some_of 64 (values (codes "--cgf")) ≡ Some groups
+    → some_of 4096 (values (codes "--log")) ≡ Some logs
+    → signed_logs logs (values (codes "--signature")) ≡ Some signed
+    → families_of (values (codes "--families")) ≡ Some read
     → propagate_of values ≡ Some (Propagate
-    (record { isa = isa; groups = groups; log = log; signature = range }))
-propagate-of values isa log groups range a b c d =
-    λ k. a k >>= (λ isa. b k >>= (λ groups. c k >>= (λ log. d k >>= (λ signature. Some (Propagate
-    (record { isa = isa; groups = groups; log = log; signature = signature }))))))
+    (record { isa = isa; groups = groups; logs = signed; families = read }))
+propagate-of values isa groups logs signed read a b c d e =
+    (λ k. a k >>= (λ isa. b k >>= (λ groups. c k >>= (λ logs.
+    signed_logs logs (values (codes "--signature")) >>= (λ signed.
+    e k >>= (λ families. Some (Propagate
+    (record { isa = isa; groups = groups; logs = signed; families = families }))))))))
+    ∙ (λ k. d k >>= (λ signed. Some (Propagate
+    (record { isa = isa; groups = groups; logs = signed; families = read }))))
 
 pub propagates_are_read : PropagatesAreRead
-propagates_are_read program isa log signature groups range m few fit =
-    let m1 = others-stand isa (log ∷ signature ∷ groups) m in
-    let m2 = others-stand log (signature ∷ groups) m1 in
-    let ends = pair (codes "--signature") signature ∷ [] in
-    let behind = pair (codes "--log") log ∷ ends in
+propagates_are_read program isa groups logs signatures families signed read m l s f few many fit
+    which =
+    let final = last-pairs families in
+    let ends = pairs (codes "--signature") signatures ++ final in
+    let behind = pairs (codes "--log") logs ++ ends in
     let rest = pairs (codes "--cgf") groups ++ behind in
-    let last = option (codes "--log") log ++ option (codes "--signature") signature in
+    let third = options (codes "--signature") signatures ++ last-words families in
+    let last = options (codes "--log") logs ++ third in
     let words = options (codes "--cgf") groups ++ last in
-    let read = option_read (codes "--isa") isa-name isa words rest
-    (first-stands isa (log ∷ signature ∷ groups) m)
-    (options_read (codes "--cgf") cgf-name groups last behind (others-stand signature groups m2)
-    (option_read (codes "--log") log-name log (option (codes "--signature") signature) ends
-    (first-stands log (signature ∷ groups) m1)
-    (option_alone (codes "--signature") signature-name signature
-    (first-stands signature groups m2)))) in
+    let stand =
+    option_read (codes "--isa") isa-name isa words rest (first-stands isa groups m)
+    (options_read (codes "--cgf") cgf-name groups last behind (others-stand isa groups m)
+    (options_read (codes "--log") log-name logs third ends l
+    (options_read (codes "--signature") signature-name signatures (last-words families) final s
+    (last-read families f)))) in
+    let without = λ (name : List ℕ) (a : bytes_eq (codes "--log") name
+    ≡ false) (b : bytes_eq (codes "--signature") name
+    ≡ false) (c : bytes_eq (codes "--families") name ≡ false).
+    values_other name (codes "--log") a logs ends
+    ∙ values_other name (codes "--signature") b signatures final
+    ∙ not-last name c families in
     of-pairs propagate_options propagate_of (option (codes "--isa") isa ++ words)
-    (pair (codes "--isa") isa ∷ rest) _ read
-    (known_pairs propagate_options (codes "--cgf") refl groups behind)
-    (propagate-of (of-values (pair (codes "--isa") isa ∷ rest)) isa.text log.text
-    (map text_of groups) range
+    (pair (codes "--isa") isa ∷ rest) _ stand
+    (known_pairs propagate_options (codes "--cgf") refl groups behind
+    ∙ known_pairs propagate_options (codes "--log") refl logs ends
+    ∙ known_pairs propagate_options (codes "--signature") refl signatures final
+    ∙ last-known propagate_options refl families)
+    (propagate-of (of-values (pair (codes "--isa") isa ∷ rest)) isa.text (map text_of groups)
+    (map text_of logs) signed read
     (ap (λ vs. only (isa.text ∷ vs))
-    (values_other (codes "--isa") (codes "--cgf") refl groups behind))
-    (ap (some_of 64) (own-values (codes "--cgf") cgf-name groups behind refl)
-    ∙ some groups few.0 few.1)
-    (ap only (values_other (codes "--log") (codes "--cgf") refl groups behind))
-    (ap range_of (values_other (codes "--signature") (codes "--cgf") refl groups behind) ∙ fit))
+    (values_other (codes "--isa") (codes "--cgf") refl groups behind
+    ∙ without (codes "--isa") refl refl refl))
+    (ap (some_of 64) (own-values (codes "--cgf") cgf-name groups behind
+    (without (codes "--cgf") refl refl refl))
+    ∙ some 64 groups few.0 few.1)
+    (ap (some_of 4096) (values_other (codes "--log") (codes "--cgf") refl groups behind
+    ∙ own-values (codes "--log") log-name logs ends
+    (values_other (codes "--log") (codes "--signature") refl signatures final
+    ∙ not-last (codes "--log") refl families))
+    ∙ some 4096 logs many.0 many.1)
+    (ap (signed_logs (map text_of logs))
+    (values_other (codes "--signature") (codes "--cgf") refl groups behind
+    ∙ values_other (codes "--signature") (codes "--log") refl logs ends
+    ∙ own-values (codes "--signature") signature-name signatures final
+    (not-last (codes "--signature") refl families)) ∙ fit)
+    (ap families_of (values_other (codes "--families") (codes "--cgf") refl groups behind
+    ∙ values_other (codes "--families") (codes "--log") refl logs ends
+    ∙ values_other (codes "--families") (codes "--signature") refl signatures final
+    ∙ last-value families) ∙ which))
 
 pub reference-of : (values : Values) (isa test signature : List ℕ) (log : Option (List ℕ))
     (count : Option ℕ)

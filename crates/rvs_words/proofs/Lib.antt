@@ -1,6 +1,8 @@
 mod WordRows
 mod OptionPairs
 mod OptionValues
+mod PartValues
+mod FamilyValues
 mod CommandWords
 mod DatabaseWords
 mod OptionOrder
@@ -9,3 +11,4 @@ mod FirstCuts
 mod OptionNames
 mod WindowCuts
 mod WindowTexts
+mod PartTexts

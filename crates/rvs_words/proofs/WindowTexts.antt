@@ -13,7 +13,8 @@ use Rattle.rvs_words.specs.Windows.{address_of, window_between, window_at, windo
 use Rattle.rvs_words.specs.Windows.{all_windows}
 use Rattle.rvs_base.specs.declared.asked.Window.{Window}
 use Rattle.rvs_words.specs.CommandLaws.{window_text, AreWindows, WindowsAreRead}
-use Rattle.rvs_words.specs.CommandLaws.{RangesAreRead}
+use Rattle.rvs_words.specs.LogWords.{signed_each, with_each, with_ranges}
+use Rattle.rvs_words.specs.CommandLaws.{RangesAreRead, RangesAreReadEach}
 use Rattle.rvs_words.proofs.FirstCuts.{first-at, take-front, drop-front}
 
 apart : (d : ℕ) → d < 16 → (hex_digit_of d == 58) ≡ false
@@ -76,9 +77,6 @@ window-read w h l =
     ∙ window-at (address-text w.lo) (address-text w.hi) w.lo w.hi (address-read w.lo (omega arith))
     (address-read w.hi l) h
 
-pub ranges_are_read : RangesAreRead
-ranges_are_read range h l = window-read range h l
-
 all-read : (windows : List Window) → AreWindows windows
     → all_windows (map window_text windows) ≡ Some windows
 all-read [] are = refl
@@ -95,3 +93,30 @@ pub windows_are_read : WindowsAreRead
 windows_are_read windows h are =
     ap (λ (t : Bool). cond t (all_windows (map window_text windows)) None) (few windows h)
     ∙ all-read windows are
+
+pub ranges_are_read : RangesAreRead
+ranges_are_read names range h l =
+    ap (option_and_then (with_ranges names)) (all-read (range ∷ []) (h, l, tt))
+
+-- as many ranges as logs
+same-count : (n m : ℕ) → n ≡ m → (n == m) ≡ true
+same-count n m same = grind (arith, nat_tests)
+
+each-is-given : (names : List (List ℕ)) (ranges : List Window) → length ranges ≡ length names
+    → with_each names ranges ≡ Some (signed_each names ranges)
+each-is-given names ranges same =
+    ap (λ (t : Bool). cond t (Some (signed_each names ranges)) None)
+    (same-count (length ranges) (length names) same)
+
+given-each : (names : List (List ℕ)) (ranges : List Window) → length ranges ≡ length names
+    → with_ranges names ranges ≡ Some (signed_each names ranges)
+given-each names [] same = each-is-given names [] same
+given-each [] (range ∷ []) same = refl
+given-each (name ∷ []) (range ∷ []) same = refl
+given-each (name ∷ other ∷ names) (range ∷ []) same = absurd (omega arith)
+given-each names (range ∷ second ∷ ranges) same =
+    each-is-given names (range ∷ second ∷ ranges) same
+
+pub ranges_are_read_each : RangesAreReadEach
+ranges_are_read_each names ranges same are =
+    ap (option_and_then (with_ranges names)) (all-read ranges are) ∙ given-each names ranges same

@@ -7,8 +7,15 @@ use Rattle.std.specs.List.{flat_map, list_all, list_any}
 use Rattle.rvs_base.specs.Number.{hex_word_of}
 use Rattle.rvs_words.specs.Words.{pairs_of, values_of}
 use Rattle.rvs_words.specs.Commands.{most_steps, number_of, steps_of, is_given, command_of}
-use Rattle.rvs_words.specs.Windows.{window_of, windows_of}
+use Rattle.rvs_words.specs.Windows.{windows_of}
+use Rattle.rvs_words.specs.PartWords.{parts_of}
+use Rattle.rvs_words.specs.FamilyWords.{families_of}
+use Rattle.rvs_words.specs.LogWords.{signed_log, signed_each, signed_logs}
+use Rattle.rvs_abstract.specs.declared.families.Families.{Families}
+use Rattle.rvs_abstract.specs.declared.families.Families.TheVariants.{Stated, All}
+use Rattle.rvs_parts.specs.Parts.{PartValue}
 use Rattle.rvs_words.specs.declared.words.Pair.{Pair}
+use Rattle.rvs_words.specs.declared.command.SignedLog.{SignedLog}
 use Rattle.rvs_base.specs.declared.asked.Window.{Window}
 use Rattle.rvs_words.specs.declared.command.Command.TheVariants.{Compare, Validate, Normalize}
 use Rattle.rvs_words.specs.declared.command.Command.TheVariants.{Generate, Reference, Coverage, Run}
@@ -53,6 +60,10 @@ listed (Some value) = value ∷ []
 abbrev pub AreGroups : List Value → Type 0
 AreGroups groups = (1 ≤ length groups) × (length groups ≤ 64)
 
+-- one to 4,096 execution logs
+abbrev pub AreLogs : List Value → Type 0
+AreLogs logs = (1 ≤ length logs) × (length logs ≤ 4096)
+
 abbrev pub ComparesAreRead : Type 0
 ComparesAreRead =
     (program left right : List ℕ) → stands_alone left ≡ true → stands_alone right ≡ true
@@ -67,18 +78,33 @@ ValidatesAreRead =
 
 abbrev pub NormalizesAreRead : Type 0
 NormalizesAreRead =
-    (program : List ℕ) (isa : Value) (groups : List Value) → AllMayStand (isa ∷ groups)
-    → AreGroups groups → command_of (program ∷ codes "normalize"
-    ∷ option (codes "--isa") isa ++ options (codes "--cgf") groups)
-    ≡ Normalize (record { isa = isa.text; groups = map text_of groups })
+    (program : List ℕ) (isa : Value) (groups : List Value) (families : Option Value)
+    (read : Families)
+    → AllMayStand (isa ∷ groups) → AllMayStand (listed families) → AreGroups groups
+    → families_of (map text_of (listed families)) ≡ Some read
+    → command_of (program ∷ codes "normalize" ∷ option (codes "--isa") isa
+    ++ (options (codes "--cgf") groups ++ options (codes "--families") (listed families)))
+    ≡ Normalize (record { isa = isa.text; groups = map text_of groups; families = read })
 
 abbrev pub GeneratesAreRead : Type 0
 GeneratesAreRead =
-    (program : List ℕ) (isa work : Value) (groups : List Value)
-    → AllMayStand (isa ∷ work ∷ groups) → AreGroups groups
+    (program : List ℕ) (isa work : Value) (groups : List Value) (part families : Option Value)
+    (kept : Option PartValue) (read : Families)
+    → AllMayStand (isa ∷ work ∷ groups) → AllMayStand (listed part)
+    → AllMayStand (listed families) → AreGroups groups
+    → parts_of (map text_of (listed part)) ≡ Some kept
+    → families_of (map text_of (listed families)) ≡ Some read
     → command_of (program ∷ codes "generate" ∷ option (codes "--isa") isa
-    ++ (options (codes "--cgf") groups ++ option (codes "--work") work))
-    ≡ Generate (record { isa = isa.text; groups = map text_of groups; work = work.text })
+    ++ (options (codes "--cgf") groups ++ (option (codes "--work") work
+    ++ (options (codes "--part") (listed part)
+    ++ options (codes "--families") (listed families)))))
+    ≡ Generate (record {
+      isa = isa.text;
+      groups = map text_of groups;
+      work = work.text;
+      part = kept;
+      families = read;
+    })
 
 -- the log and the steps needn't stand
 abbrev pub ReferencesAreRead : Type 0
@@ -101,62 +127,81 @@ ReferencesAreRead =
 -- the windows needn't stand
 abbrev pub CoveragesAreRead : Type 0
 CoveragesAreRead =
-    (program : List ℕ) (isa log : Value) (groups windows : List Value) (kept : List Window)
-    → AllMayStand (isa ∷ log ∷ groups) → AllMayStand windows → AreGroups groups
+    (program : List ℕ) (isa : Value) (groups logs windows : List Value) (families : Option Value)
+    (kept : List Window) (read : Families)
+    → AllMayStand (isa ∷ groups) → AllMayStand logs → AllMayStand windows
+    → AllMayStand (listed families) → AreGroups groups → AreLogs logs
     → windows_of (map text_of windows) ≡ Some kept
+    → families_of (map text_of (listed families)) ≡ Some read
     → command_of (program ∷ codes "coverage" ∷ option (codes "--isa") isa
-    ++ (options (codes "--cgf") groups
-    ++ (option (codes "--log") log ++ options (codes "--window") windows)))
+    ++ (options (codes "--cgf") groups ++ (options (codes "--log") logs
+    ++ (options (codes "--window") windows
+    ++ options (codes "--families") (listed families)))))
     ≡ Coverage (record {
       isa = isa.text;
       groups = map text_of groups;
-      log = log.text;
+      logs = map text_of logs;
       windows = kept;
+      families = read;
     })
 
 abbrev pub PropagatesAreRead : Type 0
 PropagatesAreRead =
-    (program : List ℕ) (isa log signature : Value) (groups : List Value) (range : Window)
-    → AllMayStand (isa ∷ log ∷ signature ∷ groups) → AreGroups groups
-    → window_of signature.text ≡ Some range
+    (program : List ℕ) (isa : Value) (groups logs signatures : List Value)
+    (families : Option Value) (signed : List SignedLog) (read : Families)
+    → AllMayStand (isa ∷ groups) → AllMayStand logs → AllMayStand signatures
+    → AllMayStand (listed families) → AreGroups groups → AreLogs logs
+    → signed_logs (map text_of logs) (map text_of signatures) ≡ Some signed
+    → families_of (map text_of (listed families)) ≡ Some read
     → command_of (program ∷ codes "propagate" ∷ option (codes "--isa") isa
-    ++ (options (codes "--cgf") groups
-    ++ (option (codes "--log") log ++ option (codes "--signature") signature)))
+    ++ (options (codes "--cgf") groups ++ (options (codes "--log") logs
+    ++ (options (codes "--signature") signatures
+    ++ options (codes "--families") (listed families)))))
     ≡ Propagate (record {
       isa = isa.text;
       groups = map text_of groups;
-      log = log.text;
-      signature = range;
+      logs = signed;
+      families = read;
     })
 
 abbrev pub RunsAreRead : Type 0
 RunsAreRead =
     (program : List ℕ) (isa device work : Value) (groups : List Value)
-    → AllMayStand (isa ∷ device ∷ work ∷ groups) → AreGroups groups
+    (part families : Option Value) (kept : Option PartValue) (read : Families)
+    → AllMayStand (isa ∷ device ∷ work ∷ groups) → AllMayStand (listed part)
+    → AllMayStand (listed families) → AreGroups groups
+    → parts_of (map text_of (listed part)) ≡ Some kept
+    → families_of (map text_of (listed families)) ≡ Some read
     → command_of (program ∷ codes "run" ∷ option (codes "--isa") isa
-    ++ (options (codes "--cgf") groups
-    ++ (option (codes "--device") device ++ option (codes "--work") work)))
+    ++ (options (codes "--cgf") groups ++ (option (codes "--device") device
+    ++ (option (codes "--work") work ++ (options (codes "--part") (listed part)
+    ++ options (codes "--families") (listed families))))))
     ≡ Run (record {
       program = program;
       isa = isa.text;
       groups = map text_of groups;
       device = device.text;
       work = work.text;
+      part = kept;
+      families = read;
     })
 
 abbrev pub RunsOverDatabasesAreRead : Type 0
 RunsOverDatabasesAreRead =
-    (program : List ℕ) (isa database device work : Value)
-    → AllMayStand (isa ∷ database ∷ device ∷ work ∷ [])
+    (program : List ℕ) (isa database device work : Value) (part : Option Value)
+    (kept : Option PartValue)
+    → AllMayStand (isa ∷ database ∷ device ∷ work ∷ []) → AllMayStand (listed part)
+    → parts_of (map text_of (listed part)) ≡ Some kept
     → command_of (program ∷ codes "run" ∷ option (codes "--isa") isa
-    ++ (option (codes "--database") database
-    ++ (option (codes "--device") device ++ option (codes "--work") work)))
+    ++ (option (codes "--database") database ++ (option (codes "--device") device
+    ++ (option (codes "--work") work ++ options (codes "--part") (listed part)))))
     ≡ RunDatabase (record {
       program = program;
       isa = isa.text;
       database = database.text;
       device = device.text;
       work = work.text;
+      part = kept;
     })
 
 -- a run with both group files and a database, or with neither, is no command
@@ -164,6 +209,14 @@ abbrev pub RunsHaveOneSource : Type 0
 RunsHaveOneSource =
     (program : List ℕ) (words : List (List ℕ)) (pairs : List Pair) → pairs_of words ≡ Some pairs
     → is_given (values_of (codes "--cgf") pairs) ≡ is_given (values_of (codes "--database") pairs)
+    → command_of (program ∷ codes "run" ∷ words) ≡ Unknown
+
+-- a run over a database has no families
+abbrev pub DatabasesHaveNoFamilies : Type 0
+DatabasesHaveNoFamilies =
+    (program : List ℕ) (words : List (List ℕ)) (pairs : List Pair) → pairs_of words ≡ Some pairs
+    → is_given (values_of (codes "--database") pairs) ≡ true
+    → is_given (values_of (codes "--families") pairs) ≡ true
     → command_of (program ∷ codes "run" ∷ words) ≡ Unknown
 
 abbrev pub SelectsAreRead : Type 0
@@ -204,6 +257,13 @@ OptionsChangePlaces =
     → pairs_of others ≡ Some (front ++ second ∷ first ∷ behind)
     → command_of (program ∷ name ∷ words) ≡ command_of (program ∷ name ∷ others)
 
+-- the text of a part gives it
+abbrev pub PartsAreRead : Type 0
+PartsAreRead =
+    (at of : ℕ) → 1 ≤ at → at ≤ of → of ≤ 4096
+    → parts_of ((decimal at ++ (codes "/" ++ decimal of)) ∷ [])
+    ≡ Some (Some (record { at = at; of = of }))
+
 -- the texts of windows below 2^32, of eight digits an address
 abbrev pub window_text : Window → List ℕ
 window_text window = codes "0x" ++ (hex_word_of window.lo ++ (codes ":0x" ++ hex_word_of window.hi))
@@ -217,11 +277,23 @@ WindowsAreRead =
     (windows : List Window) → length windows ≤ 16 → AreWindows windows
     → windows_of (map window_text windows) ≡ Some windows
 
--- the text of one
+-- the text of one range gives it to each log
 abbrev pub RangesAreRead : Type 0
 RangesAreRead =
-    (range : Window) → range.lo < range.hi → range.hi < 2 ^ 32
-    → window_of (window_text range) ≡ Some range
+    (names : List (List ℕ)) (range : Window) → range.lo < range.hi → range.hi < 2 ^ 32
+    → signed_logs names (window_text range ∷ [])
+    ≡ Some (map (λ name. signed_log name range) names)
+
+-- the texts of as many ranges as logs give each log its own
+abbrev pub RangesAreReadEach : Type 0
+RangesAreReadEach =
+    (names : List (List ℕ)) (ranges : List Window) → length ranges ≡ length names
+    → AreWindows ranges
+    → signed_logs names (map window_text ranges) ≡ Some (signed_each names ranges)
+
+-- families are those of the group file format alone where the option doesn't stand
+abbrev pub FamiliesAreRead : Type 0
+FamiliesAreRead = (families_of [] ≡ Some Stated) × (families_of (codes "all" ∷ []) ≡ Some All)
 
 -- the decimal text of a number of steps, which may be the next word
 abbrev pub StepsAreRead : Type 0

@@ -6,7 +6,10 @@ use Rattle.rvs_text.specs.Options.{◌>>=◌}
 use Rattle.rvs_base.specs.Digits.{short_number}
 use Rattle.rvs_base.specs.Asked.{size_of}
 use Rattle.rvs_words.specs.Words.{is_positional, is_among, options_in, values_of, only, at_most_one}
-use Rattle.rvs_words.specs.Windows.{windows_of, range_of}
+use Rattle.rvs_words.specs.Windows.{windows_of}
+use Rattle.rvs_words.specs.PartWords.{parts_of}
+use Rattle.rvs_words.specs.FamilyWords.{families_of}
+use Rattle.rvs_words.specs.LogWords.{signed_logs}
 use Rattle.rvs_words.specs.declared.command.Command.{Command}
 use Rattle.rvs_words.specs.declared.command.Command.TheVariants.{Unknown, Compare, Validate}
 use Rattle.rvs_words.specs.declared.command.Command.TheVariants.{Normalize, Generate, Reference}
@@ -41,6 +44,10 @@ some_of most values = if nat_le 1 (length values) && nat_le (length values) most
 abbrev pub most_groups : ℕ
 most_groups = 64
 
+-- so many execution logs may be named
+abbrev pub most_logs : ℕ
+most_logs = 4096
+
 -- the values of each option, by its name
 abbrev pub Values : Type 0
 Values = List ℕ → List (List ℕ)
@@ -67,23 +74,32 @@ validate_of values = do
   Some (Validate (record { isa = isa }))
 
 abbrev pub normalize_options : List (List ℕ)
-normalize_options = codes "--isa" ∷ codes "--cgf" ∷ []
+normalize_options = codes "--isa" ∷ codes "--cgf" ∷ codes "--families" ∷ []
 
 abbrev pub normalize_of : Values → Option Command
 normalize_of values = do
   isa ← only (values (codes "--isa"))
   groups ← some_of most_groups (values (codes "--cgf"))
-  Some (Normalize (record { isa = isa; groups = groups }))
+  families ← families_of (values (codes "--families"))
+  Some (Normalize (record { isa = isa; groups = groups; families = families }))
 
 abbrev pub generate_options : List (List ℕ)
-generate_options = codes "--isa" ∷ codes "--cgf" ∷ codes "--work" ∷ []
+generate_options = codes "--isa" ∷ codes "--cgf" ∷ codes "--work" ∷ codes "--part" ∷ codes "--families" ∷ []
 
 abbrev pub generate_of : Values → Option Command
 generate_of values = do
   isa ← only (values (codes "--isa"))
   groups ← some_of most_groups (values (codes "--cgf"))
   work ← only (values (codes "--work"))
-  Some (Generate (record { isa = isa; groups = groups; work = work }))
+  part ← parts_of (values (codes "--part"))
+  families ← families_of (values (codes "--families"))
+  Some (Generate (record {
+    isa = isa;
+    groups = groups;
+    work = work;
+    part = part;
+    families = families;
+  }))
 
 abbrev pub reference_options : List (List ℕ)
 reference_options =
@@ -101,28 +117,36 @@ reference_of values = do
       (record { isa = isa; test = test; signature = signature; log = log; steps = steps }))
 
 abbrev pub coverage_options : List (List ℕ)
-coverage_options = codes "--isa" ∷ codes "--cgf" ∷ codes "--log" ∷ codes "--window" ∷ []
+coverage_options = codes "--isa" ∷ codes "--cgf" ∷ codes "--log" ∷ codes "--window" ∷ codes "--families" ∷ []
 
 -- the windows needn't stand
 abbrev pub coverage_of : Values → Option Command
 coverage_of values = do
   isa ← only (values (codes "--isa"))
   groups ← some_of most_groups (values (codes "--cgf"))
-  log ← only (values (codes "--log"))
+  logs ← some_of most_logs (values (codes "--log"))
   windows ← windows_of (values (codes "--window"))
-  Some (Coverage (record { isa = isa; groups = groups; log = log; windows = windows }))
+  families ← families_of (values (codes "--families"))
+  Some (Coverage (record {
+    isa = isa;
+    groups = groups;
+    logs = logs;
+    windows = windows;
+    families = families;
+  }))
 
 abbrev pub propagate_options : List (List ℕ)
-propagate_options = codes "--isa" ∷ codes "--cgf" ∷ codes "--log" ∷ codes "--signature" ∷ []
+propagate_options = codes "--isa" ∷ codes "--cgf" ∷ codes "--log" ∷ codes "--signature" ∷ codes "--families" ∷ []
 
--- the range of the signature stands once
+-- the range of the signature stands once, or once for each log
 abbrev pub propagate_of : Values → Option Command
 propagate_of values = do
   isa ← only (values (codes "--isa"))
   groups ← some_of most_groups (values (codes "--cgf"))
-  log ← only (values (codes "--log"))
-  signature ← range_of (values (codes "--signature"))
-  Some (Propagate (record { isa = isa; groups = groups; log = log; signature = signature }))
+  logs ← some_of most_logs (values (codes "--log"))
+  signed ← signed_logs logs (values (codes "--signature"))
+  families ← families_of (values (codes "--families"))
+  Some (Propagate (record { isa = isa; groups = groups; logs = signed; families = families }))
 
 abbrev pub select_options : List (List ℕ)
 select_options = codes "--isa" ∷ codes "--database" ∷ []
@@ -135,7 +159,8 @@ select_of values = do
 
 abbrev pub run_options : List (List ℕ)
 run_options =
-    codes "--isa" ∷ codes "--cgf" ∷ codes "--database" ∷ codes "--device" ∷ codes "--work" ∷ []
+    codes "--isa" ∷ codes "--cgf" ∷ codes "--database" ∷ codes "--device" ∷ codes "--work"
+    ∷ codes "--part" ∷ codes "--families" ∷ []
 
 -- the program's own name stands for it in the words of a device
 abbrev pub run_groups_of : List ℕ → Values → Option Command
@@ -144,8 +169,17 @@ run_groups_of program values = do
   groups ← some_of most_groups (values (codes "--cgf"))
   device ← only (values (codes "--device"))
   work ← only (values (codes "--work"))
-  Some (Run
-      (record { program = program; isa = isa; groups = groups; device = device; work = work }))
+  part ← parts_of (values (codes "--part"))
+  families ← families_of (values (codes "--families"))
+  Some (Run (record {
+    program = program;
+    isa = isa;
+    groups = groups;
+    device = device;
+    work = work;
+    part = part;
+    families = families;
+  }))
 
 abbrev pub run_database_of : List ℕ → Values → Option Command
 run_database_of program values = do
@@ -153,18 +187,27 @@ run_database_of program values = do
   database ← only (values (codes "--database"))
   device ← only (values (codes "--device"))
   work ← only (values (codes "--work"))
-  Some (RunDatabase
-      (record { program = program; isa = isa; database = database; device = device; work = work }))
+  part ← parts_of (values (codes "--part"))
+  Some (RunDatabase (record {
+    program = program;
+    isa = isa;
+    database = database;
+    device = device;
+    work = work;
+    part = part;
+  }))
 
 -- whether an option stands
 abbrev pub is_given : List (List ℕ) → Bool
 is_given [] = false
 is_given (value ∷ values) = true
 
--- a run takes its tests from group files or from a database, and not from both
+-- a run takes its tests from group files or from a database, and not from both; only the former
+-- have families
 abbrev pub run_of : List ℕ → Values → Option Command
 run_of program values = if is_given (values (codes "--database")) then
-    (if is_given (values (codes "--cgf")) then None else run_database_of program values)
+    (if is_given (values (codes "--cgf")) then None
+    else (if is_given (values (codes "--families")) then None else run_database_of program values))
     else run_groups_of program values
 
 -- how many instructions are to be generated, from 1 to 1,000,000

@@ -4,7 +4,6 @@ use Rattle.std.specs.Prelude.{length, take, drop, position, Option, Some, None}
 use Rattle.std.specs.Option.{option_map, option_and_then}
 use Rattle.rvs_base.specs.Digits.{short_number}
 use Rattle.rvs_base.specs.declared.asked.Window.{Window}
-use Rattle.rvs_words.specs.Words.{only}
 
 -- an address: `0x` and one to eight hexadecimal digits
 abbrev pub address_of : List ℕ → Option ℕ
@@ -35,7 +34,3 @@ all_windows (text ∷ texts) = with_window (window_of text) (all_windows texts)
 -- as many windows as texts, and no more than 16
 abbrev pub windows_of : List (List ℕ) → Option (List Window)
 windows_of texts = if nat_le (length texts) 16 then all_windows texts else None
-
--- a range that stands once
-abbrev pub range_of : List (List ℕ) → Option Window
-range_of texts = option_and_then window_of (only texts)

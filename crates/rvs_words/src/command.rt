@@ -1,5 +1,7 @@
 // What a command line asks for.
+use rvs_abstract::Families;
 use rvs_base::{DemoSize, Items, Text, Window};
+use rvs_parts::Part;
 
 /// A command with what it is given.
 #[derive(Drop)]
@@ -16,7 +18,7 @@ pub enum Command {
     Generate(GenerateArguments),
     /// Run a test on the reference machine, and write its signature.
     Reference(ReferenceArguments),
-    /// Count which coverage points the instructions of a log hit.
+    /// Count which coverage points the instructions of logs hit.
     Coverage(CoverageArguments),
     /// Count how many hits of coverage points have their result stored in the signature.
     Propagate(PropagateArguments),
@@ -53,6 +55,8 @@ pub struct NormalizeArguments {
     pub isa: Text,
     /// The group files, one to 64, in the order in which they are joined.
     pub groups: Items<Text>,
+    /// Which families of the groups' abstract points are read.
+    pub families: Families,
 }
 
 /// What `generate` is given.
@@ -64,6 +68,10 @@ pub struct GenerateArguments {
     pub groups: Items<Text>,
     /// The folder of the tests, which has to be there.
     pub work: Text,
+    /// The part of the labels, where one is asked for.
+    pub part: Option<Part>,
+    /// Which families of the groups' abstract points are read.
+    pub families: Families,
 }
 
 /// What `reference` is given.
@@ -88,10 +96,12 @@ pub struct CoverageArguments {
     pub isa: Text,
     /// The group files, one to 64, in the order in which they are joined.
     pub groups: Items<Text>,
-    /// The execution log.
-    pub log: Text,
+    /// The execution logs, one to 4,096, in their order.
+    pub logs: Items<Text>,
     /// The windows of addresses whose instructions are counted, up to 16; all where there are none.
     pub windows: Items<Window>,
+    /// Which families of the groups' abstract points are read.
+    pub families: Families,
 }
 
 /// What `propagate` is given.
@@ -101,8 +111,17 @@ pub struct PropagateArguments {
     pub isa: Text,
     /// The group files, one to 64, in the order in which they are joined.
     pub groups: Items<Text>,
-    /// The execution log.
-    pub log: Text,
+    /// The execution logs, one to 4,096, in their order, each with its signature.
+    pub logs: Items<SignedLog>,
+    /// Which families of the groups' abstract points are read.
+    pub families: Families,
+}
+
+/// An execution log of a test that leaves a signature.
+#[derive(Drop)]
+pub struct SignedLog {
+    /// The log's file.
+    pub name: Text,
     /// The addresses of the signature.
     pub signature: Window,
 }
@@ -120,6 +139,10 @@ pub struct RunArguments {
     pub device: Text,
     /// The folder of the tests and signatures, which has to be there.
     pub work: Text,
+    /// The part of the labels, where one is asked for.
+    pub part: Option<Part>,
+    /// Which families of the groups' abstract points are read.
+    pub families: Families,
 }
 
 /// What `run` is given, where it is over a database.
@@ -135,6 +158,8 @@ pub struct RunDatabaseArguments {
     pub device: Text,
     /// The folder of the signatures, which has to be there.
     pub work: Text,
+    /// The part of the tests, where one is asked for.
+    pub part: Option<Part>,
 }
 
 /// What `select` is given.

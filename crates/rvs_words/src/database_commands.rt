@@ -6,7 +6,9 @@ ghost use Rattle.rvs_words.specs.Commands.{run_options, run_groups_of, run_datab
 ghost use Rattle.rvs_words.specs.Reading.{Answers};
 
 use crate::command::{Command, RunArguments, RunDatabaseArguments, SelectArguments};
+use crate::families::read_families;
 use crate::group_commands::group_files;
+use crate::parts::read_part;
 use crate::unread::Unread;
 use crate::words::{Pair, only_value, owned, read_options, values};
 use rvs_base::NoMemory;
@@ -36,7 +38,15 @@ pub fn read_select(alloc: Global, words: &[String]) -> Result<Command, Unread>
 pub fn read_run(alloc: Global, program: &str, words: &[String]) -> Result<Command, Unread>
     ensures { Answers result (with_options run_options (run_of program.now) (texts words.now)) }
 {
-    let names = ["--isa", "--cgf", "--database", "--device", "--work"];
+    let names = [
+        "--isa",
+        "--cgf",
+        "--database",
+        "--device",
+        "--work",
+        "--part",
+        "--families",
+    ];
     let options = read_options(alloc, words, &names)?;
     read_source(alloc, program, options.as_slice())
 }
@@ -45,14 +55,15 @@ pub fn read_run(alloc: Global, program: &str, words: &[String]) -> Result<Comman
 ///
 /// # Errors
 ///
-/// [`Unread`]: `NoCommand` also where there are both group files and a database, or neither.
+/// [`Unread`]: `NoCommand` also where there are both group files and a database, or neither, and
+/// where families are given with a database.
 fn read_source(alloc: Global, program: &str, pairs: &[Pair]) -> Result<Command, Unread>
     ensures { Answers result (run_of program.now (λ name. values_of name pairs.now)) }
 {
     if !is_given(alloc, pairs, "--database")? {
         return run_groups(alloc, program, pairs);
     }
-    if is_given(alloc, pairs, "--cgf")? {
+    if is_given(alloc, pairs, "--cgf")? || is_given(alloc, pairs, "--families")? {
         return Err(Unread::NoCommand);
     }
     run_database(alloc, program, pairs)
@@ -81,6 +92,8 @@ fn run_groups(alloc: Global, program: &str, pairs: &[Pair]) -> Result<Command, U
     let groups = group_files(alloc, pairs)?;
     let device = only_value(alloc, pairs, "--device")?;
     let work = only_value(alloc, pairs, "--work")?;
+    let part = read_part(alloc, pairs)?;
+    let families = read_families(alloc, pairs)?;
     let program = owned(alloc, program)?;
     Ok(Command::Run(RunArguments {
         program,
@@ -88,6 +101,8 @@ fn run_groups(alloc: Global, program: &str, pairs: &[Pair]) -> Result<Command, U
         groups,
         device,
         work,
+        part,
+        families,
     }))
 }
 
@@ -103,6 +118,7 @@ fn run_database(alloc: Global, program: &str, pairs: &[Pair]) -> Result<Command,
     let database = only_value(alloc, pairs, "--database")?;
     let device = only_value(alloc, pairs, "--device")?;
     let work = only_value(alloc, pairs, "--work")?;
+    let part = read_part(alloc, pairs)?;
     let program = owned(alloc, program)?;
     Ok(Command::RunDatabase(RunDatabaseArguments {
         program,
@@ -110,5 +126,6 @@ fn run_database(alloc: Global, program: &str, pairs: &[Pair]) -> Result<Command,
         database,
         device,
         work,
+        part,
     }))
 }

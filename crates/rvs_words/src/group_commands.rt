@@ -1,24 +1,33 @@
 // The command lines that name coverage group files.
 ghost use Rattle.std.specs.Prelude.{◌≡◌, codes};
 ghost use Rattle.rvs_words.specs.Words.{texts, values_of};
-ghost use Rattle.rvs_words.specs.Commands.{some_of, most_groups, with_options, normalize_options};
+ghost use Rattle.rvs_words.specs.Commands.{some_of, most_groups, most_logs, with_options};
+ghost use Rattle.rvs_words.specs.Commands.{normalize_options};
 ghost use Rattle.rvs_words.specs.Commands.{normalize_of, generate_options, generate_of};
 ghost use Rattle.rvs_words.specs.Commands.{coverage_options, coverage_of};
 ghost use Rattle.rvs_words.specs.Commands.{propagate_options, propagate_of};
-ghost use Rattle.rvs_words.specs.Windows.{windows_of, range_of};
+ghost use Rattle.rvs_words.specs.Windows.{windows_of};
+ghost use Rattle.rvs_words.specs.LogWords.{signed_logs};
 ghost use Rattle.rvs_words.specs.Reading.{Answers};
 
 use crate::command::{
     Command, CoverageArguments, GenerateArguments, NormalizeArguments, PropagateArguments,
+    SignedLog,
 };
+use crate::families::read_families;
+use crate::logs::with_signatures;
+use crate::parts::read_part;
 use crate::unread::Unread;
-use crate::windows::{read_range, read_windows};
+use crate::windows::read_windows;
 use crate::words::{Pair, only_value, read_options, values};
 use rvs_base::{Items, Text, Window};
 use std::alloc::Global;
 
 /// The most group files that may be named.
 const MOST_GROUPS: usize = 64;
+
+/// The most execution logs that may be named.
+const MOST_LOGS: usize = 4096;
 
 /// Reads the words behind `normalize`.
 ///
@@ -28,11 +37,12 @@ const MOST_GROUPS: usize = 64;
 pub fn read_normalize(alloc: Global, words: &[String]) -> Result<Command, Unread>
     ensures { Answers result (with_options normalize_options normalize_of (texts words.now)) }
 {
-    let options = read_options(alloc, words, &["--isa", "--cgf"])?;
+    let options = read_options(alloc, words, &["--isa", "--cgf", "--families"])?;
     let pairs = options.as_slice();
     Ok(Command::Normalize(NormalizeArguments {
         isa: only_value(alloc, pairs, "--isa")?,
         groups: group_files(alloc, pairs)?,
+        families: read_families(alloc, pairs)?,
     }))
 }
 
@@ -59,12 +69,15 @@ pub fn group_files(alloc: Global, pairs: &[Pair]) -> Result<Items<Text>, Unread>
 pub fn read_generate(alloc: Global, words: &[String]) -> Result<Command, Unread>
     ensures { Answers result (with_options generate_options generate_of (texts words.now)) }
 {
-    let options = read_options(alloc, words, &["--isa", "--cgf", "--work"])?;
+    let names = ["--isa", "--cgf", "--work", "--part", "--families"];
+    let options = read_options(alloc, words, &names)?;
     let pairs = options.as_slice();
     Ok(Command::Generate(GenerateArguments {
         isa: only_value(alloc, pairs, "--isa")?,
         groups: group_files(alloc, pairs)?,
         work: only_value(alloc, pairs, "--work")?,
+        part: read_part(alloc, pairs)?,
+        families: read_families(alloc, pairs)?,
     }))
 }
 
@@ -76,14 +89,31 @@ pub fn read_generate(alloc: Global, words: &[String]) -> Result<Command, Unread>
 pub fn read_coverage(alloc: Global, words: &[String]) -> Result<Command, Unread>
     ensures { Answers result (with_options coverage_options coverage_of (texts words.now)) }
 {
-    let options = read_options(alloc, words, &["--isa", "--cgf", "--log", "--window"])?;
+    let names = ["--isa", "--cgf", "--log", "--window", "--families"];
+    let options = read_options(alloc, words, &names)?;
     let pairs = options.as_slice();
     Ok(Command::Coverage(CoverageArguments {
         isa: only_value(alloc, pairs, "--isa")?,
         groups: group_files(alloc, pairs)?,
-        log: only_value(alloc, pairs, "--log")?,
+        logs: log_files(alloc, pairs)?,
         windows: given_windows(alloc, pairs)?,
+        families: read_families(alloc, pairs)?,
     }))
+}
+
+/// The values of `--log`.
+///
+/// # Errors
+///
+/// [`Unread`]: `NoCommand` where it doesn't stand, or stands more than 4,096 times.
+fn log_files(alloc: Global, pairs: &[Pair]) -> Result<Items<Text>, Unread>
+    ensures { Answers result (some_of most_logs (values_of (codes "--log") pairs.now)) }
+{
+    let files = values(alloc, pairs, "--log")?;
+    match files.as_slice().len() {
+        1..=MOST_LOGS => Ok(files),
+        _ => Err(Unread::NoCommand),
+    }
 }
 
 /// The windows that the values of `--window` spell.
@@ -106,24 +136,35 @@ fn given_windows(alloc: Global, pairs: &[Pair]) -> Result<Items<Window>, Unread>
 pub fn read_propagate(alloc: Global, words: &[String]) -> Result<Command, Unread>
     ensures { Answers result (with_options propagate_options propagate_of (texts words.now)) }
 {
-    let options = read_options(alloc, words, &["--isa", "--cgf", "--log", "--signature"])?;
+    let names = ["--isa", "--cgf", "--log", "--signature", "--families"];
+    let options = read_options(alloc, words, &names)?;
     let pairs = options.as_slice();
+    let isa = only_value(alloc, pairs, "--isa")?;
+    let groups = group_files(alloc, pairs)?;
+    let names = log_files(alloc, pairs)?;
+    let logs = given_signatures(alloc, pairs, names.as_slice())?;
+    let families = read_families(alloc, pairs)?;
     Ok(Command::Propagate(PropagateArguments {
-        isa: only_value(alloc, pairs, "--isa")?,
-        groups: group_files(alloc, pairs)?,
-        log: only_value(alloc, pairs, "--log")?,
-        signature: given_range(alloc, pairs)?,
+        isa,
+        groups,
+        logs,
+        families,
     }))
 }
 
-/// The range of addresses that the value of `--signature` spells.
+/// The logs of these names, each with the range that a value of `--signature` spells.
 ///
 /// # Errors
 ///
-/// [`Unread`]: `NoCommand` where it spells none, or doesn't stand once.
-fn given_range(alloc: Global, pairs: &[Pair]) -> Result<Window, Unread>
-    ensures { Answers result (range_of (values_of (codes "--signature") pairs.now)) }
+/// [`Unread`]: `NoCommand` where a value spells none, or where there is neither one nor one for
+/// each log.
+fn given_signatures(
+    alloc: Global,
+    pairs: &[Pair],
+    names: &[Text],
+) -> Result<Items<SignedLog>, Unread>
+    ensures { Answers result (signed_logs names.now (values_of (codes "--signature") pairs.now)) }
 {
-    let spelled = only_value(alloc, pairs, "--signature")?;
-    read_range(spelled.as_str())
+    let spelled = values(alloc, pairs, "--signature")?;
+    with_signatures(alloc, names, spelled.as_slice())
 }

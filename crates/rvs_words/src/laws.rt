@@ -3,13 +3,16 @@ ghost use Rattle.rvs_words.specs.CommandLaws.{ComparesAreRead, ValidatesAreRead,
 ghost use Rattle.rvs_words.specs.CommandLaws.{GeneratesAreRead, ReferencesAreRead};
 ghost use Rattle.rvs_words.specs.CommandLaws.{CoveragesAreRead, PropagatesAreRead, RunsAreRead};
 ghost use Rattle.rvs_words.specs.CommandLaws.{RunsOverDatabasesAreRead, RunsHaveOneSource};
+ghost use Rattle.rvs_words.specs.CommandLaws.{DatabasesHaveNoFamilies};
 ghost use Rattle.rvs_words.specs.CommandLaws.{SelectsAreRead, DemosAreRead};
 ghost use Rattle.rvs_words.specs.CommandLaws.{OptionsArePairs, OptionsChangePlaces, StepsAreRead};
 ghost use Rattle.rvs_words.specs.CommandLaws.{CountsAreRead, WindowsAreRead, RangesAreRead};
+ghost use Rattle.rvs_words.specs.CommandLaws.{RangesAreReadEach, PartsAreRead, FamiliesAreRead};
 
 /// The words of each command, with its options in the usual order, ask for that command with these
 /// values, for all names: whichever form each option has, with any list of one to 64 group files,
-/// and with or without the log, the steps and the windows.
+/// any list of one to 4,096 logs to count, and with or without the log of a run, the steps, the
+/// windows, the part and the families.
 pub fn commands_are_read()
     ensures compare { ComparesAreRead }
     ensures validate { ValidatesAreRead }
@@ -21,6 +24,7 @@ pub fn commands_are_read()
     ensures run { RunsAreRead }
     ensures run_database { RunsOverDatabasesAreRead }
     ensures run_source { RunsHaveOneSource }
+    ensures run_families { DatabasesHaveNoFamilies }
     ensures select { SelectsAreRead }
     ensures demo { DemosAreRead }
 {}
@@ -33,10 +37,14 @@ pub fn options_stand_in_any_order()
 {}
 
 /// The decimal text of a number within the limit gives that number, the texts of up to 16 windows
-/// give these windows, and the text of a range gives it.
+/// give these windows, the text of one range gives it to all logs, the texts of as many ranges as
+/// logs give each its own, and the text of a part gives it.
 pub fn numbers_are_read()
     ensures steps { StepsAreRead }
     ensures count { CountsAreRead }
     ensures windows { WindowsAreRead }
     ensures range { RangesAreRead }
+    ensures ranges { RangesAreReadEach }
+    ensures part { PartsAreRead }
+    ensures families { FamiliesAreRead }
 {}

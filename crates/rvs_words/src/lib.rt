@@ -3,8 +3,11 @@
 
 mod command;
 mod database_commands;
+mod families;
 mod group_commands;
 mod laws;
+mod logs;
+mod parts;
 mod reading;
 mod unread;
 mod windows;
@@ -13,7 +16,7 @@ mod words;
 pub use command::{
     Command, CompareArguments, CoverageArguments, GenerateArguments, NormalizeArguments,
     PropagateArguments, ReferenceArguments, RunArguments, RunDatabaseArguments, SelectArguments,
-    ValidateArguments,
+    SignedLog, ValidateArguments,
 };
 pub use laws::{commands_are_read, numbers_are_read, options_stand_in_any_order};
 pub use reading::read_command;

@@ -1,7 +1,7 @@
 // Windows of addresses on the command line.
 ghost use Rattle.std.specs.Prelude.{◌≡◌};
 ghost use Rattle.rvs_words.specs.Reading.{Answers};
-ghost use Rattle.rvs_words.specs.Windows.{address_of, window_of, windows_of};
+ghost use Rattle.rvs_words.specs.Windows.{address_of, window_of, all_windows, windows_of};
 
 use crate::unread::Unread;
 use rvs_base::{Items, Text, Window, cut, short_number};
@@ -21,23 +21,23 @@ pub fn read_windows(alloc: Global, texts: &[Text]) -> Result<Items<Window>, Unre
     if texts.len() > MOST_WINDOWS {
         return Err(Unread::NoCommand);
     }
+    read_ranges(alloc, texts)
+}
+
+/// The ranges of addresses that these words spell, each `LO:HI`.
+///
+/// # Errors
+///
+/// [`Unread`]: `NoCommand` where one spells none.
+pub fn read_ranges(alloc: Global, texts: &[Text]) -> Result<Items<Window>, Unread>
+    ensures { Answers result (all_windows texts.now) }
+{
     let mut windows = Items::new(alloc);
     for text in texts {
         let window = window_in(text.as_str().as_bytes()).ok_or(Unread::NoCommand)?;
         windows.push(window)?;
     }
     Ok(windows)
-}
-
-/// The range of addresses that a word spells, `LO:HI`.
-///
-/// # Errors
-///
-/// [`Unread`]: `NoCommand` where it spells none.
-pub fn read_range(text: &str) -> Result<Window, Unread>
-    ensures { Answers result (window_of text.now) }
-{
-    window_in(text.as_bytes()).ok_or(Unread::NoCommand)
 }
 
 /// A window: two addresses, the first below the second, with a colon between.

@@ -10,26 +10,19 @@ use Rattle.rvs_count.specs.State.{CountState, state_of, ended}
 use Rattle.rvs_base.specs.declared.asked.Window.{Window as Span}
 use Rattle.rvs_count.proofs.Ends.{fed_of}
 use Rattle.rvs_suite.specs.GroupsView.{groups_view}
-use Rattle.rvs_suite.specs.Coverage.{reports, report_found}
+use Rattle.rvs_suite.specs.Coverage.{counted_with}
 use Rattle.rvs_log.specs.Lines.{log_limit}
-use Rattle.rvs_suite.specs.LogReport.{log_bound}
+use Rattle.rvs_suite.specs.LogReport.{log_bound, with_found}
 use Rattle.rvs_suite.proofs.LogReads.{accepts-log, refuses-log, at_most-log}
 use Rattle.rvs_suite.proofs.covering.count_with.Goals as goal
 
-pub returns-in_err-name : goal.returns-in_err-name
-returns-in_err-name g c = λ out groups windows begun few.
+pub returns-in_err-name-clause-met : goal.returns-in_err-name-clause-met
+returns-in_err-name-clause-met g c = λ out groups windows begun few.
     let p = err_from_is_err_and c.from_residual.result c.from_residual.ensures.1 in
     rw (p.1, p.2) (Meets-no_memory _ (world (g.H.Host.state c.args.host.now) out))
 
-pub returns-in_err-report_at_end-in-Ok : goal.returns-in_err-report_at_end-in-Ok
-returns-in_err-report_at_end-in-Ok g c = λ out groups windows begun few.
-    let p = err_from_is_err_and c.from_residual-in_err-report_at_end-in-Ok.result
-    c.from_residual-in_err-report_at_end-in-Ok.ensures.1 in
-    rw (p.1, p.2) (asks-no_memory out _ log_bound _ c.in-Ok.ensures.reads_only
-    c.in-Ok.ensures.unfaulted (at_most-log c.args.counter.now.fed c.in-Ok.ensures.at_most))
-
-pub returns-in_err-too_long-in-Err-TooLong : goal.returns-in_err-too_long-in-Err-TooLong
-returns-in_err-too_long-in-Err-TooLong g c = λ out groups windows begun few.
+pub returns-in_err-too_long-in-Err-TooLong-clause-met : goal.returns-in_err-too_long-in-Err-TooLong-clause-met
+returns-in_err-too_long-in-Err-TooLong-clause-met g c = λ out groups windows begun few.
     let p = err_from_is_err_and c.from_residual-in_err-too_long-in-Err-TooLong.result
     c.from_residual-in_err-too_long-in-Err-TooLong.ensures.1 in
     rw (p.1, p.2) (asks-no_memory out _ log_bound _ c.in-Err-TooLong.ensures.reads_only
@@ -44,37 +37,46 @@ short groups windows bytes after c is within = let fed : c.fed ≡ 0 + length by
     ap (λ (s : CountState). s.fed) is ∙ fed_of groups windows after (0 + length bytes) in
     omega (arith, fed, within)
 
-pub returns-in_ok-report_at_end-in-Ok : goal.returns-in_ok-report_at_end-in-Ok
-returns-in_ok-report_at_end-in-Ok g c = λ out groups windows begun few.
+pub returns-in_err-with_ended-in-Ok-clause-met : goal.returns-in_err-with_ended-in-Ok-clause-met
+returns-in_err-with_ended-in-Ok-clause-met g c = λ out groups windows begun few.
+    let p = err_from_is_err_and c.from_residual-in_err-with_ended-in-Ok.result
+    c.from_residual-in_err-with_ended-in-Ok.ensures.1 in
+    rw (p.1, p.2) (asks-no_memory out _ log_bound _ c.in-Ok.ensures.reads_only
+    c.in-Ok.ensures.unfaulted (at_most-log c.args.counter.now.fed c.in-Ok.ensures.at_most))
+
+pub returns-in-Ok-clause-met : goal.returns-in-Ok-clause-met
+returns-in-Ok-clause-met g c = λ out groups windows begun few.
     let name = c.args.log.now in
     let feeds = c.in-Ok.ensures.whole in
     let fed = feeds.fed.state groups windows [] 0 begun in
-    let text = c.in_ok-report_at_end-in-Ok.ensures.report groups windows feeds.bytes
+    let now = c.in_ok-with_ended-in-Ok.field-0 in
+    let with = c.in_ok-with_ended-in-Ok.ensures.counted groups windows feeds.bytes
     (0 + length feeds.bytes) fed in
-    let at_end = c.in_ok-report_at_end-in-Ok.ensures.state groups windows feeds.bytes
+    let at_end = c.with_ended.ensures.state groups windows feeds.bytes
     (0 + length feeds.bytes) fed in
-    let within = short groups windows feeds.bytes (ended feeds.bytes) c.report_at_end.new.counter
+    let within = short groups windows feeds.bytes (ended feeds.bytes) c.with_ended.new.counter
     at_end few in
-    asks-accepted out name log_bound (report_found (groups_view groups) windows name) feeds.bytes
-    c.in_ok-report_at_end-in-Ok.field-0 c.in-Ok.ensures.reads_only feeds.whole
-    (accepts-log (reports windows) (groups_view groups) name feeds.bytes
-    c.in_ok-report_at_end-in-Ok.field-0 within text)
+    asks-accepted out name log_bound
+    (with_found (counted_with windows (groups_view groups)) c.args.counted name) feeds.bytes
+    now c.in-Ok.ensures.reads_only feeds.whole
+    (accepts-log (counted_with windows (groups_view groups)) c.args.counted name feeds.bytes
+    now within with)
     c.in-Ok.ensures.unfaulted (at_most-log c.args.counter.now.fed c.in-Ok.ensures.at_most)
 
-pub returns-in-Err-NoFile : goal.returns-in-Err-NoFile
-returns-in-Err-NoFile g c = λ out groups windows begun few.
+pub returns-in-Err-NoFile-clause-met : goal.returns-in-Err-NoFile-clause-met
+returns-in-Err-NoFile-clause-met g c = λ out groups windows begun few.
     let name = c.args.log.now in
     rw c.in_ok-name.ensures (asks-absent out name log_bound
-    (report_found (groups_view groups) windows name)
+    (with_found (counted_with windows (groups_view groups)) c.args.counted name)
     c.in-Err-NoFile.ensures.reads_only
     (rw c.in-Err-NoFile.field-0-is at c.in-Err-NoFile.ensures.cause).0 refl
     (at_most-log c.args.counter.now.fed c.in-Err-NoFile.ensures.at_most))
 
-pub returns-in-Err-Failed : goal.returns-in-Err-Failed
-returns-in-Err-Failed g c = λ out groups windows begun few.
+pub returns-in-Err-Failed-clause-met : goal.returns-in-Err-Failed-clause-met
+returns-in-Err-Failed-clause-met g c = λ out groups windows begun few.
     let name = c.args.log.now in
     rw c.in_ok-name.ensures (asks-failed out name log_bound
-    (report_found (groups_view groups) windows name)
+    (with_found (counted_with windows (groups_view groups)) c.args.counted name)
     c.in-Err-Failed.ensures.reads_only
     (rw c.in-Err-Failed.field-0-is at c.in-Err-Failed.ensures.cause)
     (at_most-log c.args.counter.now.fed c.in-Err-Failed.ensures.at_most))
@@ -83,19 +85,20 @@ longer : (c : CountState) (bytes : List ℕ) → c.fed ≡ 0 → 2 ^ 40 < c.fed 
     → log_limit < length bytes
 longer c bytes new long = omega arith
 
-pub returns-in_ok-too_long-in-Err-TooLong : goal.returns-in_ok-too_long-in-Err-TooLong
-returns-in_ok-too_long-in-Err-TooLong g c = λ out groups windows begun few.
+pub returns-clause-met : goal.returns-clause-met
+returns-clause-met g c = λ out groups windows begun few.
     let name = c.args.log.now in
     let cause = rw c.in-Err-TooLong.field-0-is at c.in-Err-TooLong.ensures.cause in
     let text : c.in_ok-too_long-in-Err-TooLong.field-0 ≡ too_long_text name log_limit =
     c.in_ok-too_long-in-Err-TooLong.ensures in
     let new = ap (λ (s : CountState). s.fed) begun ∙ fed_of groups windows [] 0 in
-    asks-refused out name log_bound (report_found (groups_view groups) windows name)
+    asks-refused out name log_bound
+    (with_found (counted_with windows (groups_view groups)) c.args.counted name)
     c.in_ok-too_long-in-Err-TooLong.field-0 c.in-Err-TooLong.ensures.reads_only
     (λ files t. let long = cause.0.longer files t in (
       long.0,
       long.1,
-      refuses-log (reports windows) (groups_view groups) name long.0
+      refuses-log (counted_with windows (groups_view groups)) c.args.counted name long.0
           c.in_ok-too_long-in-Err-TooLong.field-0
           (longer c.args.counter.now long.0 new long.2) text,
     )) cause.1 (at_most-log c.args.counter.now.fed c.in-Err-TooLong.ensures.at_most)

@@ -11,25 +11,18 @@ use Rattle.rvs_prop.specs.State.{TrackState, state_of}
 use Rattle.rvs_prop.proofs.Ends.{fed_of}
 use Rattle.rvs_suite.specs.GroupsView.{groups_view}
 use Rattle.rvs_log.specs.Lines.{log_limit}
-use Rattle.rvs_suite.specs.LogReport.{log_bound, found_by}
-use Rattle.rvs_suite.specs.Propagate.{reports}
+use Rattle.rvs_suite.specs.LogReport.{log_bound, with_found}
+use Rattle.rvs_suite.specs.Propagate.{tracked_with}
 use Rattle.rvs_suite.proofs.LogReads.{accepts-log, refuses-log, at_most-log}
 use Rattle.rvs_suite.proofs.propagating.track_with.Goals as goal
 
-pub returns-in_err-name : goal.returns-in_err-name
-returns-in_err-name g c = λ out groups range begun few.
+pub returns-in_err-name-clause-met : goal.returns-in_err-name-clause-met
+returns-in_err-name-clause-met g c = λ out groups range begun few.
     let p = err_from_is_err_and c.from_residual.result c.from_residual.ensures.1 in
     rw (p.1, p.2) (Meets-no_memory _ (world (g.H.Host.state c.args.host.now) out))
 
-pub returns-in_err-report_at_end-in-Ok : goal.returns-in_err-report_at_end-in-Ok
-returns-in_err-report_at_end-in-Ok g c = λ out groups range begun few.
-    let p = err_from_is_err_and c.from_residual-in_err-report_at_end-in-Ok.result
-    c.from_residual-in_err-report_at_end-in-Ok.ensures.1 in
-    rw (p.1, p.2) (asks-no_memory out _ log_bound _ c.in-Ok.ensures.reads_only
-    c.in-Ok.ensures.unfaulted (at_most-log c.args.tracker.now.fed c.in-Ok.ensures.at_most))
-
-pub returns-in_err-too_long-in-Err-TooLong : goal.returns-in_err-too_long-in-Err-TooLong
-returns-in_err-too_long-in-Err-TooLong g c = λ out groups range begun few.
+pub returns-in_err-too_long-in-Err-TooLong-clause-met : goal.returns-in_err-too_long-in-Err-TooLong-clause-met
+returns-in_err-too_long-in-Err-TooLong-clause-met g c = λ out groups range begun few.
     let p = err_from_is_err_and c.from_residual-in_err-too_long-in-Err-TooLong.result
     c.from_residual-in_err-too_long-in-Err-TooLong.ensures.1 in
     rw (p.1, p.2) (asks-no_memory out _ log_bound _ c.in-Err-TooLong.ensures.reads_only
@@ -44,39 +37,46 @@ short groups lo hi bytes after c is within = let fed : c.fed ≡ 0 + length byte
     ap (λ (s : TrackState). s.fed) is ∙ fed_of groups lo hi after (0 + length bytes) in
     omega (arith, fed, within)
 
-pub returns-in_ok-report_at_end-in-Ok : goal.returns-in_ok-report_at_end-in-Ok
-returns-in_ok-report_at_end-in-Ok g c = λ out groups range begun few.
+pub returns-in_err-with_ended-in-Ok-clause-met : goal.returns-in_err-with_ended-in-Ok-clause-met
+returns-in_err-with_ended-in-Ok-clause-met g c = λ out groups range begun few.
+    let p = err_from_is_err_and c.from_residual-in_err-with_ended-in-Ok.result
+    c.from_residual-in_err-with_ended-in-Ok.ensures.1 in
+    rw (p.1, p.2) (asks-no_memory out _ log_bound _ c.in-Ok.ensures.reads_only
+    c.in-Ok.ensures.unfaulted (at_most-log c.args.tracker.now.fed c.in-Ok.ensures.at_most))
+
+pub returns-in-Ok-clause-met : goal.returns-in-Ok-clause-met
+returns-in-Ok-clause-met g c = λ out groups range begun few.
     let name = c.args.log.now in
     let feeds = c.in-Ok.ensures.whole in
     let fed = feeds.fed.state groups range.lo range.hi [] 0 begun in
-    let text = c.in_ok-report_at_end-in-Ok.ensures.report groups range feeds.bytes
+    let now = c.in_ok-with_ended-in-Ok.field-0 in
+    let with = c.in_ok-with_ended-in-Ok.ensures.tracked groups range feeds.bytes
     (0 + length feeds.bytes) fed in
-    let at_end = c.in_ok-report_at_end-in-Ok.ensures.state groups range.lo range.hi feeds.bytes
+    let at_end = c.with_ended.ensures.state groups range.lo range.hi feeds.bytes
     (0 + length feeds.bytes) fed in
     let within = short groups range.lo range.hi feeds.bytes (ended feeds.bytes)
-    c.report_at_end.new.tracker
-    at_end few in
-    asks-accepted out name log_bound (found_by (reports range) (groups_view groups) name)
-    feeds.bytes
-    c.in_ok-report_at_end-in-Ok.field-0 c.in-Ok.ensures.reads_only feeds.whole
-    (accepts-log (reports range) (groups_view groups) name feeds.bytes
-    c.in_ok-report_at_end-in-Ok.field-0 within text)
+    c.with_ended.new.tracker at_end few in
+    asks-accepted out name log_bound
+    (with_found (tracked_with range (groups_view groups)) c.args.tracked name) feeds.bytes
+    now c.in-Ok.ensures.reads_only feeds.whole
+    (accepts-log (tracked_with range (groups_view groups)) c.args.tracked name feeds.bytes
+    now within with)
     c.in-Ok.ensures.unfaulted (at_most-log c.args.tracker.now.fed c.in-Ok.ensures.at_most)
 
-pub returns-in-Err-NoFile : goal.returns-in-Err-NoFile
-returns-in-Err-NoFile g c = λ out groups range begun few.
+pub returns-in-Err-NoFile-clause-met : goal.returns-in-Err-NoFile-clause-met
+returns-in-Err-NoFile-clause-met g c = λ out groups range begun few.
     let name = c.args.log.now in
     rw c.in_ok-name.ensures (asks-absent out name log_bound
-    (found_by (reports range) (groups_view groups) name)
+    (with_found (tracked_with range (groups_view groups)) c.args.tracked name)
     c.in-Err-NoFile.ensures.reads_only
     (rw c.in-Err-NoFile.field-0-is at c.in-Err-NoFile.ensures.cause).0 refl
     (at_most-log c.args.tracker.now.fed c.in-Err-NoFile.ensures.at_most))
 
-pub returns-in-Err-Failed : goal.returns-in-Err-Failed
-returns-in-Err-Failed g c = λ out groups range begun few.
+pub returns-in-Err-Failed-clause-met : goal.returns-in-Err-Failed-clause-met
+returns-in-Err-Failed-clause-met g c = λ out groups range begun few.
     let name = c.args.log.now in
     rw c.in_ok-name.ensures (asks-failed out name log_bound
-    (found_by (reports range) (groups_view groups) name)
+    (with_found (tracked_with range (groups_view groups)) c.args.tracked name)
     c.in-Err-Failed.ensures.reads_only
     (rw c.in-Err-Failed.field-0-is at c.in-Err-Failed.ensures.cause)
     (at_most-log c.args.tracker.now.fed c.in-Err-Failed.ensures.at_most))
@@ -85,19 +85,19 @@ longer : (c : TrackState) (bytes : List ℕ) → c.fed ≡ 0 → 2 ^ 40 < c.fed 
     → log_limit < length bytes
 longer c bytes new long = omega arith
 
-pub returns-in_ok-too_long-in-Err-TooLong : goal.returns-in_ok-too_long-in-Err-TooLong
-returns-in_ok-too_long-in-Err-TooLong g c = λ out groups range begun few.
+pub returns-clause-met : goal.returns-clause-met
+returns-clause-met g c = λ out groups range begun few.
     let name = c.args.log.now in
     let cause = rw c.in-Err-TooLong.field-0-is at c.in-Err-TooLong.ensures.cause in
     let text : c.in_ok-too_long-in-Err-TooLong.field-0 ≡ too_long_text name log_limit =
     c.in_ok-too_long-in-Err-TooLong.ensures in
     let new = ap (λ (s : TrackState). s.fed) begun ∙ fed_of groups range.lo range.hi [] 0 in
-    asks-refused out name log_bound (found_by (reports range) (groups_view groups) name)
+    asks-refused out name log_bound (with_found (tracked_with range (groups_view groups)) c.args.tracked name)
     c.in_ok-too_long-in-Err-TooLong.field-0 c.in-Err-TooLong.ensures.reads_only
     (λ files t. let long = cause.0.longer files t in (
       long.0,
       long.1,
-      refuses-log (reports range) (groups_view groups) name long.0
+      refuses-log (tracked_with range (groups_view groups)) c.args.tracked name long.0
           c.in_ok-too_long-in-Err-TooLong.field-0
           (longer c.args.tracker.now long.0 new long.2) text,
     )) cause.1 (at_most-log c.args.tracker.now.fed c.in-Err-TooLong.ensures.at_most)

@@ -4,7 +4,7 @@ use Rattle.rvs_words.proofs.CommandWords.{normalizes_are_read, generates_are_rea
 use Rattle.rvs_words.proofs.CommandWords.{references_are_read, coverages_are_read, runs_are_read}
 use Rattle.rvs_words.proofs.CommandWords.{propagates_are_read, demos_are_read}
 use Rattle.rvs_words.proofs.DatabaseWords.{runs_over_databases_are_read, runs_have_one_source}
-use Rattle.rvs_words.proofs.DatabaseWords.{selects_are_read}
+use Rattle.rvs_words.proofs.DatabaseWords.{databases_have_no_families, selects_are_read}
 
 pub returns-clause-compare : goal.returns-clause-compare
 returns-clause-compare c = compares_are_read
@@ -35,6 +35,9 @@ returns-clause-run_database c = runs_over_databases_are_read
 
 pub returns-clause-run_source : goal.returns-clause-run_source
 returns-clause-run_source c = runs_have_one_source
+
+pub returns-clause-run_families : goal.returns-clause-run_families
+returns-clause-run_families c = databases_have_no_families
 
 pub returns-clause-select : goal.returns-clause-select
 returns-clause-select c = selects_are_read

@@ -1,0 +1,180 @@
+-- No call asks for more than 4,096 logs.
+use Rattle.std.proofs.Common.{◌≡◌, ◌≤◌, ℕ, ◌&&◌, Bool, true, false, if◌then◌else◌, List, [], ◌∷◌}
+use Rattle.std.proofs.Common.{length, Option, Some, None, unwrap_or, nat_le, bytes_eq, codes, refl}
+use Rattle.std.proofs.Common.{subst, arith}
+use Rattle.std.specs.Prelude.{map, option_and_then, ◌==◌}
+use Rattle.std.proofs.lemmas.List.{length-map}
+use Rattle.std.proofs.lemmas.Bool.Decides.{nat_tests}
+use Rattle.rvs_text.specs.Options.{◌>>=◌}
+use Rattle.rvs_words.specs.Commands.{Values, some_of, most_logs, with_options, compare_of}
+use Rattle.rvs_words.specs.Commands.{validate_of, normalize_of, generate_of, reference_of}
+use Rattle.rvs_words.specs.Commands.{coverage_of, propagate_of, select_of, run_groups_of}
+use Rattle.rvs_words.specs.Commands.{run_database_of, run_of, demo_of, named, asked_by, command_of}
+use Rattle.rvs_words.specs.Commands.{validate_options, normalize_options, generate_options}
+use Rattle.rvs_words.specs.Commands.{reference_options, coverage_options, propagate_options}
+use Rattle.rvs_words.specs.Commands.{run_options, select_options}
+use Rattle.rvs_words.specs.Words.{values_of}
+use Rattle.rvs_words.specs.Windows.{all_windows}
+use Rattle.rvs_words.specs.LogWords.{signed_log, signed_each, with_each, with_ranges}
+use Rattle.rvs_words.specs.LogWords.{signed_logs}
+use Rattle.rvs_base.specs.declared.asked.Window.{Window}
+use Rattle.rvs_words.specs.declared.command.SignedLog.{SignedLog}
+use Rattle.rvs_words.specs.declared.command.Command.{Command}
+use Rattle.rvs_words.specs.declared.command.Command.TheVariants.{Unknown, Coverage, Propagate}
+use Rattle.rvs_words.specs.declared.command.CoverageArguments.{CoverageArguments}
+use Rattle.rvs_words.specs.declared.command.PropagateArguments.{PropagateArguments}
+use Rattle.rvs_suite.proofs.StepLimits.{InAll, none-in, some-in, then-in, either-in}
+
+abbrev logs-in : Command → ℕ
+logs-in (Coverage asked) = length asked.logs
+logs-in (Propagate asked) = length asked.logs
+logs-in _ = 0
+
+-- few logs
+abbrev IsFew : ℕ → Type 0
+IsFew logs = logs ≤ most_logs
+
+abbrev HasFew : Command → Type 0
+HasFew command = IsFew (logs-in command)
+
+none-few : IsFew 0
+none-few = omega arith
+
+abbrev AreFew : List (List ℕ) → Type 0
+AreFew logs = IsFew (length logs)
+
+few-of : (values : List (List ℕ)) (b : Bool)
+    → (nat_le 1 (length values) && nat_le (length values) most_logs) ≡ b
+    → InAll AreFew (if b then Some values else None)
+few-of values true is = some-in values (grind (arith, nat_tests))
+few-of values false is = none-in
+
+some-few : (values logs : List (List ℕ)) → some_of most_logs values ≡ Some logs
+    → IsFew (length logs)
+some-few values logs is =
+    (few-of values (nat_le 1 (length values) && nat_le (length values) most_logs) refl).holds logs
+    is
+
+-- there are no more logs with ranges than names
+abbrev NoMore : List (List ℕ) → List SignedLog → Type 0
+NoMore names logs = length logs ≤ length names
+
+each-few : (names : List (List ℕ)) (ranges : List Window) → NoMore names (signed_each names ranges)
+each-few [] ranges = omega arith
+each-few (name ∷ names) [] = omega arith
+each-few (name ∷ names) (range ∷ ranges) = omega (arith, each-few names ranges)
+
+with-each-few : (names : List (List ℕ)) (ranges : List Window)
+    → InAll (NoMore names) (with_each names ranges)
+with-each-few names ranges =
+    either-in (length ranges == length names) _ _
+    (some-in (signed_each names ranges) (each-few names ranges)) none-in
+
+alike-few : (names : List (List ℕ)) (range : Window)
+    → NoMore names (map (λ name. signed_log name range) names)
+alike-few names range = omega (arith, length-map names (λ name. signed_log name range))
+
+ranged-few : (names : List (List ℕ)) (ranges : List Window)
+    → InAll (NoMore names) (with_ranges names ranges)
+ranged-few names [] = with-each-few names []
+ranged-few names (range ∷ []) = some-in _ (alike-few names range)
+ranged-few names (range ∷ second ∷ ranges) = with-each-few names (range ∷ second ∷ ranges)
+
+spelled-few : (names : List (List ℕ)) (o : Option (List Window))
+    → InAll (NoMore names) (option_and_then (with_ranges names) o)
+spelled-few names None = none-in
+spelled-few names (Some ranges) = ranged-few names ranges
+
+signed-few : (values names texts : List (List ℕ)) (logs : List SignedLog)
+    → some_of most_logs values ≡ Some names
+    → signed_logs names texts ≡ Some logs → IsFew (length logs)
+signed-few values names texts logs is signed =
+    let few = some-few values names is in
+    let least = (spelled-few names (all_windows texts)).holds logs signed in
+    omega (arith, few, least)
+
+by-compare : (words : List (List ℕ)) → InAll HasFew (compare_of words)
+by-compare [] = none-in
+by-compare (left ∷ []) = none-in
+by-compare (left ∷ right ∷ []) = either-in _ _ _ (some-in _ none-few) none-in
+by-compare (left ∷ right ∷ other ∷ words) = none-in
+
+by-validate : (values : Values) → InAll HasFew (validate_of values)
+by-validate values = search (then-in, some-in, none-few) depth 12
+
+by-normalize : (values : Values) → InAll HasFew (normalize_of values)
+by-normalize values = search (then-in, some-in, none-few) depth 12
+
+by-generate : (values : Values) → InAll HasFew (generate_of values)
+by-generate values = search (then-in, some-in, none-few) depth 12
+
+by-reference : (values : Values) → InAll HasFew (reference_of values)
+by-reference values = search (then-in, some-in, none-few) depth 12
+
+by-coverage : (values : Values) → InAll HasFew (coverage_of values)
+by-coverage values = search (then-in, some-in, some-few) depth 12
+
+by-propagate : (values : Values) → InAll HasFew (propagate_of values)
+by-propagate values = search (then-in, some-in, signed-few) depth 12
+
+by-select : (values : Values) → InAll HasFew (select_of values)
+by-select values = search (then-in, some-in, none-few) depth 12
+
+by-groups : (program : List ℕ) (values : Values) → InAll HasFew (run_groups_of program values)
+by-groups program values = search (then-in, some-in, none-few) depth 12
+
+by-database : (program : List ℕ) (values : Values) → InAll HasFew (run_database_of program values)
+by-database program values = search (then-in, some-in, none-few) depth 12
+
+by-run : (program : List ℕ) (values : Values) → InAll HasFew (run_of program values)
+by-run program values =
+    either-in _ _ _
+    (either-in _ _ _ none-in (either-in _ _ _ none-in (by-database program values)))
+    (by-groups program values)
+
+by-demo : (words : List (List ℕ)) → InAll HasFew (demo_of words)
+by-demo [] = none-in
+by-demo (text ∷ []) = search (then-in, some-in, none-few) depth 12
+by-demo (text ∷ other ∷ words) = none-in
+
+by-options : (names : List (List ℕ)) (of : Values → Option Command) (words : List (List ℕ))
+    → ((values : Values) → InAll HasFew (of values)) → InAll HasFew (with_options names of words)
+by-options names of words h = then-in _ _ (λ pairs e. h (λ name. values_of name pairs))
+
+by-name : (program name : List ℕ) (words : List (List ℕ)) → InAll HasFew (named program name words)
+by-name program name words =
+    either-in (bytes_eq name (codes "compare")) _ _ (by-compare words)
+    (either-in (bytes_eq name (codes "validate")) _ _
+    (by-options validate_options validate_of words by-validate)
+    (either-in (bytes_eq name (codes "normalize")) _ _
+    (by-options normalize_options normalize_of words by-normalize)
+    (either-in (bytes_eq name (codes "generate")) _ _
+    (by-options generate_options generate_of words by-generate)
+    (either-in (bytes_eq name (codes "reference")) _ _
+    (by-options reference_options reference_of words by-reference)
+    (either-in (bytes_eq name (codes "coverage")) _ _
+    (by-options coverage_options coverage_of words by-coverage)
+    (either-in (bytes_eq name (codes "propagate")) _ _
+    (by-options propagate_options propagate_of words by-propagate)
+    (either-in (bytes_eq name (codes "run")) _ _
+    (by-options run_options (run_of program) words (by-run program))
+    (either-in (bytes_eq name (codes "select")) _ _
+    (by-options select_options select_of words by-select)
+    (either-in (bytes_eq name (codes "demo")) _ _ (by-demo words) none-in)))))))))
+
+by-words : (words : List (List ℕ)) → InAll HasFew (asked_by words)
+by-words [] = none-in
+by-words (program ∷ []) = none-in
+by-words (program ∷ name ∷ words) = by-name program name words
+
+whole : (o : Option Command) → InAll HasFew o → HasFew (unwrap_or o Unknown)
+whole None few = none-few
+whole (Some command) few = few.holds command refl
+
+pub coverage-few : (words : List (List ℕ)) (asked : CoverageArguments)
+    → command_of words ≡ Coverage asked → length asked.logs ≤ 4096
+coverage-few words asked is = subst HasFew is (whole (asked_by words) (by-words words))
+
+pub propagate-few : (words : List (List ℕ)) (asked : PropagateArguments)
+    → command_of words ≡ Propagate asked → length asked.logs ≤ 4096
+propagate-few words asked is = subst HasFew is (whole (asked_by words) (by-words words))

@@ -1,0 +1,126 @@
+// The labels of a part.
+ghost use Rattle.std.specs.Prelude.{◌≡◌, ◌++◌, ◌∷◌, [], All, IfOk, OnOk, cond};
+ghost use Rattle.rvs_base.specs.Sink.{SinkState};
+ghost use Rattle.rvs_plan.specs.World.{world};
+ghost use Rattle.rvs_plan.specs.Meets.{Meets};
+ghost use Rattle.rvs_parts.specs.Parts.{is_in, parted};
+ghost use Rattle.rvs_cgf.specs.GroupView.{label_view};
+ghost use Rattle.rvs_cgf.specs.Valid.{IsValidIfSelected};
+ghost use Rattle.rvs_suite.specs.Seen.{seen};
+ghost use Rattle.rvs_suite.specs.GroupsView.{inputs_view};
+ghost use Rattle.rvs_suite.specs.GroupFiles.{part_inputs, parted_inputs};
+ghost use Rattle.rvs_suite.specs.DatabaseInput.{marked_file, marked, marked_one};
+
+use crate::database_file::read_database_file;
+use crate::group_files::{Inputs, read_inputs};
+use rvs_base::{Host, Items, NoMemory, Text};
+use rvs_cgf::{Groups, Label};
+use rvs_insn::IsaSpec;
+use rvs_parts::Part;
+use rvs_plan::Stop;
+use rvs_select::{Database, Entry};
+use std::alloc::Global;
+
+/// Reads an ISA file, and then coverage group files for its core, of which the labels of a part are
+/// kept, where one is asked for.
+///
+/// # Errors
+///
+/// [`Stop`]: a file isn't there, can't be read, or isn't accepted.
+pub fn read_labels<H: Host>(
+    alloc: Global,
+    host: &mut H,
+    isa: &Text,
+    names: &Items<Text>,
+    part: Option<Part>,
+) -> Result<Inputs, Stop>
+    ensures met { (out : SinkState) → Meets (part_inputs part isa.now names.now)
+        (world (H.state host.old) out) (world (H.state host.new) out) (seen inputs_view result) }
+    ensures valid { IfOk result (λ i. All (λ l. IsValidIfSelected i.isa (label_view l)) i.groups) }
+{
+    let inputs = read_inputs(alloc, host, isa, names)?;
+    Ok(kept_inputs(alloc, inputs, part)?)
+}
+
+fn kept_inputs(alloc: Global, inputs: Inputs, part: Option<Part>) -> Result<Inputs, NoMemory>
+    requires { All (λ l. IsValidIfSelected inputs.isa (label_view l)) inputs.groups }
+    ensures kept { IfOk result (λ i. inputs_view i ≡ parted_inputs part (inputs_view inputs)) }
+    ensures valid { IfOk result (λ i. All (λ l. IsValidIfSelected i.isa (label_view l)) i.groups) }
+{
+    let Inputs { isa, groups } = inputs;
+    let groups = kept_labels(alloc, groups, part)?;
+    Ok(Inputs { isa, groups })
+}
+
+/// The labels of a part.
+fn kept_labels(alloc: Global, groups: Groups, part: Option<Part>) -> Result<Groups, NoMemory>
+    ensures { IfOk result (λ kept. kept ≡ parted part groups) }
+{
+    let mut kept = Items::new(alloc);
+    for (place, label) in groups.into_vec().into_iter().enumerate() {
+        push_if(&mut kept, label, is_in(part, place))?;
+    }
+    Ok(kept)
+}
+
+/// Whether what has this place is in a part, where one is asked for.
+fn is_in(part: Option<Part>, place: usize) -> bool
+    ensures { result ≡ is_in part place }
+{
+    match part {
+        None => true,
+        Some(part) => part.has(place),
+    }
+}
+
+fn push_if(kept: &mut Items<Label>, label: Label, is: bool) -> Result<(), NoMemory>
+    ensures { OnOk result (kept.new ≡ kept.old ++ cond is (label ∷ []) []) }
+{
+    if is {
+        kept.push(label)
+    } else {
+        drop(label);
+        Ok(())
+    }
+}
+
+/// Reads a database of tests, of which those outside a part, where one is asked for, aren't
+/// selected.
+///
+/// # Errors
+///
+/// [`Stop`]: the file isn't there, can't be read, or isn't accepted.
+pub fn read_marked<H: Host>(
+    alloc: Global,
+    host: &mut H,
+    isa: &IsaSpec,
+    name: &Text,
+    part: Option<Part>,
+) -> Result<Database, Stop>
+    ensures { (out : SinkState) → Meets (marked_file part isa.now name.now)
+        (world (H.state host.old) out) (world (H.state host.new) out) result }
+{
+    let database = read_database_file(alloc, host, isa, name)?;
+    Ok(marked(alloc, database, part)?)
+}
+
+/// The tests of a database, of which those outside a part aren't selected.
+fn marked(alloc: Global, database: Database, part: Option<Part>) -> Result<Database, NoMemory>
+    ensures { IfOk result (λ all. all ≡ marked part database) }
+{
+    let mut all = Items::new(alloc);
+    for (place, entry) in database.into_vec().into_iter().enumerate() {
+        push_marked(&mut all, entry, is_in(part, place))?;
+    }
+    Ok(all)
+}
+
+fn push_marked(all: &mut Items<Entry>, entry: Entry, is: bool) -> Result<(), NoMemory>
+    ensures { OnOk result (all.new ≡ all.old ++ marked_one is entry ∷ []) }
+{
+    let Entry { name, selected } = entry;
+    all.push(Entry {
+        name,
+        selected: selected && is,
+    })
+}
