@@ -1,7 +1,7 @@
 -- What every call of `run` over a database promises.
 use Rattle.std.proofs.Common.{◌≡◌, ◌⊎◌, inl, inr, ℕ, true, is_some, List, [], ◌∷◌, ◌++◌, length}
 use Rattle.std.proofs.Common.{option_map, Option, Some, None, Result, Ok, Err, refl, sym, ap, subst}
-use Rattle.std.proofs.Common.{◌∙◌, append-nil, arith}
+use Rattle.std.proofs.Common.{◌∙◌, append-nil, arith, Contains, IsTrue}
 use Rattle.rvs_base.specs.Host.{Files, Tells}
 use Rattle.rvs_base.specs.Faults.{raised}
 use Rattle.rvs_base.specs.Sink.{SinkState, appended}
@@ -26,16 +26,18 @@ use Rattle.rvs_suite.specs.DatabaseLeft.{made_in, Trial, with_trials, task_on, t
 use Rattle.rvs_suite.specs.DatabaseLeft.{trials_passed, runs_of}
 use Rattle.rvs_suite.specs.GroupFiles.{and_then}
 use Rattle.rvs_suite.specs.JudgingDatabase.{database_inputs_in, chosen_in, HasJudged}
-use Rattle.rvs_suite.specs.JudgingDatabase.{LeftAsItWas, HasStopped, IsMadeOf, RunsDatabase}
+use Rattle.rvs_suite.specs.JudgingDatabase.{LeftAsItWas, HasStopped, IsMadeOf, HasExecutable}
+use Rattle.rvs_suite.specs.JudgingDatabase.{RunsDatabase}
 use Rattle.rvs_suite.specs.Reference.{test_limit}
 use Rattle.rvs_suite.specs.RunDatabase.{Given, made_by, made_found, DatabaseInputs}
 use Rattle.rvs_suite.specs.RunDatabase.{database_inputs, database_bench, runs_database}
 use Rattle.rvs_suite.specs.RunDatabase.{run_database}
-use Rattle.rvs_suite.specs.RunTests.{Bench, tally_line, tallies, verdict_of_all}
+use Rattle.rvs_suite.specs.RunTests.{Bench, asks_elf, tally_line, tallies, verdict_of_all}
 use Rattle.rvs_suite.specs.TestRun.{found_end, then_found, test_found}
 use Rattle.rvs_suite.specs.declared.judging.Made.{Made}
 use Rattle.rvs_suite.specs.declared.test_run.Run.{Run}
 use Rattle.rvs_suite.proofs.Answered.{RunsOn, ran-command}
+use Rattle.rvs_suite.proofs.DatabaseExecutables.{all-there, apart-chosen, low-chosen}
 use Rattle.rvs_suite.proofs.DatabasePasses.{are-judged, never-stopped-at, never-failed}
 use Rattle.rvs_suite.proofs.DatabasePasses.{done-or-memory}
 use Rattle.rvs_suite.proofs.DatabaseReads.{finds-database-inputs}
@@ -383,6 +385,41 @@ alone {call} files asked r inputs given made before run is one accepted old new 
     (λ lost. unlost plan was now call.old.err call.new.err none
     (at answer.SinkFault r.told refl lost))
 
+-- ---- executables
+executables : {call : Call} (files : Files) (asked : RunDatabaseArguments)
+    → RunsOn call files (RunDatabase asked) → (inputs : DatabaseInputs) (given : Given)
+    (files' : Files) → database_inputs_in files asked ≡ Ok inputs
+    → Contains (chosen_in inputs) given
+    → IsTrue (asks_elf (database_bench asked.program asked.work inputs))
+    → (call.status ≡ answer.Done) ⊎ (call.status ≡ answer.NotPassed)
+    → call.new.host.files ≡ Some files'
+    → HasExecutable (database_bench asked.program asked.work inputs) files' given
+executables {call} files asked r inputs given files' is there wanted ended told =
+    elim ended [
+      | inl done ↦ by finish.Done
+          (left call files asked (Ok finish.Done) r.told
+          (at_status (ran-command r) files (RunDatabase asked) answer.Done r.told refl
+          done).completes)
+      | inr failed ↦ by finish.NotPassed
+          (left call files asked (Ok finish.NotPassed) r.told
+          (at_status (ran-command r) files (RunDatabase asked) answer.NotPassed r.told refl
+          failed).completes)
+    ]
+  where
+    by : (end : Finish) → HasLeft (database_inputs_in files asked)
+        (HasJudged call files asked.program asked.work end)
+        → HasExecutable (database_bench asked.program asked.work inputs) files' given
+    by end was =
+        let bench = database_bench asked.program asked.work inputs in
+        let judged = given-left {call = call} files asked.program asked.work inputs end
+        (database_inputs_in files asked) is was in
+        let both : Some (with_trials judged.trials files) ≡ Some files' =
+        sym judged.tried.files_are ∙ told in
+        let same : with_trials judged.trials files ≡ files' = cc in
+        subst (λ (f : Files). HasExecutable bench f given) same
+        (all-there bench files (chosen_in inputs) judged.trials judged.tried.each
+        (apart-chosen 0 inputs.entries) (low-chosen files asked inputs is) wanted given there)
+
 -- ---- the promise
 pub judges_database : {call : Call} (files : Files) (asked : RunDatabaseArguments)
     → RunsOn call files (RunDatabase asked) → RunsDatabase call files asked
@@ -433,6 +470,7 @@ judges_database {call} files asked r =
       runs = is-made;
       limited = usual_limits_are_low;
       passes = λ bench t. passing.passes (task_on bench t.made) t.run.status t.run.after;
+      executables = executables files asked r;
       alone = alone files asked r;
       others_kept = λ files' other. database-spares r.ran files files' asked other r.told r.asks;
     }

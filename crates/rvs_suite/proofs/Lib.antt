@@ -52,6 +52,8 @@ mod Signed
 mod Standing
 mod StepLimits
 mod Paths
+mod ImageRegions
+mod DatabaseExecutables
 mod DatabasePasses
 mod DatabaseReads
 mod DatabaseSteps

@@ -12,6 +12,10 @@ use Rattle.rvs_plan.specs.declared.stop.Stop.TheVariants as why
 use Rattle.rvs_plan.specs.declared.status.Finish.{Finish}
 use Rattle.rvs_plan.specs.declared.status.Finish.TheVariants as finish
 use Rattle.rvs_plan.specs.declared.status.Status.TheVariants.{Done, NotPassed, Refused, HostFault}
+use Rattle.rvs_machine.specs.Image.{ImageValue}
+use Rattle.rvs_elf.specs.Executable.{image_of_elf}
+use Rattle.rvs_elf.specs.Laws.{RunsAs}
+use Rattle.rvs_elf.specs.Written.{elf_of}
 use Rattle.rvs_device.specs.Command.{wants_elf}
 use Rattle.rvs_device.specs.Judging.{Spells}
 use Rattle.rvs_device.specs.declared.verdicts.TestVerdict.TheVariants.{Pass}
@@ -23,11 +27,11 @@ use Rattle.rvs_suite.specs.DatabaseLeft.{trial_verdict, trial_lines, trials_pass
 use Rattle.rvs_suite.specs.DeviceInput.{device_in}
 use Rattle.rvs_suite.specs.GroupFiles.{and_then}
 use Rattle.rvs_suite.specs.Referencing.{trial_in}
-use Rattle.rvs_suite.specs.RunDatabase.{Given, chosen, DatabaseInputs, database_bench}
-use Rattle.rvs_suite.specs.RunTests.{Bench, tally_line, verdict_of_all}
+use Rattle.rvs_suite.specs.RunDatabase.{Given, chosen, made_found, DatabaseInputs, database_bench}
+use Rattle.rvs_suite.specs.RunTests.{Bench, asks_elf, tally_line, verdict_of_all}
 use Rattle.rvs_suite.specs.Specification.{said_in}
 use Rattle.rvs_suite.specs.TestFiles.{files_at}
-use Rattle.rvs_suite.specs.TestRun.{limit_of}
+use Rattle.rvs_suite.specs.TestRun.{image_found, limit_of}
 use Rattle.rvs_suite.specs.declared.judging.Made.{Made}
 use Rattle.rvs_suite.specs.declared.test_run.Run.{Run}
 use Rattle.rvs_words.specs.Commands.{most_steps}
@@ -116,6 +120,20 @@ PassesBySpelling bench t =
     (trial_verdict t ≡ Pass (length t.made.words) t.run.status)
     ↔ HasSpelled bench t
 
+-- The executable of a test that was judged is in its file: it is written of the image of what the
+-- test's own file held, and is read as one that runs as this does.
+pub record HasExecutable (bench : Bench) (files' : Files) (given : Given) : Type 0 where
+  pub bytes : List ℕ
+  pub made : Made
+  pub made_of : made_found bench given bytes ≡ Ok made
+  pub image : ImageValue
+  pub spelt : image_found bench.isa given.name bytes ≡ Ok image
+  pub there : files' (files_at bench.work given.place given.name).executable
+      ≡ Some (elf_of image)
+  pub again : ImageValue
+  pub read : image_of_elf (elf_of image) ≡ Ok again
+  pub alike : RunsAs again image
+
 -- a file that is none of those that are written for a test
 pub record IsNoneOf (bench : Bench) (given : Given) (other : List ℕ) : Type 0 where
   pub executable : IsTrue (wants_elf bench.device.command)
@@ -153,6 +171,13 @@ pub record RunsDatabase (call : Call) (files : Files) (asked : RunDatabaseArgume
   pub limited : (name bytes : List ℕ) → limit_of None name bytes ≤ most_steps
   -- a pass says that the device left the reference's words
   pub passes : (bench : Bench) (t : Trial) → PassesBySpelling bench t
+  -- where each was judged and the device asks for executables, that of each is there, and runs as
+  -- the test does
+  pub executables : (inputs : DatabaseInputs) (given : Given) (files' : Files)
+      → database_inputs_in files asked ≡ Ok inputs → Contains (chosen_in inputs) given
+      → IsTrue (asks_elf (database_bench asked.program asked.work inputs))
+      → (call.status ≡ Done) ⊎ (call.status ≡ NotPassed) → call.new.host.files ≡ Some files'
+      → HasExecutable (database_bench asked.program asked.work inputs) files' given
   -- where one test is selected, its file is accepted, and the one run on it left the reference's
   -- words, it is done
   pub alone : (inputs : DatabaseInputs) (given : Given) (made : Made) (before : List DeviceRun)

@@ -1,0 +1,302 @@
+-- That the executables of a database's tests are there when all were judged, and run as these do.
+use Rattle.std.proofs.Common.{◌≡◌, ◌≢◌, ◌≤◌, ◌<◌, ◌+◌, ◌^◌, ℕ, zero, suc, Bool, true, false, List}
+use Rattle.std.proofs.Common.{[], ◌∷◌, length, Contains, IsTrue, Option, Some, None, Result, Ok, Err}
+use Rattle.std.proofs.Common.{if◌then◌else◌, bytes_eq, codes, decimal, refl, sym, ap, subst, ◌∙◌, arith}
+use Rattle.std.specs.Prelude.{⊤}
+use Rattle.std.proofs.lemmas.Fmt.{decimal_injective}
+use Rattle.std.proofs.lemmas.List.Elements.{Contains-append_right}
+use Rattle.rvs_base.specs.Host.{Files}
+use Rattle.rvs_base.specs.declared.host.DeviceRun.{DeviceRun}
+use Rattle.rvs_plan.specs.Inputs.{part_end}
+use Rattle.rvs_plan.specs.declared.stop.Stop.{Stop}
+use Rattle.rvs_parts.specs.Parts.{PartValue}
+use Rattle.rvs_insn.specs.Isa.{Isa}
+use Rattle.rvs_machine.specs.Image.{ImageValue, IsImage}
+use Rattle.rvs_machine.specs.ImageText.{image_of_bytes}
+use Rattle.rvs_machine.specs.declared.reading.ImageRefusal.{ImageRefusal}
+use Rattle.rvs_elf.specs.Executable.{image_of_elf}
+use Rattle.rvs_elf.specs.Laws.{with_marks}
+use Rattle.rvs_elf.specs.Written.{elf_of}
+use Rattle.rvs_elf.specs.declared.refusal.ElfRefusal.{ElfRefusal}
+use Rattle.rvs_elf.proofs.ReadBack.{reads_back, runs_alike}
+use Rattle.rvs_asm.specs.Answer.{answer}
+use Rattle.rvs_asm.specs.declared.refusal.AsmRefusal.{AsmRefusal}
+use Rattle.rvs_asm.proofs.Answered.{answered_stands}
+use Rattle.rvs_select.specs.declared.database.Entry.{Entry}
+use Rattle.rvs_suite.specs.DatabaseInput.{database_in, marked, marked_from, marked_in}
+use Rattle.rvs_suite.specs.DatabaseLeft.{made_in, Trial, with_trial, with_trials, AreTrialsOf}
+use Rattle.rvs_suite.specs.DatabaseLeft.{with_made}
+use Rattle.rvs_suite.specs.DeviceInput.{device_in}
+use Rattle.rvs_suite.specs.GroupFiles.{and_then}
+use Rattle.rvs_suite.specs.JudgingDatabase.{database_inputs_in, chosen_in, HasExecutable, IsNoneOf}
+use Rattle.rvs_suite.specs.Reference.{test_limit}
+use Rattle.rvs_suite.specs.RunDatabase.{Given, chosen, made_by, made_found, elf_found}
+use Rattle.rvs_suite.specs.RunDatabase.{DatabaseInputs}
+use Rattle.rvs_suite.specs.RunTests.{Bench, asks_elf, if_asked}
+use Rattle.rvs_suite.specs.Specification.{said_in}
+use Rattle.rvs_suite.specs.TestFiles.{files_at}
+use Rattle.rvs_suite.specs.TestRun.{image_found, file_found, executable_found, text_found}
+use Rattle.rvs_suite.specs.TestRun.{is_image_name, is_executable_name, found_end, then_found}
+use Rattle.rvs_suite.specs.TestRun.{test_found, run_found, limit_of}
+use Rattle.rvs_suite.specs.declared.judging.Made.{Made}
+use Rattle.rvs_suite.specs.declared.test_run.Run.{Run}
+use Rattle.rvs_suite.proofs.DatabaseReads.{holds-tests}
+use Rattle.rvs_suite.proofs.Executables.{kept-executable, there-executable}
+use Rattle.rvs_suite.proofs.ImageRegions.{file-image, elf-image}
+use Rattle.rvs_suite.proofs.Meanings.{then-ok, found-of}
+use Rattle.rvs_suite.proofs.Paths.{same-ending, passed-by, other-bytes, reference-not-executable}
+use Rattle.rvs_suite.proofs.Paths.{device-not-executable}
+use Rattle.rvs_words.specs.declared.command.RunDatabaseArguments.{RunDatabaseArguments}
+
+-- ---- the image of a test has its regions in order
+of-file : (name : List ℕ) (r : Result ImageValue ImageRefusal) (image : ImageValue)
+    → file_found name r ≡ Ok image → r ≡ Ok image
+of-file name (Ok i) image is = let same : i ≡ image = cc in ap Ok same
+of-file name (Err refusal) image is = absurd cc
+
+of-elf : (name : List ℕ) (r : Result ImageValue ElfRefusal) (image : ImageValue)
+    → executable_found name r ≡ Ok image → r ≡ Ok image
+of-elf name (Ok i) image is = let same : i ≡ image = cc in ap Ok same
+of-elf name (Err refusal) image is = absurd cc
+
+of-text : (name : List ℕ) (r : Result ImageValue AsmRefusal) (image : ImageValue)
+    → text_found name r ≡ Ok image → r ≡ Ok image
+of-text name (Ok i) image is = let same : i ≡ image = cc in ap Ok same
+of-text name (Err refusal) image is = absurd cc
+
+sound : (isa : Isa) (name bytes : List ℕ) (image : ImageValue)
+    → image_found isa name bytes ≡ Ok image → IsImage image
+sound isa name bytes image is = by (is_image_name name) (is_executable_name name) is
+  where
+    by : (i e : Bool) → (if i then file_found name (image_of_bytes bytes)
+        else (if e then executable_found name (image_of_elf bytes)
+        else text_found name (answer isa bytes))) ≡ Ok image → IsImage image
+    by true e is = file-image bytes image (of-file name (image_of_bytes bytes) image is)
+    by false true is = elf-image bytes image (of-elf name (image_of_elf bytes) image is)
+    by false false is =
+        (answered_stands isa bytes image (of-text name (answer isa bytes) image is)).regions
+
+-- ---- what was made of a test
+record WasMade (bench : Bench) (given : Given) (made : Made) : Type 0 where
+  bytes : List ℕ
+  run : Run
+  image : ImageValue
+  found : made_found bench given bytes ≡ Ok made
+  is : made ≡ made_by bench given bytes run
+  spelt : image_found bench.isa given.name bytes ≡ Ok image
+
+image-of : (found : Result ImageValue (List ℕ)) (next : ImageValue → Result Run (List ℕ))
+    (bench : Bench) (given : Given) (bytes : List ℕ) (made : Made)
+    → then_found (then_found found next) (λ run. Ok (made_by bench given bytes run)) ≡ Ok made
+    → (image : ImageValue) × (run : Run) × (found ≡ Ok image)
+    × (made ≡ made_by bench given bytes run)
+image-of (Err text) next bench given bytes made is = absurd cc
+image-of (Ok image) next bench given bytes made is = by (next image) is
+  where
+    by : (r : Result Run (List ℕ))
+        → then_found r (λ run. Ok (made_by bench given bytes run)) ≡ Ok made
+        → (i : ImageValue) × (run : Run) × (Ok image ≡ Ok i)
+        × (made ≡ made_by bench given bytes run)
+    by (Ok run) is =
+        let same : made ≡ made_by bench given bytes run = cc in (image, run, refl, same)
+    by (Err text) is = absurd cc
+
+was-made : (files : Files) (bench : Bench) (given : Given) (made : Made)
+    → made_in files bench given ≡ Ok made → WasMade bench given made
+was-made files bench given made is =
+    let t = then-ok (part_end test_limit given.name given.name test_limit (files given.name))
+    (λ bytes. found_end (made_found bench given bytes)) made is in
+    let found = found-of (made_found bench given t.0) made t.2 in
+    let i = image-of (image_found bench.isa given.name t.0)
+    (run_found given.name (limit_of None given.name t.0) bench.isa) bench given t.0 made found in
+    record {
+      bytes = t.0;
+      run = i.1;
+      image = i.0;
+      found = found;
+      is = i.3;
+      spelt = i.2;
+    }
+
+-- ---- the files that a trial leaves
+abbrev executable_name : Bench → Given → List ℕ
+executable_name bench given = (files_at bench.work given.place given.name).executable
+
+left-of : (bench : Bench) (given : Given) (run : DeviceRun) (bytes : List ℕ) (ran : Run)
+    (files : Files) (other : List ℕ) → IsNoneOf bench given other
+    → with_trial (record { made = made_by bench given bytes ran; run = run }) files other
+    ≡ files other
+left-of bench given run bytes ran files other apart =
+    let names = files_at bench.work given.place given.name in
+    passed-by (bytes_eq other names.device) _ _ (other-bytes other names.device apart.device)
+    ∙ passed-by (bytes_eq other names.reference) _ _
+    (other-bytes other names.reference apart.reference)
+    ∙ kept-executable (asks_elf bench) names.executable
+    (elf_found (image_found bench.isa given.name bytes)) files other apart.executable
+
+kept-trial : (bench : Bench) (files : Files) (given : Given) (t : Trial) (other : List ℕ)
+    → made_in files bench given ≡ Ok t.made → IsNoneOf bench given other
+    → with_trial t files other ≡ files other
+kept-trial bench files given t other made apart =
+    let w = was-made files bench given t.made made in
+    ap (λ (m : Made). with_trial (record { made = m; run = t.run }) files other) w.is
+    ∙ left-of bench given t.run w.bytes w.run files other apart
+
+kept-trials : (bench : Bench) (files : Files) (gs : List Given) (ts : List Trial)
+    (other : List ℕ) → AreTrialsOf bench files gs ts
+    → ((g : Given) → Contains gs g → IsNoneOf bench g other)
+    → with_trials ts files other ≡ files other
+kept-trials bench files [] [] other each apart = refl
+kept-trials bench files [] (t ∷ ts) other each apart = absurd each
+kept-trials bench files (g ∷ gs) [] other each apart = absurd each
+kept-trials bench files (g ∷ gs) (t ∷ ts) other each apart =
+    kept-trials bench (with_trial t files) gs ts other each.1
+    (λ h there. apart h (Contains-append_right (g ∷ []) gs h there))
+    ∙ kept-trial bench files g t other each.0.made (apart g (0, omega arith, refl))
+
+-- the executable of a test is there behind its own trial
+there-behind : (bench : Bench) (files : Files) (given : Given) (t : Trial) → IsTrue (asks_elf bench)
+    → (w : WasMade bench given t.made)
+    → with_trial t files (executable_name bench given) ≡ Some (elf_of w.image)
+there-behind bench files given t wanted w =
+    let names = files_at bench.work given.place given.name in
+    let place = decimal given.place in
+    ap (λ (m : Made). with_trial (record { made = m; run = t.run }) files names.executable) w.is
+    ∙ passed-by (bytes_eq names.executable names.device) _ _ (other-bytes names.executable
+    names.device (λ same. device-not-executable bench.work place place (sym same)))
+    ∙ passed-by (bytes_eq names.executable names.reference) _ _ (other-bytes names.executable
+    names.reference (λ same. reference-not-executable bench.work place place (sym same)))
+    ∙ there-executable (asks_elf bench) names.executable
+    (elf_found (image_found bench.isa given.name w.bytes)) files wanted
+    ∙ ap (λ (r : Result ImageValue (List ℕ)). Some (elf_found r)) w.spelt
+
+-- ---- the places of tests
+abbrev AreApart : List Given → Type 0
+AreApart [] = ⊤
+AreApart (g ∷ gs) = ((h : Given) → Contains gs h → g.place ≢ h.place) × AreApart gs
+
+within-chosen : (n : ℕ) (es : List Entry) (g : Given) → Contains (chosen n es) g
+    → (n ≤ g.place) × (g.place < n + length es)
+within-chosen n [] g (i, within, at) = absurd (omega (arith, within))
+within-chosen n (e ∷ es) g there =
+    by e.selected there (λ h. within-chosen (suc n) es g h)
+  where
+    by : (b : Bool) → Contains (if b then record { place = n; name = e.name } ∷ chosen (suc n) es
+        else chosen (suc n) es) g
+        → (Contains (chosen (suc n) es) g → (suc n ≤ g.place) × (g.place < suc n + length es))
+        → (n ≤ g.place) × (g.place < n + suc (length es))
+    by true (zero, within, at) later =
+        let same = ap (λ (x : Given). x.place) at in
+        (omega (arith, same), omega (arith, same))
+    by true (suc i, within, at) later =
+        let h = later (i, omega (arith, within), at) in
+        (omega (arith, h.0), omega (arith, h.1))
+    by false there later =
+        let h = later there in (omega (arith, h.0), omega (arith, h.1))
+
+pub apart-chosen : (n : ℕ) (es : List Entry) → AreApart (chosen n es)
+apart-chosen n [] = tt
+apart-chosen n (e ∷ es) = by e.selected
+  where
+    by : (b : Bool) → AreApart (if b then record { place = n; name = e.name } ∷ chosen (suc n) es
+        else chosen (suc n) es)
+    by true = (
+      λ h there same.
+          let w = within-chosen (suc n) es h there in omega (arith, w.0, same),
+      apart-chosen (suc n) es,
+    )
+    by false = apart-chosen (suc n) es
+
+-- ---- how many there are
+length-marked : (part : Option PartValue) (n : ℕ) (es : List Entry)
+    → length (marked_from part n es) ≡ length es
+length-marked part n [] = refl
+length-marked part n (e ∷ es) = ap (λ k. suc k) (length-marked part (n + 1) es)
+
+entries-few : (files : Files) (part : Option PartValue) (isa : Isa) (name : List ℕ)
+    (entries : List Entry) → marked_in files part isa name ≡ Ok entries → length entries ≤ 4096
+entries-few files part isa name entries is =
+    let t = then-ok (database_in files isa name) (λ es. Ok (marked part es)) entries is in
+    let same : marked part t.0 ≡ entries = let both = t.2 in cc in
+    let few = (holds-tests files isa name t.0 t.1).few in
+    let long = length-marked part 0 t.0 in
+    omega (arith, few, long, ap (λ (es : List Entry). length es) same)
+
+abbrev with_told : Files → RunDatabaseArguments → Isa → List Entry → Result DatabaseInputs Stop
+with_told files asked isa entries =
+    and_then (device_in files asked.device) (λ told.
+    Ok (record { isa = isa; entries = entries; device = told }))
+
+abbrev with_entries : Files → RunDatabaseArguments → Isa → Result DatabaseInputs Stop
+with_entries files asked isa =
+    and_then (marked_in files asked.part isa asked.database) (with_told files asked isa)
+
+pub low-chosen : (files : Files) (asked : RunDatabaseArguments) (inputs : DatabaseInputs)
+    → database_inputs_in files asked ≡ Ok inputs → (g : Given) → Contains (chosen_in inputs) g
+    → g.place < 2 ^ 64
+low-chosen files asked inputs is g there =
+    let s = then-ok (said_in files asked.isa) (λ said. with_entries files asked said.spec) inputs is
+    in
+    let m = then-ok (marked_in files asked.part s.0.spec asked.database)
+    (with_told files asked s.0.spec) inputs s.2 in
+    let d = then-ok (device_in files asked.device) (λ told.
+    Ok (record { isa = s.0.spec; entries = m.0; device = told })) inputs m.2 in
+    let same : m.0 ≡ inputs.entries = let both = d.2 in
+    ap (λ (r : Result DatabaseInputs Stop). entries-in r) both in
+    let few = entries-few files asked.part s.0.spec asked.database m.0 m.1 in
+    let w = within-chosen 0 inputs.entries g there in
+    omega (arith, few, w.1, ap (λ (es : List Entry). length es) same)
+  where
+    entries-in : Result DatabaseInputs Stop → List Entry
+    entries-in (Ok i) = i.entries
+    entries-in (Err stop) = []
+
+-- ---- all of them
+none-of : (bench : Bench) (g h : Given) → g.place ≢ h.place → g.place < 2 ^ 64 → h.place < 2 ^ 64
+    → IsNoneOf bench h (executable_name bench g)
+none-of bench g h apart low low' = record {
+  executable = λ wanted. same-ending bench.work (decimal g.place) (decimal h.place) (codes ".elf")
+      (λ same. apart (decimal_injective g.place h.place low low' same));
+  reference = λ same.
+      reference-not-executable bench.work (decimal h.place) (decimal g.place) (sym same);
+  device = λ same.
+      device-not-executable bench.work (decimal h.place) (decimal g.place) (sym same);
+}
+
+has-executable : (bench : Bench) (files files' : Files) (given : Given) (t : Trial)
+    → IsTrue (asks_elf bench) → made_in files bench given ≡ Ok t.made
+    → files' (executable_name bench given)
+    ≡ with_trial t files (executable_name bench given) → HasExecutable bench files' given
+has-executable bench files files' given t wanted made kept =
+    let w = was-made files bench given t.made made in
+    let image = sound bench.isa given.name w.bytes w.image w.spelt in
+    let read = reads_back w.image image in
+    record {
+      bytes = w.bytes;
+      made = t.made;
+      made_of = w.found;
+      image = w.image;
+      spelt = w.spelt;
+      there = kept ∙ there-behind bench files given t wanted w;
+      again = with_marks w.image;
+      read = read;
+      alike = runs_alike w.image (with_marks w.image) image read;
+    }
+
+pub all-there : (bench : Bench) (files : Files) (gs : List Given) (ts : List Trial)
+    → AreTrialsOf bench files gs ts → AreApart gs
+    → ((g : Given) → Contains gs g → g.place < 2 ^ 64) → IsTrue (asks_elf bench)
+    → (g : Given) → Contains gs g → HasExecutable bench (with_trials ts files) g
+all-there bench files [] ts each apart low wanted g (i, within, at) =
+    absurd (omega (arith, within))
+all-there bench files (h ∷ gs) [] each apart low wanted g there = absurd each
+all-there bench files (h ∷ gs) (t ∷ ts) each apart low wanted g (zero, within, at) =
+    subst (λ (x : Given). HasExecutable bench (with_trials (t ∷ ts) files) x) at
+    (has-executable bench files (with_trials (t ∷ ts) files) h t wanted each.0.made
+    (kept-trials bench (with_trial t files) gs ts (executable_name bench h) each.1
+    (λ other there. none-of bench h other (apart.0 other there) (low h (0, omega arith, refl))
+    (low other (Contains-append_right (h ∷ []) gs other there)))))
+all-there bench files (h ∷ gs) (t ∷ ts) each apart low wanted g (suc i, within, at) =
+    all-there bench (with_trial t files) gs ts each.1 apart.1
+    (λ other there. low other (Contains-append_right (h ∷ []) gs other there)) wanted g
+    (i, omega (arith, within), at)
