@@ -250,9 +250,9 @@ static void write_register(const struct step *s)
 static struct step stepped(uint32_t pc)
 {
     struct step s = decoded(pc, load(pc, 4));
-    break_unseen(&s);
     break_fields(&s);
     read_sources(&s);
+    break_unseen(&s);
     break_sources(&s);
     break_hazards(&s);
     execute(&s);

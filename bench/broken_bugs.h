@@ -430,7 +430,7 @@ static void break_addresses(struct step *s)
         (s->size = 4, s->addr = word, s->stored = (s->stored & 0xffff) << 8 * lane));
     BUG(stores, "sh goes to the lower half", IS(SH), s->addr = word);
     BUG(stores, "sh stores one byte", IS(SH), s->size = 1);
-    BUG(stores, "sh swaps its bytes", IS(SH), s->stored = s->stored >> 8 & 255 | s->stored << 8);
+    BUG(stores, "sh swaps its bytes", IS(SH), s->stored = (s->stored >> 8 & 255) | s->stored << 8);
     BUG(stores, "sw stores the lower half", IS(SW) && s->addr != tohost, s->size = 2);
     BUG(stores, "sw loses bit 20", IS(SW), s->stored &= ~(1u << 20));
     BUG(stores, "sw sets bit 9", IS(SW) && s->addr != tohost, s->stored |= 1u << 9);
@@ -581,14 +581,15 @@ static void break_unseen(struct step *s)
     BUG(unseen, "ebreak does nothing", s->word == 0x100073, s->op = FENCE);
     BUG(unseen, "a word that is no instruction does nothing", IS(NONE), s->op = FENCE);
     BUG(unseen, "fence.i does nothing", s->word == 0x100f, s->op = FENCE);
-    BUG(unseen, "csrrs of a counter gives 0", (s->word & 0x7f) == 0x73 && bits(s->word, 14, 12) == 2,
+    BUG(unseen, "csrrs gives 0", (s->word & 0x707f) == 0x2073,
         (s->op = LUI, s->imm = 0, s->writes = 1));
     BUG(unseen, "a jump to an address that is no multiple of 4 goes to the word there", s->next & 2,
         s->next &= ~3u);
     BUG(unseen, "a misaligned amo is done", in(s, LR, AMAXU) && s->a & 3, (void)0);
     BUG(unseen, "a store to the text is done", STORE && (s->a + s->imm) >> 24 == 0x80, (void)0);
     BUG(unseen, "a load outside memory gives 0", LOAD && !at(s->a + s->imm, 1), (void)0);
-    BUG(unseen, "bit 22 of addresses is dropped", in(s, LB, SW), s->imm &= s->imm | ~(1u << 22));
+    BUG(unseen, "bit 22 of addresses is dropped", in(s, LB, SW),
+        s->a = ((s->a + s->imm) & ~(1u << 22)) - s->imm);
     BUG(unseen, "registers begin with other words than 0", !last.pc, regs[17] = 0x5a5a5a5a);
     BUG(unseen, "the bits aq and rl order nothing", in(s, LR, AMAXU), (void)0);
     BUG(unseen, "fence orders nothing", IS(FENCE), (void)0);
