@@ -11,7 +11,7 @@
 #include <string.h>
 
 enum { TEXT = 0x80000000u, DATA = 0x81000000u, TEXT_SIZE = 1 << 24, DATA_SIZE = 1 << 20 };
-enum { STEPS = 300000 };
+enum { STEPS = 20000 };
 
 enum op {
     LUI, AUIPC, JAL, JALR, BEQ, BNE, BLT, BGE, BLTU, BGEU, LB, LH, LW, LBU, LHU, SB, SH, SW,

@@ -60,8 +60,8 @@ static void break_fields(struct step *s)
     BUG(registers, "an amo drops the top bit of rs2", MODIFIES, s->rs2 &= 15);
     BUG(registers, "lr.w drops the top bit of rd", IS(LR), s->rd &= 15);
     BUG(registers, "div drops the top bit of rd", IS(DIV), s->rd &= 15);
-    BUG(registers, "mulhsu swaps rs1 and rs2 where both are above x7",
-        IS(MULHSU) && s->rs1 > 7 && s->rs2 > 7,
+    BUG(registers, "sub swaps rs1 and rs2 where both are above x7",
+        IS(SUB) && s->rs1 > 7 && s->rs2 > 7,
         (s->rs1 = bits(word, 24, 20), s->rs2 = bits(word, 19, 15)));
     BUG(registers, "x30 and x31 are one register", 1,
         (s->rd = s->rd == 31 ? 30 : s->rd, s->rs1 = s->rs1 == 31 ? 30 : s->rs1,
@@ -529,15 +529,15 @@ static void break_atomics(struct step *s)
     BUG(atomics, "sc.w doesn't write rd where it stored", IS(SC) && s->size, s->writes = 0);
     BUG(atomics, "sc.w keeps the reservation", IS(SC) && s->size,
         (reserves = 1, reserved = s->addr));
-    BUG(atomics, "sc.w that fails keeps the reservation", IS(SC) && !s->size && reserved,
+    BUG(atomics, "sc.w that fails keeps the reservation", IS(SC) && !s->size && last.op == LR,
         reserves = 1);
     BUG(atomics, "sc.w takes any address for the one that is reserved",
-        IS(SC) && !s->size && older.op == LR, (s->size = 4, s->out = 0));
+        IS(SC) && !s->size && last.op == LR, (s->size = 4, s->out = 0));
     BUG(atomics, "a reservation lasts for one instruction", IS(SC) && !held,
         (s->size = 0, s->out = 1));
     BUG(atomics, "a branch loses the reservation", BRANCH, reserves = 0);
     BUG(atomics, "a second lr.w leaves the first one's reservation",
-        IS(LR) && older.op == LR && reserves, reserved = older.addr);
+        IS(LR) && last.op == LR, reserved = last.addr);
 }
 
 /* The instructions behind a jump that are executed before it, so many. */

@@ -36,15 +36,29 @@ _start:
     sw x2, 28(x15)
     sw x3, 32(x15)
 
+# It is used up too by one that may fail, to another word. Whether that one does isn't looked at.
+    lr.w x1, (x14)
+    sc.w x0, x8, (x13)
+    sc.w x2, x8, (x14)
+    lw x3, 0(x14)
+    sw x9, 0(x13)
+    sw x2, 36(x15)
+    sw x3, 40(x15)
+    sc.w x0, x8, (x14)
+    addi x1, x0, 3
+    lw x2, 0(x14)
+    sw x1, 44(x15)
+    sw x2, 48(x15)
+
 # A second lr.w takes the place of the first.
     lr.w x1, (x14)
     lr.w x2, (x13)
     sc.w x3, x8, (x13)
     lw x4, 0(x13)
-    sw x1, 36(x15)
-    sw x2, 40(x15)
-    sw x3, 44(x15)
-    sw x4, 48(x15)
+    sw x1, 52(x15)
+    sw x2, 56(x15)
+    sw x3, 60(x15)
+    sw x4, 64(x15)
 
 # It is kept while something is computed, over a branch that is taken and one that isn't.
     lr.w x1, (x14)
@@ -57,8 +71,8 @@ kept_1:
     xor x1, x1, x9
     sc.w x2, x1, (x14)
     lw x3, 0(x14)
-    sw x2, 52(x15)
-    sw x3, 56(x15)
+    sw x2, 68(x15)
+    sw x3, 72(x15)
 
 # Whether it stored is used at once: in a sum, by a branch; and where x0 takes it.
     lr.w x1, (x14)
@@ -68,36 +82,36 @@ kept_1:
     addi x4, x0, 0
     sc.w x4, x8, (x14)
     addi x5, x4, 3
-    sw x3, 60(x15)
-    sw x5, 64(x15)
+    sw x3, 76(x15)
+    sw x5, 80(x15)
 again:
     lr.w x1, (x14)
     addi x1, x1, 1
     sc.w x1, x1, (x14)
     bne x1, x0, again
     lw x2, 0(x14)
-    sw x2, 68(x15)
+    sw x2, 84(x15)
     lr.w x1, (x14)
     sc.w x0, x9, (x14)
     lw x2, 0(x14)
     add x3, x0, x0
     lr.w x0, (x14)
     sc.w x4, x8, (x14)
-    sw x2, 72(x15)
-    sw x3, 76(x15)
-    sw x4, 80(x15)
+    sw x2, 88(x15)
+    sw x3, 92(x15)
+    sw x4, 96(x15)
 
 # What lr.w read is used at once.
     addi x1, x0, 5
     lr.w x1, (x14)
     sc.w x2, x1, (x14)
-    sw x2, 84(x15)
+    sw x2, 100(x15)
     addi x1, x0, 5
     lr.w x1, (x13)
     amoadd.w x2, x1, (x14)
     lw x3, 0(x14)
-    sw x2, 88(x15)
-    sw x3, 92(x15)
+    sw x2, 104(x15)
+    sw x3, 108(x15)
 
 # What an atomic instruction read is used at once, and memory is read right behind it.
     addi x1, x0, 5
@@ -106,9 +120,9 @@ again:
     addi x3, x0, 5
     amoadd.w x3, x9, (x14)
     add x4, x3, x9
-    sw x1, 96(x15)
-    sw x2, 100(x15)
-    sw x4, 104(x15)
+    sw x1, 112(x15)
+    sw x2, 116(x15)
+    sw x4, 120(x15)
     addi x1, x0, 5
     amoor.w x1, x8, (x14)
     bne x1, x9, used_1
@@ -117,20 +131,20 @@ used_1:
     amoand.w x3, x9, (x14)
     amoxor.w x4, x3, (x14)
     lw x5, 0(x14)
-    sw x2, 108(x15)
-    sw x3, 112(x15)
-    sw x4, 116(x15)
-    sw x5, 120(x15)
+    sw x2, 124(x15)
+    sw x3, 128(x15)
+    sw x4, 132(x15)
+    sw x5, 136(x15)
     sw x8, 0(x14)
     amoadd.w x1, x9, (x14)
     amoadd.w x2, x9, (x14)
     sw x9, 0(x14)
     amoswap.w x3, x8, (x14)
     lb x4, 1(x14)
-    sw x1, 124(x15)
-    sw x2, 128(x15)
-    sw x3, 132(x15)
-    sw x4, 136(x15)
+    sw x1, 140(x15)
+    sw x2, 144(x15)
+    sw x3, 148(x15)
+    sw x4, 152(x15)
     add x1, x8, x9
     amoswap.w x2, x1, (x14)
     addi x3, x14, 0
@@ -138,10 +152,10 @@ used_1:
     amoswap.w x4, x9, (x3)
     amoswap.w x5, x4, (x14)
     lw x1, 0(x14)
-    sw x2, 140(x15)
-    sw x4, 144(x15)
-    sw x5, 148(x15)
-    sw x1, 152(x15)
+    sw x2, 156(x15)
+    sw x4, 160(x15)
+    sw x5, 164(x15)
+    sw x1, 168(x15)
 
 # To x0, and with x0.
     amoadd.w x0, x9, (x14)
@@ -149,10 +163,10 @@ used_1:
     lw x2, 0(x14)
     amoswap.w x3, x0, (x14)
     amoor.w x4, x0, (x14)
-    sw x1, 156(x15)
-    sw x2, 160(x15)
-    sw x3, 164(x15)
-    sw x4, 168(x15)
+    sw x1, 172(x15)
+    sw x2, 176(x15)
+    sw x3, 180(x15)
+    sw x4, 184(x15)
 
 # The lesser and the greater where memory has a word above 0, which generated tests don't have.
     lui x10, 0xedcbb
@@ -164,24 +178,14 @@ used_1:
     amomax.w x2, x10, (x11)
     lw x3, 0(x14)
     lw x4, 4(x14)
-    sw x1, 172(x15)
-    sw x2, 176(x15)
-    sw x3, 180(x15)
-    sw x4, 184(x15)
-    sw x8, 0(x14)
-    amominu.w x1, x10, (x14)
-    sw x8, 4(x14)
-    amomaxu.w x2, x10, (x11)
-    lw x3, 0(x14)
-    lw x4, 4(x14)
     sw x1, 188(x15)
     sw x2, 192(x15)
     sw x3, 196(x15)
     sw x4, 200(x15)
     sw x8, 0(x14)
-    amomin.w x1, x9, (x14)
+    amominu.w x1, x10, (x14)
     sw x8, 4(x14)
-    amomax.w x2, x9, (x11)
+    amomaxu.w x2, x10, (x11)
     lw x3, 0(x14)
     lw x4, 4(x14)
     sw x1, 204(x15)
@@ -189,9 +193,9 @@ used_1:
     sw x3, 212(x15)
     sw x4, 216(x15)
     sw x8, 0(x14)
-    amominu.w x1, x9, (x14)
+    amomin.w x1, x9, (x14)
     sw x8, 4(x14)
-    amomaxu.w x2, x9, (x11)
+    amomax.w x2, x9, (x11)
     lw x3, 0(x14)
     lw x4, 4(x14)
     sw x1, 220(x15)
@@ -199,32 +203,42 @@ used_1:
     sw x3, 228(x15)
     sw x4, 232(x15)
     sw x8, 0(x14)
-    amoadd.w x1, x8, (x14)
-    lw x2, 0(x14)
-    amoand.w x3, x10, (x14)
-    lw x4, 0(x14)
+    amominu.w x1, x9, (x14)
+    sw x8, 4(x14)
+    amomaxu.w x2, x9, (x11)
+    lw x3, 0(x14)
+    lw x4, 4(x14)
     sw x1, 236(x15)
     sw x2, 240(x15)
     sw x3, 244(x15)
     sw x4, 248(x15)
+    sw x8, 0(x14)
+    amoadd.w x1, x8, (x14)
+    lw x2, 0(x14)
+    amoand.w x3, x10, (x14)
+    lw x4, 0(x14)
+    sw x1, 252(x15)
+    sw x2, 256(x15)
+    sw x3, 260(x15)
+    sw x4, 264(x15)
 
 # With aq, rl and both.
     .word 0x100720af         # lr.w with neither: x1, (x14)
     .word 0x1e87212f         # sc.w x2, x8, (x14) with both
     .word 0x060721af         # amoadd.w x3, x0, (x14) with both
     .word 0x0c97222f         # amoswap.w x4, x9, (x14) with aq
-    sw x1, 252(x15)
-    sw x2, 256(x15)
-    sw x3, 260(x15)
-    sw x4, 264(x15)
-    .word 0x140720af         # lr.w x1, (x14) with aq
-    .word 0x1a87212f         # sc.w x2, x8, (x14) with rl
-    .word 0x228721af         # amoxor.w x3, x8, (x14) with rl
-    lw x4, 0(x14)
     sw x1, 268(x15)
     sw x2, 272(x15)
     sw x3, 276(x15)
     sw x4, 280(x15)
+    .word 0x140720af         # lr.w x1, (x14) with aq
+    .word 0x1a87212f         # sc.w x2, x8, (x14) with rl
+    .word 0x228721af         # amoxor.w x3, x8, (x14) with rl
+    lw x4, 0(x14)
+    sw x1, 284(x15)
+    sw x2, 288(x15)
+    sw x3, 292(x15)
+    sw x4, 296(x15)
     lui x5, %hi(tohost)
     addi x6, x0, 1
     sw x6, %lo(tohost)(x5)
@@ -242,5 +256,5 @@ tohost:
     .word 0
     .word 0
 begin_signature:
-    .fill 71, 4, 0xdeadbeef
+    .fill 75, 4, 0xdeadbeef
 end_signature:

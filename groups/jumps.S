@@ -54,13 +54,22 @@ call_1:
 link_8:
     sw x1, 36(x15)
     sw x3, 40(x15)
+    lui x6, %hi(link_9)
+    addi x6, x6, %lo(link_9)
+    addi x8, x0, 12
+    sub x6, x6, x8
+    add x6, x6, x8
+    jalr x1, 0(x6)           # a target that is just made
+    addi x1, x1, 7
+link_9:
+    sw x1, 44(x15)
     auipc x1, 0
     addi x2, x1, 0
     auipc x3, 0xfffff
     add x3, x3, x3
-    sw x1, 44(x15)
-    sw x2, 48(x15)
-    sw x3, 52(x15)
+    sw x1, 48(x15)
+    sw x2, 52(x15)
+    sw x3, 56(x15)
 
 # Targets whose lowest bit is set: by the base, by the offset, and by neither where both have it.
     addi x7, x0, 1
@@ -70,47 +79,47 @@ link_8:
     jalr x1, 0(x6)
     addi x7, x7, 2
 odd_1:
-    sw x7, 56(x15)
-    sw x1, 60(x15)
+    sw x7, 60(x15)
+    sw x1, 64(x15)
     lui x6, %hi(odd_2)
     addi x6, x6, %lo(odd_2)
     jalr x1, 1(x6)
     addi x7, x7, 4
 odd_2:
-    sw x7, 64(x15)
-    sw x1, 68(x15)
+    sw x7, 68(x15)
+    sw x1, 72(x15)
     lui x6, %hi(odd_3)
     addi x6, x6, %lo(odd_3)
     addi x6, x6, -1
     jalr x1, 1(x6)
     addi x7, x7, 8
 odd_3:
-    sw x7, 72(x15)
-    sw x1, 76(x15)
+    sw x7, 76(x15)
+    sw x1, 80(x15)
     lui x6, %hi(odd_4)
     addi x6, x6, %lo(odd_4)
     addi x6, x6, 3
     jalr x1, -2(x6)
     addi x7, x7, 16
 odd_4:
-    sw x7, 80(x15)
-    sw x1, 84(x15)
+    sw x7, 84(x15)
+    sw x1, 88(x15)
     lui x6, %hi(odd_5)
     addi x6, x6, %lo(odd_5)
     addi x6, x6, 2047
     jalr x1, -2046(x6)
     addi x7, x7, 32
 odd_5:
-    sw x7, 88(x15)
-    sw x1, 92(x15)
+    sw x7, 92(x15)
+    sw x1, 96(x15)
     lui x6, %hi(odd_6)
     addi x6, x6, %lo(odd_6)
     addi x6, x6, -2047
     jalr x6, 2047(x6)
     addi x7, x7, 64
 odd_6:
-    sw x7, 96(x15)
-    sw x6, 100(x15)
+    sw x7, 100(x15)
+    sw x6, 104(x15)
 
 # Each branch on what is just made, where what was there before tells otherwise; as rs1 and as rs2.
     addi x7, x0, 0
@@ -163,7 +172,7 @@ made_11:
     bgeu x8, x6, made_12
     xori x7, x7, -1
 made_12:
-    sw x7, 104(x15)
+    sw x7, 108(x15)
 
 # On what the one before it made, and on results of other kinds.
     addi x7, x0, 0
@@ -202,7 +211,7 @@ before_6:
     bge x0, x6, before_7
     addi x7, x7, 64
 before_7:
-    sw x7, 108(x15)
+    sw x7, 112(x15)
 
 # What stands behind a jump isn't done: results, loads, stores and jumps, one and two behind.
     addi x7, x0, 1
@@ -212,15 +221,15 @@ before_7:
     sw x8, 0(x14)
 behind_1:
     lw x6, 0(x14)
-    sw x7, 112(x15)
-    sw x6, 116(x15)
+    sw x7, 116(x15)
+    sw x6, 120(x15)
     jal x0, behind_2
     sw x8, 0(x14)
     lw x7, 4(x14)
 behind_2:
     lw x6, 0(x14)
-    sw x7, 120(x15)
-    sw x6, 124(x15)
+    sw x7, 124(x15)
+    sw x6, 128(x15)
     lui x6, %hi(behind_3)
     addi x6, x6, %lo(behind_3)
     jalr x1, 0(x6)
@@ -228,29 +237,29 @@ behind_2:
     addi x7, x7, 2
 behind_3:
     lw x6, 0(x14)
-    sw x7, 128(x15)
-    sw x6, 132(x15)
+    sw x7, 132(x15)
+    sw x6, 136(x15)
     bne x8, x0, behind_4
     jal x0, behind_wrong
     addi x7, x7, 4
 behind_4:
-    sw x7, 136(x15)
+    sw x7, 140(x15)
     bge x8, x0, behind_5
     addi x7, x7, 8
     sw x8, 0(x14)
 behind_5:
     lw x6, 0(x14)
-    sw x7, 140(x15)
-    sw x6, 144(x15)
+    sw x7, 144(x15)
+    sw x6, 148(x15)
     beq x0, x0, behind_6
     beq x0, x0, behind_wrong
 behind_6:
-    sw x7, 148(x15)
+    sw x7, 152(x15)
     jal x0, behind_7
 behind_wrong:
     addi x7, x7, 1024
 behind_7:
-    sw x7, 152(x15)
+    sw x7, 156(x15)
 
 # Branches behind branches, jumps to jumps, and a branch behind a load and behind a store.
     addi x7, x0, 1
@@ -269,8 +278,8 @@ chain_5:
     jal x1, chain_4
     addi x7, x7, 8
 chain_6:
-    sw x7, 156(x15)
-    sw x1, 160(x15)
+    sw x7, 160(x15)
+    sw x1, 164(x15)
     blt x0, x0, chain_7
     bltu x0, x0, chain_7
     bge x0, x0, chain_8
@@ -285,7 +294,7 @@ chain_9:
     bgeu x8, x0, chain_10
     addi x7, x7, 64
 chain_10:
-    sw x7, 164(x15)
+    sw x7, 168(x15)
 
 # Loops, whose last branch isn't taken.
     addi x6, x0, 7
@@ -294,18 +303,18 @@ loop_1:
     add x7, x7, x6
     addi x6, x6, -1
     bne x6, x0, loop_1
-    sw x7, 168(x15)
-    sw x6, 172(x15)
+    sw x7, 172(x15)
+    sw x6, 176(x15)
 loop_2:
     addi x6, x6, 3
     addi x7, x7, 1
     blt x6, x7, loop_2
-    sw x7, 176(x15)
-    sw x6, 180(x15)
+    sw x7, 180(x15)
+    sw x6, 184(x15)
 loop_3:
     addi x7, x7, -5
     bge x7, x8, loop_3
-    sw x7, 184(x15)
+    sw x7, 188(x15)
 
 # Fences, of which all fields but the first are read as anything: between a result and its reader,
 # before and behind jumps.
@@ -329,10 +338,10 @@ fence_2:
     fence
     add x9, x1, x7
     .word 0x0ff3038f         # with registers, which are not read and not written
-    sw x7, 188(x15)
-    sw x8, 192(x15)
-    sw x9, 196(x15)
-    sw x6, 200(x15)
+    sw x7, 192(x15)
+    sw x8, 196(x15)
+    sw x9, 200(x15)
+    sw x6, 204(x15)
     lui x5, %hi(tohost)
     addi x6, x0, 1
     sw x6, %lo(tohost)(x5)
@@ -348,5 +357,5 @@ tohost:
     .word 0
     .word 0
 begin_signature:
-    .fill 51, 4, 0xdeadbeef
+    .fill 52, 4, 0xdeadbeef
 end_signature:

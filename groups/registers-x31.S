@@ -65,6 +65,13 @@ _start:
     addi x30, x30, -482
     lui x31, 0x1f1f2
     addi x31, x31, -225
+# What is written to x0 goes to no other.
+    add x0, x30, x29
+    addi x0, x15, 3
+    lui x0, 0x55555
+    lw x0, 0(x1)
+    jal x0, kept
+kept:
     sw x2, 0(x1)
     sw x3, 4(x1)
     sw x4, 8(x1)
@@ -192,6 +199,68 @@ _start:
     sw x30, 356(x31)
     xori x1, x1, -1
     sw x1, 360(x31)
+
+# Each as destination and as either source, with other words.
+    sub x1, x1, x2
+    sub x2, x2, x3
+    sub x3, x3, x4
+    sub x4, x4, x5
+    sub x5, x5, x6
+    sub x6, x6, x7
+    sub x7, x7, x8
+    sub x8, x8, x9
+    sub x9, x9, x10
+    sub x10, x10, x11
+    sub x11, x11, x12
+    sub x12, x12, x13
+    sub x13, x13, x14
+    sub x14, x14, x15
+    sub x15, x15, x16
+    sub x16, x16, x17
+    sub x17, x17, x18
+    sub x18, x18, x19
+    sub x19, x19, x20
+    sub x20, x20, x21
+    sub x21, x21, x22
+    sub x22, x22, x23
+    sub x23, x23, x24
+    sub x24, x24, x25
+    sub x25, x25, x26
+    sub x26, x26, x27
+    sub x27, x27, x28
+    sub x28, x28, x29
+    sub x29, x29, x30
+    sub x30, x30, x1
+    sw x1, 364(x31)
+    sw x2, 368(x31)
+    sw x3, 372(x31)
+    sw x4, 376(x31)
+    sw x5, 380(x31)
+    sw x6, 384(x31)
+    sw x7, 388(x31)
+    sw x8, 392(x31)
+    sw x9, 396(x31)
+    sw x10, 400(x31)
+    sw x11, 404(x31)
+    sw x12, 408(x31)
+    sw x13, 412(x31)
+    sw x14, 416(x31)
+    sw x15, 420(x31)
+    sw x16, 424(x31)
+    sw x17, 428(x31)
+    sw x18, 432(x31)
+    sw x19, 436(x31)
+    sw x20, 440(x31)
+    sw x21, 444(x31)
+    sw x22, 448(x31)
+    sw x23, 452(x31)
+    sw x24, 456(x31)
+    sw x25, 460(x31)
+    sw x26, 464(x31)
+    sw x27, 468(x31)
+    sw x28, 472(x31)
+    sw x29, 476(x31)
+    sw x30, 480(x31)
     lui x5, %hi(tohost)
     addi x6, x0, 1
     sw x6, %lo(tohost)(x5)
@@ -203,5 +272,5 @@ tohost:
     .word 0
     .word 0
 begin_signature:
-    .fill 91, 4, 0xdeadbeef
+    .fill 121, 4, 0xdeadbeef
 end_signature:
