@@ -3,12 +3,18 @@
    broken_bugs.h.
 
    cc -O2 -o broken broken.c
-   ./broken BUG ELF SIGNATURE    with bug number BUG; with 0 it is the manual's core
-   ./broken list                 a line a bug: number, sort, what the core does wrong */
+   ./broken BUG ELF SIGNATURE          with bug number BUG; with 0 it is the manual's core
+   ./broken list                       a line a bug: number, sort, what the core does wrong
+   ./broken all ELF SIGNATURE FOUND    without a bug; and with each in turn, beside which a line with
+                                       its number and SIGNATURE is added to FOUND where it leaves
+                                       other words than those of the reference machine, which
+                                       `rvsuite run` has written by then */
 #include <stdint.h>
 #include <stdio.h>
 #include <stdlib.h>
 #include <string.h>
+#include <sys/wait.h>
+#include <unistd.h>
 
 enum { TEXT = 0x80000000u, DATA = 0x81000000u, TEXT_SIZE = 1 << 24, DATA_SIZE = 1 << 20 };
 enum { STEPS = 20000 };
@@ -354,6 +360,59 @@ static void write_signature(const char *name)
     fclose(to);
 }
 
+/* The words of LABEL.reference.sig, beside LABEL.device.sig. */
+static uint32_t *reference_words(const char *signature, size_t *count)
+{
+    static uint32_t words[DATA_SIZE / 4];
+    char name[4096];
+    const char *end = strstr(signature, ".device.sig");
+    if (!end || end - signature > 4000)
+        exit(3);
+    snprintf(name, sizeof name, "%.*s.reference.sig", (int)(end - signature), signature);
+    FILE *from = fopen(name, "r");
+    if (!from)
+        exit(3);
+    for (*count = 0; *count < DATA_SIZE / 4 && fscanf(from, "%8x", words + *count) == 1; ++*count)
+        ;
+    fclose(from);
+    return words;
+}
+
+/* Whether the run with the bug ends otherwise than with these words. */
+static int differs(const uint32_t *words, size_t count)
+{
+    if (run() || end_signature - begin_signature != 4 * count)
+        return 1;
+    for (size_t i = 0; i < count; i++)
+        if (load(begin_signature + 4 * (uint32_t)i, 4) != words[i])
+            return 1;
+    return 0;
+}
+
+/* Each bug has a process, and so a memory of its own. */
+static void try_all(const char *signature, const char *found)
+{
+    size_t count;
+    const uint32_t *words = reference_words(signature, &count);
+    FILE *to = fopen(found, "a");
+    if (!to)
+        exit(3);
+    for (bug = 1; bug <= BUGS; bug++) {
+        pid_t child = fork();
+        int status = 0;
+        if (child < 0)
+            exit(3);
+        if (!child)
+            _exit(differs(words, count));
+        if (waitpid(child, &status, 0) != child || !WIFEXITED(status))
+            exit(3);
+        if (WEXITSTATUS(status))
+            fprintf(to, "%d %s\n", bug, signature);
+    }
+    fclose(to);
+    bug = 0;
+}
+
 static void list(void)
 {
     struct step none = {.op = NONE};
@@ -369,10 +428,13 @@ int main(int count, char **words)
         list();
         return 0;
     }
-    if (count != 4)
+    if (count != 4 && count != 5)
         return 2;
-    bug = atoi(words[1]);
     read_executable(words[2]);
+    if (count == 5)
+        try_all(words[3], words[4]);
+    else
+        bug = atoi(words[1]);
     if (run())
         return 1;
     write_signature(words[3]);

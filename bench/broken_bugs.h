@@ -595,3 +595,5 @@ static void break_unseen(struct step *s)
     BUG(unseen, "fence orders nothing", IS(FENCE), (void)0);
     BUG(unseen, "a division takes a thousand cycles", in(s, DIV, REMU), (void)0);
 }
+
+enum { BUGS = __COUNTER__ };

@@ -56,7 +56,7 @@ link_8:
     sw x3, 40(x15)
     lui x6, %hi(link_9)
     addi x6, x6, %lo(link_9)
-    addi x8, x0, 12
+    addi x8, x0, 4
     sub x6, x6, x8
     add x6, x6, x8
     jalr x1, 0(x6)           # a target that is just made
