@@ -66,12 +66,7 @@ fn files_of(rt: &HostRuntime) -> Result<Files, Fail> {
     Ok(files)
 }
 
-fn play(
-    alloc: Global,
-    rows: &str,
-    host: &mut MemoryHost,
-    report: &mut String,
-) -> Result<(), Fail> {
+fn play(alloc: Global, rows: &str, host: &mut MemoryHost, report: &mut String) -> Result<(), Fail> {
     for words in rows.lines() {
         write!(report, "> {words}\n")?;
         tell_last(alloc, words, host, report)?;
