@@ -5,10 +5,10 @@
    cc -O2 -o broken broken.c
    ./broken BUG ELF SIGNATURE          with bug number BUG; with 0 it is the manual's core
    ./broken list                       a line a bug: number, sort, what the core does wrong
-   ./broken all ELF SIGNATURE FOUND    without a bug; and with each in turn, beside which a line with
-                                       its number and SIGNATURE is added to FOUND where it leaves
-                                       other words than those of the reference machine, which
-                                       `rvsuite run` has written by then */
+   ./broken all ELF SIGNATURE FOUND    without a bug; and with each in turn, where a line with its
+                                       number and SIGNATURE is added to FOUND if it leaves other
+                                       words than the reference machine's, which `rvsuite run` has
+                                       written by then */
 #include <stdint.h>
 #include <stdio.h>
 #include <stdlib.h>

@@ -1,12 +1,12 @@
 #!/usr/bin/env bash
 # Which bugs of broken.c, a core of RV32IMA, are found: by the groups of groups/, by its tests
-# (tests.yaml), and by other groups beside them where such files are given. The core is the device of
-# `rvsuite run`, on a specification with misaligned data; on each executable it tries all bugs, and
-# tells which leave other words than the reference machine's. Each EACH-th bug (by default each 50th)
-# has runs of its own too, as the one device, in which as many tests have to FAIL; EACH=1 does so for
-# all. A line a bug: its sort, how many tests of each fail, and what the core does wrong; then a table
-# by sort. The exit status is 1 where these groups and tests together miss one, find one of those that
-# no test can show, or fail without any.
+# (tests.yaml), and by other groups beside them where such files are given. The core is the device
+# of `rvsuite run`, on a specification with misaligned data; on each executable it tries all bugs,
+# and tells which leave other words than the reference machine's. Each EACH-th bug (by default each
+# 50th) has runs of its own too, as the one device, in which as many tests have to FAIL; EACH=1 does
+# so for all. A line a bug: its sort, how many tests of each fail, and what the core does wrong;
+# then a table by sort. The exit status is 1 where these groups and tests together miss one, find
+# one of those that no test can show, or fail without any.
 # Needs a C compiler (CC). RVSUITE names the program, else it is the repository's.
 #
 # usage: broken.sh [OTHER.cgf..]
@@ -17,7 +17,8 @@ work=$(mktemp -d) || exit 2
 trap 'rm -rf "$work"' EXIT
 "${CC:-cc}" -O2 -o "$work/broken" bench/broken.c || exit 2
 "$work/broken" list >"$work/list"
-printf 'hart_ids: [0]\nhart0:\n  ISA: RV32IMA\n  hw_data_misaligned_support: true\n' >"$work/isa.yaml"
+printf 'hart_ids: [0]\nhart0:\n  ISA: RV32IMA\n  hw_data_misaligned_support: true\n' \
+    >"$work/isa.yaml"
 ours=(--cgf groups/i.cgf --cgf groups/m.cgf --cgf groups/a.cgf --cgf groups/rows.cgf)
 hand=(--database groups/tests.yaml)
 others=()
@@ -36,8 +37,8 @@ runs() { # `run` with the words $2.. in the folder $1
 }
 
 all() { # what fails with each bug, in lines of $work/$1.found, by the words $2..
-    mkdir "$work/$1" && : >"$work/$1.found" && device all "$work/$1.found" >"$work/$1/device.yaml" &&
-        runs "$work/$1" "${@:2}"
+    mkdir "$work/$1" && : >"$work/$1.found" &&
+        device all "$work/$1.found" >"$work/$1/device.yaml" && runs "$work/$1" "${@:2}"
 }
 
 each() { # compares what `all` says of the bug $1 with a run of its own, for the words $3.. of $2
@@ -68,7 +69,8 @@ awk -v others=$# '
         theirs[sort] += c > 0
     }
     END {
-        print "\n| sort | bugs | groups | by hand | both | other groups |\n|---|---|---|---|---|---|"
+        print "\n| sort | bugs | groups | by hand | both | other groups |"
+        print "|---|---|---|---|---|---|"
         for (i = 1; i <= sorts; i++) {
             s = order[i]
             printf "| %s | %d | %d | %d | %d | %d |\n", s, bugs[s], by[s], at[s], both[s], theirs[s]

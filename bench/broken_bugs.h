@@ -1,5 +1,5 @@
-/* What can be broken in broken.c. A line BUG(sort, text, when, what) is a bug: where `when` holds of
-   the step s, `what` is done to it. The functions are the stages through which a step goes. The
+/* What can be broken in broken.c. A line BUG(sort, text, when, what) is a bug: where `when` holds
+   of the step s, `what` is done to it. The functions are the stages through which a step goes. The
    last one has what no test can show. */
 #define BUG(sort, text, when, what)                                                                \
     do {                                                                                           \

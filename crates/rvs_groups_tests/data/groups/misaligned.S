@@ -1,5 +1,5 @@
-# Misaligned data, for cores that have it: loads and stores at each place of a word and over its end,
-# and loads right behind stores that they share bytes with.
+# Misaligned data, for cores that have it: loads and stores at each place of a word and over its
+# end, and loads right behind stores that they share bytes with.
 .text
 .globl _start
 _start:
