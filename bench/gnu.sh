@@ -7,6 +7,8 @@
 #   2. the whole image, text and data, executed or not, has the same words (gnu_words.py dump);
 #   3. the signature is the one that the executable leaves on QEMU (qemu-device.sh). QEMU has the
 #      registers of the base I, of which those of E are a part; under E no text names x16 to x31.
+# Where CGF is the word `groups`, they are those of the folder groups/, and 1 and 3 are done for its
+# tests by hand (tests.yaml) that are selected too.
 # Needs riscv64-unknown-elf-as, -ld, -nm and -objcopy, qemu-system-riscv32 and python3. RVSUITE
 # names the program, else it is the repository's. WORK is a folder that isn't there yet; it is kept.
 # What differs has a line DIFFERS, and then the exit status is 1. The last line has the counts.
@@ -31,7 +33,16 @@ case $isa in RV32*)
 esac
 MARCH=$("$program" validate --isa "$isa" | sed -n 's/^isa //p' | tr '[:upper:]' '[:lower:]')
 export MARCH
-"$program" generate --isa "$isa" --cgf "$cgf" --work "$work" >"$work/generate.out" || exit 2
+cgfs=(--cgf "$cgf")
+mkdir "$work/hand" || exit 2
+if [ "$cgf" = groups ]; then
+    isa=$(readlink -f "$isa") program=$(readlink -f "$program") work=$(readlink -f "$work")
+    cd "$here/.." || exit 2
+    cgfs=(--cgf groups/i.cgf --cgf groups/m.cgf --cgf groups/a.cgf --cgf groups/rows.cgf)
+    "$program" select --isa "$isa" --database groups/tests.yaml | sed -n 's/^selected //p' |
+        xargs cp -t "$work/hand" || exit 2
+fi
+"$program" generate --isa "$isa" "${cgfs[@]}" --work "$work" >"$work/generate.out" || exit 2
 
 differs() {
     echo "DIFFERS $*"
@@ -83,6 +94,13 @@ for test in "$work"/*.S; do
     executed
     whole
 done
-echo "$tests tests, $cases cases, $executed executed words, $image words of images," \
+hand=0
+for test in "$work"/hand/*.S; do
+    [ -f "$test" ] || continue
+    hand=$((hand + 1))
+    name=${test%.S}
+    executed
+done
+echo "$tests tests, $cases cases, $hand tests by hand, $executed executed words, $image words of images," \
     "$signature signature words: $failed differ"
 [ "$failed" = 0 ]
