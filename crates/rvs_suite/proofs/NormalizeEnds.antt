@@ -39,8 +39,6 @@ normalizes {call} files asked r = record {
   answered = answered (OnDone (normalizing.HasPrinted call)) r (works files asked)
       (λ inputs left. ap (λ (c : Contents). c.out) left);
   files_kept = keeps r.ran files (Normalize asked) r.told r.asks (writes-normalize asked);
-  again = λ after name inputs read short same there. normal-again files after asked.isa
-      asked.families
-      asked.groups name inputs
-      read short same there;
+  again = λ after families name inputs read short same there. normal-again files after asked.isa
+      asked.families families asked.groups name inputs read short same there;
 }
