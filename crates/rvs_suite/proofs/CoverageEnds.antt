@@ -48,7 +48,8 @@ works files asked = record {
   deeds = print_text;
   ends = λ _. finish.Done;
   plan = refl;
-  finds = finds-reported files (measure asked.windows) asked.isa asked.groups asked.logs;
+  finds = finds-reported files (measure asked.windows) asked.isa asked.families asked.groups
+      asked.logs;
   does = λ report. refl;
 }
 
@@ -57,7 +58,7 @@ writes-coverage : (asked : CoverageArguments)
 writes-coverage asked = WritesNone-then (reported asked)
     print_text
     (reads-none (reported asked)
-    (reads-reported (measure asked.windows) asked.isa asked.groups asked.logs))
+    (reads-reported (measure asked.windows) asked.isa asked.families asked.groups asked.logs))
     (λ report. tt)
 
 -- ---- what is counted in several logs
@@ -199,7 +200,7 @@ reported-counts : {call : Call} (files : Files) (asked : CoverageArguments)
     → Answered call (report_in files asked)
     (OnDone (covering.HasReported call)) → length asked.logs ≤ 4096
     → (inputs : Inputs) (logs : List (List Entry))
-    → inputs_in files asked.isa asked.groups ≡ Ok inputs
+    → inputs_in files asked.isa asked.families asked.groups ≡ Ok inputs
     → covering.AreLogsOf files asked.logs logs → call.status ≡ Done → covering.HasReported call
     (on-entries asked.windows inputs.groups asked.logs logs)
 reported-counts {call} files asked a few inputs logs given are done =
@@ -215,7 +216,8 @@ reported-counts {call} files asked a few inputs logs given are done =
     ∙ ap (on-entries asked.windows inputs.groups asked.logs) are.entries in
     subst (covering.HasReported call) same
     (counted-report call (report_in files asked) (report_on inputs.groups asked.logs known)
-    (found-report files m asked.isa asked.groups asked.logs inputs are.bytes given there)
+    (found-report files m asked.isa asked.families asked.groups asked.logs inputs are.bytes given
+    there)
     (a.done done))
 
 -- ---- one log
@@ -247,7 +249,7 @@ reported-alone : {call : Call} (files : Files) (asked : CoverageArguments)
     → Answered call (report_in files asked)
     (OnDone (covering.HasReported call)) → length asked.logs ≤ 4096
     → (inputs : Inputs) (log : List ℕ) (entries : List Entry)
-    → inputs_in files asked.isa asked.groups ≡ Ok inputs → asked.logs ≡ log ∷ []
+    → inputs_in files asked.isa asked.families asked.groups ≡ Ok inputs → asked.logs ≡ log ∷ []
     → covering.IsLogOf files log entries → call.status ≡ Done → covering.HasReported call
     (report_of inputs.groups (map (count (kept asked.windows entries)) (aims_of inputs.groups))
     (length (kept asked.windows entries)))
@@ -298,7 +300,8 @@ reported-two : {call : Call} (files : Files) (asked : CoverageArguments)
     → Answered call (report_in files asked)
     (OnDone (covering.HasReported call)) → length asked.logs ≤ 4096
     → (inputs : Inputs) (log other : List ℕ) (first second : List Entry)
-    → inputs_in files asked.isa asked.groups ≡ Ok inputs → asked.logs ≡ log ∷ other ∷ []
+    → inputs_in files asked.isa asked.families asked.groups ≡ Ok inputs → asked.logs
+    ≡ log ∷ other ∷ []
     → covering.IsLogOf files log first → covering.IsLogOf files other second
     → call.status ≡ Done → covering.HasReported call
     (on-two asked.windows inputs.groups log other first second)
@@ -334,7 +337,7 @@ covers {call} files asked r =
             halting_entries files asked.isa test steps run halts octets,
           ) done;
       valid = λ inputs l given there selected. valid-good inputs l
-          (good-inputs files asked.isa asked.groups inputs given) there selected;
+          (good-inputs files asked.isa asked.families asked.groups inputs given) there selected;
       files_kept = keeps r.ran files (Coverage asked) r.told r.asks
           (writes-coverage asked);
     }

@@ -157,19 +157,21 @@ generated {call} work found inputs given left =
 
 -- ---- the promise
 abbrev works : (files : Files) (asked : GenerateArguments)
-    → Works (Generate asked) files (labels_in files asked.part asked.isa asked.groups)
+    → Works (Generate asked) files
+    (labels_in files asked.part asked.isa asked.families asked.groups)
 works files asked = record {
-  inputs = part_inputs asked.part asked.isa asked.groups;
+  inputs = part_inputs asked.part asked.isa asked.families asked.groups;
   deeds = generates asked.work;
   ends = λ _. finish.Done;
   plan = refl;
-  finds = finds-labels files asked.part asked.isa asked.groups;
+  finds = finds-labels files asked.part asked.isa asked.families asked.groups;
   does = deeds-generates asked.work;
 }
 
 answers-generate : {call : Call} (files : Files) (asked : GenerateArguments)
     → RunsOn call files (Generate asked) → Answered call
-    (labels_in files asked.part asked.isa asked.groups) (OnDone (generating.HasGenerated call asked.work))
+    (labels_in files asked.part asked.isa asked.families asked.groups)
+    (OnDone (generating.HasGenerated call asked.work))
 answers-generate {call} files asked r =
     answered (OnDone (generating.HasGenerated call asked.work)) r (works files asked)
     (λ inputs is. let all = is ∙ left-generates asked.work inputs _ in
@@ -178,17 +180,19 @@ answers-generate {call} files asked r =
 -- where it is done, the test of a label is in its file
 there : {call : Call} (files : Files) (asked : GenerateArguments)
     → RunsOn call files (Generate asked) → (inputs : Inputs) (l : Label) (text : List ℕ)
-    (files' : Files) → labels_in files asked.part asked.isa asked.groups ≡ Ok inputs → Contains inputs.groups l
+    (files' : Files) → labels_in files asked.part asked.isa asked.families asked.groups ≡ Ok inputs
+    → Contains inputs.groups l
     → IsTrue l.selected → text_of_label inputs.isa l ≡ Some text → call.status ≡ answer.Done
     → call.new.host.files ≡ Some files' → files' (path_of asked.work l.name) ≡ Some text
 there {call} files asked r inputs l text files' given inside selected is done told =
     let made = generated {call = call} asked.work
-    (labels_in files asked.part asked.isa asked.groups) inputs given
+    (labels_in files asked.part asked.isa asked.families asked.groups) inputs given
     ((answers-generate files asked r).done done) in
     test-there asked.work inputs.isa inputs.groups call.old.host.files call.new.host.files files'
     l text
     (ap is_some r.told.files)
-    (apart-labels files asked.part asked.isa asked.groups inputs given) made.files told inside
+    (apart-labels files asked.part asked.isa asked.families asked.groups inputs given) made.files
+    told inside
     selected is
 
 pub makes : {call : Call} (files : Files) (asked : GenerateArguments)
@@ -197,19 +201,20 @@ makes {call} files asked r = record {
   answered = answers-generate files asked r;
   one = λ isa' l p given selected single solvable is.
       let inputs : Inputs = record { isa = isa'; groups = l ∷ [] } in
-      let good = good-labels files asked.part asked.isa asked.groups inputs given in
+      let good = good-labels files asked.part asked.isa asked.families asked.groups inputs given in
       let made = generated {call = call} asked.work
-      (labels_in files asked.part asked.isa asked.groups) inputs given
+      (labels_in files asked.part asked.isa asked.families asked.groups) inputs given
       ((answers-generate files asked r).done is) in
       one-test asked.work isa' l p (All-head
       (IsValidIfSelected isa') l [] good.valid) selected
       single solvable made.files;
   none = λ isa' l p given selected single skipped never is.
       none-test asked.work isa' l p selected single skipped never
-      (generated {call = call} asked.work (labels_in files asked.part asked.isa asked.groups)
+      (generated {call = call} asked.work
+      (labels_in files asked.part asked.isa asked.families asked.groups)
       (record { isa = isa'; groups = l ∷ [] }) given
       ((answers-generate files asked r).done is));
-  apart = apart-labels files asked.part asked.isa asked.groups;
+  apart = apart-labels files asked.part asked.isa asked.families asked.groups;
   each = λ inputs l k files' given inside selected solvable done told.
       let test = has-test inputs.isa l k solvable in
       record {
@@ -217,14 +222,17 @@ makes {call} files asked r = record {
         there = there files asked r inputs l test.0 files' given inside selected test.1
             done told;
         proved = proved inputs l test.0
-            (tested-labels files asked.part asked.isa asked.groups inputs given) inside selected
+            (tested-labels files asked.part asked.isa asked.families asked.groups inputs given)
+            inside selected
             test.1;
       };
   proved = λ inputs l text given inside selected is.
-      proved inputs l text (tested-labels files asked.part asked.isa asked.groups inputs given) inside selected is;
+      proved inputs l text
+      (tested-labels files asked.part asked.isa asked.families asked.groups inputs given) inside
+      selected is;
   there = there files asked r;
   untested = λ inputs l k given none solvable. untested inputs.isa l k none solvable;
-  tested = tested-labels files asked.part asked.isa asked.groups;
+  tested = tested-labels files asked.part asked.isa asked.families asked.groups;
   others_kept =
       λ files' other. generate-spares r.ran files files' asked other r.told r.asks;
 }

@@ -4,6 +4,7 @@ use Rattle.std.proofs.Common.{length-append, nat_lt, Option, Some, None, Result,
 use Rattle.std.proofs.Common.{if◌then◌else◌, refl, sym, ap, arith}
 use Rattle.std.proofs.lemmas.Bool.{lt-ltb, ltb-true}
 use Rattle.rvs_base.specs.Host.{Files}
+use Rattle.rvs_abstract.specs.declared.families.Families.{Families}
 use Rattle.rvs_plan.specs.Plan.{Plan, Ends, gives, followed, ◌>>=◌}
 use Rattle.rvs_plan.specs.Inputs.{input, part, part_end, too_long_text}
 use Rattle.rvs_plan.specs.declared.stop.Stop.{Stop}
@@ -32,20 +33,22 @@ reads-joined front (name ∷ names) = OnlyReads-then (joins front name) (λ text
     (λ bytes. Ends (within_limit (joined front bytes))) (λ found. tt) (λ bytes. tt)) (λ text.
     reads-joined (Some text) names)
 
-reads-groups : (isa : Isa) (names : List (List ℕ)) → OnlyReads (group_files isa names)
-reads-groups isa names = OnlyReads-then (joins_all None names)
-    (λ text. Ends (groups_found isa text)) (reads-joined None names) (λ text. tt)
+reads-groups : (isa : Isa) (families : Families) (names : List (List ℕ))
+    → OnlyReads (group_files isa families names)
+reads-groups isa families names = OnlyReads-then (joins_all None names)
+    (λ text. Ends (groups_found isa families text)) (reads-joined None names) (λ text. tt)
 
-pub reads-inputs : (isa : List ℕ) (names : List (List ℕ)) → OnlyReads (group_inputs isa names)
-reads-inputs isa names = OnlyReads-then (specification isa)
-    (λ said. group_files said.spec names >>= (λ groups. gives (record {
+pub reads-inputs : (isa : List ℕ) (families : Families) (names : List (List ℕ))
+    → OnlyReads (group_inputs isa families names)
+reads-inputs isa families names = OnlyReads-then (specification isa)
+    (λ said. group_files said.spec families names >>= (λ groups. gives (record {
       isa = said.spec;
       groups = groups;
     }))) (reads-specification isa)
-    (λ said. OnlyReads-then (group_files said.spec names) (λ groups. gives (record {
+    (λ said. OnlyReads-then (group_files said.spec families names) (λ groups. gives (record {
       isa = said.spec;
       groups = groups;
-    })) (reads-groups said.spec names) (λ groups. tt))
+    })) (reads-groups said.spec families names) (λ groups. tt))
 
 -- ---- what it finds
 said-by : (files : Files) (isa : List ℕ) (end : Result (List ℕ) Stop)
@@ -104,10 +107,12 @@ finds-joined files front (name ∷ names) = finds-and_then files (joins front na
     (λ text. text_in files (Some text) names) (finds-join files front name)
     (λ text. finds-joined files (Some text) names)
 
-finds-groups : (files : Files) (isa : Isa) (names : List (List ℕ))
-    → Finds files (group_files isa names) (and_then (text_in files None names) (groups_found isa))
-finds-groups files isa names = finds-and_then files (joins_all None names)
-    (λ text. Ends (groups_found isa text)) (text_in files None names) (groups_found isa)
+finds-groups : (files : Files) (isa : Isa) (families : Families) (names : List (List ℕ))
+    → Finds files (group_files isa families names)
+    (and_then (text_in files None names) (groups_found isa families))
+finds-groups files isa families names = finds-and_then files (joins_all None names)
+    (λ text. Ends (groups_found isa families text)) (text_in files None names)
+    (groups_found isa families)
     (finds-joined files None names) (λ text. refl)
 
 given-by : (files : Files) (isa : Isa) (groups : Result (List Label) Stop) → Finds files
@@ -115,39 +120,45 @@ given-by : (files : Files) (isa : Isa) (groups : Result (List Label) Stop) → F
 given-by files isa (Ok gs) = refl
 given-by files isa (Err stop) = refl
 
-given-after : (files : Files) (isa : Isa) (text : Result (List ℕ) Stop) → Finds files
-    (followed (and_then text (groups_found isa)) (λ gs. gives (record { isa = isa; groups = gs })))
-    (and_then text (λ t. inputs_of isa (groups_found isa t)))
-given-after files isa (Ok t) = given-by files isa (groups_found isa t)
-given-after files isa (Err stop) = refl
+given-after : (files : Files) (isa : Isa) (families : Families) (text : Result (List ℕ) Stop)
+    → Finds files
+    (followed (and_then text (groups_found isa families))
+    (λ gs. gives (record { isa = isa; groups = gs })))
+    (and_then text (λ t. inputs_of isa (groups_found isa families t)))
+given-after files isa families (Ok t) = given-by files isa (groups_found isa families t)
+given-after files isa families (Err stop) = refl
 
-pub finds-inputs : (files : Files) (isa : List ℕ) (names : List (List ℕ))
-    → Finds files (group_inputs isa names) (inputs_in files isa names)
-finds-inputs files isa names =
+pub finds-inputs : (files : Files) (isa : List ℕ) (families : Families) (names : List (List ℕ))
+    → Finds files (group_inputs isa families names) (inputs_in files isa families names)
+finds-inputs files isa families names =
     finds-and_then files (specification isa)
-    (λ said. group_files said.spec names >>= (λ groups. gives (record {
+    (λ said. group_files said.spec families names >>= (λ groups. gives (record {
       isa = said.spec;
       groups = groups;
     }))) (said_in files isa) (λ said. and_then (text_in files None names)
-    (λ text. inputs_of said.spec (groups_found said.spec text))) (finds-specification files isa)
+    (λ text. inputs_of said.spec (groups_found said.spec families text)))
+    (finds-specification files isa)
     (λ said.
-    finds-then files (group_files said.spec names) (λ groups. gives (record {
+    finds-then files (group_files said.spec families names) (λ groups. gives (record {
       isa = said.spec;
       groups = groups;
-    })) (and_then (text_in files None names) (groups_found said.spec)) (and_then
-    (text_in files None names) (λ text. inputs_of said.spec (groups_found said.spec text)))
-    (finds-groups files said.spec names) (given-after files said.spec
+    })) (and_then (text_in files None names) (groups_found said.spec families)) (and_then
+    (text_in files None names) (λ text. inputs_of said.spec (groups_found said.spec families text)))
+    (finds-groups files said.spec families names) (given-after files said.spec families
     (text_in files None names)))
 
 -- ---- the labels of a part
-pub reads-labels : (part : Option PartValue) (isa : List ℕ) (names : List (List ℕ))
-    → OnlyReads (part_inputs part isa names)
-reads-labels part isa names = OnlyReads-then (group_inputs isa names) (gives_part part)
-    (reads-inputs isa names) (λ inputs. tt)
-
-pub finds-labels : (files : Files) (part : Option PartValue) (isa : List ℕ)
+pub reads-labels : (part : Option PartValue) (isa : List ℕ) (families : Families)
     (names : List (List ℕ))
-    → Finds files (part_inputs part isa names) (labels_in files part isa names)
-finds-labels files part isa names = finds-and_then files (group_inputs isa names) (gives_part part)
-    (inputs_in files isa names) (λ inputs. Ok (parted_inputs part inputs))
-    (finds-inputs files isa names) (λ inputs. refl)
+    → OnlyReads (part_inputs part isa families names)
+reads-labels part isa families names =
+    OnlyReads-then (group_inputs isa families names) (gives_part part)
+    (reads-inputs isa families names) (λ inputs. tt)
+
+pub finds-labels : (files : Files) (part : Option PartValue) (isa : List ℕ) (families : Families)
+    (names : List (List ℕ))
+    → Finds files (part_inputs part isa families names) (labels_in files part isa families names)
+finds-labels files part isa families names =
+    finds-and_then files (group_inputs isa families names) (gives_part part)
+    (inputs_in files isa families names) (λ inputs. Ok (parted_inputs part inputs))
+    (finds-inputs files isa families names) (λ inputs. refl)

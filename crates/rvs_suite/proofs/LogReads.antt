@@ -6,6 +6,7 @@ use Rattle.std.specs.List.{zip}
 use Rattle.std.proofs.lemmas.Bool.{lt-ltb, le-ltb, cond-true, cond-false}
 use Rattle.rvs_base.specs.Host.{Files, HostState}
 use Rattle.rvs_base.specs.File.{ReadsAtMost}
+use Rattle.rvs_abstract.specs.declared.families.Families.{Families}
 use Rattle.rvs_plan.specs.Inputs.{too_long_text}
 use Rattle.rvs_plan.specs.declared.stop.Stop.{Stop}
 use Rattle.rvs_plan.specs.declared.stop.Stop.TheVariants.{Refused}
@@ -33,11 +34,12 @@ reads-report m logs groups =
     OnlyReads-then (takes_logs m.name (m.more groups) (m.none groups) logs)
     (reports m logs groups) (reads-logs m.name (m.more groups) (m.none groups) logs) (λ known. tt)
 
-pub reads-reported : {L A : Type 0} (m : Measure L A) (isa : List ℕ) (names : List (List ℕ))
-    (logs : List L) → OnlyReads (log_reported m isa names logs)
-reads-reported m isa names logs = OnlyReads-then (group_inputs isa names)
+pub reads-reported : {L A : Type 0} (m : Measure L A) (isa : List ℕ) (families : Families)
+    (names : List (List ℕ))
+    (logs : List L) → OnlyReads (log_reported m isa families names logs)
+reads-reported m isa families names logs = OnlyReads-then (group_inputs isa families names)
     (λ inputs. reads_logs m logs inputs.groups)
-    (reads-inputs isa names) (λ inputs. reads-report m logs inputs.groups)
+    (reads-inputs isa families names) (λ inputs. reads-report m logs inputs.groups)
 
 finds-logs : {L A : Type 0} (files : Files) (named : L → List ℕ) (more : L → A → List ℕ → A)
     (known : A) (logs : List L)
@@ -59,12 +61,15 @@ finds-report files m logs groups =
     (finds-logs files m.name (m.more groups) (m.none groups) logs) (λ known. refl)
 
 pub finds-reported : {L A : Type 0} (files : Files) (m : Measure L A) (isa : List ℕ)
+    (families : Families)
     (names : List (List ℕ)) (logs : List L)
-    → Finds files (log_reported m isa names logs) (log_report_in m files isa names logs)
-finds-reported files m isa names logs =
-    finds-and_then files (group_inputs isa names) (λ inputs. reads_logs m logs inputs.groups)
-    (inputs_in files isa names) (λ inputs. reported_in m files logs inputs.groups)
-    (finds-inputs files isa names) (λ inputs. finds-report files m logs inputs.groups)
+    → Finds files (log_reported m isa families names logs)
+    (log_report_in m files isa families names logs)
+finds-reported files m isa families names logs =
+    finds-and_then files (group_inputs isa families names)
+    (λ inputs. reads_logs m logs inputs.groups)
+    (inputs_in files isa families names) (λ inputs. reported_in m files logs inputs.groups)
+    (finds-inputs files isa families names) (λ inputs. finds-report files m logs inputs.groups)
 
 -- a log that is kept, and one that is too long
 pub accepts-log : {A : Type 0} (more : A → List ℕ → A) (known : A) (name bytes : List ℕ) (now : A)
@@ -113,11 +118,12 @@ found-logs {L} {A} files named more known (log ∷ logs) (here ∷ bytes) are =
 
 -- the report over given files, where these are accepted and the logs are there
 pub found-report : {L A : Type 0} (files : Files) (m : Measure L A) (isa : List ℕ)
+    (families : Families)
     (names : List (List ℕ)) (logs : List L) (inputs : Inputs) (bytes : List (List ℕ))
-    → inputs_in files isa names ≡ Ok inputs → AreLogs files (map m.name logs) bytes
-    → log_report_in m files isa names logs ≡ Ok (m.report inputs.groups logs
+    → inputs_in files isa families names ≡ Ok inputs → AreLogs files (map m.name logs) bytes
+    → log_report_in m files isa families names logs ≡ Ok (m.report inputs.groups logs
     (known_of (m.more inputs.groups) (m.none inputs.groups) (zip logs bytes)))
-found-report {L} {A} files m isa names logs inputs bytes given are =
+found-report {L} {A} files m isa families names logs inputs bytes given are =
     ap (λ (r : Result Inputs Stop). and_then r (λ i. reported_in m files logs i.groups)) given
     ∙ ap (λ (r : Result A Stop). and_then r (λ known. Ok (m.report inputs.groups logs known)))
     (found-logs files m.name (m.more inputs.groups) (m.none inputs.groups) logs bytes are)

@@ -4,6 +4,7 @@ use Rattle.std.proofs.Common.{Some, None, Ok, Err, Result, refl, sym, ap, ◌∙
 use Rattle.std.specs.Prelude.{nat_lt, if◌then◌else◌}
 use Rattle.std.proofs.lemmas.Bool.Decides.{nat_tests}
 use Rattle.rvs_base.specs.Host.{Files}
+use Rattle.rvs_abstract.specs.declared.families.Families.{Families}
 use Rattle.rvs_plan.specs.declared.stop.Stop.{Stop}
 use Rattle.rvs_tree.specs.Data.{Data}
 use Rattle.rvs_yaml.specs.Parsed.{Parsed, answer}
@@ -22,12 +23,12 @@ use Rattle.rvs_suite.specs.GroupFiles.{text_in, checked_groups, tree_groups, gro
 use Rattle.rvs_suite.specs.GroupFiles.{inputs_of, inputs_in}
 
 -- the groups again, where these are those of a text
-again-of : (isa : Isa) (text : List ℕ) (inputs : Inputs)
-    → inputs_of isa (groups_found isa text) ≡ Ok inputs
+again-of : (isa : Isa) (families other : Families) (text : List ℕ) (inputs : Inputs)
+    → inputs_of isa (groups_found isa families text) ≡ Ok inputs
     → length (normal_text inputs.groups) ≤ groups_limit
     → (inputs.isa ≡ isa)
-    × (groups_found isa (normal_text inputs.groups) ≡ Ok (map bare (selected inputs.groups)))
-again-of isa text inputs e short = by-answer (answer text) refl e
+    × (groups_found isa other (normal_text inputs.groups) ≡ Ok (map bare (selected inputs.groups)))
+again-of isa families other text inputs e short = by-answer (answer text) refl e
   where
     same : (groups : List Label)
         → ◌≡◌ {A = Result Inputs Stop} (Ok (record { isa = isa; groups = groups })) (Ok inputs)
@@ -35,26 +36,30 @@ again-of isa text inputs e short = by-answer (answer text) refl e
     same groups e = cc
 
     by-groups : (tree : Data) (r : Result (List Label) Refusal) → answer text ≡ Ok tree
-        → groups_of isa tree ≡ r → inputs_of isa (checked_groups r) ≡ Ok inputs → (inputs.isa ≡ isa)
-        × (groups_found isa (normal_text inputs.groups) ≡ Ok (map bare (selected inputs.groups)))
+        → groups_of isa families tree ≡ r → inputs_of isa (checked_groups r) ≡ Ok inputs
+        → (inputs.isa ≡ isa)
+        × (groups_found isa other (normal_text inputs.groups)
+        ≡ Ok (map bare (selected inputs.groups)))
     by-groups tree (Err refusal) a g e = cc
     by-groups tree (Ok groups) a g e =
         let is = same groups e in
         let listed : groups ≡ inputs.groups = ap (λ (i : Inputs). i.groups) is in
-        let g' : groups_of isa tree ≡ Ok inputs.groups = g ∙ ap (λ ls. Ok ls) listed in
-        let keeps = short-keeps isa text tree inputs.groups a g' short in
-        let r = read-again isa isa text tree inputs.groups a g' keeps
-        (own-admitted isa text tree inputs.groups a g') in (
+        let g' : groups_of isa families tree ≡ Ok inputs.groups = g ∙ ap (λ ls. Ok ls) listed in
+        let keeps = short-keeps isa families text tree inputs.groups a g' short in
+        let r = read-again isa isa families text tree inputs.groups a g' keeps
+        (own-admitted isa families text tree inputs.groups a g') in (
           sym (ap (λ (i : Inputs). i.isa) is),
-          ap (tree_groups isa) r.is
-              ∙ ap checked_groups r.groups_are,
+          ap (tree_groups isa other) r.is
+              ∙ ap checked_groups (r.groups_are other),
         )
 
-    by-answer : (r : Parsed) → answer text ≡ r → inputs_of isa (tree_groups isa r) ≡ Ok inputs
+    by-answer : (r : Parsed) → answer text ≡ r → inputs_of isa (tree_groups isa families r)
+        ≡ Ok inputs
         → (inputs.isa ≡ isa)
-        × (groups_found isa (normal_text inputs.groups) ≡ Ok (map bare (selected inputs.groups)))
+        × (groups_found isa other (normal_text inputs.groups)
+        ≡ Ok (map bare (selected inputs.groups)))
     by-answer (Err fault) a e = cc
-    by-answer (Ok tree) a e = by-groups tree (groups_of isa tree) a refl e
+    by-answer (Ok tree) a e = by-groups tree (groups_of isa families tree) a refl e
 
 kept-text : (after : Files) (name text : List ℕ) → after name ≡ Some text
     → length text ≤ groups_limit → text_in after None (name ∷ []) ≡ Ok text
@@ -68,34 +73,38 @@ kept-text after name text there short =
     fits n h = grind (arith, nat_tests)
 
 -- what was put, kept in a file, gives the selected labels again
-pub normal-again : (files after : Files) (isa : List ℕ) (names : List (List ℕ)) (name : List ℕ)
-    (inputs : Inputs) → inputs_in files isa names ≡ Ok inputs → length (normal_text inputs.groups)
+pub normal-again : (files after : Files) (isa : List ℕ) (families other : Families)
+    (names : List (List ℕ)) (name : List ℕ)
+    (inputs : Inputs) → inputs_in files isa families names ≡ Ok inputs
+    → length (normal_text inputs.groups)
     ≤ groups_limit
     → after isa ≡ files isa → after name ≡ Some (normal_text inputs.groups)
-    → inputs_in after isa (name ∷ [])
+    → inputs_in after isa other (name ∷ [])
     ≡ Ok (record { isa = inputs.isa; groups = map bare (selected inputs.groups) })
-normal-again files after isa names name inputs e short same there =
+normal-again files after isa families other names name inputs e short same there =
     by-said (said_in files isa) refl e
   where
     by-text : (said : AcceptedSpec) (r : Result (List ℕ) Stop) → said_in files isa ≡ Ok said
-        → and_then r (λ text. inputs_of said.spec (groups_found said.spec text)) ≡ Ok inputs
-        → inputs_in after isa (name ∷ [])
+        → and_then r (λ text. inputs_of said.spec (groups_found said.spec families text))
+        ≡ Ok inputs
+        → inputs_in after isa other (name ∷ [])
         ≡ Ok (record { isa = inputs.isa; groups = map bare (selected inputs.groups) })
     by-text said (Err stop) s e = cc
     by-text said (Ok text) s e =
-        let a = again-of said.spec text inputs e short in
+        let a = again-of said.spec families other text inputs e short in
         ap (λ r. and_then r (λ c. and_then (text_in after None (name ∷ []))
-        (λ t. inputs_of c.spec (groups_found c.spec t)))) (ap (λ found. bytes_said isa
+        (λ t. inputs_of c.spec (groups_found c.spec other t)))) (ap (λ found. bytes_said isa
         (part_end isa_limit isa isa isa_limit found)) same ∙ s)
-        ∙ ap (λ r. and_then r (λ t. inputs_of said.spec (groups_found said.spec t)))
+        ∙ ap (λ r. and_then r (λ t. inputs_of said.spec (groups_found said.spec other t)))
         (kept-text after name (normal_text inputs.groups) there short)
         ∙ ap (inputs_of said.spec) a.1
         ∙ ap (λ i. Ok (record { isa = i; groups = map bare (selected inputs.groups) })) (sym a.0)
 
     by-said : (r : Result AcceptedSpec Stop) → said_in files isa ≡ r → and_then r (λ said. and_then
-        (text_in files None names) (λ text. inputs_of said.spec (groups_found said.spec text))) ≡ Ok
+        (text_in files None names)
+        (λ text. inputs_of said.spec (groups_found said.spec families text))) ≡ Ok
         inputs
-        → inputs_in after isa (name ∷ [])
+        → inputs_in after isa other (name ∷ [])
         ≡ Ok (record { isa = inputs.isa; groups = map bare (selected inputs.groups) })
     by-said (Err stop) s e = cc
     by-said (Ok said) s e = by-text said (text_in files None names) s e

@@ -16,19 +16,21 @@ use Rattle.rvs_suite.proofs.Keeping.{WritesNone, WritesNone-then, reads-none, ke
 use Rattle.rvs_words.specs.declared.command.NormalizeArguments.{NormalizeArguments}
 
 abbrev works : (files : Files) (asked : NormalizeArguments)
-    → Works (Normalize asked) files (inputs_in files asked.isa asked.groups)
+    → Works (Normalize asked) files (inputs_in files asked.isa asked.families asked.groups)
 works files asked = record {
-  inputs = group_inputs asked.isa asked.groups;
+  inputs = group_inputs asked.isa asked.families asked.groups;
   deeds = print_normal;
   ends = λ _. finish.Done;
   plan = refl;
-  finds = finds-inputs files asked.isa asked.groups;
+  finds = finds-inputs files asked.isa asked.families asked.groups;
   does = λ inputs. refl;
 }
 
 writes-normalize : (asked : NormalizeArguments) → WritesNone (normalize asked)
-writes-normalize asked = WritesNone-then (group_inputs asked.isa asked.groups) print_normal
-    (reads-none (group_inputs asked.isa asked.groups) (reads-inputs asked.isa asked.groups))
+writes-normalize asked =
+    WritesNone-then (group_inputs asked.isa asked.families asked.groups) print_normal
+    (reads-none (group_inputs asked.isa asked.families asked.groups)
+    (reads-inputs asked.isa asked.families asked.groups))
     (λ inputs. tt)
 
 pub normalizes : {call : Call} (files : Files) (asked : NormalizeArguments)
@@ -37,7 +39,6 @@ normalizes {call} files asked r = record {
   answered = answered (OnDone (normalizing.HasPrinted call)) r (works files asked)
       (λ inputs left. ap (λ (c : Contents). c.out) left);
   files_kept = keeps r.ran files (Normalize asked) r.told r.asks (writes-normalize asked);
-  again = λ after name inputs read short same there. normal-again files after asked.isa
-      asked.groups name inputs
-      read short same there;
+  again = λ after families name inputs read short same there. normal-again files after asked.isa
+      asked.families families asked.groups name inputs read short same there;
 }

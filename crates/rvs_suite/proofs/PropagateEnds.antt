@@ -55,14 +55,14 @@ works files asked = record {
   deeds = print_text;
   ends = λ _. finish.Done;
   plan = refl;
-  finds = finds-reported files measure asked.isa asked.groups asked.logs;
+  finds = finds-reported files measure asked.isa asked.families asked.groups asked.logs;
   does = λ report. refl;
 }
 
 writes-propagate : (asked : PropagateArguments) → WritesNone (propagate asked)
 writes-propagate asked = WritesNone-then (reported asked) print_text
     (reads-none (reported asked)
-    (reads-reported measure asked.isa asked.groups asked.logs))
+    (reads-reported measure asked.isa asked.families asked.groups asked.logs))
     (λ report. tt)
 
 -- ---- what is tracked in several logs
@@ -254,7 +254,8 @@ with-total files groups signed logs are few =
 reported-numbers : {call : Call} (files : Files) (asked : PropagateArguments)
     → Answered call (report_in files asked) (OnDone (HasReported call))
     → length asked.logs ≤ 4096
-    → (inputs : Inputs) (logs : List (List ℕ)) → inputs_in files asked.isa asked.groups ≡ Ok inputs
+    → (inputs : Inputs) (logs : List (List ℕ))
+    → inputs_in files asked.isa asked.families asked.groups ≡ Ok inputs
     → Have files asked.logs logs → call.status ≡ Done
     → HasReported call (on-bytes inputs.groups asked.logs logs)
 reported-numbers {call} files asked a few inputs logs given are done =
@@ -266,7 +267,8 @@ reported-numbers {call} files asked a few inputs logs given are done =
     ∙ with-total files inputs.groups asked.logs logs are few in
     subst (HasReported call) same
     (counted-report call (report_in files asked) (report_on inputs.groups asked.logs known)
-    (found-report files measure asked.isa asked.groups asked.logs inputs logs given are)
+    (found-report files measure asked.isa asked.families asked.groups asked.logs inputs logs given
+    are)
     (a.done done))
 
 -- ---- one log
@@ -301,7 +303,7 @@ reported-single : {call : Call} (files : Files) (asked : PropagateArguments)
     → Answered call (report_in files asked) (OnDone (HasReported call))
     → length asked.logs ≤ 4096
     → (inputs : Inputs) (log : SignedLog) (bytes : List ℕ)
-    → inputs_in files asked.isa asked.groups ≡ Ok inputs
+    → inputs_in files asked.isa asked.families asked.groups ≡ Ok inputs
     → asked.logs ≡ log ∷ [] → propagating.IsLog files log.name bytes → call.status ≡ Done
     → HasReported call (on-one inputs.groups log bytes)
 reported-single {call} files asked a few inputs log bytes given single is_log done =
@@ -328,6 +330,6 @@ propagates {call} files asked r =
           (reported-single files asked a few (record { isa = isa'; groups = l ∷ [] }) log bytes
           given single is_log done);
       valid = λ inputs l given there selected. valid-good inputs l
-          (good-inputs files asked.isa asked.groups inputs given) there selected;
+          (good-inputs files asked.isa asked.families asked.groups inputs given) there selected;
       files_kept = keeps r.ran files (Propagate asked) r.told r.asks (writes-propagate asked);
     }

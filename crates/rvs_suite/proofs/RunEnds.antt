@@ -319,7 +319,8 @@ there {call} files asked r inputs test files' given inside ended told =
         → HasTestFiles call (bench_of asked.program asked.work inputs) test files'
     stand end was = files-stand {call = call} asked.program asked.work inputs end files files' test
         (given-left {call = call} asked.program asked.work inputs end (run_inputs_in files asked)
-        given was) r.told.files told (apart-labels files asked.part asked.isa asked.groups inputs.groups
+        given was) r.told.files told
+        (apart-labels files asked.part asked.isa asked.families asked.groups inputs.groups
         (groups-accepted files asked inputs given)) inside
 
 -- that of a label with a solvable point has the property
@@ -425,7 +426,8 @@ judges {call} files asked r =
           other r.told r.asks;
       passes = λ inputs test run. passing.passes _ run.status run.after;
       tested = tested-run files asked;
-      apart = λ inputs given. apart-labels files asked.part asked.isa asked.groups inputs.groups
+      apart = λ inputs given. apart-labels files asked.part asked.isa asked.families asked.groups
+          inputs.groups
           (groups-accepted files asked inputs given);
       each = proved-there files asked r;
       proved = λ inputs l text given inside selected is. proved inputs.groups l text

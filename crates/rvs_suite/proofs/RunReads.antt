@@ -28,8 +28,10 @@ reads-device device inputs = OnlyReads-then (device_file device) (with_device in
 
 pub reads-run : (asked : RunArguments)
     → OnlyReads (run_inputs asked)
-reads-run asked = OnlyReads-then (part_inputs asked.part asked.isa asked.groups) (device_behind asked.device)
-    (reads-labels asked.part asked.isa asked.groups) (reads-device asked.device)
+reads-run asked =
+    OnlyReads-then (part_inputs asked.part asked.isa asked.families asked.groups)
+    (device_behind asked.device)
+    (reads-labels asked.part asked.isa asked.families asked.groups) (reads-device asked.device)
 
 told-by : (files : Files) (device : List ℕ) (bytes : Result (List ℕ) Stop) → Finds files
     (followed bytes (checks device)) (and_then bytes (λ b. tree_end device (answer b)))
@@ -44,12 +46,13 @@ finds-device files device =
 pub finds-run : (files : Files) (asked : RunArguments)
     → Finds files (run_inputs asked) (run_inputs_in files asked)
 finds-run files asked =
-    finds-and_then files (part_inputs asked.part asked.isa asked.groups) (device_behind asked.device)
-    (labels_in files asked.part asked.isa asked.groups)
+    finds-and_then files (part_inputs asked.part asked.isa asked.families asked.groups)
+    (device_behind asked.device)
+    (labels_in files asked.part asked.isa asked.families asked.groups)
     (λ inputs. and_then (device_in files asked.device) (λ told. Ok (record {
       groups = inputs;
       device = told;
-    }))) (finds-labels files asked.part asked.isa asked.groups) (λ inputs.
+    }))) (finds-labels files asked.part asked.isa asked.families asked.groups) (λ inputs.
     finds-and_then files (device_file asked.device) (with_device inputs)
     (device_in files asked.device)
     (λ told. Ok (record {

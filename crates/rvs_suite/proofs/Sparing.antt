@@ -305,11 +305,12 @@ spares-tests other work isa (l ∷ ls) apart =
     (λ test there. apart test (Contains-append_right first later test there)))
 
 spares-generate : (files : Files) (other : List ℕ) (asked : GenerateArguments)
-    → IsNoTest asked.work (labels_in files asked.part asked.isa asked.groups) other
+    → IsNoTest asked.work (labels_in files asked.part asked.isa asked.families asked.groups) other
     → SparesOver files other (generate asked)
 spares-generate files other asked apart = spares-found files other
-    (part_inputs asked.part asked.isa asked.groups) (generates asked.work)
-    (labels_in files asked.part asked.isa asked.groups) (finds-labels files asked.part asked.isa asked.groups)
+    (part_inputs asked.part asked.isa asked.families asked.groups) (generates asked.work)
+    (labels_in files asked.part asked.isa asked.families asked.groups)
+    (finds-labels files asked.part asked.isa asked.families asked.groups)
     (λ inputs given. Spares-then other
     (written_tests asked.work inputs.isa inputs.groups) print_text
     (Spares-then other (writes_tests asked.work inputs.isa inputs.groups)
@@ -391,7 +392,7 @@ reference-spares r files files' asked other t is apart unlogged told =
 pub generate-spares : {command : Command} {old new : World} {err err' : SinkState} {status : Status}
     → Ran command old new err err' status → (files files' : Files) (asked : GenerateArguments)
     (other : List ℕ) → Tells old.host files → command ≡ Generate asked
-    → IsNoTest asked.work (labels_in files asked.part asked.isa asked.groups) other
+    → IsNoTest asked.work (labels_in files asked.part asked.isa asked.families asked.groups) other
     → new.host.files ≡ Some files' → files' other ≡ files other
 generate-spares r files files' asked other t is apart told =
     spares r files files' (Generate asked) other t is (spares-generate files other asked apart) told

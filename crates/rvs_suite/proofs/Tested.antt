@@ -5,6 +5,7 @@ use Rattle.std.proofs.Common.{sym, subst}
 use Rattle.std.proofs.lemmas.List.Elements.{All-nil, All-cons, All-append, All-head, All-tail}
 use Rattle.std.proofs.lemmas.List.Elements.{All-contains}
 use Rattle.rvs_base.specs.Host.{Files}
+use Rattle.rvs_abstract.specs.declared.families.Families.{Families}
 use Rattle.rvs_plan.specs.declared.stop.Stop.{Stop}
 use Rattle.rvs_tree.specs.Data.{Data}
 use Rattle.rvs_insn.specs.Isa.{Isa}
@@ -41,30 +42,34 @@ use Rattle.rvs_words.specs.declared.command.RunArguments.{RunArguments}
 pub record IsGood (inputs : Inputs) : Type 0 where
   pub valid : All (IsValidIfSelected inputs.isa) inputs.groups
 
-good-checked : (isa : Isa) (tree : Data) (r : Result (List Label) Refusal)
-    → groups_of isa tree ≡ r → IfOk (inputs_of isa (checked_groups r)) IsGood
-good-checked isa tree (Ok ls) is = record { valid = groups_good isa tree ls is }
-good-checked isa tree (Err refusal) is = tt
+good-checked : (isa : Isa) (families : Families) (tree : Data) (r : Result (List Label) Refusal)
+    → groups_of isa families tree ≡ r → IfOk (inputs_of isa (checked_groups r)) IsGood
+good-checked isa families tree (Ok ls) is = record { valid = groups_good isa families tree ls is }
+good-checked isa families tree (Err refusal) is = tt
 
-good-tree : (isa : Isa) (a : Parsed) → IfOk (inputs_of isa (tree_groups isa a)) IsGood
-good-tree isa (Ok tree) = good-checked isa tree (groups_of isa tree) refl
-good-tree isa (Err fault) = tt
+good-tree : (isa : Isa) (families : Families) (a : Parsed)
+    → IfOk (inputs_of isa (tree_groups isa families a)) IsGood
+good-tree isa families (Ok tree) = good-checked isa families tree (groups_of isa families tree) refl
+good-tree isa families (Err fault) = tt
 
-good-text : (isa : Isa) (r : Result (List ℕ) Stop)
-    → IfOk (and_then r (λ text. inputs_of isa (groups_found isa text))) IsGood
-good-text isa (Ok text) = good-tree isa (answer text)
-good-text isa (Err stop) = tt
+good-text : (isa : Isa) (families : Families) (r : Result (List ℕ) Stop)
+    → IfOk (and_then r (λ text. inputs_of isa (groups_found isa families text))) IsGood
+good-text isa families (Ok text) = good-tree isa families (answer text)
+good-text isa families (Err stop) = tt
 
-good-said : (files : Files) (names : List (List ℕ)) (r : Result AcceptedSpec Stop)
+good-said : (files : Files) (families : Families) (names : List (List ℕ))
+    (r : Result AcceptedSpec Stop)
     → IfOk (and_then r (λ said. and_then (text_in files None names)
-    (λ text. inputs_of said.spec (groups_found said.spec text)))) IsGood
-good-said files names (Ok said) = good-text said.spec (text_in files None names)
-good-said files names (Err stop) = tt
+    (λ text. inputs_of said.spec (groups_found said.spec families text)))) IsGood
+good-said files families names (Ok said) = good-text said.spec families (text_in files None names)
+good-said files families names (Err stop) = tt
 
-pub good-inputs : (files : Files) (isa : List ℕ) (names : List (List ℕ)) (inputs : Inputs)
-    → inputs_in files isa names ≡ Ok inputs → IsGood inputs
-good-inputs files isa names inputs given = subst (λ (r : Result Inputs Stop). IfOk r IsGood) given
-    (good-said files names (said_in files isa))
+pub good-inputs : (files : Files) (isa : List ℕ) (families : Families) (names : List (List ℕ))
+    (inputs : Inputs)
+    → inputs_in files isa families names ≡ Ok inputs → IsGood inputs
+good-inputs files isa families names inputs given =
+    subst (λ (r : Result Inputs Stop). IfOk r IsGood) given
+    (good-said files families names (said_in files isa))
 
 -- ---- those of a part
 kept-by : {X : Type 0} (P : X → Type 0) (b : Bool) (x : X) (rest : List X) → P x → All P rest
@@ -86,11 +91,13 @@ good-part part (Ok inputs) good = record {
 }
 good-part part (Err stop) good = tt
 
-pub good-labels : (files : Files) (part : Option PartValue) (isa : List ℕ) (names : List (List ℕ))
-    (inputs : Inputs) → labels_in files part isa names ≡ Ok inputs → IsGood inputs
-good-labels files part isa names inputs given =
+pub good-labels : (files : Files) (part : Option PartValue) (isa : List ℕ) (families : Families)
+    (names : List (List ℕ))
+    (inputs : Inputs) → labels_in files part isa families names ≡ Ok inputs → IsGood inputs
+good-labels files part isa families names inputs given =
     subst (λ (r : Result Inputs Stop). IfOk r IsGood) given
-    (good-part part (inputs_in files isa names) (good-said files names (said_in files isa)))
+    (good-part part (inputs_in files isa families names)
+    (good-said files families names (said_in files isa)))
 
 pub valid-good : (inputs : Inputs) (l : Label) → IsGood inputs → Contains inputs.groups l
     → IsTrue l.selected → IsValid inputs.isa l
@@ -128,16 +135,17 @@ tested-good inputs good = record {
   lines = λ l there selected. has-lines inputs.isa l;
 }
 
-pub tested : (files : Files) (isa : List ℕ) (names : List (List ℕ)) (inputs : Inputs)
-    → inputs_in files isa names ≡ Ok inputs → AreTested inputs
-tested files isa names inputs given =
-    tested-good inputs (good-inputs files isa names inputs given)
+pub tested : (files : Files) (isa : List ℕ) (families : Families) (names : List (List ℕ))
+    (inputs : Inputs)
+    → inputs_in files isa families names ≡ Ok inputs → AreTested inputs
+tested files isa families names inputs given =
+    tested-good inputs (good-inputs files isa families names inputs given)
 
-pub tested-labels : (files : Files) (part : Option PartValue) (isa : List ℕ)
+pub tested-labels : (files : Files) (part : Option PartValue) (isa : List ℕ) (families : Families)
     (names : List (List ℕ)) (inputs : Inputs)
-    → labels_in files part isa names ≡ Ok inputs → AreTested inputs
-tested-labels files part isa names inputs given =
-    tested-good inputs (good-labels files part isa names inputs given)
+    → labels_in files part isa families names ≡ Ok inputs → AreTested inputs
+tested-labels files part isa families names inputs given =
+    tested-good inputs (good-labels files part isa families names inputs given)
 
 -- ---- each test can be run
 runnable-with : (isa : Isa) (l : Label) (text : Option (List ℕ)) → IsValid isa l
@@ -181,16 +189,19 @@ groups-of (Err stop) found = tt
 
 pub groups-accepted : (files : Files) (asked : RunArguments)
     (inputs : RunInputs) → run_inputs_in files asked ≡ Ok inputs
-    → labels_in files asked.part asked.isa asked.groups ≡ Ok inputs.groups
+    → labels_in files asked.part asked.isa asked.families asked.groups ≡ Ok inputs.groups
 groups-accepted files asked inputs given = subst
     (λ (r : Result RunInputs Stop).
-    IfOk r (λ (i : RunInputs). labels_in files asked.part asked.isa asked.groups ≡ Ok i.groups)) given
-    (groups-of (labels_in files asked.part asked.isa asked.groups) (device_in files asked.device))
+    IfOk r (λ (i : RunInputs). labels_in files asked.part asked.isa asked.families asked.groups
+    ≡ Ok i.groups)) given
+    (groups-of (labels_in files asked.part asked.isa asked.families asked.groups)
+    (device_in files asked.device))
 
 pub tested-run : (files : Files) (asked : RunArguments)
     (inputs : RunInputs) → run_inputs_in files asked ≡ Ok inputs
     → AreTested inputs.groups
-tested-run files asked inputs given = tested-labels files asked.part asked.isa asked.groups inputs.groups
+tested-run files asked inputs given =
+    tested-labels files asked.part asked.isa asked.families asked.groups inputs.groups
     (groups-accepted files asked inputs given)
 
 pub runnable-run : (files : Files) (asked : RunArguments)
@@ -198,7 +209,7 @@ pub runnable-run : (files : Files) (asked : RunArguments)
     → Contains (tests_of inputs.groups.isa inputs.groups.groups) test
     → IsRunnable inputs.groups.isa test
 runnable-run files asked inputs test given there =
-    let good = good-labels files asked.part asked.isa asked.groups inputs.groups
+    let good = good-labels files asked.part asked.isa asked.families asked.groups inputs.groups
     (groups-accepted files asked inputs given) in
     All-contains (IsRunnable inputs.groups.isa)
     (tests_of inputs.groups.isa inputs.groups.groups) test

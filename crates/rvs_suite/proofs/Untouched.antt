@@ -204,12 +204,13 @@ stops_untouched (Validate asked) first =
     (λ said effects stop c goes.
     absurd (goes-on (print_said said) effects stop tt goes))
 stops_untouched (Normalize asked) first =
-    untouched-then (group_inputs asked.isa asked.groups) print_normal
-    (reads-inputs asked.isa asked.groups) (λ inputs effects stop c goes.
+    untouched-then (group_inputs asked.isa asked.families asked.groups) print_normal
+    (reads-inputs asked.isa asked.families asked.groups) (λ inputs effects stop c goes.
     absurd (goes-on (print_normal inputs) effects stop tt goes))
 stops_untouched (Generate asked) first =
-    untouched-then (part_inputs asked.part asked.isa asked.groups) (generates asked.work)
-    (reads-labels asked.part asked.isa asked.groups) (λ inputs effects stop c goes.
+    untouched-then (part_inputs asked.part asked.isa asked.families asked.groups)
+    (generates asked.work)
+    (reads-labels asked.part asked.isa asked.families asked.groups) (λ inputs effects stop c goes.
     absurd (goes-on (generates asked.work inputs) effects stop (generates-on asked.work inputs)
     goes))
 stops_untouched (Run asked) first =
@@ -219,11 +220,13 @@ stops_untouched (Run asked) first =
     (runs-on asked.program asked.work inputs) goes))
 stops_untouched (Coverage asked) first =
     untouched-then (covering.reported asked) print_text
-    (reads-reported (covering.measure asked.windows) asked.isa asked.groups asked.logs)
+    (reads-reported (covering.measure asked.windows) asked.isa asked.families asked.groups
+    asked.logs)
     (λ report effects stop c goes. absurd (goes-on (print_text report) effects stop tt goes))
 stops_untouched (Propagate asked) first =
     untouched-then (propagating.reported asked) print_text
-    (reads-reported (propagating.measure asked.signature) asked.isa asked.groups asked.logs)
+    (reads-reported (propagating.measure asked.signature) asked.isa asked.families asked.groups
+    asked.logs)
     (λ report effects stop c goes. absurd (goes-on (print_text report) effects stop tt goes))
 stops_untouched (RunDatabase asked) first = absurd first
 stops_untouched (Select asked) first =

@@ -7,6 +7,7 @@ use Rattle.std.specs.List.{list_any}
 use Rattle.std.proofs.lemmas.List.Elements.{All-nil, All-cons, All-contains}
 use Rattle.std.proofs.lemmas.Slice.Eq.{bytes_eq-Decides}
 use Rattle.rvs_base.specs.Host.{Files}
+use Rattle.rvs_abstract.specs.declared.families.Families.{Families}
 use Rattle.rvs_plan.specs.declared.stop.Stop.{Stop}
 use Rattle.rvs_tree.specs.Data.{Data, scalar, sequence, mapping, own_pairs}
 use Rattle.rvs_yaml.specs.Parsed.{Parsed, answer}
@@ -39,34 +40,38 @@ top-own (mapping es l) o = o.0
 abbrev AreApart : Inputs → Type 0
 AreApart inputs = names_are_apart inputs.groups ≡ true
 
-apart-checked : (isa : Isa) (text : List ℕ) (tree : Data) (r : Result (List Label) Refusal)
-    → answer text ≡ Ok tree → groups_of isa tree ≡ r
+apart-checked : (isa : Isa) (families : Families) (text : List ℕ) (tree : Data)
+    (r : Result (List Label) Refusal)
+    → answer text ≡ Ok tree → groups_of isa families tree ≡ r
     → IfOk (inputs_of isa (checked_groups r)) AreApart
-apart-checked isa text tree (Ok ls) a is =
-    (read-well isa tree ls (top-own tree (answer-owned text tree a)) is).apart
-apart-checked isa text tree (Err refusal) a is = tt
+apart-checked isa families text tree (Ok ls) a is =
+    (read-well isa families tree ls (top-own tree (answer-owned text tree a)) is).apart
+apart-checked isa families text tree (Err refusal) a is = tt
 
-apart-tree : (isa : Isa) (text : List ℕ) (r : Parsed) → answer text ≡ r
-    → IfOk (inputs_of isa (tree_groups isa r)) AreApart
-apart-tree isa text (Ok tree) a = apart-checked isa text tree (groups_of isa tree) a refl
-apart-tree isa text (Err fault) a = tt
+apart-tree : (isa : Isa) (families : Families) (text : List ℕ) (r : Parsed) → answer text ≡ r
+    → IfOk (inputs_of isa (tree_groups isa families r)) AreApart
+apart-tree isa families text (Ok tree) a =
+    apart-checked isa families text tree (groups_of isa families tree) a refl
+apart-tree isa families text (Err fault) a = tt
 
-apart-text : (isa : Isa) (r : Result (List ℕ) Stop)
-    → IfOk (and_then r (λ text. inputs_of isa (groups_found isa text))) AreApart
-apart-text isa (Ok text) = apart-tree isa text (answer text) refl
-apart-text isa (Err stop) = tt
+apart-text : (isa : Isa) (families : Families) (r : Result (List ℕ) Stop)
+    → IfOk (and_then r (λ text. inputs_of isa (groups_found isa families text))) AreApart
+apart-text isa families (Ok text) = apart-tree isa families text (answer text) refl
+apart-text isa families (Err stop) = tt
 
-apart-said : (files : Files) (names : List (List ℕ)) (r : Result AcceptedSpec Stop)
+apart-said : (files : Files) (families : Families) (names : List (List ℕ))
+    (r : Result AcceptedSpec Stop)
     → IfOk (and_then r (λ said. and_then (text_in files None names)
-    (λ text. inputs_of said.spec (groups_found said.spec text)))) AreApart
-apart-said files names (Ok said) = apart-text said.spec (text_in files None names)
-apart-said files names (Err stop) = tt
+    (λ text. inputs_of said.spec (groups_found said.spec families text)))) AreApart
+apart-said files families names (Ok said) = apart-text said.spec families (text_in files None names)
+apart-said files families names (Err stop) = tt
 
-pub apart-inputs : (files : Files) (isa : List ℕ) (names : List (List ℕ)) (inputs : Inputs)
-    → inputs_in files isa names ≡ Ok inputs → names_are_apart inputs.groups ≡ true
-apart-inputs files isa names inputs given =
+pub apart-inputs : (files : Files) (isa : List ℕ) (families : Families) (names : List (List ℕ))
+    (inputs : Inputs)
+    → inputs_in files isa families names ≡ Ok inputs → names_are_apart inputs.groups ≡ true
+apart-inputs files isa families names inputs given =
     subst (λ (r : Result Inputs Stop). IfOk r AreApart) given
-    (apart-said files names (said_in files isa))
+    (apart-said files families names (said_in files isa))
 
 -- ---- those of a part
 kept-any : (test : Label → Bool) (b : Bool) (l : Label) (rest : List Label) → test l ≡ false
@@ -121,12 +126,13 @@ apart-part : (part : Option PartValue) (r : Result Inputs Stop) → IfOk r AreAp
 apart-part part (Ok inputs) apart = apart-parted part 0 inputs.groups apart
 apart-part part (Err stop) apart = tt
 
-pub apart-labels : (files : Files) (part : Option PartValue) (isa : List ℕ)
+pub apart-labels : (files : Files) (part : Option PartValue) (isa : List ℕ) (families : Families)
     (names : List (List ℕ)) (inputs : Inputs)
-    → labels_in files part isa names ≡ Ok inputs → names_are_apart inputs.groups ≡ true
-apart-labels files part isa names inputs given =
+    → labels_in files part isa families names ≡ Ok inputs → names_are_apart inputs.groups ≡ true
+apart-labels files part isa families names inputs given =
     subst (λ (r : Result Inputs Stop). IfOk r AreApart) given
-    (apart-part part (inputs_in files isa names) (apart-said files names (said_in files isa)))
+    (apart-part part (inputs_in files isa families names)
+    (apart-said files families names (said_in files isa)))
 
 -- ---- so their tests are different files
 apart-paths : (work a b : List ℕ) → bytes_eq a b ≡ false → path_of work a ≢ path_of work b

@@ -55,11 +55,12 @@ measure windows = record {
 -- ---- over given files
 abbrev pub report_in : Files → CoverageArguments → Result (List ℕ) Stop
 report_in files asked =
-    log_report_in (measure asked.windows) files asked.isa asked.groups asked.logs
+    log_report_in (measure asked.windows) files asked.isa asked.families asked.groups asked.logs
 
 -- ---- as plans
 abbrev pub reported : CoverageArguments → Plan (List ℕ)
-reported asked = log_reported (measure asked.windows) asked.isa asked.groups asked.logs
+reported asked =
+    log_reported (measure asked.windows) asked.isa asked.families asked.groups asked.logs
 
 -- and then the report is put
 abbrev pub coverage : CoverageArguments → Plan Finish

@@ -63,14 +63,15 @@ pub record Covers (call : Call) (files : Files) (asked : CoverageArguments) : Ty
   -- hit each point of the groups, and how many there are, each log by itself and then added up;
   -- before it stands a line for each log, where there are several
   pub counts : (inputs : Inputs) (logs : List (List Entry))
-      → inputs_in files asked.isa asked.groups ≡ Ok inputs
+      → inputs_in files asked.isa asked.families asked.groups ≡ Ok inputs
       → AreLogsOf files asked.logs logs → call.status ≡ Done
       → HasReported call (lines_of_many asked.logs (ran_in asked.windows logs)
       ++ report_of inputs.groups (map (counted_in asked.windows logs) (aims_of inputs.groups))
       (instructions_in asked.windows logs))
   -- so of two logs, each counted by itself, the numbers are added
   pub two : (inputs : Inputs) (log other : List ℕ) (first second : List Entry)
-      → inputs_in files asked.isa asked.groups ≡ Ok inputs → asked.logs ≡ log ∷ other ∷ []
+      → inputs_in files asked.isa asked.families asked.groups ≡ Ok inputs → asked.logs
+      ≡ log ∷ other ∷ []
       → IsLogOf files log first → IsLogOf files other second → call.status ≡ Done
       → HasReported call
       ((log_line log (length (kept asked.windows first))
@@ -81,7 +82,7 @@ pub record Covers (call : Call) (files : Files) (asked : CoverageArguments) : Ty
       (length (kept asked.windows first) + length (kept asked.windows second)))
   -- and those of one log are its own
   pub alone : (inputs : Inputs) (log : List ℕ) (entries : List Entry)
-      → inputs_in files asked.isa asked.groups ≡ Ok inputs → asked.logs ≡ log ∷ []
+      → inputs_in files asked.isa asked.families asked.groups ≡ Ok inputs → asked.logs ≡ log ∷ []
       → IsLogOf files log entries → call.status ≡ Done
       → HasReported call (report_of inputs.groups
       (map (count (kept asked.windows entries)) (aims_of inputs.groups))
@@ -89,14 +90,16 @@ pub record Covers (call : Call) (files : Files) (asked : CoverageArguments) : Ty
   -- so where one instruction is all that the log has, and it hits the one point of the one label,
   -- the report counts one
   pub one : (isa' : Isa) (l : Label) (p : Point) (log : List ℕ) (e : Entry)
-      → inputs_in files asked.isa asked.groups ≡ Ok (record { isa = isa'; groups = l ∷ [] })
+      → inputs_in files asked.isa asked.families asked.groups
+      ≡ Ok (record { isa = isa'; groups = l ∷ [] })
       → IsTrue l.selected → l.points ≡ p ∷ [] → asked.windows ≡ [] → asked.logs ≡ log ∷ []
       → IsLogOf files log (e ∷ [])
       → IsTrue (hits (record { ops = l.ops; point = p }) e) → call.status ≡ Done
       → HasReported call (report_of (l ∷ []) (1 ∷ []) 1)
   -- so of the log that `reference` writes of a test it counts what the test's run hits
   pub of_run : (inputs : Inputs) (log test : List ℕ) (steps : Option ℕ) (run : Run)
-      → inputs_in files asked.isa asked.groups ≡ Ok inputs → BothHalt files asked.isa test steps run
+      → inputs_in files asked.isa asked.families asked.groups ≡ Ok inputs
+      → BothHalt files asked.isa test steps run
       → HoldsOctets files test → asked.logs ≡ log ∷ []
       → files log ≡ Some (log_of run.trace) → length (log_of run.trace) ≤ log_limit
       → call.status ≡ Done → HasReported call (report_of inputs.groups
@@ -104,7 +107,8 @@ pub record Covers (call : Call) (files : Files) (asked : CoverageArguments) : Ty
       (length (kept asked.windows (map as_entry run.trace))))
   -- A selected label of the groups is valid for the core. So no two of the lines of its points name
   -- one kind and key, and what each of these points means is what its key says.
-  pub valid : (inputs : Inputs) (l : Label) → inputs_in files asked.isa asked.groups ≡ Ok inputs
+  pub valid : (inputs : Inputs) (l : Label) → inputs_in files asked.isa asked.families asked.groups
+      ≡ Ok inputs
       → Contains inputs.groups l → IsTrue l.selected → IsValid inputs.isa l
   -- it writes no file, however it ends
   pub files_kept : call.new.host.files ≡ call.old.host.files

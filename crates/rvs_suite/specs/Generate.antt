@@ -56,5 +56,5 @@ generates work inputs = do
 -- the files are read and checked, and then the tests are made
 abbrev pub generate : GenerateArguments → Plan Finish
 generate asked = do
-  inputs ← part_inputs asked.part asked.isa asked.groups
+  inputs ← part_inputs asked.part asked.isa asked.families asked.groups
   generates asked.work inputs

@@ -67,49 +67,57 @@ IsNoTest work found other = (inputs : Inputs) (test : Test) → found ≡ Ok inp
 pub record Generates (call : Call) (files : Files) (asked : GenerateArguments) : Type 0 where
   -- it is done where the ISA file and the groups are accepted, and has written the tests and put
   -- their cases; it is refused, or the host fails, at the first file that isn't
-  pub answered : Answered call (labels_in files asked.part asked.isa asked.groups) (OnDone
+  pub answered : Answered call (labels_in files asked.part asked.isa asked.families asked.groups)
+      (OnDone
       (HasGenerated call asked.work))
   -- no two labels have one name
-  pub apart : (inputs : Inputs) → labels_in files asked.part asked.isa asked.groups ≡ Ok inputs
+  pub apart : (inputs : Inputs) → labels_in files asked.part asked.isa asked.families asked.groups
+      ≡ Ok inputs
       → IsTrue (names_are_apart inputs.groups)
   -- the tests that it makes run as their texts claim
-  pub tested : (inputs : Inputs) → labels_in files asked.part asked.isa asked.groups ≡ Ok inputs
+  pub tested : (inputs : Inputs) → labels_in files asked.part asked.isa asked.families asked.groups
+      ≡ Ok inputs
       → AreTested inputs
   -- The headline: where it is done, the file of each label with a point that a choice hits is
   -- there, and of its bytes alone it is a test that hits each such point.
   pub each : (inputs : Inputs) (l : Label) (k : ℕ) (files' : Files)
-      → labels_in files asked.part asked.isa asked.groups ≡ Ok inputs → Contains inputs.groups l
+      → labels_in files asked.part asked.isa asked.families asked.groups ≡ Ok inputs
+      → Contains inputs.groups l
       → IsTrue l.selected
       → IsSolvableAt inputs.isa l k → call.status ≡ Done → call.new.host.files ≡ Some files'
       → HasProvedTest files' (path_of asked.work l.name) inputs.isa l
   -- the same of each text that it writes, however it ends
   pub proved : (inputs : Inputs) (l : Label) (text : List ℕ)
-      → labels_in files asked.part asked.isa asked.groups ≡ Ok inputs → Contains inputs.groups l
+      → labels_in files asked.part asked.isa asked.families asked.groups ≡ Ok inputs
+      → Contains inputs.groups l
       → IsTrue l.selected
       → text_of_label inputs.isa l ≡ Some text → IsProved inputs.isa l text
   -- where it is done, each label that has a test has it in its file
   pub there : (inputs : Inputs) (l : Label) (text : List ℕ) (files' : Files)
-      → labels_in files asked.part asked.isa asked.groups ≡ Ok inputs → Contains inputs.groups l
+      → labels_in files asked.part asked.isa asked.families asked.groups ≡ Ok inputs
+      → Contains inputs.groups l
       → IsTrue l.selected
       → text_of_label inputs.isa l ≡ Some text → call.status ≡ Done
       → call.new.host.files ≡ Some files' → files' (path_of asked.work l.name) ≡ Some text
   -- a label without a test has no point that a choice hits
   pub untested : (inputs : Inputs) (l : Label) (k : ℕ)
-      → labels_in files asked.part asked.isa asked.groups ≡ Ok inputs
+      → labels_in files asked.part asked.isa asked.families asked.groups ≡ Ok inputs
       → text_of_label inputs.isa l ≡ None → IsSolvableAt inputs.isa l k → ⊥
   -- so a group file with one label and one point that a choice hits leaves a test that hits it
   pub one : (isa' : Isa) (l : Label) (p : Point)
-      → labels_in files asked.part asked.isa asked.groups ≡ Ok (record { isa = isa'; groups = l ∷ [] })
+      → labels_in files asked.part asked.isa asked.families asked.groups
+      ≡ Ok (record { isa = isa'; groups = l ∷ [] })
       → IsTrue l.selected → l.points ≡ p ∷ [] → IsSolvableAt isa' l 0 → call.status ≡ Done
       → HasOneTest call asked.work isa' l
   -- and one with a point that no choice hits leaves no test
   pub none : (isa' : Isa) (l : Label) (p : Point)
-      → labels_in files asked.part asked.isa asked.groups ≡ Ok (record { isa = isa'; groups = l ∷ [] })
+      → labels_in files asked.part asked.isa asked.families asked.groups
+      ≡ Ok (record { isa = isa'; groups = l ∷ [] })
       → IsTrue l.selected → l.points ≡ p ∷ [] → l.skipped ≡ [] → (IsSolvableAt isa' l 0 → ⊥)
       → call.status ≡ Done → HasNoTest call l p
   -- it changes no file but those of its tests, however it ends
   pub others_kept : (files' : Files) (other : List ℕ)
-      → IsNoTest asked.work (labels_in files asked.part asked.isa asked.groups) other
+      → IsNoTest asked.work (labels_in files asked.part asked.isa asked.families asked.groups) other
       → call.new.host.files ≡ Some files'
       → files' other ≡ files other
 

@@ -2,6 +2,7 @@
 use Rattle.std.specs.Prelude.{ℕ, ◌+◌, ◌-◌, nat_lt, if◌then◌else◌, List, [], ◌∷◌, ◌++◌, length}
 use Rattle.std.specs.Prelude.{Option, Some, None, unwrap_or, Result, Ok, Err}
 use Rattle.rvs_base.specs.Host.{Files}
+use Rattle.rvs_abstract.specs.declared.families.Families.{Families}
 use Rattle.rvs_plan.specs.Plan.{Plan, Ends, gives, ◌>>=◌}
 use Rattle.rvs_plan.specs.Inputs.{part, too_long_text}
 use Rattle.rvs_plan.specs.declared.stop.Stop.{Stop}
@@ -48,13 +49,13 @@ abbrev pub checked_groups : Result (List Label) Refusal → Result (List Label) 
 checked_groups (Ok groups) = Ok groups
 checked_groups (Err refusal) = Err (Refused (group_text refusal))
 
-abbrev pub tree_groups : Isa → Parsed → Result (List Label) Stop
-tree_groups isa (Ok tree) = checked_groups (groups_of isa tree)
-tree_groups isa (Err fault) = Err (Refused (yaml_text groups_name fault.0 fault.1))
+abbrev pub tree_groups : Isa → Families → Parsed → Result (List Label) Stop
+tree_groups isa families (Ok tree) = checked_groups (groups_of isa families tree)
+tree_groups isa families (Err fault) = Err (Refused (yaml_text groups_name fault.0 fault.1))
 
--- the groups of a text for a core, or why it is refused
-abbrev pub groups_found : Isa → List ℕ → Result (List Label) Stop
-groups_found isa text = tree_groups isa (answer text)
+-- the groups of a text for a core, by the families that are read, or why it is refused
+abbrev pub groups_found : Isa → Families → List ℕ → Result (List Label) Stop
+groups_found isa families text = tree_groups isa families (answer text)
 
 -- a core, and the groups of the group files for it
 pub record Inputs : Type 0 where
@@ -66,17 +67,18 @@ inputs_of isa (Ok groups) = Ok (record { isa = isa; groups = groups })
 inputs_of isa (Err stop) = Err stop
 
 -- what the ISA file and the group files give, or the first of them that isn't there or is refused
-abbrev pub inputs_in : Files → List ℕ → List (List ℕ) → Result Inputs Stop
-inputs_in files isa names = and_then (said_in files isa) (λ said. and_then
-    (text_in files None names) (λ text. inputs_of said.spec (groups_found said.spec text)))
+abbrev pub inputs_in : Files → List ℕ → Families → List (List ℕ) → Result Inputs Stop
+inputs_in files isa families names = and_then (said_in files isa) (λ said. and_then
+    (text_in files None names) (λ text. inputs_of said.spec (groups_found said.spec families text)))
 
 -- the labels of a part, where one is asked for
 abbrev pub parted_inputs : Option PartValue → Inputs → Inputs
 parted_inputs part inputs = record { isa = inputs.isa; groups = parted part inputs.groups }
 
-abbrev pub labels_in : Files → Option PartValue → List ℕ → List (List ℕ) → Result Inputs Stop
-labels_in files part isa names =
-    and_then (inputs_in files isa names) (λ inputs. Ok (parted_inputs part inputs))
+abbrev pub labels_in : Files → Option PartValue → List ℕ → Families → List (List ℕ)
+    → Result Inputs Stop
+labels_in files part isa families names =
+    and_then (inputs_in files isa families names) (λ inputs. Ok (parted_inputs part inputs))
 
 -- ---- as plans
 -- what the files so far leave of the limit, for the next and the line feed before it
@@ -95,21 +97,21 @@ joins_all front [] = gives (unwrap_or front [])
 joins_all front (name ∷ names) = joins front name >>= (λ text. joins_all (Some text) names)
 
 -- the group files are read, and then checked as one text
-abbrev pub group_files : Isa → List (List ℕ) → Plan (List Label)
-group_files isa names = do
+abbrev pub group_files : Isa → Families → List (List ℕ) → Plan (List Label)
+group_files isa families names = do
   text ← joins_all None names
-  Ends (groups_found isa text)
+  Ends (groups_found isa families text)
 
 -- the ISA file is read and checked, and then the group files are, for its core
-abbrev pub group_inputs : List ℕ → List (List ℕ) → Plan Inputs
-group_inputs isa names = do
+abbrev pub group_inputs : List ℕ → Families → List (List ℕ) → Plan Inputs
+group_inputs isa families names = do
   said ← specification isa
-  groups ← group_files said.spec names
+  groups ← group_files said.spec families names
   gives (record { isa = said.spec; groups = groups })
 
 abbrev pub gives_part : Option PartValue → Inputs → Plan Inputs
 gives_part part inputs = gives (parted_inputs part inputs)
 
 -- all of them are read and checked, and those of a part are kept
-abbrev pub part_inputs : Option PartValue → List ℕ → List (List ℕ) → Plan Inputs
-part_inputs part isa names = group_inputs isa names >>= gives_part part
+abbrev pub part_inputs : Option PartValue → List ℕ → Families → List (List ℕ) → Plan Inputs
+part_inputs part isa families names = group_inputs isa families names >>= gives_part part

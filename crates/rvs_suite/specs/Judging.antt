@@ -44,7 +44,7 @@ use Rattle.rvs_words.specs.declared.command.RunArguments.{RunArguments}
 -- there or is refused
 abbrev pub run_inputs_in : Files → RunArguments → Result RunInputs Stop
 run_inputs_in files asked =
-    and_then (labels_in files asked.part asked.isa asked.groups) (λ inputs.
+    and_then (labels_in files asked.part asked.isa asked.families asked.groups) (λ inputs.
     and_then (device_in files asked.device) (λ told.
     Ok (record { groups = inputs; device = told })))
 

@@ -2,6 +2,7 @@
 use Rattle.std.specs.Prelude.{◌≡◌, ◌≤◌, ℕ, ◌+◌, nat_lt, if◌then◌else◌, List, [], ◌∷◌, length}
 use Rattle.std.specs.Prelude.{Option, Some, None, Result, Ok, Err, ⊤}
 use Rattle.rvs_base.specs.Host.{Files}
+use Rattle.rvs_abstract.specs.declared.families.Families.{Families}
 use Rattle.rvs_plan.specs.Plan.{Plan, Ends, Asks, gives, ◌>>=◌}
 use Rattle.rvs_plan.specs.Inputs.{too_long_text}
 use Rattle.rvs_plan.specs.declared.stop.Stop.{Stop}
@@ -48,10 +49,10 @@ reported_in m files logs groups =
     (λ known. Ok (m.report groups logs known))
 
 -- that for the groups that the ISA file and the group files give
-abbrev pub log_report_in : {L A : Type 0} → Measure L A → Files → List ℕ → List (List ℕ)
-    → List L → Result (List ℕ) Stop
-log_report_in m files isa names logs =
-    and_then (inputs_in files isa names) (λ inputs. reported_in m files logs inputs.groups)
+abbrev pub log_report_in : {L A : Type 0} → Measure L A → Files → List ℕ → Families
+    → List (List ℕ) → List L → Result (List ℕ) Stop
+log_report_in m files isa families names logs =
+    and_then (inputs_in files isa families names) (λ inputs. reported_in m files logs inputs.groups)
 
 -- the named logs are there, with these bytes, and none is too long
 abbrev pub AreLogs : Files → List (List ℕ) → List (List ℕ) → Type 0
@@ -81,8 +82,8 @@ reads_logs m logs groups =
     takes_logs m.name (m.more groups) (m.none groups) logs >>= reports m logs groups
 
 -- the ISA file and the group files are read and checked, and then the logs are read
-abbrev pub log_reported : {L A : Type 0} → Measure L A → List ℕ → List (List ℕ) → List L
-    → Plan (List ℕ)
-log_reported m isa names logs = do
-  inputs ← group_inputs isa names
+abbrev pub log_reported : {L A : Type 0} → Measure L A → List ℕ → Families → List (List ℕ)
+    → List L → Plan (List ℕ)
+log_reported m isa families names logs = do
+  inputs ← group_inputs isa families names
   reads_logs m logs inputs.groups

@@ -2,6 +2,7 @@
 use Rattle.std.specs.Prelude.{◌≡◌, ◌≤◌, ℕ, List, [], ◌∷◌, length, map, Some, Ok}
 use Rattle.rvs_base.specs.Host.{Files, Tells}
 use Rattle.rvs_base.specs.Sink.{appended}
+use Rattle.rvs_abstract.specs.declared.families.Families.{Families}
 use Rattle.rvs_cgf.specs.Print.{normal_text}
 use Rattle.rvs_cgf.specs.Spelled.{bare, selected}
 use Rattle.rvs_suite.specs.Answered.{Answered, OnDone}
@@ -20,17 +21,19 @@ pub record Normalizes (call : Call) (files : Files) (asked : NormalizeArguments)
     0 where
   -- it is done where the ISA file and the groups are accepted, and has put the groups; it is
   -- refused, or the host fails, at the first file that isn't
-  pub answered : Answered call (inputs_in files asked.isa asked.groups) (OnDone (HasPrinted call))
+  pub answered : Answered call (inputs_in files asked.isa asked.families asked.groups)
+      (OnDone (HasPrinted call))
   -- it writes no file, however it ends
   pub files_kept : call.new.host.files ≡ call.old.host.files
   -- what it put, kept in a file within the limit of group files and read with the same ISA file,
-  -- gives the selected labels with the same mnemonics and points, and nothing skipped
+  -- whichever families are read, gives the selected labels with the same mnemonics and points, and
+  -- nothing skipped
   pub again :
-      (after : Files) (name : List ℕ) (inputs : Inputs)
-      → inputs_in files asked.isa asked.groups ≡ Ok inputs
+      (after : Files) (families : Families) (name : List ℕ) (inputs : Inputs)
+      → inputs_in files asked.isa asked.families asked.groups ≡ Ok inputs
       → length (normal_text inputs.groups) ≤ groups_limit → after asked.isa ≡ files asked.isa
       → after name ≡ Some (normal_text inputs.groups)
-      → inputs_in after asked.isa (name ∷ [])
+      → inputs_in after asked.isa families (name ∷ [])
       ≡ Ok (record { isa = inputs.isa; groups = map bare (selected inputs.groups) })
 
 -- the same of every call: over told files, where its words ask for `normalize`

@@ -70,12 +70,12 @@ measure = record {
 -- ---- over given files
 abbrev pub report_in : Files → PropagateArguments → Result (List ℕ) Stop
 report_in files asked =
-    log_report_in measure files asked.isa asked.groups asked.logs
+    log_report_in measure files asked.isa asked.families asked.groups asked.logs
 
 -- ---- as plans
 -- the ISA file and the group files are read and checked, and then the logs are tracked
 abbrev pub reported : PropagateArguments → Plan (List ℕ)
-reported asked = log_reported measure asked.isa asked.groups asked.logs
+reported asked = log_reported measure asked.isa asked.families asked.groups asked.logs
 
 -- and then the report is put
 abbrev pub propagate : PropagateArguments → Plan Finish

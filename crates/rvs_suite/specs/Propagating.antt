@@ -60,14 +60,14 @@ pub record Propagates (call : Call) (files : Files) (asked : PropagateArguments)
   -- the hits of each point of the groups reach the signature, how many hits there are, and how many
   -- instructions; before it stands a line for each log, where there are several
   pub numbers : (inputs : Inputs) (logs : List (List ℕ))
-      → inputs_in files asked.isa asked.groups ≡ Ok inputs
+      → inputs_in files asked.isa asked.families asked.groups ≡ Ok inputs
       → AreLogs files (map file_name asked.logs) logs → call.status ≡ Done
       → HasReported call (lines_of_many (map file_name asked.logs) (ran_in logs)
       ++ report_of inputs.groups (map (reached_in asked.logs logs) (aims_of inputs.groups))
       (map (hits_in logs) (aims_of inputs.groups)) (entries_in logs))
   -- so those of one log are its own
   pub single : (inputs : Inputs) (log : SignedLog) (bytes : List ℕ)
-      → inputs_in files asked.isa asked.groups ≡ Ok inputs → asked.logs ≡ log ∷ []
+      → inputs_in files asked.isa asked.families asked.groups ≡ Ok inputs → asked.logs ≡ log ∷ []
       → IsLog files log.name bytes → call.status ≡ Done
       → HasReported call (report_of inputs.groups
       (map (reached log.signature.lo log.signature.hi (acts_of bytes)) (aims_of inputs.groups))
@@ -76,7 +76,8 @@ pub record Propagates (call : Call) (files : Files) (asked : PropagateArguments)
   -- label, and the second stores its result in the signature, the report counts one of one
   pub one : (isa' : Isa) (l : Label) (p : Point) (hit store : Act) (log : SignedLog)
       (bytes : List ℕ)
-      → inputs_in files asked.isa asked.groups ≡ Ok (record { isa = isa'; groups = l ∷ [] })
+      → inputs_in files asked.isa asked.families asked.groups
+      ≡ Ok (record { isa = isa'; groups = l ∷ [] })
       → IsTrue l.selected → l.points ≡ p ∷ [] → asked.logs ≡ log ∷ []
       → IsLog files log.name bytes → acts_of bytes ≡ hit ∷ store ∷ []
       → IsFirst (record { ops = l.ops; point = p }) hit store
@@ -85,7 +86,8 @@ pub record Propagates (call : Call) (files : Files) (asked : PropagateArguments)
       ≡ true → call.status ≡ Done → HasReported call (report_of (l ∷ []) (1 ∷ []) (1 ∷ []) 2)
   -- A selected label of the groups is valid for the core. So no two of the lines of its points name
   -- one kind and key, and what each of these points means is what its key says.
-  pub valid : (inputs : Inputs) (l : Label) → inputs_in files asked.isa asked.groups ≡ Ok inputs
+  pub valid : (inputs : Inputs) (l : Label) → inputs_in files asked.isa asked.families asked.groups
+      ≡ Ok inputs
       → Contains inputs.groups l → IsTrue l.selected → IsValid inputs.isa l
   -- it writes no file, however it ends
   pub files_kept : call.new.host.files ≡ call.old.host.files

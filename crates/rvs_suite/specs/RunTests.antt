@@ -136,7 +136,7 @@ pub record RunInputs : Type 0 where
 -- the ISA file and the group files are read and checked, and then the device file is
 abbrev pub run_inputs : RunArguments → Plan RunInputs
 run_inputs asked = do
-  inputs ← part_inputs asked.part asked.isa asked.groups
+  inputs ← part_inputs asked.part asked.isa asked.families asked.groups
   told ← device_file asked.device
   gives (record { groups = inputs; device = told })
 

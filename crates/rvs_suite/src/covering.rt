@@ -66,7 +66,7 @@ fn read_report<H: Host>(
     ensures { (out : SinkState) → Meets (reported asked.now)
         (world (H.state host.old) out) (world (H.state host.new) out) result }
 {
-    let inputs = read_inputs(alloc, host, &asked.isa, &asked.groups)?;
+    let inputs = read_inputs(alloc, host, &asked.isa, asked.families, &asked.groups)?;
     report_logs(alloc, host, &inputs.groups, asked)
 }
 

@@ -16,6 +16,7 @@ ghost use Rattle.rvs_suite.specs.GroupFiles.{checked_groups, groups_found, group
 ghost use Rattle.rvs_suite.specs.GroupFiles.{group_inputs};
 
 use crate::isa_file::{read_isa, yaml_text};
+use rvs_abstract::Families;
 use rvs_base::{Bytes, Host, Items, NoMemory, Text};
 use rvs_cgf::{CgfKind, CgfRefusal, Groups, read_groups, refusal_text};
 use rvs_insn::IsaSpec;
@@ -37,7 +38,7 @@ pub struct Inputs {
     pub groups: Groups,
 }
 
-/// Reads an ISA file, and then coverage group files for its core.
+/// Reads an ISA file, and then coverage group files for its core, by the families that are read.
 ///
 /// # Errors
 ///
@@ -46,15 +47,16 @@ pub fn read_inputs<H: Host>(
     alloc: Global,
     host: &mut H,
     isa: &Text,
+    families: Families,
     names: &Items<Text>,
 ) -> Result<Inputs, Stop>
-    ensures met { (out : SinkState) → Meets (group_inputs isa.now names.now)
+    ensures met { (out : SinkState) → Meets (group_inputs isa.now families names.now)
         (world (H.state host.old) out) (world (H.state host.new) out) (seen inputs_view result) }
     ensures valid { IfOk result (λ i. All (λ l. IsValidIfSelected i.isa (label_view l)) i.groups) }
 {
     let said = read_isa(alloc, host, isa)?;
     let isa = said.spec;
-    let groups = read_group_files(alloc, host, &isa, names)?;
+    let groups = read_group_files(alloc, host, &isa, families, names)?;
     Ok(Inputs { isa, groups })
 }
 
@@ -69,14 +71,15 @@ fn read_group_files<H: Host>(
     alloc: Global,
     host: &mut H,
     isa: &IsaSpec,
+    families: Families,
     names: &Items<Text>,
 ) -> Result<Groups, Stop>
-    ensures met { (out : SinkState) → Meets (group_files isa.now names.now)
+    ensures met { (out : SinkState) → Meets (group_files isa.now families names.now)
         (world (H.state host.old) out) (world (H.state host.new) out) (seen groups_view result) }
     ensures valid { IfOk result (All (λ l. IsValidIfSelected isa.now (label_view l))) }
 {
     let text = read_joined(alloc, host, names.as_slice())?;
-    check_text(alloc, isa, text)
+    check_text(alloc, isa, families, text)
 }
 
 /// The text of the named files, joined in order with a line feed between.
@@ -153,26 +156,26 @@ fn within_limit(alloc: Global, text: Bytes) -> Result<Bytes, Stop>
 }
 
 /// The groups of a text, which is let go before they are made.
-fn check_text(alloc: Global, isa: &IsaSpec, text: Bytes) -> Result<Groups, Stop>
-    ensures met { (w : World) → Meets (Ends (groups_found isa.now text)) w w
+fn check_text(alloc: Global, isa: &IsaSpec, families: Families, text: Bytes) -> Result<Groups, Stop>
+    ensures met { (w : World) → Meets (Ends (groups_found isa.now families text)) w w
         (seen groups_view result) }
     ensures valid { IfOk result (All (λ l. IsValidIfSelected isa.now (label_view l))) }
 {
     match parse(alloc, text.as_slice()) {
         Ok(tree) => {
             drop(text);
-            check_tree(alloc, isa, &tree)
+            check_tree(alloc, isa, families, &tree)
         }
         Err(refusal) => Err(Stop::Refused(yaml_text(alloc, GROUPS_NAME, &refusal)?)),
     }
 }
 
-fn check_tree(alloc: Global, isa: &IsaSpec, tree: &Tree) -> Result<Groups, Stop>
-    ensures met { (w : World) → Meets (Ends (checked_groups (groups_of isa.now (view tree.now))))
-        w w (seen groups_view result) }
+fn check_tree(alloc: Global, isa: &IsaSpec, families: Families, tree: &Tree) -> Result<Groups, Stop>
+    ensures met { (w : World) → Meets
+        (Ends (checked_groups (groups_of isa.now families (view tree.now)))) w w (seen groups_view result) }
     ensures valid { IfOk result (All (λ l. IsValidIfSelected isa.now (label_view l))) }
 {
-    match read_groups(alloc, tree, isa) {
+    match read_groups(alloc, tree, isa, families) {
         Ok(groups) => Ok(groups),
         Err(refusal) => Err(Stop::Refused(group_text(alloc, &refusal)?)),
     }

@@ -14,6 +14,7 @@ ghost use Rattle.rvs_suite.specs.Normalize.{normal_files, normal_inputs, normali
 use crate::group_files::{GROUPS_NAME, group_text, read_joined};
 use crate::isa_file::{read_isa, yaml_text};
 use crate::printing::print_text;
+use rvs_abstract::Families;
 use rvs_base::{Bytes, Host, Items, Sink, Text};
 use rvs_cgf::write_groups;
 use rvs_insn::IsaSpec;
@@ -51,7 +52,7 @@ fn read_normal<H: Host>(
         (world (H.state host.old) out) (world (H.state host.new) out) result }
 {
     let said = read_isa(alloc, host, &asked.isa)?;
-    read_normal_files(alloc, host, &said.spec, &asked.groups)
+    read_normal_files(alloc, host, &said.spec, asked.families, &asked.groups)
 }
 
 /// The normal text of the groups of the named files, for a core.
@@ -59,34 +60,36 @@ fn read_normal_files<H: Host>(
     alloc: Global,
     host: &mut H,
     isa: &IsaSpec,
+    families: Families,
     names: &Items<Text>,
 ) -> Result<Text, Stop>
-    ensures { (out : SinkState) → Meets (normal_files isa.now names.now)
+    ensures { (out : SinkState) → Meets (normal_files isa.now families names.now)
         (world (H.state host.old) out) (world (H.state host.new) out) result }
 {
     let text = read_joined(alloc, host, names.as_slice())?;
-    write_text(alloc, isa, text)
+    write_text(alloc, isa, families, text)
 }
 
 /// The normal text of a text's groups. The text is let go before it is made.
-fn write_text(alloc: Global, isa: &IsaSpec, text: Bytes) -> Result<Text, Stop>
-    ensures { (w : World) → Meets (Ends (seen normal_text (groups_found isa.now text))) w w
-        result }
+fn write_text(alloc: Global, isa: &IsaSpec, families: Families, text: Bytes) -> Result<Text, Stop>
+    ensures { (w : World) → Meets (Ends (seen normal_text (groups_found isa.now families text)))
+        w w result }
 {
     match parse(alloc, text.as_slice()) {
         Ok(tree) => {
             drop(text);
-            write_tree(alloc, isa, &tree)
+            write_tree(alloc, isa, families, &tree)
         }
         Err(refusal) => Err(Stop::Refused(yaml_text(alloc, GROUPS_NAME, &refusal)?)),
     }
 }
 
-fn write_tree(alloc: Global, isa: &IsaSpec, tree: &Tree) -> Result<Text, Stop>
+fn write_tree(alloc: Global, isa: &IsaSpec, families: Families, tree: &Tree) -> Result<Text, Stop>
     ensures { (w : World) → Meets
-        (Ends (seen normal_text (checked_groups (groups_of isa.now (view tree.now))))) w w result }
+        (Ends (seen normal_text (checked_groups (groups_of isa.now families (view tree.now)))))
+        w w result }
 {
-    match write_groups(alloc, tree, isa) {
+    match write_groups(alloc, tree, isa, families) {
         Ok(text) => Ok(text),
         Err(refusal) => Err(Stop::Refused(group_text(alloc, &refusal)?)),
     }

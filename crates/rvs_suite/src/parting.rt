@@ -13,6 +13,7 @@ ghost use Rattle.rvs_suite.specs.DatabaseInput.{marked_file, marked, marked_one}
 
 use crate::database_file::read_database_file;
 use crate::group_files::{Inputs, read_inputs};
+use rvs_abstract::Families;
 use rvs_base::{Host, Items, NoMemory, Text};
 use rvs_cgf::{Groups, Label};
 use rvs_insn::IsaSpec;
@@ -31,14 +32,15 @@ pub fn read_labels<H: Host>(
     alloc: Global,
     host: &mut H,
     isa: &Text,
+    families: Families,
     names: &Items<Text>,
     part: Option<Part>,
 ) -> Result<Inputs, Stop>
-    ensures met { (out : SinkState) → Meets (part_inputs part isa.now names.now)
+    ensures met { (out : SinkState) → Meets (part_inputs part isa.now families names.now)
         (world (H.state host.old) out) (world (H.state host.new) out) (seen inputs_view result) }
     ensures valid { IfOk result (λ i. All (λ l. IsValidIfSelected i.isa (label_view l)) i.groups) }
 {
-    let inputs = read_inputs(alloc, host, isa, names)?;
+    let inputs = read_inputs(alloc, host, isa, families, names)?;
     Ok(kept_inputs(alloc, inputs, part)?)
 }
 

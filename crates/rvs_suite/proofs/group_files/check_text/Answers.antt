@@ -17,13 +17,14 @@ use Rattle.rvs_suite.proofs.group_files.check_text.Goals as goal
 pub returns-in_err-yaml_text-in-Err-clause-met : goal.returns-in_err-yaml_text-in-Err-clause-met
 returns-in_err-yaml_text-in-Err-clause-met c = λ w.
     let p = err_from_is_err_and c.from_residual.result c.from_residual.ensures.1 in
-    rw (p.1, p.2) (Meets-no_memory (Ends (groups_found c.args.isa.now c.args.text)) w)
+    rw (p.1, p.2)
+    (Meets-no_memory (Ends (groups_found c.args.isa.now c.args.families c.args.text)) w)
 
 pub returns-in-Ok-clause-met : goal.returns-in-Ok-clause-met
 returns-in-Ok-clause-met c = λ w.
     let read : answer c.args.text ≡ Ok (view c.in-Ok.tree) =
     ap answer (sym c.as_slice.ensures) ∙ c.in-Ok.ensures.tree in
-    subst (λ (a : Parsed). Meets (Ends (tree_groups c.args.isa.now a)) w w
+    subst (λ (a : Parsed). Meets (Ends (tree_groups c.args.isa.now c.args.families a)) w w
     (seen groups_view c.check_tree.result)) (sym read) (c.check_tree.ensures.met w)
 
 pub returns-in_ok-yaml_text-in-Err-clause-met : goal.returns-in_ok-yaml_text-in-Err-clause-met
@@ -32,8 +33,8 @@ returns-in_ok-yaml_text-in-Err-clause-met c = λ w.
     let refusal = c.in-Err.refusal in
     let is = refused-is refusal.kind refusal.line (answer c.as_slice.result.now)
     c.in_ok-yaml_text-in-Err.ensures.fault c.in-Err.ensures.refused in
-    let found : Err (Refused text) ≡ groups_found c.args.isa.now c.args.text =
+    let found : Err (Refused text) ≡ groups_found c.args.isa.now c.args.families c.args.text =
     ap (λ t. Err (Refused t)) c.in_ok-yaml_text-in-Err.ensures.text
-    ∙ ap (tree_groups c.args.isa.now) (sym is ∙ ap answer c.as_slice.ensures) in
+    ∙ ap (tree_groups c.args.isa.now c.args.families) (sym is ∙ ap answer c.as_slice.ensures) in
     subst (λ (r : Result (List Label) Stop). Meets (Ends r) w w (Err (Refused text))) found
     (Meets-refused text w)

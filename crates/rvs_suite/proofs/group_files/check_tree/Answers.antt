@@ -12,7 +12,7 @@ pub returns-in_err-group_text-in-Err-clause-met : goal.returns-in_err-group_text
 returns-in_err-group_text-in-Err-clause-met c = λ w.
     let p = err_from_is_err_and c.from_residual.result c.from_residual.ensures.1 in
     rw (p.1, p.2) (Meets-no_memory
-    (Ends (checked_groups (groups_of c.args.isa.now (view c.args.tree.now)))) w)
+    (Ends (checked_groups (groups_of c.args.isa.now c.args.families (view c.args.tree.now)))) w)
 
 pub returns-in_ok-group_text-in-Err-clause-met : goal.returns-in_ok-group_text-in-Err-clause-met
 returns-in_ok-group_text-in-Err-clause-met c = λ w. Meets-refused_by _ _ w (search rules)

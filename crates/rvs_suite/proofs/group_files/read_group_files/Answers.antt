@@ -9,12 +9,14 @@ pub returns-in_err-text-clause-met : goal.returns-in_err-text-clause-met
 returns-in_err-text-clause-met g c = λ out.
     let p = err_from_is_err_and c.from_residual.result c.from_residual.ensures.1 in
     rw (p.1, p.2)
-    (Meets-stop (λ text. Ends (groups_found c.args.isa.now text)) (rw c.as_slice.ensures at
+    (Meets-stop (λ text. Ends (groups_found c.args.isa.now c.args.families text))
+    (rw c.as_slice.ensures at
     (c.in_err-text.ensures out)))
 
 pub returns-clause-met : goal.returns-clause-met
 returns-clause-met g c = λ out.
     let w = world (g.H.Host.state c.read_joined.new.host) out in
-    Meets-then (λ text. Ends (groups_found c.args.isa.now text)) (rw c.as_slice.ensures at
+    Meets-then (λ text. Ends (groups_found c.args.isa.now c.args.families text))
+    (rw c.as_slice.ensures at
     (c.in_ok-text.ensures out))
     (c.check_text.ensures.met w)

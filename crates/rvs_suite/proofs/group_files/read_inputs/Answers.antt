@@ -10,7 +10,8 @@ pub returns-in_err-said-clause-met : goal.returns-in_err-said-clause-met
 returns-in_err-said-clause-met g c = λ out.
     let p = err_from_is_err_and c.from_residual.result c.from_residual.ensures.1 in
     rw (p.1, p.2)
-    (Meets-stop (λ said. group_files said.spec c.args.names.now >>= (λ groups. gives (record {
+    (Meets-stop (λ said. group_files said.spec c.args.families c.args.names.now >>=
+    (λ groups. gives (record {
       isa = said.spec;
       groups = groups;
     }))) (c.in_err-said.ensures out))
@@ -21,7 +22,8 @@ returns-in_err-groups-clause-met g c = λ out.
     c.from_residual-in_err-groups.ensures.1 in
     let isa = c.in_ok-said.said.spec in
     rw (p.1, p.2)
-    (Meets-then (λ said. group_files said.spec c.args.names.now >>= (λ groups. gives (record {
+    (Meets-then (λ said. group_files said.spec c.args.families c.args.names.now >>=
+    (λ groups. gives (record {
       isa = said.spec;
       groups = groups;
     }))) (c.in_ok-said.ensures out) (Meets-stop
@@ -32,7 +34,8 @@ pub returns-clause-met : goal.returns-clause-met
 returns-clause-met g c = λ out.
     let isa = c.in_ok-said.said.spec in
     let w = world (g.H.Host.state c.read_group_files.new.host) out in
-    Meets-then (λ said. group_files said.spec c.args.names.now >>= (λ groups. gives (record {
+    Meets-then (λ said. group_files said.spec c.args.families c.args.names.now >>=
+    (λ groups. gives (record {
       isa = said.spec;
       groups = groups;
     }))) (c.in_ok-said.ensures out)

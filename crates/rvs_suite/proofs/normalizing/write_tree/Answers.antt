@@ -14,7 +14,8 @@ pub returns-in_err-group_text-in-Err : goal.returns-in_err-group_text-in-Err
 returns-in_err-group_text-in-Err c = λ w.
     let p = err_from_is_err_and c.from_residual.result c.from_residual.ensures.1 in
     rw (p.1, p.2) (Meets-no_memory
-    (Ends (seen normal_text (checked_groups (groups_of c.args.isa.now (view c.args.tree.now)))))
+    (Ends (seen normal_text
+    (checked_groups (groups_of c.args.isa.now c.args.families (view c.args.tree.now)))))
     w)
 
 pub returns-in_ok-group_text-in-Err : goal.returns-in_ok-group_text-in-Err
