@@ -588,8 +588,8 @@ static void break_unseen(struct step *s)
     BUG(unseen, "a misaligned amo is done", in(s, LR, AMAXU) && s->a & 3, (void)0);
     BUG(unseen, "a store to the text is done", STORE && (s->a + s->imm) >> 24 == 0x80, (void)0);
     BUG(unseen, "a load outside memory gives 0", LOAD && !at(s->a + s->imm, 1), (void)0);
-    BUG(unseen, "bit 22 of addresses is dropped", in(s, LB, SW),
-        s->a = ((s->a + s->imm) & ~(1u << 22)) - s->imm);
+    BUG(unseen, "bit 26 of addresses is dropped", in(s, LB, SW),
+        s->a = ((s->a + s->imm) & ~(1u << 26)) - s->imm);
     BUG(unseen, "registers begin with other words than 0", !last.pc, regs[17] = 0x5a5a5a5a);
     BUG(unseen, "the bits aq and rl order nothing", in(s, LR, AMAXU), (void)0);
     BUG(unseen, "fence orders nothing", IS(FENCE), (void)0);

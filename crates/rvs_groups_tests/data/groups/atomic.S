@@ -1,6 +1,8 @@
 # Atomic instructions: reservations that are kept, used up, or were never made; results that are
 # used at once; words of either sign in memory; the bits aq and rl, which order what others see and
 # change nothing here.
+.option norvc
+.option norelax
 .text
 .globl _start
 _start:

@@ -1,6 +1,8 @@
 # Jumps over more than 2048 bytes: the upper bits of the distance of jal, each alone, forwards and
 # backwards, and the ends of the distances of branches. Between them are words that are no
 # instructions.
+.option norvc
+.option norelax
 .text
 .globl _start
 _start:

@@ -1,5 +1,7 @@
 # Jumps and branches: links that are used at once, targets whose lowest bit is set, branches on what
 # is just made, what stands behind a jump, jumps behind jumps, and fences between them.
+.option norvc
+.option norelax
 .text
 .globl _start
 _start:

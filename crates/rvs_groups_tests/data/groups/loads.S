@@ -1,4 +1,6 @@
 # Loads: each byte and each half of a word with either sign, and words that are used at once.
+.option norvc
+.option norelax
 .text
 .globl _start
 _start:

@@ -1,5 +1,7 @@
 # Misaligned data, for cores that have it: loads and stores at each place of a word and over its
 # end, and loads right behind stores that they share bytes with.
+.option norvc
+.option norelax
 .text
 .globl _start
 _start:

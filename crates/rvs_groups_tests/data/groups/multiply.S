@@ -1,5 +1,7 @@
 # Products, quotients and remainders with what stands right behind them and isn't of their kind:
 # stores, loads, branches and jumps; and what they would write to x0.
+.option norvc
+.option norelax
 .text
 .globl _start
 _start:

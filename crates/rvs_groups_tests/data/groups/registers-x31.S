@@ -1,4 +1,6 @@
 # The registers x1 to x31 at once: a bit that is stuck, a register that is lost, two that are one.
+.option norvc
+.option norelax
 .text
 .globl _start
 _start:

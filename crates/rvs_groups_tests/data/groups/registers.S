@@ -1,5 +1,7 @@
 # x0, which drops what is written to it, also where the next instruction reads it; then the
 # registers x1 to x15 at once, of which none is lost, or one with another.
+.option norvc
+.option norelax
 .text
 .globl _start
 _start:

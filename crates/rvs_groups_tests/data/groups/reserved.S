@@ -1,5 +1,7 @@
 # A reservation of one word doesn't let another be stored to, 64 KiB away. The manual lets a core
 # reserve more than the word, so this test alone may fail on a core that keeps to it.
+.option norvc
+.option norelax
 .text
 .globl _start
 _start:

@@ -1,5 +1,7 @@
 # Stores: what a byte and a half leave beside them, loads right behind, and data and addresses that
 # are just made.
+.option norvc
+.option norelax
 .text
 .globl _start
 _start:
