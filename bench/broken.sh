@@ -11,8 +11,10 @@
 #
 # usage: broken.sh [OTHER.cgf..]
 set -u
+program=$(readlink -f "${RVSUITE:-$(dirname "$0")/../rvsuite}")
+others=()
+for file in "$@"; do others+=(--cgf "$(readlink -f "$file")"); done
 cd "$(dirname "$0")/.." || exit 2
-program=${RVSUITE:-./rvsuite}
 work=$(mktemp -d) || exit 2
 trap 'rm -rf "$work"' EXIT
 "${CC:-cc}" -O2 -o "$work/broken" bench/broken.c || exit 2
@@ -21,8 +23,6 @@ printf 'hart_ids: [0]\nhart0:\n  ISA: RV32IMA\n  hw_data_misaligned_support: tru
     >"$work/isa.yaml"
 ours=(--cgf groups/i.cgf --cgf groups/m.cgf --cgf groups/a.cgf --cgf groups/rows.cgf)
 hand=(--database groups/tests.yaml)
-others=()
-for file in "$@"; do others+=(--cgf "$file"); done
 
 device() { # a device file: the core with the words $1
     echo "name: broken"
