@@ -49,10 +49,10 @@ each() { # compares what `all` says of the bug $1 with a run of its own, for the
     [ "$failing" = "$(grep -c '^FAIL' "$folder/out")" ] || echo "OTHERWISE bug $1 by $2"
 }
 
-all ours "${ours[@]}" || exit 2
-all hand "${hand[@]}" || exit 2
+all ours "${ours[@]}" || exit 1
+all hand "${hand[@]}" || exit 1
 : >"$work/others.found"
-[ $# = 0 ] || all others "${others[@]}" || exit 2
+[ $# = 0 ] || all others "${others[@]}" || exit 1
 tests() { sed -n 's/^total \([0-9]* tests\), .* pass.*/\1/p' "$work/$1/out"; }
 echo "groups: $(tests ours); by hand: $(tests hand); other groups: $([ $# = 0 ] || tests others)"
 
