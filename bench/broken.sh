@@ -11,8 +11,10 @@
 #
 # usage: broken.sh [OTHER.cgf..]
 set -u
+program=$(readlink -f "${RVSUITE:-$(dirname "$0")/../rvsuite}")
+others=()
+for file in "$@"; do others+=(--cgf "$(readlink -f "$file")"); done
 cd "$(dirname "$0")/.." || exit 2
-program=${RVSUITE:-./rvsuite}
 work=$(mktemp -d) || exit 2
 trap 'rm -rf "$work"' EXIT
 "${CC:-cc}" -O2 -o "$work/broken" bench/broken.c || exit 2
@@ -21,8 +23,6 @@ printf 'hart_ids: [0]\nhart0:\n  ISA: RV32IMA\n  hw_data_misaligned_support: tru
     >"$work/isa.yaml"
 ours=(--cgf groups/i.cgf --cgf groups/m.cgf --cgf groups/a.cgf --cgf groups/rows.cgf)
 hand=(--database groups/tests.yaml)
-others=()
-for file in "$@"; do others+=(--cgf "$file"); done
 
 device() { # a device file: the core with the words $1
     echo "name: broken"
@@ -49,10 +49,10 @@ each() { # compares what `all` says of the bug $1 with a run of its own, for the
     [ "$failing" = "$(grep -c '^FAIL' "$folder/out")" ] || echo "OTHERWISE bug $1 by $2"
 }
 
-all ours "${ours[@]}" || exit 2
-all hand "${hand[@]}" || exit 2
+all ours "${ours[@]}" || exit 1
+all hand "${hand[@]}" || exit 1
 : >"$work/others.found"
-[ $# = 0 ] || all others "${others[@]}" || exit 2
+[ $# = 0 ] || all others "${others[@]}" || exit 1
 tests() { sed -n 's/^total \([0-9]* tests\), .* pass.*/\1/p' "$work/$1/out"; }
 echo "groups: $(tests ours); by hand: $(tests hand); other groups: $([ $# = 0 ] || tests others)"
 
