@@ -43,7 +43,7 @@ pub fn generate_tests<H: Host, O: Sink>(
         (world (H.state host.old) (O.state out.old))
         (world (H.state host.new) (O.state out.new)) result }
 {
-    let inputs = read_labels(alloc, host, &asked.isa, &asked.groups, asked.part)?;
+    let inputs = read_labels(alloc, host, &asked.isa, &asked.groups, &asked.part)?;
     let text = write_tests(alloc, host, &asked.work, &inputs)?;
     print_text(&text, out)
 }

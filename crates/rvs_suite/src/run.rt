@@ -38,7 +38,7 @@ pub fn run_tests<H: Host, O: Sink>(
         (world (H.state host.old) (O.state out.old))
         (world (H.state host.new) (O.state out.new)) result }
 {
-    let inputs = read_labels(alloc, host, &asked.isa, &asked.groups, asked.part)?;
+    let inputs = read_labels(alloc, host, &asked.isa, &asked.groups, &asked.part)?;
     let device = read_device_file(alloc, host, &asked.device)?;
     let gathered = gather_tests(alloc, &inputs)?;
     let bench = bench_of(alloc, asked, device, inputs.isa)?;
