@@ -11,7 +11,7 @@ use Rattle.rvs_log.specs.Logs.{as_entry}
 use Rattle.rvs_count.specs.Counting.{count}
 use Rattle.rvs_solver.specs.Solving.{IsSolvableAt}
 use Rattle.rvs_suite.specs.Generate.{path_of}
-use Rattle.rvs_suite.specs.GroupFiles.{Inputs, inputs_in}
+use Rattle.rvs_suite.specs.GroupFiles.{Inputs, labels_in}
 use Rattle.rvs_suite.specs.Tests.{run_on}
 use Rattle.rvs_words.specs.declared.command.GenerateArguments.{GenerateArguments}
 
@@ -33,7 +33,7 @@ pub record HitsPoint (files : Files) (path : List ℕ) (isa : Isa) (l : Label) (
 -- these inputs are accepted, and the folder has a test for each point of theirs that a choice hits
 pub record HasTests (files files' : Files) (asked : GenerateArguments) : Type 0 where
   pub inputs : Inputs
-  pub accepted : inputs_in files asked.isa asked.groups ≡ Ok inputs
+  pub accepted : labels_in files asked.part asked.isa asked.groups ≡ Ok inputs
   pub tests : (l : Label) (k : ℕ) (p : Point) → Contains inputs.groups l → IsTrue l.selected
       → slice_get l.points k ≡ Some p → IsSolvableAt inputs.isa l k
       → HitsPoint files' (path_of asked.work l.name) inputs.isa l p
