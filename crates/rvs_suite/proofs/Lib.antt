@@ -62,3 +62,4 @@ mod SelectEnds
 mod DatabaseRuns
 mod DatabaseSpares
 mod DatabaseEnds
+mod PartsKept
