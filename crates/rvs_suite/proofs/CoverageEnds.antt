@@ -267,7 +267,7 @@ two-logs : (files : Files) (names : List (List ℕ)) (log other : List ℕ)
 two-logs files names log other first second is one two = record {
   bytes = one.0 ∷ two.0 ∷ [];
   there = subst (λ (ns : List (List ℕ)). AreLogs files ns (one.0 ∷ two.0 ∷ [])) (sym is)
-      (one.1, one.2, two.1, two.2, tt);
+      (one.1, one.2, (two.1, two.2, tt));
   entries = λ i. one.3 i ∷ two.3 i ∷ [];
 }
 

@@ -128,9 +128,10 @@ fn count_all<H: Host>(
         (world (H.state host.old) out) (world (H.state host.new) out) result }
     ensures long { IfOk result (λ c. length c.counts ≡ length (aims_in groups.now)) }
 {
-    let none = nothing(alloc, groups, asked.logs.as_slice().len())?;
+    let logs = asked.logs.as_slice();
+    let none = nothing(alloc, groups, logs.len())?;
     let windows = asked.windows.as_slice();
-    count_onto(alloc, host, groups, windows, none, asked.logs.as_slice())
+    count_onto(alloc, host, groups, windows, none, logs)
 }
 
 /// Counts in some logs more, one after the other.

@@ -21,4 +21,4 @@ returns-clause-met g c = λ out.
     let old = world (g.H.Host.state c.args.host.now) out in
     let new = world (g.H.Host.state c.count_onto.new.host) out in
     subst (λ (none : Covered). Meets (takes_logs file_name more none asked.logs) old new c.count_onto.result)
-    c.in_ok-none.ensures.counted (rw (c.as_slice-windows.ensures, c.as_slice.ensures) at (c.count_onto.ensures.met out))
+    c.in_ok-none.ensures.counted (rw (c.as_slice-windows.ensures, c.as_slice-logs.ensures) at (c.count_onto.ensures.met out))

@@ -1,11 +1,11 @@
-use Rattle.std.proofs.Common.{List, ℕ, Ok, sym, subst}
+use Rattle.std.proofs.Common.{List, ℕ, Ok, sym, subst, ap, ◌∙◌}
 use Rattle.std.proofs.lemmas.Result.{err_from_is_err_and}
 use Rattle.rvs_plan.specs.World.{world}
 use Rattle.rvs_plan.specs.Plan.{gives}
 use Rattle.rvs_plan.specs.Meets.{Meets}
 use Rattle.rvs_plan.proofs.Sequence.{Meets-then, Meets-stop, Meets-gives, Meets-no_memory}
 use Rattle.rvs_suite.specs.GroupsView.{groups_view}
-use Rattle.rvs_suite.specs.Coverage.{measure}
+use Rattle.rvs_suite.specs.Coverage.{measure, report_on}
 use Rattle.rvs_suite.specs.LogReport.{reports}
 use Rattle.rvs_suite.proofs.covering.report_logs.Goals as goal
 
@@ -31,8 +31,11 @@ pub returns : goal.returns
 returns g c = λ out.
     let w = world (g.H.Host.state c.count_all.new.host) out in
     let text = c.in_ok-report_of.field-0 in
+    let is = c.in_ok-report_of.ensures
+    ∙ ap (λ (names : List (List ℕ)). report_on (groups_view c.args.groups.now) names
+    c.in_ok-counted.counted) c.as_slice.ensures in
     Meets-then (reports (measure c.args.asked.now.windows) c.args.asked.now.logs
     (groups_view c.args.groups.now))
     (c.in_ok-counted.ensures.met out)
-    (subst (λ (report : List ℕ). Meets (gives report) w w (Ok text)) c.in_ok-report_of.ensures
+    (subst (λ (report : List ℕ). Meets (gives report) w w (Ok text)) is
     (Meets-gives text w))

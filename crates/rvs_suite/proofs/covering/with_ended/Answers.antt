@@ -28,7 +28,7 @@ at-end labels windows counted bytes n = λ i. record {
 
 pub returns-clause-counted : goal.returns-clause-counted
 returns-clause-counted c = λ labels windows bytes n old.
-    let counts = c.counts-2.ensures.numbers
+    let counts = c.plus_each-counts.ensures.numbers
     ∙ ap (plus_each c.args.counted.counts) c.counts-more.ensures in
     let ran = c.in_ok-ran.ensures
     ∙ ap (λ (k : ℕ). c.args.counted.ran ++ k ∷ []) c.instructions-last.ensures in

@@ -1,11 +1,12 @@
-use Rattle.std.proofs.Common.{List, ℕ, Ok, sym, subst}
+use Rattle.std.proofs.Common.{List, ℕ, Ok, sym, subst, ap, ◌∙◌}
 use Rattle.std.proofs.lemmas.Result.{err_from_is_err_and}
 use Rattle.rvs_plan.specs.World.{world}
 use Rattle.rvs_plan.specs.Plan.{gives}
 use Rattle.rvs_plan.specs.Meets.{Meets}
 use Rattle.rvs_plan.proofs.Sequence.{Meets-then, Meets-stop, Meets-gives, Meets-no_memory}
 use Rattle.rvs_suite.specs.GroupsView.{groups_view}
-use Rattle.rvs_suite.specs.Propagate.{measure}
+use Rattle.rvs_suite.specs.Propagate.{measure, report_on}
+use Rattle.rvs_words.specs.declared.command.SignedLog.{SignedLog}
 use Rattle.rvs_suite.specs.LogReport.{reports}
 use Rattle.rvs_suite.proofs.propagating.report_logs.Goals as goal
 
@@ -29,7 +30,10 @@ pub returns : goal.returns
 returns g c = λ out.
     let w = world (g.H.Host.state c.track_all.new.host) out in
     let text = c.in_ok-report_of.field-0 in
+    let is = c.in_ok-report_of.ensures
+    ∙ ap (λ (logs : List SignedLog). report_on (groups_view c.args.groups.now) logs
+    c.in_ok-tracked.tracked) c.as_slice.ensures in
     Meets-then (reports measure c.args.asked.now.logs (groups_view c.args.groups.now))
     (c.in_ok-tracked.ensures.met out)
-    (subst (λ (report : List ℕ). Meets (gives report) w w (Ok text)) c.in_ok-report_of.ensures
+    (subst (λ (report : List ℕ). Meets (gives report) w w (Ok text)) is
     (Meets-gives text w))

@@ -21,4 +21,4 @@ returns-clause-met g c = λ out.
     let old = world (g.H.Host.state c.args.host.now) out in
     let new = world (g.H.Host.state c.track_onto.new.host) out in
     subst (λ (none : Traced). Meets (takes_logs file_name more none asked.logs) old new c.track_onto.result)
-    c.in_ok-none.ensures.tracked (rw (c.as_slice.ensures) at (c.track_onto.ensures.met out))
+    c.in_ok-none.ensures.tracked (rw c.as_slice-logs.ensures at (c.track_onto.ensures.met out))

@@ -8,7 +8,7 @@ use Rattle.rvs_suite.specs.declared.propagating.Traced.{Traced}
 use Rattle.rvs_suite.specs.GroupsView.{groups_view}
 use Rattle.rvs_suite.specs.Propagate.{file_name, tracks_more}
 use Rattle.rvs_words.specs.declared.command.SignedLog.{SignedLog}
-use Rattle.rvs_suite.specs.LogReport.{takes_logs}
+use Rattle.rvs_suite.specs.LogReport.{takes_log, takes_logs}
 use Rattle.rvs_suite.proofs.propagating.track_onto.Goals as goal
 
 pub returns-in_err-tracked-clause-met : goal.returns-in_err-tracked-clause-met
@@ -19,13 +19,14 @@ returns-in_err-tracked-clause-met g c = λ out.
     let rest = drop (i + 1) c.args.logs.now in
     let old = world (g.H.Host.state c.loop-log.host) out in
     let new = world (g.H.Host.state c.track_one.new.host) out in
-    let log = c.log-item.log.now in
+    let log = c.log-item.result.now in
     let here : drop i c.args.logs.now ≡ log ∷ rest =
     drop_more c.args.logs.now i _ c.loop-log-test.true
     ∙ ap (λ (x : SignedLog). x ∷ rest) (sym c.log-item.is) in
     let stopped =
     Meets-stop (λ (now : Traced). takes_logs file_name more now rest)
-    (c.in_err-tracked.ensures.met out) in
+    (subst (λ (name : List ℕ). Meets (takes_log (more log) c.loop-log.tracked name) old new
+    (Err c.in_err-tracked.field-0.0)) c.as_str.ensures (c.in_err-tracked.ensures.met out)) in
     rw (p.1, p.2) (c.loop-log.invariant.rest out new _ (subst (λ (logs : List SignedLog). Meets
     (takes_logs file_name more c.loop-log.tracked logs) old new (Err c.in_err-tracked.field-0.0))
     (sym here) stopped))
@@ -35,17 +36,21 @@ loop-log-preserved g c =
     let i = c.loop-log.log-index in
     let more = tracks_more (groups_view c.args.groups.now) in
     let rest = drop (i + 1) c.args.logs.now in
-    let log = c.log-item.log.now in
+    let log = c.log-item.result.now in
     let here : drop i c.args.logs.now ≡ log ∷ rest =
     drop_more c.args.logs.now i _ c.loop-log-test.true
     ∙ ap (λ (x : SignedLog). x ∷ rest) (sym c.log-item.is) in
     record {
       rest = λ out new result later.
           let old = world (g.H.Host.state c.loop-log.host) out in
+          let next = world (g.H.Host.state c.track_one.new.host) out in
+          let one = subst (λ (name : List ℕ). Meets (takes_log (more log) c.loop-log.tracked name)
+          old next (Ok c.in_ok-tracked.tracked)) c.as_str.ensures
+          (c.in_ok-tracked.ensures.met out) in
           c.loop-log.invariant.rest out new result (subst
-          (λ (logs : List SignedLog). Meets (takes_logs file_name more c.loop-log.tracked logs) old new
-          result) (sym here) (Meets-then (λ (now : Traced). takes_logs file_name more now rest)
-          (c.in_ok-tracked.ensures.met out) later));
+          (λ (logs : List SignedLog). Meets (takes_logs file_name more c.loop-log.tracked logs)
+          old new result) (sym here) (Meets-then (λ (now : Traced). takes_logs file_name more now rest)
+          one later));
       long = c.in_ok-tracked.ensures.long _ c.loop-log.invariant.long;
     }
 
