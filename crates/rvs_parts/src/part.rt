@@ -37,8 +37,8 @@ impl Part {
     }
 
     /// Whether what has this place, counted from 0, is in it.
-    pub fn has(self, place: usize) -> bool
-        ensures { result ≡ has self place }
+    pub fn has(&self, place: usize) -> bool
+        ensures { result ≡ has self.now place }
     {
         place as u64 % self.of + 1 == self.at
     }

@@ -58,3 +58,4 @@ mod SelectEnds
 mod DatabaseRuns
 mod DatabaseSpares
 mod DatabaseEnds
+mod PartsKept

@@ -49,7 +49,7 @@ pub fn generate_tests<H: Host, O: Sink>(
         &asked.isa,
         asked.families,
         &asked.groups,
-        asked.part,
+        &asked.part,
     )?;
     let text = write_tests(alloc, host, &asked.work, &inputs)?;
     print_text(&text, out)

@@ -34,9 +34,9 @@ pub fn read_labels<H: Host>(
     isa: &Text,
     families: Families,
     names: &Items<Text>,
-    part: Option<Part>,
+    part: &Option<Part>,
 ) -> Result<Inputs, Stop>
-    ensures met { (out : SinkState) → Meets (part_inputs part isa.now families names.now)
+    ensures met { (out : SinkState) → Meets (part_inputs part.now isa.now families names.now)
         (world (H.state host.old) out) (world (H.state host.new) out) (seen inputs_view result) }
     ensures valid { IfOk result (λ i. All (λ l. IsValidIfSelected i.isa (label_view l)) i.groups) }
 {
@@ -44,9 +44,9 @@ pub fn read_labels<H: Host>(
     Ok(kept_inputs(alloc, inputs, part)?)
 }
 
-fn kept_inputs(alloc: Global, inputs: Inputs, part: Option<Part>) -> Result<Inputs, NoMemory>
+fn kept_inputs(alloc: Global, inputs: Inputs, part: &Option<Part>) -> Result<Inputs, NoMemory>
     requires { All (λ l. IsValidIfSelected inputs.isa (label_view l)) inputs.groups }
-    ensures kept { IfOk result (λ i. inputs_view i ≡ parted_inputs part (inputs_view inputs)) }
+    ensures kept { IfOk result (λ i. inputs_view i ≡ parted_inputs part.now (inputs_view inputs)) }
     ensures valid { IfOk result (λ i. All (λ l. IsValidIfSelected i.isa (label_view l)) i.groups) }
 {
     let Inputs { isa, groups } = inputs;
@@ -55,19 +55,23 @@ fn kept_inputs(alloc: Global, inputs: Inputs, part: Option<Part>) -> Result<Inpu
 }
 
 /// The labels of a part.
-fn kept_labels(alloc: Global, groups: Groups, part: Option<Part>) -> Result<Groups, NoMemory>
-    ensures { IfOk result (λ kept. kept ≡ parted part groups) }
+#[tactic(auto, using(crate::proofs::PartsKept::parted_more))]
+fn kept_labels(alloc: Global, groups: Groups, part: &Option<Part>) -> Result<Groups, NoMemory>
+    ensures { IfOk result (λ kept. kept ≡ parted part.now groups) }
 {
     let mut kept = Items::new(alloc);
-    for (place, label) in groups.into_vec().into_iter().enumerate() {
-        push_if(&mut kept, label, is_in(part, place))?;
+    let mut place: usize = 0;
+    for label in groups.into_vec() {
+        let is = is_in(part, place);
+        push_if(&mut kept, label, is)?;
+        place += 1;
     }
     Ok(kept)
 }
 
 /// Whether what has this place is in a part, where one is asked for.
-fn is_in(part: Option<Part>, place: usize) -> bool
-    ensures { result ≡ is_in part place }
+fn is_in(part: &Option<Part>, place: usize) -> bool
+    ensures { result ≡ is_in part.now place }
 {
     match part {
         None => true,
@@ -97,9 +101,9 @@ pub fn read_marked<H: Host>(
     host: &mut H,
     isa: &IsaSpec,
     name: &Text,
-    part: Option<Part>,
+    part: &Option<Part>,
 ) -> Result<Database, Stop>
-    ensures { (out : SinkState) → Meets (marked_file part isa.now name.now)
+    ensures { (out : SinkState) → Meets (marked_file part.now isa.now name.now)
         (world (H.state host.old) out) (world (H.state host.new) out) result }
 {
     let database = read_database_file(alloc, host, isa, name)?;
@@ -107,12 +111,16 @@ pub fn read_marked<H: Host>(
 }
 
 /// The tests of a database, of which those outside a part aren't selected.
-fn marked(alloc: Global, database: Database, part: Option<Part>) -> Result<Database, NoMemory>
-    ensures { IfOk result (λ all. all ≡ marked part database) }
+#[tactic(auto, using(crate::proofs::PartsKept::marked_more))]
+fn marked(alloc: Global, database: Database, part: &Option<Part>) -> Result<Database, NoMemory>
+    ensures { IfOk result (λ all. all ≡ marked part.now database) }
 {
     let mut all = Items::new(alloc);
-    for (place, entry) in database.into_vec().into_iter().enumerate() {
-        push_marked(&mut all, entry, is_in(part, place))?;
+    let mut place: usize = 0;
+    for entry in database.into_vec() {
+        let is = is_in(part, place);
+        push_marked(&mut all, entry, is)?;
+        place += 1;
     }
     Ok(all)
 }

@@ -44,7 +44,7 @@ pub fn run_tests<H: Host, O: Sink>(
         &asked.isa,
         asked.families,
         &asked.groups,
-        asked.part,
+        &asked.part,
     )?;
     let device = read_device_file(alloc, host, &asked.device)?;
     let gathered = gather_tests(alloc, &inputs)?;

@@ -57,7 +57,7 @@ pub fn run_selected<H: Host, O: Sink>(
 {
     let said = read_isa(alloc, host, &asked.isa)?;
     let isa = said.spec;
-    let database = read_marked(alloc, host, &isa, &asked.database, asked.part)?;
+    let database = read_marked(alloc, host, &isa, &asked.database, &asked.part)?;
     let device = read_device_file(alloc, host, &asked.device)?;
     let bench = bench_of(alloc, asked, device, isa)?;
     judge_database(alloc, host, out, &bench, database.as_slice())

@@ -1,8 +1,10 @@
-use Rattle.std.proofs.Common.{◌≡◌, ◌++◌, drop}
-use Rattle.rvs_parts.specs.Parts.{parted, parted_from}
+use Rattle.std.proofs.Common.{◌≡◌, length}
+use Rattle.rvs_parts.specs.Parts.{parted}
 use Rattle.rvs_suite.proofs.parting.kept_labels.Given as goal
 
--- those of the rest, behind those before
-abbrev pub invariant-loop-place : goal.invariant-loop-place
-invariant-loop-place l =
-    l.kept ++ parted_from l.part l.place (drop l.place l.groups) ≡ parted l.part l.groups
+-- those of the labels so far
+abbrev pub invariant-loop-label : goal.invariant-loop-label
+invariant-loop-label l = record {
+  kept : l.kept ≡ parted l.part l.yielded;
+  place : l.place ≡ length l.yielded;
+}

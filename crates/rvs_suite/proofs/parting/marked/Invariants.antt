@@ -1,8 +1,10 @@
-use Rattle.std.proofs.Common.{◌≡◌, ◌++◌, drop}
-use Rattle.rvs_suite.specs.DatabaseInput.{marked, marked_from}
+use Rattle.std.proofs.Common.{◌≡◌, length}
+use Rattle.rvs_suite.specs.DatabaseInput.{marked}
 use Rattle.rvs_suite.proofs.parting.marked.Given as goal
 
--- those of the rest, behind those before
-abbrev pub invariant-loop-place : goal.invariant-loop-place
-invariant-loop-place l =
-    l.all ++ marked_from l.part l.place (drop l.place l.database) ≡ marked l.part l.database
+-- those of the tests so far
+abbrev pub invariant-loop-entry : goal.invariant-loop-entry
+invariant-loop-entry l = record {
+  all : l.all ≡ marked l.part l.yielded;
+  place : l.place ≡ length l.yielded;
+}

@@ -19,7 +19,7 @@ returns-in_err-tracked-clause-met g c = λ out.
     let rest = drop (i + 1) c.args.logs.now in
     let old = world (g.H.Host.state c.loop-log.host) out in
     let new = world (g.H.Host.state c.track_one.new.host) out in
-    let log = c.log-item.result.now in
+    let log = c.log-item.result in
     let here : drop i c.args.logs.now ≡ log ∷ rest =
     drop_more c.args.logs.now i _ c.loop-log-test.true
     ∙ ap (λ (x : SignedLog). x ∷ rest) (sym c.log-item.is) in
@@ -36,7 +36,7 @@ loop-log-preserved g c =
     let i = c.loop-log.log-index in
     let more = tracks_more (groups_view c.args.groups.now) in
     let rest = drop (i + 1) c.args.logs.now in
-    let log = c.log-item.result.now in
+    let log = c.log-item.result in
     let here : drop i c.args.logs.now ≡ log ∷ rest =
     drop_more c.args.logs.now i _ c.loop-log-test.true
     ∙ ap (λ (x : SignedLog). x ∷ rest) (sym c.log-item.is) in

@@ -1,0 +1,57 @@
+-- A part of a list that grows by one.
+use Rattle.std.proofs.Common.{◌≡◌, ℕ, ◌+◌, Bool, true, false, cond, List, [], ◌∷◌, ◌++◌, length}
+use Rattle.std.proofs.Common.{Option, refl, ap, ◌∙◌, sym, arith}
+use Rattle.rvs_parts.specs.Parts.{PartValue, is_in, parted, parted_from}
+use Rattle.rvs_select.specs.declared.database.Entry.{Entry}
+use Rattle.rvs_suite.specs.DatabaseInput.{marked, marked_from, marked_one}
+
+abbrev one-if : {X : Type 0} → Bool → X → List X
+one-if b x = cond b (x ∷ []) []
+
+front-in : {X : Type 0} (b : Bool) (x : X) (rest : List X)
+    → cond b (x ∷ rest) rest ≡ one-if b x ++ rest
+front-in true x rest = refl
+front-in false x rest = refl
+
+last-in : {X : Type 0} (b : Bool) (x : X) → cond b (x ∷ []) [] ≡ one-if b x
+last-in b x = refl
+
+first-more : {X : Type 0} (b : Bool) (y : X) (rest more : List X)
+    → cond b (y ∷ (rest ++ more)) (rest ++ more) ≡ cond b (y ∷ rest) rest ++ more
+first-more true y rest more = refl
+first-more false y rest more = refl
+
+places : (n m : ℕ) → n + 1 + m ≡ n + (1 + m)
+places n m = omega arith
+
+no-place : (n : ℕ) → n ≡ n + 0
+no-place n = omega arith
+
+parted-more : {X : Type 0} (part : Option PartValue) (place : ℕ) (xs : List X) (x : X)
+    → parted_from part place (xs ++ x ∷ [])
+    ≡ parted_from part place xs ++ one-if (is_in part (place + length xs)) x
+parted-more part place [] x = ap (λ (n : ℕ). one-if (is_in part n) x) (no-place place)
+parted-more part place (y ∷ xs) x =
+    let rest = parted_from part (place + 1) xs in
+    ap (λ ys. cond (is_in part place) (y ∷ ys) ys) (parted-more part (place + 1) xs x)
+    ∙ first-more (is_in part place) y rest (one-if (is_in part (place + 1 + length xs)) x)
+    ∙ ap (λ (n : ℕ). cond (is_in part place) (y ∷ rest) rest ++ one-if (is_in part n) x)
+    (places place (length xs))
+
+pub parted_more : {X : Type 0} (part : Option PartValue) (xs : List X) (x : X)
+    → parted part xs ++ cond (is_in part (length xs)) (x ∷ []) [] ≡ parted part (xs ++ x ∷ [])
+parted_more part xs x = sym (parted-more part 0 xs x)
+
+marked-more : (part : Option PartValue) (place : ℕ) (xs : List Entry) (x : Entry)
+    → marked_from part place (xs ++ x ∷ [])
+    ≡ marked_from part place xs ++ marked_one (is_in part (place + length xs)) x ∷ []
+marked-more part place [] x =
+    ap (λ (n : ℕ). marked_one (is_in part n) x ∷ []) (no-place place)
+marked-more part place (y ∷ xs) x =
+    ap (λ ys. marked_one (is_in part place) y ∷ ys) (marked-more part (place + 1) xs x)
+    ∙ ap (λ (n : ℕ). marked_one (is_in part place) y
+    ∷ (marked_from part (place + 1) xs ++ marked_one (is_in part n) x ∷ [])) (places place (length xs))
+
+pub marked_more : (part : Option PartValue) (xs : List Entry) (x : Entry)
+    → marked part xs ++ marked_one (is_in part (length xs)) x ∷ [] ≡ marked part (xs ++ x ∷ [])
+marked_more part xs x = sym (marked-more part 0 xs x)
