@@ -1,7 +1,7 @@
 use Rattle.std.proofs.Common.{ℕ, ◌≡◌, ◌*◌, ◌<◌, ◌&&◌, List, [], Some, sym, ap, subst, ◌∙◌}
 use Rattle.std.proofs.Common.{All}
 use Rattle.std.proofs.Common.{arith}
-use Rattle.std.proofs.Common.{drop, length, get_or, vec_len}
+use Rattle.std.proofs.Common.{length, get_or}
 use Rattle.rvs_cgf.specs.declared.group.Label.{Label}
 use Rattle.rvs_facts.specs.Mnemonics.{number}
 use Rattle.rvs_insn.specs.Fields.{Fields}
@@ -12,16 +12,15 @@ use Rattle.rvs_count.specs.declared.mark.Audience.TheVariants.{Mnemonic}
 use Rattle.rvs_count.specs.State.{added}
 use Rattle.rvs_count.specs.declared.mark.Head.{Head}
 use Rattle.rvs_count.specs.declared.mark.Mark.{Mark}
-use Rattle.rvs_count.proofs.Marks.{added_marks, few_marks, head_at, lent_back, low_marks}
-use Rattle.rvs_count.proofs.Marks.{marks_length}
+use Rattle.rvs_count.proofs.Marks.{added_marks, few_marks, head_at, low_marks}
 use Rattle.rvs_count.proofs.index.Index.add_first.Goals as goal
-use Rattle.rvs_count.proofs.index.Index.add_first.Goals.{After-as_mut_slice}
+use Rattle.rvs_count.proofs.index.Index.add_first.Goals.{After-add_groups-arg-1}
 
 -- the first list has a head, and is there
-abbrev list_key : After-as_mut_slice → ℕ
+abbrev list_key : After-add_groups-arg-1 → ℕ
 list_key c = c.number.result * bucket_count
 
-is_head : (c : After-as_mut_slice)
+is_head : (c : After-add_groups-arg-1)
     → IsHead (Mnemonic c.number.result) (get_or c.self.inside.lists (list_key c) [])
     c.index-as_slice-number.result
 is_head c =
@@ -30,24 +29,19 @@ is_head c =
     c.self.invariant.4 c.as_slice.ensures c.index-as_slice-number.is
     (omega (arith, c.number.ensures.low, c.self.invariant.5))
 
-is_listed : (c : After-as_mut_slice) → list_key c < length c.self.inside.lists
+is_listed : (c : After-add_groups-arg-1) → list_key c < length c.self.inside.lists
 is_listed c = omega (arith, c.number.ensures.low, c.self.invariant.1)
 
 pub add_groups-requires-clause-within : goal.add_groups-requires-clause-within
 add_groups-requires-clause-within c =
     let P : List Mark → Type 0 =
-    λ l. All (λ (m : Mark). m.at < length c.as_mut_slice.result.now) l in
+    λ l. All (λ (m : Mark). m.at < length c.args.counts.now) l in
     subst P (sym c.as_slice-else-head.ensures)
     (low_marks c.self.inside.labels.now c.self.inside.lists (Mnemonic c.number.result) (list_key c)
-    c.index-as_slice-number.result (length c.as_mut_slice.result.now) c.self.invariant.0
+    c.index-as_slice-number.result (length c.args.counts.now) c.self.invariant.0
     (is_listed c)
-    (ap (λ (ls : List Label). length (aims_in ls)) c.self.view_is ∙ sym c.requires.fits.count
-    ∙ sym (ap (λ (l : List ℕ). length l) c.as_mut_slice.ensures.value))
-    (omega (
-      arith,
-      c.requires.fits.some,
-      ap (λ (l : List ℕ). length l) c.as_mut_slice.ensures.value,
-    )) (is_head c) c.if-head.false)
+    (ap (λ (ls : List Label). length (aims_in ls)) c.self.view_is ∙ sym c.requires.fits.count)
+    (omega (arith, c.requires.fits.some)) (is_head c) c.if-head.false)
 
 pub add_groups-requires-clause-few : goal.add_groups-requires-clause-few
 add_groups-requires-clause-few c =
@@ -59,12 +53,11 @@ add_groups-requires-clause-few c =
           c.if-head.false,
       ap (λ (ls : List Label). length (aims_in ls)) c.self.view_is,
       c.requires.fits.count,
-      ap (λ (l : List ℕ). length l) c.as_mut_slice.ensures.value,
     )
 
 pub returns-else-head : goal.returns-else-head
 returns-else-head c =
-    let before = c.before.before.before in
+    let before = c.before.before.before.before in
     let n = c.number.result in
     let h : Head = c.index-as_slice-number.result in
     let cs = c.args.counts.now in
@@ -72,16 +65,10 @@ returns-else-head c =
     let new = c.add_groups.new.counts in
     let is_new : new ≡ raised_marks c.args.facts.now.signs h.marks cs =
     c.add_groups.ensures
-    ∙ ap (λ (ms : List Mark). raised_marks c.args.facts.now.signs ms c.as_mut_slice.result.now)
-    c.as_slice-else-head.ensures
-    ∙ ap (λ (l : List ℕ). raised_marks c.args.facts.now.signs h.marks l)
-    c.as_mut_slice.ensures.value in
-    let whole : length new ≡ length c.args.counts.now =
-    ap (λ (l : List ℕ). length l) is_new
-    ∙ marks_length c.args.facts.now.signs h.marks cs ∙ sym c.args.counts.now.ok.0 in
+    ∙ ap (λ (ms : List Mark). raised_marks c.args.facts.now.signs ms cs)
+    c.as_slice-else-head.ensures in
     let same = c.number.ensures.place ∙ ap (λ (i : Fields). number i.op) c.insn.view_is in
-    lent_back (length c.args.counts.now) new (drop (length new) cs) whole
-    ∙ added_marks c.self.inside.labels.now c.self.inside.lists c.args.facts.now.insn
+    added_marks c.self.inside.labels.now c.self.inside.lists c.args.facts.now.insn
     c.args.facts.now.first c.args.facts.now.second n 0 (Mnemonic n) (list_key before) h cs new
     c.self.invariant.0 (is_listed before) (omega arith) (omega arith) same (sym same)
     (c.requires.fits.count ∙ sym (ap (λ (ls : List Label). length (aims_in ls)) labels))

@@ -1,4 +1,4 @@
-use Rattle.std.proofs.Common.{◌+◌, ◌*◌, sym, ap, ◌∙◌, arith, length, vec_len}
+use Rattle.std.proofs.Common.{◌+◌, ◌*◌, sym, ap, ◌∙◌, arith, length}
 use Rattle.rvs_facts.specs.Mnemonics.{number}
 use Rattle.rvs_insn.specs.Fields.{Fields}
 use Rattle.rvs_count.specs.Buckets.{bucket_count}
@@ -17,8 +17,7 @@ add_insn-requires-clause-within c =
     c.as_slice.ensures c.as_slice-slots.ensures c.index-as_slice-key.is in
     slots_low (is_for (insns_key key)) (aims_in c.self.inside.labels.now)
     c.as_slice-slots.result.now (length c.args.counts.now) mine
-    (ap (λ ls. length (aims_in ls)) c.self.view_is ∙ sym c.requires.fits.count
-    ∙ sym c.args.counts.now.ok.0)
+    (ap (λ ls. length (aims_in ls)) c.self.view_is ∙ sym c.requires.fits.count)
 
 pub add_insn-requires-clause-few : goal.add_insn-requires-clause-few
 add_insn-requires-clause-few c =
@@ -34,7 +33,6 @@ add_insn-requires-clause-few c =
           c.as_slice-slots.result.now mine,
       ap (λ ls. length (aims_in ls)) c.self.view_is,
       c.requires.fits.count,
-      c.args.counts.now.ok,
     )
 
 pub returns : goal.returns

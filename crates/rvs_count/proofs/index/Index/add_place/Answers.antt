@@ -1,5 +1,5 @@
 use Rattle.std.proofs.Common.{ℕ, ◌≡◌, ◌+◌, ◌*◌, ◌<◌, ◌&&◌, pos, List, [], Some, sym, ap, subst, ◌∙◌}
-use Rattle.std.proofs.Common.{All, arith, drop, length, get_or, vec_len}
+use Rattle.std.proofs.Common.{All, arith, length, get_or}
 use Rattle.rvs_cgf.specs.declared.group.Label.{Label}
 use Rattle.rvs_expr_text.specs.declared.lexeme.NumName.TheVariants.{EaAlign}
 use Rattle.rvs_facts.specs.Mnemonics.{number}
@@ -11,17 +11,17 @@ use Rattle.rvs_count.specs.State.{added}
 use Rattle.rvs_count.specs.declared.mark.Audience.TheVariants.{Aligned}
 use Rattle.rvs_count.specs.declared.mark.Head.{Head}
 use Rattle.rvs_count.specs.declared.mark.Mark.{Mark}
-use Rattle.rvs_count.proofs.Marks.{added_marks, few_marks, lent_back, low_marks, marks_length}
+use Rattle.rvs_count.proofs.Marks.{added_marks, few_marks, low_marks}
 use Rattle.rvs_count.proofs.Marks.{place_head_at}
 use Rattle.rvs_count.proofs.Seen.{residue_low}
 use Rattle.rvs_count.proofs.index.Index.add_place.Goals as goal
-use Rattle.rvs_count.proofs.index.Index.add_place.Goals.{After-as_mut_slice}
+use Rattle.rvs_count.proofs.index.Index.add_place.Goals.{After-add_groups_apart-arg-1}
 
 -- the list that is gone over has a head, and is there
-abbrev list_key : After-as_mut_slice → ℕ
+abbrev list_key : After-add_groups_apart-arg-1 → ℕ
 list_key c = c.number.result * bucket_count + number_bucket EaAlign (pos c.args.place)
 
-is_head : (c : After-as_mut_slice)
+is_head : (c : After-add_groups_apart-arg-1)
     → IsHead (Aligned (pos c.args.place)) (get_or c.self.inside.lists (list_key c) [])
     c.index-as_slice-number.result
 is_head c =
@@ -30,25 +30,20 @@ is_head c =
     c.index-as_slice-number.is
     (omega (arith, c.number.ensures.low, c.self.invariant.13, c.requires.place)) c.requires.place
 
-is_listed : (c : After-as_mut_slice) → list_key c < length c.self.inside.lists
+is_listed : (c : After-add_groups_apart-arg-1) → list_key c < length c.self.inside.lists
 is_listed c =
     omega (arith, c.number.ensures.low, c.self.invariant.1, residue_low (pos c.args.place))
 
 pub add_groups_apart-requires-clause-within : goal.add_groups_apart-requires-clause-within
 add_groups_apart-requires-clause-within c =
     let P : List Mark → Type 0 =
-    λ l. All (λ (m : Mark). m.at < length c.as_mut_slice.result.now) l in
+    λ l. All (λ (m : Mark). m.at < length c.args.counts.now) l in
     subst P (sym c.as_slice-else-head.ensures)
     (low_marks c.self.inside.labels.now c.self.inside.lists (Aligned (pos c.args.place))
-    (list_key c) c.index-as_slice-number.result (length c.as_mut_slice.result.now)
+    (list_key c) c.index-as_slice-number.result (length c.args.counts.now)
     c.self.invariant.0 (is_listed c)
-    (ap (λ (ls : List Label). length (aims_in ls)) c.self.view_is ∙ sym c.requires.fits.count
-    ∙ sym (ap (λ (l : List ℕ). length l) c.as_mut_slice.ensures.value))
-    (omega (
-      arith,
-      c.requires.fits.some,
-      ap (λ (l : List ℕ). length l) c.as_mut_slice.ensures.value,
-    )) (is_head c) c.if-head.false)
+    (ap (λ (ls : List Label). length (aims_in ls)) c.self.view_is ∙ sym c.requires.fits.count)
+    (omega (arith, c.requires.fits.some)) (is_head c) c.if-head.false)
 
 pub add_groups_apart-requires-clause-few : goal.add_groups_apart-requires-clause-few
 add_groups_apart-requires-clause-few c =
@@ -60,12 +55,11 @@ add_groups_apart-requires-clause-few c =
           c.if-head.false,
       ap (λ (ls : List Label). length (aims_in ls)) c.self.view_is,
       c.requires.fits.count,
-      ap (λ (l : List ℕ). length l) c.as_mut_slice.ensures.value,
     )
 
 pub returns-else-head : goal.returns-else-head
 returns-else-head c =
-    let before = c.before.before.before in
+    let before = c.before.before.before.before in
     let h : Head = c.index-as_slice-number.result in
     let b = number_bucket EaAlign (pos c.args.place) in
     let cs = c.args.counts.now in
@@ -73,15 +67,9 @@ returns-else-head c =
     let new = c.add_groups_apart.new.counts in
     let is_new : new ≡ raised_marks c.args.facts.now.signs h.marks cs =
     c.add_groups_apart.ensures
-    ∙ ap (λ (ms : List Mark). raised_marks c.args.facts.now.signs ms c.as_mut_slice.result.now)
-    c.as_slice-else-head.ensures
-    ∙ ap (λ (l : List ℕ). raised_marks c.args.facts.now.signs h.marks l)
-    c.as_mut_slice.ensures.value in
-    let whole : length new ≡ length c.args.counts.now =
-    ap (λ (l : List ℕ). length l) is_new
-    ∙ marks_length c.args.facts.now.signs h.marks cs ∙ sym c.args.counts.now.ok.0 in
-    lent_back (length c.args.counts.now) new (drop (length new) cs) whole
-    ∙ added_marks c.self.inside.labels.now c.self.inside.lists c.args.facts.now.insn
+    ∙ ap (λ (ms : List Mark). raised_marks c.args.facts.now.signs ms cs)
+    c.as_slice-else-head.ensures in
+    added_marks c.self.inside.labels.now c.self.inside.lists c.args.facts.now.insn
     c.args.facts.now.first c.args.facts.now.second c.number.result b
     (Aligned (pos c.args.place)) (list_key before) h cs new c.self.invariant.0
     (is_listed before) (omega arith) (omega (arith, residue_low (pos c.args.place)))

@@ -1,5 +1,5 @@
 use Rattle.std.proofs.Common.{◌≡◌, ◌+◌, ◌*◌, ◌<◌, ◌&&◌, pos, false, Some, List, [], sym, ap, ◌∙◌}
-use Rattle.std.proofs.Common.{arith, length, get_or, vec_len}
+use Rattle.std.proofs.Common.{arith, length, get_or}
 use Rattle.rvs_cgf.specs.declared.group.Label.{Label}
 use Rattle.rvs_facts.specs.Mnemonics.{number}
 use Rattle.rvs_insn.specs.Fields.{Fields}
@@ -47,9 +47,8 @@ add_entry-requires-clause-within c =
     let low =
     low_cell c.self.inside.labels.now lists (n * bucket_count + b) q cell
     (length c.args.counts.now) c.self.invariant.0 within
-    (ap (λ (ls : List Label). length (aims_in ls)) c.self.view_is ∙ sym c.requires.fits.count
-    ∙ sym c.args.counts.now.ok.0)
-    (omega (arith, c.requires.fits.some, c.args.counts.now.ok.0)) is whole in
+    (ap (λ (ls : List Label). length (aims_in ls)) c.self.view_is ∙ sym c.requires.fits.count)
+    (omega (arith, c.requires.fits.some)) is whole in
     rw c.from.ensures (omega (arith, both.1.low near, low.0))
 
 pub returns-else-is_look : goal.returns-else-is_look

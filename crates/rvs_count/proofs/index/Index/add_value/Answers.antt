@@ -1,6 +1,6 @@
 use Rattle.std.proofs.Common.{◌≡◌, ◌+◌, ◌*◌, ◌&&◌, pos, false, Some, List, [], sym, ap, ◌∙◌, arith}
 use Rattle.std.proofs.Common.{length}
-use Rattle.std.proofs.Common.{get_or, vec_len, to_z, of_z, w64}
+use Rattle.std.proofs.Common.{get_or, to_z, of_z, w64}
 use Rattle.std.proofs.lemmas.Int.{to_z-of_z}
 use Rattle.rvs_cgf.specs.declared.group.Label.{Label}
 use Rattle.rvs_facts.specs.Mnemonics.{number}
@@ -35,9 +35,8 @@ add_cell-requires-clause-first c =
     (low_cell c.self.inside.labels.now c.self.inside.lists key c.args.asked cell
     (length c.args.counts.now) c.self.invariant.0
     (omega (arith, c.asked_bucket-bucket.ensures.low, c.number.ensures.low, c.self.invariant.1))
-    (ap (λ (ls : List Label). length (aims_in ls)) c.self.view_is ∙ sym c.requires.fits.count
-    ∙ sym c.args.counts.now.ok.0)
-    (omega (arith, c.requires.fits.some, c.args.counts.now.ok.0)) is c.if-not-cell.true).0
+    (ap (λ (ls : List Label). length (aims_in ls)) c.self.view_is ∙ sym c.requires.fits.count)
+    (omega (arith, c.requires.fits.some)) is c.if-not-cell.true).0
 
 pub add_cell-requires-clause-second : goal.add_cell-requires-clause-second
 add_cell-requires-clause-second c =
@@ -60,9 +59,8 @@ add_cell-requires-clause-second c =
     (low_cell c.self.inside.labels.now c.self.inside.lists key c.args.asked cell
     (length c.args.counts.now) c.self.invariant.0
     (omega (arith, c.asked_bucket-bucket.ensures.low, c.number.ensures.low, c.self.invariant.1))
-    (ap (λ (ls : List Label). length (aims_in ls)) c.self.view_is ∙ sym c.requires.fits.count
-    ∙ sym c.args.counts.now.ok.0)
-    (omega (arith, c.requires.fits.some, c.args.counts.now.ok.0)) is c.if-not-cell.true).1
+    (ap (λ (ls : List Label). length (aims_in ls)) c.self.view_is ∙ sym c.requires.fits.count)
+    (omega (arith, c.requires.fits.some)) is c.if-not-cell.true).1
 
 pub returns-then-not-cell : goal.returns-then-not-cell
 returns-then-not-cell c =
