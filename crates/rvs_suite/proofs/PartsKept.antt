@@ -1,6 +1,6 @@
 -- A part of a list that grows by one.
 use Rattle.std.proofs.Common.{◌≡◌, ℕ, ◌+◌, Bool, true, false, cond, List, [], ◌∷◌, ◌++◌, length}
-use Rattle.std.proofs.Common.{Option, refl, ap, ◌∙◌, sym, arith}
+use Rattle.std.proofs.Common.{Option, refl, ap, ◌∙◌, sym, arith, map, suc}
 use Rattle.rvs_parts.specs.Parts.{PartValue, is_in, parted, parted_from}
 use Rattle.rvs_select.specs.declared.database.Entry.{Entry}
 use Rattle.rvs_suite.specs.DatabaseInput.{marked, marked_from, marked_one}
@@ -8,24 +8,24 @@ use Rattle.rvs_suite.specs.DatabaseInput.{marked, marked_from, marked_one}
 abbrev one-if : {X : Type 0} → Bool → X → List X
 one-if b x = cond b (x ∷ []) []
 
-front-in : {X : Type 0} (b : Bool) (x : X) (rest : List X)
-    → cond b (x ∷ rest) rest ≡ one-if b x ++ rest
-front-in true x rest = refl
-front-in false x rest = refl
-
-last-in : {X : Type 0} (b : Bool) (x : X) → cond b (x ∷ []) [] ≡ one-if b x
-last-in b x = refl
+map-in : {X Y : Type 0} (f : X → Y) (b : Bool) (x : X) (rest : List X)
+    → cond b (f x ∷ map f rest) (map f rest) ≡ map f (cond b (x ∷ rest) rest)
+map-in f true x rest = refl
+map-in f false x rest = refl
 
 first-more : {X : Type 0} (b : Bool) (y : X) (rest more : List X)
     → cond b (y ∷ (rest ++ more)) (rest ++ more) ≡ cond b (y ∷ rest) rest ++ more
 first-more true y rest more = refl
 first-more false y rest more = refl
 
-places : (n m : ℕ) → n + 1 + m ≡ n + (1 + m)
+places : (n m : ℕ) → n + 1 + m ≡ n + suc m
 places n m = omega arith
 
 no-place : (n : ℕ) → n ≡ n + 0
 no-place n = omega arith
+
+from-none : (n : ℕ) → 0 + n ≡ n
+from-none n = omega arith
 
 parted-more : {X : Type 0} (part : Option PartValue) (place : ℕ) (xs : List X) (x : X)
     → parted_from part place (xs ++ x ∷ [])
@@ -40,7 +40,16 @@ parted-more part place (y ∷ xs) x =
 
 pub parted_more : {X : Type 0} (part : Option PartValue) (xs : List X) (x : X)
     → parted part xs ++ cond (is_in part (length xs)) (x ∷ []) [] ≡ parted part (xs ++ x ∷ [])
-parted_more part xs x = sym (parted-more part 0 xs x)
+parted_more part xs x =
+    ap (λ (n : ℕ). parted part xs ++ one-if (is_in part n) x) (sym (from-none (length xs)))
+    ∙ sym (parted-more part 0 xs x)
+
+pub parted_map : {X Y : Type 0} (f : X → Y) (part : Option PartValue) (place : ℕ) (xs : List X)
+    → parted_from part place (map f xs) ≡ map f (parted_from part place xs)
+parted_map f part place [] = refl
+parted_map f part place (x ∷ xs) =
+    ap (λ ys. cond (is_in part place) (f x ∷ ys) ys) (parted_map f part (place + 1) xs)
+    ∙ map-in f (is_in part place) x (parted_from part (place + 1) xs)
 
 marked-more : (part : Option PartValue) (place : ℕ) (xs : List Entry) (x : Entry)
     → marked_from part place (xs ++ x ∷ [])
@@ -54,4 +63,7 @@ marked-more part place (y ∷ xs) x =
 
 pub marked_more : (part : Option PartValue) (xs : List Entry) (x : Entry)
     → marked part xs ++ marked_one (is_in part (length xs)) x ∷ [] ≡ marked part (xs ++ x ∷ [])
-marked_more part xs x = sym (marked-more part 0 xs x)
+marked_more part xs x =
+    ap (λ (n : ℕ). marked part xs ++ marked_one (is_in part n) x ∷ [])
+    (sym (from-none (length xs)))
+    ∙ sym (marked-more part 0 xs x)

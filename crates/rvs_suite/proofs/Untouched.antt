@@ -225,8 +225,7 @@ stops_untouched (Coverage asked) first =
     (λ report effects stop c goes. absurd (goes-on (print_text report) effects stop tt goes))
 stops_untouched (Propagate asked) first =
     untouched-then (propagating.reported asked) print_text
-    (reads-reported (propagating.measure asked.signature) asked.isa asked.families asked.groups
-    asked.logs)
+    (reads-reported propagating.measure asked.isa asked.families asked.groups asked.logs)
     (λ report effects stop c goes. absurd (goes-on (print_text report) effects stop tt goes))
 stops_untouched (RunDatabase asked) first = absurd first
 stops_untouched (Select asked) first =

@@ -1,0 +1,25 @@
+use Rattle.std.proofs.Common.{List, map, sym, ap, subst, ◌∙◌}
+use Rattle.std.specs.Prelude.{All}
+use Rattle.rvs_cgf.specs.Groups.{Label}
+use Rattle.rvs_cgf.specs.GroupView.{label_view}
+use Rattle.rvs_cgf.specs.Valid.{IsValidIfSelected}
+use Rattle.rvs_cgf.specs.declared.group.Label.{Label as Code}
+use Rattle.rvs_suite.specs.GroupFiles.{Inputs}
+use Rattle.rvs_suite.proofs.PartsKept.{parted_map}
+use Rattle.rvs_suite.proofs.Tested.{all-parted}
+use Rattle.rvs_suite.proofs.parting.kept_inputs.Goals as goal
+
+pub returns-clause-kept : goal.returns-clause-kept
+returns-clause-kept c =
+    let inputs = c.args.inputs in
+    let with : List Label → Inputs = λ labels. record { isa = inputs.isa; groups = labels } in
+    ap (λ (labels : List Code). with (map label_view labels)) c.in_ok-groups.ensures
+    ∙ ap with (sym (parted_map label_view c.args.part.now 0 inputs.groups))
+
+pub returns-clause-valid : goal.returns-clause-valid
+returns-clause-valid c =
+    let inputs = c.args.inputs in
+    subst (All (λ (l : Code). IsValidIfSelected inputs.isa (label_view l)))
+    (sym c.in_ok-groups.ensures)
+    (all-parted (λ (l : Code). IsValidIfSelected inputs.isa (label_view l)) c.args.part.now 0
+    inputs.groups c.requires)
