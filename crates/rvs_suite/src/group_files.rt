@@ -172,7 +172,8 @@ fn check_text(alloc: Global, isa: &IsaSpec, families: Families, text: Bytes) -> 
 
 fn check_tree(alloc: Global, isa: &IsaSpec, families: Families, tree: &Tree) -> Result<Groups, Stop>
     ensures met { (w : World) → Meets
-        (Ends (checked_groups (groups_of isa.now families (view tree.now)))) w w (seen groups_view result) }
+        (Ends (checked_groups (groups_of isa.now families (view tree.now)))) w w
+        (seen groups_view result) }
     ensures valid { IfOk result (All (λ l. IsValidIfSelected isa.now (label_view l))) }
 {
     match read_groups(alloc, tree, isa, families) {
