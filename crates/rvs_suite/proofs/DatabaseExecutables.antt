@@ -30,7 +30,7 @@ use Rattle.rvs_suite.specs.DeviceInput.{device_in}
 use Rattle.rvs_suite.specs.GroupFiles.{and_then}
 use Rattle.rvs_suite.specs.JudgingDatabase.{database_inputs_in, chosen_in, HasExecutable, IsNoneOf}
 use Rattle.rvs_suite.specs.Reference.{test_limit}
-use Rattle.rvs_suite.specs.RunDatabase.{Given, chosen, made_by, made_found, elf_found}
+use Rattle.rvs_suite.specs.RunDatabase.{Given, chosen, chosen_if, made_by, made_found, elf_found}
 use Rattle.rvs_suite.specs.RunDatabase.{DatabaseInputs}
 use Rattle.rvs_suite.specs.RunTests.{Bench, asks_elf, if_asked}
 use Rattle.rvs_suite.specs.Specification.{said_in}
@@ -95,7 +95,8 @@ image-of (Ok image) next bench given bytes made is = by (next image) is
   where
     by : (r : Result Run (List ℕ))
         → then_found r (λ run. Ok (made_by bench given bytes run)) ≡ Ok made
-        → (i : ImageValue) × (run : Run) × (Ok image ≡ Ok i)
+        → (i : ImageValue) × (run : Run)
+        × (Ok {A = ImageValue} {E = List ℕ} image ≡ Ok i)
         × (made ≡ made_by bench given bytes run)
     by (Ok run) is =
         let same : made ≡ made_by bench given bytes run = cc in (image, run, refl, same)
@@ -181,8 +182,7 @@ within-chosen n [] g (i, within, at) = absurd (omega (arith, within))
 within-chosen n (e ∷ es) g there =
     by e.selected there (λ h. within-chosen (suc n) es g h)
   where
-    by : (b : Bool) → Contains (if b then record { place = n; name = e.name } ∷ chosen (suc n) es
-        else chosen (suc n) es) g
+    by : (b : Bool) → Contains (chosen_if b (record { place = n; name = e.name }) (chosen (suc n) es)) g
         → (Contains (chosen (suc n) es) g → (suc n ≤ g.place) × (g.place < suc n + length es))
         → (n ≤ g.place) × (g.place < n + suc (length es))
     by true (zero, within, at) later =
@@ -196,16 +196,16 @@ within-chosen n (e ∷ es) g there =
 
 pub apart-chosen : (n : ℕ) (es : List Entry) → AreApart (chosen n es)
 apart-chosen n [] = tt
-apart-chosen n (e ∷ es) = by e.selected
+apart-chosen n (e ∷ es) = by e.selected (apart-chosen (suc n) es)
   where
-    by : (b : Bool) → AreApart (if b then record { place = n; name = e.name } ∷ chosen (suc n) es
-        else chosen (suc n) es)
-    by true = (
+    by : (b : Bool) → AreApart (chosen (suc n) es)
+        → AreApart (chosen_if b (record { place = n; name = e.name }) (chosen (suc n) es))
+    by true later = (
       λ h there same.
           let w = within-chosen (suc n) es h there in omega (arith, w.0, same),
-      apart-chosen (suc n) es,
+      later,
     )
-    by false = apart-chosen (suc n) es
+    by false later = later
 
 -- ---- how many there are
 length-marked : (part : Option PartValue) (n : ℕ) (es : List Entry)

@@ -2,7 +2,7 @@ use Rattle.std.proofs.Common.{rules}
 use Rattle.std.proofs.lemmas.Result.{err_from_is_err_and}
 use Rattle.rvs_plan.proofs.Sequence.{Meets-no_memory}
 use Rattle.rvs_suite.specs.Compare.{words}
-use Rattle.rvs_suite.proofs.Accepting.{Meets-refused_by}
+use Rattle.rvs_suite.proofs.Accepting.{Meets-accepted_by, Meets-refused_by}
 use Rattle.rvs_suite.proofs.comparing.check_words.Goals as goal
 
 pub returns-in_err-refusal_text-in-Err : goal.returns-in_err-refusal_text-in-Err
@@ -15,3 +15,6 @@ returns-in-Err-NoMemory c = λ w. Meets-no_memory (words c.args.name.now c.args.
 
 pub returns-in_ok-refusal_text-in-Err : goal.returns-in_ok-refusal_text-in-Err
 returns-in_ok-refusal_text-in-Err c = λ w. Meets-refused_by _ _ w (search rules)
+
+pub returns-in-Ok : goal.returns-in-Ok
+returns-in-Ok c = λ w. Meets-accepted_by _ _ w (search rules)

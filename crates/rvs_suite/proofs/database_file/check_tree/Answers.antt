@@ -5,7 +5,7 @@ use Rattle.rvs_plan.proofs.Sequence.{Meets-no_memory}
 use Rattle.rvs_tree.specs.TreeView.{view}
 use Rattle.rvs_select.specs.Database.{database_of}
 use Rattle.rvs_suite.specs.DatabaseInput.{checked_end}
-use Rattle.rvs_suite.proofs.Accepting.{Meets-refused_by}
+use Rattle.rvs_suite.proofs.Accepting.{Meets-accepted_by, Meets-refused_by}
 use Rattle.rvs_suite.proofs.database_file.check_tree.Goals as goal
 
 pub returns-in_err-database_text-in-Err : goal.returns-in_err-database_text-in-Err
@@ -16,3 +16,6 @@ returns-in_err-database_text-in-Err c = λ w.
 
 pub returns-in_ok-database_text-in-Err : goal.returns-in_ok-database_text-in-Err
 returns-in_ok-database_text-in-Err c = λ w. Meets-refused_by _ _ w (search rules)
+
+pub returns-in-Ok : goal.returns-in-Ok
+returns-in-Ok c = λ w. Meets-accepted_by _ _ w (search rules)

@@ -5,7 +5,7 @@ use Rattle.rvs_plan.proofs.Sequence.{Meets-no_memory}
 use Rattle.rvs_tree.specs.TreeView.{view}
 use Rattle.rvs_cgf.specs.Groups.{groups_of}
 use Rattle.rvs_suite.specs.GroupFiles.{checked_groups}
-use Rattle.rvs_suite.proofs.Accepting.{Meets-refused_by}
+use Rattle.rvs_suite.proofs.Accepting.{Meets-accepted_by, Meets-refused_by}
 use Rattle.rvs_suite.proofs.group_files.check_tree.Goals as goal
 
 pub returns-in_err-group_text-in-Err-clause-met : goal.returns-in_err-group_text-in-Err-clause-met
@@ -16,3 +16,6 @@ returns-in_err-group_text-in-Err-clause-met c = λ w.
 
 pub returns-in_ok-group_text-in-Err-clause-met : goal.returns-in_ok-group_text-in-Err-clause-met
 returns-in_ok-group_text-in-Err-clause-met c = λ w. Meets-refused_by _ _ w (search rules)
+
+pub returns-in-Ok-clause-met : goal.returns-in-Ok-clause-met
+returns-in-Ok-clause-met c = λ w. Meets-accepted_by _ _ w (search rules)

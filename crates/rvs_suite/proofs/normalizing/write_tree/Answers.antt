@@ -7,7 +7,7 @@ use Rattle.rvs_cgf.specs.Groups.{groups_of}
 use Rattle.rvs_cgf.specs.Print.{normal_text}
 use Rattle.rvs_suite.specs.Seen.{seen}
 use Rattle.rvs_suite.specs.GroupFiles.{checked_groups}
-use Rattle.rvs_suite.proofs.Accepting.{Meets-refused_by}
+use Rattle.rvs_suite.proofs.Accepting.{Meets-accepted_by, Meets-refused_by}
 use Rattle.rvs_suite.proofs.normalizing.write_tree.Goals as goal
 
 pub returns-in_err-group_text-in-Err : goal.returns-in_err-group_text-in-Err
@@ -20,3 +20,6 @@ returns-in_err-group_text-in-Err c = λ w.
 
 pub returns-in_ok-group_text-in-Err : goal.returns-in_ok-group_text-in-Err
 returns-in_ok-group_text-in-Err c = λ w. Meets-refused_by _ _ w (search rules)
+
+pub returns-in-Ok : goal.returns-in-Ok
+returns-in-Ok c = λ w. Meets-accepted_by _ _ w (search rules)
