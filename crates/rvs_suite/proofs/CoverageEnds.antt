@@ -1,5 +1,5 @@
 -- What every call of `coverage` promises.
-use Rattle.std.proofs.Common.{◌≡◌, ◌≤◌, ◌+◌, ◌*◌, ℕ, List, [], ◌∷◌, map, length, Some}
+use Rattle.std.proofs.Common.{◌≡◌, ◌≤◌, ◌+◌, ℕ, List, [], ◌∷◌, map, length}
 use Rattle.std.proofs.Common.{Result, Ok, refl, sym, ap, subst, ◌∙◌, arith, ◌++◌, append_assoc}
 use Rattle.std.proofs.Common.{append-nil}
 use Rattle.rvs_base.specs.Host.{Files}
@@ -10,7 +10,6 @@ use Rattle.rvs_log.specs.Entries.{Entry, entries_of}
 use Rattle.rvs_cgf.specs.Groups.{Label}
 use Rattle.rvs_count.specs.Counting.{Aim, aims_of, count, kept}
 use Rattle.rvs_suite.specs.declared.covering.Covered.{Covered}
-use Rattle.rvs_log.specs.Lines.{log_limit}
 use Rattle.rvs_log.specs.Logs.{log_of, as_entry}
 use Rattle.rvs_count.specs.Report.{report_of}
 use Rattle.rvs_base.specs.declared.asked.Window.{Window}

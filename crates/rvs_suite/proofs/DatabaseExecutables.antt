@@ -25,19 +25,18 @@ use Rattle.rvs_asm.proofs.Answered.{answered_stands}
 use Rattle.rvs_select.specs.declared.database.Entry.{Entry}
 use Rattle.rvs_suite.specs.DatabaseInput.{database_in, marked, marked_from, marked_in}
 use Rattle.rvs_suite.specs.DatabaseLeft.{made_in, Trial, with_trial, with_trials, AreTrialsOf}
-use Rattle.rvs_suite.specs.DatabaseLeft.{with_made}
 use Rattle.rvs_suite.specs.DeviceInput.{device_in}
 use Rattle.rvs_suite.specs.GroupFiles.{and_then}
 use Rattle.rvs_suite.specs.JudgingDatabase.{database_inputs_in, chosen_in, HasExecutable, IsNoneOf}
 use Rattle.rvs_suite.specs.Reference.{test_limit}
 use Rattle.rvs_suite.specs.RunDatabase.{Given, chosen, chosen_if, made_by, made_found, elf_found}
 use Rattle.rvs_suite.specs.RunDatabase.{DatabaseInputs}
-use Rattle.rvs_suite.specs.RunTests.{Bench, asks_elf, if_asked}
+use Rattle.rvs_suite.specs.RunTests.{Bench, asks_elf}
 use Rattle.rvs_suite.specs.Specification.{said_in}
 use Rattle.rvs_suite.specs.TestFiles.{files_at}
 use Rattle.rvs_suite.specs.TestRun.{image_found, file_found, executable_found, text_found}
 use Rattle.rvs_suite.specs.TestRun.{is_image_name, is_executable_name, found_end, then_found}
-use Rattle.rvs_suite.specs.TestRun.{test_found, run_found, limit_of}
+use Rattle.rvs_suite.specs.TestRun.{run_found, limit_of}
 use Rattle.rvs_suite.specs.declared.judging.Made.{Made}
 use Rattle.rvs_suite.specs.declared.test_run.Run.{Run}
 use Rattle.rvs_suite.proofs.DatabaseReads.{holds-tests}
@@ -85,6 +84,9 @@ record WasMade (bench : Bench) (given : Given) (made : Made) : Type 0 where
   is : made ≡ made_by bench given bytes run
   spelt : image_found bench.isa given.name bytes ≡ Ok image
 
+abbrev imaged : ImageValue → Result ImageValue (List ℕ)
+imaged image = Ok image
+
 image-of : (found : Result ImageValue (List ℕ)) (next : ImageValue → Result Run (List ℕ))
     (bench : Bench) (given : Given) (bytes : List ℕ) (made : Made)
     → then_found (then_found found next) (λ run. Ok (made_by bench given bytes run)) ≡ Ok made
@@ -96,7 +98,7 @@ image-of (Ok image) next bench given bytes made is = by (next image) is
     by : (r : Result Run (List ℕ))
         → then_found r (λ run. Ok (made_by bench given bytes run)) ≡ Ok made
         → (i : ImageValue) × (run : Run)
-        × (Ok {A = ImageValue} {E = List ℕ} image ≡ Ok i)
+        × (imaged image ≡ imaged i)
         × (made ≡ made_by bench given bytes run)
     by (Ok run) is =
         let same : made ≡ made_by bench given bytes run = cc in (image, run, refl, same)

@@ -1,11 +1,10 @@
 -- The regions of an image that is read are in order.
-use Rattle.std.proofs.Common.{◌≡◌, ◌≤◌, ◌+◌, ◌%◌, ◌==◌, ◌&&◌, ℕ, Bool, true, false, cond, List, []}
+use Rattle.std.proofs.Common.{◌≡◌, ◌≤◌, ◌==◌, ℕ, Bool, true, false, cond, List, []}
 use Rattle.std.proofs.Common.{length, nat_le, Option, Some, None, Result, Ok, Err, refl, subst, arith, codes}
 use Rattle.std.proofs.lemmas.Bool.{and_parts}
 use Rattle.std.proofs.lemmas.Bool.Decides.{nat_tests}
 use Rattle.rvs_text.specs.Outcomes.{◌>>=◌}
-use Rattle.rvs_machine.specs.Image.{ImageValue, IsImage, is_image, if_image, is_text_length, is_tohost}
-use Rattle.rvs_machine.specs.Image.{is_signature, data_base, data_limit, text_limit}
+use Rattle.rvs_machine.specs.Image.{ImageValue, IsImage, is_image}
 use Rattle.rvs_machine.specs.FileLines.{Rest, taken}
 use Rattle.rvs_machine.specs.ImageText as file
 use Rattle.rvs_machine.specs.ImageText.{image_of_bytes}

@@ -5,7 +5,6 @@ use Rattle.std.proofs.Common.{subst, arith}
 use Rattle.std.specs.Prelude.{map, option_and_then, ◌==◌}
 use Rattle.std.proofs.lemmas.List.{length-map}
 use Rattle.std.proofs.lemmas.Bool.Decides.{nat_tests}
-use Rattle.rvs_text.specs.Options.{◌>>=◌}
 use Rattle.rvs_words.specs.Commands.{Values, some_of, most_logs, with_options, compare_of}
 use Rattle.rvs_words.specs.Commands.{validate_of, normalize_of, generate_of, reference_of}
 use Rattle.rvs_words.specs.Commands.{coverage_of, propagate_of, select_of, run_groups_of}

@@ -1,6 +1,6 @@
 -- What every call of `propagate` promises.
 use Rattle.std.proofs.Common.{◌≡◌, ◌≤◌, ◌+◌, ◌*◌, ℕ, Bool, true, false, List, [], ◌∷◌, map, length}
-use Rattle.std.proofs.Common.{if◌then◌else◌, Some, Ok, refl, sym, ap, subst, ◌∙◌, arith, ◌++◌}
+use Rattle.std.proofs.Common.{if◌then◌else◌, Ok, refl, sym, ap, subst, ◌∙◌, arith, ◌++◌}
 use Rattle.std.proofs.Common.{append-nil, append_assoc}
 use Rattle.std.specs.List.{zip}
 use Rattle.std.proofs.lemmas.Slice.Zip.{seconds-zip}
@@ -12,7 +12,6 @@ use Rattle.rvs_log.specs.Entries.{entries_of}
 use Rattle.rvs_cgf.specs.Groups.{Label}
 use Rattle.std.proofs.lemmas.List.{length-map}
 use Rattle.rvs_log.specs.Entries.{Entry}
-use Rattle.rvs_log.specs.Lines.{log_limit}
 use Rattle.rvs_cgf.specs.Groups.{Meaning, op_is, reg_is, regs, nums, window}
 use Rattle.rvs_count.specs.Counting.{Aim, aims_of, hits}
 use Rattle.rvs_prop.specs.Acts.{Act, acts_of}

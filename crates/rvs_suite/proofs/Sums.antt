@@ -1,7 +1,7 @@
 -- Numbers that are added place by place.
 use Rattle.std.proofs.Common.{◌≡◌, ◌<◌, ◌≤◌, ◌+◌, ℕ, Bool, true, false, List, [], ◌∷◌, ◌++◌, length}
 use Rattle.std.proofs.Common.{take, drop, refl, sym, ap, ◌∙◌, cond, get_or, append_assoc, arith}
-use Rattle.std.proofs.Common.{append-nil, replicate, ◌*◌}
+use Rattle.std.proofs.Common.{replicate, ◌*◌}
 use Rattle.std.specs.Prelude.{nat_lt, slice_set, slice_index, map}
 use Rattle.std.proofs.lemmas.Bool.{ltb-true, ltb-false}
 use Rattle.std.proofs.lemmas.List.{take_more_set, drop-set-lt, drop_more, drop_all, take_all}

@@ -10,7 +10,7 @@ use Rattle.rvs_plan.specs.declared.stop.Stop.TheVariants.{Refused, NoFile}
 use Rattle.rvs_cgf.specs.Groups.{Label}
 use Rattle.rvs_log.specs.Lines.{log_limit}
 use Rattle.rvs_count.specs.Feeds.{piece_limit}
-use Rattle.rvs_suite.specs.GroupFiles.{Inputs, and_then, inputs_in, group_inputs}
+use Rattle.rvs_suite.specs.GroupFiles.{and_then, inputs_in, group_inputs}
 
 -- at most so many bytes of a log are taken: all that it may have, and the piece that passes that
 abbrev pub log_bound : ℕ

@@ -1,6 +1,5 @@
-use Rattle.std.proofs.Common.{◌≡◌, ℕ, List, [], ◌∷◌, ◌++◌, map, ap, ◌∙◌, length}
+use Rattle.std.proofs.Common.{◌≡◌, ℕ, List, [], ◌∷◌, ◌++◌, ap, ◌∙◌}
 use Rattle.rvs_cgf.specs.declared.group.Label.{Label}
-use Rattle.rvs_count.specs.Counting.{aims_in}
 use Rattle.rvs_count.specs.State.{CountState, state_of, ended}
 use Rattle.rvs_suite.specs.declared.covering.Covered.{Covered}
 use Rattle.rvs_base.specs.declared.asked.Window.{Window as Span}

@@ -1,11 +1,11 @@
-use Rattle.std.proofs.Common.{Ok, sym, subst}
+use Rattle.std.proofs.Common.{Ok, subst}
 use Rattle.std.proofs.lemmas.Result.{err_from_is_err_and}
 use Rattle.rvs_plan.specs.World.{world}
 use Rattle.rvs_plan.specs.Plan.{gives}
 use Rattle.rvs_plan.specs.Meets.{Meets}
 use Rattle.rvs_plan.proofs.Sequence.{Meets-then, Meets-stop, Meets-gives, Meets-no_memory}
 use Rattle.rvs_suite.specs.GroupsView.{inputs_view}
-use Rattle.rvs_suite.specs.GroupFiles.{Inputs, gives_part, parted_inputs}
+use Rattle.rvs_suite.specs.GroupFiles.{Inputs, gives_part}
 use Rattle.rvs_suite.proofs.parting.read_labels.Goals as goal
 
 pub returns-in_err-inputs-clause-met : goal.returns-in_err-inputs-clause-met

@@ -1,4 +1,4 @@
-use Rattle.std.proofs.Common.{◌≡◌, List, ℕ, Result, drop, length}
+use Rattle.std.proofs.Common.{Result, drop, length}
 use Rattle.rvs_base.specs.Sink.{SinkState}
 use Rattle.rvs_plan.specs.World.{World, world}
 use Rattle.rvs_plan.specs.Meets.{Meets}

@@ -1,4 +1,4 @@
-use Rattle.std.proofs.Common.{◌≡◌, ℕ, List, [], ◌∷◌, ◌++◌, map, ap, ◌∙◌, length}
+use Rattle.std.proofs.Common.{◌≡◌, ℕ, List, [], ◌∷◌, ◌++◌, ap, ◌∙◌}
 use Rattle.rvs_cgf.specs.declared.group.Label.{Label}
 use Rattle.rvs_count.specs.State.{ended}
 use Rattle.rvs_prop.specs.State.{TrackState, state_of}

@@ -1,4 +1,4 @@
-use Rattle.std.proofs.Common.{◌≡◌, ◌∙◌, sym}
+use Rattle.std.proofs.Common.{◌∙◌, sym}
 use Rattle.rvs_suite.proofs.Sums.{done_all}
 use Rattle.rvs_suite.proofs.summing.add_each.Goals as goal
 
