@@ -1,12 +1,12 @@
 -- Parts of a list, place by place.
-use Rattle.std.proofs.Common.{◌≡◌, ◌≤◌, ◌<◌, ◌↔◌, ℕ, zero, suc, ◌+◌, ◌%◌, Bool, true, false, cond}
-use Rattle.std.proofs.Common.{List, [], ◌∷◌, Some, None, refl, sym, ap, ◌∙◌, arith}
-use Rattle.std.specs.Prelude.{◌==◌, ◌&&◌, nat_le, map}
+use Rattle.std.proofs.Common.{◌≡◌, ◌≤◌, ◌<◌, ℕ, zero, suc, ◌+◌, ◌%◌, Bool, true, false, cond}
+use Rattle.std.proofs.Common.{List, [], ◌∷◌, Some, None, refl, ap, ◌∙◌, arith}
+use Rattle.std.specs.Prelude.{◌==◌, ◌&&◌, map}
 use Rattle.std.specs.List.{list_all}
 use Rattle.std.proofs.lemmas.Bool.Decides.{nat_tests}
-use Rattle.rvs_parts.specs.Parts.{PartValue, has, is_in, parted_from, parted}
-use Rattle.rvs_parts.specs.Laws.{IsInOne, EachIsInOne, in_parts, over, in_part, PartsAddUp}
-use Rattle.rvs_parts.specs.Laws.{PartsAreMapped, HoldsInEach, PartsAreAll, OnePartIsAll}
+use Rattle.rvs_parts.specs.Parts.{PartValue, has, parted_from}
+use Rattle.rvs_parts.specs.Laws.{EachIsInOne, in_parts, over, PartsAddUp}
+use Rattle.rvs_parts.specs.Laws.{PartsAreMapped, PartsAreAll, OnePartIsAll}
 
 -- ---- one part
 -- what is left of a division is below the divisor

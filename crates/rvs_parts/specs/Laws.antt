@@ -1,6 +1,6 @@
 -- What parts of a list are together.
-use Rattle.std.specs.Prelude.{◌≡◌, ◌≤◌, ◌↔◌, ℕ, zero, suc, ◌+◌, Bool, true, List, [], ◌∷◌, map, Some}
-use Rattle.std.specs.Prelude.{None}
+use Rattle.std.specs.Prelude.{◌≡◌, ◌≤◌, ◌↔◌, ℕ, zero, suc, ◌+◌, Bool, true, List, [], ◌∷◌, map}
+use Rattle.std.specs.Prelude.{Option, Some, None, Contains, slice_get}
 use Rattle.std.specs.List.{list_all}
 use Rattle.rvs_parts.specs.Parts.{PartValue, has, parted}
 
@@ -50,3 +50,27 @@ PartsAreAll X = (test : X → Bool) (xs : List X) (of : ℕ) → 1 ≤ of
 abbrev pub OnePartIsAll : Type 0 → Type 0
 OnePartIsAll X = (xs : List X) → (parted (Some (record { at = 1; of = 1 })) xs ≡ xs)
     × (parted None xs ≡ xs)
+
+-- two places of a list have no things of one key
+abbrev pub AreApart : {X : Type 0} → (X → List ℕ) → List X → Type 0
+AreApart {X} key xs = (i k : ℕ) (x y : X) → slice_get xs i ≡ Some x → slice_get xs k ≡ Some y
+    → key x ≡ key y → i ≡ k
+
+-- a thing is in the part of one number, and none of its key is in another
+pub record IsInOnePart {X : Type 0} (key : X → List ℕ) (xs : List X) (of : ℕ) (x : X) : Type
+    0 where
+  pub at : ℕ
+  pub low : 1 ≤ at
+  pub high : at ≤ of
+  pub here : Contains (parted (Some (record { at = at; of = of })) xs) x
+  pub only : (other : ℕ) (y : X) → Contains (parted (Some (record { at = other; of = of })) xs) y
+      → key y ≡ key x → other ≡ at
+
+abbrev pub ThingsAreInOne : Type 0 → Type 0
+ThingsAreInOne X = (key : X → List ℕ) (xs : List X) (of : ℕ) (x : X) → 1 ≤ of → AreApart key xs
+    → Contains xs x → IsInOnePart key xs of x
+
+-- a part has no thing that the whole doesn't have
+abbrev pub PartsHaveNoMore : Type 0 → Type 0
+PartsHaveNoMore X = (part : Option PartValue) (xs : List X) (x : X) → Contains (parted part xs) x
+    → Contains xs x

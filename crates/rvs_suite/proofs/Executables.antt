@@ -1,22 +1,17 @@
 -- The executable of a test, which is written where the device asks for it.
 use Rattle.std.proofs.Common.{◌≡◌, ◌≢◌, ℕ, Bool, true, false, List, ◌∷◌, Option, Some, None}
-use Rattle.std.proofs.Common.{Ok, bytes_eq, refl, ap, ◌∙◌}
+use Rattle.std.proofs.Common.{Ok, bytes_eq, refl, ap}
 use Rattle.rvs_base.specs.Host.{Files}
 use Rattle.rvs_base.specs.declared.host.DeviceRun.{DeviceRun}
 use Rattle.rvs_plan.specs.World.{Contents}
 use Rattle.rvs_plan.specs.Effect.{Write, Effect, Did, after, Saw}
 use Rattle.rvs_insn.specs.Isa.{Isa}
 use Rattle.rvs_machine.specs.Image.{ImageValue}
-use Rattle.rvs_elf.specs.Executable.{image_of_elf}
-use Rattle.rvs_elf.specs.Laws.{with_marks}
 use Rattle.rvs_elf.specs.Written.{elf_of}
-use Rattle.rvs_elf.proofs.ReadBack.{reads_back, runs_alike}
 use Rattle.rvs_asm.specs.Answer.{answer}
-use Rattle.rvs_asm.proofs.Answered.{answered_stands}
-use Rattle.rvs_suite.specs.Tests.{IsRunnable, elf_of_image, executable_of}
+use Rattle.rvs_suite.specs.Tests.{elf_of_image, executable_of}
 use Rattle.rvs_suite.specs.RunTests.{if_asked}
 use Rattle.rvs_suite.specs.RunLeft.{with_executable}
-use Rattle.rvs_suite.specs.Judging.{IsExecutableOf}
 use Rattle.rvs_suite.specs.declared.gathering.Test.{Test}
 use Rattle.rvs_suite.proofs.Paths.{found-in, passed-by, same-bytes, other-bytes}
 
@@ -62,21 +57,3 @@ pub elf-of-test : (isa : Isa) (test : Test) (image : ImageValue)
     → answer isa test.text ≡ Ok image → executable_of isa test ≡ elf_of image
 unfolding executable_of
 elf-of-test isa test image stands = ap elf_of_image stands
-
-pub is-executable : (isa : Isa) (test : Test) → IsRunnable isa test
-    → IsExecutableOf isa test (executable_of isa test)
-is-executable isa test r =
-    let stands = answered_stands isa test.text r.image r.assembled in
-    let is : executable_of isa test ≡ elf_of r.image =
-    elf-of-test isa test r.image r.assembled in
-    let read : image_of_elf (executable_of isa test) ≡ Ok (with_marks r.image) =
-    ap image_of_elf is ∙ reads_back r.image stands.regions in
-    record {
-      image = r.image;
-      assembled = r.assembled;
-      written = is;
-      again = with_marks r.image;
-      read = read;
-      alike = runs_alike r.image (with_marks r.image) stands.regions
-          (reads_back r.image stands.regions);
-    }

@@ -35,7 +35,7 @@ use Rattle.rvs_suite.proofs.GroupInputs.{finds-labels}
 use Rattle.rvs_suite.proofs.NoTest.{no-point, listing-none}
 use Rattle.rvs_suite.proofs.OneTest.{one-point, file-there}
 use Rattle.rvs_suite.proofs.Sparing.{generate-spares}
-use Rattle.rvs_suite.proofs.Signed.{has-test, proved, untested}
+use Rattle.rvs_suite.proofs.Signed.{has-test, proved}
 use Rattle.rvs_suite.proofs.Tested.{good-labels, runs-label, tested-labels}
 use Rattle.rvs_words.specs.declared.command.GenerateArguments.{GenerateArguments}
 
@@ -214,7 +214,6 @@ makes {call} files asked r = record {
       (labels_in files asked.part asked.isa asked.families asked.groups)
       (record { isa = isa'; groups = l ∷ [] }) given
       ((answers-generate files asked r).done is));
-  apart = apart-labels files asked.part asked.isa asked.families asked.groups;
   each = λ inputs l k files' given inside selected solvable done told.
       let test = has-test inputs.isa l k solvable in
       record {
@@ -226,13 +225,7 @@ makes {call} files asked r = record {
             inside selected
             test.1;
       };
-  proved = λ inputs l text given inside selected is.
-      proved inputs l text
-      (tested-labels files asked.part asked.isa asked.families asked.groups inputs given) inside
-      selected is;
   there = there files asked r;
-  untested = λ inputs l k given none solvable. untested inputs.isa l k none solvable;
-  tested = tested-labels files asked.part asked.isa asked.families asked.groups;
   others_kept =
       λ files' other. generate-spares r.ran files files' asked other r.told r.asks;
 }

@@ -25,18 +25,18 @@ mod LogAmounts
 mod LogLimits
 mod LogReads
 mod ImageBytes
-mod LogEntries
+pub mod LogEntries
 mod CoverageEnds
 mod PropagateEnds
 mod Lines
 mod Listings
 mod GenerateEnds
 mod Runnable
-mod Tested
+pub mod Tested
 mod PointLines
-mod Written
+pub mod Written
 mod NoTest
-mod Executables
+pub mod Executables
 mod RunSteps
 mod RunReads
 mod DemoEnds
@@ -48,9 +48,9 @@ mod OneCount
 mod OneReached
 mod Saying
 mod Counted
-mod Signed
+pub mod Signed
 mod Standing
-mod StepLimits
+pub mod StepLimits
 mod Paths
 mod ImageRegions
 mod DatabaseExecutables

@@ -1,7 +1,7 @@
 -- What every call of `reference` promises.
-use Rattle.std.proofs.Common.{◌≡◌, ◌≤◌, ℕ, Bool, true, false, List, length, Option, Some, None}
+use Rattle.std.proofs.Common.{◌≡◌, ℕ, Bool, true, false, List, length, Option, Some, None}
 use Rattle.std.proofs.Common.{Result, Ok, Err, refl, if◌then◌else◌}
-use Rattle.std.proofs.Common.{sym, ap, ◌∙◌, arith}
+use Rattle.std.proofs.Common.{sym, ap, ◌∙◌}
 use Rattle.rvs_base.specs.Host.{Files, with_file, written}
 use Rattle.rvs_base.specs.Sink.{appended}
 use Rattle.rvs_plan.specs.Inputs.{part_end}
@@ -26,7 +26,7 @@ use Rattle.rvs_suite.specs.Reference.{test_limit, trial, records}
 use Rattle.rvs_suite.specs.Referencing as referencing
 use Rattle.rvs_suite.specs.Referencing.{trial_in, run_in}
 use Rattle.rvs_suite.specs.Specification.{said_in, specification}
-use Rattle.rvs_suite.specs.TestRun.{accepted, found_end, limit_of, test_found, is_image_name}
+use Rattle.rvs_suite.specs.TestRun.{accepted, found_end, test_found, is_image_name}
 use Rattle.rvs_suite.specs.TestRun.{is_executable_name, file_found, executable_found, text_found}
 use Rattle.rvs_suite.specs.TestTexts.{ran_line}
 use Rattle.rvs_suite.specs.declared.test_run.Run.{Run}
@@ -34,12 +34,9 @@ use Rattle.rvs_words.specs.declared.command.Command.TheVariants.{Reference}
 use Rattle.rvs_suite.proofs.Answered.{Works, RunsOn, answered}
 use Rattle.rvs_suite.proofs.Finding.{Finds, Deeds, left}
 use Rattle.rvs_suite.proofs.GroupInputs.{finds-specification, finds-and_then}
-use Rattle.rvs_suite.proofs.LogEntries.{halting_entries}
 use Rattle.rvs_suite.proofs.Meanings.{both-halt}
 use Rattle.rvs_suite.proofs.NormalPlan.{then-then}
 use Rattle.rvs_suite.proofs.Sparing.{reference-spares}
-use Rattle.rvs_suite.proofs.StepLimits.{limits_are_low, halting-run}
-use Rattle.rvs_words.specs.Commands.{command_of, most_steps}
 use Rattle.rvs_words.specs.declared.command.ReferenceArguments.{ReferenceArguments}
 
 abbrev run_inputs : List ℕ → List ℕ → Option ℕ → Plan Run
@@ -98,17 +95,6 @@ works files asked = record {
   does = does-records asked.signature asked.log;
 }
 
-bounded : (words : List (List ℕ)) (files : Files) (asked : ReferenceArguments) (run : Run)
-    → command_of words ≡ Reference asked → BothHalt files asked.isa asked.test asked.steps run
-    → length run.trace ≤ most_steps
-bounded words files asked run asks both =
-    let test = both.test_halts in
-    let limit = limits_are_low words asked asks test.bytes in
-    let long = halting-run both.said.spec (limit_of asked.steps asked.test test.bytes) test.image
-    run
-    test.halts in
-    omega (arith, limit, long)
-
 -- the image of a text stands to it
 text-found : (i e : Bool) (name : List ℕ) (image : ImageValue) (file elf : Result ImageValue (List ℕ))
     (text : Result ImageValue AsmRefusal) → i ≡ false → e ≡ false
@@ -150,15 +136,8 @@ refers {call} files asked r = record {
         printed = ap (λ (c : Contents). c.out) is
             ∙ out-recorded (contents (world_of call.old)) asked.signature asked.log run;
       });
-  halts = both-halt files asked.isa asked.test asked.steps;
   assembled = λ run is named.
       text-halts files asked.isa asked.test asked.steps run named
-      (both-halt files asked.isa asked.test asked.steps run is);
-  logged = λ run is octets.
-      halting_entries files asked.isa asked.test asked.steps run
-      (both-halt files asked.isa asked.test asked.steps run is) octets;
-  limited = limits_are_low call.words asked r.asks;
-  bounded = λ run is. bounded call.words files asked run r.asks
       (both-halt files asked.isa asked.test asked.steps run is);
   others_kept = λ files' other. reference-spares r.ran files files' asked
       other r.told r.asks;

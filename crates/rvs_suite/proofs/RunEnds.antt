@@ -39,7 +39,6 @@ use Rattle.rvs_suite.specs.declared.gathering.Test.{Test}
 use Rattle.rvs_words.specs.declared.command.Command.TheVariants.{Run}
 use Rattle.rvs_suite.proofs.Answered.{RunsOn, ran-command}
 use Rattle.rvs_suite.proofs.Ends.{means-end, was_refused, was_missing}
-use Rattle.rvs_suite.proofs.Executables.{is-executable}
 use Rattle.rvs_suite.proofs.Finding.{Behind, behind, end-found}
 use Rattle.rvs_suite.proofs.Running.{at_status, asked_means}
 use Rattle.rvs_suite.proofs.RunReads.{finds-run}
@@ -50,7 +49,7 @@ use Rattle.rvs_suite.proofs.Passed.{are-judged}
 use Rattle.rvs_suite.proofs.Signed.{has-test, proved}
 use Rattle.rvs_suite.proofs.Signs.{signs}
 use Rattle.rvs_suite.proofs.Standing.{files-stand, test_by, test-of}
-use Rattle.rvs_suite.proofs.Tested.{groups-accepted, tested-run, runnable-run}
+use Rattle.rvs_suite.proofs.Tested.{groups-accepted, tested-run}
 use Rattle.rvs_suite.proofs.Untouched.{never-end, runs-on}
 use Rattle.rvs_suite.proofs.Written.{apart-labels}
 use Rattle.rvs_words.specs.declared.command.RunArguments.{RunArguments}
@@ -424,16 +423,6 @@ judges {call} files asked r =
           ];
       others_kept = λ files' other. run-spares r.ran files files' asked
           other r.told r.asks;
-      passes = λ inputs test run. passing.passes _ run.status run.after;
-      tested = tested-run files asked;
-      apart = λ inputs given. apart-labels files asked.part asked.isa asked.families asked.groups
-          inputs.groups
-          (groups-accepted files asked inputs given);
       each = proved-there files asked r;
-      proved = λ inputs l text given inside selected is. proved inputs.groups l text
-          (tested-run files asked inputs given) inside selected is;
       there = there files asked r;
-      executables = λ inputs test given inside. is-executable inputs.groups.isa test
-          (runnable-run files asked inputs test given inside);
-      runnable = runnable-run files asked;
     }

@@ -204,13 +204,11 @@ tested-run files asked inputs given =
     tested-labels files asked.part asked.isa asked.families asked.groups inputs.groups
     (groups-accepted files asked inputs given)
 
-pub runnable-run : (files : Files) (asked : RunArguments)
-    (inputs : RunInputs) (test : Test) → run_inputs_in files asked ≡ Ok inputs
-    → Contains (tests_of inputs.groups.isa inputs.groups.groups) test
-    → IsRunnable inputs.groups.isa test
-runnable-run files asked inputs test given there =
-    let good = good-labels files asked.part asked.isa asked.families asked.groups inputs.groups
-    (groups-accepted files asked inputs given) in
-    All-contains (IsRunnable inputs.groups.isa)
-    (tests_of inputs.groups.isa inputs.groups.groups) test
-    (runnable-all inputs.groups.isa inputs.groups.groups good.valid) there
+pub runnable-labels : (files : Files) (part : Option PartValue) (isa : List ℕ) (families : Families)
+    (names : List (List ℕ)) (inputs : Inputs)
+    → labels_in files part isa families names ≡ Ok inputs → (test : Test)
+    → Contains (tests_of inputs.isa inputs.groups) test → IsRunnable inputs.isa test
+runnable-labels files part isa families names inputs given test there =
+    let good = good-labels files part isa families names inputs given in
+    All-contains (IsRunnable inputs.isa) (tests_of inputs.isa inputs.groups) test
+    (runnable-all inputs.isa inputs.groups good.valid) there

@@ -7,7 +7,6 @@ use Rattle.rvs_plan.specs.declared.stop.Stop.{Stop}
 use Rattle.rvs_plan.specs.declared.status.Status.TheVariants.{Done}
 use Rattle.rvs_insn.specs.Isa.{Isa}
 use Rattle.rvs_cgf.specs.Groups.{Label, Point}
-use Rattle.rvs_normal.specs.Again.{names_are_apart}
 use Rattle.rvs_solver.specs.Solving.{IsSolvableAt}
 use Rattle.rvs_test.specs.Made.{cases_of, text_of_label}
 use Rattle.rvs_test_text.specs.TestText.{step_limit}
@@ -17,8 +16,7 @@ use Rattle.rvs_suite.specs.Call.{Call, Asks}
 use Rattle.rvs_suite.specs.GenerateTexts.{unsolved_line, name_line, listing}
 use Rattle.rvs_suite.specs.Generate.{path_of}
 use Rattle.rvs_suite.specs.GroupFiles.{Inputs, labels_in}
-use Rattle.rvs_suite.specs.Tested.{AreTested}
-use Rattle.rvs_suite.specs.Headline.{IsProved, HasProvedTest}
+use Rattle.rvs_suite.specs.Headline.{HasProvedTest}
 use Rattle.rvs_suite.specs.Tests.{tests_of}
 use Rattle.rvs_suite.specs.declared.gathering.Test.{Test}
 use Rattle.rvs_words.specs.declared.command.Command.TheVariants.{Generate}
@@ -70,14 +68,6 @@ pub record Generates (call : Call) (files : Files) (asked : GenerateArguments) :
   pub answered : Answered call (labels_in files asked.part asked.isa asked.families asked.groups)
       (OnDone
       (HasGenerated call asked.work))
-  -- no two labels have one name
-  pub apart : (inputs : Inputs) → labels_in files asked.part asked.isa asked.families asked.groups
-      ≡ Ok inputs
-      → IsTrue (names_are_apart inputs.groups)
-  -- the tests that it makes run as their texts claim
-  pub tested : (inputs : Inputs) → labels_in files asked.part asked.isa asked.families asked.groups
-      ≡ Ok inputs
-      → AreTested inputs
   -- The headline: where it is done, the file of each label with a point that a choice hits is
   -- there, and of its bytes alone it is a test that hits each such point.
   pub each : (inputs : Inputs) (l : Label) (k : ℕ) (files' : Files)
@@ -86,12 +76,6 @@ pub record Generates (call : Call) (files : Files) (asked : GenerateArguments) :
       → IsTrue l.selected
       → IsSolvableAt inputs.isa l k → call.status ≡ Done → call.new.host.files ≡ Some files'
       → HasProvedTest files' (path_of asked.work l.name) inputs.isa l
-  -- the same of each text that it writes, however it ends
-  pub proved : (inputs : Inputs) (l : Label) (text : List ℕ)
-      → labels_in files asked.part asked.isa asked.families asked.groups ≡ Ok inputs
-      → Contains inputs.groups l
-      → IsTrue l.selected
-      → text_of_label inputs.isa l ≡ Some text → IsProved inputs.isa l text
   -- where it is done, each label that has a test has it in its file
   pub there : (inputs : Inputs) (l : Label) (text : List ℕ) (files' : Files)
       → labels_in files asked.part asked.isa asked.families asked.groups ≡ Ok inputs
@@ -99,10 +83,6 @@ pub record Generates (call : Call) (files : Files) (asked : GenerateArguments) :
       → IsTrue l.selected
       → text_of_label inputs.isa l ≡ Some text → call.status ≡ Done
       → call.new.host.files ≡ Some files' → files' (path_of asked.work l.name) ≡ Some text
-  -- a label without a test has no point that a choice hits
-  pub untested : (inputs : Inputs) (l : Label) (k : ℕ)
-      → labels_in files asked.part asked.isa asked.families asked.groups ≡ Ok inputs
-      → text_of_label inputs.isa l ≡ None → IsSolvableAt inputs.isa l k → ⊥
   -- so a group file with one label and one point that a choice hits leaves a test that hits it
   pub one : (isa' : Isa) (l : Label) (p : Point)
       → labels_in files asked.part asked.isa asked.families asked.groups

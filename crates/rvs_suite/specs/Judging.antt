@@ -1,5 +1,5 @@
 -- What every call of `run` promises.
-use Rattle.std.specs.Prelude.{◌≡◌, ◌⊎◌, ◌↔◌, ℕ, List, [], ◌∷◌, ◌++◌, length, Some, option_map}
+use Rattle.std.specs.Prelude.{◌≡◌, ◌⊎◌, ℕ, List, [], ◌∷◌, ◌++◌, length, Some, option_map}
 use Rattle.std.specs.Prelude.{Result, Ok, Contains, IsTrue}
 use Rattle.rvs_base.specs.Host.{Files, Tells}
 use Rattle.rvs_base.specs.Sink.{appended}
@@ -8,32 +8,22 @@ use Rattle.rvs_plan.specs.declared.stop.Stop.{Stop}
 use Rattle.rvs_plan.specs.declared.status.Finish.{Finish}
 use Rattle.rvs_plan.specs.declared.status.Status.TheVariants.{Done, NotPassed}
 use Rattle.rvs_sig.specs.Words.{text_of_words}
-use Rattle.rvs_insn.specs.Isa.{Isa}
-use Rattle.rvs_machine.specs.Image.{ImageValue}
-use Rattle.rvs_elf.specs.Executable.{image_of_elf}
-use Rattle.rvs_elf.specs.Laws.{RunsAs}
-use Rattle.rvs_elf.specs.Written.{elf_of}
-use Rattle.rvs_asm.specs.Answer.{answer}
 use Rattle.rvs_cgf.specs.Groups.{Label}
-use Rattle.rvs_normal.specs.Again.{names_are_apart}
 use Rattle.rvs_solver.specs.Solving.{IsSolvableAt}
-use Rattle.rvs_test.specs.Made.{text_of_label}
 use Rattle.rvs_device.specs.Command.{wants_elf}
 use Rattle.rvs_device.specs.Judging.{Spells}
-use Rattle.rvs_device.specs.declared.verdicts.TestVerdict.TheVariants.{Pass}
 use Rattle.rvs_suite.specs.Answered.{Answered, HasLeft}
 use Rattle.rvs_suite.specs.Call.{Call, Asks, NothingFailed, AnswersOnly}
 use Rattle.rvs_suite.specs.GenerateTexts.{listing}
 use Rattle.rvs_suite.specs.Generate.{path_of}
 use Rattle.rvs_suite.specs.GroupFiles.{and_then, labels_in}
 use Rattle.rvs_suite.specs.DeviceInput.{device_in}
-use Rattle.rvs_suite.specs.Tested.{AreTested}
-use Rattle.rvs_suite.specs.Headline.{IsProved, HasProvedTest}
-use Rattle.rvs_suite.specs.Tests.{IsRunnable, reference_words, executable_of, tests_of}
+use Rattle.rvs_suite.specs.Headline.{HasProvedTest}
+use Rattle.rvs_suite.specs.Tests.{reference_words, executable_of, tests_of}
 use Rattle.rvs_suite.specs.TestFiles.{IsOther, files_of}
 use Rattle.rvs_suite.specs.RunTests.{Bench, files_for, asks_elf, tally_line, verdict_of_all}
 use Rattle.rvs_suite.specs.RunTests.{RunInputs, bench_of}
-use Rattle.rvs_suite.specs.RunLeft.{IsRunOf, AreRunsOf, verdict_by, verdict_lines, passed_onto}
+use Rattle.rvs_suite.specs.RunLeft.{IsRunOf, AreRunsOf, verdict_lines, passed_onto}
 use Rattle.rvs_suite.specs.RunLeft.{with_all_judged, task_of, AreJudged}
 use Rattle.rvs_suite.specs.Signing.{IsSigned}
 use Rattle.rvs_suite.specs.declared.gathering.Test.{Test}
@@ -70,22 +60,6 @@ pub record HasJudged (call : Call) (program work : List ℕ) (end : Finish)
       (passed_onto (bench_of program work inputs) 0 (tests_in inputs) runs)
   pub means : AreJudged (bench_of program work inputs) end (tests_in inputs) runs
 
--- a test passes exactly where what its run left spells the words of the reference machine
-abbrev pub PassesBySpelling : Bench → Test → DeviceRun → Type 0
-PassesBySpelling bench test run =
-    (verdict_by bench test run ≡ Pass (length (reference_words bench.isa test)) run.status)
-    ↔ Spells (task_of bench test) run.after
-
--- An executable of a test: it is written of the image that stands to the test, and is read as one
--- that runs as this does.
-pub record IsExecutableOf (isa : Isa) (test : Test) (bytes : List ℕ) : Type 0 where
-  pub image : ImageValue
-  pub assembled : answer isa test.text ≡ Ok image
-  pub written : bytes ≡ elf_of image
-  pub again : ImageValue
-  pub read : image_of_elf bytes ≡ Ok again
-  pub alike : RunsAs again image
-
 -- the files of a test that was judged: its text, its executable where the device asks for it, the
 -- words of the reference machine, and what the one run of the device on it left
 pub record HasTestFiles (call : Call) (bench : Bench) (test : Test) (files' : Files) : Type 0 where
@@ -112,12 +86,6 @@ pub record Runs (call : Call) (files : Files) (asked : RunArguments) : Type 0 wh
   -- accepted, and no test is refused, traps or runs on
   pub answered : Answered call (run_inputs_in files asked)
       (λ inputs end. HasJudged call asked.program asked.work end inputs)
-  -- the tests that it makes run as their texts claim
-  pub tested : (inputs : RunInputs) → run_inputs_in files asked ≡ Ok inputs
-      → AreTested inputs.groups
-  -- no two labels have one name
-  pub apart : (inputs : RunInputs) → run_inputs_in files asked ≡ Ok inputs
-      → IsTrue (names_are_apart inputs.groups.groups)
   -- The headline: where all tests were judged, the file of each label with a point that a choice
   -- hits is there, and of its bytes alone it is a test that hits each such point.
   pub each : (inputs : RunInputs) (l : Label) (k : ℕ) (files' : Files)
@@ -125,27 +93,11 @@ pub record Runs (call : Call) (files : Files) (asked : RunArguments) : Type 0 wh
       → IsTrue l.selected → IsSolvableAt inputs.groups.isa l k
       → (call.status ≡ Done) ⊎ (call.status ≡ NotPassed) → call.new.host.files ≡ Some files'
       → HasProvedTest files' (path_of asked.work l.name) inputs.groups.isa l
-  -- the same of each text that it writes, however it ends
-  pub proved : (inputs : RunInputs) (l : Label) (text : List ℕ)
-      → run_inputs_in files asked ≡ Ok inputs → Contains inputs.groups.groups l
-      → IsTrue l.selected → text_of_label inputs.groups.isa l ≡ Some text
-      → IsProved inputs.groups.isa l text
   -- where all tests were judged, the files of each are there
   pub there : (inputs : RunInputs) (test : Test) (files' : Files)
       → run_inputs_in files asked ≡ Ok inputs → Contains (tests_in inputs) test
       → (call.status ≡ Done) ⊎ (call.status ≡ NotPassed) → call.new.host.files ≡ Some files'
       → HasTestFiles call (bench_of asked.program asked.work inputs) test files'
-  -- the executable of each runs as the test does
-  pub executables : (inputs : RunInputs) (test : Test)
-      → run_inputs_in files asked ≡ Ok inputs → Contains (tests_in inputs) test
-      → IsExecutableOf inputs.groups.isa test (executable_of inputs.groups.isa test)
-  -- an image stands to each test, and the reference machine halts on it within the test's steps
-  pub runnable : (inputs : RunInputs) (test : Test)
-      → run_inputs_in files asked ≡ Ok inputs
-      → Contains (tests_in inputs) test → IsRunnable inputs.groups.isa test
-  -- a pass says that the device left the reference's words
-  pub passes : (inputs : RunInputs) (test : Test) (run : DeviceRun)
-      → PassesBySpelling (bench_of asked.program asked.work inputs) test run
   -- where one test was made, and the one run on it left the reference's words, it is done
   pub alone : (inputs : RunInputs) (test : Test) (before : List DeviceRun) (run : DeviceRun)
       → run_inputs_in files asked ≡ Ok inputs → tests_in inputs ≡ test ∷ []

@@ -3,3 +3,6 @@ mod Compares
 mod Validates
 mod References
 mod Generates
+mod Made
+mod Halted
+mod Parting

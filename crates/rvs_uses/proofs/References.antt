@@ -21,6 +21,7 @@ use Rattle.rvs_suite.specs.Referencing.{trial_in, run_in}
 use Rattle.rvs_suite.specs.Specification.{said_in}
 use Rattle.rvs_suite.specs.TestRun.{found_end, test_found}
 use Rattle.rvs_suite.specs.declared.test_run.Run.{Run}
+use Rattle.rvs_suite.proofs.LogEntries.{halting_entries}
 use Rattle.rvs_suite.proofs.Meanings.{then-err, whole-of, says-of, both-halt}
 use Rattle.rvs_suite.proofs.TestEnds.{found-TestHalts}
 use Rattle.rvs_words.specs.declared.command.Command.TheVariants.{Reference}
@@ -175,7 +176,7 @@ refers-of call files asked told asks f n = record {
       (both-in files asked.isa asked.test asked.steps run both) none)
       (λ is. (n.answered.not_passed is).left);
   logged = λ run both octets.
-      n.logged run (both-in files asked.isa asked.test asked.steps run both) octets;
+      halting_entries files asked.isa asked.test asked.steps run both octets;
   refused = λ is.
       let h = n.answered.refused is in
       record {

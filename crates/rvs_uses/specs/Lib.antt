@@ -7,4 +7,7 @@ pub mod Comparing
 pub mod Validating
 pub mod Referencing
 pub mod Testing
+pub mod Made
+pub mod Halted
+pub mod Parted
 pub mod Laws

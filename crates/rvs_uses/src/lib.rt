@@ -4,5 +4,7 @@
 mod laws;
 
 pub use laws::{
-    a_pass_means_the_same_words, answers_tell_of_files, each_point_that_a_choice_hits_has_a_test,
+    a_pass_means_the_reference_words, a_pass_means_the_same_words, answers_tell_of_files,
+    each_point_that_a_choice_hits_has_a_test, parts_are_the_whole_run, runs_of_the_reference_halt,
+    tests_of_accepted_inputs,
 };

@@ -1,0 +1,69 @@
+-- What holds of the tests of accepted inputs.
+use Rattle.std.proofs.Common.{◌≡◌, ℕ, List, Contains, Option, Ok, ap, ◌∙◌}
+use Rattle.rvs_base.specs.Host.{Files}
+use Rattle.rvs_abstract.specs.declared.families.Families.{Families}
+use Rattle.rvs_parts.specs.Parts.{PartValue}
+use Rattle.rvs_insn.specs.Isa.{Isa}
+use Rattle.rvs_elf.specs.Executable.{image_of_elf}
+use Rattle.rvs_elf.specs.Laws.{with_marks}
+use Rattle.rvs_elf.specs.Written.{elf_of}
+use Rattle.rvs_elf.proofs.ReadBack.{reads_back, runs_alike}
+use Rattle.rvs_asm.proofs.Answered.{answered_stands}
+use Rattle.rvs_device.proofs.Passing as passing
+use Rattle.rvs_suite.specs.GroupFiles.{Inputs, labels_in}
+use Rattle.rvs_suite.specs.Tests.{IsRunnable, executable_of, tests_of}
+use Rattle.rvs_suite.specs.RunLeft.{task_of}
+use Rattle.rvs_suite.specs.declared.gathering.Test.{Test}
+use Rattle.rvs_suite.proofs.Executables.{elf-of-test}
+use Rattle.rvs_suite.proofs.Signed as signed
+use Rattle.rvs_suite.proofs.Tested.{groups-accepted, tested-labels, runnable-labels}
+use Rattle.rvs_suite.proofs.Written.{apart-labels}
+use Rattle.rvs_uses.specs.Made.{TestsRun, NamesAreApart, TextsAreProved, UntestedHaveNone}
+use Rattle.rvs_uses.specs.Made.{TestsAreRunnable, IsExecutableOf, ExecutablesRun, RunsAccept}
+use Rattle.rvs_uses.specs.Made.{PassesBySpelling}
+
+pub tests-run : TestsRun
+tests-run = tested-labels
+
+pub names-are-apart : NamesAreApart
+names-are-apart = apart-labels
+
+pub texts-are-proved : TextsAreProved
+texts-are-proved files part isa families names inputs given l text there selected is =
+    signed.proved inputs l text (tested-labels files part isa families names inputs given) there
+    selected is
+
+pub untested-have-none : UntestedHaveNone
+untested-have-none = signed.untested
+
+pub tests-are-runnable : TestsAreRunnable
+tests-are-runnable = runnable-labels
+
+is-executable : (isa : Isa) (test : Test) → IsRunnable isa test
+    → IsExecutableOf isa test (executable_of isa test)
+is-executable isa test r =
+    let stands = answered_stands isa test.text r.image r.assembled in
+    let is : executable_of isa test ≡ elf_of r.image =
+    elf-of-test isa test r.image r.assembled in
+    let read : image_of_elf (executable_of isa test) ≡ Ok (with_marks r.image) =
+    ap image_of_elf is ∙ reads_back r.image stands.regions in
+    record {
+      image = r.image;
+      assembled = r.assembled;
+      written = is;
+      again = with_marks r.image;
+      read = read;
+      alike = runs_alike r.image (with_marks r.image) stands.regions
+          (reads_back r.image stands.regions);
+    }
+
+pub executables-run : ExecutablesRun
+executables-run files part isa families names inputs given test there =
+    is-executable inputs.isa test
+    (runnable-labels files part isa families names inputs given test there)
+
+pub runs-accept : RunsAccept
+runs-accept = groups-accepted
+
+pub passes-by-spelling : PassesBySpelling
+passes-by-spelling bench test run = passing.passes (task_of bench test) run.status run.after

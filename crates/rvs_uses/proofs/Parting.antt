@@ -1,0 +1,547 @@
+-- What the parts of a run are together.
+use Rattle.std.proofs.Common.{◌≡◌, ◌≢◌, ◌≤◌, ◌<◌, ◌⊎◌, inl, inr, ℕ, zero, suc, ◌+◌, Bool, true, false}
+use Rattle.std.proofs.Common.{cond, List, [], ◌∷◌, ◌++◌, map, length, All, Contains, Option, Some}
+use Rattle.std.proofs.Common.{None, Result, Ok, Err, slice_get, bytes_eq, flat_map, append_assoc}
+use Rattle.std.proofs.Common.{codes, refl, sym, ap, subst, ◌∙◌, arith}
+use Rattle.std.specs.Prelude.{◌↔◌, ◌==◌, ◌&&◌, not}
+use Rattle.std.specs.List.{list_any, list_all}
+use Rattle.std.proofs.lemmas.Bool.Decides.{nat_tests}
+use Rattle.std.proofs.lemmas.List.Elements.{Contains-append_left, Contains-append_right}
+use Rattle.std.proofs.lemmas.List.Elements.{Contains-append_cases}
+use Rattle.std.proofs.lemmas.Slice.Eq.{bytes_eq-Decides}
+use Rattle.rvs_base.specs.Host.{Files}
+use Rattle.rvs_base.specs.declared.host.DeviceRun.{DeviceRun}
+use Rattle.rvs_abstract.specs.declared.families.Families.{Families}
+use Rattle.rvs_parts.specs.Parts.{PartValue, has, is_in, parted_from, parted}
+use Rattle.rvs_parts.specs.Laws.{AreApart, IsInOnePart, in_parts, over, in_part}
+use Rattle.rvs_parts.proofs.Adding.{parts_add_up, parts_are_all, one_part_is_all}
+use Rattle.rvs_parts.proofs.Sharing.{things_are_in_one, parts_have_no_more}
+use Rattle.rvs_plan.specs.declared.stop.Stop.{Stop}
+use Rattle.rvs_plan.specs.declared.status.Finish.{Finish}
+use Rattle.rvs_plan.specs.declared.status.Finish.TheVariants.{Done, NotPassed}
+use Rattle.rvs_insn.specs.Isa.{Isa}
+use Rattle.rvs_cgf.specs.Groups.{Label}
+use Rattle.rvs_normal.specs.Again.{names_are_apart}
+use Rattle.rvs_test.specs.Made.{cases_of, text_of_label}
+use Rattle.rvs_test_text.specs.TestText.{step_limit}
+use Rattle.rvs_device.specs.Printed.{verdict_line}
+use Rattle.rvs_select.specs.declared.database.Entry.{Entry}
+use Rattle.rvs_suite.specs.DatabaseInput.{marked_one, marked_from, marked}
+use Rattle.rvs_suite.specs.GenerateTexts.{label_text, total_line, none, with_labels, listing}
+use Rattle.rvs_suite.specs.GroupFiles.{Inputs, and_then, inputs_in, parted_inputs, labels_in}
+use Rattle.rvs_suite.specs.RunDatabase.{Given, chosen_if, chosen}
+use Rattle.rvs_suite.specs.RunLeft.{verdict_by, verdict_lines, passed_onto}
+use Rattle.rvs_suite.specs.RunTests.{Bench, passes, with_one, verdict_of_all}
+use Rattle.rvs_suite.specs.Tests.{test_with, tests_of_label, tests_of}
+use Rattle.rvs_suite.specs.declared.gathering.Test.{Test}
+use Rattle.rvs_suite.proofs.Paths.{same-ending, not-reference, not-executable}
+use Rattle.rvs_suite.proofs.Paths.{reference-not-executable, device-not-executable, not-device}
+use Rattle.rvs_suite.proofs.Paths.{apart-signatures}
+use Rattle.rvs_suite.proofs.Written.{apart-labels}
+use Rattle.rvs_uses.specs.Parted.{part_of, PartsReadAll, label_name, tests_in_part, IsInOne}
+use Rattle.rvs_uses.specs.Parted.{IsFileOf, IsText, IsExecutable, IsReference, IsDevice}
+use Rattle.rvs_uses.specs.Parted.{AreParted, PartsAreApart, PartsList, told_of}
+use Rattle.rvs_uses.specs.Parted.{told_of_label, PartsTell, number_of_tests, number_passed}
+use Rattle.rvs_uses.specs.Parted.{PartsCount, IsDone, PartsPass, DatabasesAreParted}
+
+-- ---- all inputs are read
+alone : (inputs : Inputs) → parted_inputs None inputs ≡ inputs
+alone inputs = ap (λ (ls : List Label). record { isa = inputs.isa; groups = ls })
+    (one_part_is_all inputs.groups).1
+
+read-all : (p : PartValue) (found : Result Inputs Stop)
+    → and_then found (λ inputs. Ok (parted_inputs (Some p) inputs))
+    ≡ and_then (and_then found (λ inputs. Ok (parted_inputs None inputs)))
+    (λ inputs. Ok (parted_inputs (Some p) inputs))
+read-all p (Ok inputs) =
+    ap (λ (i : Inputs). Ok (parted_inputs (Some p) i)) (sym (alone inputs))
+read-all p (Err stop) = refl
+
+pub parts-read-all : PartsReadAll
+parts-read-all files p isa families names = read-all p (inputs_in files isa families names)
+
+-- ---- names tell the labels apart
+not-any : (name : List ℕ) (ls : List Label) (k : ℕ) (m : Label)
+    → list_any (λ (x : Label). bytes_eq name x.name) ls ≡ false → slice_get ls k ≡ Some m
+    → name ≡ m.name → ⊥
+not-any name [] k m none is same = absurd cc
+not-any name (l ∷ ls) zero m none is same =
+    let e : l ≡ m = cc in
+    let first : bytes_eq name l.name ≡ true =
+    (bytes_eq-Decides name l.name).1 (same ∙ sym (ap label_name e)) in
+    by-first (bytes_eq name l.name) first none
+  where
+    by-first : (b : Bool) → b ≡ true
+        → cond b true (list_any (λ (x : Label). bytes_eq name x.name) ls) ≡ false → ⊥
+    by-first true is none = cc
+    by-first false is none = cc
+not-any name (l ∷ ls) (suc k) m none is same =
+    by-first (bytes_eq name l.name) none
+  where
+    by-first : (b : Bool)
+        → cond b true (list_any (λ (x : Label). bytes_eq name x.name) ls) ≡ false → ⊥
+    by-first true none = cc
+    by-first false none = not-any name ls k m none is same
+
+first-own : (a b : Bool) → (not a && b) ≡ true → a ≡ false
+first-own true b is = absurd cc
+first-own false b is = refl
+
+rest-own : (a b : Bool) → (not a && b) ≡ true → b ≡ true
+rest-own true b is = absurd cc
+rest-own false b is = is
+
+names-apart : (ls : List Label) → names_are_apart ls ≡ true → AreApart label_name ls
+names-apart [] apart i k x y here there same = absurd cc
+names-apart (l ∷ ls) apart zero zero x y here there same = refl
+names-apart (l ∷ ls) apart zero (suc k) x y here there same =
+    let e : l ≡ x = cc in
+    absurd (not-any l.name ls k y
+    (first-own (list_any (λ (m : Label). bytes_eq l.name m.name) ls) (names_are_apart ls) apart)
+    there (ap label_name e ∙ same))
+names-apart (l ∷ ls) apart (suc i) zero x y here there same =
+    let e : l ≡ y = cc in
+    absurd (not-any l.name ls i x
+    (first-own (list_any (λ (m : Label). bytes_eq l.name m.name) ls) (names_are_apart ls) apart)
+    here (ap label_name e ∙ sym same))
+names-apart (l ∷ ls) apart (suc i) (suc k) x y here there same =
+    ap suc (names-apart ls
+    (rest-own (list_any (λ (m : Label). bytes_eq l.name m.name) ls) (names_are_apart ls) apart)
+    i k x y here there same)
+
+-- ---- a test is that of a label of its name
+record IsOfLabel (isa : Isa) (ls : List Label) (test : Test) : Type 0 where
+  label : Label
+  among : Contains ls label
+  its : Contains (tests_of_label isa label) test
+  named : test.name ≡ label.name
+
+first-one : (t : Test) (test : Test) → Contains (t ∷ []) test → t ≡ test
+first-one t test (zero, within, is) = is
+first-one t test (suc k, within, is) = absurd (omega (arith, within))
+
+none-has : {X : Type 0} (x : X) → Contains [] x → ⊥
+none-has x (k, within, is) = omega (arith, within)
+
+named-by : (name : List ℕ) (steps : ℕ) (text : Option (List ℕ)) (test : Test)
+    → Contains (test_with name steps text) test → test.name ≡ name
+named-by name steps None test h = absurd (none-has test h)
+named-by name steps (Some text) test h =
+    sym (ap (λ (t : Test). t.name) (first-one (record {
+      name = name;
+      text = text;
+      steps = steps;
+    }) test h))
+
+named-if : (b : Bool) (name : List ℕ) (steps : ℕ) (text : Option (List ℕ)) (test : Test)
+    → Contains (cond b (test_with name steps text) []) test → test.name ≡ name
+named-if true name steps text test h = named-by name steps text test h
+named-if false name steps text test h = absurd (none-has test h)
+
+own-name : (isa : Isa) (l : Label) (test : Test) → Contains (tests_of_label isa l) test
+    → test.name ≡ l.name
+own-name isa l test h =
+    named-if l.selected l.name (step_limit (cases_of isa l)) (text_of_label isa l) test h
+
+later-label : {X : Type 0} (y : X) (ys : List X) (x : X) → Contains ys x → Contains (y ∷ ys) x
+later-label y ys x (k, within, is) = (suc k, omega (arith, within), is)
+
+of-label : (isa : Isa) (ls : List Label) (test : Test) → Contains (tests_of isa ls) test
+    → IsOfLabel isa ls test
+of-label isa [] test h = absurd (none-has test h)
+of-label isa (l ∷ ls) test h =
+    elim (Contains-append_cases (tests_of_label isa l) (tests_of isa ls) test h) [
+      | inl here ↦ record {
+        label = l;
+        among = (zero, omega arith, refl);
+        its = here;
+        named = own-name isa l test here;
+      }
+      | inr later ↦
+          (let o = of-label isa ls test later in
+          record {
+            label = o.label;
+            among = later-label l ls o.label o.among;
+            its = o.its;
+            named = o.named;
+          })
+    ]
+
+has-tests : (isa : Isa) (ls : List Label) (l : Label) (test : Test) → Contains ls l
+    → Contains (tests_of_label isa l) test → Contains (tests_of isa ls) test
+has-tests isa [] l test there its = absurd (none-has l there)
+has-tests isa (m ∷ ls) l test (zero, within, is) its =
+    Contains-append_left (tests_of_label isa m) (tests_of isa ls) test
+    (subst (λ (x : Label). Contains (tests_of_label isa x) test) (sym is) its)
+has-tests isa (m ∷ ls) l test (suc k, within, is) its =
+    Contains-append_right (tests_of_label isa m) (tests_of isa ls) test
+    (has-tests isa ls l test (k, omega (arith, within), is) its)
+
+-- ---- two tests have no file in common
+shared : (work : List ℕ) (one other : Test) (name : List ℕ) → one.name ≢ other.name
+    → IsFileOf work one name → IsFileOf work other name → ⊥
+shared work a b name apart (IsText p) (IsText q) =
+    same-ending work a.name b.name (codes ".S") apart (sym p ∙ q)
+shared work a b name apart (IsText p) (IsExecutable q) =
+    not-executable work a.name b.name (sym p ∙ q)
+shared work a b name apart (IsText p) (IsReference q) =
+    not-reference work a.name b.name (sym p ∙ q)
+shared work a b name apart (IsText p) (IsDevice q) =
+    not-device work a.name b.name (sym p ∙ q)
+shared work a b name apart (IsExecutable p) (IsText q) =
+    not-executable work b.name a.name (sym q ∙ p)
+shared work a b name apart (IsExecutable p) (IsExecutable q) =
+    same-ending work a.name b.name (codes ".elf") apart (sym p ∙ q)
+shared work a b name apart (IsExecutable p) (IsReference q) =
+    reference-not-executable work b.name a.name (sym q ∙ p)
+shared work a b name apart (IsExecutable p) (IsDevice q) =
+    device-not-executable work b.name a.name (sym q ∙ p)
+shared work a b name apart (IsReference p) (IsText q) =
+    not-reference work b.name a.name (sym q ∙ p)
+shared work a b name apart (IsReference p) (IsExecutable q) =
+    reference-not-executable work a.name b.name (sym p ∙ q)
+shared work a b name apart (IsReference p) (IsReference q) =
+    same-ending work a.name b.name (codes ".reference.sig") apart (sym p ∙ q)
+shared work a b name apart (IsReference p) (IsDevice q) =
+    apart-signatures work a.name b.name (sym p ∙ q)
+shared work a b name apart (IsDevice p) (IsText q) =
+    not-device work b.name a.name (sym q ∙ p)
+shared work a b name apart (IsDevice p) (IsExecutable q) =
+    device-not-executable work a.name b.name (sym p ∙ q)
+shared work a b name apart (IsDevice p) (IsReference q) =
+    apart-signatures work b.name a.name (sym q ∙ p)
+shared work a b name apart (IsDevice p) (IsDevice q) =
+    same-ending work a.name b.name (codes ".device.sig") apart (sym p ∙ q)
+
+-- ---- the parts of accepted inputs
+abbrev in-part : Inputs → ℕ → ℕ → List Label
+in-part inputs of at = parted (Some (part_of of at)) inputs.groups
+
+in-one : (inputs : Inputs) (of : ℕ) → 1 ≤ of → AreApart label_name inputs.groups → (test : Test)
+    → Contains (tests_of inputs.isa inputs.groups) test → IsInOne inputs of test
+in-one inputs of some apart test there =
+    let o = of-label inputs.isa inputs.groups test there in
+    let one = things_are_in_one label_name inputs.groups of o.label some apart o.among in
+    record {
+      at = one.at;
+      low = one.low;
+      high = one.high;
+      here = has-tests inputs.isa (in-part inputs of one.at) o.label test one.here o.its;
+      only = λ other inside.
+          let m = of-label inputs.isa (in-part inputs of other) test inside in
+          one.only other m.label m.among (sym m.named ∙ o.named);
+    }
+
+part-apart : (inputs : Inputs) (of a b : ℕ) (one other : Test) → 1 ≤ of
+    → AreApart label_name inputs.groups → Contains (tests_in_part inputs of a) one
+    → Contains (tests_in_part inputs of b) other → one.name ≡ other.name → a ≡ b
+part-apart inputs of a b one other some apart here there same =
+    let l = of-label inputs.isa (in-part inputs of a) one here in
+    let m = of-label inputs.isa (in-part inputs of b) other there in
+    let whole = parts_have_no_more (Some (part_of of a)) inputs.groups l.label l.among in
+    let it = things_are_in_one label_name inputs.groups of l.label some apart whole in
+    it.only a l.label l.among refl
+    ∙ sym (it.only b m.label m.among (sym m.named ∙ sym same ∙ l.named))
+
+pub parts-are-apart : PartsAreApart
+parts-are-apart files isa families names inputs of given some =
+    let apart = names-apart inputs.groups
+    (apart-labels files None isa families names inputs given) in
+    record {
+      labels = λ l there. things_are_in_one label_name inputs.groups of l some apart there;
+      tests = in-one inputs of some apart;
+      files = λ work name a b one other differ here there first second.
+          shared work one other name
+          (λ same. differ (part-apart inputs of a b one other some apart here there same))
+          first second;
+    }
+
+-- ---- what is made of each label goes with its part
+map-by : {X Y : Type 0} (f : X → Y) (b : Bool) (x : X) (rest : List X)
+    → cond b (f x ∷ map f rest) (map f rest) ≡ map f (cond b (x ∷ rest) rest)
+map-by f true x rest = refl
+map-by f false x rest = refl
+
+mapped : {X Y : Type 0} (f : X → Y) (part : Option PartValue) (place : ℕ) (xs : List X)
+    → parted_from part place (map f xs) ≡ map f (parted_from part place xs)
+mapped f part place [] = refl
+mapped f part place (x ∷ xs) =
+    ap (λ ys. cond (is_in part place) (f x ∷ ys) ys) (mapped f part (place + 1) xs)
+    ∙ map-by f (is_in part place) x (parted_from part (place + 1) xs)
+
+flat : {X : Type 0} (f : X → List ℕ) (xs : List X)
+    → flat_map f xs ≡ flat_map (λ (line : List ℕ). line) (map f xs)
+flat f [] = refl
+flat f (x ∷ xs) = ap (λ (rest : List ℕ). f x ++ rest) (flat f xs)
+
+part-flat : {X : Type 0} (f : X → List ℕ) (part : Option PartValue) (xs : List X)
+    → flat_map f (parted part xs)
+    ≡ flat_map (λ (line : List ℕ). line) (parted part (map f xs))
+part-flat f part xs = flat f (parted part xs)
+    ∙ ap (flat_map (λ (line : List ℕ). line)) (sym (mapped f part 0 xs))
+
+pub parts-list : PartsList
+unfolding listing
+parts-list isa labels part =
+    ap (λ (lines : List ℕ). lines ++ total_line (with_labels isa none (parted part labels)))
+    (part-flat (label_text isa) part labels)
+
+-- ---- verdicts
+abbrev lines-on : Bench → (Test → DeviceRun) → List Test → List ℕ
+lines-on bench run tests = verdict_lines bench tests (map run tests)
+
+lines-both : (bench : Bench) (run : Test → DeviceRun) (xs ys : List Test)
+    → lines-on bench run (xs ++ ys) ≡ lines-on bench run xs ++ lines-on bench run ys
+lines-both bench run [] ys = refl
+lines-both bench run (x ∷ xs) ys =
+    let first = verdict_line x.name (verdict_by bench x (run x)) in
+    ap (λ (rest : List ℕ). first ++ rest) (lines-both bench run xs ys)
+    ∙ sym (append_assoc first (lines-on bench run xs) (lines-on bench run ys))
+
+told-flat : (bench : Bench) (run : Test → DeviceRun) (ls : List Label)
+    → told_of bench run ls ≡ flat_map (told_of_label bench run) ls
+told-flat bench run [] = refl
+told-flat bench run (l ∷ ls) =
+    lines-both bench run (tests_of_label bench.isa l) (tests_of bench.isa ls)
+    ∙ ap (λ (rest : List ℕ). told_of_label bench run l ++ rest) (told-flat bench run ls)
+
+pub parts-tell : PartsTell
+parts-tell bench run labels part =
+    told-flat bench run (parted part labels) ∙ part-flat (told_of_label bench run) part labels
+
+-- ---- numbers
+both-lengths : {X : Type 0} (xs ys : List X) → length (xs ++ ys) ≡ length xs + length ys
+both-lengths [] ys = omega arith
+both-lengths (x ∷ xs) ys = let later = both-lengths xs ys in omega (arith, later)
+
+abbrev tests-of-one : Isa → Label → ℕ
+tests-of-one isa l = length (tests_of_label isa l)
+
+tests-over : (isa : Isa) (ls : List Label) → number_of_tests isa ls ≡ over (tests-of-one isa) ls
+tests-over isa [] = refl
+tests-over isa (l ∷ ls) =
+    both-lengths (tests_of_label isa l) (tests_of isa ls)
+    ∙ ap (λ (n : ℕ). tests-of-one isa l + n) (tests-over isa ls)
+
+abbrev passed-on : Bench → (Test → DeviceRun) → ℕ → List Test → ℕ
+passed-on bench run n tests = passed_onto bench n tests (map run tests)
+
+onto-by : (bench : Bench) (run : Test → DeviceRun) (n : ℕ) (b : Bool) (xs : List Test)
+    → ((m : ℕ) → passed-on bench run m xs ≡ m + passed-on bench run 0 xs)
+    → passed-on bench run (with_one n b) xs ≡ n + passed-on bench run (with_one 0 b) xs
+onto-by bench run n true xs later =
+    let one = later (n + 1) in let none = later (0 + 1) in omega (arith, one, none)
+onto-by bench run n false xs later = later n
+
+onto : (bench : Bench) (run : Test → DeviceRun) (n : ℕ) (xs : List Test)
+    → passed-on bench run n xs ≡ n + passed-on bench run 0 xs
+onto bench run n [] = omega arith
+onto bench run n (x ∷ xs) = onto-by bench run n (passes (verdict_by bench x (run x))) xs
+    (λ m. onto bench run m xs)
+
+onto-both : (bench : Bench) (run : Test → DeviceRun) (n : ℕ) (xs ys : List Test)
+    → passed-on bench run n (xs ++ ys) ≡ passed-on bench run (passed-on bench run n xs) ys
+onto-both bench run n [] ys = refl
+onto-both bench run n (x ∷ xs) ys =
+    onto-both bench run (with_one n (passes (verdict_by bench x (run x)))) xs ys
+
+abbrev passed-of-one : Bench → (Test → DeviceRun) → Label → ℕ
+passed-of-one bench run l = passed-on bench run 0 (tests_of_label bench.isa l)
+
+passed-over : (bench : Bench) (run : Test → DeviceRun) (ls : List Label)
+    → number_passed bench run ls ≡ over (passed-of-one bench run) ls
+passed-over bench run [] = refl
+passed-over bench run (l ∷ ls) =
+    onto-both bench run 0 (tests_of_label bench.isa l) (tests_of bench.isa ls)
+    ∙ onto bench run (passed-of-one bench run l) (tests_of bench.isa ls)
+    ∙ ap (λ (n : ℕ). passed-of-one bench run l + n) (passed-over bench run ls)
+
+sum-parts : (number : List Label → ℕ) (f : Label → ℕ)
+    → ((ls : List Label) → number ls ≡ over f ls) → (labels : List Label) (of : ℕ) → 1 ≤ of
+    → in_parts of (λ at. number (parted (Some (part_of of at)) labels)) ≡ number labels
+sum-parts number f sums labels of some =
+    ap (in_parts of) (λ i at. sums (parted (Some (part_of of at)) labels) i)
+    ∙ parts_add_up f labels of some ∙ sym (sums labels)
+
+pub parts-count : PartsCount
+parts-count bench run labels of some = (
+  sum-parts (number_of_tests bench.isa) (tests-of-one bench.isa) (tests-over bench.isa) labels of
+      some,
+  sum-parts (number_passed bench run) (passed-of-one bench run) (passed-over bench run) labels of
+      some,
+)
+
+-- ---- all pass
+abbrev passes-by : Bench → (Test → DeviceRun) → Test → Bool
+passes-by bench run test = passes (verdict_by bench test (run test))
+
+most-pass : (bench : Bench) (run : Test → DeviceRun) (xs : List Test)
+    → passed-on bench run 0 xs ≤ length xs
+most-pass bench run [] = omega arith
+most-pass bench run (x ∷ xs) = by-first (passes-by bench run x)
+  where
+    by-first : (b : Bool) → passed-on bench run (with_one 0 b) xs ≤ suc (length xs)
+    by-first true =
+        let later = most-pass bench run xs in let more = onto bench run (0 + 1) xs in
+        omega (arith, later, more)
+    by-first false = let later = most-pass bench run xs in omega (arith, later)
+
+all-counted : (bench : Bench) (run : Test → DeviceRun) (xs : List Test)
+    → (passed-on bench run 0 xs == length xs) ≡ list_all (passes-by bench run) xs
+all-counted bench run [] = refl
+all-counted bench run (x ∷ xs) = by-first (passes-by bench run x)
+  where
+    by-first : (b : Bool) → (passed-on bench run (with_one 0 b) xs == suc (length xs))
+        ≡ (b && list_all (passes-by bench run) xs)
+    by-first true =
+        let later = all-counted bench run xs in
+        let more = onto bench run (0 + 1) xs in
+        ap (λ (n : ℕ). n == suc (length xs)) more ∙ same (passed-on bench run 0 xs) ∙ later
+      where
+        same : (n : ℕ) → (0 + 1 + n == suc (length xs)) ≡ (n == length xs)
+        same n = grind (arith, nat_tests)
+    by-first false =
+        let later = most-pass bench run xs in grind (arith, nat_tests, later)
+
+all-both : {X : Type 0} (test : X → Bool) (xs ys : List X)
+    → list_all test (xs ++ ys) ≡ (list_all test xs && list_all test ys)
+all-both test [] ys = refl
+all-both test (x ∷ xs) ys = by-first (test x)
+  where
+    by-first : (b : Bool) → (b && list_all test (xs ++ ys))
+        ≡ (b && list_all test xs && list_all test ys)
+    by-first true = all-both test xs ys
+    by-first false = refl
+
+abbrev label-passes : Bench → (Test → DeviceRun) → Label → Bool
+label-passes bench run l = list_all (passes-by bench run) (tests_of_label bench.isa l)
+
+all-labels : (bench : Bench) (run : Test → DeviceRun) (ls : List Label)
+    → list_all (passes-by bench run) (tests_of bench.isa ls) ≡ list_all (label-passes bench run) ls
+all-labels bench run [] = refl
+all-labels bench run (l ∷ ls) =
+    all-both (passes-by bench run) (tests_of_label bench.isa l) (tests_of bench.isa ls)
+    ∙ ap (λ (b : Bool). label-passes bench run l && b) (all-labels bench run ls)
+
+is-counted : (bench : Bench) (run : Test → DeviceRun) (ls : List Label)
+    → (number_passed bench run ls == number_of_tests bench.isa ls)
+    ≡ list_all (label-passes bench run) ls
+is-counted bench run ls =
+    all-counted bench run (tests_of bench.isa ls) ∙ all-labels bench run ls
+
+done-if : (b : Bool) → cond b Done NotPassed ≡ Done → b ≡ true
+done-if true is = refl
+done-if false is = absurd cc
+
+-- the run is done where all labels' tests pass
+to-all : (bench : Bench) (run : Test → DeviceRun) (ls : List Label) → IsDone bench run ls
+    → list_all (label-passes bench run) ls ≡ true
+to-all bench run ls done = sym (is-counted bench run ls)
+    ∙ done-if (number_passed bench run ls == number_of_tests bench.isa ls) done
+
+from-all : (bench : Bench) (run : Test → DeviceRun) (ls : List Label)
+    → list_all (label-passes bench run) ls ≡ true → IsDone bench run ls
+from-all bench run ls all =
+    ap (λ (b : Bool). cond b Done NotPassed) (is-counted bench run ls ∙ all)
+
+pub parts-pass : PartsPass
+parts-pass bench run labels of some =
+    let both = parts_are_all (label-passes bench run) labels of some in (
+      (λ done at low high. from-all bench run (parted (Some (part_of of at)) labels)
+          (both.0 (to-all bench run labels done) at low high)),
+      (λ each. from-all bench run labels (both.1 (λ at low high.
+          to-all bench run (parted (Some (part_of of at)) labels) (each at low high)))),
+    )
+
+-- ---- the tests of a database
+abbrev IsChosen : Option PartValue → ℕ → List Entry → Given → Type 0
+IsChosen part place entries given =
+    Contains (chosen place entries) given × (is_in part given.place ≡ true)
+
+given-cases : (b : Bool) (x : Given) (rest : List Given) (given : Given)
+    → Contains (chosen_if b x rest) given → ((b ≡ true) × (x ≡ given)) ⊎ Contains rest given
+given-cases true x rest given (zero, within, is) = inl (refl, is)
+given-cases true x rest given (suc k, within, is) = inr (k, omega (arith, within), is)
+given-cases false x rest given h = inr h
+
+given-first : (b : Bool) (x : Given) (rest : List Given) → b ≡ true
+    → Contains (chosen_if b x rest) x
+given-first true x rest is = (zero, omega arith, refl)
+given-first false x rest is = absurd cc
+
+given-later : (b : Bool) (x : Given) (rest : List Given) (given : Given) → Contains rest given
+    → Contains (chosen_if b x rest) given
+given-later true x rest given (k, within, is) = (suc k, omega (arith, within), is)
+given-later false x rest given h = h
+
+and-left : (a b : Bool) → (a && b) ≡ true → a ≡ true
+and-left true b is = refl
+and-left false b is = absurd cc
+
+and-right : (a b : Bool) → (a && b) ≡ true → b ≡ true
+and-right true b is = is
+and-right false b is = absurd cc
+
+and-both : (a b : Bool) → a ≡ true → b ≡ true → (a && b) ≡ true
+and-both true b here there = there
+and-both false b here there = absurd cc
+
+next-place : (place : ℕ) → suc place ≡ place + 1
+next-place place = omega arith
+
+chosen-on : (place : ℕ) (entries : List Entry)
+    → chosen (suc place) entries ≡ chosen (place + 1) entries
+chosen-on place entries = ap (λ (n : ℕ). chosen n entries) (next-place place)
+
+parted-chosen : (part : Option PartValue) (place : ℕ) (entries : List Entry) (given : Given)
+    → Contains (chosen place (marked_from part place entries)) given
+    → IsChosen part place entries given
+parted-chosen part place [] given h = absurd (none-has given h)
+parted-chosen part place (e ∷ es) given h =
+    let one : Given = record { place = place; name = e.name } in
+    let rest = marked_from part (place + 1) es in
+    elim (given-cases (e.selected && is_in part place) one (chosen (suc place) rest) given h) [
+      | inl first ↦ (
+        subst (λ (g : Given). Contains (chosen_if e.selected one (chosen (suc place) es)) g)
+            first.1
+            (given-first e.selected one (chosen (suc place) es)
+            (and-left e.selected (is_in part place) first.0)),
+        ap (λ (g : Given). is_in part g.place) (sym first.1)
+            ∙ and-right e.selected (is_in part place) first.0,
+      )
+      | inr later ↦
+          (let h = parted-chosen part (place + 1) es given
+          (subst (λ (gs : List Given). Contains gs given) (chosen-on place rest) later) in (
+            given-later e.selected one (chosen (suc place) es) given
+                (subst (λ (gs : List Given). Contains gs given) (sym (chosen-on place es)) h.0),
+            h.1,
+          ))
+    ]
+
+chosen-parted : (part : Option PartValue) (place : ℕ) (entries : List Entry) (given : Given)
+    → Contains (chosen place entries) given → is_in part given.place ≡ true
+    → Contains (chosen place (marked_from part place entries)) given
+chosen-parted part place [] given h inside = absurd (none-has given h)
+chosen-parted part place (e ∷ es) given h inside =
+    let one : Given = record { place = place; name = e.name } in
+    let rest = marked_from part (place + 1) es in
+    elim (given-cases e.selected one (chosen (suc place) es) given h) [
+      | inl first ↦ subst
+          (λ (g : Given). Contains
+          (chosen_if (e.selected && is_in part place) one (chosen (suc place) rest)) g)
+          first.1
+          (given-first (e.selected && is_in part place) one (chosen (suc place) rest)
+          (and-both e.selected (is_in part place) first.0
+          (ap (λ (g : Given). is_in part g.place) first.1 ∙ inside)))
+      | inr later ↦ given-later (e.selected && is_in part place) one (chosen (suc place) rest)
+          given
+          (subst (λ (gs : List Given). Contains gs given) (sym (chosen-on place rest))
+          (chosen-parted part (place + 1) es given
+          (subst (λ (gs : List Given). Contains gs given) (chosen-on place es) later) inside))
+    ]
+
+pub databases-are-parted : DatabasesAreParted
+databases-are-parted entries p given = (
+  parted-chosen (Some p) 0 entries given,
+  (λ both. chosen-parted (Some p) 0 entries given both.0 both.1),
+)
