@@ -1,2 +1,2 @@
-mod Adding
-mod Sharing
+pub mod Adding
+pub mod Sharing

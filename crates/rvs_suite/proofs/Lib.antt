@@ -51,7 +51,7 @@ mod Counted
 pub mod Signed
 mod Standing
 pub mod StepLimits
-mod Paths
+pub mod Paths
 mod ImageRegions
 mod DatabaseExecutables
 mod DatabasePasses

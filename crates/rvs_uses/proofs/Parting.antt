@@ -3,7 +3,7 @@ use Rattle.std.proofs.Common.{◌≡◌, ◌≢◌, ◌≤◌, ◌<◌, ◌⊎�
 use Rattle.std.proofs.Common.{cond, List, [], ◌∷◌, ◌++◌, map, length, All, Contains, Option, Some}
 use Rattle.std.proofs.Common.{None, Result, Ok, Err, slice_get, bytes_eq, flat_map, append_assoc}
 use Rattle.std.proofs.Common.{codes, refl, sym, ap, subst, ◌∙◌, arith}
-use Rattle.std.specs.Prelude.{◌↔◌, ◌==◌, ◌&&◌, not}
+use Rattle.std.specs.Prelude.{◌==◌, ◌&&◌, ◌||◌, not}
 use Rattle.std.specs.List.{list_any, list_all}
 use Rattle.std.proofs.lemmas.Bool.Decides.{nat_tests}
 use Rattle.std.proofs.lemmas.List.Elements.{Contains-append_left, Contains-append_right}
@@ -64,24 +64,25 @@ parts-read-all files p isa families names = read-all p (inputs_in files isa fami
 not-any : (name : List ℕ) (ls : List Label) (k : ℕ) (m : Label)
     → list_any (λ (x : Label). bytes_eq name x.name) ls ≡ false → slice_get ls k ≡ Some m
     → name ≡ m.name → ⊥
-not-any name [] k m none is same = absurd cc
-not-any name (l ∷ ls) zero m none is same =
+not-any name [] k m others is same = absurd cc
+not-any name (l ∷ ls) zero m others is same =
     let e : l ≡ m = cc in
     let first : bytes_eq name l.name ≡ true =
     (bytes_eq-Decides name l.name).1 (same ∙ sym (ap label_name e)) in
-    by-first (bytes_eq name l.name) first none
+    by-first (bytes_eq name l.name) first others
   where
     by-first : (b : Bool) → b ≡ true
-        → cond b true (list_any (λ (x : Label). bytes_eq name x.name) ls) ≡ false → ⊥
-    by-first true is none = cc
-    by-first false is none = cc
-not-any name (l ∷ ls) (suc k) m none is same =
-    by-first (bytes_eq name l.name) none
+        → (b || list_any (λ (x : Label). bytes_eq name x.name) ls) ≡ false → ⊥
+    by-first true is others = cc
+    by-first false is others = cc
+not-any name (l ∷ ls) (suc k) m others is same =
+    by-first (bytes_eq name l.name) others (λ later. not-any name ls k m later is same)
   where
     by-first : (b : Bool)
-        → cond b true (list_any (λ (x : Label). bytes_eq name x.name) ls) ≡ false → ⊥
-    by-first true none = cc
-    by-first false none = not-any name ls k m none is same
+        → (b || list_any (λ (x : Label). bytes_eq name x.name) ls) ≡ false
+        → (list_any (λ (x : Label). bytes_eq name x.name) ls ≡ false → ⊥) → ⊥
+    by-first true others later = cc
+    by-first false others later = later others
 
 first-own : (a b : Bool) → (not a && b) ≡ true → a ≡ false
 first-own true b is = absurd cc
@@ -378,40 +379,43 @@ passes-by bench run test = passes (verdict_by bench test (run test))
 most-pass : (bench : Bench) (run : Test → DeviceRun) (xs : List Test)
     → passed-on bench run 0 xs ≤ length xs
 most-pass bench run [] = omega arith
-most-pass bench run (x ∷ xs) = by-first (passes-by bench run x)
+most-pass bench run (x ∷ xs) = by-first (passes-by bench run x) (most-pass bench run xs)
   where
-    by-first : (b : Bool) → passed-on bench run (with_one 0 b) xs ≤ suc (length xs)
-    by-first true =
-        let later = most-pass bench run xs in let more = onto bench run (0 + 1) xs in
-        omega (arith, later, more)
-    by-first false = let later = most-pass bench run xs in omega (arith, later)
+    by-first : (b : Bool) → passed-on bench run 0 xs ≤ length xs
+        → passed-on bench run (with_one 0 b) xs ≤ suc (length xs)
+    by-first true later = let more = onto bench run (0 + 1) xs in omega (arith, later, more)
+    by-first false later = omega (arith, later)
+
+one-less : (n m : ℕ) → (0 + 1 + n == suc m) ≡ (n == m)
+one-less n m = grind (arith, nat_tests)
+
+too-few : (n m : ℕ) → n ≤ m → (n == suc m) ≡ false
+too-few n m most = grind (arith, nat_tests)
 
 all-counted : (bench : Bench) (run : Test → DeviceRun) (xs : List Test)
     → (passed-on bench run 0 xs == length xs) ≡ list_all (passes-by bench run) xs
 all-counted bench run [] = refl
-all-counted bench run (x ∷ xs) = by-first (passes-by bench run x)
+all-counted bench run (x ∷ xs) = by-first (passes-by bench run x) (all-counted bench run xs)
   where
-    by-first : (b : Bool) → (passed-on bench run (with_one 0 b) xs == suc (length xs))
+    by-first : (b : Bool)
+        → (passed-on bench run 0 xs == length xs) ≡ list_all (passes-by bench run) xs
+        → (passed-on bench run (with_one 0 b) xs == suc (length xs))
         ≡ (b && list_all (passes-by bench run) xs)
-    by-first true =
-        let later = all-counted bench run xs in
-        let more = onto bench run (0 + 1) xs in
-        ap (λ (n : ℕ). n == suc (length xs)) more ∙ same (passed-on bench run 0 xs) ∙ later
-      where
-        same : (n : ℕ) → (0 + 1 + n == suc (length xs)) ≡ (n == length xs)
-        same n = grind (arith, nat_tests)
-    by-first false =
-        let later = most-pass bench run xs in grind (arith, nat_tests, later)
+    by-first true later =
+        ap (λ (n : ℕ). n == suc (length xs)) (onto bench run (0 + 1) xs)
+        ∙ one-less (passed-on bench run 0 xs) (length xs) ∙ later
+    by-first false later =
+        too-few (passed-on bench run 0 xs) (length xs) (most-pass bench run xs)
 
 all-both : {X : Type 0} (test : X → Bool) (xs ys : List X)
     → list_all test (xs ++ ys) ≡ (list_all test xs && list_all test ys)
 all-both test [] ys = refl
-all-both test (x ∷ xs) ys = by-first (test x)
+all-both test (x ∷ xs) ys = by-first (test x) (all-both test xs ys)
   where
-    by-first : (b : Bool) → (b && list_all test (xs ++ ys))
-        ≡ (b && list_all test xs && list_all test ys)
-    by-first true = all-both test xs ys
-    by-first false = refl
+    by-first : (b : Bool) → list_all test (xs ++ ys) ≡ (list_all test xs && list_all test ys)
+        → (b && list_all test (xs ++ ys)) ≡ ((b && list_all test xs) && list_all test ys)
+    by-first true later = later
+    by-first false later = refl
 
 abbrev label-passes : Bench → (Test → DeviceRun) → Label → Bool
 label-passes bench run l = list_all (passes-by bench run) (tests_of_label bench.isa l)

@@ -45,7 +45,7 @@ pub fn tests_of_accepted_inputs()
 /// A verdict of `run` on a test is a pass exactly where what the device left spells the words of
 /// the reference machine.
 pub fn a_pass_means_the_reference_words()
-    ensures passes { PassesBySpelling }
+    ensures { PassesBySpelling }
 {}
 
 /// What holds of each run that `reference` tells of: it halts, its log has the executed
