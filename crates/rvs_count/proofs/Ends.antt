@@ -83,3 +83,8 @@ pub counted_labels : (labels : List Label) (windows : List Window) (bytes : List
     → (state_of labels windows bytes n).tally.labels ≡ labels
 unfolding state_of
 counted_labels labels windows bytes n = refl
+
+pub counted_windows : (labels : List Label) (windows : List Window) (bytes : List ℕ) (n : ℕ)
+    → (state_of labels windows bytes n).tally.windows ≡ windows
+unfolding state_of
+counted_windows labels windows bytes n = refl

@@ -1,10 +1,24 @@
 -- A file that is taken piece by piece.
-use Rattle.std.proofs.Common.{◌≡◌, ◌≤◌, ◌+◌, ℕ, true, is_some, List, [], ◌++◌, length, take, drop}
-use Rattle.std.proofs.Common.{Option, Some, None, refl, sym, ap, ◌∙◌, arith}
+use Rattle.std.proofs.Common.{◌≡◌, ◌≤◌, ◌<◌, ◌+◌, ℕ, Bool, true, false, is_some, List, [], ◌++◌}
+use Rattle.std.proofs.Common.{length, take, drop, Option, Some, None, Result, Ok, Err, nat_lt, refl}
+use Rattle.std.proofs.Common.{sym, ap, ◌∙◌, arith}
+use Rattle.std.specs.Prelude.{OnErr}
+use Rattle.std.proofs.lemmas.Bool.{ltb-true, ltb-false}
 use Rattle.std.proofs.lemmas.List.{append_assoc, append-nil, length-append, length-take-le}
 use Rattle.rvs_base.specs.File.{ReadsAtMost}
 use Rattle.rvs_base.specs.Host.{HostState, Files, Tells, ReadsOnly, IsUnread, Opens, Takes}
 use Rattle.rvs_base.proofs.Reading.{ReadsOnly-then}
+
+pub on-err : {T E : Type 0} (r : Result T E) (P : Type 0) → P → OnErr r P
+on-err (Ok x) P p = tt
+on-err (Err e) P p = p
+
+pub not-above : (n most : ℕ) → (most < n → ⊥) → n ≤ most
+not-above n most never = by-test (nat_lt most n) refl
+  where
+    by-test : (b : Bool) → nat_lt most n ≡ b → n ≤ most
+    by-test true e = absurd (never (ltb-true most n e))
+    by-test false e = ltb-false most n e
 
 -- the file is open, and these bytes of it were taken, from its start on
 pub record HasTaken (name : List ℕ) (old now : HostState) (bytes : List ℕ) : Type 0 where

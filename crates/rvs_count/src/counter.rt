@@ -158,8 +158,18 @@ impl<'g> Counter<'g> {
             self.new ≡ state_of labels windows (ended bytes) n }
         ensures ended { self.new.waiting ≡ Some [] }
         ensures again { self.old.waiting ≡ Some [] → self.new ≡ self.old }
+        ensures low { self.new.fed ≤ log_limit }
     {
         take_last(&mut self.tally, &mut self.follow);
+    }
+
+    /// Begins another log: as a new counter, for the same groups and windows. It takes no memory.
+    pub fn restart(&mut self)
+        ensures { self.new ≡ state_of self.old.tally.labels self.old.tally.windows [] 0 }
+    {
+        self.tally.restart();
+        self.follow = Follow::new();
+        self.fed = 0;
     }
 
     /// How often each point was hit: the points of the selected labels in order.

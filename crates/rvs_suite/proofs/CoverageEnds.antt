@@ -33,7 +33,7 @@ use Rattle.rvs_suite.specs.Summing.{sum_up_to_most, over, summed}
 use Rattle.rvs_suite.proofs.Sums.{plus_map, AreLow, summed_all, over_map, zeros_map, map_map}
 use Rattle.rvs_suite.proofs.Sums.{total_map}
 use Rattle.rvs_suite.proofs.LogAmounts.{log-few, kept-few, count-few}
-use Rattle.rvs_suite.proofs.LogLimits.{coverage-few}
+use Rattle.rvs_suite.proofs.WordLimits.{coverage-few}
 use Rattle.rvs_suite.proofs.LogReads.{reads-reported, finds-reported, known_of, found-report}
 use Rattle.rvs_suite.proofs.LogReads.{few-logs}
 use Rattle.rvs_suite.proofs.Keeping.{WritesNone, WritesNone-then, reads-none, keeps}

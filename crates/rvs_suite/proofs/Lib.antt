@@ -22,7 +22,6 @@ mod NormalPlan
 mod NormalizeEnds
 mod Sums
 mod LogAmounts
-mod LogLimits
 mod LogReads
 mod ImageBytes
 pub mod LogEntries
@@ -63,3 +62,5 @@ mod DatabaseRuns
 mod DatabaseSpares
 mod DatabaseEnds
 mod PartsKept
+mod InAll
+mod WordLimits

@@ -40,7 +40,7 @@ use Rattle.rvs_suite.proofs.CoverageEnds.{counted-report}
 use Rattle.rvs_suite.proofs.Sums.{plus_map, AreLow, summed_all, over_map, zeros_map, map_map}
 use Rattle.rvs_suite.proofs.Sums.{total_map}
 use Rattle.rvs_suite.proofs.LogAmounts.{log-few, count-few}
-use Rattle.rvs_suite.proofs.LogLimits.{propagate-few}
+use Rattle.rvs_suite.proofs.WordLimits.{propagate-few}
 use Rattle.rvs_suite.proofs.LogReads.{reads-reported, finds-reported, known_of, as-many}
 use Rattle.rvs_suite.proofs.LogReads.{few-logs, found-report}
 use Rattle.rvs_suite.proofs.OneReached.{one-reached}

@@ -1,5 +1,5 @@
 -- What `coverage` does.
-use Rattle.std.specs.Prelude.{ℕ, List, [], ◌∷◌, ◌++◌, map, length, replicate, Result}
+use Rattle.std.specs.Prelude.{◌≡◌, ℕ, List, [], ◌∷◌, ◌++◌, map, length, replicate, Result}
 use Rattle.rvs_base.specs.Host.{Files}
 use Rattle.rvs_plan.specs.Plan.{Plan, ◌>>=◌}
 use Rattle.rvs_plan.specs.declared.stop.Stop.{Stop}
@@ -8,6 +8,7 @@ use Rattle.rvs_log.specs.Entries.{entries_of}
 use Rattle.rvs_cgf.specs.Groups.{Label}
 use Rattle.rvs_count.specs.Counting.{aims_of, count, kept}
 use Rattle.rvs_count.specs.Report.{report_of}
+use Rattle.rvs_count.specs.State.{CountState}
 use Rattle.rvs_suite.specs.declared.covering.Covered.{Covered}
 use Rattle.rvs_base.specs.declared.asked.Window.{Window}
 use Rattle.rvs_suite.specs.Printing.{print_text}
@@ -42,6 +43,11 @@ file_name name = name
 
 abbrev pub counts_more : List Window → List Label → List ℕ → Covered → List ℕ → Covered
 counts_more windows groups name = counted_with windows groups
+
+-- the counters have the same groups and windows
+pub record IsAlike (old new : CountState) : Type 0 where
+  pub labels : new.tally.labels ≡ old.tally.labels
+  pub windows : new.tally.windows ≡ old.tally.windows
 
 -- for the windows of a command line
 abbrev pub measure : List Window → Measure (List ℕ) Covered

@@ -1,5 +1,5 @@
 // The command `coverage`.
-ghost use Rattle.std.specs.Prelude.{◌≡◌, ◌≤◌, ◌^◌, [], ℕ, List, IfOk, length};
+ghost use Rattle.std.specs.Prelude.{◌≡◌, ◌≤◌, ◌^◌, [], ℕ, List, IfOk, OnOk, length};
 ghost use Rattle.rvs_base.specs.Sink.{SinkState};
 ghost use Rattle.rvs_plan.specs.World.{world};
 ghost use Rattle.rvs_plan.specs.Meets.{Meets};
@@ -9,7 +9,7 @@ ghost use Rattle.rvs_count.specs.State.{ended, state_of};
 ghost use Rattle.rvs_base.specs.declared.asked.Window.{Window as Span};
 ghost use Rattle.rvs_suite.specs.GroupsView.{groups_view};
 ghost use Rattle.rvs_suite.specs.Coverage.{uncounted, counted_with, report_on, measure, reported};
-ghost use Rattle.rvs_suite.specs.Coverage.{file_name, counts_more, coverage};
+ghost use Rattle.rvs_suite.specs.Coverage.{IsAlike, file_name, counts_more, coverage};
 ghost use Rattle.rvs_log.specs.Lines.{log_limit};
 ghost use Rattle.rvs_suite.specs.LogReport.{takes_log, takes_logs, reads_logs};
 
@@ -17,7 +17,7 @@ use crate::group_files::read_inputs;
 use crate::log_lines::under_lines;
 use crate::printing::print_text;
 use crate::summing::{plus_each, total_of, with_number};
-use rvs_base::{Host, Items, NoMemory, Sink, Text, Window};
+use rvs_base::{Host, Items, NoMemory, Sink, Text};
 use rvs_cgf::Groups;
 use rvs_count::{Counter, LogFault, count_file, report_text, zeros};
 use rvs_plan::{Finish, Stop, too_long};
@@ -115,7 +115,7 @@ fn nothing(alloc: Global, groups: &Groups, logs: usize) -> Result<Covered, NoMem
     })
 }
 
-/// Counts in all logs, one after the other.
+/// Counts in all logs, one after the other, with one counter.
 fn count_all<H: Host>(
     alloc: Global,
     host: &mut H,
@@ -131,27 +131,28 @@ fn count_all<H: Host>(
     let logs = asked.logs.as_slice();
     let none = nothing(alloc, groups, logs.len())?;
     let windows = asked.windows.as_slice();
-    count_onto(alloc, host, groups, windows, none, logs)
+    let kept = Items::from(windows.to_vec(alloc)?);
+    let mut counter = Counter::new(alloc, groups, kept)?;
+    count_onto(alloc, host, &mut counter, none, logs)
 }
 
 /// Counts in some logs more, one after the other.
 fn count_onto<H: Host>(
     alloc: Global,
     host: &mut H,
-    groups: &Groups,
-    windows: &[Window],
+    counter: &mut Counter<'_>,
     none: Covered,
     logs: &[Text],
 ) -> Result<Covered, Stop>
-    requires { length none.counts ≡ length (aims_in groups.now) }
     ensures met { (out : SinkState) → Meets
-        (takes_logs file_name (counts_more windows.now (groups_view groups.now)) none logs.now)
+        (takes_logs file_name (counts_more counter.old.tally.windows
+        (groups_view counter.old.tally.labels)) none logs.now)
         (world (H.state host.old) out) (world (H.state host.new) out) result }
-    ensures long { IfOk result (λ c. length c.counts ≡ length (aims_in groups.now)) }
+    ensures long { IfOk result (λ c. length c.counts ≡ length none.counts) }
 {
     let mut counted = none;
     for log in logs {
-        counted = count_one(alloc, host, groups, windows, counted, log.as_str())?;
+        counted = count_one(alloc, host, counter, counted, log.as_str())?;
     }
     Ok(counted)
 }
@@ -160,22 +161,22 @@ fn count_onto<H: Host>(
 fn count_one<H: Host>(
     alloc: Global,
     host: &mut H,
-    groups: &Groups,
-    windows: &[Window],
+    counter: &mut Counter<'_>,
     counted: Covered,
     log: &str,
 ) -> Result<Covered, Stop>
     ensures met { (out : SinkState) → Meets
-        (takes_log (counted_with windows.now (groups_view groups.now)) counted log.now)
+        (takes_log (counted_with counter.old.tally.windows
+        (groups_view counter.old.tally.labels)) counted log.now)
         (world (H.state host.old) out) (world (H.state host.new) out) result }
     ensures long { IfOk result (λ c. length c.counts ≡ length counted.counts) }
+    ensures same { OnOk result (IsAlike counter.old counter.new) }
 {
-    let kept = Items::from(windows.to_vec(alloc)?);
-    let mut counter = Counter::new(alloc, groups, kept)?;
-    count_with(alloc, host, &mut counter, counted, log)
+    counter.restart();
+    count_with(alloc, host, counter, counted, log)
 }
 
-/// Counts in the named log with a new counter, onto what was counted before.
+/// Counts in the named log with a counter that was fed nothing, onto what was counted before.
 // The buffer for the log would lie on the stack under every command if this were inlined.
 #[inline(never)]
 fn count_with<H: Host>(
@@ -186,10 +187,13 @@ fn count_with<H: Host>(
     log: &str,
 ) -> Result<Covered, Stop>
     ensures met { (out : SinkState) (groups : List Label) (windows : List Span)
-        → counter.old ≡ state_of groups windows [] 0 → counter.new.fed ≤ log_limit
+        → counter.old ≡ state_of groups windows [] 0
         → Meets (takes_log (counted_with windows (groups_view groups)) counted log.now)
         (world (H.state host.old) out) (world (H.state host.new) out) result }
     ensures long { IfOk result (λ c. length c.counts ≡ length counted.counts) }
+    ensures same { (groups : List Label) (windows : List Span)
+        → counter.old ≡ state_of groups windows [] 0
+        → OnOk result (IsAlike counter.old counter.new) }
 {
     let name = owned(alloc, log)?;
     match count_file(host, log, counter) {
@@ -209,6 +213,7 @@ fn with_ended(counted: Covered, counter: &mut Counter<'_>) -> Result<Covered, No
         → counter.old ≡ state_of labels windows bytes n
         → IfOk result (λ c. c ≡ counted_with windows (groups_view labels) counted bytes) }
     ensures long { IfOk result (λ c. length c.counts ≡ length counted.counts) }
+    ensures low { counter.new.fed ≤ log_limit }
 {
     counter.finish();
     let Covered {

@@ -1,5 +1,5 @@
 // The command `propagate`.
-ghost use Rattle.std.specs.Prelude.{◌≡◌, ◌≤◌, ◌^◌, [], ℕ, List, IfOk, length, map};
+ghost use Rattle.std.specs.Prelude.{◌≡◌, ◌≤◌, ◌^◌, [], ℕ, List, IfOk, OnOk, length, map};
 ghost use Rattle.rvs_base.specs.Sink.{SinkState};
 ghost use Rattle.rvs_plan.specs.World.{world};
 ghost use Rattle.rvs_plan.specs.Meets.{Meets};
@@ -132,7 +132,7 @@ fn nothing(alloc: Global, groups: &Groups, logs: usize) -> Result<Traced, NoMemo
     })
 }
 
-/// Tracks hits in all logs, one after the other.
+/// Tracks hits in all logs, one after the other, with one tracker.
 fn track_all<H: Host>(
     alloc: Global,
     host: &mut H,
@@ -147,29 +147,29 @@ fn track_all<H: Host>(
 {
     let logs = asked.logs.as_slice();
     let none = nothing(alloc, groups, logs.len())?;
-    track_onto(alloc, host, groups, none, logs)
+    let mut tracker = Tracker::new(alloc, groups, 0, 0)?;
+    track_onto(alloc, host, &mut tracker, none, logs)
 }
 
 /// Tracks hits in some logs more, one after the other.
 fn track_onto<H: Host>(
     alloc: Global,
     host: &mut H,
-    groups: &Groups,
+    tracker: &mut Tracker<'_>,
     none: Traced,
     logs: &[SignedLog],
 ) -> Result<Traced, Stop>
-    requires { AreLong (length (aims_in groups.now)) none }
     ensures met { (out : SinkState) → Meets
-        (takes_logs file_name (tracks_more (groups_view groups.now)) none logs.now)
+        (takes_logs file_name (tracks_more (groups_view tracker.old.trail.labels)) none logs.now)
         (world (H.state host.old) out) (world (H.state host.new) out) result }
-    ensures long { IfOk result (AreLong (length (aims_in groups.now))) }
+    ensures long { (n : ℕ) → AreLong n none → IfOk result (AreLong n) }
 {
     let mut tracked = none;
     for log in logs {
         tracked = track_one(
             alloc,
             host,
-            groups,
+            tracker,
             log.signature,
             tracked,
             log.name.as_str(),
@@ -182,21 +182,22 @@ fn track_onto<H: Host>(
 fn track_one<H: Host>(
     alloc: Global,
     host: &mut H,
-    groups: &Groups,
+    tracker: &mut Tracker<'_>,
     range: Window,
     tracked: Traced,
     log: &str,
 ) -> Result<Traced, Stop>
     ensures met { (out : SinkState) → Meets
-        (takes_log (tracked_with range (groups_view groups.now)) tracked log.now)
+        (takes_log (tracked_with range (groups_view tracker.old.trail.labels)) tracked log.now)
         (world (H.state host.old) out) (world (H.state host.new) out) result }
     ensures long { (n : ℕ) → AreLong n tracked → IfOk result (AreLong n) }
+    ensures same { OnOk result (tracker.new.trail.labels ≡ tracker.old.trail.labels) }
 {
-    let mut tracker = Tracker::new(alloc, groups, range.lo, range.hi)?;
-    track_with(alloc, host, &mut tracker, tracked, log)
+    tracker.restart(range.lo, range.hi);
+    track_with(alloc, host, tracker, tracked, log)
 }
 
-/// Tracks hits in the named log with a new tracker, onto what was tracked before.
+/// Tracks hits in the named log with a tracker that was fed nothing, onto what was tracked before.
 // The buffer for the log would lie on the stack under every command if this were inlined.
 #[inline(never)]
 fn track_with<H: Host>(
@@ -207,10 +208,13 @@ fn track_with<H: Host>(
     log: &str,
 ) -> Result<Traced, Stop>
     ensures met { (out : SinkState) (groups : List Label) (range : Span)
-        → tracker.old ≡ state_of groups range.lo range.hi [] 0 → tracker.new.fed ≤ log_limit
+        → tracker.old ≡ state_of groups range.lo range.hi [] 0
         → Meets (takes_log (tracked_with range (groups_view groups)) tracked log.now)
         (world (H.state host.old) out) (world (H.state host.new) out) result }
     ensures long { (n : ℕ) → AreLong n tracked → IfOk result (AreLong n) }
+    ensures same { (groups : List Label) (range : Span)
+        → tracker.old ≡ state_of groups range.lo range.hi [] 0
+        → OnOk result (tracker.new.trail.labels ≡ tracker.old.trail.labels) }
 {
     let name = owned(alloc, log)?;
     match track_file(host, log, tracker) {
@@ -230,6 +234,7 @@ fn with_ended(tracked: Traced, tracker: &mut Tracker<'_>) -> Result<Traced, NoMe
         → tracker.old ≡ state_of labels range.lo range.hi bytes n
         → IfOk result (λ t. t ≡ tracked_with range (groups_view labels) tracked bytes) }
     ensures long { (n : ℕ) → AreLong n tracked → IfOk result (AreLong n) }
+    ensures low { tracker.new.fed ≤ log_limit }
 {
     tracker.finish();
     let Traced {

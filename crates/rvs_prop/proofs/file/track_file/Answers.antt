@@ -1,25 +1,11 @@
-use Rattle.std.proofs.Common.{List, ℕ, Result, Ok, Err, ◌+◌, ◌^◌, ◌<◌, ◌∙◌, refl, sym, subst}
-use Rattle.std.proofs.Common.{length, arith, ◌≡◌, ◌≤◌, Bool, true, false, nat_lt}
-use Rattle.std.proofs.lemmas.Bool.{ltb-true, ltb-false}
+use Rattle.std.proofs.Common.{List, ℕ, ◌+◌, ◌^◌, ◌<◌, ◌≤◌, ◌∙◌, refl, sym, subst, length, arith}
 use Rattle.std.proofs.lemmas.Result.{err_from_is_err_and}
-use Rattle.std.specs.Prelude.{OnErr}
 use Rattle.rvs_prop.specs.Feeds.{Fed, FeedsFront}
 use Rattle.rvs_prop.specs.State.{TrackState}
 use Rattle.rvs_prop.proofs.Feeding.{HasFed-start, HasFed-more, HasFed-whole, HasFed-front}
 use Rattle.rvs_prop.proofs.Feeding.{HasFed-long}
-use Rattle.rvs_count.proofs.Taking.{HasTaken-most, HasTaken-failed}
+use Rattle.rvs_count.proofs.Taking.{HasTaken-most, HasTaken-failed, not-above, on-err}
 use Rattle.rvs_prop.proofs.file.track_file.Goals as goal
-
-on_err : {T E : Type 0} (r : Result T E) (P : Type 0) → P → OnErr r P
-on_err (Ok x) P p = tt
-on_err (Err e) P p = p
-
-not-above : (n most : ℕ) → (most < n → ⊥) → n ≤ most
-not-above n most never = by-test (nat_lt most n) refl
-  where
-    by-test : (b : Bool) → nat_lt most n ≡ b → n ≤ most
-    by-test true e = absurd (never (ltb-true most n e))
-    by-test false e = ltb-false most n e
 
 pub pieces-init : goal.pieces-init
 pieces-init g c =
@@ -29,7 +15,7 @@ pieces-init g c =
 
 pub returns-in_err-count-clause-front : goal.returns-in_err-count-clause-front
 returns-in_err-count-clause-front g c =
-    on_err c.from_residual-in_err-count.result
+    on-err c.from_residual-in_err-count.result
     (FeedsFront c.args.name.now (g.H.Host.state c.args.host.now) c.args.tracker.now
     c.pieces.tracker)
     (HasFed-front c.pieces.invariant)
@@ -68,7 +54,7 @@ pub returns-in_err-feed-clause-front : goal.returns-in_err-feed-clause-front
 returns-in_err-feed-clause-front g c =
     let P : TrackState → Type 0 =
     λ k. FeedsFront c.args.name.now (g.H.Host.state c.args.host.now) c.args.tracker.now k in
-    on_err c.from_residual-in_err-feed.result (P c.feed.new.self)
+    on-err c.from_residual-in_err-feed.result (P c.feed.new.self)
     (subst P (sym c.in_err-feed.ensures.unchanged) (HasFed-front c.pieces.invariant))
 
 pub returns-in_err-feed-clause-cause : goal.returns-in_err-feed-clause-cause

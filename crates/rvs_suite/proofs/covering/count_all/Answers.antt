@@ -1,5 +1,9 @@
-use Rattle.std.proofs.Common.{subst}
+use Rattle.std.proofs.Common.{◌≡◌, List, [], ap, ◌∙◌, subst}
 use Rattle.std.proofs.lemmas.Result.{err_from_is_err_and}
+use Rattle.rvs_base.specs.declared.asked.Window.{Window as Span}
+use Rattle.rvs_cgf.specs.declared.group.Label.{Label}
+use Rattle.rvs_count.specs.State.{CountState, state_of}
+use Rattle.rvs_count.proofs.Ends.{counted_labels, counted_windows}
 use Rattle.rvs_plan.specs.World.{world}
 use Rattle.rvs_plan.proofs.Sequence.{Meets-no_memory}
 use Rattle.rvs_plan.specs.Meets.{Meets}
@@ -14,11 +18,38 @@ returns-in_err-none-clause-met g c = λ out.
     let p = err_from_is_err_and c.from_residual.result c.from_residual.ensures.1 in
     rw (p.1, p.2) (Meets-no_memory _ (world (g.H.Host.state c.args.host.now) out))
 
+pub returns-in_err-to_vec-clause-met : goal.returns-in_err-to_vec-clause-met
+returns-in_err-to_vec-clause-met g c = λ out.
+    let p = err_from_is_err_and c.from_residual-in_err-to_vec.result
+    c.from_residual-in_err-to_vec.ensures.1 in
+    rw (p.1, p.2) (Meets-no_memory _ (world (g.H.Host.state c.args.host.now) out))
+
+pub returns-in_err-counter-clause-met : goal.returns-in_err-counter-clause-met
+returns-in_err-counter-clause-met g c = λ out.
+    let p = err_from_is_err_and c.from_residual-in_err-counter.result
+    c.from_residual-in_err-counter.ensures.1 in
+    rw (p.1, p.2) (Meets-no_memory _ (world (g.H.Host.state c.args.host.now) out))
+
 pub returns-clause-met : goal.returns-clause-met
 returns-clause-met g c = λ out.
     let asked = c.args.asked.now in
-    let more = counts_more asked.windows (groups_view c.args.groups.now) in
+    let groups = c.args.groups.now in
     let old = world (g.H.Host.state c.args.host.now) out in
     let new = world (g.H.Host.state c.count_onto.new.host) out in
-    subst (λ (none : Covered). Meets (takes_logs file_name more none asked.logs) old new c.count_onto.result)
-    c.in_ok-none.ensures.counted (rw (c.as_slice-windows.ensures, c.as_slice-logs.ensures) at (c.count_onto.ensures.met out))
+    let kept : c.from-kept.result ≡ asked.windows = c.from-kept.ensures
+    ∙ c.in_ok-to_vec.ensures.items_if_clones_equal (λ x y e. e) ∙ c.as_slice-windows.ensures in
+    let begun : c.in_ok-counter.counter ≡ state_of groups asked.windows [] 0 =
+    c.in_ok-counter.ensures ∙ ap (λ (w : List Span). state_of groups w [] 0) kept in
+    let labels = ap (λ (s : CountState). s.tally.labels) begun
+    ∙ counted_labels groups asked.windows [] 0 in
+    let windows = ap (λ (s : CountState). s.tally.windows) begun
+    ∙ counted_windows groups asked.windows [] 0 in
+    let met = rw c.as_slice-logs.ensures at (c.count_onto.ensures.met out) in
+    let P : List Label → Type 0 = λ ls. Meets (takes_logs file_name (counts_more
+    c.in_ok-counter.counter.tally.windows (groups_view ls)) c.in_ok-none.none asked.logs)
+    old new c.count_onto.result in
+    let Q : List Span → Type 0 = λ w. Meets (takes_logs file_name (counts_more w
+    (groups_view groups)) c.in_ok-none.none asked.logs) old new c.count_onto.result in
+    let R : Covered → Type 0 = λ none. Meets (takes_logs file_name (counts_more asked.windows
+    (groups_view groups)) none asked.logs) old new c.count_onto.result in
+    subst R c.in_ok-none.ensures.counted (subst Q windows (subst P labels met))

@@ -1,20 +1,36 @@
-use Rattle.std.proofs.Common.{◌≡◌, ◌+◌, ◌∷◌, ◌∙◌, List, ℕ, Ok, Err, drop, ap, sym, subst}
+use Rattle.std.proofs.Common.{◌≡◌, ◌+◌, ◌∷◌, ◌∙◌, List, ℕ, Result, Ok, Err, drop, ap, sym, subst}
 use Rattle.std.proofs.lemmas.List.{drop_more, drop_all}
 use Rattle.std.proofs.lemmas.Result.{err_from_is_err_and}
-use Rattle.rvs_plan.specs.World.{world}
+use Rattle.rvs_plan.specs.World.{World, world}
 use Rattle.rvs_plan.specs.Meets.{Meets}
+use Rattle.rvs_plan.specs.declared.stop.Stop.{Stop}
 use Rattle.rvs_plan.proofs.Sequence.{Meets-then, Meets-stop, Meets-gives}
+use Rattle.rvs_count.specs.State.{CountState}
 use Rattle.rvs_suite.specs.declared.covering.Covered.{Covered}
 use Rattle.rvs_suite.specs.GroupsView.{groups_view}
-use Rattle.rvs_suite.specs.Coverage.{file_name, counts_more}
-use Rattle.rvs_suite.specs.LogReport.{takes_logs}
+use Rattle.rvs_suite.specs.Coverage.{IsAlike, counted_with, file_name, counts_more}
+use Rattle.rvs_suite.specs.LogReport.{takes_log, takes_logs}
 use Rattle.rvs_suite.proofs.covering.count_onto.Goals as goal
+
+-- a log counted by a counter that has the same groups and windows
+alike : (was is : CountState) (counted : Covered) (name : List ℕ) (old new : World)
+    (result : Result Covered Stop) → IsAlike was is
+    → Meets (takes_log (counted_with is.tally.windows (groups_view is.tally.labels)) counted name)
+    old new result
+    → Meets (takes_log (counted_with was.tally.windows (groups_view was.tally.labels)) counted name)
+    old new result
+alike was is counted name old new result same met =
+    subst (λ windows. Meets (takes_log (counted_with windows (groups_view was.tally.labels)) counted
+    name) old new result) same.windows
+    (subst (λ labels. Meets (takes_log (counted_with is.tally.windows (groups_view labels)) counted
+    name) old new result) same.labels met)
 
 pub returns-in_err-counted-clause-met : goal.returns-in_err-counted-clause-met
 returns-in_err-counted-clause-met g c = λ out.
     let p = err_from_is_err_and c.from_residual.result c.from_residual.ensures.1 in
     let i = c.loop-log.log-index in
-    let more = counts_more c.args.windows.now (groups_view c.args.groups.now) in
+    let was = c.args.counter.now in
+    let more = counts_more was.tally.windows (groups_view was.tally.labels) in
     let rest = drop (i + 1) c.args.logs.now in
     let old = world (g.H.Host.state c.loop-log.host) out in
     let new = world (g.H.Host.state c.count_one.new.host) out in
@@ -23,7 +39,8 @@ returns-in_err-counted-clause-met g c = λ out.
     ∙ ap (λ (x : List ℕ). x ∷ rest) (sym c.log-item.is ∙ sym c.as_str.ensures) in
     let stopped =
     Meets-stop (λ (now : Covered). takes_logs file_name more now rest)
-    (c.in_err-counted.ensures.met out) in
+    (alike was c.loop-log.counter c.loop-log.counted c.as_str.result.now old new _
+    c.loop-log.invariant.same (c.in_err-counted.ensures.met out)) in
     rw (p.1, p.2) (c.loop-log.invariant.rest out new _ (subst (λ (names : List (List ℕ)). Meets
     (takes_logs file_name more c.loop-log.counted names) old new (Err c.in_err-counted.field-0.0))
     (sym here) stopped))
@@ -31,25 +48,36 @@ returns-in_err-counted-clause-met g c = λ out.
 pub loop-log-preserved : goal.loop-log-preserved
 loop-log-preserved g c =
     let i = c.loop-log.log-index in
-    let more = counts_more c.args.windows.now (groups_view c.args.groups.now) in
+    let was = c.args.counter.now in
+    let more = counts_more was.tally.windows (groups_view was.tally.labels) in
     let rest = drop (i + 1) c.args.logs.now in
     let here : drop i c.args.logs.now ≡ c.as_str.result.now ∷ rest =
     drop_more c.args.logs.now i _ c.loop-log-test.true
     ∙ ap (λ (x : List ℕ). x ∷ rest) (sym c.log-item.is ∙ sym c.as_str.ensures) in
+    let same = c.loop-log.invariant.same in
+    let kept = c.in_ok-counted.ensures.same in
     record {
       rest = λ out new result later.
           let old = world (g.H.Host.state c.loop-log.host) out in
+          let next = world (g.H.Host.state c.count_one.new.host) out in
+          let one = alike was c.loop-log.counter c.loop-log.counted c.as_str.result.now old next
+          (Ok c.in_ok-counted.counted) same (c.in_ok-counted.ensures.met out) in
           c.loop-log.invariant.rest out new result (subst
           (λ (names : List (List ℕ)). Meets (takes_logs file_name more c.loop-log.counted names) old new
           result) (sym here) (Meets-then (λ (now : Covered). takes_logs file_name more now rest)
-          (c.in_ok-counted.ensures.met out) later));
+          one later));
       long = c.in_ok-counted.ensures.long ∙ c.loop-log.invariant.long;
+      same = record {
+        labels = kept.labels ∙ same.labels;
+        windows = kept.windows ∙ same.windows;
+      };
     }
 
 pub returns-clause-met : goal.returns-clause-met
 returns-clause-met g c = λ out.
+    let was = c.args.counter.now in
     let w = world (g.H.Host.state c.loop-log.host) out in
-    let more = counts_more c.args.windows.now (groups_view c.args.groups.now) in
+    let more = counts_more was.tally.windows (groups_view was.tally.labels) in
     c.loop-log.invariant.rest out w (Ok c.loop-log.counted) (subst
     (λ (names : List (List ℕ)). Meets (takes_logs file_name more c.loop-log.counted names) w w
     (Ok c.loop-log.counted)) (sym (drop_all c.loop-log.log-index c.args.logs.now

@@ -3,10 +3,9 @@ use Rattle.rvs_base.specs.Sink.{SinkState}
 use Rattle.rvs_plan.specs.World.{World, world}
 use Rattle.rvs_plan.specs.Meets.{Meets}
 use Rattle.rvs_plan.specs.declared.stop.Stop.{Stop}
-use Rattle.rvs_count.specs.Counting.{aims_in}
 use Rattle.rvs_suite.specs.declared.covering.Covered.{Covered}
 use Rattle.rvs_suite.specs.GroupsView.{groups_view}
-use Rattle.rvs_suite.specs.Coverage.{file_name, counts_more}
+use Rattle.rvs_suite.specs.Coverage.{IsAlike, file_name, counts_more}
 use Rattle.rvs_suite.specs.LogReport.{takes_logs}
 use Rattle.rvs_suite.proofs.covering.count_onto.Given as goal
 
@@ -14,9 +13,12 @@ use Rattle.rvs_suite.proofs.covering.count_onto.Given as goal
 abbrev pub invariant-loop-log : goal.invariant-loop-log
 invariant-loop-log g l = record {
   rest : (out : SinkState) (new : World) (result : Result Covered Stop)
-      → Meets (takes_logs file_name (counts_more l.windows (groups_view l.groups)) l.counted
+      → Meets (takes_logs file_name (counts_more l.fn.counter.tally.windows
+      (groups_view l.fn.counter.tally.labels)) l.counted
       (drop l.log-index l.logs)) (world (g.H.Host.state l.host) out) new result
-      → Meets (takes_logs file_name (counts_more l.windows (groups_view l.groups)) l.fn.none l.fn.logs)
+      → Meets (takes_logs file_name (counts_more l.fn.counter.tally.windows
+      (groups_view l.fn.counter.tally.labels)) l.fn.none l.fn.logs)
       (world (g.H.Host.state l.fn.host) out) new result;
-  long : length l.counted.counts ≡ length (aims_in l.groups);
+  long : length l.counted.counts ≡ length l.fn.none.counts;
+  same : IsAlike l.fn.counter l.counter;
 }

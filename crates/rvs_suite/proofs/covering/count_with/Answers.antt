@@ -1,4 +1,4 @@
-use Rattle.std.proofs.Common.{◌≡◌, ◌≤◌, ◌<◌, ℕ, ◌+◌, ◌^◌, List, [], length, refl, ap, ◌∙◌, arith}
+use Rattle.std.proofs.Common.{◌≡◌, ◌≤◌, ◌<◌, ℕ, ◌+◌, ◌^◌, List, [], length, refl, sym, ap, ◌∙◌, arith}
 use Rattle.std.proofs.lemmas.Result.{err_from_is_err_and}
 use Rattle.rvs_plan.specs.World.{world}
 use Rattle.rvs_plan.specs.Inputs.{too_long_text}
@@ -8,7 +8,7 @@ use Rattle.rvs_plan.proofs.Stepping.{asks-no_memory}
 use Rattle.rvs_cgf.specs.declared.group.Label.{Label}
 use Rattle.rvs_count.specs.State.{CountState, state_of, ended}
 use Rattle.rvs_base.specs.declared.asked.Window.{Window as Span}
-use Rattle.rvs_count.proofs.Ends.{fed_of}
+use Rattle.rvs_count.proofs.Ends.{counted_labels, counted_windows, fed_of}
 use Rattle.rvs_suite.specs.GroupsView.{groups_view}
 use Rattle.rvs_suite.specs.Coverage.{counted_with}
 use Rattle.rvs_log.specs.Lines.{log_limit}
@@ -17,12 +17,12 @@ use Rattle.rvs_suite.proofs.LogReads.{accepts-log, refuses-log, at_most-log}
 use Rattle.rvs_suite.proofs.covering.count_with.Goals as goal
 
 pub returns-in_err-name-clause-met : goal.returns-in_err-name-clause-met
-returns-in_err-name-clause-met g c = λ out groups windows begun few.
+returns-in_err-name-clause-met g c = λ out groups windows begun.
     let p = err_from_is_err_and c.from_residual.result c.from_residual.ensures.1 in
     rw (p.1, p.2) (Meets-no_memory _ (world (g.H.Host.state c.args.host.now) out))
 
 pub returns-in_err-too_long-in-Err-TooLong-clause-met : goal.returns-in_err-too_long-in-Err-TooLong-clause-met
-returns-in_err-too_long-in-Err-TooLong-clause-met g c = λ out groups windows begun few.
+returns-in_err-too_long-in-Err-TooLong-clause-met g c = λ out groups windows begun.
     let p = err_from_is_err_and c.from_residual-in_err-too_long-in-Err-TooLong.result
     c.from_residual-in_err-too_long-in-Err-TooLong.ensures.1 in
     rw (p.1, p.2) (asks-no_memory out _ log_bound _ c.in-Err-TooLong.ensures.reads_only
@@ -38,14 +38,14 @@ short groups windows bytes after c is within = let fed : c.fed ≡ 0 + length by
     omega (arith, fed, within)
 
 pub returns-in_err-with_ended-in-Ok-clause-met : goal.returns-in_err-with_ended-in-Ok-clause-met
-returns-in_err-with_ended-in-Ok-clause-met g c = λ out groups windows begun few.
+returns-in_err-with_ended-in-Ok-clause-met g c = λ out groups windows begun.
     let p = err_from_is_err_and c.from_residual-in_err-with_ended-in-Ok.result
     c.from_residual-in_err-with_ended-in-Ok.ensures.1 in
     rw (p.1, p.2) (asks-no_memory out _ log_bound _ c.in-Ok.ensures.reads_only
     c.in-Ok.ensures.unfaulted (at_most-log c.args.counter.now.fed c.in-Ok.ensures.at_most))
 
 pub returns-in-Ok-clause-met : goal.returns-in-Ok-clause-met
-returns-in-Ok-clause-met g c = λ out groups windows begun few.
+returns-in-Ok-clause-met g c = λ out groups windows begun.
     let name = c.args.log.now in
     let feeds = c.in-Ok.ensures.whole in
     let fed = feeds.fed.state groups windows [] 0 begun in
@@ -55,7 +55,7 @@ returns-in-Ok-clause-met g c = λ out groups windows begun few.
     let at_end = c.with_ended.ensures.state groups windows feeds.bytes
     (0 + length feeds.bytes) fed in
     let within = short groups windows feeds.bytes (ended feeds.bytes) c.with_ended.new.counter
-    at_end few in
+    at_end c.with_ended.ensures.low in
     asks-accepted out name log_bound
     (with_found (counted_with windows (groups_view groups)) c.args.counted name) feeds.bytes
     now c.in-Ok.ensures.reads_only feeds.whole
@@ -64,7 +64,7 @@ returns-in-Ok-clause-met g c = λ out groups windows begun few.
     c.in-Ok.ensures.unfaulted (at_most-log c.args.counter.now.fed c.in-Ok.ensures.at_most)
 
 pub returns-in-Err-NoFile-clause-met : goal.returns-in-Err-NoFile-clause-met
-returns-in-Err-NoFile-clause-met g c = λ out groups windows begun few.
+returns-in-Err-NoFile-clause-met g c = λ out groups windows begun.
     let name = c.args.log.now in
     rw c.in_ok-name.ensures (asks-absent out name log_bound
     (with_found (counted_with windows (groups_view groups)) c.args.counted name)
@@ -73,7 +73,7 @@ returns-in-Err-NoFile-clause-met g c = λ out groups windows begun few.
     (at_most-log c.args.counter.now.fed c.in-Err-NoFile.ensures.at_most))
 
 pub returns-in-Err-Failed-clause-met : goal.returns-in-Err-Failed-clause-met
-returns-in-Err-Failed-clause-met g c = λ out groups windows begun few.
+returns-in-Err-Failed-clause-met g c = λ out groups windows begun.
     let name = c.args.log.now in
     rw c.in_ok-name.ensures (asks-failed out name log_bound
     (with_found (counted_with windows (groups_view groups)) c.args.counted name)
@@ -86,7 +86,7 @@ longer : (c : CountState) (bytes : List ℕ) → c.fed ≡ 0 → 2 ^ 40 < c.fed 
 longer c bytes new long = omega arith
 
 pub returns-clause-met : goal.returns-clause-met
-returns-clause-met g c = λ out groups windows begun few.
+returns-clause-met g c = λ out groups windows begun.
     let name = c.args.log.now in
     let cause = rw c.in-Err-TooLong.field-0-is at c.in-Err-TooLong.ensures.cause in
     let text : c.in_ok-too_long-in-Err-TooLong.field-0 ≡ too_long_text name log_limit =
@@ -102,3 +102,20 @@ returns-clause-met g c = λ out groups windows begun few.
           c.in_ok-too_long-in-Err-TooLong.field-0
           (longer c.args.counter.now long.0 new long.2) text,
     )) cause.1 (at_most-log c.args.counter.now.fed c.in-Err-TooLong.ensures.at_most)
+
+pub returns-in-Ok-clause-same : goal.returns-in-Ok-clause-same
+returns-in-Ok-clause-same g c = λ groups windows begun.
+    let feeds = c.in-Ok.ensures.whole in
+    let count = 0 + length feeds.bytes in
+    let at_end = c.with_ended.ensures.state groups windows feeds.bytes count
+    (feeds.fed.state groups windows [] 0 begun) in
+    record {
+      labels = ap (λ (s : CountState). s.tally.labels) at_end
+          ∙ counted_labels groups windows (ended feeds.bytes) count
+          ∙ sym (ap (λ (s : CountState). s.tally.labels) begun
+          ∙ counted_labels groups windows [] 0);
+      windows = ap (λ (s : CountState). s.tally.windows) at_end
+          ∙ counted_windows groups windows (ended feeds.bytes) count
+          ∙ sym (ap (λ (s : CountState). s.tally.windows) begun
+          ∙ counted_windows groups windows [] 0);
+    }

@@ -1,5 +1,8 @@
-use Rattle.std.proofs.Common.{subst}
+use Rattle.std.proofs.Common.{List, [], ap, ◌∙◌, subst}
 use Rattle.std.proofs.lemmas.Result.{err_from_is_err_and}
+use Rattle.rvs_cgf.specs.declared.group.Label.{Label}
+use Rattle.rvs_prop.specs.State.{TrackState}
+use Rattle.rvs_prop.proofs.Ends.{all_labels}
 use Rattle.rvs_plan.specs.World.{world}
 use Rattle.rvs_plan.proofs.Sequence.{Meets-no_memory}
 use Rattle.rvs_plan.specs.Meets.{Meets}
@@ -14,11 +17,23 @@ returns-in_err-none-clause-met g c = λ out.
     let p = err_from_is_err_and c.from_residual.result c.from_residual.ensures.1 in
     rw (p.1, p.2) (Meets-no_memory _ (world (g.H.Host.state c.args.host.now) out))
 
+pub returns-in_err-tracker-clause-met : goal.returns-in_err-tracker-clause-met
+returns-in_err-tracker-clause-met g c = λ out.
+    let p = err_from_is_err_and c.from_residual-in_err-tracker.result
+    c.from_residual-in_err-tracker.ensures.1 in
+    rw (p.1, p.2) (Meets-no_memory _ (world (g.H.Host.state c.args.host.now) out))
+
 pub returns-clause-met : goal.returns-clause-met
 returns-clause-met g c = λ out.
     let asked = c.args.asked.now in
-    let more = tracks_more (groups_view c.args.groups.now) in
+    let groups = c.args.groups.now in
     let old = world (g.H.Host.state c.args.host.now) out in
     let new = world (g.H.Host.state c.track_onto.new.host) out in
-    subst (λ (none : Traced). Meets (takes_logs file_name more none asked.logs) old new c.track_onto.result)
-    c.in_ok-none.ensures.tracked (rw c.as_slice-logs.ensures at (c.track_onto.ensures.met out))
+    let labels = ap (λ (s : TrackState). s.trail.labels) c.in_ok-tracker.ensures
+    ∙ all_labels groups 0 0 [] 0 in
+    let met = rw c.as_slice-logs.ensures at (c.track_onto.ensures.met out) in
+    let P : List Label → Type 0 = λ ls. Meets (takes_logs file_name (tracks_more (groups_view ls))
+    c.in_ok-none.none asked.logs) old new c.track_onto.result in
+    let Q : Traced → Type 0 = λ none. Meets (takes_logs file_name
+    (tracks_more (groups_view groups)) none asked.logs) old new c.track_onto.result in
+    subst Q c.in_ok-none.ensures.tracked (subst P labels met)

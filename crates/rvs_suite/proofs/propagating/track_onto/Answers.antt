@@ -1,21 +1,35 @@
-use Rattle.std.proofs.Common.{◌≡◌, ◌+◌, ◌∷◌, ◌∙◌, List, ℕ, Ok, Err, drop, ap, sym, subst}
+use Rattle.std.proofs.Common.{◌≡◌, ◌+◌, ◌∷◌, ◌∙◌, List, ℕ, Result, Ok, Err, drop, ap, sym, subst}
 use Rattle.std.proofs.lemmas.List.{drop_more, drop_all}
 use Rattle.std.proofs.lemmas.Result.{err_from_is_err_and}
-use Rattle.rvs_plan.specs.World.{world}
+use Rattle.rvs_plan.specs.World.{World, world}
 use Rattle.rvs_plan.specs.Meets.{Meets}
+use Rattle.rvs_plan.specs.declared.stop.Stop.{Stop}
 use Rattle.rvs_plan.proofs.Sequence.{Meets-then, Meets-stop, Meets-gives}
+use Rattle.rvs_cgf.specs.declared.group.Label.{Label}
+use Rattle.rvs_base.specs.declared.asked.Window.{Window}
 use Rattle.rvs_suite.specs.declared.propagating.Traced.{Traced}
 use Rattle.rvs_suite.specs.GroupsView.{groups_view}
-use Rattle.rvs_suite.specs.Propagate.{file_name, tracks_more}
+use Rattle.rvs_suite.specs.Propagate.{file_name, tracked_with, tracks_more}
 use Rattle.rvs_words.specs.declared.command.SignedLog.{SignedLog}
 use Rattle.rvs_suite.specs.LogReport.{takes_log, takes_logs}
 use Rattle.rvs_suite.proofs.propagating.track_onto.Goals as goal
+
+-- a log tracked by a tracker that has the same groups
+alike : (was is : List Label) (range : Window) (tracked : Traced) (name called : List ℕ)
+    (old new : World) (result : Result Traced Stop) → is ≡ was → name ≡ called
+    → Meets (takes_log (tracked_with range (groups_view is)) tracked name) old new result
+    → Meets (takes_log (tracked_with range (groups_view was)) tracked called) old new result
+alike was is range tracked name called old new result same named met =
+    subst (λ labels. Meets (takes_log (tracked_with range (groups_view labels)) tracked called)
+    old new result) same
+    (subst (λ name. Meets (takes_log (tracked_with range (groups_view is)) tracked name)
+    old new result) named met)
 
 pub returns-in_err-tracked-clause-met : goal.returns-in_err-tracked-clause-met
 returns-in_err-tracked-clause-met g c = λ out.
     let p = err_from_is_err_and c.from_residual.result c.from_residual.ensures.1 in
     let i = c.loop-log.log-index in
-    let more = tracks_more (groups_view c.args.groups.now) in
+    let more = tracks_more (groups_view c.args.tracker.now.trail.labels) in
     let rest = drop (i + 1) c.args.logs.now in
     let old = world (g.H.Host.state c.loop-log.host) out in
     let new = world (g.H.Host.state c.track_one.new.host) out in
@@ -25,8 +39,8 @@ returns-in_err-tracked-clause-met g c = λ out.
     ∙ ap (λ (x : SignedLog). x ∷ rest) (sym c.log-item.is) in
     let stopped =
     Meets-stop (λ (now : Traced). takes_logs file_name more now rest)
-    (subst (λ (name : List ℕ). Meets (takes_log (more log) c.loop-log.tracked name) old new
-    (Err c.in_err-tracked.field-0.0)) c.as_str.ensures (c.in_err-tracked.ensures.met out)) in
+    (alike _ _ log.signature c.loop-log.tracked _ _ old new _ c.loop-log.invariant.same
+    c.as_str.ensures (c.in_err-tracked.ensures.met out)) in
     rw (p.1, p.2) (c.loop-log.invariant.rest out new _ (subst (λ (logs : List SignedLog). Meets
     (takes_logs file_name more c.loop-log.tracked logs) old new (Err c.in_err-tracked.field-0.0))
     (sym here) stopped))
@@ -34,7 +48,7 @@ returns-in_err-tracked-clause-met g c = λ out.
 pub loop-log-preserved : goal.loop-log-preserved
 loop-log-preserved g c =
     let i = c.loop-log.log-index in
-    let more = tracks_more (groups_view c.args.groups.now) in
+    let more = tracks_more (groups_view c.args.tracker.now.trail.labels) in
     let rest = drop (i + 1) c.args.logs.now in
     let log = c.log-item.result in
     let here : drop i c.args.logs.now ≡ log ∷ rest =
@@ -44,20 +58,21 @@ loop-log-preserved g c =
       rest = λ out new result later.
           let old = world (g.H.Host.state c.loop-log.host) out in
           let next = world (g.H.Host.state c.track_one.new.host) out in
-          let one = subst (λ (name : List ℕ). Meets (takes_log (more log) c.loop-log.tracked name)
-          old next (Ok c.in_ok-tracked.tracked)) c.as_str.ensures
+          let one = alike _ _ log.signature c.loop-log.tracked _ _ old next
+          (Ok c.in_ok-tracked.tracked) c.loop-log.invariant.same c.as_str.ensures
           (c.in_ok-tracked.ensures.met out) in
           c.loop-log.invariant.rest out new result (subst
           (λ (logs : List SignedLog). Meets (takes_logs file_name more c.loop-log.tracked logs)
           old new result) (sym here) (Meets-then (λ (now : Traced). takes_logs file_name more now rest)
           one later));
-      long = c.in_ok-tracked.ensures.long _ c.loop-log.invariant.long;
+      long = λ n none. c.in_ok-tracked.ensures.long n (c.loop-log.invariant.long n none);
+      same = c.in_ok-tracked.ensures.same ∙ c.loop-log.invariant.same;
     }
 
 pub returns-clause-met : goal.returns-clause-met
 returns-clause-met g c = λ out.
     let w = world (g.H.Host.state c.loop-log.host) out in
-    let more = tracks_more (groups_view c.args.groups.now) in
+    let more = tracks_more (groups_view c.args.tracker.now.trail.labels) in
     c.loop-log.invariant.rest out w (Ok c.loop-log.tracked) (subst
     (λ (logs : List SignedLog). Meets (takes_logs file_name more c.loop-log.tracked logs) w w
     (Ok c.loop-log.tracked)) (sym (drop_all c.loop-log.log-index c.args.logs.now

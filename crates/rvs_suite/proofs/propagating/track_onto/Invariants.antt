@@ -1,9 +1,8 @@
-use Rattle.std.proofs.Common.{Result, drop, length}
+use Rattle.std.proofs.Common.{◌≡◌, ℕ, Result, drop}
 use Rattle.rvs_base.specs.Sink.{SinkState}
 use Rattle.rvs_plan.specs.World.{World, world}
 use Rattle.rvs_plan.specs.Meets.{Meets}
 use Rattle.rvs_plan.specs.declared.stop.Stop.{Stop}
-use Rattle.rvs_count.specs.Counting.{aims_in}
 use Rattle.rvs_suite.specs.declared.propagating.Traced.{Traced}
 use Rattle.rvs_suite.specs.GroupsView.{groups_view}
 use Rattle.rvs_suite.specs.Propagate.{AreLong, file_name, tracks_more}
@@ -14,9 +13,10 @@ use Rattle.rvs_suite.proofs.propagating.track_onto.Given as goal
 abbrev pub invariant-loop-log : goal.invariant-loop-log
 invariant-loop-log g l = record {
   rest : (out : SinkState) (new : World) (result : Result Traced Stop)
-      → Meets (takes_logs file_name (tracks_more (groups_view l.groups)) l.tracked
+      → Meets (takes_logs file_name (tracks_more (groups_view l.fn.tracker.trail.labels)) l.tracked
       (drop l.log-index l.logs)) (world (g.H.Host.state l.host) out) new result
-      → Meets (takes_logs file_name (tracks_more (groups_view l.groups)) l.fn.none l.fn.logs)
-      (world (g.H.Host.state l.fn.host) out) new result;
-  long : AreLong (length (aims_in l.groups)) l.tracked;
+      → Meets (takes_logs file_name (tracks_more (groups_view l.fn.tracker.trail.labels)) l.fn.none
+      l.fn.logs) (world (g.H.Host.state l.fn.host) out) new result;
+  long : (n : ℕ) → AreLong n l.fn.none → AreLong n l.tracked;
+  same : l.tracker.trail.labels ≡ l.fn.tracker.trail.labels;
 }

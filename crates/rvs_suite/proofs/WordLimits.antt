@@ -1,11 +1,12 @@
--- No call asks for more than 4,096 logs.
+-- No call asks for more than 4,096 logs, nor for more than 2,000,000 steps.
 use Rattle.std.proofs.Common.{◌≡◌, ◌≤◌, ℕ, ◌&&◌, Bool, true, false, if◌then◌else◌, List, [], ◌∷◌}
-use Rattle.std.proofs.Common.{length, Option, Some, None, unwrap_or, nat_le, bytes_eq, codes, refl}
-use Rattle.std.proofs.Common.{subst, arith}
+use Rattle.std.proofs.Common.{length, Option, Some, None, unwrap_or, option_map, nat_le, bytes_eq}
+use Rattle.std.proofs.Common.{codes, refl, subst, arith}
 use Rattle.std.specs.Prelude.{map, option_and_then, ◌==◌}
 use Rattle.std.proofs.lemmas.List.{length-map}
 use Rattle.std.proofs.lemmas.Bool.Decides.{nat_tests}
-use Rattle.rvs_words.specs.Commands.{Values, some_of, most_logs, with_options, compare_of}
+use Rattle.rvs_words.specs.Commands.{Values, number_of, most_steps, within_steps, steps_of}
+use Rattle.rvs_words.specs.Commands.{some_of, most_logs, with_options, compare_of}
 use Rattle.rvs_words.specs.Commands.{validate_of, normalize_of, generate_of, reference_of}
 use Rattle.rvs_words.specs.Commands.{coverage_of, propagate_of, select_of, run_groups_of}
 use Rattle.rvs_words.specs.Commands.{run_database_of, run_of, demo_of, named, asked_by, command_of}
@@ -19,25 +20,42 @@ use Rattle.rvs_words.specs.LogWords.{signed_logs}
 use Rattle.rvs_base.specs.declared.asked.Window.{Window}
 use Rattle.rvs_words.specs.declared.command.SignedLog.{SignedLog}
 use Rattle.rvs_words.specs.declared.command.Command.{Command}
-use Rattle.rvs_words.specs.declared.command.Command.TheVariants.{Unknown, Coverage, Propagate}
+use Rattle.rvs_words.specs.declared.command.Command.TheVariants.{Unknown, Reference, Coverage}
+use Rattle.rvs_words.specs.declared.command.Command.TheVariants.{Propagate}
+use Rattle.rvs_words.specs.declared.command.ReferenceArguments.{ReferenceArguments}
 use Rattle.rvs_words.specs.declared.command.CoverageArguments.{CoverageArguments}
 use Rattle.rvs_words.specs.declared.command.PropagateArguments.{PropagateArguments}
-use Rattle.rvs_suite.proofs.StepLimits.{InAll, none-in, some-in, then-in, either-in}
+use Rattle.rvs_suite.proofs.InAll.{InAll, none-in, some-in, then-in, either-in}
 
-abbrev logs-in : Command → ℕ
-logs-in (Coverage asked) = length asked.logs
-logs-in (Propagate asked) = length asked.logs
-logs-in _ = 0
+-- ---- numbers of steps
+abbrev pub IsLow : ℕ → Type 0
+IsLow n = n ≤ most_steps
 
--- few logs
+pub tested : (n : ℕ) (b : Bool) → (nat_le 1 n && nat_le n most_steps) ≡ b
+    → InAll IsLow (if b then Some n else None)
+tested n true is = some-in n (grind (arith, nat_tests))
+tested n false is = none-in
+
+within : (o : Option ℕ) → InAll IsLow (within_steps o)
+within None = none-in
+within (Some n) = tested n (nat_le 1 n && nat_le n most_steps) refl
+
+mapped : (o steps : Option ℕ) → InAll IsLow o → option_map {U = Option ℕ} Some o ≡ Some steps
+    → InAll IsLow steps
+mapped None steps low e = absurd cc
+mapped (Some n) steps low e =
+    let same : Some n ≡ steps = cc in subst (λ s. InAll IsLow s) same low
+
+steps-low : (texts : List (List ℕ)) (steps : Option ℕ) → steps_of texts ≡ Some steps
+    → InAll IsLow steps
+steps-low [] steps e = let same : None ≡ steps = cc in subst (λ s. InAll IsLow s) same none-in
+steps-low (text ∷ []) steps e =
+    mapped (within_steps (number_of text)) steps (within (number_of text)) e
+steps-low (text ∷ other ∷ texts) steps e = absurd cc
+
+-- ---- numbers of logs
 abbrev IsFew : ℕ → Type 0
 IsFew logs = logs ≤ most_logs
-
-abbrev HasFew : Command → Type 0
-HasFew command = IsFew (logs-in command)
-
-none-few : IsFew 0
-none-few = omega arith
 
 abbrev AreFew : List (List ℕ) → Type 0
 AreFew logs = IsFew (length logs)
@@ -92,55 +110,62 @@ signed-few values names texts logs is signed =
     let least = (spelled-few names (all_windows texts)).holds logs signed in
     omega (arith, few, least)
 
-by-compare : (words : List (List ℕ)) → InAll HasFew (compare_of words)
+-- ---- by the command
+abbrev IsWithin : Command → Type 0
+IsWithin (Reference asked) = InAll IsLow asked.steps
+IsWithin (Coverage asked) = IsFew (length asked.logs)
+IsWithin (Propagate asked) = IsFew (length asked.logs)
+IsWithin _ = Unit {0}
+
+by-compare : (words : List (List ℕ)) → InAll IsWithin (compare_of words)
 by-compare [] = none-in
 by-compare (left ∷ []) = none-in
-by-compare (left ∷ right ∷ []) = either-in _ _ _ (some-in _ none-few) none-in
+by-compare (left ∷ right ∷ []) = either-in _ _ _ (some-in _ tt) none-in
 by-compare (left ∷ right ∷ other ∷ words) = none-in
 
-by-validate : (values : Values) → InAll HasFew (validate_of values)
-by-validate values = search (then-in, some-in, none-few) depth 12
+by-validate : (values : Values) → InAll IsWithin (validate_of values)
+by-validate values = search (then-in, some-in) depth 12
 
-by-normalize : (values : Values) → InAll HasFew (normalize_of values)
-by-normalize values = search (then-in, some-in, none-few) depth 12
+by-normalize : (values : Values) → InAll IsWithin (normalize_of values)
+by-normalize values = search (then-in, some-in) depth 12
 
-by-generate : (values : Values) → InAll HasFew (generate_of values)
-by-generate values = search (then-in, some-in, none-few) depth 12
+by-generate : (values : Values) → InAll IsWithin (generate_of values)
+by-generate values = search (then-in, some-in) depth 12
 
-by-reference : (values : Values) → InAll HasFew (reference_of values)
-by-reference values = search (then-in, some-in, none-few) depth 12
+by-reference : (values : Values) → InAll IsWithin (reference_of values)
+by-reference values = search (then-in, some-in, steps-low) depth 12
 
-by-coverage : (values : Values) → InAll HasFew (coverage_of values)
+by-coverage : (values : Values) → InAll IsWithin (coverage_of values)
 by-coverage values = search (then-in, some-in, some-few) depth 12
 
-by-propagate : (values : Values) → InAll HasFew (propagate_of values)
+by-propagate : (values : Values) → InAll IsWithin (propagate_of values)
 by-propagate values = search (then-in, some-in, signed-few) depth 12
 
-by-select : (values : Values) → InAll HasFew (select_of values)
-by-select values = search (then-in, some-in, none-few) depth 12
+by-select : (values : Values) → InAll IsWithin (select_of values)
+by-select values = search (then-in, some-in) depth 12
 
-by-groups : (program : List ℕ) (values : Values) → InAll HasFew (run_groups_of program values)
-by-groups program values = search (then-in, some-in, none-few) depth 12
+by-groups : (program : List ℕ) (values : Values) → InAll IsWithin (run_groups_of program values)
+by-groups program values = search (then-in, some-in) depth 12
 
-by-database : (program : List ℕ) (values : Values) → InAll HasFew (run_database_of program values)
-by-database program values = search (then-in, some-in, none-few) depth 12
+by-database : (program : List ℕ) (values : Values) → InAll IsWithin (run_database_of program values)
+by-database program values = search (then-in, some-in) depth 12
 
-by-run : (program : List ℕ) (values : Values) → InAll HasFew (run_of program values)
+by-run : (program : List ℕ) (values : Values) → InAll IsWithin (run_of program values)
 by-run program values =
     either-in _ _ _
     (either-in _ _ _ none-in (either-in _ _ _ none-in (by-database program values)))
     (by-groups program values)
 
-by-demo : (words : List (List ℕ)) → InAll HasFew (demo_of words)
+by-demo : (words : List (List ℕ)) → InAll IsWithin (demo_of words)
 by-demo [] = none-in
-by-demo (text ∷ []) = search (then-in, some-in, none-few) depth 12
+by-demo (text ∷ []) = search (then-in, some-in) depth 12
 by-demo (text ∷ other ∷ words) = none-in
 
 by-options : (names : List (List ℕ)) (of : Values → Option Command) (words : List (List ℕ))
-    → ((values : Values) → InAll HasFew (of values)) → InAll HasFew (with_options names of words)
+    → ((values : Values) → InAll IsWithin (of values)) → InAll IsWithin (with_options names of words)
 by-options names of words h = then-in _ _ (λ pairs e. h (λ name. values_of name pairs))
 
-by-name : (program name : List ℕ) (words : List (List ℕ)) → InAll HasFew (named program name words)
+by-name : (program name : List ℕ) (words : List (List ℕ)) → InAll IsWithin (named program name words)
 by-name program name words =
     either-in (bytes_eq name (codes "compare")) _ _ (by-compare words)
     (either-in (bytes_eq name (codes "validate")) _ _
@@ -161,19 +186,28 @@ by-name program name words =
     (by-options select_options select_of words by-select)
     (either-in (bytes_eq name (codes "demo")) _ _ (by-demo words) none-in)))))))))
 
-by-words : (words : List (List ℕ)) → InAll HasFew (asked_by words)
+by-words : (words : List (List ℕ)) → InAll IsWithin (asked_by words)
 by-words [] = none-in
 by-words (program ∷ []) = none-in
 by-words (program ∷ name ∷ words) = by-name program name words
 
-whole : (o : Option Command) → InAll HasFew o → HasFew (unwrap_or o Unknown)
-whole None few = none-few
-whole (Some command) few = few.holds command refl
+whole : (o : Option Command) → InAll IsWithin o → IsWithin (unwrap_or o Unknown)
+whole None limited = tt
+whole (Some command) limited = limited.holds command refl
+
+of-words : (words : List (List ℕ)) (command : Command) → command_of words ≡ command
+    → IsWithin command
+of-words words command is =
+    subst (λ command. IsWithin command) is (whole (asked_by words) (by-words words))
+
+pub asked-low : (words : List (List ℕ)) (asked : ReferenceArguments)
+    → command_of words ≡ Reference asked → InAll IsLow asked.steps
+asked-low words asked is = of-words words (Reference asked) is
 
 pub coverage-few : (words : List (List ℕ)) (asked : CoverageArguments)
     → command_of words ≡ Coverage asked → length asked.logs ≤ 4096
-coverage-few words asked is = subst HasFew is (whole (asked_by words) (by-words words))
+coverage-few words asked is = of-words words (Coverage asked) is
 
 pub propagate-few : (words : List (List ℕ)) (asked : PropagateArguments)
     → command_of words ≡ Propagate asked → length asked.logs ≤ 4096
-propagate-few words asked is = subst HasFew is (whole (asked_by words) (by-words words))
+propagate-few words asked is = of-words words (Propagate asked) is
