@@ -1,5 +1,5 @@
 -- What holds of each run that `reference` tells of.
-use Rattle.std.proofs.Common.{◌≡◌, ◌≤◌, ℕ, List, length, Ok, arith}
+use Rattle.std.proofs.Common.{arith}
 use Rattle.rvs_suite.specs.TestRun.{limit_of}
 use Rattle.rvs_suite.proofs.Meanings.{both-halt}
 use Rattle.rvs_suite.proofs.LogEntries.{halting_entries}

@@ -1,8 +1,5 @@
 -- What holds of the tests of accepted inputs.
-use Rattle.std.proofs.Common.{◌≡◌, ℕ, List, Contains, Option, Ok, ap, ◌∙◌}
-use Rattle.rvs_base.specs.Host.{Files}
-use Rattle.rvs_abstract.specs.declared.families.Families.{Families}
-use Rattle.rvs_parts.specs.Parts.{PartValue}
+use Rattle.std.proofs.Common.{◌≡◌, Ok, ap, ◌∙◌}
 use Rattle.rvs_insn.specs.Isa.{Isa}
 use Rattle.rvs_elf.specs.Executable.{image_of_elf}
 use Rattle.rvs_elf.specs.Laws.{with_marks}
@@ -10,8 +7,7 @@ use Rattle.rvs_elf.specs.Written.{elf_of}
 use Rattle.rvs_elf.proofs.ReadBack.{reads_back, runs_alike}
 use Rattle.rvs_asm.proofs.Answered.{answered_stands}
 use Rattle.rvs_device.proofs.Passing as passing
-use Rattle.rvs_suite.specs.GroupFiles.{Inputs, labels_in}
-use Rattle.rvs_suite.specs.Tests.{IsRunnable, executable_of, tests_of}
+use Rattle.rvs_suite.specs.Tests.{IsRunnable, executable_of}
 use Rattle.rvs_suite.specs.RunLeft.{task_of}
 use Rattle.rvs_suite.specs.declared.gathering.Test.{Test}
 use Rattle.rvs_suite.proofs.Executables.{elf-of-test}

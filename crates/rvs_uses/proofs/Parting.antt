@@ -1,6 +1,6 @@
 -- What the parts of a run are together.
-use Rattle.std.proofs.Common.{◌≡◌, ◌≢◌, ◌≤◌, ◌<◌, ◌⊎◌, inl, inr, ℕ, zero, suc, ◌+◌, Bool, true, false}
-use Rattle.std.proofs.Common.{cond, List, [], ◌∷◌, ◌++◌, map, length, All, Contains, Option, Some}
+use Rattle.std.proofs.Common.{◌≡◌, ◌≢◌, ◌≤◌, ◌⊎◌, inl, inr, ℕ, zero, suc, ◌+◌, Bool, true, false}
+use Rattle.std.proofs.Common.{cond, List, [], ◌∷◌, ◌++◌, map, length, Contains, Option, Some}
 use Rattle.std.proofs.Common.{None, Result, Ok, Err, slice_get, bytes_eq, flat_map, append_assoc}
 use Rattle.std.proofs.Common.{codes, refl, sym, ap, subst, ◌∙◌, arith}
 use Rattle.std.specs.Prelude.{◌==◌, ◌&&◌, ◌||◌, not}
@@ -9,15 +9,12 @@ use Rattle.std.proofs.lemmas.Bool.Decides.{nat_tests}
 use Rattle.std.proofs.lemmas.List.Elements.{Contains-append_left, Contains-append_right}
 use Rattle.std.proofs.lemmas.List.Elements.{Contains-append_cases}
 use Rattle.std.proofs.lemmas.Slice.Eq.{bytes_eq-Decides}
-use Rattle.rvs_base.specs.Host.{Files}
 use Rattle.rvs_base.specs.declared.host.DeviceRun.{DeviceRun}
-use Rattle.rvs_abstract.specs.declared.families.Families.{Families}
-use Rattle.rvs_parts.specs.Parts.{PartValue, has, is_in, parted_from, parted}
-use Rattle.rvs_parts.specs.Laws.{AreApart, IsInOnePart, in_parts, over, in_part}
+use Rattle.rvs_parts.specs.Parts.{PartValue, is_in, parted_from, parted}
+use Rattle.rvs_parts.specs.Laws.{AreApart, in_parts, over}
 use Rattle.rvs_parts.proofs.Adding.{parts_add_up, parts_are_all, one_part_is_all}
 use Rattle.rvs_parts.proofs.Sharing.{things_are_in_one, parts_have_no_more}
 use Rattle.rvs_plan.specs.declared.stop.Stop.{Stop}
-use Rattle.rvs_plan.specs.declared.status.Finish.{Finish}
 use Rattle.rvs_plan.specs.declared.status.Finish.TheVariants.{Done, NotPassed}
 use Rattle.rvs_insn.specs.Isa.{Isa}
 use Rattle.rvs_cgf.specs.Groups.{Label}
@@ -26,12 +23,12 @@ use Rattle.rvs_test.specs.Made.{cases_of, text_of_label}
 use Rattle.rvs_test_text.specs.TestText.{step_limit}
 use Rattle.rvs_device.specs.Printed.{verdict_line}
 use Rattle.rvs_select.specs.declared.database.Entry.{Entry}
-use Rattle.rvs_suite.specs.DatabaseInput.{marked_one, marked_from, marked}
+use Rattle.rvs_suite.specs.DatabaseInput.{marked_from}
 use Rattle.rvs_suite.specs.GenerateTexts.{label_text, total_line, none, with_labels, listing}
-use Rattle.rvs_suite.specs.GroupFiles.{Inputs, and_then, inputs_in, parted_inputs, labels_in}
+use Rattle.rvs_suite.specs.GroupFiles.{Inputs, and_then, inputs_in, parted_inputs}
 use Rattle.rvs_suite.specs.RunDatabase.{Given, chosen_if, chosen}
 use Rattle.rvs_suite.specs.RunLeft.{verdict_by, verdict_lines, passed_onto}
-use Rattle.rvs_suite.specs.RunTests.{Bench, passes, with_one, verdict_of_all}
+use Rattle.rvs_suite.specs.RunTests.{Bench, passes, with_one}
 use Rattle.rvs_suite.specs.Tests.{test_with, tests_of_label, tests_of}
 use Rattle.rvs_suite.specs.declared.gathering.Test.{Test}
 use Rattle.rvs_suite.proofs.Paths.{same-ending, not-reference, not-executable}
@@ -40,7 +37,7 @@ use Rattle.rvs_suite.proofs.Paths.{apart-signatures}
 use Rattle.rvs_suite.proofs.Written.{apart-labels}
 use Rattle.rvs_uses.specs.Parted.{part_of, PartsReadAll, label_name, tests_in_part, IsInOne}
 use Rattle.rvs_uses.specs.Parted.{IsFileOf, IsText, IsExecutable, IsReference, IsDevice}
-use Rattle.rvs_uses.specs.Parted.{AreParted, PartsAreApart, PartsList, told_of}
+use Rattle.rvs_uses.specs.Parted.{PartsAreApart, PartsList, told_of}
 use Rattle.rvs_uses.specs.Parted.{told_of_label, PartsTell, number_of_tests, number_passed}
 use Rattle.rvs_uses.specs.Parted.{PartsCount, IsDone, PartsPass, DatabasesAreParted}
 

@@ -1,6 +1,6 @@
 -- What the parts of a run are together.
 use Rattle.std.specs.Prelude.{◌≡◌, ◌≢◌, ◌≤◌, ◌↔◌, ◌++◌, ℕ, true, List, map, length}
-use Rattle.std.specs.Prelude.{Contains, Option, Some, None, Result, Ok}
+use Rattle.std.specs.Prelude.{Contains, Option, Some, None, Ok}
 use Rattle.std.specs.List.{flat_map}
 use Rattle.rvs_base.specs.Host.{Files}
 use Rattle.rvs_base.specs.declared.host.DeviceRun.{DeviceRun}

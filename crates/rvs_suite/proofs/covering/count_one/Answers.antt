@@ -1,5 +1,3 @@
-use Rattle.std.proofs.Common.{subst}
-use Rattle.rvs_count.specs.State.{CountState}
 use Rattle.rvs_suite.proofs.covering.count_one.Goals as goal
 
 pub returns-clause-met : goal.returns-clause-met
