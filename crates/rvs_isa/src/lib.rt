@@ -19,5 +19,6 @@ pub use laws::{
     canonical_texts_are_accepted, isa_texts_are_read_as_spelled,
     unread_paths_are_those_that_no_check_reads,
 };
+pub use misa::misa_word;
 pub use print::{print_checked, refusal_text};
 pub use refusal::{IsaKind, IsaRefusal};

@@ -49,6 +49,10 @@ pub mod Selecting
 pub mod RunDatabase
 pub mod DatabaseLeft
 pub mod JudgingDatabase
+pub mod Findings
+pub mod Showing
+pub mod Report
+pub mod Reporting
 pub mod Demonstrate
 pub mod Demonstrating
 pub mod Promise

@@ -17,13 +17,14 @@ use Rattle.rvs_suite.specs.Normalize as normalizing
 use Rattle.rvs_suite.specs.Reference as running
 use Rattle.rvs_suite.specs.RunTests as judging
 use Rattle.rvs_suite.specs.RunDatabase as giving
+use Rattle.rvs_suite.specs.Report as reporting
 use Rattle.rvs_suite.specs.Select as selecting
 use Rattle.rvs_suite.specs.Demonstrate as demonstrating
 use Rattle.rvs_words.specs.declared.command.Command.{Command}
 use Rattle.rvs_words.specs.declared.command.Command.TheVariants.{Unknown, Compare, Validate}
 use Rattle.rvs_words.specs.declared.command.Command.TheVariants.{Normalize, Generate, Reference}
 use Rattle.rvs_words.specs.declared.command.Command.TheVariants.{Coverage, Propagate, Run, Demo}
-use Rattle.rvs_words.specs.declared.command.Command.TheVariants.{RunDatabase, Select}
+use Rattle.rvs_words.specs.declared.command.Command.TheVariants.{RunDatabase, Report, Select}
 
 -- the plan of a command
 abbrev pub plan_of : Command → Plan Finish
@@ -37,6 +38,7 @@ plan_of (Coverage asked) = covering.coverage asked
 plan_of (Propagate asked) = propagating.propagate asked
 plan_of (Run asked) = judging.run asked
 plan_of (RunDatabase asked) = giving.run_database asked
+plan_of (Report asked) = reporting.report asked
 plan_of (Select asked) = selecting.select asked
 plan_of (Demo count) = demonstrating.demonstrate count
 
@@ -44,10 +46,12 @@ plan_of (Demo count) = demonstrating.demonstrate count
 abbrev pub effects_of : List (List ℕ) → Plan Finish
 effects_of words = plan_of (command_of words)
 
--- `run` takes it for an answer that the signature file of a device isn't there
+-- `run` takes it for an answer that the signature file of a device isn't there, and `report` that a
+-- file of a test isn't
 abbrev pub absence_of : Command → Absence
 absence_of (Run asked) = IsAnswer
 absence_of (RunDatabase asked) = IsAnswer
+absence_of (Report asked) = IsAnswer
 absence_of _ = IsFault
 
 -- a command that reads all of its inputs before its first deed; over a database, `run` reads each

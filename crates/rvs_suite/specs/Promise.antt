@@ -11,6 +11,7 @@ use Rattle.rvs_suite.specs.Covering as covering
 use Rattle.rvs_suite.specs.Propagating as propagating
 use Rattle.rvs_suite.specs.Judging as judging
 use Rattle.rvs_suite.specs.JudgingDatabase as database
+use Rattle.rvs_suite.specs.Reporting as reporting
 use Rattle.rvs_suite.specs.Selecting as selecting
 use Rattle.rvs_suite.specs.Demonstrating as demonstrating
 
@@ -41,6 +42,8 @@ pub record Promise (call : Call) : Type 0 where
   pub run : judging.Promise call
   -- it runs the selected tests of a database, in order, each from its file as it is then
   pub run_database : database.Promise call
+  -- it puts the page of what a run left, and passes where the files of each test say that it passes
+  pub report : reporting.Promise call
   -- it says of each test of a database whether it is selected
   pub select : selecting.Promise call
   -- it puts the report of the run of the stated program

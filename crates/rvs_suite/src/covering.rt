@@ -81,7 +81,8 @@ fn report_logs<H: Host>(
         (reads_logs (measure asked.now.windows) asked.now.logs (groups_view groups.now))
         (world (H.state host.old) out) (world (H.state host.new) out) result }
 {
-    let counted = count_all(alloc, host, groups, asked)?;
+    let windows = asked.windows.as_slice();
+    let counted = count_all(alloc, host, groups, windows, asked.logs.as_slice())?;
     Ok(report_of(alloc, groups, asked.logs.as_slice(), &counted)?)
 }
 
@@ -116,21 +117,20 @@ fn nothing(alloc: Global, groups: &Groups, logs: usize) -> Result<Covered, NoMem
 }
 
 /// Counts in all logs, one after the other, with one counter.
-fn count_all<H: Host>(
+pub(crate) fn count_all<H: Host>(
     alloc: Global,
     host: &mut H,
     groups: &Groups,
-    asked: &CoverageArguments,
+    windows: &[Window],
+    logs: &[Text],
 ) -> Result<Covered, Stop>
     ensures met { (out : SinkState) → Meets
-        (takes_logs file_name (counts_more asked.now.windows (groups_view groups.now))
-        (uncounted (groups_view groups.now)) asked.now.logs)
+        (takes_logs file_name (counts_more windows.now (groups_view groups.now))
+        (uncounted (groups_view groups.now)) logs.now)
         (world (H.state host.old) out) (world (H.state host.new) out) result }
     ensures long { IfOk result (λ c. length c.counts ≡ length (aims_in groups.now)) }
 {
-    let logs = asked.logs.as_slice();
     let none = nothing(alloc, groups, logs.len())?;
-    let windows = asked.windows.as_slice();
     let kept = Items::from(windows.to_vec(alloc)?);
     let mut counter = Counter::new(alloc, groups, kept)?;
     count_onto(alloc, host, &mut counter, none, logs)

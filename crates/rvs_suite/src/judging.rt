@@ -141,6 +141,19 @@ fn words_of(alloc: Global, isa: IsaSpec, test: &Test, image: Image) -> Result<It
     Ok(run.words)
 }
 
+/// The words that a test leaves on the reference machine.
+///
+/// # Errors
+///
+/// [`Stop::NoMemory`].
+pub(crate) fn reference_of(alloc: Global, isa: IsaSpec, test: &Test) -> Result<Items<u32>, Stop>
+    requires { IsRunnable isa test.now }
+    ensures { Accepts (Ok (reference_words isa test.now)) result }
+{
+    let image = image_of(alloc, isa, test)?;
+    words_of(alloc, isa, test, image)
+}
+
 fn write_test<H: Host>(
     alloc: Global,
     host: &mut H,

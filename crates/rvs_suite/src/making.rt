@@ -64,7 +64,7 @@ pub fn say_made(
 }
 
 /// The test of a label.
-fn made_of(alloc: Global, label: &Label, isa: &IsaSpec) -> Result<Made, NoMemory>
+pub(crate) fn made_of(alloc: Global, label: &Label, isa: &IsaSpec) -> Result<Made, NoMemory>
     requires { IsValid isa.now (label_view label.now) }
     ensures made { IfOk result (λ m. IsMade isa.now (label_view label.now) m) }
     ensures runs { IfOk result (λ m. IfSome m.text (λ text.

@@ -40,7 +40,7 @@ use Rattle.rvs_words.proofs.OptionPairs.{values_other, known_pairs}
 pub isa-name : IsName (codes "--isa")
 isa-name = record { alone = refl; joined = λ byte text. refl; same = refl }
 
-cgf-name : IsName (codes "--cgf")
+pub cgf-name : IsName (codes "--cgf")
 cgf-name = record { alone = refl; joined = λ byte text. refl; same = refl }
 
 test-name : IsName (codes "--test")
@@ -49,7 +49,7 @@ test-name = record { alone = refl; joined = λ byte text. refl; same = refl }
 signature-name : IsName (codes "--signature")
 signature-name = record { alone = refl; joined = λ byte text. refl; same = refl }
 
-log-name : IsName (codes "--log")
+pub log-name : IsName (codes "--log")
 log-name = record { alone = refl; joined = λ byte text. refl; same = refl }
 
 steps-name : IsName (codes "--steps")
@@ -64,7 +64,7 @@ part-name = record { alone = refl; joined = λ byte text. refl; same = refl }
 families-name : IsName (codes "--families")
 families-name = record { alone = refl; joined = λ byte text. refl; same = refl }
 
-window-name : IsName (codes "--window")
+pub window-name : IsName (codes "--window")
 window-name = record { alone = refl; joined = λ byte text. refl; same = refl }
 
 pub device-name : IsName (codes "--device")
@@ -111,7 +111,7 @@ enough : (most : ℕ) (values : List Value) → 1 ≤ length values → length v
     → (nat_le 1 (length (map text_of values)) && nat_le (length (map text_of values)) most) ≡ true
 enough most values low high = simp length-map (grind (arith, nat_tests))
 
-some : (most : ℕ) (values : List Value) → 1 ≤ length values → length values ≤ most
+pub some : (most : ℕ) (values : List Value) → 1 ≤ length values → length values ≤ most
     → some_of most (map text_of values) ≡ Some (map text_of values)
 some most values low high =
     ap (λ (b : Bool). cond b (Some (map text_of values)) None) (enough most values low high)
@@ -150,26 +150,26 @@ compares_are_read program left right a b =
     ∙ ap (λ (t : Bool). unwrap_or (cond t both None) Unknown) b
 
 -- the last option of a command that names group files
-abbrev last-pairs : Option Value → List Pair
+abbrev pub last-pairs : Option Value → List Pair
 last-pairs families = pairs (codes "--families") (listed families) ++ []
 
-abbrev last-words : Option Value → List (List ℕ)
+abbrev pub last-words : Option Value → List (List ℕ)
 last-words families = options (codes "--families") (listed families)
 
-last-read : (families : Option Value) → AllMayStand (listed families)
+pub last-read : (families : Option Value) → AllMayStand (listed families)
     → pairs_of (last-words families) ≡ Some (last-pairs families)
 last-read families m = options_alone (codes "--families") families-name (listed families) m
 
-not-last : (name : List ℕ) → bytes_eq (codes "--families") name ≡ false
+pub not-last : (name : List ℕ) → bytes_eq (codes "--families") name ≡ false
     → (families : Option Value) → values_of name (last-pairs families) ≡ []
 not-last name e families = values_other name (codes "--families") e (listed families) []
 
-last-known : (names : List (List ℕ))
+pub last-known : (names : List (List ℕ))
     → list_any (λ (known : List ℕ). bytes_eq (codes "--families") known) names ≡ true
     → (families : Option Value) → are_known names (last-pairs families) ≡ true
 last-known names e families = known_pairs names (codes "--families") e (listed families) []
 
-last-value : (families : Option Value)
+pub last-value : (families : Option Value)
     → values_of (codes "--families") (last-pairs families) ≡ map text_of (listed families)
 last-value families = own-values (codes "--families") families-name (listed families) [] refl
 

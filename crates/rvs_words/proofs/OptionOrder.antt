@@ -11,7 +11,8 @@ use Rattle.rvs_words.specs.Commands.{Values, with_options, validate_options, val
 use Rattle.rvs_words.specs.Commands.{normalize_options, normalize_of, generate_options, generate_of}
 use Rattle.rvs_words.specs.Commands.{reference_options, reference_of, coverage_options, coverage_of}
 use Rattle.rvs_words.specs.Commands.{propagate_options, propagate_of, run_options, run_of}
-use Rattle.rvs_words.specs.Commands.{select_options, select_of, command_of}
+use Rattle.rvs_words.specs.Commands.{report_options, report_of, select_options, select_of}
+use Rattle.rvs_words.specs.Commands.{command_of}
 use Rattle.rvs_words.specs.declared.words.Pair.{Pair}
 use Rattle.rvs_words.specs.declared.command.Command.{Command}
 use Rattle.rvs_words.specs.declared.command.Command.TheVariants.{Unknown}
@@ -134,7 +135,10 @@ options_change_places program name words others front behind a b is apart e e2 =
               of coverage_options coverage_of,
               (
                 of propagate_options propagate_of,
-                (of run_options (run_of program), (of select_options select_of, tt)),
+                (
+                  of run_options (run_of program),
+                  (of report_options report_of, (of select_options select_of, tt)),
+                ),
               ),
             ),
           ),

@@ -20,7 +20,7 @@ use Rattle.rvs_base.specs.declared.asked.Window.{Window}
 use Rattle.rvs_words.specs.declared.command.Command.TheVariants.{Compare, Validate, Normalize}
 use Rattle.rvs_words.specs.declared.command.Command.TheVariants.{Generate, Reference, Coverage, Run}
 use Rattle.rvs_words.specs.declared.command.Command.TheVariants.{Propagate, RunDatabase, Select}
-use Rattle.rvs_words.specs.declared.command.Command.TheVariants.{Unknown, Demo}
+use Rattle.rvs_words.specs.declared.command.Command.TheVariants.{Report, Unknown, Demo}
 use Rattle.rvs_base.specs.Asked.{size_of}
 
 -- a word that isn't empty and doesn't begin with a dash
@@ -186,6 +186,30 @@ RunsAreRead =
       families = read;
     })
 
+-- the logs and the windows needn't stand
+abbrev pub ReportsAreRead : Type 0
+ReportsAreRead =
+    (program : List ℕ) (isa device work : Value) (groups logs windows : List Value)
+    (families : Option Value) (kept : List Window) (read : Families)
+    → AllMayStand (isa ∷ device ∷ work ∷ groups) → AllMayStand logs → AllMayStand windows
+    → AllMayStand (listed families) → AreGroups groups → length logs ≤ 4096
+    → windows_of (map text_of windows) ≡ Some kept
+    → families_of (map text_of (listed families)) ≡ Some read
+    → command_of (program ∷ codes "report" ∷ option (codes "--isa") isa
+    ++ (options (codes "--cgf") groups ++ (option (codes "--device") device
+    ++ (option (codes "--work") work ++ (options (codes "--log") logs
+    ++ (options (codes "--window") windows
+    ++ options (codes "--families") (listed families)))))))
+    ≡ Report (record {
+      isa = isa.text;
+      groups = map text_of groups;
+      device = device.text;
+      work = work.text;
+      logs = map text_of logs;
+      windows = kept;
+      families = read;
+    })
+
 abbrev pub RunsOverDatabasesAreRead : Type 0
 RunsOverDatabasesAreRead =
     (program : List ℕ) (isa database device work : Value) (part : Option Value)
@@ -235,7 +259,7 @@ DemosAreRead =
 abbrev pub option_commands : List (List ℕ)
 option_commands =
     codes "validate" ∷ codes "normalize" ∷ codes "generate" ∷ codes "reference" ∷ codes "coverage"
-    ∷ codes "propagate" ∷ codes "run" ∷ codes "select" ∷ []
+    ∷ codes "propagate" ∷ codes "run" ∷ codes "report" ∷ codes "select" ∷ []
 
 abbrev pub takes_options : List ℕ → Bool
 takes_options name = list_any (λ (known : List ℕ). bytes_eq name known) option_commands

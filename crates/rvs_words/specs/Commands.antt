@@ -14,7 +14,7 @@ use Rattle.rvs_words.specs.declared.command.Command.{Command}
 use Rattle.rvs_words.specs.declared.command.Command.TheVariants.{Unknown, Compare, Validate}
 use Rattle.rvs_words.specs.declared.command.Command.TheVariants.{Normalize, Generate, Reference}
 use Rattle.rvs_words.specs.declared.command.Command.TheVariants.{Coverage, Propagate, Run, Demo}
-use Rattle.rvs_words.specs.declared.command.Command.TheVariants.{RunDatabase, Select}
+use Rattle.rvs_words.specs.declared.command.Command.TheVariants.{RunDatabase, Report, Select}
 
 -- a number of one to seven decimal digits
 abbrev pub number_of : List ℕ → Option ℕ
@@ -39,6 +39,10 @@ steps_of texts = None
 abbrev pub some_of : ℕ → List (List ℕ) → Option (List (List ℕ))
 some_of most values = if nat_le 1 (length values) && nat_le (length values) most then Some values
     else None
+
+-- so many values at most
+abbrev pub up_to : ℕ → List (List ℕ) → Option (List (List ℕ))
+up_to most values = if nat_le (length values) most then Some values else None
 
 -- so many group files may be named
 abbrev pub most_groups : ℕ
@@ -197,6 +201,31 @@ run_database_of program values = do
     part = part;
   }))
 
+abbrev pub report_options : List (List ℕ)
+report_options =
+    codes "--isa" ∷ codes "--cgf" ∷ codes "--device" ∷ codes "--work" ∷ codes "--log"
+    ∷ codes "--window" ∷ codes "--families" ∷ []
+
+-- the logs and the windows needn't stand
+abbrev pub report_of : Values → Option Command
+report_of values = do
+  isa ← only (values (codes "--isa"))
+  groups ← some_of most_groups (values (codes "--cgf"))
+  device ← only (values (codes "--device"))
+  work ← only (values (codes "--work"))
+  logs ← up_to most_logs (values (codes "--log"))
+  windows ← windows_of (values (codes "--window"))
+  families ← families_of (values (codes "--families"))
+  Some (Report (record {
+    isa = isa;
+    groups = groups;
+    device = device;
+    work = work;
+    logs = logs;
+    windows = windows;
+    families = families;
+  }))
+
 -- whether an option stands
 abbrev pub is_given : List (List ℕ) → Bool
 is_given [] = false
@@ -231,8 +260,9 @@ named program name words =
     else (if bytes_eq name (codes "propagate")
     then with_options propagate_options propagate_of words
     else (if bytes_eq name (codes "run") then with_options run_options (run_of program) words
+    else (if bytes_eq name (codes "report") then with_options report_options report_of words
     else (if bytes_eq name (codes "select") then with_options select_options select_of words
-    else (if bytes_eq name (codes "demo") then demo_of words else None)))))))))
+    else (if bytes_eq name (codes "demo") then demo_of words else None))))))))))
 
 -- what the words ask for, the first of which is the program's own name
 abbrev pub asked_by : List (List ℕ) → Option Command

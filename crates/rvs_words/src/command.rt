@@ -28,6 +28,8 @@ pub enum Command {
     /// Run the selected tests of a database on the reference machine and on a device, and judge
     /// what the device leaves.
     RunDatabase(RunDatabaseArguments),
+    /// Put a page of what a run over coverage groups left.
+    Report(ReportArguments),
     /// Say which tests of a database are selected for a core.
     Select(SelectArguments),
     /// Run a generated program of this size, and count its coverage.
@@ -160,6 +162,25 @@ pub struct RunDatabaseArguments {
     pub work: Text,
     /// The part of the tests, where one is asked for.
     pub part: Option<Part>,
+}
+
+/// What `report` is given.
+#[derive(Drop)]
+pub struct ReportArguments {
+    /// The ISA file.
+    pub isa: Text,
+    /// The group files, one to 64, in the order in which they are joined.
+    pub groups: Items<Text>,
+    /// The device file.
+    pub device: Text,
+    /// The folder of the tests and signatures.
+    pub work: Text,
+    /// The execution logs, up to 4,096, in their order.
+    pub logs: Items<Text>,
+    /// The windows of addresses whose instructions are counted, up to 16; all where there are none.
+    pub windows: Items<Window>,
+    /// Which families of the groups' abstract points are read.
+    pub families: Families,
 }
 
 /// What `select` is given.

@@ -6,13 +6,14 @@ ghost use Rattle.rvs_words.specs.Commands.{normalize_options};
 ghost use Rattle.rvs_words.specs.Commands.{normalize_of, generate_options, generate_of};
 ghost use Rattle.rvs_words.specs.Commands.{coverage_options, coverage_of};
 ghost use Rattle.rvs_words.specs.Commands.{propagate_options, propagate_of};
+ghost use Rattle.rvs_words.specs.Commands.{up_to, report_options, report_of};
 ghost use Rattle.rvs_words.specs.Windows.{windows_of};
 ghost use Rattle.rvs_words.specs.LogWords.{signed_logs};
 ghost use Rattle.rvs_words.specs.Reading.{Answers};
 
 use crate::command::{
     Command, CoverageArguments, GenerateArguments, NormalizeArguments, PropagateArguments,
-    SignedLog,
+    ReportArguments, SignedLog,
 };
 use crate::families::read_families;
 use crate::logs::with_signatures;
@@ -167,4 +168,67 @@ fn given_signatures(
 {
     let spelled = values(alloc, pairs, "--signature")?;
     with_signatures(alloc, names, spelled.as_slice())
+}
+
+/// Reads the words behind `report`.
+///
+/// # Errors
+///
+/// [`Unread`].
+pub fn read_report(alloc: Global, words: &[String]) -> Result<Command, Unread>
+    ensures { Answers result (with_options report_options report_of (texts words.now)) }
+{
+    let names = [
+        "--isa",
+        "--cgf",
+        "--device",
+        "--work",
+        "--log",
+        "--window",
+        "--families",
+    ];
+    let options = read_options(alloc, words, &names)?;
+    report_asked(alloc, options.as_slice())
+}
+
+/// Reads the options of `report`.
+///
+/// # Errors
+///
+/// [`Unread`].
+fn report_asked(alloc: Global, pairs: &[Pair]) -> Result<Command, Unread>
+    ensures { Answers result (report_of (λ name. values_of name pairs.now)) }
+{
+    let isa = only_value(alloc, pairs, "--isa")?;
+    let groups = group_files(alloc, pairs)?;
+    let device = only_value(alloc, pairs, "--device")?;
+    let work = only_value(alloc, pairs, "--work")?;
+    let logs = given_logs(alloc, pairs)?;
+    let windows = given_windows(alloc, pairs)?;
+    let families = read_families(alloc, pairs)?;
+    Ok(Command::Report(ReportArguments {
+        isa,
+        groups,
+        device,
+        work,
+        logs,
+        windows,
+        families,
+    }))
+}
+
+/// The values of `--log`, which needn't stand.
+///
+/// # Errors
+///
+/// [`Unread`]: `NoCommand` where it stands more than 4,096 times.
+fn given_logs(alloc: Global, pairs: &[Pair]) -> Result<Items<Text>, Unread>
+    ensures { Answers result (up_to most_logs (values_of (codes "--log") pairs.now)) }
+{
+    let files = values(alloc, pairs, "--log")?;
+    if files.as_slice().len() <= MOST_LOGS {
+        Ok(files)
+    } else {
+        Err(Unread::NoCommand)
+    }
 }

@@ -4,7 +4,7 @@ ghost use Rattle.rvs_words.specs.CommandLaws.{GeneratesAreRead, ReferencesAreRea
 ghost use Rattle.rvs_words.specs.CommandLaws.{CoveragesAreRead, PropagatesAreRead, RunsAreRead};
 ghost use Rattle.rvs_words.specs.CommandLaws.{RunsOverDatabasesAreRead, RunsHaveOneSource};
 ghost use Rattle.rvs_words.specs.CommandLaws.{DatabasesHaveNoFamilies};
-ghost use Rattle.rvs_words.specs.CommandLaws.{SelectsAreRead, DemosAreRead};
+ghost use Rattle.rvs_words.specs.CommandLaws.{ReportsAreRead, SelectsAreRead, DemosAreRead};
 ghost use Rattle.rvs_words.specs.CommandLaws.{OptionsArePairs, OptionsChangePlaces, StepsAreRead};
 ghost use Rattle.rvs_words.specs.CommandLaws.{CountsAreRead, WindowsAreRead, RangesAreRead};
 ghost use Rattle.rvs_words.specs.CommandLaws.{RangesAreReadEach, PartsAreRead, FamiliesAreRead};
@@ -12,7 +12,7 @@ ghost use Rattle.rvs_words.specs.CommandLaws.{RangesAreReadEach, PartsAreRead, F
 /// The words of each command, with its options in the usual order, ask for that command with these
 /// values, for all names: whichever form each option has, with any list of one to 64 group files,
 /// any list of one to 4,096 logs to count, and with or without the log of a run, the steps, the
-/// windows, the part and the families.
+/// windows, the part and the families, of `report` without logs too.
 pub fn commands_are_read()
     ensures compare { ComparesAreRead }
     ensures validate { ValidatesAreRead }
@@ -25,6 +25,7 @@ pub fn commands_are_read()
     ensures run_database { RunsOverDatabasesAreRead }
     ensures run_source { RunsHaveOneSource }
     ensures run_families { DatabasesHaveNoFamilies }
+    ensures report { ReportsAreRead }
     ensures select { SelectsAreRead }
     ensures demo { DemosAreRead }
 {}

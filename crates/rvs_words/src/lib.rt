@@ -15,8 +15,8 @@ mod words;
 
 pub use command::{
     Command, CompareArguments, CoverageArguments, GenerateArguments, NormalizeArguments,
-    PropagateArguments, ReferenceArguments, RunArguments, RunDatabaseArguments, SelectArguments,
-    SignedLog, ValidateArguments,
+    PropagateArguments, ReferenceArguments, ReportArguments, RunArguments, RunDatabaseArguments,
+    SelectArguments, SignedLog, ValidateArguments,
 };
 pub use laws::{commands_are_read, numbers_are_read, options_stand_in_any_order};
 pub use reading::read_command;

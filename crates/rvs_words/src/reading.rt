@@ -9,7 +9,9 @@ ghost use Rattle.rvs_words.specs.Reading.{Answers};
 
 use crate::command::{Command, CompareArguments, ReferenceArguments, ValidateArguments};
 use crate::database_commands::{read_run, read_select};
-use crate::group_commands::{read_coverage, read_generate, read_normalize, read_propagate};
+use crate::group_commands::{
+    read_coverage, read_generate, read_normalize, read_propagate, read_report,
+};
 use crate::unread::Unread;
 use crate::words::{Pair, is_positional, only_value, optional_value, owned, read_options};
 use rvs_base::{DemoSize, NoMemory, short_number};
@@ -48,6 +50,7 @@ fn read_named(alloc: Global, words: &[String]) -> Result<Command, Unread>
         "coverage" => read_coverage(alloc, rest),
         "propagate" => read_propagate(alloc, rest),
         "run" => read_run(alloc, program.as_str(), rest),
+        "report" => read_report(alloc, rest),
         "select" => read_select(alloc, rest),
         "demo" => read_demo(rest),
         _ => Err(Unread::NoCommand),

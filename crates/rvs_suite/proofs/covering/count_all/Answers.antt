@@ -32,24 +32,25 @@ returns-in_err-counter-clause-met g c = λ out.
 
 pub returns-clause-met : goal.returns-clause-met
 returns-clause-met g c = λ out.
-    let asked = c.args.asked.now in
+    let windows_asked = c.args.windows.now in
+    let logs_asked = c.args.logs.now in
     let groups = c.args.groups.now in
     let old = world (g.H.Host.state c.args.host.now) out in
     let new = world (g.H.Host.state c.count_onto.new.host) out in
-    let kept : c.from-kept.result ≡ asked.windows = c.from-kept.ensures
-    ∙ c.in_ok-to_vec.ensures.items_if_clones_equal (λ x y e. e) ∙ c.as_slice-windows.ensures in
-    let begun : c.in_ok-counter.counter ≡ state_of groups asked.windows [] 0 =
+    let kept : c.from-kept.result ≡ windows_asked =
+    c.from-kept.ensures ∙ c.in_ok-to_vec.ensures.items_if_clones_equal (λ x y e. e) in
+    let begun : c.in_ok-counter.counter ≡ state_of groups windows_asked [] 0 =
     c.in_ok-counter.ensures ∙ ap (λ (w : List Span). state_of groups w [] 0) kept in
     let labels = ap (λ (s : CountState). s.tally.labels) begun
-    ∙ counted_labels groups asked.windows [] 0 in
+    ∙ counted_labels groups windows_asked [] 0 in
     let windows = ap (λ (s : CountState). s.tally.windows) begun
-    ∙ counted_windows groups asked.windows [] 0 in
-    let met = rw c.as_slice-logs.ensures at (c.count_onto.ensures.met out) in
+    ∙ counted_windows groups windows_asked [] 0 in
+    let met = c.count_onto.ensures.met out in
     let P : List Label → Type 0 = λ ls. Meets (takes_logs file_name (counts_more
-    c.in_ok-counter.counter.tally.windows (groups_view ls)) c.in_ok-none.none asked.logs)
+    c.in_ok-counter.counter.tally.windows (groups_view ls)) c.in_ok-none.none logs_asked)
     old new c.count_onto.result in
     let Q : List Span → Type 0 = λ w. Meets (takes_logs file_name (counts_more w
-    (groups_view groups)) c.in_ok-none.none asked.logs) old new c.count_onto.result in
-    let R : Covered → Type 0 = λ none. Meets (takes_logs file_name (counts_more asked.windows
-    (groups_view groups)) none asked.logs) old new c.count_onto.result in
+    (groups_view groups)) c.in_ok-none.none logs_asked) old new c.count_onto.result in
+    let R : Covered → Type 0 = λ none. Meets (takes_logs file_name (counts_more windows_asked
+    (groups_view groups)) none logs_asked) old new c.count_onto.result in
     subst R c.in_ok-none.ensures.counted (subst Q windows (subst P labels met))

@@ -3,6 +3,7 @@ use Rattle.rvs_words.proofs.CommandWords.{compares_are_read, validates_are_read}
 use Rattle.rvs_words.proofs.CommandWords.{normalizes_are_read, generates_are_read}
 use Rattle.rvs_words.proofs.CommandWords.{references_are_read, coverages_are_read, runs_are_read}
 use Rattle.rvs_words.proofs.CommandWords.{propagates_are_read, demos_are_read}
+use Rattle.rvs_words.proofs.ReportWords.{reports_are_read}
 use Rattle.rvs_words.proofs.DatabaseWords.{runs_over_databases_are_read, runs_have_one_source}
 use Rattle.rvs_words.proofs.DatabaseWords.{databases_have_no_families, selects_are_read}
 
@@ -38,6 +39,9 @@ returns-clause-run_source c = runs_have_one_source
 
 pub returns-clause-run_families : goal.returns-clause-run_families
 returns-clause-run_families c = databases_have_no_families
+
+pub returns-clause-report : goal.returns-clause-report
+returns-clause-report c = reports_are_read
 
 pub returns-clause-select : goal.returns-clause-select
 returns-clause-select c = selects_are_read

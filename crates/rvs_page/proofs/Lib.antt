@@ -1,0 +1,3 @@
+mod Back
+pub mod Telling
+pub mod Verdicts

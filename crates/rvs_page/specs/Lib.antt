@@ -1,0 +1,11 @@
+pub mod Escape
+pub mod Failures
+pub mod Head
+pub mod Labels
+pub mod Laws
+pub mod Page
+pub mod Pieces
+pub mod Points
+pub mod Said
+pub mod Shown
+pub mod Style

@@ -1,0 +1,71 @@
+// Texts as they stand in a page.
+ghost use Rattle.std.specs.Prelude.{◌≡◌, ◌++◌, OnOk};
+ghost use Rattle.std.specs.List.{flat_map};
+ghost use Rattle.rvs_page.specs.Escape as spec;
+
+use rvs_base::NoMemory;
+
+/// Adds bytes as they are.
+///
+/// # Errors
+///
+/// [`NoMemory`].
+pub(crate) fn push_bytes(page: &mut Vec<u8>, bytes: &[u8]) -> Result<(), NoMemory>
+    ensures { OnOk result (page.new.items ≡ page.old.items ++ bytes.now) }
+{
+    page.extend_from_slice(bytes)?;
+    Ok(())
+}
+
+fn push_byte(page: &mut Vec<u8>, byte: u8) -> Result<(), NoMemory>
+    ensures { OnOk result (page.new.items ≡ page.old.items ++ spec.mark byte) }
+{
+    if byte == b'&' {
+        push_bytes(page, b"&amp;")
+    } else if byte == b'<' {
+        push_bytes(page, b"&lt;")
+    } else if byte == b'>' {
+        push_bytes(page, b"&gt;")
+    } else if byte == b'"' {
+        push_bytes(page, b"&quot;")
+    } else {
+        push_plain(page, byte)
+    }
+}
+
+/// A byte that isn't told by a name: a control character is told by its number.
+fn push_plain(page: &mut Vec<u8>, byte: u8) -> Result<(), NoMemory>
+    ensures { OnOk result (page.new.items ≡ page.old.items ++ spec.plain byte) }
+{
+    if byte < 32 || byte == 127 {
+        push_control(page, byte)
+    } else {
+        page.push(byte)?;
+        Ok(())
+    }
+}
+
+fn push_control(page: &mut Vec<u8>, byte: u8) -> Result<(), NoMemory>
+    ensures { OnOk result (page.new.items ≡ page.old.items ++ spec.control byte) }
+{
+    push_bytes(page, b"&#")?;
+    push_bytes(
+        page,
+        &[b'0' + byte / 100, b'0' + byte / 10 % 10, b'0' + byte % 10],
+    )?;
+    push_bytes(page, b";")
+}
+
+/// Adds a text, so that a reader of the page reads it.
+///
+/// # Errors
+///
+/// [`NoMemory`].
+pub fn push_escaped(page: &mut Vec<u8>, text: &[u8]) -> Result<(), NoMemory>
+    ensures { OnOk result (page.new.items ≡ page.old.items ++ spec.escaped text.now) }
+{
+    for byte in text {
+        push_byte(page, *byte)?;
+    }
+    Ok(())
+}

@@ -1,0 +1,202 @@
+// The failures on a page.
+ghost use Rattle.std.specs.Prelude.{◌≡◌, ◌++◌, OnOk};
+ghost use Rattle.std.specs.List.{flat_map};
+ghost use Rattle.rvs_page.specs.Failures as spec;
+
+use crate::pieces::{Piece, html, push_html, push_pieces, read_as, text};
+use crate::said::{push_badge, push_said_whole};
+use crate::shown::{Case, Label};
+use crate::totals::{any_fails, fails};
+use rvs_base::NoMemory;
+use std::alloc::Global;
+
+/// So many cases of a test are shown at once, and the rest is folded.
+const SHOWN: usize = 8;
+
+fn unlike(core: u32, reference: u32) -> &'static str
+    ensures { result.now ≡ spec.unlike core reference }
+{
+    if core == reference {
+        ""
+    } else {
+        " class=\"bad\""
+    }
+}
+
+fn push_case_row(alloc: Global, page: &mut Vec<u8>, case: &Case) -> Result<(), NoMemory>
+    ensures { OnOk result (page.new.items ≡ page.old.items ++ spec.case_row case.now) }
+{
+    let (core, core_next) = case.core;
+    let (reference, reference_next) = case.reference;
+    let pieces = [
+        html("<tr><td class=\"n\">"),
+        Piece::Number(case.number as u64),
+        html("</td><td>"),
+        text(&case.kind),
+        html("</td><td class=\"key\">"),
+        text(&case.key),
+        html("</td><td class=\"key\">"),
+        read_as(case.code.as_slice()),
+        html("</td><td><code"),
+        html(unlike(core, reference)),
+        html(">"),
+        Piece::Word(core),
+        html("</code> <code"),
+        html(unlike(core_next, reference_next)),
+        html(">"),
+        Piece::Word(core_next),
+        html("</code></td><td><code>"),
+        Piece::Word(reference),
+        html("</code> <code>"),
+        Piece::Word(reference_next),
+        html("</code></td></tr>\n"),
+    ];
+    push_pieces(alloc, page, &pieces)
+}
+
+fn push_case_rows(alloc: Global, page: &mut Vec<u8>, cases: &[Case]) -> Result<(), NoMemory>
+    ensures { OnOk result (page.new.items
+        ≡ page.old.items ++ flat_map spec.case_row cases.now) }
+{
+    for case in cases {
+        push_case_row(alloc, page, case)?;
+    }
+    Ok(())
+}
+
+fn push_cases_head(alloc: Global, page: &mut Vec<u8>) -> Result<(), NoMemory>
+    ensures { OnOk result (page.new.items ≡ page.old.items ++ spec.cases_head) }
+{
+    let pieces = [
+        html("<div class=\"wide\"><table>\n<thead><tr><th class=\"n\">case</th>"),
+        html("<th>kind</th><th>point</th><th>instruction</th><th>core</th>"),
+        html("<th>reference</th></tr></thead>\n<tbody>\n"),
+    ];
+    push_pieces(alloc, page, &pieces)
+}
+
+#[tactic(auto, unfolding(crate::specs::Failures::cases_table))]
+fn push_cases_table(alloc: Global, page: &mut Vec<u8>, cases: &[Case]) -> Result<(), NoMemory>
+    ensures { OnOk result (page.new.items ≡ page.old.items ++ spec.cases_table cases.now) }
+{
+    push_cases_head(alloc, page)?;
+    push_case_rows(alloc, page, cases)?;
+    push_html(page, "</tbody>\n</table></div>\n")
+}
+
+fn push_folded_head(alloc: Global, page: &mut Vec<u8>, number: usize) -> Result<(), NoMemory>
+    ensures { OnOk result (page.new.items ≡ page.old.items ++ spec.folded_head number) }
+{
+    let pieces = [
+        html("<details>\n<summary>"),
+        Piece::Number(number as u64),
+        html(" more cases</summary>\n"),
+    ];
+    push_pieces(alloc, page, &pieces)
+}
+
+fn push_folded(alloc: Global, page: &mut Vec<u8>, cases: &[Case]) -> Result<(), NoMemory>
+    ensures { OnOk result (page.new.items ≡ page.old.items ++ spec.folded cases.now) }
+{
+    push_folded_head(alloc, page, cases.len())?;
+    push_cases_table(alloc, page, cases)?;
+    push_html(page, "</details>\n")
+}
+
+#[tactic(auto, unfolding(crate::specs::Failures::folded_cases))]
+fn push_folded_cases(alloc: Global, page: &mut Vec<u8>, cases: &[Case]) -> Result<(), NoMemory>
+    ensures { OnOk result (page.new.items ≡ page.old.items ++ spec.folded_cases cases.now) }
+{
+    if cases.is_empty() {
+        return Ok(());
+    }
+    push_folded(alloc, page, cases)
+}
+
+fn push_shown_cases(alloc: Global, page: &mut Vec<u8>, cases: &[Case]) -> Result<(), NoMemory>
+    ensures { OnOk result (page.new.items ≡ page.old.items ++ spec.shown_cases cases.now) }
+{
+    let (first, rest) = cases.split_at(SHOWN.min(cases.len()));
+    push_cases_table(alloc, page, first)?;
+    push_folded_cases(alloc, page, rest)
+}
+
+#[tactic(auto, unfolding(crate::specs::Failures::cases_text))]
+fn push_cases(alloc: Global, page: &mut Vec<u8>, cases: &[Case]) -> Result<(), NoMemory>
+    ensures { OnOk result (page.new.items ≡ page.old.items ++ spec.cases_text cases.now) }
+{
+    if cases.is_empty() {
+        return Ok(());
+    }
+    push_shown_cases(alloc, page, cases)
+}
+
+fn push_failed_name(alloc: Global, page: &mut Vec<u8>, label: &Label) -> Result<(), NoMemory>
+    ensures { OnOk result (page.new.items ≡ page.old.items ++ spec.failed_name label.now) }
+{
+    let pieces = [
+        html(" <a href=\"#l-"),
+        text(&label.name),
+        html("\">"),
+        text(&label.name),
+        html("</a></h3>\n<p>"),
+    ];
+    push_pieces(alloc, page, &pieces)
+}
+
+fn push_failed(alloc: Global, page: &mut Vec<u8>, label: &Label) -> Result<(), NoMemory>
+    ensures { OnOk result (page.new.items ≡ page.old.items ++ spec.failed_text label.now) }
+{
+    push_html(page, "<article class=\"fail\">\n<h3>")?;
+    push_badge(alloc, page, label.state)?;
+    push_failed_name(alloc, page, label)?;
+    push_said_whole(alloc, page, label)?;
+    push_html(page, "</p>\n")?;
+    push_cases(alloc, page, label.cases.as_slice())?;
+    push_html(page, "</article>\n")
+}
+
+#[tactic(auto, unfolding(crate::specs::Failures::failure_text))]
+fn push_failure(alloc: Global, page: &mut Vec<u8>, label: &Label) -> Result<(), NoMemory>
+    ensures { OnOk result (page.new.items ≡ page.old.items ++ spec.failure_text label.now) }
+{
+    if fails(label.state) {
+        push_failed(alloc, page, label)
+    } else {
+        Ok(())
+    }
+}
+
+fn push_each_failure(alloc: Global, page: &mut Vec<u8>, labels: &[Label]) -> Result<(), NoMemory>
+    ensures { OnOk result (page.new.items
+        ≡ page.old.items ++ flat_map spec.failure_text labels.now) }
+{
+    for label in labels {
+        push_failure(alloc, page, label)?;
+    }
+    Ok(())
+}
+
+fn push_section(alloc: Global, page: &mut Vec<u8>, labels: &[Label]) -> Result<(), NoMemory>
+    ensures { OnOk result (page.new.items ≡ page.old.items ++ spec.section labels.now) }
+{
+    push_html(page, "<section>\n<h2>Failures</h2>\n")?;
+    push_each_failure(alloc, page, labels)?;
+    push_html(page, "</section>\n")
+}
+
+/// Adds the failures, where there are some.
+///
+/// # Errors
+///
+/// [`NoMemory`].
+#[tactic(auto, unfolding(crate::specs::Failures::failures_text))]
+pub fn push_failures(alloc: Global, page: &mut Vec<u8>, labels: &[Label]) -> Result<(), NoMemory>
+    ensures { OnOk result (page.new.items ≡ page.old.items ++ spec.failures_text labels.now) }
+{
+    if any_fails(labels) {
+        push_section(alloc, page, labels)
+    } else {
+        Ok(())
+    }
+}

@@ -1,0 +1,197 @@
+// What a page says of the state of a test.
+ghost use Rattle.std.specs.Prelude.{◌≡◌, ◌++◌, OnOk};
+ghost use Rattle.rvs_page.specs.Said as spec;
+
+use crate::pieces::{Piece, html, push_html, push_pieces};
+use crate::shown::{Label, State};
+use crate::totals::tested;
+use rvs_base::NoMemory;
+use std::alloc::Global;
+
+fn badge_class(state: State) -> &'static str
+    ensures { result.now ≡ spec.badge_class state }
+{
+    match state {
+        State::NoTest => "no",
+        State::NotRun => "no",
+        State::OtherTest => "no",
+        State::Pass { .. } => "ok",
+        _ => "bad",
+    }
+}
+
+fn badge_word(state: State) -> &'static str
+    ensures { result.now ≡ spec.badge_word state }
+{
+    match state {
+        State::NoTest => "no test",
+        State::NotRun => "not run",
+        State::OtherTest => "other test",
+        State::Pass { .. } => "PASS",
+        _ => "FAIL",
+    }
+}
+
+/// Adds the badge of a state.
+///
+/// # Errors
+///
+/// [`NoMemory`].
+pub fn push_badge(alloc: Global, page: &mut Vec<u8>, state: State) -> Result<(), NoMemory>
+    ensures { OnOk result (page.new.items ≡ page.old.items ++ spec.badge state) }
+{
+    let pieces = [
+        html("<b class=\""),
+        html(badge_class(state)),
+        html("\">"),
+        html(badge_word(state)),
+        html("</b>"),
+    ];
+    push_pieces(alloc, page, &pieces)
+}
+
+fn push_cases_said(alloc: Global, page: &mut Vec<u8>, label: &Label) -> Result<(), NoMemory>
+    ensures { OnOk result (page.new.items ≡ page.old.items ++ spec.cases_said label.now) }
+{
+    let pieces = [
+        Piece::Number(label.cases.as_slice().len() as u64),
+        html(" of "),
+        Piece::Number(tested(label) as u64),
+        html(" cases differ"),
+    ];
+    push_pieces(alloc, page, &pieces)
+}
+
+fn push_words_said(
+    alloc: Global,
+    page: &mut Vec<u8>,
+    at: usize,
+    left: u32,
+    right: u32,
+    differing: usize,
+    words: usize,
+) -> Result<(), NoMemory>
+    ensures { OnOk result (page.new.items
+        ≡ page.old.items ++ spec.words_said at left right differing words) }
+{
+    let pieces = [
+        html("word "),
+        Piece::Number(at as u64),
+        html(" is <code>"),
+        Piece::Word(left),
+        html("</code> and <code>"),
+        Piece::Word(right),
+        html("</code>; "),
+        Piece::Number(differing as u64),
+        html(" of "),
+        Piece::Number(words as u64),
+        html(" words and "),
+    ];
+    push_pieces(alloc, page, &pieces)
+}
+
+fn push_other(page: &mut Vec<u8>) -> Result<(), NoMemory>
+    ensures { OnOk result (page.new.items ≡ page.old.items ++ spec.other_said) }
+{
+    push_html(page, "its files are of another test")
+}
+
+fn push_none(page: &mut Vec<u8>) -> Result<(), NoMemory>
+    ensures { OnOk result (page.new.items ≡ page.old.items ++ spec.none_said) }
+{
+    push_html(page, "no signature")
+}
+
+fn push_long(page: &mut Vec<u8>) -> Result<(), NoMemory>
+    ensures { OnOk result (page.new.items ≡ page.old.items ++ spec.long_said) }
+{
+    push_html(page, "signature too long")
+}
+
+/// Adds what is said of a test whose words needn't be compared one by one.
+#[tactic(auto, unfolding(crate::specs::Said::state_said))]
+fn push_state_said(alloc: Global, page: &mut Vec<u8>, state: State) -> Result<(), NoMemory>
+    ensures { OnOk result (page.new.items ≡ page.old.items ++ spec.state_said state) }
+{
+    match state {
+        State::NoTest => Ok(()),
+        State::NotRun => Ok(()),
+        State::OtherTest => push_other(page),
+        State::Pass { words } => push_words_count(alloc, page, words),
+        State::NoSignature => push_none(page),
+        State::TooLong => push_long(page),
+        State::BadLine { line } => push_bad_line(alloc, page, line),
+        State::Lengths { device, reference } => push_lengths(alloc, page, device, reference),
+        State::Differs { .. } => Ok(()),
+    }
+}
+
+fn push_words_count(alloc: Global, page: &mut Vec<u8>, words: usize) -> Result<(), NoMemory>
+    ensures { OnOk result (page.new.items ≡ page.old.items ++ spec.words_count words) }
+{
+    let pieces = [Piece::Number(words as u64), html(" words")];
+    push_pieces(alloc, page, &pieces)
+}
+
+fn push_bad_line(alloc: Global, page: &mut Vec<u8>, line: u32) -> Result<(), NoMemory>
+    ensures { OnOk result (page.new.items ≡ page.old.items ++ spec.bad_line line) }
+{
+    let pieces = [html("bad signature line "), Piece::Number(u64::from(line))];
+    push_pieces(alloc, page, &pieces)
+}
+
+fn push_lengths(
+    alloc: Global,
+    page: &mut Vec<u8>,
+    device: usize,
+    reference: usize,
+) -> Result<(), NoMemory>
+    ensures { OnOk result (page.new.items ≡ page.old.items ++ spec.lengths device reference) }
+{
+    let pieces = [
+        html("lengths "),
+        Piece::Number(device as u64),
+        html(" and "),
+        Piece::Number(reference as u64),
+    ];
+    push_pieces(alloc, page, &pieces)
+}
+
+/// Adds what is said of a label's test beside its badge.
+///
+/// # Errors
+///
+/// [`NoMemory`].
+#[tactic(auto, unfolding(crate::specs::Said::said_of))]
+pub fn push_said(alloc: Global, page: &mut Vec<u8>, label: &Label) -> Result<(), NoMemory>
+    ensures { OnOk result (page.new.items ≡ page.old.items ++ spec.said_of label.now) }
+{
+    match label.state {
+        State::Differs { .. } => push_cases_said(alloc, page, label),
+        state => push_state_said(alloc, page, state),
+    }
+}
+
+/// Adds what is said of a test that fails.
+///
+/// # Errors
+///
+/// [`NoMemory`].
+#[tactic(auto, unfolding(crate::specs::Said::said_whole))]
+pub fn push_said_whole(alloc: Global, page: &mut Vec<u8>, label: &Label) -> Result<(), NoMemory>
+    ensures { OnOk result (page.new.items ≡ page.old.items ++ spec.said_whole label.now) }
+{
+    match label.state {
+        State::Differs {
+            at,
+            left,
+            right,
+            differing,
+            words,
+        } => {
+            push_words_said(alloc, page, at, left, right, differing, words)?;
+            push_cases_said(alloc, page, label)
+        },
+        state => push_state_said(alloc, page, state),
+    }
+}

@@ -1,0 +1,56 @@
+-- What every call of `report` promises.
+use Rattle.std.specs.Prelude.{◌≡◌, ◌↔◌, ℕ, List, length, Some}
+use Rattle.rvs_base.specs.Host.{Files, Tells}
+use Rattle.rvs_base.specs.Sink.{appended}
+use Rattle.rvs_insn.specs.Isa.{Isa}
+use Rattle.rvs_plan.specs.declared.status.Finish.{Finish}
+use Rattle.rvs_sig.specs.Words.{text_of_words}
+use Rattle.rvs_device.specs.Judging.{Spells, Task}
+use Rattle.rvs_page.specs.Page.{page_of}
+use Rattle.rvs_page.specs.Shown.{verdict_of}
+use Rattle.rvs_page.specs.declared.shown.State.TheVariants.{Pass}
+use Rattle.rvs_page.specs.declared.shown.Page.{Page}
+use Rattle.rvs_suite.specs.Answered.{Answered}
+use Rattle.rvs_suite.specs.Call.{Call, Asks}
+use Rattle.rvs_suite.specs.Tests.{reference_words}
+use Rattle.rvs_suite.specs.TestFiles.{files_of}
+use Rattle.rvs_suite.specs.RunLeft.{task_of}
+use Rattle.rvs_suite.specs.RunTests.{Bench}
+use Rattle.rvs_suite.specs.Findings.{finding_in}
+use Rattle.rvs_suite.specs.Report.{page_in, end_by}
+use Rattle.rvs_suite.specs.declared.gathering.Test.{Test}
+use Rattle.rvs_words.specs.declared.command.Command.TheVariants.{Report}
+use Rattle.rvs_words.specs.declared.command.ReportArguments.{ReportArguments}
+
+-- the output has this page, and the status says its verdict
+pub record HasShown (call : Call) (page : Page) (end : Finish) : Type 0 where
+  pub out : call.new.out.bytes ≡ appended call.old.out.bytes (page_of page)
+  pub end : end ≡ end_by (verdict_of page.labels)
+
+-- the files hold this test, the reference's words, and a signature that spells them
+pub record HoldPass (files : Files) (bench : Bench) (test : Test) : Type 0 where
+  pub text : files (files_of bench.work test.name).test ≡ Some test.text
+  pub reference : files (files_of bench.work test.name).reference
+      ≡ Some (text_of_words (reference_words bench.isa test))
+  pub spelled : Spells (task_of bench test) (files (files_of bench.work test.name).device)
+
+-- a call of `report` on these of these files
+pub record Reports (call : Call) (files : Files) (asked : ReportArguments) : Type 0 where
+  -- it is done where the page's verdict is PASS, and not passed where it is another, and has put
+  -- the page; it is refused, or the host fails, at the first input that isn't accepted
+  pub answered : Answered call (page_in files asked) (HasShown call)
+  -- a test is shown as passed exactly where the files hold this test, the reference's words, and a
+  -- signature that spells them
+  pub passes : (bench : Bench) (test : Test)
+      → ((finding_in files bench.isa bench.work test).state
+      ≡ Pass (length (reference_words bench.isa test)))
+      ↔ HoldPass files bench test
+  -- it writes no file, however it ends
+  pub files_kept : call.new.host.files ≡ call.old.host.files
+
+-- the same of every call: over told files, where its words ask for `report`
+abbrev pub Promise : Call → Type 0
+Promise call =
+    (files : Files) (asked : ReportArguments)
+    → Tells call.old.host files → Asks call (Report asked)
+    → Reports call files asked
