@@ -24,6 +24,7 @@ pub mod Normalize
 pub mod Normalizing
 pub mod Summing
 pub mod LogReport
+pub mod Telling
 pub mod LogLines
 pub mod Coverage
 pub mod Covering
@@ -51,4 +52,5 @@ pub mod DatabaseLeft
 pub mod JudgingDatabase
 pub mod Demonstrate
 pub mod Demonstrating
+pub mod Progressing
 pub mod Promise

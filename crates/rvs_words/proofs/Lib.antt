@@ -4,6 +4,7 @@ mod OptionValues
 mod PartValues
 mod FamilyValues
 mod CommandWords
+mod LogCommands
 mod DatabaseWords
 mod OptionOrder
 mod CommandNumbers
