@@ -1,12 +1,17 @@
 -- A file that is fed piece by piece.
 use Rattle.std.proofs.Common.{◌≡◌, ℕ, ◌+◌, ◌-◌, ◌^◌, ◌<◌, ◌≤◌, List, [], ◌++◌, length, take}
-use Rattle.std.proofs.Common.{sym, ap, ◌∙◌, arith}
-use Rattle.std.proofs.lemmas.List.{append_assoc, append-nil, length-append}
+use Rattle.std.proofs.Common.{Bool, refl, sym, ap, subst, ◌∙◌, arith}
+use Rattle.std.proofs.lemmas.List.{append_assoc, append-nil, length-append, length-take-le}
 use Rattle.rvs_base.specs.Host.{HostState, ReadsOnly, Opens, Takes}
 use Rattle.rvs_count.proofs.Taking.{HasTaken, HasTaken-start, HasTaken-more, HasTaken-whole}
-use Rattle.rvs_count.proofs.Taking.{HasTaken-front, HasTaken-longer}
+use Rattle.rvs_count.proofs.Taking.{HasTaken-front, HasTaken-longer, not-above}
 use Rattle.rvs_count.specs.State.{CountState, state_of}
-use Rattle.rvs_count.specs.Feeds.{Fed, FeedsFile, FeedsFront, IsLong}
+use Rattle.rvs_base.specs.Sink.{SinkState}
+use Rattle.rvs_count.specs.Feeds.{Fed, FeedsFile, FeedsFront, FeedCause, IsLong}
+use Rattle.rvs_count.specs.Progress.{Loses}
+use Rattle.rvs_count.specs.declared.file.LogFault.{LogFault}
+use Rattle.rvs_count.specs.declared.file.LogFault.TheVariants.{NoFile, Failed, TooLong, NoMemory}
+use Rattle.rvs_count.specs.declared.file.LogFault.TheVariants.{Untold}
 
 pub Fed-none : (c : CountState) → Fed c c []
 Fed-none c = record {
@@ -57,6 +62,27 @@ HasFed-more {buffer = buffer} {c = c} {c' = c'} {n = n} c'' h q u t f low = reco
   within = omega (arith, h.fed.fed, f.fed, low, length-append h.bytes (take n buffer));
 }
 
+-- before the first byte, with none
+pub HasFed-begun : {name : List ℕ} {old now : HostState} (c : CountState) → ReadsOnly old now
+    → now.read_faults ≡ old.read_faults → Opens name old now
+    → (h : HasFed name old now c c) × (length h.bytes ≡ 0)
+unfolding HasFed-start
+HasFed-begun c q u o = (HasFed-start c q u o, refl)
+
+-- a piece more, with so many bytes more
+pub HasFed-step : {name buffer : List ℕ} {old now next : HostState} {c c' : CountState} {n : ℕ}
+    (c'' : CountState) (piece : List ℕ) (h : HasFed name old now c c')
+    → ReadsOnly now next → next.read_faults ≡ now.read_faults → Takes buffer now next n
+    → piece ≡ take n buffer → Fed c' c'' piece → (2 ^ 40 < c'.fed + length piece → ⊥)
+    → (h' : HasFed name old next c c'') × (length h'.bytes ≡ length h.bytes + n)
+unfolding HasFed-more
+HasFed-step {buffer = buffer} {c' = c'} {n = n} c'' piece h q u t is fed never =
+    let low : c''.fed ≤ 2 ^ 40 = not-above c''.fed (2 ^ 40)
+    (λ more. never (omega (arith, more, fed.fed))) in (
+      HasFed-more c'' h q u t (subst (λ l. Fed c' c'' l) is fed) low,
+      omega (arith, length-append h.bytes (take n buffer), length-take-le n buffer t.fits),
+    )
+
 pub HasFed-whole : {name buffer : List ℕ} {old now next : HostState} {c c' : CountState} {n : ℕ}
     → HasFed name old now c c' → Takes buffer now next n → n ≡ 0 → FeedsFile name old c c'
 HasFed-whole h t z =
@@ -75,3 +101,13 @@ HasFed-long h q t l = record {
       let file = HasTaken-longer h.took q t files told in
       (file.0, file.1, omega (arith, l, h.fed.fed, file.2));
 }
+
+-- a line that wasn't put is no fault of the host
+pub cause-lost : (name line : List ℕ) (old new : HostState) (c c' : CountState) (asked : Bool)
+    (sink sink' : SinkState) (fault : LogFault) → Loses asked line sink sink' fault
+    → new.read_faults ≡ old.read_faults → FeedCause name old new c c' fault
+cause-lost name line old new c c' asked sink sink' NoFile lost same = absurd lost
+cause-lost name line old new c c' asked sink sink' Failed lost same = absurd lost
+cause-lost name line old new c c' asked sink sink' TooLong lost same = absurd lost
+cause-lost name line old new c c' asked sink sink' NoMemory lost same = same
+cause-lost name line old new c c' asked sink sink' Untold lost same = same

@@ -26,5 +26,6 @@ pub mod Sorting
 pub mod Streams
 pub mod Sums
 pub mod Taking
+pub mod Telling
 pub mod Turned
 pub mod Wants

@@ -93,6 +93,12 @@ HasTaken-whole {bytes = bytes} h t z files told =
     h.rest files o.0 told o.1 ∙ ap (λ l. Some (bytes ++ l)) (t.at_end z o.0 o.1)
     ∙ ap (λ l. Some l) (append-nil bytes)
 
+-- the file has these bytes and perhaps more
+pub HasTaken-is : {name bytes : List ℕ} {old now : HostState} → HasTaken name old now bytes
+    → (files : Files) → Tells old files → (rest : List ℕ) × (files name ≡ Some (bytes ++ rest))
+HasTaken-is h files told =
+    let o = left files h.reads told in (o.0, h.rest files o.0 told o.1)
+
 -- they are a front of it
 pub HasTaken-front : {name bytes : List ℕ} {old now : HostState} → HasTaken name old now bytes
     → (files : Files) (file : List ℕ) → Tells old files → files name ≡ Some file

@@ -6,7 +6,8 @@ use Rattle.rvs_base.specs.declared.host.OpenFault.{OpenFault}
 use Rattle.rvs_base.specs.declared.host.OpenFault.TheVariants as fault
 use Rattle.rvs_cgf.specs.declared.group.Label.{Label}
 use Rattle.rvs_count.specs.declared.file.LogFault.{LogFault}
-use Rattle.rvs_count.specs.declared.file.LogFault.TheVariants.{NoFile, Failed, TooLong}
+use Rattle.rvs_count.specs.declared.file.LogFault.TheVariants.{NoFile, Failed, TooLong, NoMemory}
+use Rattle.rvs_count.specs.declared.file.LogFault.TheVariants.{Untold}
 use Rattle.rvs_base.specs.declared.asked.Window.{Window}
 use Rattle.rvs_count.specs.State.{CountState, state_of}
 use Rattle.rvs_log.specs.Lines.{log_limit}
@@ -45,6 +46,8 @@ abbrev pub FeedCause : List ℕ → HostState → HostState → CountState → C
 FeedCause name old new c c' NoFile = LacksFile name old new × (c' ≡ c)
 FeedCause name old new c c' Failed = new.read_faults ≡ raised old.read_faults
 FeedCause name old new c c' TooLong = IsLong name old c × (new.read_faults ≡ old.read_faults)
+FeedCause name old new c c' NoMemory = new.read_faults ≡ old.read_faults
+FeedCause name old new c c' Untold = new.read_faults ≡ old.read_faults
 
 -- the fault that a fault in opening leads to
 abbrev pub fault_of : OpenFault → LogFault

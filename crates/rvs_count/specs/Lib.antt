@@ -4,6 +4,7 @@ pub mod Cells
 pub mod Counting
 pub mod Entries
 pub mod Feeds
+pub mod Progress
 pub mod Index
 pub mod Marks
 pub mod Report

@@ -1,12 +1,16 @@
 // Counting in a file.
 ghost use Rattle.std.specs.Prelude.{◌≡◌, ◌≤◌, ◌+◌, ◌-◌, ◌^◌, IfErr, OnOk, OnErr, length, take};
+ghost use Rattle.std.specs.Prelude.{true, false};
 ghost use Rattle.rvs_base.specs.File.{ReadsAtMost};
 ghost use Rattle.rvs_base.specs.Host.{ReadsOnly};
 ghost use Rattle.rvs_count.specs.Feeds.{FeedCause, FeedsFile, FeedsFront, piece_limit};
+ghost use Rattle.rvs_count.specs.Progress.{HasTold, is_untold, lines_of_file};
 ghost use Rattle.rvs_log.specs.Lines.{log_limit};
 
 use crate::counter::{Counter, LogTooLong};
-use rvs_base::{Failed, Host, OpenFault};
+use crate::progress::tell_read;
+use rvs_base::{Failed, Host, NoMemory, OpenFault, Sink};
+use std::alloc::Global;
 use thiserror::Error;
 
 /// The longest piece that is read at once. It stands on the stack, so it is kept small.
@@ -24,6 +28,12 @@ pub enum LogFault {
     /// More than 2^40 bytes would be fed.
     #[error("longer than 1099511627776 bytes")]
     TooLong,
+    /// The allocator refused a line of progress.
+    #[error("out of memory")]
+    NoMemory,
+    /// A line of progress couldn't be put.
+    #[error("telling failed")]
+    Untold,
 }
 
 impl From<OpenFault> for LogFault {
@@ -49,6 +59,16 @@ impl From<Failed> for LogFault {
     }
 }
 
+impl From<NoMemory> for LogFault {
+    ghost use Rattle.rvs_count.specs.declared.file.LogFault.TheVariants.{NoMemory};
+
+    ghost from_gives = { λ _ refusal. refusal ≡ NoMemory };
+
+    fn from(_: NoMemory) -> Self {
+        LogFault::NoMemory
+    }
+}
+
 impl From<LogTooLong> for LogFault {
     ghost use Rattle.rvs_count.specs.declared.file.LogFault.TheVariants.{TooLong};
 
@@ -68,14 +88,18 @@ fn front_of(buffer: &[u8], count: usize) -> &[u8]
 }
 
 /// Feeds the bytes of a file to its end, in one opening and in pieces of at most 16 KiB, and takes
-/// no more of it than may be fed and the piece that passes that; it doesn't finish the log. It
-/// takes no memory.
+/// no more of it than may be fed and the piece that passes that; it doesn't finish the log. Where
+/// `progress` is true, a line for each 1,024 MiB is put to `err` as soon as they are fed. It takes
+/// no memory but for these lines.
 ///
 /// # Errors
 ///
 /// [`LogFault`]; a front of the file was fed.
-pub fn count_file<H: Host>(
+pub fn count_file<H: Host, E: Sink>(
+    alloc: Global,
     host: &mut H,
+    err: &mut E,
+    progress: bool,
     name: &str,
     counter: &mut Counter<'_>,
 ) -> Result<(), LogFault>
@@ -88,14 +112,21 @@ pub fn count_file<H: Host>(
         (FeedCause name.now (H.state host.old) (H.state host.new) counter.old counter.new) }
     ensures at_most { ReadsAtMost 1 (log_limit - counter.old.fed + piece_limit)
         (H.state host.old) (H.state host.new) }
+    ensures told { OnOk result (HasTold progress (λ files. lines_of_file name.now (files name.now))
+        (H.state host.old) (E.state err.old) (E.state err.new) true false) }
+    ensures untold { IfErr result (λ fault. HasTold progress
+        (λ files. lines_of_file name.now (files name.now))
+        (H.state host.old) (E.state err.old) (E.state err.new) false (is_untold fault)) }
 {
     host.open_read(name)?;
     let mut buffer = [0u8; PIECE];
+    let mut read = 0;
     'pieces: loop {
         let count = host.take(&mut buffer)?;
         if count == 0 {
             return Ok(());
         }
         counter.feed(front_of(&buffer, count))?;
+        read = tell_read(alloc, err, progress, name, read, count)?;
     }
 }

@@ -4,7 +4,8 @@ use Rattle.rvs_base.specs.Faults.{raised}
 use Rattle.rvs_base.specs.Host.{HostState, Files, Tells, LacksFile}
 use Rattle.rvs_cgf.specs.declared.group.Label.{Label}
 use Rattle.rvs_count.specs.declared.file.LogFault.{LogFault}
-use Rattle.rvs_count.specs.declared.file.LogFault.TheVariants.{NoFile, Failed, TooLong}
+use Rattle.rvs_count.specs.declared.file.LogFault.TheVariants.{NoFile, Failed, TooLong, NoMemory}
+use Rattle.rvs_count.specs.declared.file.LogFault.TheVariants.{Untold}
 use Rattle.rvs_prop.specs.State.{TrackState, state_of}
 use Rattle.rvs_log.specs.Lines.{log_limit}
 
@@ -38,3 +39,5 @@ abbrev pub FeedCause : List ℕ → HostState → HostState → TrackState → T
 FeedCause name old new c c' NoFile = LacksFile name old new × (c' ≡ c)
 FeedCause name old new c c' Failed = new.read_faults ≡ raised old.read_faults
 FeedCause name old new c c' TooLong = IsLong name old c × (new.read_faults ≡ old.read_faults)
+FeedCause name old new c c' NoMemory = new.read_faults ≡ old.read_faults
+FeedCause name old new c c' Untold = new.read_faults ≡ old.read_faults

@@ -64,3 +64,5 @@ mod DatabaseEnds
 mod PartsKept
 mod InAll
 mod WordLimits
+mod Tellings
+mod ProgressEnds

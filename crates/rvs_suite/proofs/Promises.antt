@@ -1,10 +1,9 @@
 -- What every run of the program promises, from what its command left.
-use Rattle.std.proofs.Common.{List, ℕ, Result}
+use Rattle.std.proofs.Common.{◌≡◌, List, ℕ, false, Result, ap, subst}
 use Rattle.rvs_base.specs.Host.{HostState}
 use Rattle.rvs_base.specs.Sink.{SinkState}
 use Rattle.rvs_plan.specs.World.{world}
 use Rattle.rvs_plan.specs.Account.{Concludes}
-use Rattle.rvs_plan.specs.declared.stop.Stop.{Stop}
 use Rattle.rvs_plan.specs.declared.status.Status.{Status}
 use Rattle.rvs_plan.specs.declared.status.Finish.{Finish}
 use Rattle.rvs_suite.specs.Plans.{Performs}
@@ -15,6 +14,11 @@ use Rattle.rvs_suite.specs.Validating as validating
 use Rattle.rvs_suite.specs.Demonstrating as demonstrating
 use Rattle.rvs_suite.specs.Covering as covering
 use Rattle.rvs_suite.specs.Propagating as propagating
+use Rattle.rvs_suite.specs.Progressing as progressing
+use Rattle.rvs_suite.specs.Progressing.{asks_progress, behind, lines_of}
+use Rattle.rvs_suite.specs.Telling.{HasToldOf, as_planned}
+use Rattle.rvs_suite.specs.declared.unfinished.Unfinished.{Unfinished}
+use Rattle.rvs_count.specs.Progress.{put}
 use Rattle.rvs_suite.specs.Generating as generating
 use Rattle.rvs_suite.specs.Normalizing as normalizing
 use Rattle.rvs_suite.specs.Referencing as referencing
@@ -35,6 +39,7 @@ use Rattle.rvs_suite.proofs.GenerateEnds.{makes}
 use Rattle.rvs_suite.proofs.NormalizeEnds.{normalizes}
 use Rattle.rvs_suite.proofs.CoverageEnds.{covers}
 use Rattle.rvs_suite.proofs.PropagateEnds.{propagates}
+use Rattle.rvs_suite.proofs.ProgressEnds.{progress}
 use Rattle.rvs_suite.proofs.RunEnds.{judges}
 use Rattle.rvs_suite.proofs.DatabaseEnds.{judges_database}
 use Rattle.rvs_suite.proofs.SelectEnds.{selects}
@@ -45,12 +50,34 @@ pub record RanCall (call : Call) : Type 0 where
   pub ran : Ran (command_of call.words) (world_of call.old) (world_of call.new) call.old.err
       call.new.err call.status
 
+-- the same as from when its progress was told
+pub record RanTelling (call : Call) : Type 0 where
+  pub told : SinkState
+  pub since : RanCall (behind call told)
+  pub progress : progressing.Promise call told
+
 pub ran : {words : List (List ℕ)} {host host' : HostState} {out out' err err' : SinkState}
-    {status : Status} {result : Result Finish Stop} → Performs (command_of words) (world host out)
-    (world host' out') result → Concludes result status err err' → RanCall
+    {status : Status} (result : Result Finish Unfinished) (mid : SinkState)
+    → Performs (command_of words) (world host out) (world host' out') (as_planned result)
+    → (t : HasToldOf (asks_progress (command_of words)) (lines_of (command_of words)) host err mid
+    result)
+    → Concludes (as_planned result) status (put t.front err) err' → RanTelling
     (call words host host' out out' err err' status)
-ran {result = result} performs concludes =
-    record { ran = record { result = result; performs = performs; concludes = concludes } }
+ran {words} {host} {host'} {out} {out'} {err} {err'} {status} result mid performs t concludes =
+    record {
+      told = put t.front err;
+      since = record {
+        ran =
+            record { result = as_planned result; performs = performs; concludes = concludes };
+      };
+      progress = progress (call words host host' out out' err err' status) result mid t concludes;
+    }
+
+-- a call whose words don't ask for progress
+plain : {call : Call} → RanTelling call → asks_progress (command_of call.words) ≡ false
+    → RanCall call
+plain {call} r is =
+    subst (λ (told : SinkState). RanCall (behind call told)) (r.progress.unasked is) r.since
 
 pub planned-promise : {call : Call} → RanCall call → planned.Promise call
 planned-promise r files t =
@@ -90,25 +117,25 @@ causes-promise {call} r =
       errors_later = (answers r.ran).errors_later;
     }
 
-pub compare-promise : {call : Call} → RanCall call → comparing.Promise call
+pub compare-promise : {call : Call} → RanTelling call → comparing.Promise call
 compare-promise r files asked t is =
-    compares files asked (record { ran = r.ran; told = t; asks = is })
+    compares files asked (record { ran = (plain r (ap asks_progress is)).ran; told = t; asks = is })
 
-pub validate-promise : {call : Call} → RanCall call → validating.Promise call
+pub validate-promise : {call : Call} → RanTelling call → validating.Promise call
 validate-promise r files asked t is =
-    checks files asked (record { ran = r.ran; told = t; asks = is })
+    checks files asked (record { ran = (plain r (ap asks_progress is)).ran; told = t; asks = is })
 
-pub reference-promise : {call : Call} → RanCall call → referencing.Promise call
+pub reference-promise : {call : Call} → RanTelling call → referencing.Promise call
 reference-promise r files asked t is =
-    refers files asked (record { ran = r.ran; told = t; asks = is })
+    refers files asked (record { ran = (plain r (ap asks_progress is)).ran; told = t; asks = is })
 
-pub normalize-promise : {call : Call} → RanCall call → normalizing.Promise call
+pub normalize-promise : {call : Call} → RanTelling call → normalizing.Promise call
 normalize-promise r files asked t is =
-    normalizes files asked (record { ran = r.ran; told = t; asks = is })
+    normalizes files asked (record { ran = (plain r (ap asks_progress is)).ran; told = t; asks = is })
 
-pub generate-promise : {call : Call} → RanCall call → generating.Promise call
+pub generate-promise : {call : Call} → RanTelling call → generating.Promise call
 generate-promise r files asked t is =
-    makes files asked (record { ran = r.ran; told = t; asks = is })
+    makes files asked (record { ran = (plain r (ap asks_progress is)).ran; told = t; asks = is })
 
 pub coverage-promise : {call : Call} → RanCall call → covering.Promise call
 coverage-promise r files asked t is =
@@ -118,32 +145,34 @@ pub propagate-promise : {call : Call} → RanCall call → propagating.Promise c
 propagate-promise r files asked t is =
     propagates files asked (record { ran = r.ran; told = t; asks = is })
 
-pub run-promise : {call : Call} → RanCall call → judging.Promise call
+pub run-promise : {call : Call} → RanTelling call → judging.Promise call
 run-promise r files asked t is =
-    judges files asked (record { ran = r.ran; told = t; asks = is })
+    judges files asked (record { ran = (plain r (ap asks_progress is)).ran; told = t; asks = is })
 
-pub database-promise : {call : Call} → RanCall call → database.Promise call
+pub database-promise : {call : Call} → RanTelling call → database.Promise call
 database-promise r files asked t is =
-    judges_database files asked (record { ran = r.ran; told = t; asks = is })
+    judges_database files asked (record { ran = (plain r (ap asks_progress is)).ran; told = t; asks = is })
 
-pub select-promise : {call : Call} → RanCall call → selecting.Promise call
+pub select-promise : {call : Call} → RanTelling call → selecting.Promise call
 select-promise r files asked t is =
-    selects files asked (record { ran = r.ran; told = t; asks = is })
+    selects files asked (record { ran = (plain r (ap asks_progress is)).ran; told = t; asks = is })
 
-pub demo-promise : {call : Call} → RanCall call → demonstrating.Promise call
-demo-promise r count is = demonstrates count r.ran is
+pub demo-promise : {call : Call} → RanTelling call → demonstrating.Promise call
+demo-promise r count is = demonstrates count (plain r (ap asks_progress is)).ran is
 
-pub promise : {call : Call} → RanCall call → Promise call
+pub promise : {call : Call} → RanTelling call → Promise call
 promise r = record {
-  planned = planned-promise r;
-  causes = causes-promise r;
+  told = r.told;
+  progress = r.progress;
+  planned = planned-promise r.since;
+  causes = causes-promise r.since;
   compare = compare-promise r;
   validate = validate-promise r;
   normalize = normalize-promise r;
   generate = generate-promise r;
   reference = reference-promise r;
-  coverage = coverage-promise r;
-  propagate = propagate-promise r;
+  coverage = coverage-promise r.since;
+  propagate = propagate-promise r.since;
   run = run-promise r;
   run_database = database-promise r;
   select = select-promise r;

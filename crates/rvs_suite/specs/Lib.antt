@@ -24,6 +24,7 @@ pub mod Normalize
 pub mod Normalizing
 pub mod Summing
 pub mod LogReport
+pub mod Telling
 pub mod LogLines
 pub mod Coverage
 pub mod Covering
@@ -55,4 +56,5 @@ pub mod Report
 pub mod Reporting
 pub mod Demonstrate
 pub mod Demonstrating
+pub mod Progressing
 pub mod Promise

@@ -11,12 +11,15 @@ ghost use Rattle.rvs_suite.specs.GroupsView.{groups_view};
 ghost use Rattle.rvs_suite.specs.Coverage.{uncounted, counted_with, report_on, measure, reported};
 ghost use Rattle.rvs_suite.specs.Coverage.{IsAlike, file_name, counts_more, coverage};
 ghost use Rattle.rvs_log.specs.Lines.{log_limit};
+ghost use Rattle.rvs_count.specs.Progress.{lines_of_file};
+ghost use Rattle.rvs_suite.specs.Telling.{HasToldOf, as_planned, lines_of_logs};
 ghost use Rattle.rvs_suite.specs.LogReport.{takes_log, takes_logs, reads_logs};
 
 use crate::group_files::read_inputs;
 use crate::log_lines::under_lines;
 use crate::printing::print_text;
 use crate::summing::{plus_each, total_of, with_number};
+use crate::unfinished::{Unfinished, unlost};
 use rvs_base::{Host, Items, NoMemory, Sink, Text};
 use rvs_cgf::Groups;
 use rvs_count::{Counter, LogFault, count_file, report_text, zeros};
@@ -39,51 +42,62 @@ pub struct Covered {
 /// Counts which points of coverage groups the instructions of logs hit, and puts the report. Where
 /// windows are given, the instructions in them alone are counted. Each log is counted by itself and
 /// read in one pass, in memory that doesn't depend on its length, and the numbers are added up.
+/// Where it is asked for, `err` is told how far the logs have been read.
 ///
 /// # Errors
 ///
-/// [`Stop`]; nothing is put before the last log has been read to its end.
-pub fn cover_log<H: Host, O: Sink>(
+/// [`Unfinished`]; nothing is put before the last log has been read to its end.
+pub fn cover_log<H: Host, O: Sink, E: Sink>(
     alloc: Global,
     asked: &CoverageArguments,
     host: &mut H,
     out: &mut O,
-) -> Result<Finish, Stop>
-    ensures { Meets (coverage asked.now)
+    err: &mut E,
+) -> Result<Finish, Unfinished>
+    ensures met { Meets (coverage asked.now)
         (world (H.state host.old) (O.state out.old))
-        (world (H.state host.new) (O.state out.new)) result }
+        (world (H.state host.new) (O.state out.new)) (as_planned result) }
+    ensures told { HasToldOf asked.now.progress (lines_of_logs file_name asked.now.logs)
+        (H.state host.old) (E.state err.old) (E.state err.new) result }
 {
-    let report = read_report(alloc, host, asked)?;
-    print_text(&report, out)
+    let report = read_report(alloc, host, err, asked)?;
+    unlost(print_text(&report, out))
 }
 
 /// Reads all files, and makes the report.
-fn read_report<H: Host>(
+fn read_report<H: Host, E: Sink>(
     alloc: Global,
     host: &mut H,
+    err: &mut E,
     asked: &CoverageArguments,
-) -> Result<Text, Stop>
-    ensures { (out : SinkState) → Meets (reported asked.now)
-        (world (H.state host.old) out) (world (H.state host.new) out) result }
+) -> Result<Text, Unfinished>
+    ensures met { (out : SinkState) → Meets (reported asked.now)
+        (world (H.state host.old) out) (world (H.state host.new) out) (as_planned result) }
+    ensures told { HasToldOf asked.now.progress (lines_of_logs file_name asked.now.logs)
+        (H.state host.old) (E.state err.old) (E.state err.new) result }
 {
     let inputs = read_inputs(alloc, host, &asked.isa, asked.families, &asked.groups)?;
-    report_logs(alloc, host, &inputs.groups, asked)
+    report_logs(alloc, host, err, &inputs.groups, asked)
 }
 
 /// Counts in all logs, and makes the report.
-fn report_logs<H: Host>(
+fn report_logs<H: Host, E: Sink>(
     alloc: Global,
     host: &mut H,
+    err: &mut E,
     groups: &Groups,
     asked: &CoverageArguments,
-) -> Result<Text, Stop>
-    ensures { (out : SinkState) → Meets
+) -> Result<Text, Unfinished>
+    ensures met { (out : SinkState) → Meets
         (reads_logs (measure asked.now.windows) asked.now.logs (groups_view groups.now))
-        (world (H.state host.old) out) (world (H.state host.new) out) result }
+        (world (H.state host.old) out) (world (H.state host.new) out) (as_planned result) }
+    ensures told { HasToldOf asked.now.progress (lines_of_logs file_name asked.now.logs)
+        (H.state host.old) (E.state err.old) (E.state err.new) result }
 {
     let windows = asked.windows.as_slice();
-    let counted = count_all(alloc, host, groups, windows, asked.logs.as_slice())?;
-    Ok(report_of(alloc, groups, asked.logs.as_slice(), &counted)?)
+    let logs = asked.logs.as_slice();
+    let counted = count_all(alloc, host, err, asked.progress, groups, windows, logs)?;
+    Ok(report_of(alloc, groups, logs, &counted)?)
 }
 
 #[tactic(auto, unfolding(crate::specs::Coverage::report_on))]
@@ -117,90 +131,110 @@ fn nothing(alloc: Global, groups: &Groups, logs: usize) -> Result<Covered, NoMem
 }
 
 /// Counts in all logs, one after the other, with one counter.
-pub(crate) fn count_all<H: Host>(
+pub(crate) fn count_all<H: Host, E: Sink>(
     alloc: Global,
     host: &mut H,
+    err: &mut E,
+    progress: bool,
     groups: &Groups,
     windows: &[Window],
     logs: &[Text],
-) -> Result<Covered, Stop>
+) -> Result<Covered, Unfinished>
     ensures met { (out : SinkState) → Meets
         (takes_logs file_name (counts_more windows.now (groups_view groups.now))
         (uncounted (groups_view groups.now)) logs.now)
-        (world (H.state host.old) out) (world (H.state host.new) out) result }
+        (world (H.state host.old) out) (world (H.state host.new) out) (as_planned result) }
     ensures long { IfOk result (λ c. length c.counts ≡ length (aims_in groups.now)) }
+    ensures told { HasToldOf progress (lines_of_logs file_name logs.now)
+        (H.state host.old) (E.state err.old) (E.state err.new) result }
 {
     let none = nothing(alloc, groups, logs.len())?;
     let kept = Items::from(windows.to_vec(alloc)?);
     let mut counter = Counter::new(alloc, groups, kept)?;
-    count_onto(alloc, host, &mut counter, none, logs)
+    count_onto(alloc, host, err, progress, &mut counter, none, logs)
 }
 
 /// Counts in some logs more, one after the other.
-fn count_onto<H: Host>(
+fn count_onto<H: Host, E: Sink>(
     alloc: Global,
     host: &mut H,
+    err: &mut E,
+    progress: bool,
     counter: &mut Counter<'_>,
     none: Covered,
     logs: &[Text],
-) -> Result<Covered, Stop>
+) -> Result<Covered, Unfinished>
     ensures met { (out : SinkState) → Meets
         (takes_logs file_name (counts_more counter.old.tally.windows
         (groups_view counter.old.tally.labels)) none logs.now)
-        (world (H.state host.old) out) (world (H.state host.new) out) result }
+        (world (H.state host.old) out) (world (H.state host.new) out) (as_planned result) }
     ensures long { IfOk result (λ c. length c.counts ≡ length none.counts) }
+    ensures told { HasToldOf progress (lines_of_logs file_name logs.now)
+        (H.state host.old) (E.state err.old) (E.state err.new) result }
 {
     let mut counted = none;
     for log in logs {
-        counted = count_one(alloc, host, counter, counted, log.as_str())?;
+        counted = count_one(alloc, host, err, progress, counter, counted, log.as_str())?;
     }
     Ok(counted)
 }
 
 /// Counts in the named log, by itself, onto what was counted before.
-fn count_one<H: Host>(
+fn count_one<H: Host, E: Sink>(
     alloc: Global,
     host: &mut H,
+    err: &mut E,
+    progress: bool,
     counter: &mut Counter<'_>,
     counted: Covered,
     log: &str,
-) -> Result<Covered, Stop>
+) -> Result<Covered, Unfinished>
     ensures met { (out : SinkState) → Meets
         (takes_log (counted_with counter.old.tally.windows
         (groups_view counter.old.tally.labels)) counted log.now)
-        (world (H.state host.old) out) (world (H.state host.new) out) result }
+        (world (H.state host.old) out) (world (H.state host.new) out) (as_planned result) }
     ensures long { IfOk result (λ c. length c.counts ≡ length counted.counts) }
     ensures same { OnOk result (IsAlike counter.old counter.new) }
+    ensures told { HasToldOf progress (λ files. lines_of_file log.now (files log.now))
+        (H.state host.old) (E.state err.old) (E.state err.new) result }
 {
     counter.restart();
-    count_with(alloc, host, counter, counted, log)
+    count_with(alloc, host, err, progress, counter, counted, log)
 }
 
 /// Counts in the named log with a counter that was fed nothing, onto what was counted before.
 // The buffer for the log would lie on the stack under every command if this were inlined.
 #[inline(never)]
-fn count_with<H: Host>(
+fn count_with<H: Host, E: Sink>(
     alloc: Global,
     host: &mut H,
+    err: &mut E,
+    progress: bool,
     counter: &mut Counter<'_>,
     counted: Covered,
     log: &str,
-) -> Result<Covered, Stop>
+) -> Result<Covered, Unfinished>
     ensures met { (out : SinkState) (groups : List Label) (windows : List Span)
         → counter.old ≡ state_of groups windows [] 0
         → Meets (takes_log (counted_with windows (groups_view groups)) counted log.now)
-        (world (H.state host.old) out) (world (H.state host.new) out) result }
+        (world (H.state host.old) out) (world (H.state host.new) out) (as_planned result) }
     ensures long { IfOk result (λ c. length c.counts ≡ length counted.counts) }
     ensures same { (groups : List Label) (windows : List Span)
         → counter.old ≡ state_of groups windows [] 0
         → OnOk result (IsAlike counter.old counter.new) }
+    ensures told { HasToldOf progress (λ files. lines_of_file log.now (files log.now))
+        (H.state host.old) (E.state err.old) (E.state err.new) result }
 {
     let name = owned(alloc, log)?;
-    match count_file(host, log, counter) {
+    match count_file(alloc, host, err, progress, log, counter) {
         Ok(()) => Ok(with_ended(counted, counter)?),
-        Err(LogFault::NoFile) => Err(Stop::NoFile(name)),
-        Err(LogFault::Failed) => Err(Stop::CannotRead(name)),
-        Err(LogFault::TooLong) => Err(Stop::Refused(too_long(alloc, log, LOG_LIMIT)?)),
+        Err(LogFault::NoFile) => Err(Unfinished::Stopped(Stop::NoFile(name))),
+        Err(LogFault::Failed) => Err(Unfinished::Stopped(Stop::CannotRead(name))),
+        Err(LogFault::TooLong) => Err(Unfinished::Stopped(Stop::Refused(too_long(
+            alloc, log, LOG_LIMIT,
+        )?))),
+        Err(LogFault::NoMemory) => Err(Unfinished::Stopped(Stop::NoMemory)),
+        Err(LogFault::Untold) => Err(Unfinished::Untold),
     }
 }
 

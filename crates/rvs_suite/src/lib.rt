@@ -31,6 +31,7 @@ mod summing;
 mod test_files;
 mod test_run;
 mod texts;
+mod unfinished;
 mod validating;
 
 pub use assembling::assemble;

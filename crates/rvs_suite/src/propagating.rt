@@ -12,6 +12,8 @@ ghost use Rattle.rvs_suite.specs.GroupsView.{groups_view};
 ghost use Rattle.rvs_suite.specs.Propagate.{untracked, tracked_with, report_on, measure, reported};
 ghost use Rattle.rvs_suite.specs.Propagate.{AreLong, file_name, tracks_more, propagate};
 ghost use Rattle.rvs_log.specs.Lines.{log_limit};
+ghost use Rattle.rvs_count.specs.Progress.{lines_of_file};
+ghost use Rattle.rvs_suite.specs.Telling.{HasToldOf, as_planned, lines_of_logs};
 ghost use Rattle.rvs_suite.specs.LogReport.{takes_log, takes_logs, reads_logs};
 
 use crate::covering::LOG_LIMIT;
@@ -19,6 +21,7 @@ use crate::group_files::read_inputs;
 use crate::log_lines::under_lines;
 use crate::printing::print_text;
 use crate::summing::{plus_each, total_of, with_number};
+use crate::unfinished::{Unfinished, unlost};
 use rvs_base::{Host, Items, NoMemory, Sink, Text, Window};
 use rvs_cgf::Groups;
 use rvs_count::{LogFault, zeros};
@@ -40,50 +43,60 @@ pub struct Traced {
 
 /// Counts how many hits of coverage points have their instruction's result stored in the signature,
 /// and puts the report. Each log is tracked by itself and read in one pass, in memory that doesn't
-/// depend on its length, and the numbers are added up.
+/// depend on its length, and the numbers are added up. Where it is asked for, `err` is told how far
+/// the logs have been read.
 ///
 /// # Errors
 ///
-/// [`Stop`]; nothing is put before the last log has been read to its end.
-pub fn propagate_log<H: Host, O: Sink>(
+/// [`Unfinished`]; nothing is put before the last log has been read to its end.
+pub fn propagate_log<H: Host, O: Sink, E: Sink>(
     alloc: Global,
     asked: &PropagateArguments,
     host: &mut H,
     out: &mut O,
-) -> Result<Finish, Stop>
-    ensures { Meets (propagate asked.now)
+    err: &mut E,
+) -> Result<Finish, Unfinished>
+    ensures met { Meets (propagate asked.now)
         (world (H.state host.old) (O.state out.old))
-        (world (H.state host.new) (O.state out.new)) result }
+        (world (H.state host.new) (O.state out.new)) (as_planned result) }
+    ensures told { HasToldOf asked.now.progress (lines_of_logs file_name asked.now.logs)
+        (H.state host.old) (E.state err.old) (E.state err.new) result }
 {
-    let report = read_report(alloc, host, asked)?;
-    print_text(&report, out)
+    let report = read_report(alloc, host, err, asked)?;
+    unlost(print_text(&report, out))
 }
 
 /// Reads all files, and makes the report.
-fn read_report<H: Host>(
+fn read_report<H: Host, E: Sink>(
     alloc: Global,
     host: &mut H,
+    err: &mut E,
     asked: &PropagateArguments,
-) -> Result<Text, Stop>
-    ensures { (out : SinkState) → Meets (reported asked.now)
-        (world (H.state host.old) out) (world (H.state host.new) out) result }
+) -> Result<Text, Unfinished>
+    ensures met { (out : SinkState) → Meets (reported asked.now)
+        (world (H.state host.old) out) (world (H.state host.new) out) (as_planned result) }
+    ensures told { HasToldOf asked.now.progress (lines_of_logs file_name asked.now.logs)
+        (H.state host.old) (E.state err.old) (E.state err.new) result }
 {
     let inputs = read_inputs(alloc, host, &asked.isa, asked.families, &asked.groups)?;
-    report_logs(alloc, host, &inputs.groups, asked)
+    report_logs(alloc, host, err, &inputs.groups, asked)
 }
 
 /// Tracks hits in all logs, and makes the report.
-fn report_logs<H: Host>(
+fn report_logs<H: Host, E: Sink>(
     alloc: Global,
     host: &mut H,
+    err: &mut E,
     groups: &Groups,
     asked: &PropagateArguments,
-) -> Result<Text, Stop>
-    ensures { (out : SinkState) → Meets
+) -> Result<Text, Unfinished>
+    ensures met { (out : SinkState) → Meets
         (reads_logs measure asked.now.logs (groups_view groups.now))
-        (world (H.state host.old) out) (world (H.state host.new) out) result }
+        (world (H.state host.old) out) (world (H.state host.new) out) (as_planned result) }
+    ensures told { HasToldOf asked.now.progress (lines_of_logs file_name asked.now.logs)
+        (H.state host.old) (E.state err.old) (E.state err.new) result }
 {
-    let tracked = track_all(alloc, host, groups, asked)?;
+    let tracked = track_all(alloc, host, err, groups, asked)?;
     Ok(report_of(alloc, groups, asked.logs.as_slice(), &tracked)?)
 }
 
@@ -133,42 +146,51 @@ fn nothing(alloc: Global, groups: &Groups, logs: usize) -> Result<Traced, NoMemo
 }
 
 /// Tracks hits in all logs, one after the other, with one tracker.
-fn track_all<H: Host>(
+fn track_all<H: Host, E: Sink>(
     alloc: Global,
     host: &mut H,
+    err: &mut E,
     groups: &Groups,
     asked: &PropagateArguments,
-) -> Result<Traced, Stop>
+) -> Result<Traced, Unfinished>
     ensures met { (out : SinkState) → Meets
         (takes_logs file_name (tracks_more (groups_view groups.now))
         (untracked (groups_view groups.now)) asked.now.logs)
-        (world (H.state host.old) out) (world (H.state host.new) out) result }
+        (world (H.state host.old) out) (world (H.state host.new) out) (as_planned result) }
     ensures long { IfOk result (AreLong (length (aims_in groups.now))) }
+    ensures told { HasToldOf asked.now.progress (lines_of_logs file_name asked.now.logs)
+        (H.state host.old) (E.state err.old) (E.state err.new) result }
 {
     let logs = asked.logs.as_slice();
     let none = nothing(alloc, groups, logs.len())?;
     let mut tracker = Tracker::new(alloc, groups, 0, 0)?;
-    track_onto(alloc, host, &mut tracker, none, logs)
+    track_onto(alloc, host, err, asked.progress, &mut tracker, none, logs)
 }
 
 /// Tracks hits in some logs more, one after the other.
-fn track_onto<H: Host>(
+fn track_onto<H: Host, E: Sink>(
     alloc: Global,
     host: &mut H,
+    err: &mut E,
+    progress: bool,
     tracker: &mut Tracker<'_>,
     none: Traced,
     logs: &[SignedLog],
-) -> Result<Traced, Stop>
+) -> Result<Traced, Unfinished>
     ensures met { (out : SinkState) → Meets
         (takes_logs file_name (tracks_more (groups_view tracker.old.trail.labels)) none logs.now)
-        (world (H.state host.old) out) (world (H.state host.new) out) result }
+        (world (H.state host.old) out) (world (H.state host.new) out) (as_planned result) }
     ensures long { (n : ℕ) → AreLong n none → IfOk result (AreLong n) }
+    ensures told { HasToldOf progress (lines_of_logs file_name logs.now)
+        (H.state host.old) (E.state err.old) (E.state err.new) result }
 {
     let mut tracked = none;
     for log in logs {
         tracked = track_one(
             alloc,
             host,
+            err,
+            progress,
             tracker,
             log.signature,
             tracked,
@@ -179,49 +201,61 @@ fn track_onto<H: Host>(
 }
 
 /// Tracks hits in the named log, by itself, onto what was tracked before.
-fn track_one<H: Host>(
+fn track_one<H: Host, E: Sink>(
     alloc: Global,
     host: &mut H,
+    err: &mut E,
+    progress: bool,
     tracker: &mut Tracker<'_>,
     range: Window,
     tracked: Traced,
     log: &str,
-) -> Result<Traced, Stop>
+) -> Result<Traced, Unfinished>
     ensures met { (out : SinkState) → Meets
         (takes_log (tracked_with range (groups_view tracker.old.trail.labels)) tracked log.now)
-        (world (H.state host.old) out) (world (H.state host.new) out) result }
+        (world (H.state host.old) out) (world (H.state host.new) out) (as_planned result) }
     ensures long { (n : ℕ) → AreLong n tracked → IfOk result (AreLong n) }
     ensures same { OnOk result (tracker.new.trail.labels ≡ tracker.old.trail.labels) }
+    ensures told { HasToldOf progress (λ files. lines_of_file log.now (files log.now))
+        (H.state host.old) (E.state err.old) (E.state err.new) result }
 {
     tracker.restart(range.lo, range.hi);
-    track_with(alloc, host, tracker, tracked, log)
+    track_with(alloc, host, err, progress, tracker, tracked, log)
 }
 
 /// Tracks hits in the named log with a tracker that was fed nothing, onto what was tracked before.
 // The buffer for the log would lie on the stack under every command if this were inlined.
 #[inline(never)]
-fn track_with<H: Host>(
+fn track_with<H: Host, E: Sink>(
     alloc: Global,
     host: &mut H,
+    err: &mut E,
+    progress: bool,
     tracker: &mut Tracker<'_>,
     tracked: Traced,
     log: &str,
-) -> Result<Traced, Stop>
+) -> Result<Traced, Unfinished>
     ensures met { (out : SinkState) (groups : List Label) (range : Span)
         → tracker.old ≡ state_of groups range.lo range.hi [] 0
         → Meets (takes_log (tracked_with range (groups_view groups)) tracked log.now)
-        (world (H.state host.old) out) (world (H.state host.new) out) result }
+        (world (H.state host.old) out) (world (H.state host.new) out) (as_planned result) }
     ensures long { (n : ℕ) → AreLong n tracked → IfOk result (AreLong n) }
     ensures same { (groups : List Label) (range : Span)
         → tracker.old ≡ state_of groups range.lo range.hi [] 0
         → OnOk result (tracker.new.trail.labels ≡ tracker.old.trail.labels) }
+    ensures told { HasToldOf progress (λ files. lines_of_file log.now (files log.now))
+        (H.state host.old) (E.state err.old) (E.state err.new) result }
 {
     let name = owned(alloc, log)?;
-    match track_file(host, log, tracker) {
+    match track_file(alloc, host, err, progress, log, tracker) {
         Ok(()) => Ok(with_ended(tracked, tracker)?),
-        Err(LogFault::NoFile) => Err(Stop::NoFile(name)),
-        Err(LogFault::Failed) => Err(Stop::CannotRead(name)),
-        Err(LogFault::TooLong) => Err(Stop::Refused(too_long(alloc, log, LOG_LIMIT)?)),
+        Err(LogFault::NoFile) => Err(Unfinished::Stopped(Stop::NoFile(name))),
+        Err(LogFault::Failed) => Err(Unfinished::Stopped(Stop::CannotRead(name))),
+        Err(LogFault::TooLong) => Err(Unfinished::Stopped(Stop::Refused(too_long(
+            alloc, log, LOG_LIMIT,
+        )?))),
+        Err(LogFault::NoMemory) => Err(Unfinished::Stopped(Stop::NoMemory)),
+        Err(LogFault::Untold) => Err(Unfinished::Untold),
     }
 }
 

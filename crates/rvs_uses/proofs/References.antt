@@ -2,6 +2,7 @@
 use Rattle.std.proofs.Common.{◌≡◌, inl, inr, ℕ, List, Option, Result, Ok, Err, None, sym}
 use Rattle.std.proofs.Common.{ap, subst, ◌∙◌}
 use Rattle.rvs_base.specs.Host.{Files, Tells}
+use Rattle.rvs_base.specs.Sink.{SinkState}
 use Rattle.rvs_plan.specs.Inputs.{part_end}
 use Rattle.rvs_plan.specs.World.{Contents, contents}
 use Rattle.rvs_plan.specs.declared.status.Status.TheVariants as answer
@@ -15,6 +16,7 @@ use Rattle.rvs_suite.specs.GroupFiles.{and_then}
 use Rattle.rvs_suite.specs.Halting.{TestHalts, BothHalt}
 use Rattle.rvs_suite.specs.Planned as planned
 use Rattle.rvs_suite.specs.Plans.{ReadsFirst}
+use Rattle.rvs_suite.specs.Progressing.{asks_progress, behind}
 use Rattle.rvs_suite.specs.Reference.{test_limit}
 use Rattle.rvs_suite.specs.Referencing as suite
 use Rattle.rvs_suite.specs.Referencing.{trial_in, run_in}
@@ -211,5 +213,7 @@ refers-of call files asked told asks f n = record {
 
 pub refers-to-files : RefersToFiles
 refers-to-files call p files asked told asks =
-    refers-of call files asked told asks (p.planned files told)
+    refers-of call files asked told asks
+    (subst (λ (sink : SinkState). planned.Follows (behind call sink) files)
+    (p.progress.unasked (ap asks_progress asks)) (p.planned files told))
     (p.reference files asked told asks)

@@ -8,9 +8,7 @@ use Rattle.std.proofs.lemmas.List.{length-map}
 use Rattle.rvs_words.specs.Words.{is_positional, pairs_of, is_among, options_in, values_of}
 use Rattle.rvs_words.specs.Words.{are_known, only}
 use Rattle.rvs_words.specs.Words.{at_most_one}
-use Rattle.rvs_words.specs.Windows.{windows_of}
 use Rattle.rvs_words.specs.FamilyWords.{families_of}
-use Rattle.rvs_words.specs.LogWords.{signed_logs}
 use Rattle.rvs_abstract.specs.declared.families.Families.{Families}
 use Rattle.rvs_words.specs.PartWords.{parts_of}
 use Rattle.rvs_parts.specs.Parts.{PartValue}
@@ -18,20 +16,17 @@ use Rattle.rvs_text.specs.Options.{◌>>=◌}
 use Rattle.rvs_words.specs.Commands.{Values, with_options, some_of, steps_of}
 use Rattle.rvs_words.specs.Commands.{validate_options, validate_of}
 use Rattle.rvs_words.specs.Commands.{normalize_options, normalize_of, generate_options, generate_of}
-use Rattle.rvs_words.specs.Commands.{reference_options, reference_of, coverage_options, coverage_of}
-use Rattle.rvs_words.specs.Commands.{propagate_options, propagate_of, run_options, run_of}
+use Rattle.rvs_words.specs.Commands.{reference_options, reference_of, run_options, run_of}
 use Rattle.rvs_words.specs.Commands.{run_groups_of, run_database_of, is_given}
 use Rattle.rvs_words.specs.declared.words.Pair.{Pair}
-use Rattle.rvs_words.specs.declared.command.SignedLog.{SignedLog}
-use Rattle.rvs_base.specs.declared.asked.Window.{Window}
 use Rattle.rvs_words.specs.declared.command.Command.{Command}
 use Rattle.rvs_words.specs.declared.command.Command.TheVariants.{Unknown, Compare, Validate}
 use Rattle.rvs_words.specs.declared.command.Command.TheVariants.{Normalize, Generate, Reference}
-use Rattle.rvs_words.specs.declared.command.Command.TheVariants.{Coverage, Propagate, Run, Demo}
+use Rattle.rvs_words.specs.declared.command.Command.TheVariants.{Run, Demo}
 use Rattle.rvs_words.specs.CommandLaws.{Value, option, options, may_stand, AllMayStand, text_of}
 use Rattle.rvs_words.specs.CommandLaws.{listed, ComparesAreRead, ValidatesAreRead}
 use Rattle.rvs_words.specs.CommandLaws.{NormalizesAreRead, GeneratesAreRead, ReferencesAreRead}
-use Rattle.rvs_words.specs.CommandLaws.{CoveragesAreRead, PropagatesAreRead, RunsAreRead}
+use Rattle.rvs_words.specs.CommandLaws.{RunsAreRead}
 use Rattle.rvs_words.specs.CommandLaws.{DemosAreRead}
 use Rattle.rvs_words.proofs.OptionPairs.{IsName, pair, pairs, and-left, and-right, option_read}
 use Rattle.rvs_words.proofs.OptionPairs.{options_read, option_alone, options_alone, values_same}
@@ -46,7 +41,7 @@ cgf-name = record { alone = refl; joined = λ byte text. refl; same = refl }
 test-name : IsName (codes "--test")
 test-name = record { alone = refl; joined = λ byte text. refl; same = refl }
 
-signature-name : IsName (codes "--signature")
+pub signature-name : IsName (codes "--signature")
 signature-name = record { alone = refl; joined = λ byte text. refl; same = refl }
 
 pub log-name : IsName (codes "--log")
@@ -61,7 +56,7 @@ work-name = record { alone = refl; joined = λ byte text. refl; same = refl }
 pub part-name : IsName (codes "--part")
 part-name = record { alone = refl; joined = λ byte text. refl; same = refl }
 
-families-name : IsName (codes "--families")
+pub families-name : IsName (codes "--families")
 families-name = record { alone = refl; joined = λ byte text. refl; same = refl }
 
 pub window-name : IsName (codes "--window")
@@ -373,147 +368,6 @@ runs_are_read program isa device work groups part families kept read m p f few f
     ∙ part-value part families) ∙ fit)
     (ap families_of (values_other (codes "--families") (codes "--cgf") refl groups behind
     ∙ part-families part families) ∙ which)))
-
-pub coverage-of : (values : Values) (isa : List ℕ) (groups logs : List (List ℕ))
-    (kept : List Window) (read : Families)
-    → only (values (codes "--isa")) ≡ Some isa
-    → some_of 64 (values (codes "--cgf")) ≡ Some groups
-    → some_of 4096 (values (codes "--log")) ≡ Some logs
-    → windows_of (values (codes "--window")) ≡ Some kept
-    → families_of (values (codes "--families")) ≡ Some read
-    → coverage_of values ≡ Some (Coverage (record {
-      isa = isa;
-      groups = groups;
-      logs = logs;
-      windows = kept;
-      families = read;
-    }))
-coverage-of values isa groups logs kept read a b c d e =
-    λ k. a k >>= (λ isa. b k >>= (λ groups. c k >>= (λ logs. d k >>= (λ windows.
-    e k >>= (λ families. Some (Coverage (record {
-      isa = isa;
-      groups = groups;
-      logs = logs;
-      windows = windows;
-      families = families;
-    })))))))
-
-pub coverages_are_read : CoveragesAreRead
-coverages_are_read program isa groups logs windows families kept read m l w f few many fit which =
-    let final = last-pairs families in
-    let ends = pairs (codes "--window") windows ++ final in
-    let behind = pairs (codes "--log") logs ++ ends in
-    let rest = pairs (codes "--cgf") groups ++ behind in
-    let third = options (codes "--window") windows ++ last-words families in
-    let last = options (codes "--log") logs ++ third in
-    let words = options (codes "--cgf") groups ++ last in
-    let stand =
-    option_read (codes "--isa") isa-name isa words rest (first-stands isa groups m)
-    (options_read (codes "--cgf") cgf-name groups last behind (others-stand isa groups m)
-    (options_read (codes "--log") log-name logs third ends l
-    (options_read (codes "--window") window-name windows (last-words families) final w
-    (last-read families f)))) in
-    let without = λ (name : List ℕ) (a : bytes_eq (codes "--log") name
-    ≡ false) (b : bytes_eq (codes "--window") name
-    ≡ false) (c : bytes_eq (codes "--families") name ≡ false).
-    values_other name (codes "--log") a logs ends
-    ∙ values_other name (codes "--window") b windows final
-    ∙ not-last name c families in
-    of-pairs coverage_options coverage_of (option (codes "--isa") isa ++ words)
-    (pair (codes "--isa") isa ∷ rest) _ stand
-    (known_pairs coverage_options (codes "--cgf") refl groups behind
-    ∙ known_pairs coverage_options (codes "--log") refl logs ends
-    ∙ known_pairs coverage_options (codes "--window") refl windows final
-    ∙ last-known coverage_options refl families)
-    (coverage-of (of-values (pair (codes "--isa") isa ∷ rest)) isa.text (map text_of groups)
-    (map text_of logs) kept read
-    (ap (λ vs. only (isa.text ∷ vs))
-    (values_other (codes "--isa") (codes "--cgf") refl groups behind
-    ∙ without (codes "--isa") refl refl refl))
-    (ap (some_of 64) (own-values (codes "--cgf") cgf-name groups behind
-    (without (codes "--cgf") refl refl refl))
-    ∙ some 64 groups few.0 few.1)
-    (ap (some_of 4096) (values_other (codes "--log") (codes "--cgf") refl groups behind
-    ∙ own-values (codes "--log") log-name logs ends
-    (values_other (codes "--log") (codes "--window") refl windows final
-    ∙ not-last (codes "--log") refl families))
-    ∙ some 4096 logs many.0 many.1)
-    (ap windows_of (values_other (codes "--window") (codes "--cgf") refl groups behind
-    ∙ values_other (codes "--window") (codes "--log") refl logs ends
-    ∙ own-values (codes "--window") window-name windows final
-    (not-last (codes "--window") refl families)) ∙ fit)
-    (ap families_of (values_other (codes "--families") (codes "--cgf") refl groups behind
-    ∙ values_other (codes "--families") (codes "--log") refl logs ends
-    ∙ values_other (codes "--families") (codes "--window") refl windows final
-    ∙ last-value families) ∙ which))
-
-pub propagate-of : (values : Values) (isa : List ℕ) (groups logs : List (List ℕ))
-    (signed : List SignedLog) (read : Families)
-    → only (values (codes "--isa")) ≡ Some isa
-    → some_of 64 (values (codes "--cgf")) ≡ Some groups
-    → some_of 4096 (values (codes "--log")) ≡ Some logs
-    → signed_logs logs (values (codes "--signature")) ≡ Some signed
-    → families_of (values (codes "--families")) ≡ Some read
-    → propagate_of values ≡ Some (Propagate
-    (record { isa = isa; groups = groups; logs = signed; families = read }))
-propagate-of values isa groups logs signed read a b c d e =
-    (λ k. a k >>= (λ isa. b k >>= (λ groups. c k >>= (λ logs.
-    signed_logs logs (values (codes "--signature")) >>= (λ signed.
-    e k >>= (λ families. Some (Propagate
-    (record { isa = isa; groups = groups; logs = signed; families = families }))))))))
-    ∙ (λ k. d k >>= (λ signed. Some (Propagate
-    (record { isa = isa; groups = groups; logs = signed; families = read }))))
-
-pub propagates_are_read : PropagatesAreRead
-propagates_are_read program isa groups logs signatures families signed read m l s f few many fit
-    which =
-    let final = last-pairs families in
-    let ends = pairs (codes "--signature") signatures ++ final in
-    let behind = pairs (codes "--log") logs ++ ends in
-    let rest = pairs (codes "--cgf") groups ++ behind in
-    let third = options (codes "--signature") signatures ++ last-words families in
-    let last = options (codes "--log") logs ++ third in
-    let words = options (codes "--cgf") groups ++ last in
-    let stand =
-    option_read (codes "--isa") isa-name isa words rest (first-stands isa groups m)
-    (options_read (codes "--cgf") cgf-name groups last behind (others-stand isa groups m)
-    (options_read (codes "--log") log-name logs third ends l
-    (options_read (codes "--signature") signature-name signatures (last-words families) final s
-    (last-read families f)))) in
-    let without = λ (name : List ℕ) (a : bytes_eq (codes "--log") name
-    ≡ false) (b : bytes_eq (codes "--signature") name
-    ≡ false) (c : bytes_eq (codes "--families") name ≡ false).
-    values_other name (codes "--log") a logs ends
-    ∙ values_other name (codes "--signature") b signatures final
-    ∙ not-last name c families in
-    of-pairs propagate_options propagate_of (option (codes "--isa") isa ++ words)
-    (pair (codes "--isa") isa ∷ rest) _ stand
-    (known_pairs propagate_options (codes "--cgf") refl groups behind
-    ∙ known_pairs propagate_options (codes "--log") refl logs ends
-    ∙ known_pairs propagate_options (codes "--signature") refl signatures final
-    ∙ last-known propagate_options refl families)
-    (propagate-of (of-values (pair (codes "--isa") isa ∷ rest)) isa.text (map text_of groups)
-    (map text_of logs) signed read
-    (ap (λ vs. only (isa.text ∷ vs))
-    (values_other (codes "--isa") (codes "--cgf") refl groups behind
-    ∙ without (codes "--isa") refl refl refl))
-    (ap (some_of 64) (own-values (codes "--cgf") cgf-name groups behind
-    (without (codes "--cgf") refl refl refl))
-    ∙ some 64 groups few.0 few.1)
-    (ap (some_of 4096) (values_other (codes "--log") (codes "--cgf") refl groups behind
-    ∙ own-values (codes "--log") log-name logs ends
-    (values_other (codes "--log") (codes "--signature") refl signatures final
-    ∙ not-last (codes "--log") refl families))
-    ∙ some 4096 logs many.0 many.1)
-    (ap (signed_logs (map text_of logs))
-    (values_other (codes "--signature") (codes "--cgf") refl groups behind
-    ∙ values_other (codes "--signature") (codes "--log") refl logs ends
-    ∙ own-values (codes "--signature") signature-name signatures final
-    (not-last (codes "--signature") refl families)) ∙ fit)
-    (ap families_of (values_other (codes "--families") (codes "--cgf") refl groups behind
-    ∙ values_other (codes "--families") (codes "--log") refl logs ends
-    ∙ values_other (codes "--families") (codes "--signature") refl signatures final
-    ∙ last-value families) ∙ which))
 
 pub reference-of : (values : Values) (isa test signature : List ℕ) (log : Option (List ℕ))
     (count : Option ℕ)

@@ -5,6 +5,7 @@ mod PartValues
 mod FamilyValues
 mod CommandWords
 mod ReportWords
+mod LogCommands
 mod DatabaseWords
 mod OptionOrder
 mod CommandNumbers

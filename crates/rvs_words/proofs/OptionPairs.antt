@@ -26,7 +26,7 @@ abbrev first-word : List ℕ → List ℕ → List (List ℕ) → Option Pair �
 first-word word value words None = with_two_words word value (pairs_of words)
 first-word word value words (Some pair) = with_pair pair (pairs_of (value ∷ words))
 
-one-word : (word : List ℕ) (first : Pair) (words : List (List ℕ)) (more : List Pair)
+pub one-word : (word : List ℕ) (first : Pair) (words : List (List ℕ)) (more : List Pair)
     → pair_in word ≡ Some first
     → pairs_of words ≡ Some more → pairs_of (word ∷ words) ≡ Some (first ∷ more)
 one-word word first [] more p e =

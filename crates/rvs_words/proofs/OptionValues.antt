@@ -1,8 +1,8 @@
 -- The value of an option that stands once, and of one that needn't stand.
-use Rattle.std.proofs.Common.{◌≡◌, ℕ, ◌<◌, List, [], ◌∷◌, length, Option, Some, None, refl, arith}
+use Rattle.std.proofs.Common.{◌≡◌, ℕ, Bool, false, ◌<◌, List, [], ◌∷◌, length, Option, Some, None, refl, arith}
 use Rattle.std.specs.Prelude.{option_map, option_and_then}
 use Rattle.rvs_words.specs.Words.{only, at_most_one}
-use Rattle.rvs_words.specs.Commands.{number_of, within_steps, steps_of}
+use Rattle.rvs_words.specs.Commands.{number_of, within_steps, steps_of, flag_with, flag_of}
 
 abbrev pub itself : Option (List ℕ) → Option (List ℕ)
 itself value = value
@@ -23,6 +23,17 @@ pub steps_are_at_most_one : (values : List (List ℕ))
 steps_are_at_most_one [] = refl
 steps_are_at_most_one (value ∷ []) = refl
 steps_are_at_most_one (value ∷ other ∷ values) = refl
+
+-- whether a flag stands
+abbrev pub flag_given : Option (List ℕ) → Option Bool
+flag_given None = Some false
+flag_given (Some value) = flag_with value
+
+pub flags_are_at_most_one : (values : List (List ℕ))
+    → flag_of values ≡ option_and_then flag_given (at_most_one values)
+flags_are_at_most_one [] = refl
+flags_are_at_most_one (value ∷ []) = refl
+flags_are_at_most_one (value ∷ other ∷ values) = refl
 
 pub more_than_one : (values : List (List ℕ)) → 1 < length values → at_most_one values ≡ None
 more_than_one [] h = absurd (omega arith)

@@ -5,7 +5,7 @@ use Rattle.std.specs.Prelude.{option_map, option_and_then, codes, bytes_eq}
 use Rattle.std.specs.Fmt.{decimal}
 use Rattle.std.specs.List.{flat_map, list_all, list_any}
 use Rattle.rvs_base.specs.Number.{hex_word_of}
-use Rattle.rvs_words.specs.Words.{pairs_of, values_of}
+use Rattle.rvs_words.specs.Words.{is_flag, pairs_of, values_of}
 use Rattle.rvs_words.specs.Commands.{most_steps, number_of, steps_of, is_given, command_of}
 use Rattle.rvs_words.specs.Windows.{windows_of}
 use Rattle.rvs_words.specs.PartWords.{parts_of}
@@ -124,11 +124,15 @@ ReferencesAreRead =
       steps = count;
     })
 
+-- the option that has no value needn't stand
+abbrev pub flagged : Bool → List (List ℕ)
+flagged progress = if progress then codes "--progress" ∷ [] else []
+
 -- the windows needn't stand
 abbrev pub CoveragesAreRead : Type 0
 CoveragesAreRead =
     (program : List ℕ) (isa : Value) (groups logs windows : List Value) (families : Option Value)
-    (kept : List Window) (read : Families)
+    (kept : List Window) (read : Families) (progress : Bool)
     → AllMayStand (isa ∷ groups) → AllMayStand logs → AllMayStand windows
     → AllMayStand (listed families) → AreGroups groups → AreLogs logs
     → windows_of (map text_of windows) ≡ Some kept
@@ -136,19 +140,20 @@ CoveragesAreRead =
     → command_of (program ∷ codes "coverage" ∷ option (codes "--isa") isa
     ++ (options (codes "--cgf") groups ++ (options (codes "--log") logs
     ++ (options (codes "--window") windows
-    ++ options (codes "--families") (listed families)))))
+    ++ (options (codes "--families") (listed families) ++ flagged progress)))))
     ≡ Coverage (record {
       isa = isa.text;
       groups = map text_of groups;
       logs = map text_of logs;
       windows = kept;
       families = read;
+      progress = progress;
     })
 
 abbrev pub PropagatesAreRead : Type 0
 PropagatesAreRead =
     (program : List ℕ) (isa : Value) (groups logs signatures : List Value)
-    (families : Option Value) (signed : List SignedLog) (read : Families)
+    (families : Option Value) (signed : List SignedLog) (read : Families) (progress : Bool)
     → AllMayStand (isa ∷ groups) → AllMayStand logs → AllMayStand signatures
     → AllMayStand (listed families) → AreGroups groups → AreLogs logs
     → signed_logs (map text_of logs) (map text_of signatures) ≡ Some signed
@@ -156,12 +161,13 @@ PropagatesAreRead =
     → command_of (program ∷ codes "propagate" ∷ option (codes "--isa") isa
     ++ (options (codes "--cgf") groups ++ (options (codes "--log") logs
     ++ (options (codes "--signature") signatures
-    ++ options (codes "--families") (listed families)))))
+    ++ (options (codes "--families") (listed families) ++ flagged progress)))))
     ≡ Propagate (record {
       isa = isa.text;
       groups = map text_of groups;
       logs = signed;
       families = read;
+      progress = progress;
     })
 
 abbrev pub RunsAreRead : Type 0
@@ -264,13 +270,20 @@ option_commands =
 abbrev pub takes_options : List ℕ → Bool
 takes_options name = list_any (λ (known : List ℕ). bytes_eq name known) option_commands
 
--- an option whose name has no `=` is a pair, in either form
+-- an option with a value, whose name has no `=`, is a pair, in either form
 abbrev pub OptionsArePairs : Type 0
 OptionsArePairs =
     (name : List ℕ) (value : Value) (words : List (List ℕ)) (pairs : List Pair)
-    → list_any (λ (byte : ℕ). byte == 61) name ≡ false → may_stand value ≡ true
-    → pairs_of words ≡ Some pairs → pairs_of (option name value ++ words)
+    → list_any (λ (byte : ℕ). byte == 61) name ≡ false → is_flag name ≡ false
+    → may_stand value ≡ true → pairs_of words ≡ Some pairs → pairs_of (option name value ++ words)
     ≡ Some (record { name = name; value = value.text } ∷ pairs)
+
+-- the option without a value is a pair too
+abbrev pub FlagsArePairs : Type 0
+FlagsArePairs =
+    (words : List (List ℕ)) (pairs : List Pair)
+    → pairs_of words ≡ Some pairs → pairs_of (flagged true ++ words)
+    ≡ Some (record { name = codes "--progress"; value = [] } ∷ pairs)
 
 -- neighbouring options of different names may change places
 abbrev pub OptionsChangePlaces : Type 0

@@ -52,6 +52,16 @@ most_groups = 64
 abbrev pub most_logs : ℕ
 most_logs = 4096
 
+abbrev pub flag_with : List ℕ → Option Bool
+flag_with [] = Some true
+flag_with (byte ∷ value) = None
+
+-- whether the option stands that has no value, and stands once at most
+abbrev pub flag_of : List (List ℕ) → Option Bool
+flag_of [] = Some false
+flag_of (value ∷ []) = flag_with value
+flag_of values = None
+
 -- the values of each option, by its name
 abbrev pub Values : Type 0
 Values = List ℕ → List (List ℕ)
@@ -121,7 +131,9 @@ reference_of values = do
       (record { isa = isa; test = test; signature = signature; log = log; steps = steps }))
 
 abbrev pub coverage_options : List (List ℕ)
-coverage_options = codes "--isa" ∷ codes "--cgf" ∷ codes "--log" ∷ codes "--window" ∷ codes "--families" ∷ []
+coverage_options =
+    codes "--isa" ∷ codes "--cgf" ∷ codes "--log" ∷ codes "--window" ∷ codes "--families"
+    ∷ codes "--progress" ∷ []
 
 -- the windows needn't stand
 abbrev pub coverage_of : Values → Option Command
@@ -131,16 +143,20 @@ coverage_of values = do
   logs ← some_of most_logs (values (codes "--log"))
   windows ← windows_of (values (codes "--window"))
   families ← families_of (values (codes "--families"))
+  progress ← flag_of (values (codes "--progress"))
   Some (Coverage (record {
     isa = isa;
     groups = groups;
     logs = logs;
     windows = windows;
     families = families;
+    progress = progress;
   }))
 
 abbrev pub propagate_options : List (List ℕ)
-propagate_options = codes "--isa" ∷ codes "--cgf" ∷ codes "--log" ∷ codes "--signature" ∷ codes "--families" ∷ []
+propagate_options =
+    codes "--isa" ∷ codes "--cgf" ∷ codes "--log" ∷ codes "--signature" ∷ codes "--families"
+    ∷ codes "--progress" ∷ []
 
 -- the range of the signature stands once, or once for each log
 abbrev pub propagate_of : Values → Option Command
@@ -150,7 +166,14 @@ propagate_of values = do
   logs ← some_of most_logs (values (codes "--log"))
   signed ← signed_logs logs (values (codes "--signature"))
   families ← families_of (values (codes "--families"))
-  Some (Propagate (record { isa = isa; groups = groups; logs = signed; families = families }))
+  progress ← flag_of (values (codes "--progress"))
+  Some (Propagate (record {
+    isa = isa;
+    groups = groups;
+    logs = signed;
+    families = families;
+    progress = progress;
+  }))
 
 abbrev pub select_options : List (List ℕ)
 select_options = codes "--isa" ∷ codes "--database" ∷ []

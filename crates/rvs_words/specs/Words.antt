@@ -1,6 +1,6 @@
 -- The words of a command line.
 use Rattle.std.specs.Prelude.{ℕ, Bool, false, not, ◌==◌, if◌then◌else◌, List, [], ◌∷◌, map}
-use Rattle.std.specs.Prelude.{filter, string_bytes, bytes_eq, Option, Some, None, option_map}
+use Rattle.std.specs.Prelude.{filter, string_bytes, bytes_eq, codes, Option, Some, None, option_map}
 use Rattle.std.specs.Prelude.{option_and_then, String}
 use Rattle.std.specs.List.{list_any, list_all, before_first, after_first}
 use Rattle.std.specs.declared.alloc.Global.{Global}
@@ -22,9 +22,15 @@ abbrev pub pair_of : List ℕ → List ℕ → Option Pair
 pair_of name [] = None
 pair_of name (byte ∷ value) = Some (record { name = name; value = byte ∷ value })
 
--- an option and its value in one word: `=` stands between them, and the value isn't empty
+-- the option that has no value
+abbrev pub is_flag : List ℕ → Bool
+is_flag word = bytes_eq word (codes "--progress")
+
+-- an option in one word: its name and its value, between which `=` stands and of which the latter
+-- isn't empty, or the option that has none
 abbrev pub pair_in : List ℕ → Option Pair
-pair_in word = pair_of (before_first is_equals_sign word) (after_first is_equals_sign word)
+pair_in word = if is_flag word then Some (record { name = word; value = [] })
+    else pair_of (before_first is_equals_sign word) (after_first is_equals_sign word)
 
 abbrev pub with_pair : Pair → Option (List Pair) → Option (List Pair)
 with_pair pair more = option_map (λ (pairs : List Pair). pair ∷ pairs) more

@@ -104,6 +104,8 @@ pub struct CoverageArguments {
     pub windows: Items<Window>,
     /// Which families of the groups' abstract points are read.
     pub families: Families,
+    /// Whether it is told how far the logs have been read.
+    pub progress: bool,
 }
 
 /// What `propagate` is given.
@@ -117,6 +119,8 @@ pub struct PropagateArguments {
     pub logs: Items<SignedLog>,
     /// Which families of the groups' abstract points are read.
     pub families: Families,
+    /// Whether it is told how far the logs have been read.
+    pub progress: bool,
 }
 
 /// An execution log of a test that leaves a signature.

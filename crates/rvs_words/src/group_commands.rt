@@ -18,6 +18,7 @@ use crate::command::{
 use crate::families::read_families;
 use crate::logs::with_signatures;
 use crate::parts::read_part;
+use crate::progress::read_progress;
 use crate::unread::Unread;
 use crate::windows::read_windows;
 use crate::words::{Pair, only_value, read_options, values};
@@ -90,7 +91,14 @@ pub fn read_generate(alloc: Global, words: &[String]) -> Result<Command, Unread>
 pub fn read_coverage(alloc: Global, words: &[String]) -> Result<Command, Unread>
     ensures { Answers result (with_options coverage_options coverage_of (texts words.now)) }
 {
-    let names = ["--isa", "--cgf", "--log", "--window", "--families"];
+    let names = [
+        "--isa",
+        "--cgf",
+        "--log",
+        "--window",
+        "--families",
+        "--progress",
+    ];
     let options = read_options(alloc, words, &names)?;
     let pairs = options.as_slice();
     Ok(Command::Coverage(CoverageArguments {
@@ -99,6 +107,7 @@ pub fn read_coverage(alloc: Global, words: &[String]) -> Result<Command, Unread>
         logs: log_files(alloc, pairs)?,
         windows: given_windows(alloc, pairs)?,
         families: read_families(alloc, pairs)?,
+        progress: read_progress(alloc, pairs)?,
     }))
 }
 
@@ -137,7 +146,14 @@ fn given_windows(alloc: Global, pairs: &[Pair]) -> Result<Items<Window>, Unread>
 pub fn read_propagate(alloc: Global, words: &[String]) -> Result<Command, Unread>
     ensures { Answers result (with_options propagate_options propagate_of (texts words.now)) }
 {
-    let names = ["--isa", "--cgf", "--log", "--signature", "--families"];
+    let names = [
+        "--isa",
+        "--cgf",
+        "--log",
+        "--signature",
+        "--families",
+        "--progress",
+    ];
     let options = read_options(alloc, words, &names)?;
     let pairs = options.as_slice();
     let isa = only_value(alloc, pairs, "--isa")?;
@@ -145,11 +161,13 @@ pub fn read_propagate(alloc: Global, words: &[String]) -> Result<Command, Unread
     let names = log_files(alloc, pairs)?;
     let logs = given_signatures(alloc, pairs, names.as_slice())?;
     let families = read_families(alloc, pairs)?;
+    let progress = read_progress(alloc, pairs)?;
     Ok(Command::Propagate(PropagateArguments {
         isa,
         groups,
         logs,
         families,
+        progress,
     }))
 }
 

@@ -5,14 +5,15 @@ ghost use Rattle.rvs_words.specs.CommandLaws.{CoveragesAreRead, PropagatesAreRea
 ghost use Rattle.rvs_words.specs.CommandLaws.{RunsOverDatabasesAreRead, RunsHaveOneSource};
 ghost use Rattle.rvs_words.specs.CommandLaws.{DatabasesHaveNoFamilies};
 ghost use Rattle.rvs_words.specs.CommandLaws.{ReportsAreRead, SelectsAreRead, DemosAreRead};
-ghost use Rattle.rvs_words.specs.CommandLaws.{OptionsArePairs, OptionsChangePlaces, StepsAreRead};
-ghost use Rattle.rvs_words.specs.CommandLaws.{CountsAreRead, WindowsAreRead, RangesAreRead};
-ghost use Rattle.rvs_words.specs.CommandLaws.{RangesAreReadEach, PartsAreRead, FamiliesAreRead};
+ghost use Rattle.rvs_words.specs.CommandLaws.{OptionsArePairs, OptionsChangePlaces, FlagsArePairs};
+ghost use Rattle.rvs_words.specs.CommandLaws.{StepsAreRead, CountsAreRead, WindowsAreRead};
+ghost use Rattle.rvs_words.specs.CommandLaws.{RangesAreRead, RangesAreReadEach, PartsAreRead};
+ghost use Rattle.rvs_words.specs.CommandLaws.{FamiliesAreRead};
 
 /// The words of each command, with its options in the usual order, ask for that command with these
 /// values, for all names: whichever form each option has, with any list of one to 64 group files,
 /// any list of one to 4,096 logs to count, and with or without the log of a run, the steps, the
-/// windows, the part and the families, of `report` without logs too.
+/// windows, the part, the families and the progress, of `report` without logs too.
 pub fn commands_are_read()
     ensures compare { ComparesAreRead }
     ensures validate { ValidatesAreRead }
@@ -30,10 +31,12 @@ pub fn commands_are_read()
     ensures demo { DemosAreRead }
 {}
 
-/// The order of options doesn't matter: each is one pair of a name and a value, and neighbouring
-/// pairs of different names may change places without changing the command.
+/// The order of options doesn't matter: each is one pair of a name and a value, which is empty for
+/// the option that has none, and neighbouring pairs of different names may change places without
+/// changing the command.
 pub fn options_stand_in_any_order()
     ensures pairs { OptionsArePairs }
+    ensures flags { FlagsArePairs }
     ensures places { OptionsChangePlaces }
 {}
 

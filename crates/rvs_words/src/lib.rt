@@ -8,6 +8,7 @@ mod group_commands;
 mod laws;
 mod logs;
 mod parts;
+mod progress;
 mod reading;
 mod unread;
 mod windows;

@@ -1,4 +1,4 @@
-use Rattle.std.proofs.Common.{◌≡◌, ℕ, length, replicate, take}
+use Rattle.std.proofs.Common.{◌≡◌, length, replicate, take}
 use Rattle.rvs_count.proofs.blank.clear.Given as goal
 
 abbrev pub invariant-loop-at : goal.invariant-loop-at

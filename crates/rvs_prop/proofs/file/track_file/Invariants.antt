@@ -1,10 +1,15 @@
-use Rattle.std.proofs.Common.{◌-◌, ◌^◌}
+use Rattle.std.proofs.Common.{◌≡◌, ◌-◌, ◌^◌, length}
+use Rattle.rvs_count.specs.Progress.{put}
 use Rattle.rvs_prop.proofs.Feeding.{HasFed}
+use Rattle.rvs_count.proofs.Telling.{so_far}
 use Rattle.rvs_prop.proofs.file.track_file.Given as goal
 
 abbrev pub invariant-pieces : goal.invariant-pieces
-invariant-pieces g l =
-    HasFed l.name (g.H.Host.state l.fn.host) (g.H.Host.state l.host) l.fn.tracker l.tracker
+invariant-pieces g l = record {
+  fed : HasFed l.name (g.H.Host.state l.fn.host) (g.H.Host.state l.host) l.fn.tracker l.tracker;
+  count : l.read ≡ length fed.bytes;
+  told : g.E.Sink.state l.err ≡ put (so_far l.progress l.name l.read) (g.E.Sink.state l.fn.err);
+}
 
 abbrev pub decreases-pieces : goal.decreases-pieces
 decreases-pieces g l = 2 ^ 40 - l.tracker.fed

@@ -4,6 +4,7 @@ use Rattle.rvs_base.specs.declared.asked.Window.{Window as Span}
 use Rattle.rvs_cgf.specs.declared.group.Label.{Label}
 use Rattle.rvs_count.specs.State.{CountState, state_of}
 use Rattle.rvs_count.proofs.Ends.{counted_labels, counted_windows}
+use Rattle.rvs_count.proofs.Telling.{told-nothing}
 use Rattle.rvs_plan.specs.World.{world}
 use Rattle.rvs_plan.proofs.Sequence.{Meets-no_memory}
 use Rattle.rvs_plan.specs.Meets.{Meets}
@@ -54,3 +55,21 @@ returns-clause-met g c = λ out.
     let R : Covered → Type 0 = λ none. Meets (takes_logs file_name (counts_more windows_asked
     (groups_view groups)) none logs_asked) old new c.count_onto.result in
     subst R c.in_ok-none.ensures.counted (subst Q windows (subst P labels met))
+
+pub returns-in_err-none-clause-told : goal.returns-in_err-none-clause-told
+returns-in_err-none-clause-told g c =
+    let p = err_from_is_err_and c.from_residual.result c.from_residual.ensures.1 in
+    rw (p.1, p.2) (told-nothing _ _ _ _)
+
+pub returns-in_err-to_vec-clause-told : goal.returns-in_err-to_vec-clause-told
+returns-in_err-to_vec-clause-told g c =
+    let p = err_from_is_err_and c.from_residual-in_err-to_vec.result c.from_residual-in_err-to_vec.ensures.1 in
+    rw (p.1, p.2) (told-nothing _ _ _ _)
+
+pub returns-in_err-counter-clause-told : goal.returns-in_err-counter-clause-told
+returns-in_err-counter-clause-told g c =
+    let p = err_from_is_err_and c.from_residual-in_err-counter.result c.from_residual-in_err-counter.ensures.1 in
+    rw (p.1, p.2) (told-nothing _ _ _ _)
+
+pub returns-clause-told : goal.returns-clause-told
+returns-clause-told g c = c.count_onto.ensures.told

@@ -29,3 +29,6 @@ returns-clause-same g c =
     (ap (λ (s : CountState). s.tally.windows) c.restart.ensures
     ∙ counted_windows was.tally.labels was.tally.windows [] 0)
     (c.count_with.ensures.same _ _ c.restart.ensures)
+
+pub returns-clause-told : goal.returns-clause-told
+returns-clause-told g c = c.count_with.ensures.told

@@ -7,18 +7,19 @@ use Rattle.rvs_plan.proofs.Sequence.{Meets-then, Meets-stop, Meets-gives, Meets-
 use Rattle.rvs_suite.specs.GroupsView.{groups_view}
 use Rattle.rvs_suite.specs.Coverage.{measure, report_on}
 use Rattle.rvs_suite.specs.LogReport.{reports}
+use Rattle.rvs_suite.proofs.Tellings.{told-cut}
 use Rattle.rvs_suite.proofs.covering.report_logs.Goals as goal
 
-pub returns-in_err-counted : goal.returns-in_err-counted
-returns-in_err-counted g c = λ out.
+pub returns-in_err-counted-clause-met : goal.returns-in_err-counted-clause-met
+returns-in_err-counted-clause-met g c = λ out.
     let p = err_from_is_err_and c.from_residual.result c.from_residual.ensures.1 in
     rw (p.1, p.2) (Meets-stop
     (reports (measure c.args.asked.now.windows) c.args.asked.now.logs
     (groups_view c.args.groups.now))
     (c.in_err-counted.ensures.met out))
 
-pub returns-in_err-report_of : goal.returns-in_err-report_of
-returns-in_err-report_of g c = λ out.
+pub returns-in_err-report_of-clause-met : goal.returns-in_err-report_of-clause-met
+returns-in_err-report_of-clause-met g c = λ out.
     let p = err_from_is_err_and c.from_residual-in_err-report_of.result
     c.from_residual-in_err-report_of.ensures.1 in
     rw (p.1, p.2) (Meets-then
@@ -27,8 +28,8 @@ returns-in_err-report_of g c = λ out.
     (c.in_ok-counted.ensures.met out)
     (Meets-no_memory _ (world (g.H.Host.state c.count_all.new.host) out)))
 
-pub returns : goal.returns
-returns g c = λ out.
+pub returns-clause-met : goal.returns-clause-met
+returns-clause-met g c = λ out.
     let w = world (g.H.Host.state c.count_all.new.host) out in
     let text = c.in_ok-report_of.field-0 in
     let is = c.in_ok-report_of.ensures
@@ -39,3 +40,17 @@ returns g c = λ out.
     (c.in_ok-counted.ensures.met out)
     (subst (λ (report : List ℕ). Meets (gives report) w w (Ok text)) is
     (Meets-gives text w))
+
+pub returns-in_err-counted-clause-told : goal.returns-in_err-counted-clause-told
+returns-in_err-counted-clause-told g c =
+    let p = err_from_is_err_and c.from_residual.result c.from_residual.ensures.1 in
+    rw (p.1, p.2) c.in_err-counted.ensures.told
+
+pub returns-in_err-report_of-clause-told : goal.returns-in_err-report_of-clause-told
+returns-in_err-report_of-clause-told g c =
+    let p = err_from_is_err_and c.from_residual-in_err-report_of.result
+    c.from_residual-in_err-report_of.ensures.1 in
+    rw (p.1, p.2) (told-cut c.in_ok-counted.ensures.told)
+
+pub returns-clause-told : goal.returns-clause-told
+returns-clause-told g c = c.in_ok-counted.ensures.told

@@ -3,6 +3,7 @@ use Rattle.std.proofs.lemmas.Result.{err_from_is_err_and}
 use Rattle.rvs_cgf.specs.declared.group.Label.{Label}
 use Rattle.rvs_prop.specs.State.{TrackState}
 use Rattle.rvs_prop.proofs.Ends.{all_labels}
+use Rattle.rvs_count.proofs.Telling.{told-nothing}
 use Rattle.rvs_plan.specs.World.{world}
 use Rattle.rvs_plan.proofs.Sequence.{Meets-no_memory}
 use Rattle.rvs_plan.specs.Meets.{Meets}
@@ -37,3 +38,16 @@ returns-clause-met g c = λ out.
     let Q : Traced → Type 0 = λ none. Meets (takes_logs file_name
     (tracks_more (groups_view groups)) none asked.logs) old new c.track_onto.result in
     subst Q c.in_ok-none.ensures.tracked (subst P labels met)
+
+pub returns-in_err-none-clause-told : goal.returns-in_err-none-clause-told
+returns-in_err-none-clause-told g c =
+    let p = err_from_is_err_and c.from_residual.result c.from_residual.ensures.1 in
+    rw (p.1, p.2) (told-nothing _ _ _ _)
+
+pub returns-in_err-tracker-clause-told : goal.returns-in_err-tracker-clause-told
+returns-in_err-tracker-clause-told g c =
+    let p = err_from_is_err_and c.from_residual-in_err-tracker.result c.from_residual-in_err-tracker.ensures.1 in
+    rw (p.1, p.2) (told-nothing _ _ _ _)
+
+pub returns-clause-told : goal.returns-clause-told
+returns-clause-told g c = rw c.as_slice-logs.ensures at c.track_onto.ensures.told

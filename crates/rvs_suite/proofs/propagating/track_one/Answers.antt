@@ -23,3 +23,6 @@ returns-clause-same g c =
     (ap (λ (s : TrackState). s.trail.labels) c.restart.ensures
     ∙ all_labels was.trail.labels c.args.range.lo c.args.range.hi [] 0)
     (c.track_with.ensures.same _ c.args.range c.restart.ensures)
+
+pub returns-clause-told : goal.returns-clause-told
+returns-clause-told g c = c.track_with.ensures.told

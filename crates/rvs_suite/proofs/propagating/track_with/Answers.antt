@@ -13,7 +13,9 @@ use Rattle.rvs_suite.specs.GroupsView.{groups_view}
 use Rattle.rvs_log.specs.Lines.{log_limit}
 use Rattle.rvs_suite.specs.LogReport.{log_bound, with_found}
 use Rattle.rvs_suite.specs.Propagate.{tracked_with}
+use Rattle.rvs_count.proofs.Telling.{told-nothing}
 use Rattle.rvs_suite.proofs.LogReads.{accepts-log, refuses-log, at_most-log}
+use Rattle.rvs_suite.proofs.Tellings.{told-cut}
 use Rattle.rvs_suite.proofs.propagating.track_with.Goals as goal
 
 pub returns-in_err-name-clause-met : goal.returns-in_err-name-clause-met
@@ -112,3 +114,57 @@ returns-in-Ok-clause-same g c = λ groups range begun.
     ∙ all_labels groups range.lo range.hi (ended feeds.bytes) count
     ∙ sym (ap (λ (s : TrackState). s.trail.labels) begun
     ∙ all_labels groups range.lo range.hi [] 0)
+
+-- ---- a line that wasn't put
+pub returns-in-Err-NoMemory-clause-met : goal.returns-in-Err-NoMemory-clause-met
+returns-in-Err-NoMemory-clause-met g c = λ out groups range begun.
+    asks-no_memory out _ log_bound _ c.in-Err-NoMemory.ensures.reads_only
+    (rw c.in-Err-NoMemory.field-0-is at c.in-Err-NoMemory.ensures.cause)
+    (at_most-log c.args.tracker.now.fed c.in-Err-NoMemory.ensures.at_most)
+
+pub returns-in-Err-Untold-clause-met : goal.returns-in-Err-Untold-clause-met
+returns-in-Err-Untold-clause-met g c = λ out groups range begun.
+    asks-no_memory out _ log_bound _ c.in-Err-Untold.ensures.reads_only
+    (rw c.in-Err-Untold.field-0-is at c.in-Err-Untold.ensures.cause)
+    (at_most-log c.args.tracker.now.fed c.in-Err-Untold.ensures.at_most)
+
+-- ---- what was told
+pub returns-in_err-name-clause-told : goal.returns-in_err-name-clause-told
+returns-in_err-name-clause-told g c =
+    let p = err_from_is_err_and c.from_residual.result c.from_residual.ensures.1 in
+    rw (p.1, p.2) (told-nothing _ _ _ _)
+
+pub returns-in_err-with_ended-in-Ok-clause-told : goal.returns-in_err-with_ended-in-Ok-clause-told
+returns-in_err-with_ended-in-Ok-clause-told g c =
+    let p = err_from_is_err_and c.from_residual-in_err-with_ended-in-Ok.result
+    c.from_residual-in_err-with_ended-in-Ok.ensures.1 in
+    rw (p.1, p.2) (told-cut c.in-Ok.ensures.told)
+
+pub returns-in-Ok-clause-told : goal.returns-in-Ok-clause-told
+returns-in-Ok-clause-told g c = c.in-Ok.ensures.told
+
+pub returns-in-Err-NoFile-clause-told : goal.returns-in-Err-NoFile-clause-told
+returns-in-Err-NoFile-clause-told g c =
+    rw c.in-Err-NoFile.field-0-is at c.in-Err-NoFile.ensures.untold
+
+pub returns-in-Err-Failed-clause-told : goal.returns-in-Err-Failed-clause-told
+returns-in-Err-Failed-clause-told g c =
+    rw c.in-Err-Failed.field-0-is at c.in-Err-Failed.ensures.untold
+
+pub returns-in-Err-NoMemory-clause-told : goal.returns-in-Err-NoMemory-clause-told
+returns-in-Err-NoMemory-clause-told g c =
+    rw c.in-Err-NoMemory.field-0-is at c.in-Err-NoMemory.ensures.untold
+
+pub returns-in-Err-Untold-clause-told : goal.returns-in-Err-Untold-clause-told
+returns-in-Err-Untold-clause-told g c =
+    rw c.in-Err-Untold.field-0-is at c.in-Err-Untold.ensures.untold
+
+pub returns-in_err-too_long-in-Err-TooLong-clause-told : goal.returns-in_err-too_long-in-Err-TooLong-clause-told
+returns-in_err-too_long-in-Err-TooLong-clause-told g c =
+    let p = err_from_is_err_and c.from_residual-in_err-too_long-in-Err-TooLong.result
+    c.from_residual-in_err-too_long-in-Err-TooLong.ensures.1 in
+    rw (p.1, p.2) (rw c.in-Err-TooLong.field-0-is at c.in-Err-TooLong.ensures.untold)
+
+pub returns-clause-told : goal.returns-clause-told
+returns-clause-told g c =
+    rw c.in-Err-TooLong.field-0-is at c.in-Err-TooLong.ensures.untold

@@ -1,8 +1,8 @@
 use Rattle.rvs_words.proofs.laws.commands_are_read.Goals as goal
 use Rattle.rvs_words.proofs.CommandWords.{compares_are_read, validates_are_read}
 use Rattle.rvs_words.proofs.CommandWords.{normalizes_are_read, generates_are_read}
-use Rattle.rvs_words.proofs.CommandWords.{references_are_read, coverages_are_read, runs_are_read}
-use Rattle.rvs_words.proofs.CommandWords.{propagates_are_read, demos_are_read}
+use Rattle.rvs_words.proofs.CommandWords.{references_are_read, runs_are_read, demos_are_read}
+use Rattle.rvs_words.proofs.LogCommands.{coverages_are_read, propagates_are_read}
 use Rattle.rvs_words.proofs.ReportWords.{reports_are_read}
 use Rattle.rvs_words.proofs.DatabaseWords.{runs_over_databases_are_read, runs_have_one_source}
 use Rattle.rvs_words.proofs.DatabaseWords.{databases_have_no_families, selects_are_read}

@@ -1,0 +1,42 @@
+// How work ends that tells its progress.
+ghost use Rattle.std.specs.Prelude.{◌≡◌};
+ghost use Rattle.rvs_plan.specs.declared.stop.Stop.TheVariants.{NoMemory};
+ghost use Rattle.rvs_suite.specs.declared.unfinished.Unfinished.TheVariants.{Stopped};
+ghost use Rattle.rvs_suite.specs.Telling.{unlost};
+
+use rvs_plan::Stop;
+
+/// Why work that tells its progress didn't come to its end.
+#[derive(Drop)]
+pub enum Unfinished {
+    /// It stopped.
+    Stopped(Stop),
+    /// A line of progress couldn't be put.
+    Untold,
+}
+
+impl From<Stop> for Unfinished {
+    ghost from_gives = { λ stop unfinished. unfinished ≡ Stopped stop };
+
+    fn from(stop: Stop) -> Self {
+        Unfinished::Stopped(stop)
+    }
+}
+
+impl From<rvs_base::NoMemory> for Unfinished {
+    ghost from_gives = { λ _ unfinished. unfinished ≡ Stopped NoMemory };
+
+    fn from(_: rvs_base::NoMemory) -> Self {
+        Unfinished::Stopped(Stop::NoMemory)
+    }
+}
+
+/// The end of work that has no progress to tell.
+pub(crate) fn unlost<T>(outcome: Result<T, Stop>) -> Result<T, Unfinished>
+    ensures { result ≡ unlost outcome }
+{
+    match outcome {
+        Ok(value) => Ok(value),
+        Err(stop) => Err(Unfinished::Stopped(stop)),
+    }
+}
