@@ -19,8 +19,8 @@ use crate::group_files::read_inputs;
 use crate::log_lines::under_lines;
 use crate::printing::print_text;
 use crate::summing::{plus_each, total_of, with_number};
-use crate::unfinished::{Unfinished, unlost};
-use rvs_base::{Host, Items, NoMemory, Sink, Text};
+use crate::unfinished::{Unfinished, as_planned, unlost};
+use rvs_base::{Host, Items, MemorySink, NoMemory, Sink, Text, Window};
 use rvs_cgf::Groups;
 use rvs_count::{Counter, LogFault, count_file, report_text, zeros};
 use rvs_plan::{Finish, Stop, too_long};
@@ -130,8 +130,26 @@ fn nothing(alloc: Global, groups: &Groups, logs: usize) -> Result<Covered, NoMem
     })
 }
 
+/// Counts in all logs, and tells nothing of it.
+pub(crate) fn count_quietly<H: Host>(
+    alloc: Global,
+    host: &mut H,
+    groups: &Groups,
+    windows: &[Window],
+    logs: &[Text],
+) -> Result<Covered, Stop>
+    ensures met { (out : SinkState) → Meets
+        (takes_logs file_name (counts_more windows.now (groups_view groups.now))
+        (uncounted (groups_view groups.now)) logs.now)
+        (world (H.state host.old) out) (world (H.state host.new) out) result }
+    ensures long { IfOk result (λ c. length c.counts ≡ length (aims_in groups.now)) }
+{
+    let mut nobody = MemorySink::new(Items::new(alloc));
+    as_planned(count_all(alloc, host, &mut nobody, false, groups, windows, logs))
+}
+
 /// Counts in all logs, one after the other, with one counter.
-pub(crate) fn count_all<H: Host, E: Sink>(
+fn count_all<H: Host, E: Sink>(
     alloc: Global,
     host: &mut H,
     err: &mut E,

@@ -11,7 +11,7 @@ ghost use Rattle.rvs_suite.specs.GroupsView.{groups_view};
 ghost use Rattle.rvs_suite.specs.Report.{end_by, instructions_in, shown_core, shows_label};
 ghost use Rattle.rvs_suite.specs.Report.{shows_labels, finds_page, puts_page, report};
 
-use crate::covering::{Covered, count_all};
+use crate::covering::{Covered, count_quietly};
 use crate::device_file::read_device_file;
 use crate::finding::{find_test, found_open};
 use crate::gathering::Test;
@@ -75,7 +75,7 @@ fn find_page<H: Host>(alloc: Global, host: &mut H, asked: &ReportArguments) -> R
     let inputs = read_inputs(alloc, host, &asked.isa, asked.families, &asked.groups)?;
     let device = read_device_file(alloc, host, &asked.device)?;
     let windows = asked.windows.as_slice();
-    let covered = count_all(alloc, host, &inputs.groups, windows, asked.logs.as_slice())?;
+    let covered = count_quietly(alloc, host, &inputs.groups, windows, asked.logs.as_slice())?;
     let labels = show_labels(alloc, host, asked, &inputs, covered.counts.as_slice())?;
     Ok(Page {
         device: owned(alloc, device.name.as_str())?,

@@ -2,7 +2,7 @@
 ghost use Rattle.std.specs.Prelude.{◌≡◌};
 ghost use Rattle.rvs_plan.specs.declared.stop.Stop.TheVariants.{NoMemory};
 ghost use Rattle.rvs_suite.specs.declared.unfinished.Unfinished.TheVariants.{Stopped};
-ghost use Rattle.rvs_suite.specs.Telling.{unlost};
+ghost use Rattle.rvs_suite.specs.Telling.{as_planned, unlost};
 
 use rvs_plan::Stop;
 
@@ -38,5 +38,17 @@ pub(crate) fn unlost<T>(outcome: Result<T, Stop>) -> Result<T, Unfinished>
     match outcome {
         Ok(value) => Ok(value),
         Err(stop) => Err(Unfinished::Stopped(stop)),
+    }
+}
+
+/// The end of such work where nothing is told.
+pub(crate) fn as_planned<T>(outcome: Result<T, Unfinished>) -> Result<T, Stop>
+    ensures { result ≡ as_planned outcome }
+{
+    match outcome {
+        Ok(value) => Ok(value),
+        Err(Unfinished::Stopped(stop)) => Err(stop),
+        // (where nothing is told this doesn't come)
+        Err(Unfinished::Untold) => Err(Stop::NoMemory),
     }
 }
