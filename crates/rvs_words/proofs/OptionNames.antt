@@ -35,6 +35,7 @@ no-flag word other b = cond b (Some (record { name = word; value = [] })) other
 
 is-name : (name : List ℕ) → list_any is_equals_sign name ≡ false → is_flag name ≡ false
     → IsName name
+unfolding no-flag
 is-name name none plain = record {
   alone =
       let end = none-at is_equals_sign name none in
