@@ -4,7 +4,9 @@ ghost use Rattle.rvs_plan.specs.declared.stop.Stop.TheVariants.{NoMemory};
 ghost use Rattle.rvs_suite.specs.declared.unfinished.Unfinished.TheVariants.{Stopped};
 ghost use Rattle.rvs_suite.specs.Telling.{as_planned, unlost};
 
+use rvs_base::NoMemory;
 use rvs_plan::Stop;
+use std::alloc::AllocError;
 
 /// Why work that tells its progress didn't come to its end.
 #[derive(Drop)]
@@ -23,10 +25,18 @@ impl From<Stop> for Unfinished {
     }
 }
 
-impl From<rvs_base::NoMemory> for Unfinished {
+impl From<NoMemory> for Unfinished {
     ghost from_gives = { λ _ unfinished. unfinished ≡ Stopped NoMemory };
 
-    fn from(_: rvs_base::NoMemory) -> Self {
+    fn from(_: NoMemory) -> Self {
+        Unfinished::Stopped(Stop::NoMemory)
+    }
+}
+
+impl From<AllocError> for Unfinished {
+    ghost from_gives = { λ _ unfinished. unfinished ≡ Stopped NoMemory };
+
+    fn from(_: AllocError) -> Self {
         Unfinished::Stopped(Stop::NoMemory)
     }
 }
