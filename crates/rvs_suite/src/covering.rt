@@ -82,8 +82,9 @@ fn report_logs<H: Host>(
         (world (H.state host.old) out) (world (H.state host.new) out) result }
 {
     let windows = asked.windows.as_slice();
-    let counted = count_all(alloc, host, groups, windows, asked.logs.as_slice())?;
-    Ok(report_of(alloc, groups, asked.logs.as_slice(), &counted)?)
+    let logs = asked.logs.as_slice();
+    let counted = count_all(alloc, host, groups, windows, logs)?;
+    Ok(report_of(alloc, groups, logs, &counted)?)
 }
 
 #[tactic(auto, unfolding(crate::specs::Coverage::report_on))]

@@ -15,7 +15,7 @@ returns-in_err-counted g c = λ out.
     rw (p.1, p.2) (Meets-stop
     (reports (measure c.args.asked.now.windows) c.args.asked.now.logs
     (groups_view c.args.groups.now))
-    (c.in_err-counted.ensures.met out))
+    (rw (c.as_slice-windows.ensures, c.as_slice-logs.ensures) at (c.in_err-counted.ensures.met out)))
 
 pub returns-in_err-report_of : goal.returns-in_err-report_of
 returns-in_err-report_of g c = λ out.
@@ -24,7 +24,7 @@ returns-in_err-report_of g c = λ out.
     rw (p.1, p.2) (Meets-then
     (reports (measure c.args.asked.now.windows) c.args.asked.now.logs
     (groups_view c.args.groups.now))
-    (c.in_ok-counted.ensures.met out)
+    (rw (c.as_slice-windows.ensures, c.as_slice-logs.ensures) at (c.in_ok-counted.ensures.met out))
     (Meets-no_memory _ (world (g.H.Host.state c.count_all.new.host) out)))
 
 pub returns : goal.returns
@@ -33,9 +33,9 @@ returns g c = λ out.
     let text = c.in_ok-report_of.field-0 in
     let is = c.in_ok-report_of.ensures
     ∙ ap (λ (names : List (List ℕ)). report_on (groups_view c.args.groups.now) names
-    c.in_ok-counted.counted) c.as_slice.ensures in
+    c.in_ok-counted.counted) c.as_slice-logs.ensures in
     Meets-then (reports (measure c.args.asked.now.windows) c.args.asked.now.logs
     (groups_view c.args.groups.now))
-    (c.in_ok-counted.ensures.met out)
+    (rw (c.as_slice-windows.ensures, c.as_slice-logs.ensures) at (c.in_ok-counted.ensures.met out))
     (subst (λ (report : List ℕ). Meets (gives report) w w (Ok text)) is
     (Meets-gives text w))

@@ -71,8 +71,8 @@ returns-in-Other g c = λ out.
     (Meets-then (next files isa test) (rw (text, c.in-Other.is) at (c.in_ok-read_like.ensures out))
     last)
 
-pub returns-in-Same : goal.returns-in-Same
-returns-in-Same g c = λ out.
+pub returns : goal.returns
+returns g c = λ out.
     let isa = c.args.isa in
     let test = c.args.test.now in
     let files = c.in_ok-files.files in
