@@ -1,3 +1,4 @@
+mod Absences
 mod Accepting
 mod TestRuns
 pub mod TestEnds

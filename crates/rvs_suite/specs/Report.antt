@@ -12,6 +12,7 @@ use Rattle.rvs_isa.specs.Misa.{misa_word}
 use Rattle.rvs_cgf.specs.Groups.{Label}
 use Rattle.rvs_count.specs.Report.{width}
 use Rattle.rvs_test.specs.Made.{claims_of, cases_of, text_of_label}
+use Rattle.rvs_test_text.specs.declared.claim.Claim.{Claim}
 use Rattle.rvs_test_text.specs.TestText.{step_limit}
 use Rattle.rvs_device.specs.DeviceFile.{Told}
 use Rattle.rvs_page.specs.Page.{page_of}
@@ -95,12 +96,17 @@ page_in files asked =
     (all_shown_in files inputs.isa asked.work covered.counts inputs.groups)))))
 
 -- ---- as plans
+-- what is found of a test is shown with the claims of it
+abbrev pub shows_test : Isa → List ℕ → List ℕ → List Claim → Label → Test → Plan ShownLabel
+shows_test isa work counts claims l test = do
+  found ← finds_test isa work test
+  gives (shown_label found test.text counts claims l)
+
 abbrev pub shows_by : Isa → List ℕ → List ℕ → Label → Option (List ℕ) → Plan ShownLabel
 shows_by isa work counts l None =
     gives (shown_label (found_open state.NoTest) [] counts (claims_of isa l) l)
-shows_by isa work counts l (Some text) = do
-  found ← finds_test isa work (test_of isa l text)
-  gives (shown_label found text counts (claims_of isa l) l)
+shows_by isa work counts l (Some text) =
+    shows_test isa work counts (claims_of isa l) l (test_of isa l text)
 
 abbrev pub shows_label : Isa → List ℕ → List ℕ → Label → Plan ShownLabel
 shows_label isa work counts l =

@@ -16,7 +16,7 @@ returns-in_err-counted-clause-met g c = λ out.
     rw (p.1, p.2) (Meets-stop
     (reports (measure c.args.asked.now.windows) c.args.asked.now.logs
     (groups_view c.args.groups.now))
-    (c.in_err-counted.ensures.met out))
+    (rw (c.as_slice-windows.ensures, c.as_slice-logs.ensures) at (c.in_err-counted.ensures.met out)))
 
 pub returns-in_err-report_of-clause-met : goal.returns-in_err-report_of-clause-met
 returns-in_err-report_of-clause-met g c = λ out.
@@ -25,7 +25,7 @@ returns-in_err-report_of-clause-met g c = λ out.
     rw (p.1, p.2) (Meets-then
     (reports (measure c.args.asked.now.windows) c.args.asked.now.logs
     (groups_view c.args.groups.now))
-    (c.in_ok-counted.ensures.met out)
+    (rw (c.as_slice-windows.ensures, c.as_slice-logs.ensures) at (c.in_ok-counted.ensures.met out))
     (Meets-no_memory _ (world (g.H.Host.state c.count_all.new.host) out)))
 
 pub returns-clause-met : goal.returns-clause-met
@@ -34,10 +34,10 @@ returns-clause-met g c = λ out.
     let text = c.in_ok-report_of.field-0 in
     let is = c.in_ok-report_of.ensures
     ∙ ap (λ (names : List (List ℕ)). report_on (groups_view c.args.groups.now) names
-    c.in_ok-counted.counted) c.as_slice.ensures in
+    c.in_ok-counted.counted) c.as_slice-logs.ensures in
     Meets-then (reports (measure c.args.asked.now.windows) c.args.asked.now.logs
     (groups_view c.args.groups.now))
-    (c.in_ok-counted.ensures.met out)
+    (rw (c.as_slice-windows.ensures, c.as_slice-logs.ensures) at (c.in_ok-counted.ensures.met out))
     (subst (λ (report : List ℕ). Meets (gives report) w w (Ok text)) is
     (Meets-gives text w))
 

@@ -75,6 +75,15 @@ pub returns-in-RunDatabase-clause-told : goal.returns-in-RunDatabase-clause-told
 returns-in-RunDatabase-clause-told g c = rw c.in-RunDatabase.is
     (nothing-unlost _ c.unlost-in-RunDatabase.result c.unlost-in-RunDatabase.ensures)
 
+pub returns-in-Report-clause-done : goal.returns-in-Report-clause-done
+returns-in-Report-clause-done g c =
+    rw c.in-Report.is (performs-unlost _ c.unlost-in-Report.result c.unlost-in-Report.ensures
+    (Performs-meets (λ is. cc) (λ count is. cc) c.report_run.ensures))
+
+pub returns-in-Report-clause-told : goal.returns-in-Report-clause-told
+returns-in-Report-clause-told g c = rw c.in-Report.is
+    (nothing-unlost _ c.unlost-in-Report.result c.unlost-in-Report.ensures)
+
 pub returns-in-Select-clause-done : goal.returns-in-Select-clause-done
 returns-in-Select-clause-done g c =
     rw c.in-Select.is (performs-unlost _ c.unlost-in-Select.result c.unlost-in-Select.ensures
