@@ -16,9 +16,9 @@ use Rattle.rvs_page.specs.declared.shown.State.{State}
 use Rattle.rvs_page.specs.declared.shown.State.TheVariants as state
 use Rattle.rvs_suite.specs.Tests.{reference_words}
 use Rattle.rvs_suite.specs.TestFiles.{files_of}
-use Rattle.rvs_suite.specs.declared.finding.Likeness.{Likeness}
-use Rattle.rvs_suite.specs.declared.finding.Likeness.TheVariants.{Absent, Other, Same}
-use Rattle.rvs_suite.specs.declared.finding.Found.{Found}
+use Rattle.rvs_suite.specs.declared.reviewing.Likeness.{Likeness}
+use Rattle.rvs_suite.specs.declared.reviewing.Likeness.TheVariants.{Absent, Other, Same}
+use Rattle.rvs_suite.specs.declared.reviewing.Found.{Found}
 use Rattle.rvs_suite.specs.declared.gathering.Test.{Test}
 use Rattle.rvs_suite.specs.declared.test_files.TestFiles.{TestFiles}
 

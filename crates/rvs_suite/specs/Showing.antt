@@ -13,7 +13,7 @@ use Rattle.rvs_page.specs.declared.shown.Skipped.{Skipped as ShownSkipped}
 use Rattle.rvs_page.specs.declared.shown.Label.{Label as ShownLabel}
 use Rattle.rvs_test_text.specs.declared.claim.Claim.{Claim}
 use Rattle.rvs_suite.specs.GenerateTexts.{case_at, claims_after}
-use Rattle.rvs_suite.specs.declared.finding.Found.{Found}
+use Rattle.rvs_suite.specs.declared.reviewing.Found.{Found}
 
 -- both words of a case
 abbrev pub word_at : List ℕ → ℕ → ℕ

@@ -17,7 +17,7 @@ use crate::group_files::read_inputs;
 use crate::log_lines::under_lines;
 use crate::printing::print_text;
 use crate::summing::{plus_each, total_of, with_number};
-use rvs_base::{Host, Items, NoMemory, Sink, Text};
+use rvs_base::{Host, Items, NoMemory, Sink, Text, Window};
 use rvs_cgf::Groups;
 use rvs_count::{Counter, LogFault, count_file, report_text, zeros};
 use rvs_plan::{Finish, Stop, too_long};

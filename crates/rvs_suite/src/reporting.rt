@@ -13,10 +13,10 @@ ghost use Rattle.rvs_suite.specs.Report.{shows_labels, finds_page, puts_page, re
 
 use crate::covering::{Covered, count_all};
 use crate::device_file::read_device_file;
-use crate::finding::{find_test, found_open};
 use crate::gathering::Test;
 use crate::group_files::{Inputs, read_inputs};
 use crate::making::made_of;
+use crate::reviewing::{find_test, found_open};
 use crate::showing::{shown_label, unselected};
 use crate::summing::total_of;
 use rvs_base::{Host, Items, NoMemory, Sink, Text};

@@ -5,7 +5,7 @@ ghost use Rattle.rvs_cgf.specs.GroupView.{label_view, point_view, skipped_view};
 ghost use Rattle.rvs_suite.specs.GenerateTexts as texts;
 ghost use Rattle.rvs_suite.specs.Showing as spec;
 
-use crate::finding::Found;
+use crate::reviewing::Found;
 use rvs_base::{Bytes, Items, NoMemory, Text, first_line};
 use rvs_cgf::{Label, Meaning, Point, Skipped};
 use rvs_cross::places;
