@@ -12,6 +12,7 @@ use Rattle.rvs_suite.specs.declared.covering.Covered.{Covered}
 use Rattle.rvs_suite.specs.GroupsView.{groups_view}
 use Rattle.rvs_suite.specs.Coverage.{file_name, counts_more}
 use Rattle.rvs_suite.specs.LogReport.{takes_logs}
+use Rattle.rvs_suite.specs.Telling.{as_planned}
 use Rattle.rvs_suite.proofs.covering.count_all.Goals as goal
 
 pub returns-in_err-none-clause-met : goal.returns-in_err-none-clause-met
@@ -49,11 +50,11 @@ returns-clause-met g c = λ out.
     let met = c.count_onto.ensures.met out in
     let P : List Label → Type 0 = λ ls. Meets (takes_logs file_name (counts_more
     c.in_ok-counter.counter.tally.windows (groups_view ls)) c.in_ok-none.none logs_asked)
-    old new c.count_onto.result in
+    old new (as_planned c.count_onto.result) in
     let Q : List Span → Type 0 = λ w. Meets (takes_logs file_name (counts_more w
-    (groups_view groups)) c.in_ok-none.none logs_asked) old new c.count_onto.result in
+    (groups_view groups)) c.in_ok-none.none logs_asked) old new (as_planned c.count_onto.result) in
     let R : Covered → Type 0 = λ none. Meets (takes_logs file_name (counts_more windows_asked
-    (groups_view groups)) none logs_asked) old new c.count_onto.result in
+    (groups_view groups)) none logs_asked) old new (as_planned c.count_onto.result) in
     subst R c.in_ok-none.ensures.counted (subst Q windows (subst P labels met))
 
 pub returns-in_err-none-clause-told : goal.returns-in_err-none-clause-told

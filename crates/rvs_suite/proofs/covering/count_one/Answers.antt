@@ -1,13 +1,13 @@
 use Rattle.std.proofs.Common.{◌≡◌, [], Result, Ok, Err, OnOk, ap, ◌∙◌}
 use Rattle.rvs_count.specs.State.{CountState}
 use Rattle.rvs_count.proofs.Ends.{counted_labels, counted_windows}
-use Rattle.rvs_plan.specs.declared.stop.Stop.{Stop}
 use Rattle.rvs_suite.specs.Coverage.{IsAlike}
 use Rattle.rvs_suite.specs.declared.covering.Covered.{Covered}
+use Rattle.rvs_suite.specs.declared.unfinished.Unfinished.{Unfinished}
 use Rattle.rvs_suite.proofs.covering.count_one.Goals as goal
 
 -- a counter that was begun anew in between is still alike
-still-alike : (r : Result Covered Stop) (old mid new : CountState)
+still-alike : (r : Result Covered Unfinished) (old mid new : CountState)
     → mid.tally.labels ≡ old.tally.labels → mid.tally.windows ≡ old.tally.windows
     → OnOk r (IsAlike mid new) → OnOk r (IsAlike old new)
 still-alike (Ok counted) old mid new labels windows later = record {

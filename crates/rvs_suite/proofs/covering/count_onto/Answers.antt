@@ -78,7 +78,8 @@ loop-log-preserved g c =
       tells = λ whole lost sink later.
           let host = g.H.Host.state c.loop-log.host in
           let next = g.H.Host.state c.count_one.new.host in
-          let still = still-tells (takes_log _ c.loop-log.counted c.as_str.result.now)
+          let still = still-tells (takes_log (counted_with c.loop-log.counter.tally.windows
+          (groups_view c.loop-log.counter.tally.labels)) c.loop-log.counted c.as_str.result.now)
           c.in_ok-counted.counted (world host sink) (world next sink) (λ found. tt)
           (c.in_ok-counted.ensures.met sink) in
           let P : List (List ℕ) → Type 0 = λ names. HasTold c.args.progress

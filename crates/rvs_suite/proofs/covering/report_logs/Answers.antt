@@ -44,13 +44,13 @@ returns-clause-met g c = λ out.
 pub returns-in_err-counted-clause-told : goal.returns-in_err-counted-clause-told
 returns-in_err-counted-clause-told g c =
     let p = err_from_is_err_and c.from_residual.result c.from_residual.ensures.1 in
-    rw (p.1, p.2) c.in_err-counted.ensures.told
+    rw (p.1, p.2) (rw c.as_slice-logs.ensures at c.in_err-counted.ensures.told)
 
 pub returns-in_err-report_of-clause-told : goal.returns-in_err-report_of-clause-told
 returns-in_err-report_of-clause-told g c =
     let p = err_from_is_err_and c.from_residual-in_err-report_of.result
     c.from_residual-in_err-report_of.ensures.1 in
-    rw (p.1, p.2) (told-cut c.in_ok-counted.ensures.told)
+    rw (p.1, p.2) (told-cut (rw c.as_slice-logs.ensures at c.in_ok-counted.ensures.told))
 
 pub returns-clause-told : goal.returns-clause-told
-returns-clause-told g c = c.in_ok-counted.ensures.told
+returns-clause-told g c = rw c.as_slice-logs.ensures at c.in_ok-counted.ensures.told

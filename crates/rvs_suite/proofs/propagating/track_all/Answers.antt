@@ -11,6 +11,7 @@ use Rattle.rvs_suite.specs.declared.propagating.Traced.{Traced}
 use Rattle.rvs_suite.specs.GroupsView.{groups_view}
 use Rattle.rvs_suite.specs.Propagate.{file_name, tracks_more}
 use Rattle.rvs_suite.specs.LogReport.{takes_logs}
+use Rattle.rvs_suite.specs.Telling.{as_planned}
 use Rattle.rvs_suite.proofs.propagating.track_all.Goals as goal
 
 pub returns-in_err-none-clause-met : goal.returns-in_err-none-clause-met
@@ -34,9 +35,9 @@ returns-clause-met g c = λ out.
     ∙ all_labels groups 0 0 [] 0 in
     let met = rw c.as_slice-logs.ensures at (c.track_onto.ensures.met out) in
     let P : List Label → Type 0 = λ ls. Meets (takes_logs file_name (tracks_more (groups_view ls))
-    c.in_ok-none.none asked.logs) old new c.track_onto.result in
+    c.in_ok-none.none asked.logs) old new (as_planned c.track_onto.result) in
     let Q : Traced → Type 0 = λ none. Meets (takes_logs file_name
-    (tracks_more (groups_view groups)) none asked.logs) old new c.track_onto.result in
+    (tracks_more (groups_view groups)) none asked.logs) old new (as_planned c.track_onto.result) in
     subst Q c.in_ok-none.ensures.tracked (subst P labels met)
 
 pub returns-in_err-none-clause-told : goal.returns-in_err-none-clause-told

@@ -1,13 +1,13 @@
 use Rattle.std.proofs.Common.{◌≡◌, List, [], Result, Ok, Err, OnOk, ap, ◌∙◌}
 use Rattle.rvs_cgf.specs.declared.group.Label.{Label}
-use Rattle.rvs_plan.specs.declared.stop.Stop.{Stop}
 use Rattle.rvs_prop.specs.State.{TrackState}
 use Rattle.rvs_prop.proofs.Ends.{all_labels}
 use Rattle.rvs_suite.specs.declared.propagating.Traced.{Traced}
+use Rattle.rvs_suite.specs.declared.unfinished.Unfinished.{Unfinished}
 use Rattle.rvs_suite.proofs.propagating.track_one.Goals as goal
 
 -- a tracker that was begun anew in between still has its labels
-still-same : (r : Result Traced Stop) (old mid new : List Label) → mid ≡ old → OnOk r (new ≡ mid)
+still-same : (r : Result Traced Unfinished) (old mid new : List Label) → mid ≡ old → OnOk r (new ≡ mid)
     → OnOk r (new ≡ old)
 still-same (Ok tracked) old mid new same later = later ∙ same
 still-same (Err stop) old mid new same later = tt

@@ -74,7 +74,8 @@ loop-log-preserved g c =
       tells = λ whole lost sink later.
           let host = g.H.Host.state c.loop-log.host in
           let next = g.H.Host.state c.track_one.new.host in
-          let still = still-tells (takes_log _ c.loop-log.tracked c.as_str.result.now)
+          let still = still-tells (takes_log (tracked_with log.signature
+          (groups_view c.loop-log.tracker.trail.labels)) c.loop-log.tracked c.as_str.result.now)
           c.in_ok-tracked.tracked (world host sink) (world next sink) (λ found. tt)
           (c.in_ok-tracked.ensures.met sink) in
           let P : List SignedLog → Type 0 = λ logs. HasTold c.args.progress

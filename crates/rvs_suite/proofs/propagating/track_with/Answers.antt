@@ -87,8 +87,8 @@ longer : (c : TrackState) (bytes : List ℕ) → c.fed ≡ 0 → 2 ^ 40 < c.fed 
     → log_limit < length bytes
 longer c bytes new long = omega arith
 
-pub returns-clause-met : goal.returns-clause-met
-returns-clause-met g c = λ out groups range begun.
+pub returns-in-Err-TooLong-clause-met : goal.returns-in-Err-TooLong-clause-met
+returns-in-Err-TooLong-clause-met g c = λ out groups range begun.
     let name = c.args.log.now in
     let cause = rw c.in-Err-TooLong.field-0-is at c.in-Err-TooLong.ensures.cause in
     let text : c.in_ok-too_long-in-Err-TooLong.field-0 ≡ too_long_text name log_limit =
@@ -122,8 +122,8 @@ returns-in-Err-NoMemory-clause-met g c = λ out groups range begun.
     (rw c.in-Err-NoMemory.field-0-is at c.in-Err-NoMemory.ensures.cause)
     (at_most-log c.args.tracker.now.fed c.in-Err-NoMemory.ensures.at_most)
 
-pub returns-in-Err-Untold-clause-met : goal.returns-in-Err-Untold-clause-met
-returns-in-Err-Untold-clause-met g c = λ out groups range begun.
+pub returns-clause-met : goal.returns-clause-met
+returns-clause-met g c = λ out groups range begun.
     asks-no_memory out _ log_bound _ c.in-Err-Untold.ensures.reads_only
     (rw c.in-Err-Untold.field-0-is at c.in-Err-Untold.ensures.cause)
     (at_most-log c.args.tracker.now.fed c.in-Err-Untold.ensures.at_most)
@@ -155,8 +155,8 @@ pub returns-in-Err-NoMemory-clause-told : goal.returns-in-Err-NoMemory-clause-to
 returns-in-Err-NoMemory-clause-told g c =
     rw c.in-Err-NoMemory.field-0-is at c.in-Err-NoMemory.ensures.untold
 
-pub returns-in-Err-Untold-clause-told : goal.returns-in-Err-Untold-clause-told
-returns-in-Err-Untold-clause-told g c =
+pub returns-clause-told : goal.returns-clause-told
+returns-clause-told g c =
     rw c.in-Err-Untold.field-0-is at c.in-Err-Untold.ensures.untold
 
 pub returns-in_err-too_long-in-Err-TooLong-clause-told : goal.returns-in_err-too_long-in-Err-TooLong-clause-told
@@ -165,6 +165,6 @@ returns-in_err-too_long-in-Err-TooLong-clause-told g c =
     c.from_residual-in_err-too_long-in-Err-TooLong.ensures.1 in
     rw (p.1, p.2) (rw c.in-Err-TooLong.field-0-is at c.in-Err-TooLong.ensures.untold)
 
-pub returns-clause-told : goal.returns-clause-told
-returns-clause-told g c =
+pub returns-in-Err-TooLong-clause-told : goal.returns-in-Err-TooLong-clause-told
+returns-in-Err-TooLong-clause-told g c =
     rw c.in-Err-TooLong.field-0-is at c.in-Err-TooLong.ensures.untold
