@@ -80,9 +80,9 @@ made-long {A} {h} {h'} o name limit follows a r l e same most = by-told (is_told
         let held = l.longer told.0 told.1 in
         made o name (limit + 1) follows (Some held.0) a r
         (λ files t.
-            let both : Some told.0 ≡ Some files = sym told.1.files ∙ t.files in
-            let one : told.0 ≡ files = cc in
-            sym (ap (λ (f : Files). f name) one) ∙ held.1)
+        let both : Some told.0 ≡ Some files = sym told.1.files ∙ t.files in
+        let one : told.0 ≡ files = cc in
+        sym (ap (λ (f : Files). f name) one) ∙ held.1)
         (e held.0 held.2) (λ told. same) most
     by-told false is =
         let some = longer limit in

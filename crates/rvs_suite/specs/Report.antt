@@ -113,7 +113,8 @@ shows_label isa work counts l =
     if l.selected then shows_by isa work counts l (text_of_label isa l)
     else gives (shown_unselected l)
 
-abbrev pub shows_labels : Isa → List ℕ → List ShownLabel → List ℕ → List Label → Plan (List ShownLabel)
+abbrev pub shows_labels : Isa → List ℕ → List ShownLabel → List ℕ → List Label
+    → Plan (List ShownLabel)
 shows_labels isa work shown counts [] = gives shown
 shows_labels isa work shown counts (l ∷ ls) =
     shows_label isa work (take (width l) counts) l

@@ -253,7 +253,16 @@ fn show_made<H: Host>(
         None => show_untested(alloc, label, claims.as_slice(), counts),
         Some(text) => {
             let test = test_of(alloc, label, text, steps)?;
-            show_test(alloc, host, work, isa, label, claims.as_slice(), &test, counts)
+            show_test(
+                alloc,
+                host,
+                work,
+                isa,
+                label,
+                claims.as_slice(),
+                &test,
+                counts,
+            )
         },
     }
 }

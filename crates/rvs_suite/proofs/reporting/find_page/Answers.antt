@@ -23,7 +23,8 @@ use Rattle.rvs_suite.proofs.reporting.find_page.Goals as goal
 -- what follows when the labels are shown, when the logs are read, when the device is, and when the
 -- groups are
 abbrev with_labels : ReportArguments → Inputs → Told → Covered → List ShownLabel → Plan Page
-with_labels asked inputs device covered labels = gives (page_with asked inputs device covered labels)
+with_labels asked inputs device covered labels =
+    gives (page_with asked inputs device covered labels)
 
 abbrev with_logs : ReportArguments → Inputs → Told → Covered → Plan Page
 with_logs asked inputs device covered =

@@ -26,14 +26,15 @@ use Rattle.rvs_suite.proofs.reporting.show_made.Goals as goal
 -- a label of which no test was made
 untested : (isa : Isa) (work counts : List ℕ) (l : Label) (m : Made) (old new : World)
     (result : Result ShownLabel Stop) → IsMade isa l m → m.text ≡ None
-    → MeetsWith IsAnswer (gives (shown_label (found_open state.NoTest) [] counts m.claims l)) old new
-    result
+    → MeetsWith IsAnswer (gives (shown_label (found_open state.NoTest) [] counts m.claims l)) old
+    new result
     → MeetsWith IsAnswer (shows_by isa work counts l (text_of_label isa l)) old new result
 untested isa work counts l m old new result is none-made met =
     subst (λ (text : Option (List ℕ)). MeetsWith IsAnswer (shows_by isa work counts l text) old new
     result) (sym none-made ∙ is.text)
     (subst (λ (claims : List Claim). MeetsWith IsAnswer
-    (gives (shown_label (found_open state.NoTest) [] counts claims l)) old new result) is.claims met)
+    (gives (shown_label (found_open state.NoTest) [] counts claims l)) old new result) is.claims
+    met)
 
 -- one of which this was made
 tested : (isa : Isa) (work counts text : List ℕ) (l : Label) (m : Made) (test : Test)
