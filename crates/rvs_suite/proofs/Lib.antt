@@ -64,3 +64,7 @@ mod DatabaseEnds
 mod PartsKept
 mod InAll
 mod WordLimits
+mod Shows
+mod ReportReads
+mod ReportPasses
+mod ReportEnds

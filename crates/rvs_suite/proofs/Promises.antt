@@ -20,6 +20,7 @@ use Rattle.rvs_suite.specs.Normalizing as normalizing
 use Rattle.rvs_suite.specs.Referencing as referencing
 use Rattle.rvs_suite.specs.Judging as judging
 use Rattle.rvs_suite.specs.JudgingDatabase as database
+use Rattle.rvs_suite.specs.Reporting as reporting
 use Rattle.rvs_suite.specs.Selecting as selecting
 use Rattle.rvs_suite.specs.Planned as planned
 use Rattle.rvs_suite.specs.Causes as causes
@@ -37,6 +38,7 @@ use Rattle.rvs_suite.proofs.CoverageEnds.{covers}
 use Rattle.rvs_suite.proofs.PropagateEnds.{propagates}
 use Rattle.rvs_suite.proofs.RunEnds.{judges}
 use Rattle.rvs_suite.proofs.DatabaseEnds.{judges_database}
+use Rattle.rvs_suite.proofs.ReportEnds.{reports}
 use Rattle.rvs_suite.proofs.SelectEnds.{selects}
 use Rattle.rvs_suite.proofs.DemoEnds.{demonstrates}
 
@@ -126,6 +128,10 @@ pub database-promise : {call : Call} → RanCall call → database.Promise call
 database-promise r files asked t is =
     judges_database files asked (record { ran = r.ran; told = t; asks = is })
 
+pub report-promise : {call : Call} → RanCall call → reporting.Promise call
+report-promise r files asked t is =
+    reports files asked (record { ran = r.ran; told = t; asks = is })
+
 pub select-promise : {call : Call} → RanCall call → selecting.Promise call
 select-promise r files asked t is =
     selects files asked (record { ran = r.ran; told = t; asks = is })
@@ -146,6 +152,7 @@ promise r = record {
   propagate = propagate-promise r;
   run = run-promise r;
   run_database = database-promise r;
+  report = report-promise r;
   select = select-promise r;
   demo = demo-promise r;
 }

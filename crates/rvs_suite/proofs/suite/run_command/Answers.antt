@@ -42,6 +42,10 @@ pub returns-in-RunDatabase : goal.returns-in-RunDatabase
 returns-in-RunDatabase g c =
     rw c.in-RunDatabase.is (Performs-meets (λ is. cc) (λ count is. cc) c.run_selected.ensures)
 
+pub returns-in-Report : goal.returns-in-Report
+returns-in-Report g c =
+    rw c.in-Report.is (Performs-meets (λ is. cc) (λ count is. cc) c.report_run.ensures)
+
 pub returns-in-Select : goal.returns-in-Select
 returns-in-Select g c =
     rw c.in-Select.is (Performs-meets (λ is. cc) (λ count is. cc) c.select_tests.ensures)
