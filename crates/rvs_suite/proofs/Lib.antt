@@ -67,3 +67,7 @@ mod InAll
 mod WordLimits
 mod Tellings
 mod ProgressEnds
+mod Shows
+mod ReportReads
+mod ReportPasses
+mod ReportEnds

@@ -22,7 +22,7 @@ use Rattle.rvs_suite.proofs.Readers.{OnlyReads, OnlyReads-then}
 use Rattle.rvs_suite.proofs.Finding.{Finds}
 use Rattle.rvs_suite.proofs.GroupInputs.{reads-inputs, finds-inputs, finds-and_then}
 
-reads-logs : {L A : Type 0} (named : L → List ℕ) (more : L → A → List ℕ → A) (known : A)
+pub reads-logs : {L A : Type 0} (named : L → List ℕ) (more : L → A → List ℕ → A) (known : A)
     (logs : List L) → OnlyReads (takes_logs named more known logs)
 reads-logs named more known [] = tt
 reads-logs named more known (log ∷ logs) = OnlyReads-then (takes_log (more log) known (named log))
@@ -41,7 +41,7 @@ reads-reported m isa families names logs = OnlyReads-then (group_inputs isa fami
     (λ inputs. reads_logs m logs inputs.groups)
     (reads-inputs isa families names) (λ inputs. reads-report m logs inputs.groups)
 
-finds-logs : {L A : Type 0} (files : Files) (named : L → List ℕ) (more : L → A → List ℕ → A)
+pub finds-logs : {L A : Type 0} (files : Files) (named : L → List ℕ) (more : L → A → List ℕ → A)
     (known : A) (logs : List L)
     → Finds files (takes_logs named more known logs) (logs_in files named more known logs)
 finds-logs files named more known [] = refl

@@ -24,6 +24,7 @@ use Rattle.rvs_suite.specs.Normalizing as normalizing
 use Rattle.rvs_suite.specs.Referencing as referencing
 use Rattle.rvs_suite.specs.Judging as judging
 use Rattle.rvs_suite.specs.JudgingDatabase as database
+use Rattle.rvs_suite.specs.Reporting as reporting
 use Rattle.rvs_suite.specs.Selecting as selecting
 use Rattle.rvs_suite.specs.Planned as planned
 use Rattle.rvs_suite.specs.Causes as causes
@@ -42,6 +43,7 @@ use Rattle.rvs_suite.proofs.PropagateEnds.{propagates}
 use Rattle.rvs_suite.proofs.ProgressEnds.{progress}
 use Rattle.rvs_suite.proofs.RunEnds.{judges}
 use Rattle.rvs_suite.proofs.DatabaseEnds.{judges_database}
+use Rattle.rvs_suite.proofs.ReportEnds.{reports}
 use Rattle.rvs_suite.proofs.SelectEnds.{selects}
 use Rattle.rvs_suite.proofs.DemoEnds.{demonstrates}
 
@@ -153,6 +155,10 @@ pub database-promise : {call : Call} → RanTelling call → database.Promise ca
 database-promise r files asked t is =
     judges_database files asked (record { ran = (plain r (ap asks_progress is)).ran; told = t; asks = is })
 
+pub report-promise : {call : Call} → RanTelling call → reporting.Promise call
+report-promise r files asked t is =
+    reports files asked (record { ran = (plain r (ap asks_progress is)).ran; told = t; asks = is })
+
 pub select-promise : {call : Call} → RanTelling call → selecting.Promise call
 select-promise r files asked t is =
     selects files asked (record { ran = (plain r (ap asks_progress is)).ran; told = t; asks = is })
@@ -175,6 +181,7 @@ promise r = record {
   propagate = propagate-promise r.since;
   run = run-promise r;
   run_database = database-promise r;
+  report = report-promise r;
   select = select-promise r;
   demo = demo-promise r;
 }

@@ -45,13 +45,15 @@ use Rattle.rvs_suite.proofs.GroupInputs.{reads-specification, reads-inputs, read
 use Rattle.rvs_suite.proofs.LogReads.{reads-reported}
 use Rattle.rvs_suite.proofs.RunReads.{reads-run}
 use Rattle.rvs_suite.proofs.DatabaseReads.{reads-selection}
+use Rattle.rvs_suite.proofs.ReportReads.{reads-page}
+use Rattle.rvs_suite.specs.Report.{finds_page, puts_page}
 use Rattle.rvs_suite.specs.Select.{reads_selection, print_selection}
 use Rattle.rvs_suite.proofs.Running.{Ran, answers}
 use Rattle.rvs_words.specs.declared.command.Command.{Command}
 use Rattle.rvs_words.specs.declared.command.Command.TheVariants.{Unknown, Compare, Validate}
 use Rattle.rvs_words.specs.declared.command.Command.TheVariants.{Normalize, Generate, Reference}
 use Rattle.rvs_words.specs.declared.command.Command.TheVariants.{Coverage, Propagate, Run, Demo}
-use Rattle.rvs_words.specs.declared.command.Command.TheVariants.{RunDatabase, Select}
+use Rattle.rvs_words.specs.declared.command.Command.TheVariants.{RunDatabase, Report, Select}
 use Rattle.rvs_suite.specs.declared.test_run.Run.{Run as TestRun}
 use Rattle.rvs_suite.specs.declared.gathering.Test.{Test}
 use Rattle.rvs_suite.specs.declared.test_files.TestFiles.{TestFiles}
@@ -228,6 +230,9 @@ stops_untouched (Propagate asked) first =
     (reads-reported propagating.measure asked.isa asked.families asked.groups asked.logs)
     (λ report effects stop c goes. absurd (goes-on (print_text report) effects stop tt goes))
 stops_untouched (RunDatabase asked) first = absurd first
+stops_untouched (Report asked) first =
+    untouched-then (finds_page asked) puts_page (reads-page asked) (λ page effects stop c goes.
+    absurd (goes-on (puts_page page) effects stop tt goes))
 stops_untouched (Select asked) first =
     untouched-then (reads_selection asked) print_selection (reads-selection asked)
     (λ entries effects stop c goes.

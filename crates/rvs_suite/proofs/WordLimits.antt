@@ -8,11 +8,12 @@ use Rattle.std.proofs.lemmas.Bool.Decides.{nat_tests}
 use Rattle.rvs_words.specs.Commands.{Values, number_of, most_steps, within_steps, steps_of}
 use Rattle.rvs_words.specs.Commands.{some_of, most_logs, with_options, compare_of}
 use Rattle.rvs_words.specs.Commands.{validate_of, normalize_of, generate_of, reference_of}
-use Rattle.rvs_words.specs.Commands.{coverage_of, propagate_of, select_of, run_groups_of}
+use Rattle.rvs_words.specs.Commands.{coverage_of, propagate_of, report_of, select_of}
+use Rattle.rvs_words.specs.Commands.{run_groups_of}
 use Rattle.rvs_words.specs.Commands.{run_database_of, run_of, demo_of, named, asked_by, command_of}
 use Rattle.rvs_words.specs.Commands.{validate_options, normalize_options, generate_options}
 use Rattle.rvs_words.specs.Commands.{reference_options, coverage_options, propagate_options}
-use Rattle.rvs_words.specs.Commands.{run_options, select_options}
+use Rattle.rvs_words.specs.Commands.{run_options, report_options, select_options}
 use Rattle.rvs_words.specs.Words.{values_of}
 use Rattle.rvs_words.specs.Windows.{all_windows}
 use Rattle.rvs_words.specs.LogWords.{signed_log, signed_each, with_each, with_ranges}
@@ -141,6 +142,9 @@ by-coverage values = search (then-in, some-in, some-few) depth 12
 by-propagate : (values : Values) → InAll IsWithin (propagate_of values)
 by-propagate values = search (then-in, some-in, signed-few) depth 12
 
+by-report : (values : Values) → InAll IsWithin (report_of values)
+by-report values = search (then-in, some-in) depth 14
+
 by-select : (values : Values) → InAll IsWithin (select_of values)
 by-select values = search (then-in, some-in) depth 12
 
@@ -182,9 +186,11 @@ by-name program name words =
     (by-options propagate_options propagate_of words by-propagate)
     (either-in (bytes_eq name (codes "run")) _ _
     (by-options run_options (run_of program) words (by-run program))
+    (either-in (bytes_eq name (codes "report")) _ _
+    (by-options report_options report_of words by-report)
     (either-in (bytes_eq name (codes "select")) _ _
     (by-options select_options select_of words by-select)
-    (either-in (bytes_eq name (codes "demo")) _ _ (by-demo words) none-in)))))))))
+    (either-in (bytes_eq name (codes "demo")) _ _ (by-demo words) none-in))))))))))
 
 by-words : (words : List (List ℕ)) → InAll IsWithin (asked_by words)
 by-words [] = none-in

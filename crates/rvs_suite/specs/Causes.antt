@@ -66,8 +66,8 @@ pub record Promise (call : Call) : Type 0 where
       → (EndsAt call Putting × (call.new.err.faults ≡ call.old.err.faults))
       ⊎ ((call.new.err.faults ≡ raised call.old.err.faults) × HasEnded call)
   -- no fault is passed over: with any other status no count has changed, but that of reading by
-  -- `run` where a host that doesn't tell has no signature of a device; nor has one where a told
-  -- host lacks a file
+  -- `run` where a host that doesn't tell has no signature of a device, and by `report` where it has
+  -- no file of a test; nor has one where a told host lacks a file
   pub unfaulted : call.status ≢ answer.HostFault → call.status ≢ answer.SinkFault → NoneChanged
       (absence_of (command_of call.words)) (world_of call.old) (world_of call.new) call.old.err
       call.new.err

@@ -1,8 +1,7 @@
 -- What a page shows of a label.
-use Rattle.std.specs.Prelude.{ℕ, ◌+◌, ◌*◌, ◌==◌, ◌&&◌, ◌||◌, not, min, Bool, true, false}
+use Rattle.std.specs.Prelude.{ℕ, ◌+◌, ◌*◌, ◌==◌, ◌||◌, not, Bool, true, false}
 use Rattle.std.specs.Prelude.{if◌then◌else◌, List, [], ◌∷◌, ◌++◌, map, length, codes, decimal}
 use Rattle.std.specs.Prelude.{Option, Some, None, slice_get, unwrap_or, bytes_eq, take}
-use Rattle.std.specs.List.{filter_map}
 use Rattle.rvs_base.specs.Lines.{cut_lines}
 use Rattle.rvs_cgf.specs.Groups.{Label, Point, Skipped, Meaning, window}
 use Rattle.rvs_cgf.specs.Print.{kind_name}
@@ -74,6 +73,10 @@ behind symbol (line ∷ lines) = if bytes_eq line symbol then lines else behind 
 abbrev pub without_indent : List ℕ → List ℕ
 without_indent [] = []
 without_indent (b ∷ line) = elim (b == 32) [ true ↦ without_indent line | false ↦ b ∷ line ]
+
+-- a text that so many lines made, begun for one more
+abbrev pub begun : ℕ → List ℕ → List ℕ
+begun place code = if place == 0 then code else code ++ 10 ∷ []
 
 -- lines with a line feed between
 abbrev pub joined : List (List ℕ) → List ℕ

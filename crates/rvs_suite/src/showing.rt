@@ -1,5 +1,6 @@
 // What a page shows of a label.
-ghost use Rattle.std.specs.Prelude.{◌≡◌, ◌∷◌, [], Some, IfOk, map};
+ghost use Rattle.std.specs.Prelude.{◌≡◌, ◌++◌, ◌∷◌, [], Some, IfOk, OnOk, map, option_map};
+ghost use Rattle.std.specs.Prelude.{slice_get};
 ghost use Rattle.rvs_base.specs.Lines.{cut_lines};
 ghost use Rattle.rvs_cgf.specs.GroupView.{label_view, point_view, skipped_view};
 ghost use Rattle.rvs_suite.specs.GenerateTexts as texts;
@@ -18,6 +19,12 @@ fn word_at(words: &[u32], at: usize) -> u32
     ensures { result ≡ spec.word_at words.now at }
 {
     words.get(at).copied().unwrap_or(0)
+}
+
+fn count_at(counts: &[u64], at: usize) -> u64
+    ensures { result ≡ spec.word_at counts.now at }
+{
+    counts.get(at).copied().unwrap_or(0)
 }
 
 /// Both words of a case, of which one that isn't there is 0.
@@ -99,7 +106,7 @@ fn shown_points(
     let mut shown = Items::new(alloc);
     let mut rest = claims;
     for (place, point) in label.points.as_slice().iter().enumerate() {
-        let hits = counts.get(place).copied().unwrap_or(0);
+        let hits = count_at(counts, place);
         shown.push(shown_point(alloc, found, case_at(rest, place), hits, point)?)?;
         rest = claims_after(rest, place);
     }
@@ -143,7 +150,20 @@ fn without_indent(line: &[u8]) -> &[u8]
     rest
 }
 
+/// Puts a line, without its indent, behind those before it.
+fn push_line(code: &mut Vec<u8>, place: usize, line: &[u8]) -> Result<(), NoMemory>
+    ensures { OnOk result (code.new.items ≡ spec.begun place code.old.items
+        ++ spec.without_indent line.now) }
+{
+    if place != 0 {
+        code.push(b'\n')?;
+    }
+    code.extend_from_slice(without_indent(line))?;
+    Ok(())
+}
+
 /// So many lines, without their indents.
+#[tactic(auto, using(crate::proofs::Shows::code_step, crate::proofs::Shows::code_none, crate::proofs::Shows::drop_one, crate::proofs::Shows::drop_none))]
 fn lines_of(alloc: Global, text: &[u8], count: usize) -> Result<Bytes, NoMemory>
     ensures { IfOk result (λ code. code ≡ spec.code_of count (cut_lines text.now)) }
 {
@@ -151,10 +171,7 @@ fn lines_of(alloc: Global, text: &[u8], count: usize) -> Result<Bytes, NoMemory>
     let mut rest = text;
     for place in 0..count {
         if let Some((line, after)) = first_line(rest) {
-            if place != 0 {
-                code.push(b'\n')?;
-            }
-            code.extend_from_slice(without_indent(line))?;
+            push_line(&mut code, place, line)?;
             rest = after;
         }
     }
@@ -191,7 +208,35 @@ fn shown_case(
     })
 }
 
+/// The text behind the symbol of a case.
+fn behind_case(alloc: Global, text: &[u8], case: usize) -> Result<&[u8], NoMemory>
+    ensures { IfOk result (λ code. cut_lines code.now
+        ≡ spec.behind (spec.symbol_of case) (cut_lines text.now)) }
+{
+    let symbol = Text::from(format!(in alloc; "case_{case}:")?);
+    Ok(behind(text, symbol.as_str().as_bytes()))
+}
+
+fn push_case(
+    alloc: Global,
+    shown: &mut Items<Case>,
+    label: &Label,
+    found: &Found,
+    claim: Claim,
+    code: &[u8],
+) -> Result<(), NoMemory>
+    ensures { OnOk result (shown.new ≡ shown.old
+        ++ spec.shown_case found.now claim.case (cut_lines code.now)
+        (option_map point_view (slice_get label.now.points claim.point))) }
+{
+    match label.points.as_slice().get(claim.point) {
+        None => Ok(()),
+        Some(point) => shown.push(shown_case(alloc, point, found, claim.case, code)?),
+    }
+}
+
 /// The cases of which a word differs. Their symbols stand in the test in their order.
+#[tactic(auto, using(crate::proofs::Shows::cases_more, crate::proofs::Shows::cases_same))]
 fn shown_cases(
     alloc: Global,
     label: &Label,
@@ -206,12 +251,8 @@ fn shown_cases(
     let mut rest = text;
     for claim in claims {
         if differs(found, claim.case) {
-            let number = claim.case;
-            let symbol = Text::from(format!(in alloc; "case_{number}:")?);
-            rest = behind(rest, symbol.as_str().as_bytes());
-            if let Some(point) = label.points.as_slice().get(claim.point) {
-                shown.push(shown_case(alloc, point, found, number, rest)?)?;
-            }
+            rest = behind_case(alloc, rest, claim.case)?;
+            push_case(alloc, &mut shown, label, found, *claim, rest)?;
         }
     }
     Ok(shown)

@@ -1,0 +1,205 @@
+-- Reading what a run left: it only reads, and what it finds over given files.
+use Rattle.std.proofs.Common.{ℕ, Bool, true, false, if◌then◌else◌, List, [], ◌∷◌, ◌++◌, take, drop}
+use Rattle.std.proofs.Common.{Option, Some, None, Ok, refl, sym, ap, subst, append_assoc}
+use Rattle.std.proofs.Common.{append-nil}
+use Rattle.rvs_base.specs.Host.{Files}
+use Rattle.rvs_plan.specs.Plan.{Plan, gives, ◌>>=◌}
+use Rattle.rvs_plan.specs.Inputs.{input}
+use Rattle.rvs_insn.specs.Isa.{Isa}
+use Rattle.rvs_cgf.specs.Groups.{Label}
+use Rattle.rvs_count.specs.Report.{width}
+use Rattle.rvs_sig.specs.Words.{text_of_words}
+use Rattle.rvs_test.specs.Made.{claims_of, text_of_label}
+use Rattle.rvs_device.specs.DeviceFile.{Told}
+use Rattle.rvs_page.specs.declared.shown.Page.{Page}
+use Rattle.rvs_page.specs.declared.shown.Label.{Label as ShownLabel}
+use Rattle.rvs_suite.specs.GroupFiles.{Inputs, and_then, inputs_in, group_inputs}
+use Rattle.rvs_suite.specs.DeviceInput.{device_limit, checks, device_file, device_in}
+use Rattle.rvs_suite.specs.LogReport.{takes_logs, logs_in}
+use Rattle.rvs_suite.specs.Coverage.{uncounted, counts_more, file_name}
+use Rattle.rvs_suite.specs.Tests.{reference_words}
+use Rattle.rvs_suite.specs.TestFiles.{files_of}
+use Rattle.rvs_suite.specs.Findings.{likeness, found_on, by_likeness, finding_in, asks_like}
+use Rattle.rvs_suite.specs.Findings.{if_like}
+use Rattle.rvs_suite.specs.Findings.{finds_signature, finds_words, finds_test}
+use Rattle.rvs_suite.specs.Showing.{shown_label, shown_unselected}
+use Rattle.rvs_suite.specs.Report.{test_of, page_with, shown_by, shown_in, all_shown_in, page_in}
+use Rattle.rvs_suite.specs.Report.{shows_by, shows_label, shows_labels, finds_page}
+use Rattle.rvs_suite.specs.declared.covering.Covered.{Covered}
+use Rattle.rvs_suite.specs.declared.reviewing.Likeness.{Likeness}
+use Rattle.rvs_suite.specs.declared.reviewing.Likeness.TheVariants.{Absent, Other, Same}
+use Rattle.rvs_suite.specs.declared.reviewing.Found.{Found}
+use Rattle.rvs_suite.specs.declared.gathering.Test.{Test}
+use Rattle.rvs_words.specs.declared.command.ReportArguments.{ReportArguments}
+use Rattle.rvs_suite.proofs.Readers.{OnlyReads, OnlyReads-then}
+use Rattle.rvs_suite.proofs.Finding.{Finds, finds-then}
+use Rattle.rvs_suite.proofs.GroupInputs.{reads-inputs, finds-inputs, finds-and_then}
+use Rattle.rvs_suite.proofs.LogReads.{reads-logs, finds-logs}
+use Rattle.rvs_suite.proofs.RunReads.{finds-device}
+
+-- ---- the parts of the plan
+abbrev gives_label : List ℕ → List ℕ → Isa → Label → Found → Plan ShownLabel
+gives_label counts text isa l found = gives (shown_label found text counts (claims_of isa l) l)
+
+abbrev gives_page : ReportArguments → Inputs → Told → Covered → List ShownLabel → Plan Page
+gives_page asked inputs device covered labels = gives (page_with asked inputs device covered labels)
+
+abbrev shows_all : ReportArguments → Inputs → Told → Covered → Plan Page
+shows_all asked inputs device covered =
+    shows_labels inputs.isa asked.work [] covered.counts inputs.groups
+    >>= gives_page asked inputs device covered
+
+abbrev takes_all : ReportArguments → Inputs → Told → Plan Page
+takes_all asked inputs device =
+    takes_logs file_name (counts_more asked.windows inputs.groups) (uncounted inputs.groups)
+    asked.logs
+    >>= shows_all asked inputs device
+
+abbrev asks_device : ReportArguments → Inputs → Plan Page
+asks_device asked inputs = device_file asked.device >>= takes_all asked inputs
+
+-- ---- it only reads
+reads-if : (like : Likeness) (next : Plan Found) → OnlyReads next → OnlyReads (if_like like next)
+reads-if Absent next reads = tt
+reads-if Other next reads = tt
+reads-if Same next reads = reads
+
+reads-words : (isa : Isa) (work : List ℕ) (test : Test)
+    → OnlyReads (finds_words (files_of work test.name) isa test)
+reads-words isa work test =
+    let words = reference_words isa test in
+    let names = files_of work test.name in
+    OnlyReads-then (asks_like names.reference (text_of_words words))
+    (λ like. if_like like (finds_signature names.device words)) (λ found. tt)
+    (λ like. reads-if like (finds_signature names.device words) (λ left. tt))
+
+reads-test : (isa : Isa) (work : List ℕ) (test : Test) → OnlyReads (finds_test isa work test)
+reads-test isa work test =
+    let names = files_of work test.name in
+    OnlyReads-then (asks_like names.test test.text)
+    (λ like. if_like like (finds_words names isa test)) (λ found. tt)
+    (λ like. reads-if like (finds_words names isa test) (reads-words isa work test))
+
+reads-by : (isa : Isa) (work counts : List ℕ) (l : Label) (text : Option (List ℕ))
+    → OnlyReads (shows_by isa work counts l text)
+reads-by isa work counts l None = tt
+reads-by isa work counts l (Some text) =
+    OnlyReads-then (finds_test isa work (test_of isa l text)) (gives_label counts text isa l)
+    (reads-test isa work (test_of isa l text)) (λ found. tt)
+
+reads-label : (isa : Isa) (work counts : List ℕ) (l : Label) (selected : Bool)
+    → OnlyReads (if selected then shows_by isa work counts l (text_of_label isa l)
+    else gives (shown_unselected l))
+reads-label isa work counts l true = reads-by isa work counts l (text_of_label isa l)
+reads-label isa work counts l false = tt
+
+reads-all : (isa : Isa) (work : List ℕ) (shown : List ShownLabel) (counts : List ℕ)
+    (ls : List Label) → OnlyReads (shows_labels isa work shown counts ls)
+reads-all isa work shown counts [] = tt
+reads-all isa work shown counts (l ∷ ls) =
+    OnlyReads-then (shows_label isa work (take (width l) counts) l)
+    (λ one. shows_labels isa work (shown ++ one ∷ []) (drop (width l) counts) ls)
+    (reads-label isa work (take (width l) counts) l l.selected)
+    (λ one. reads-all isa work (shown ++ one ∷ []) (drop (width l) counts) ls)
+
+pub reads-page : (asked : ReportArguments) → OnlyReads (finds_page asked)
+reads-page asked =
+    OnlyReads-then (group_inputs asked.isa asked.families asked.groups) (asks_device asked)
+    (reads-inputs asked.isa asked.families asked.groups) (λ inputs.
+    OnlyReads-then (device_file asked.device) (takes_all asked inputs)
+    (OnlyReads-then (input device_limit asked.device) (checks asked.device) (λ found. tt)
+    (λ bytes. tt)) (λ device.
+    OnlyReads-then
+    (takes_logs file_name (counts_more asked.windows inputs.groups) (uncounted inputs.groups)
+    asked.logs) (shows_all asked inputs device)
+    (reads-logs file_name (counts_more asked.windows inputs.groups) (uncounted inputs.groups)
+    asked.logs) (λ covered.
+    OnlyReads-then (shows_labels inputs.isa asked.work [] covered.counts inputs.groups)
+    (gives_page asked inputs device covered)
+    (reads-all inputs.isa asked.work [] covered.counts inputs.groups) (λ labels. tt))))
+
+-- ---- what it finds
+finds-if : (files : Files) (like : Likeness) (next : Plan Found) (found : Found)
+    → Finds files next (Ok found) → Finds files (if_like like next) (Ok (by_likeness like found))
+finds-if files Absent next found is = refl
+finds-if files Other next found is = refl
+finds-if files Same next found is = is
+
+found-test : (files : Files) (isa : Isa) (work : List ℕ) (test : Test)
+    → Finds files (finds_test isa work test) (Ok (finding_in files isa work test))
+found-test files isa work test =
+    let words = reference_words isa test in
+    let names = files_of work test.name in
+    let by_words = likeness (text_of_words words) (files names.reference) in
+    let by_left = found_on words (files names.device) in
+    finds-if files (likeness test.text (files names.test)) (finds_words names isa test)
+    (by_likeness by_words by_left)
+    (finds-if files by_words (finds_signature names.device words) by_left refl)
+
+found-by : (files : Files) (isa : Isa) (work counts : List ℕ) (l : Label) (text : Option (List ℕ))
+    → Finds files (shows_by isa work counts l text) (Ok (shown_by files isa work counts l text))
+found-by files isa work counts l None = refl
+found-by files isa work counts l (Some text) =
+    let found = finding_in files isa work (test_of isa l text) in
+    finds-then files (finds_test isa work (test_of isa l text)) (gives_label counts text isa l)
+    (Ok found) (Ok (shown_label found text counts (claims_of isa l) l))
+    (found-test files isa work (test_of isa l text)) refl
+
+found-label : (files : Files) (isa : Isa) (work counts : List ℕ) (l : Label) (selected : Bool)
+    → Finds files (if selected then shows_by isa work counts l (text_of_label isa l)
+    else gives (shown_unselected l))
+    (Ok (if selected then shown_by files isa work counts l (text_of_label isa l)
+    else shown_unselected l))
+found-label files isa work counts l true = found-by files isa work counts l (text_of_label isa l)
+found-label files isa work counts l false = refl
+
+found-all : (files : Files) (isa : Isa) (work : List ℕ) (shown : List ShownLabel)
+    (counts : List ℕ) (ls : List Label)
+    → Finds files (shows_labels isa work shown counts ls)
+    (Ok (shown ++ all_shown_in files isa work counts ls))
+found-all files isa work shown counts [] =
+    ap (λ (xs : List ShownLabel). Ok xs) (sym (append-nil shown))
+found-all files isa work shown counts (l ∷ ls) =
+    let one = shown_in files isa work (take (width l) counts) l in
+    let others = drop (width l) counts in
+    finds-then files (shows_label isa work (take (width l) counts) l)
+    (λ (s : ShownLabel). shows_labels isa work (shown ++ s ∷ []) others ls) (Ok one)
+    (Ok (shown ++ one ∷ all_shown_in files isa work others ls))
+    (found-label files isa work (take (width l) counts) l l.selected)
+    (subst (λ (xs : List ShownLabel). Finds files
+    (shows_labels isa work (shown ++ one ∷ []) others ls) (Ok xs))
+    (append_assoc shown (one ∷ []) (all_shown_in files isa work others ls))
+    (found-all files isa work (shown ++ one ∷ []) others ls))
+
+pub finds-page : (files : Files) (asked : ReportArguments)
+    → Finds files (finds_page asked) (page_in files asked)
+finds-page files asked =
+    finds-and_then files (group_inputs asked.isa asked.families asked.groups) (asks_device asked)
+    (inputs_in files asked.isa asked.families asked.groups) (λ inputs.
+    and_then (device_in files asked.device) (λ device.
+    and_then (logs_in files file_name (counts_more asked.windows inputs.groups)
+    (uncounted inputs.groups) asked.logs) (λ covered.
+    Ok (page_with asked inputs device covered
+    (all_shown_in files inputs.isa asked.work covered.counts inputs.groups)))))
+    (finds-inputs files asked.isa asked.families asked.groups) (λ inputs.
+    finds-and_then files (device_file asked.device) (takes_all asked inputs)
+    (device_in files asked.device) (λ device.
+    and_then (logs_in files file_name (counts_more asked.windows inputs.groups)
+    (uncounted inputs.groups) asked.logs) (λ covered.
+    Ok (page_with asked inputs device covered
+    (all_shown_in files inputs.isa asked.work covered.counts inputs.groups))))
+    (finds-device files asked.device) (λ device.
+    finds-and_then files
+    (takes_logs file_name (counts_more asked.windows inputs.groups) (uncounted inputs.groups)
+    asked.logs) (shows_all asked inputs device)
+    (logs_in files file_name (counts_more asked.windows inputs.groups) (uncounted inputs.groups)
+    asked.logs) (λ covered.
+    Ok (page_with asked inputs device covered
+    (all_shown_in files inputs.isa asked.work covered.counts inputs.groups)))
+    (finds-logs files file_name (counts_more asked.windows inputs.groups)
+    (uncounted inputs.groups) asked.logs) (λ covered.
+    let labels = all_shown_in files inputs.isa asked.work covered.counts inputs.groups in
+    finds-then files (shows_labels inputs.isa asked.work [] covered.counts inputs.groups)
+    (gives_page asked inputs device covered) (Ok labels)
+    (Ok (page_with asked inputs device covered labels))
+    (found-all files inputs.isa asked.work [] covered.counts inputs.groups) refl)))
