@@ -1,4 +1,4 @@
-use Rattle.std.proofs.Common.{List, ℕ, length, take, drop, ap, ◌∙◌}
+use Rattle.std.proofs.Common.{take, drop, ap, ◌∙◌}
 use Rattle.std.proofs.lemmas.List.{take_min, drop_min}
 use Rattle.rvs_suite.proofs.reporting.cut.Goals as goal
 

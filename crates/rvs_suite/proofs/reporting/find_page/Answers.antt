@@ -1,11 +1,10 @@
-use Rattle.std.proofs.Common.{◌≡◌, List, [], ℕ, Ok, Err, sym, ap, subst, ◌∙◌}
+use Rattle.std.proofs.Common.{List, [], Ok, sym, subst}
 use Rattle.std.proofs.lemmas.Result.{err_from_is_err_and}
 use Rattle.rvs_plan.specs.World.{world, IsAnswer}
 use Rattle.rvs_plan.specs.Plan.{Plan, gives, ◌>>=◌}
 use Rattle.rvs_plan.specs.Meets.{MeetsWith}
 use Rattle.rvs_plan.proofs.Sequence.{Meets-then, Meets-stop, Meets-gives, Meets-no_memory}
 use Rattle.rvs_plan.proofs.Sequence.{Meets-weaker}
-use Rattle.rvs_cgf.specs.Groups.{Label}
 use Rattle.rvs_device.specs.DeviceFile.{Told}
 use Rattle.rvs_device.specs.DeviceView.{told}
 use Rattle.rvs_page.specs.declared.shown.Label.{Label as ShownLabel}
@@ -13,9 +12,9 @@ use Rattle.rvs_page.specs.declared.shown.Page.{Page}
 use Rattle.rvs_suite.specs.Coverage.{uncounted, counts_more, file_name}
 use Rattle.rvs_suite.specs.DeviceInput.{device_file}
 use Rattle.rvs_suite.specs.GroupFiles.{Inputs}
-use Rattle.rvs_suite.specs.GroupsView.{groups_view, inputs_view}
+use Rattle.rvs_suite.specs.GroupsView.{inputs_view}
 use Rattle.rvs_suite.specs.LogReport.{takes_logs}
-use Rattle.rvs_suite.specs.Report.{page_with, shows_labels, finds_page}
+use Rattle.rvs_suite.specs.Report.{page_with, shows_labels}
 use Rattle.rvs_suite.specs.declared.covering.Covered.{Covered}
 use Rattle.rvs_words.specs.declared.command.ReportArguments.{ReportArguments}
 use Rattle.rvs_suite.proofs.reporting.find_page.Goals as goal

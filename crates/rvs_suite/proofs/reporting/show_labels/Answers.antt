@@ -6,6 +6,7 @@ use Rattle.rvs_plan.specs.World.{World, world, IsAnswer}
 use Rattle.rvs_plan.specs.Plan.{Plan}
 use Rattle.rvs_plan.specs.Meets.{MeetsWith}
 use Rattle.rvs_plan.specs.declared.stop.Stop.{Stop}
+use Rattle.rvs_plan.specs.declared.stop.Stop.TheVariants.{NoMemory}
 use Rattle.rvs_plan.proofs.Sequence.{Meets-then, Meets-stop, Meets-gives, Meets-no_memory}
 use Rattle.rvs_insn.specs.Isa.{Isa}
 use Rattle.rvs_cgf.specs.Groups.{Label}
@@ -72,9 +73,9 @@ returns-in_err-push g c = λ out.
     ∙ ap (λ x. label_view x ∷ ls) (sym c.label-item.is) in
     let met = own_counts isa work counts c.cut.result.0.now l c.width.result old new (Ok one)
     c.cut.ensures.own c.width.ensures (c.in_ok-one.ensures out) in
-    rw (p.1, p.2) (c.loop-label.invariant.met out new _ (subst
-    (λ (xs : List Label). MeetsWith {A = List ShownLabel} IsAnswer
-    (shows_labels isa work shown counts xs) old new _) (sym here)
+    rw (p.1, p.2) (c.loop-label.invariant.met out new (Err NoMemory) (subst
+    (λ (xs : List Label). MeetsWith IsAnswer (shows_labels isa work shown counts xs) old new
+    (Err NoMemory)) (sym here)
     (Meets-then (next isa work shown counts l ls) met
     (Meets-no_memory (next isa work shown counts l ls one) new))))
 

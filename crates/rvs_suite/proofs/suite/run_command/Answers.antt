@@ -5,12 +5,12 @@ use Rattle.rvs_suite.proofs.suite.run_command.Goals as goal
 
 pub returns-in-Unknown-clause-done : goal.returns-in-Unknown-clause-done
 returns-in-Unknown-clause-done g c = rw c.in-Unknown.is
-    (performs-unlost _ c.unlost-in-Unknown.result c.unlost-in-Unknown.ensures (Performs-unknown
+    (performs-unlost _ c.unlost.result c.unlost.ensures (Performs-unknown
     (world (g.H.Host.state c.args.host.now) (g.O.Sink.state c.args.out.now))))
 
 pub returns-in-Unknown-clause-told : goal.returns-in-Unknown-clause-told
 returns-in-Unknown-clause-told g c = rw c.in-Unknown.is
-    (nothing-unlost _ c.unlost-in-Unknown.result c.unlost-in-Unknown.ensures)
+    (nothing-unlost _ c.unlost.result c.unlost.ensures)
 
 pub returns-in-Compare-clause-done : goal.returns-in-Compare-clause-done
 returns-in-Compare-clause-done g c =
