@@ -1,3 +1,5 @@
+use Rattle.std.proofs.Common.{Err}
+use Rattle.rvs_plan.specs.declared.stop.Stop.TheVariants.{Usage}
 use Rattle.rvs_plan.specs.World.{world}
 use Rattle.rvs_suite.proofs.ProgressEnds.{performs-unlost, nothing-unlost}
 use Rattle.rvs_suite.proofs.Running.{Performs-meets, Performs-demo, Performs-unknown}
@@ -10,7 +12,7 @@ returns-in-Unknown-clause-done g c = rw c.in-Unknown.is
 
 pub returns-in-Unknown-clause-told : goal.returns-in-Unknown-clause-told
 returns-in-Unknown-clause-told g c = rw c.in-Unknown.is
-    (nothing-unlost _ c.unlost.result c.unlost.ensures)
+    (nothing-unlost (Err Usage) c.unlost.result c.unlost.ensures)
 
 pub returns-in-Compare-clause-done : goal.returns-in-Compare-clause-done
 returns-in-Compare-clause-done g c =
