@@ -7,6 +7,9 @@
 #   2. the whole image, text and data, executed or not, has the same words (gnu_words.py dump);
 #   3. the signature is the one that the executable leaves on QEMU (qemu-device.sh). QEMU has the
 #      registers of the base I, of which those of E are a part; under E no text names x16 to x31.
+# The core's memory is where TEXT and DATA say, by default 0x80000000 and 0x81000000; QEMU has memory
+# from 0x80000000 on, so elsewhere the third is left out. An ISA that is a file has to say these
+# addresses itself.
 # Where CGF is the word `groups`, they are those of the folder groups/, and 1 and 3 are done for its
 # tests by hand (tests.yaml) that are selected too.
 # Needs riscv64-unknown-elf-as, -ld, -nm and -objcopy, qemu-system-riscv32 and python3. RVSUITE
@@ -27,8 +30,10 @@ fi
 cgf=${1:-$work/groups.cgf}
 [ -n "${1:-}" ] || python3 "$here/gnu_groups.py" >"$cgf" || exit 2
 isa=${2:-RV32IM}
+export TEXT=${TEXT:-0x80000000} DATA=${DATA:-0x81000000}
 case $isa in RV32*)
-    printf 'hart_ids: [0]\nhart0:\n  ISA: %s\n' "$isa" >"$work/isa.yaml"
+    printf 'hart_ids: [0]\nhart0:\n  ISA: %s\n  memory_map: {text: %s, data: %s}\n' "$isa" "$TEXT" "$DATA" \
+        >"$work/isa.yaml"
     isa=$work/isa.yaml
 esac
 MARCH=$("$program" validate --isa "$isa" | sed -n 's/^isa //p' | tr '[:upper:]' '[:lower:]')
@@ -64,11 +69,16 @@ named() { # whether a text under E names a register above x15
 executed() {
     ! named || differs "$test: a register above x15"
     reference --test "$test" --log "$name.log" || { differs "$test: not run"; return; }
-    "$here/qemu-device.sh" "$test" "$name.qemu" "$name.elf" || { differs "$test: QEMU"; return; }
+    "$here/gnu-link.sh" "$test" "$name.elf" "$TEXT" "$DATA" || { differs "$test: not linked"; return; }
     section text
     count=$(python3 "$here/gnu_words.py" log "$name.log" "$name.text") ||
         differs "$test: executed words"
     executed=$((executed + ${count:-0}))
+    [ $((TEXT)) -lt $((0x80000000)) ] || same_signature
+}
+
+same_signature() {
+    python3 "$here/qemu_signature.py" "$name.elf" "$name.qemu" || { differs "$test: QEMU"; return; }
     cmp "$name.sig" "$name.qemu" || differs "$test: signature"
     signature=$((signature + $(wc -l <"$name.sig")))
 }
@@ -77,7 +87,7 @@ whole() {
     name=$name.dump
     python3 "$here/gnu_words.py" dump "$test" >"$name"
     reference --test "$name" --steps 2000000 || { differs "$test: dump not run"; return; }
-    "$here/gnu-link.sh" "$name" "$name.elf" || { differs "$test: dump not linked"; return; }
+    "$here/gnu-link.sh" "$name" "$name.elf" "$TEXT" "$DATA" || { differs "$test: dump not linked"; return; }
     section text
     section data
     count=$(wc -l <"$name.sig")

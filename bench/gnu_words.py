@@ -3,13 +3,15 @@
 
 usage: gnu_words.py log LOG TEXT
            checks that each executed word of rvsuite's LOG stands at its address in TEXT, the bytes
-           at 0x80000000, and prints how many there are
+           from the address on that the variable TEXT has, by default 0x80000000, and prints how
+           many there are
        gnu_words.py dump TEST
            prints TEST with a jump over all of it in front, to a loop that copies text and data,
            executed or not, into the signature, so that rvsuite's signature is its image
        gnu_words.py image TEXT DATA WORDS
            prints the signature of WORDS words that such a dump has by GNU's TEXT and DATA
 """
+import os
 import re
 import struct
 import sys
@@ -23,11 +25,12 @@ def words_of(name):
 
 def log(log_name, text_name):
     text, count = words_of(text_name), 0
+    base = int(os.environ.get("TEXT", "0x80000000"), 16)
     for line in open(log_name):
         found = re.match(r"core +0: 3 0x([0-9a-f]{8}) \(0x([0-9a-f]{8})\)", line)
         at, word = (int(x, 16) for x in found.groups())
-        place = (at - 0x80000000) // 4
-        if place >= len(text) or text[place] != word:
+        place = (at - base) // 4
+        if not 0 <= place < len(text) or text[place] != word:
             has = "".join(f"0x{other:08x}" for other in text[place : place + 1])
             sys.exit(f"{log_name}: at 0x{at:08x} is 0x{word:08x}, in GNU's text {has or 'nothing'}")
         count += 1

@@ -15,9 +15,6 @@ here=$(cd "$(dirname "$0")" && pwd)
 program=${RVSUITE:-$here/../../rvsuite}
 gcc=${GCC:-riscv64-unknown-elf-gcc}
 headers=${HEADERS:-$here}
-# Where the reference machine has its memory.
-text=0x80000000
-data=0x81000000
 suite=${1%/} out=${2%/} isa=${3:-$here/../isa.yaml}
 database=$out/database.yaml
 declare -A entry source defines
@@ -100,8 +97,11 @@ compile() { # the test $1
 }
 
 mkdir -p "$out"
-march=$("$program" validate --isa "$isa" | sed -n 's/^isa //p' | tr '[:upper:]' '[:lower:]')
-[ -n "$march" ] || exit 2
+core=$("$program" validate --isa "$isa") || exit 2
+march=$(sed -n 's/^isa //p' <<<"$core" | tr '[:upper:]' '[:lower:]')
+# Where the core has its memory.
+text=$(sed -n 's/^text //p' <<<"$core") data=$(sed -n 's/^data //p' <<<"$core")
+text=${text:-0x80000000} data=${data:-0x81000000}
 abi=ilp32
 case $march in rv32e*) abi=ilp32e ;; esac
 while read -r file; do

@@ -63,7 +63,7 @@ first_from isa ss p n (r ∷ rs) refusal e = first_by isa ss p n r rs (fault isa
     e (first_from isa (ss ++ own_label (label_of r) p) (next p (body_of r)) (n + 1) rs refusal)
 
 pub first_faults_are_first : FirstFaultsAreFirst
-first_faults_are_first isa rs refusal e = first_from isa [] start 1 rs refusal e
+first_faults_are_first isa rs refusal e = first_from isa [] (start isa.memory) 1 rs refusal e
 
 second_by : (ss : Table) (p : Location) (n : ℕ) (r : Reading) (rs : List Reading)
     (k : Option AsmKind)
@@ -103,4 +103,4 @@ second_from ss p n (r ∷ rs) refusal e = second_by ss p n r rs
     (second_from ss (next p (body_of r)) (n + 1) rs refusal)
 
 pub second_faults_are_first : SecondFaultsAreFirst
-second_faults_are_first ss rs refusal e = second_from ss start 1 rs refusal e
+second_faults_are_first memory ss rs refusal e = second_from ss (start memory) 1 rs refusal e

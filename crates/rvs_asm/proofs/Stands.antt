@@ -3,7 +3,7 @@ use Rattle.std.proofs.Common.{◌≡◌, ℕ, ◌≤◌, true, cond, Some, None,
 use Rattle.std.proofs.Common.{arith}
 use Rattle.std.specs.Prelude.{nat_le, ◌==◌}
 use Rattle.std.proofs.lemmas.Int.{ints}
-use Rattle.std.proofs.lemmas.Bool.{and_from}
+use Rattle.std.proofs.lemmas.Bool.{and_from, lt-ltb}
 use Rattle.std.proofs.lemmas.Bool.Decides.{nat_tests}
 use Rattle.rvs_machine.specs.Image.{ImageValue, IsImage, is_image, if_image}
 use Rattle.rvs_asm.specs.Locations.{start, labels}
@@ -31,17 +31,19 @@ in_order i h =
     (le_test _ _ h.data_short))
     (and_from _ _ (and_from _ _ (zero_test _ h.tohost_word) (le_test _ _ h.tohost_low))
     (le_test _ _ h.tohost_high)))
-    (and_from _ _ (and_from _ _
+    (and_from _ _ (and_from _ _ (and_from _ _
     (and_from _ _ (and_from _ _ (zero_test _ h.begin_word) (zero_test _ h.end_word))
     (le_test _ _ h.begin_low)) (le_test _ _ h.ordered)) (le_test _ _ h.end_high))
+    (lt-ltb _ _ h.end_small))
 
 pub image_answered : ImagesAreAnswered
 unfolding answer
 image_answered text isa image a =
     let rs = text_readings text in
-    let ss = labels rs start in
-    ap (λ o. if_placed o rs) a.placed
-    ∙ ap (λ o. if_linked o ss rs) a.linked
-    ∙ ap (λ o. if_all_there o (image_of ss rs)) a.marked
+    let m = isa.memory in
+    let ss = labels rs (start m) in
+    ap (λ o. if_placed m o rs) a.placed
+    ∙ ap (λ o. if_linked m o ss rs) a.linked
+    ∙ ap (λ o. if_all_there o (image_of m ss rs)) a.marked
     ∙ ap (λ i. region_checked (if_image i)) (sym a.made)
     ∙ ap (λ b. region_checked (cond b (Some image) None)) (in_order image a.regions)

@@ -1,5 +1,6 @@
 -- What is wrong with a text, in the order in which it is reported.
-use Rattle.std.specs.Prelude.{ℕ, ◌+◌, ℤ, pos, ◌%◌, ◌==◌, ◌&&◌, not, nat_le, Bool, true, false}
+use Rattle.std.specs.Prelude.{ℕ, ◌+◌, ℤ, pos, ◌%◌, ◌^◌, ◌==◌, ◌&&◌, not, nat_le, nat_lt, Bool, true}
+use Rattle.std.specs.Prelude.{false}
 use Rattle.std.specs.Prelude.{Option, Some, None, Ok, Err, List, [], ◌∷◌, ◌++◌, if◌then◌else◌}
 use Rattle.std.specs.Prelude.{codes}
 use Rattle.std.specs.Option.{option_map, option_or}
@@ -20,7 +21,7 @@ use Rattle.rvs_asm_text.specs.declared.bodies.LineFault.TheVariants.{BadOperand 
 use Rattle.rvs_asm_text.specs.declared.bodies.LineFault.TheVariants.{OutOfRange as LineOutOfRange}
 use Rattle.rvs_asm_text.specs.Instructions.{in_field}
 use Rattle.rvs_asm_text.specs.Directives.{data_value}
-use Rattle.rvs_machine.specs.Image.{text_limit, data_limit}
+use Rattle.rvs_insn.specs.Memory.{text_limit, data_limit}
 use Rattle.rvs_asm.specs.declared.mark.Mark.{Mark}
 use Rattle.rvs_asm.specs.declared.location.Location.{Location}
 use Rattle.rvs_asm.specs.declared.refusal.AsmKind.{AsmKind}
@@ -57,14 +58,21 @@ is_refused isa _ = false
 abbrev pub body_fault : Isa → Location → Body → Option AsmKind
 body_fault isa p body =
     if is_misaligned p body then Some MisalignedCode
-    else (if not (nat_le (next p body).text text_limit) then Some TextFull
-    else (if not (nat_le (next p body).data_bytes data_limit) then Some DataFull
+    else (if not (nat_le (next p body).text (text_limit (next p body).memory)) then Some TextFull
+    else (if not (nat_le (next p body).data_bytes (data_limit (next p body).memory))
+    then Some DataFull
     else (if is_refused isa body then Some NotInIsa else None)))
+
+-- there is no address for a label behind a region that ends at 2^32: its section is full
+abbrev pub label_fault : Option (List ℕ) → Location → Option AsmKind
+label_fault None p = None
+label_fault (Some name) p = if nat_lt (address p) (2 ^ 32) then None
+    else Some (if p.in_text then TextFull else DataFull)
 
 abbrev pub fault : Isa → Table → Location → Reading → Option AsmKind
 fault isa ss p (Err f) = Some (kind_of f)
 fault isa ss p (Ok line) = if is_double ss line.label then Some DoubleSymbol
-    else body_fault isa p line.body
+    else option_or (body_fault isa p line.body) (label_fault line.label p)
 
 abbrev pub at_line : ℕ → Option AsmKind → Option AsmRefusal
 at_line n kind = option_map (λ k. record { line = n; kind = k }) kind

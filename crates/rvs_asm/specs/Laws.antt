@@ -3,6 +3,7 @@ use Rattle.std.specs.Prelude.{◌≡◌, ◌<◌, ◌+◌, ◌*◌, ◌^◌, ◌
 use Rattle.std.specs.Prelude.{◌∷◌, ◌++◌, length}
 use Rattle.std.specs.Int.{w32, cast_unsigned}
 use Rattle.rvs_insn.specs.Isa.{Isa}
+use Rattle.rvs_insn.specs.Memory.{Memory}
 use Rattle.rvs_machine.specs.Image.{ImageValue}
 use Rattle.rvs_asm.specs.Bytes.{high, low}
 use Rattle.rvs_asm.specs.declared.location.Location.{Location}
@@ -55,7 +56,8 @@ pub record IsFirstFault (isa : Isa) (ss : Table) (p : Location) (n : ℕ) (rs : 
 
 abbrev pub FirstFaultsAreFirst : Type 0
 FirstFaultsAreFirst = (isa : Isa) (rs : List Reading) (refusal : AsmRefusal)
-    → first_fault isa [] start 1 rs ≡ Some refusal → IsFirstFault isa [] start 1 rs refusal
+    → first_fault isa [] (start isa.memory) 1 rs ≡ Some refusal
+    → IsFirstFault isa [] (start isa.memory) 1 rs refusal
 
 -- the same under all symbols
 abbrev pub AreLinked : Table → Location → List Reading → Type 0
@@ -74,5 +76,6 @@ pub record IsFirstUnlinked (ss : Table) (p : Location) (n : ℕ) (rs : List Read
   pub kind : symbol_fault ss (address (location_after before p)) (body_of line) ≡ Some refusal.kind
 
 abbrev pub SecondFaultsAreFirst : Type 0
-SecondFaultsAreFirst = (ss : Table) (rs : List Reading) (refusal : AsmRefusal)
-    → second_fault ss start 1 rs ≡ Some refusal → IsFirstUnlinked ss start 1 rs refusal
+SecondFaultsAreFirst = (memory : Memory) (ss : Table) (rs : List Reading) (refusal : AsmRefusal)
+    → second_fault ss (start memory) 1 rs ≡ Some refusal
+    → IsFirstUnlinked ss (start memory) 1 rs refusal

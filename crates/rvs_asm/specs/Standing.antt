@@ -6,7 +6,7 @@ use Rattle.rvs_asm_text.specs.Lines.{read_line}
 use Rattle.rvs_machine.specs.Image.{ImageValue}
 use Rattle.rvs_asm.specs.declared.location.Location.{Location}
 use Rattle.rvs_asm.specs.Symbols.{Table, address_of, find_mark}
-use Rattle.rvs_asm.specs.Locations.{Reading, body_of, label_of, size_of, offset, address, start}
+use Rattle.rvs_asm.specs.Locations.{Reading, body_of, label_of, size_of, offset, mark_of, start}
 use Rattle.rvs_asm.specs.Locations.{location_after, labels}
 use Rattle.rvs_asm.specs.Bytes.{bytes_of}
 use Rattle.rvs_asm.specs.Faults.{is_misaligned}
@@ -33,9 +33,9 @@ pub record Stands (image : ImageValue) (ss : Table) (p : Location) (line : Readi
       ≡ front ++ (bytes_of (address_of ss) p (body_of line) ++ back)
   pub at : length front ≡ offset p
   pub label : (name : List ℕ) → label_of line ≡ Some name
-      → find_mark ss name ≡ Some (record { at = address p; in_text = p.in_text })
+      → find_mark ss name ≡ Some (mark_of p)
   pub symbol : (name : List ℕ) → label_of line ≡ Some name
-      → Contains image.symbols (record { name = name; at = address p })
+      → Contains image.symbols (record { name = name; at = (mark_of p).at })
 
 -- In the image of a text each line stands so in its location, behind the lines before it.
 abbrev pub LinesStand : Type 0
@@ -43,4 +43,5 @@ LinesStand =
     (text : List ℕ) (isa : Isa) (image : ImageValue) → Assembles text isa image
     → (before : List Reading) (line : Reading) (behind : List Reading)
     → text_readings text ≡ before ++ line ∷ behind
-    → Stands image (labels (text_readings text) start) (location_after before start) line
+    → Stands image (labels (text_readings text) (start isa.memory))
+    (location_after before (start isa.memory)) line

@@ -17,7 +17,7 @@ use Rattle.rvs_cgf.specs.declared.refusal.CgfKind.TheVariants.{BadLabelName, Bad
 use Rattle.rvs_cgf.specs.declared.refusal.CgfKind.TheVariants.{UnknownMnemonic, BadRegister}
 use Rattle.rvs_cgf.specs.declared.refusal.CgfKind.TheVariants.{BadExpr, BadAbstract, BadCross}
 use Rattle.rvs_cgf.specs.declared.refusal.CgfKind.TheVariants.{BadConfig, TooManyLabels}
-use Rattle.rvs_cgf.specs.declared.refusal.CgfKind.TheVariants.{TooManyPoints, NoMemory}
+use Rattle.rvs_cgf.specs.declared.refusal.CgfKind.TheVariants.{TooManyPoints, NoRoom, NoMemory}
 
 -- ---- groups with all their points written out
 -- the node of a kind
@@ -90,7 +90,8 @@ number_of (BadCross why) = 8
 number_of BadConfig = 9
 number_of TooManyLabels = 10
 number_of TooManyPoints = 11
-number_of NoMemory = 12
+number_of NoRoom = 12
+number_of NoMemory = 13
 
 -- an empty text is written `-`
 abbrev pub or_dash : List ℕ → List ℕ

@@ -1,6 +1,6 @@
 // Entries of `config` on a core with the ISA text `RV32IM` that has no misaligned data.
 use rvs_condition::condition;
-use rvs_insn::IsaSpec;
+use rvs_insn::{IsaSpec, USUAL_MEMORY};
 use std::alloc::Global;
 use std::test::Fail;
 
@@ -12,6 +12,7 @@ const CORE: IsaSpec = IsaSpec {
     zifencei: false,
     misaligned: false,
     address_bits: 32,
+    memory: USUAL_MEMORY,
 };
 
 /// Adds whether an entry holds, or that it is no condition.

@@ -1,6 +1,7 @@
 // Executables of images, which are edited and read again.
 use rvs_base::{Bytes, number_below, release};
 use rvs_elf::{ElfRefusal, read_elf, write_elf};
+use rvs_insn::USUAL_MEMORY;
 use rvs_machine::{Image, read_image};
 use std::alloc::Global;
 use std::test::Fail;
@@ -77,14 +78,14 @@ fn spell_refusal(refusal: &ElfRefusal, report: &mut String) -> Result<(), Fail> 
 /// Adds the image of these bytes, or why there is none.
 fn tell_read(alloc: Global, bytes: &[u8], report: &mut String) -> Result<(), Fail> {
     write!(report, "{} bytes ", bytes.len())?;
-    match read_elf(alloc, bytes) {
+    match read_elf(alloc, USUAL_MEMORY, bytes) {
         Ok(image) => spell_image(&image, report),
         Err(refusal) => spell_refusal(&refusal, report),
     }
 }
 
 fn written(alloc: Global, text: &str) -> Result<Bytes, Fail> {
-    match read_image(alloc, text.as_bytes()) {
+    match read_image(alloc, USUAL_MEMORY, text.as_bytes()) {
         Ok(image) => write_elf(alloc, &image).map_err(|_| Fail::new("no memory")),
         Err(_) => Err(Fail::new("no image")),
     }

@@ -6,7 +6,8 @@ use Rattle.std.specs.Int.{w32, to_le_bytes}
 use Rattle.std.proofs.lemmas.Bool.Decides.{nat_tests}
 use Rattle.rvs_insn.specs.Fields.{Fields}
 use Rattle.rvs_insn.specs.Word.{word_of}
-use Rattle.rvs_machine.specs.Image.{data_base, data_limit, is_text_length, is_tohost, is_signature}
+use Rattle.rvs_insn.specs.Memory.{usual_memory, data_limit}
+use Rattle.rvs_machine.specs.Image.{is_text_length, is_tohost, is_signature}
 use Rattle.rvs_machine.specs.Image.{if_image}
 use Rattle.rvs_demo.specs.Program.{code, generated, beginning, ending, program, image, next_seed}
 
@@ -28,13 +29,15 @@ program_length n =
       generated_length n n,
     )
 
-is_short : (n k : ℕ) → n ≤ 1000000 → k ≡ 4 * (n + 11) → is_text_length k ≡ true
+is_short : (n k : ℕ) → n ≤ 1000000 → k ≡ 4 * (n + 11) → is_text_length usual_memory k ≡ true
 is_short n k h e = grind (arith, nat_tests)
 
 pub in_order : (n : ℕ) → n ≤ 1000000 → if_image (image n) ≡ Some (image n)
 in_order n h =
     let size : length (code (program n)) ≡ 4 * (n + 11) =
     code_length (program n) ∙ ap (λ k. 4 * k) (program_length n) in
-    ap (λ b. cond (b && nat_le 8 data_limit && is_tohost 8 data_base
-    && is_signature 8 data_base data_base) (Some (image n)) None)
+    ap (λ b. cond (b && nat_le 8 (data_limit usual_memory)
+    && is_tohost usual_memory 8 usual_memory.data_base
+    && is_signature usual_memory 8 usual_memory.data_base usual_memory.data_base) (Some (image n))
+    None)
     (is_short n (length (code (program n))) h size)

@@ -36,7 +36,8 @@ zero_bytes (suc n) = (omega arith, zero_bytes n)
 log_entries : (n : ℕ) → entries_of (log_of (run n).trace) ≡ entries n
 unfolding run
 log_entries n =
-    run_entries (image n) core (n + 11) (bytes_below (code (program n)) (code_bytes (program n)))
+    run_entries (image n) core (n + 11) (omega arith)
+    (bytes_below (code (program n)) (code_bytes (program n)))
     (bytes_below (replicate 8 0) (zero_bytes 8))
 
 -- ---- no windows leave all in

@@ -8,7 +8,6 @@ use Rattle.rvs_insn.specs.Fields.{Fields}
 use Rattle.rvs_insn.specs.Names.{is_admitted}
 use Rattle.rvs_insn.specs.Word.{word_of, IsEncodable}
 use Rattle.rvs_insn.proofs.RoundTrip.{word_fits}
-use Rattle.rvs_machine.specs.Image.{text_base}
 use Rattle.rvs_machine.specs.Machine.{Setup}
 use Rattle.rvs_machine.proofs.Fetching.{word_there}
 use Rattle.rvs_machine.proofs.Steps.{StandsAt}
@@ -26,7 +25,7 @@ StandFrom setup pc (i ∷ is) = StandsAt setup pc i × StandFrom setup (pc + 4) 
 
 pub stand_from : (setup : Setup) (is : List Fields) (a b : List ℕ)
     → setup.text ≡ a ++ (code is ++ b) → AllRun setup.isa is
-    → StandFrom setup (text_base + length a) is
+    → StandFrom setup (setup.isa.memory.text_base + length a) is
 stand_from setup [] a b e run = tt
 stand_from setup (i ∷ is) a b e run =
     let bytes = to_le_bytes w32 (word_of i) in
@@ -34,11 +33,13 @@ stand_from setup (i ∷ is) a b e run =
     e ∙ ap (λ x. a ++ x) (append_assoc bytes (code is) b) in
     let later : setup.text ≡ (a ++ bytes) ++ (code is ++ b) =
     here ∙ sym (append_assoc a bytes (code is ++ b)) in
-    let at : text_base + length (a ++ bytes) ≡ text_base + length a + 4 =
-    ap (λ k. text_base + k) (length-append a bytes) ∙ omega arith in
+    let base = setup.isa.memory.text_base in
+    let at : base + length (a ++ bytes) ≡ base + length a + 4 =
+    ap (λ k. base + k) (length-append a bytes) ∙ omega arith in
     let P : ℕ → Type 0 = λ x. StandFrom setup x is in (
       record {
-        there = word_there setup.text a (code is ++ b) (word_of i) here (word_fits i run.0);
+        there = word_there setup.isa.memory setup.text a (code is ++ b) (word_of i) here
+            (word_fits i run.0);
         encodable = run.0;
         admitted = run.1;
       },

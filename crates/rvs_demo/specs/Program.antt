@@ -10,7 +10,8 @@ use Rattle.rvs_insn.specs.declared.op.Op.TheVariants.{Sltu, Mul}
 use Rattle.rvs_insn.specs.Isa.{Isa}
 use Rattle.rvs_insn.specs.Fields.{Fields}
 use Rattle.rvs_insn.specs.Word.{word_of}
-use Rattle.rvs_machine.specs.Image.{ImageValue, data_base}
+use Rattle.rvs_insn.specs.Memory.{usual_memory}
+use Rattle.rvs_machine.specs.Image.{ImageValue}
 
 -- RV32IM, without misaligned data
 abbrev pub core : Isa
@@ -23,6 +24,7 @@ core =
       zifencei = false;
       misaligned = false;
       address_bits = 32;
+      memory = usual_memory;
     }
 
 -- the numbers that the program is drawn from, each from the one before it
@@ -78,10 +80,11 @@ code is = flat_map (λ i. to_le_bytes w32 (word_of i)) is
 abbrev pub image : ℕ → ImageValue
 image n =
     record {
+      memory = usual_memory;
       text = code (program n);
       data_bytes = replicate 8 0;
-      tohost = data_base;
-      sig_begin = data_base;
-      sig_end = data_base;
+      tohost = usual_memory.data_base;
+      sig_begin = usual_memory.data_base;
+      sig_end = usual_memory.data_base;
       symbols = [];
     }

@@ -6,8 +6,8 @@ ghost use Rattle.rvs_insn.specs.Word.{word_of, IsEncodable};
 ghost use Rattle.rvs_demo.specs.Program as spec;
 
 use rvs_base::{Items, NoMemory};
-use rvs_insn::{Insn, IsaSpec, Op, encode};
-use rvs_machine::{DATA_BASE, Image};
+use rvs_insn::{Insn, IsaSpec, Op, USUAL_MEMORY, encode};
+use rvs_machine::Image;
 use std::alloc::Global;
 
 /// The core of the demonstration: RV32IM, without misaligned data.
@@ -19,6 +19,7 @@ pub(crate) const CORE: IsaSpec = IsaSpec {
     zifencei: false,
     misaligned: false,
     address_bits: 32,
+    memory: USUAL_MEMORY,
 };
 
 /// The number behind one, of those that the program is drawn from.
@@ -193,7 +194,16 @@ pub(crate) fn image(alloc: Global, count: u64) -> Result<Image, NoMemory>
     let text = Items::from(text(alloc, count)?);
     let data = Items::from([0; 8].to_vec(alloc)?);
     let symbols = Items::new(alloc);
-    match Image::new(text, data, DATA_BASE, DATA_BASE, DATA_BASE, symbols) {
+    let data_base = USUAL_MEMORY.data_base;
+    match Image::new(
+        USUAL_MEMORY,
+        text,
+        data,
+        data_base,
+        data_base,
+        data_base,
+        symbols,
+    ) {
         Some(image) => Ok(image),
         None => unreachable!(),
     }

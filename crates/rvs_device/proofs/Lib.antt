@@ -3,4 +3,4 @@ pub mod Passing
 mod Scalars
 mod Leaving
 pub mod Planned
-mod Filling
+mod OneMore

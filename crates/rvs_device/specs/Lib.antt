@@ -1,4 +1,5 @@
 pub mod Command
+pub mod FillingView
 pub mod DeviceFile
 pub mod DeviceView
 pub mod Judged

@@ -2,6 +2,7 @@
 #![tactic(auto)]
 
 mod devices;
+mod filling;
 mod judging;
 mod printing;
 mod reading;
@@ -10,6 +11,7 @@ mod verdicts;
 mod words;
 
 pub use devices::Device;
+pub use filling::Filling;
 pub use judging::{JudgeFault, SIGNATURE_LIMIT, judge};
 pub use printing::{refusal_text, verdict_line};
 pub use reading::read_device;

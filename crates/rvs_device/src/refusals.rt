@@ -16,7 +16,7 @@ pub enum DeviceRefusal {
     },
     /// The command isn't a list of scalars, or is empty, or its first word is.
     BadCommand,
-    /// A `{` in a word of the command begins none of the four placeholders.
+    /// A `{` in a word of the command begins none of the six placeholders.
     UnknownPlaceholder {
         /// The first such word, whole.
         word: Text,

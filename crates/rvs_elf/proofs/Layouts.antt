@@ -7,8 +7,9 @@ use Rattle.std.proofs.Common.{arith, length-append, replicate, append-nil, appen
 use Rattle.std.proofs.lemmas.List.{length-replicate}
 use Rattle.std.specs.Prelude.{nat_le, nat_lt, not, ◌&&◌}
 use Rattle.std.proofs.lemmas.Bool.{and_from}
-use Rattle.rvs_machine.specs.Image.{ImageValue, IsImage, is_image, if_image, text_base, data_base}
-use Rattle.rvs_machine.specs.Image.{text_limit}
+use Rattle.rvs_insn.specs.Memory.{Memory, HasRoom, text_limit, data_limit}
+use Rattle.rvs_insn.proofs.Regions.{text_most, data_most, text_before, data_before, regions_end}
+use Rattle.rvs_machine.specs.Image.{ImageValue, IsImage, is_image, if_image}
 use Rattle.rvs_elf.specs.declared.writing.Layout.{Layout}
 use Rattle.rvs_elf.specs.declared.header.Header.{Header}
 use Rattle.rvs_elf.specs.declared.entries.Segment.{Segment}
@@ -106,9 +107,10 @@ sections_length l = refl
 
 -- the layout of an image
 unfoldable pub of : ImageValue → Layout
-of i = written.layout_of (length i.text) (length i.data_bytes)
+of i = written.layout_of i.memory (length i.text) (length i.data_bytes)
 
 pub record IsLaid (i : ImageValue) (l : Layout) : Type 0 where
+  pub memory : written.memory_of l ≡ i.memory
   pub text_size : l.text_size ≡ length i.text
   pub data_size : l.data_size ≡ length i.data_bytes
   pub data_at : l.data_at ≡ 116 + length i.text
@@ -123,6 +125,7 @@ rounded a b c = omega arith
 pub laid : (i : ImageValue) → IsLaid i (of i)
 unfolding of gap
 laid i = record {
+  memory = refl;
   text_size = refl;
   data_size = refl;
   data_at = refl;
@@ -131,12 +134,14 @@ laid i = record {
   sections_at = refl;
 }
 
-pub small : (i : ImageValue) → IsImage i → IsSmall (of i)
+pub small : (i : ImageValue) → HasRoom i.memory → IsImage i → IsSmall (of i)
 unfolding of
-small i h =
-    let a = h.text_short in
-    let b = h.data_short in
+small i room h =
+    let a : length i.text ≤ 2 ^ 24 = omega (arith, h.text_short, text_most i.memory) in
+    let b : length i.data_bytes ≤ 2 ^ 20 = omega (arith, h.data_short, data_most i.memory) in
     record {
+      text_base = room.text_low;
+      data_base = room.data_low;
       text = omega arith;
       ram = omega arith;
       data_at = omega arith;
@@ -172,7 +177,8 @@ ram_there i l h =
     ∙ part_here i.data_bytes (behind_ram l i) (length i.data_bytes) refl
 
 -- a part behind data and zeros
-pub behind_memory : (i : ImageValue) (l : Layout) → IsLaid i l → (at n size : ℕ) → at ≡ l.symbols_at + n
+pub behind_memory : (i : ImageValue) (l : Layout) → IsLaid i l → (at n size : ℕ)
+    → at ≡ l.symbols_at + n
     → part at size (written.headers l ++ behind_headers l i) ≡ part n size (behind_zeros l i)
 unfolding behind_text behind_ram
 behind_memory i l h at n size e =

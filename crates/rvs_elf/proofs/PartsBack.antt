@@ -6,9 +6,8 @@ use Rattle.std.proofs.Common.{refl, ap, sym, ◌∙◌, subst}
 use Rattle.std.proofs.Common.{arith, length-append, replicate, append-nil, append_assoc}
 use Rattle.std.proofs.lemmas.List.{length-replicate}
 use Rattle.std.specs.Prelude.{nat_le, nat_lt, not, ◌&&◌}
-use Rattle.std.proofs.lemmas.Bool.{and_from}
-use Rattle.rvs_machine.specs.Image.{ImageValue, IsImage, is_image, if_image, text_base, data_base}
-use Rattle.rvs_machine.specs.Image.{text_limit}
+use Rattle.std.proofs.lemmas.Bool.{and_from, eq-eqb}
+use Rattle.rvs_machine.specs.Image.{ImageValue, IsImage, is_image, if_image}
 use Rattle.rvs_elf.specs.declared.writing.Layout.{Layout}
 use Rattle.rvs_elf.specs.declared.header.Header.{Header}
 use Rattle.rvs_elf.specs.declared.entries.Segment.{Segment}
@@ -50,9 +49,12 @@ begins l rest =
     let h = long l rest in
     and_from _ _ (le_test 52 (length (written.headers l ++ rest)) (omega (arith, h))) refl
 
-pub suits : (l : Layout) (rest : List ℕ) → is_executable (written.headers l ++ rest) ≡ true
+pub suits : (l : Layout) (rest : List ℕ) → l.text_base < 2 ^ 32
+    → is_executable (written.memory_of l) (written.headers l ++ rest) ≡ true
 unfolding is_executable written.headers
-suits l rest = refl
+suits l rest h =
+    ap (λ (b : Bool). b && true && true)
+    (eq-eqb (number_of l.text_base) l.text_base (word_back _ h))
 
 unfoldable pub made : ℕ → Header
 made at = record {
@@ -67,14 +69,15 @@ pub fields : (l : Layout) (rest : List ℕ) → l.sections_at < 2 ^ 32
 unfolding written.headers made
 fields l rest h = ap made (word_back l.sections_at h)
 
-pub header_back : (l : Layout) (rest : List ℕ) → l.sections_at < 2 ^ 32
-    → header_of (written.headers l ++ rest) ≡ Ok (made l.sections_at)
+pub header_back : (l : Layout) (rest : List ℕ) → l.text_base < 2 ^ 32
+    → l.sections_at < 2 ^ 32
+    → header_of (written.memory_of l) (written.headers l ++ rest) ≡ Ok (made l.sections_at)
 unfolding header_of
-header_back l rest h =
+header_back l rest low h =
     let file = written.headers l ++ rest in
-    ap (λ b. cond b (cond (is_executable file) (Ok (fields_of file)) (Err kind.WrongKind))
-    (Err kind.NotElf)) (begins l rest)
-    ∙ ap (λ b. cond b (Ok (fields_of file)) (Err kind.WrongKind)) (suits l rest)
+    ap (λ b. cond b (cond (is_executable (written.memory_of l) file) (Ok (fields_of file))
+    (Err kind.WrongKind)) (Err kind.NotElf)) (begins l rest)
+    ∙ ap (λ b. cond b (Ok (fields_of file)) (Err kind.WrongKind)) (suits l rest low)
     ∙ ap Ok (fields l rest h)
 
 -- ---- the segments
@@ -90,7 +93,8 @@ loading at address size = record {
 }
 
 unfoldable pub both : Layout → List Segment
-both l = loading 116 text_base l.text_size ∷ loading l.data_at data_base l.data_size ∷ []
+both l = loading 116 l.text_base l.text_size ∷ loading l.data_at l.data_base
+    l.data_size ∷ []
 
 unfoldable pub table : Layout → List ℕ
 table l = written.segments l
@@ -104,6 +108,8 @@ table_there l rest =
     (le_test 116 (length (written.headers l ++ rest)) h)
 
 pub record IsSmall (l : Layout) : Type 0 where
+  pub text_base : l.text_base < 2 ^ 32
+  pub data_base : l.data_base < 2 ^ 32
   pub text : l.text_size < 2 ^ 32
   pub ram : l.data_size < 2 ^ 32
   pub data_at : l.data_at < 2 ^ 32
@@ -114,11 +120,18 @@ pub record IsSmall (l : Layout) : Type 0 where
 pub table_says : (l : Layout) → IsSmall l → all_entries segment_of 32 (table l) ≡ both l
 unfolding table both loading
 table_says l h =
-    ap (λ n. loading 116 text_base n ∷ loading (number_of l.data_at) data_base
+    let base = l.text_base in
+    let ram_base = l.data_base in
+    ap (λ b. loading 116 b (number_of l.text_size)
+    ∷ loading (number_of l.data_at) (number_of ram_base) (number_of l.data_size) ∷ [])
+    (word_back base h.text_base)
+    ∙ ap (λ b. loading 116 base (number_of l.text_size)
+    ∷ loading (number_of l.data_at) b (number_of l.data_size) ∷ []) (word_back ram_base h.data_base)
+    ∙ ap (λ n. loading 116 base n ∷ loading (number_of l.data_at) ram_base
     (number_of l.data_size) ∷ []) (word_back l.text_size h.text)
-    ∙ ap (λ n. loading 116 text_base l.text_size ∷ loading n data_base
+    ∙ ap (λ n. loading 116 base l.text_size ∷ loading n ram_base
     (number_of l.data_size) ∷ []) (word_back l.data_at h.data_at)
-    ∙ ap (λ n. loading 116 text_base l.text_size ∷ loading l.data_at data_base n ∷ [])
+    ∙ ap (λ n. loading 116 base l.text_size ∷ loading l.data_at ram_base n ∷ [])
     (word_back l.data_size h.ram)
 
 -- ---- the symbols

@@ -2,3 +2,4 @@ pub mod Distinct
 pub mod Masks
 pub mod RoundTrip
 pub mod Columns
+pub mod Regions

@@ -1,3 +1,5 @@
+pub mod Memory
+pub mod MemoryLaws
 pub mod Isa
 pub mod Table
 pub mod Fields

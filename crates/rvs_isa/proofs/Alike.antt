@@ -2,16 +2,18 @@
 use Rattle.std.proofs.Common.{◌≡◌, ℕ, ◌<◌, Bool, false, List, [], ◌∷◌, get_or, Option, Some, None}
 use Rattle.std.proofs.Common.{option_map, Ok, Err, ok_or, All, codes, refl, ap, subst, sym, ◌∙◌}
 use Rattle.std.proofs.Common.{lit<}
-use Rattle.rvs_tree.specs.Data.{Data, scalar, sequence, mapping}
+use Rattle.rvs_tree.specs.Data.{Data, scalar, sequence, mapping, is_map}
 use Rattle.rvs_insn.specs.Isa.{Isa}
+use Rattle.rvs_insn.specs.Memory.{Memory, usual_memory, if_room}
 use Rattle.rvs_isa.specs.declared.accepted_spec.AcceptedSpec.{AcceptedSpec}
 use Rattle.rvs_isa.specs.declared.isa_text.Extensions.{Extensions}
 use Rattle.rvs_isa.specs.declared.refusal.IsaKind.TheVariants.{MissingEntry, BadXlen}
 use Rattle.rvs_isa.specs.declared.refusal.IsaKind.TheVariants.{BadAddressSize, HartCount, BadTruth}
-use Rattle.rvs_isa.specs.declared.refusal.IsaKind.TheVariants.{BadNumber}
+use Rattle.rvs_isa.specs.declared.refusal.IsaKind.TheVariants.{BadNumber, BadMemory}
 use Rattle.rvs_isa.specs.Check.{checked_hart, hart_number, hart_key, hart_entries, isa_entry}
 use Rattle.rvs_isa.specs.Check.{xlen_entry, address_bits, misaligned, misa_entry, misa_path}
 use Rattle.rvs_isa.specs.Check.{reset_path, is_a_map, or_absent, reset_value, core_of, named}
+use Rattle.rvs_isa.specs.Check.{memory_path, base_path, page_in, base_entry, memory_entry}
 use Rattle.rvs_isa.specs.Entries.{entry_at, only_member, number_in, isa_in, is_xlen, address_size}
 use Rattle.rvs_isa.specs.Entries.{truth_in}
 use Rattle.rvs_isa.specs.Misa.{misa_word}
@@ -99,6 +101,32 @@ misa_seen path reset (scalar text line) = refl
 misa_seen path reset (sequence ds line) = refl
 misa_seen path reset (mapping es line) = refl
 
+abbrev base_at : Path → ℕ → Option Data → Found ℕ
+base_at path usual o = or_absent usual (page_in path) o
+
+base_seen : (path : Path) (usual : ℕ) (d : Data)
+    → base_at path usual (Some d) ≡ base_at path usual (Some (seen d))
+base_seen path usual (scalar text line) = refl
+base_seen path usual (sequence ds line) = refl
+base_seen path usual (mapping es line) = refl
+
+-- the memory of these addresses, or of what they come to
+abbrev both_at : Path → Found ℕ → Found ℕ → Found Memory
+both_at path text ram =
+    text >>= (λ t. ram >>= (λ d. ok_or (if_room (record { text_base = t; data_base = d }))
+    (refusal_at path BadMemory)))
+
+-- the check of memory_map, with what those of its addresses come to
+abbrev memory_at : Path → Found Memory → Option Data → Found Memory
+memory_at path both o =
+    or_absent usual_memory (λ d. holds (is_map d) (refusal_at path BadMemory) >> both) o
+
+memory_seen : (path : Path) (both : Found Memory) (d : Data)
+    → memory_at path both (Some d) ≡ memory_at path both (Some (seen d))
+memory_seen path both (scalar text line) = refl
+memory_seen path both (sequence ds line) = refl
+memory_seen path both (mapping es line) = refl
+
 -- ---- one check after another
 chain : {A : Type 0} (x y : Found A) (f g : A → Found AcceptedSpec) → x ≡ y
     → ((a : A) → core_in (f a) ≡ core_in (g a)) → core_in (x >>= f) ≡ core_in (y >>= g)
@@ -114,7 +142,7 @@ next (Err r) y f g e h = ap (λ z. core_in (z >> g)) e
 abbrev AreAlike : List ℕ → Data → Data → Type 0
 AreAlike hart a b = All (AreAlikeAt a b) (read_paths hart)
 
-alike_at : (hart : List ℕ) (a b : Data) → AreAlike hart a b → (k : ℕ) → (path : Path) → k < 9
+alike_at : (hart : List ℕ) (a b : Data) → AreAlike hart a b → (k : ℕ) → (path : Path) → k < 12
     → get_or (read_paths hart) k [] ≡ path → AreAlikeAt a b path
 alike_at hart a b alike k path h e = subst (AreAlikeAt a b) e (alike k [] h)
 
@@ -130,6 +158,34 @@ same_misa hart spec a b alike =
     (entry_at (misa_path hart) a) (entry_at (misa_path hart) b)
     (alike_at hart a b alike 7 (misa_path hart) (lit< tt) refl)
     ∙ ap (λ r. misa_at (misa_path hart) r (entry_at (misa_path hart) b)) resets
+
+same_text : (hart : List ℕ) (a b : Data) → AreAlike hart a b
+    → base_entry hart (codes "text") usual_memory.text_base a
+    ≡ base_entry hart (codes "text") usual_memory.text_base b
+same_text hart a b alike =
+    let path = base_path hart (codes "text") in
+    same (base_at path usual_memory.text_base) (base_seen path usual_memory.text_base)
+    (entry_at path a) (entry_at path b) (alike_at hart a b alike 10 path (lit< tt) refl)
+
+same_ram : (hart : List ℕ) (a b : Data) → AreAlike hart a b
+    → base_entry hart (codes "data") usual_memory.data_base a
+    ≡ base_entry hart (codes "data") usual_memory.data_base b
+same_ram hart a b alike =
+    let path = base_path hart (codes "data") in
+    same (base_at path usual_memory.data_base) (base_seen path usual_memory.data_base)
+    (entry_at path a) (entry_at path b) (alike_at hart a b alike 11 path (lit< tt) refl)
+
+same_memory : (hart : List ℕ) (a b : Data) → AreAlike hart a b
+    → memory_entry hart a ≡ memory_entry hart b
+same_memory hart a b alike =
+    let path = memory_path hart in
+    let text = λ (d : Data). base_entry hart (codes "text") usual_memory.text_base d in
+    let ram = λ (d : Data). base_entry hart (codes "data") usual_memory.data_base d in
+    same (memory_at path (both_at path (text a) (ram a)))
+    (memory_seen path (both_at path (text a) (ram a))) (entry_at path a) (entry_at path b)
+    (alike_at hart a b alike 9 path (lit< tt) refl)
+    ∙ ap (λ t. memory_at path (both_at path t (ram a)) (entry_at path b)) (same_text hart a b alike)
+    ∙ ap (λ d. memory_at path (both_at path (text b) d) (entry_at path b)) (same_ram hart a b alike)
 
 same_map : (hart : List ℕ) (a b : Data) → AreAlike hart a b
     → hart_entries hart a ≡ hart_entries hart b
@@ -172,9 +228,11 @@ same_hart hart a b alike =
     next (xlen_entry hart a) (xlen_entry hart b) _ _ (same_xlen hart a b alike)
     (chain (address_bits hart a) (address_bits hart b) _ _ (same_size hart a b alike) (λ bits.
     chain (misaligned hart a) (misaligned hart b) _ _ (same_truth hart a b alike) (λ aligned.
-    next (misa_entry hart (core_of extensions bits aligned) a)
-    (misa_entry hart (core_of extensions bits aligned) b) _ _
-    (same_misa hart (core_of extensions bits aligned) a b alike) refl)))))
+    next (misa_entry hart (core_of extensions bits aligned usual_memory) a)
+    (misa_entry hart (core_of extensions bits aligned usual_memory) b) _ _
+    (same_misa hart (core_of extensions bits aligned usual_memory) a b alike)
+    (chain (memory_entry hart a) (memory_entry hart b) _ _ (same_memory hart a b alike)
+    (λ memory. refl)))))))
 
 -- the first check, of the root
 abbrev root_at : Option Data → Found (Unit {0})

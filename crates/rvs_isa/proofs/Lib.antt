@@ -6,3 +6,4 @@ pub mod Rows
 pub mod Listed
 pub mod Alike
 pub mod Refused
+pub mod Rooms

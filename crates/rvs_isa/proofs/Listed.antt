@@ -8,11 +8,11 @@ use Rattle.std.proofs.lemmas.List.Elements.{Contains-append_right, Contains-appe
 use Rattle.std.proofs.lemmas.List.Elements.{Contains-push_cases}
 use Rattle.std.proofs.lemmas.Slice.Eq.{bytes_eq-Decides}
 use Rattle.rvs_tree.specs.Data.{Data, own_pairs}
-use Rattle.rvs_isa.specs.Check.{misa_path}
+use Rattle.rvs_isa.specs.Check.{misa_path, memory_path, base_path}
 use Rattle.rvs_isa.specs.Reads.{read_paths, opened_maps, Leads, IsUnread, UnreadAreListed}
 use Rattle.rvs_isa.specs.Refusal.{Path, path_text}
 use Rattle.rvs_isa.specs.Unread.{unread, each_entry, is_checked, unread_of_root, unread_of_hart}
-use Rattle.rvs_isa.specs.Unread.{unread_of_misa}
+use Rattle.rvs_isa.specs.Unread.{unread_of_misa, unread_of_memory}
 
 -- ---- members of lists
 none_in : {X : Type 0} (x : X) → Contains [] x → ⊥
@@ -78,7 +78,10 @@ root_key_unread hart key e f =
           λ s. h (cc),
           (
             λ s. cc,
-            (λ s. cc, (λ s. cc, (λ s. cc, (λ s. cc, (λ s. cc, tt))))),
+            (
+              λ s. cc,
+              (λ s. cc, (λ s. cc, (λ s. cc, (λ s. cc, (λ s. cc, (λ s. cc, (λ s. cc, tt))))))),
+            ),
           ),
         ),
       ),
@@ -94,18 +97,19 @@ two_none a b e f = rw e f
 -- a key of the hart differs from those that are read
 pub record Differs (key : List ℕ) : Type 0 where
   pub misa : bytes_eq key (codes "misa") ≡ false
+  pub memory : bytes_eq key (codes "memory_map") ≡ false
   pub isa : bytes_eq key (codes "ISA") ≡ false
   pub xlen : bytes_eq key (codes "supported_xlen") ≡ false
   pub size : bytes_eq key (codes "physical_addr_sz") ≡ false
   pub misaligned : bytes_eq key (codes "hw_data_misaligned_support") ≡ false
 
-differs : (key : List ℕ) → bytes_eq key (codes "misa") ≡ false → is_checked key ≡ false
-    → Differs key
-differs key m e =
+differs : (key : List ℕ) → bytes_eq key (codes "misa") ≡ false
+    → bytes_eq key (codes "memory_map") ≡ false → is_checked key ≡ false → Differs key
+differs key m n e =
     let a = none_of_two (bytes_eq key (codes "ISA")) _ e in
     let b = none_of_two (bytes_eq key (codes "supported_xlen")) _ a.1 in
     let c = none_of_two (bytes_eq key (codes "physical_addr_sz")) _ b.1 in
-    record { misa = m; isa = a.0; xlen = b.0; size = c.0; misaligned = c.1 }
+    record { misa = m; memory = n; isa = a.0; xlen = b.0; size = c.0; misaligned = c.1 }
 
 unchecked : (key : List ℕ) → Differs key → is_checked key ≡ false
 unchecked key d =
@@ -134,7 +138,16 @@ hart_key_unread hart key d =
                 λ s. no_key (codes "physical_addr_sz") d.size (cc),
                 (
                   λ s. no_key (codes "hw_data_misaligned_support") d.misaligned (cc),
-                  (λ s. no_key (codes "misa") d.misa (cc), (λ s. cc, tt)),
+                  (
+                    λ s. no_key (codes "misa") d.misa (cc),
+                    (
+                      λ s. cc,
+                      (
+                        λ s. no_key (codes "memory_map") d.memory (cc),
+                        (λ s. cc, (λ s. cc, tt)),
+                      ),
+                    ),
+                  ),
                 ),
               ),
             ),
@@ -158,7 +171,44 @@ misa_key_unread hart key f =
             λ s. cc,
             (
               λ s. cc,
-              (λ s. cc, (λ s. cc, (λ s. cc, (λ s. no_key (cc), tt)))),
+              (
+                λ s. cc,
+                (λ s. cc, (λ s. cc, (λ s. no_key (cc), (λ s. cc, (λ s. cc, (λ s. cc, tt)))))),
+              ),
+            ),
+          ),
+        ),
+      ),
+    ))
+
+memory_key_unread : (hart key : List ℕ)
+    → (bytes_eq key (codes "text") || bytes_eq key (codes "data")) ≡ false
+    → Contains (read_paths hart) (hart ∷ codes "memory_map" ∷ key ∷ []) → ⊥
+memory_key_unread hart key f =
+    let g = none_of_two (bytes_eq key (codes "text")) (bytes_eq key (codes "data")) f in
+    let no_text = λ (s : codes "text" ≡ key). unequal key (codes "text") g.0 (sym s) in
+    let no_data = λ (s : codes "data" ≡ key). unequal key (codes "data") g.1 (sym s) in
+    not_among hart (hart ∷ codes "memory_map" ∷ key ∷ [])
+    (All-from_recursion (Unlike (hart ∷ codes "memory_map" ∷ key ∷ [])) (read_paths hart) (
+      λ s. cc,
+      (
+        λ s. cc,
+        (
+          λ s. cc,
+          (
+            λ s. cc,
+            (
+              λ s. cc,
+              (
+                λ s. cc,
+                (
+                  λ s. cc,
+                  (
+                    λ s. cc,
+                    (λ s. cc, (λ s. cc, (λ s. no_text (cc), (λ s. no_data (cc), tt)))),
+                  ),
+                ),
+              ),
             ),
           ),
         ),
@@ -191,16 +241,41 @@ from_misa hart root entries misa text there inside c =
       k.1,
     )
 
-from_entry : (hart : List ℕ) (root entries : Data) (key : List ℕ) (value : Data) (text : List ℕ)
+from_memory : (hart : List ℕ) (root entries memory : Data) (text : List ℕ)
     → Contains (own_pairs root) (hart, entries)
-    → Contains (own_pairs entries) (key, value) → Contains (unread_of_hart hart key value) text
+    → Contains (own_pairs entries) (codes "memory_map", memory)
+    → Contains (each_entry (λ key _. unread_of_memory hart key) memory) text
     → IsUnread hart root text
-from_entry hart root entries key value text there inside c =
+from_memory hart root entries memory text there inside c =
+    let g = flat_from (λ p. unread_of_memory hart p.0) (own_pairs memory) text c in
+    let k = kept (bytes_eq g.0.0 (codes "text") || bytes_eq g.0.0 (codes "data"))
+    (path_text (hart ∷ codes "memory_map" ∷ g.0.0 ∷ [])) text g.2 in (
+      memory_path hart,
+      g.0.0,
+      (3, lit< tt, refl),
+      (entries, there, (memory, inside, (g.0.1, g.1, tt))),
+      memory_key_unread hart g.0.0 k.0,
+      k.1,
+    )
+
+-- what is unread of a key of the hart that isn't misa
+abbrev behind_misa : List ℕ → List ℕ → Data → List (List ℕ)
+behind_misa hart key value =
+    if bytes_eq key (codes "memory_map")
+    then each_entry (λ inner _. unread_of_memory hart inner) value
+    else (if is_checked key then [] else path_text (hart ∷ key ∷ []) ∷ [])
+
+from_other : (hart : List ℕ) (root entries : Data) (key : List ℕ) (value : Data) (text : List ℕ)
+    → Contains (own_pairs root) (hart, entries) → Contains (own_pairs entries) (key, value)
+    → bytes_eq key (codes "misa") ≡ false → Contains (behind_misa hart key value) text
+    → IsUnread hart root text
+from_other hart root entries key value text there inside m c =
     let others : List (List ℕ) = if is_checked key then [] else path_text (hart ∷ key ∷ []) ∷ [] in
-    elim (either (bytes_eq key (codes "misa"))
-    (each_entry (λ inner _. unread_of_misa hart inner) value) others text c) [
-      | inl h ↦ from_misa hart root entries value text there (subst
-          (λ (k : List ℕ). Contains (own_pairs entries) (k, value)) (equal key (codes "misa") h.0)
+    elim (either (bytes_eq key (codes "memory_map"))
+    (each_entry (λ inner _. unread_of_memory hart inner) value) others text c) [
+      | inl h ↦ from_memory hart root entries value text there (subst
+          (λ (k : List ℕ). Contains (own_pairs entries) (k, value))
+          (equal key (codes "memory_map") h.0)
           inside) h.1
       | inr r ↦
           let k = kept (is_checked key) (path_text (hart ∷ key ∷ [])) text r.1 in (
@@ -208,9 +283,22 @@ from_entry hart root entries key value text there inside c =
             key,
             (1, lit< tt, refl),
             (entries, there, (value, inside, tt)),
-            hart_key_unread hart key (differs key r.0 k.0),
+            hart_key_unread hart key (differs key m r.0 k.0),
             k.1,
           )
+    ]
+
+from_entry : (hart : List ℕ) (root entries : Data) (key : List ℕ) (value : Data) (text : List ℕ)
+    → Contains (own_pairs root) (hart, entries)
+    → Contains (own_pairs entries) (key, value) → Contains (unread_of_hart hart key value) text
+    → IsUnread hart root text
+from_entry hart root entries key value text there inside c =
+    elim (either (bytes_eq key (codes "misa"))
+    (each_entry (λ inner _. unread_of_misa hart inner) value) (behind_misa hart key value) text c) [
+      | inl h ↦ from_misa hart root entries value text there (subst
+          (λ (k : List ℕ). Contains (own_pairs entries) (k, value)) (equal key (codes "misa") h.0)
+          inside) h.1
+      | inr r ↦ from_other hart root entries key value text there inside r.0 r.1
     ]
 
 from_hart : (hart : List ℕ) (root entries : Data) (text : List ℕ)
@@ -304,12 +392,16 @@ listed_of_hart hart root text key leads n e =
       size = other_key hart key (codes "physical_addr_sz") n (5, lit< tt, refl);
       misaligned = other_key hart key (codes "hw_data_misaligned_support") n (6, lit< tt, refl);
       misa = other_key hart key (codes "misa") n (7, lit< tt, refl);
+      memory = other_key hart key (codes "memory_map") n (9, lit< tt, refl);
     } in
     let others : List (List ℕ) = if is_checked key then [] else path_text (hart ∷ key ∷ []) ∷ [] in
     through_hart hart root leads.0 key value text leads.1 leads.2.1
     (second (bytes_eq key (codes "misa"))
-    (each_entry (λ inner _. unread_of_misa hart inner) value) others text d.misa
-    (put (is_checked key) (path_text (hart ∷ key ∷ [])) text (unchecked key d) e))
+    (each_entry (λ inner _. unread_of_misa hart inner) value) (behind_misa hart key value) text
+    d.misa
+    (second (bytes_eq key (codes "memory_map"))
+    (each_entry (λ inner _. unread_of_memory hart inner) value) others text d.memory
+    (put (is_checked key) (path_text (hart ∷ key ∷ [])) text (unchecked key d) e)))
 
 listed_of_misa : (hart : List ℕ) (root : Data) (text : List ℕ)
     → IsListedIn hart root text (misa_path hart)
@@ -318,8 +410,7 @@ listed_of_misa hart root text key leads n e =
     let no_reset = differ key (codes "reset-val") (λ s. n (subst
     (λ (k : List ℕ). Contains (read_paths hart) (hart ∷ codes "misa" ∷ k ∷ [])) (sym s)
     (8, lit< tt, refl))) in
-    let others : List (List ℕ) = if is_checked (codes "misa") then []
-    else path_text (hart ∷ codes "misa" ∷ []) ∷ [] in
+    let others = behind_misa hart (codes "misa") misa in
     through_hart hart root leads.0 (codes "misa") misa text leads.1 leads.2.1
     (first (bytes_eq (codes "misa") (codes "misa"))
     (each_entry (λ inner _. unread_of_misa hart inner) misa) others text refl
@@ -327,13 +418,39 @@ listed_of_misa hart root text key leads n e =
     (put (bytes_eq key (codes "reset-val")) (path_text (hart ∷ codes "misa" ∷ key ∷ [])) text
     no_reset e)))
 
+listed_of_memory : (hart : List ℕ) (root : Data) (text : List ℕ)
+    → IsListedIn hart root text (memory_path hart)
+listed_of_memory hart root text key leads n e =
+    let memory = leads.2.0 in
+    let differs_from = λ (other : List ℕ) (c : Contains (read_paths hart) (base_path hart other)).
+    differ key other (λ s. n (subst (λ (k : List ℕ). Contains (read_paths hart) (base_path hart k))
+    (sym s) c)) in
+    let none = two_none (bytes_eq key (codes "text")) (bytes_eq key (codes "data"))
+    (differs_from (codes "text") (10, lit< tt, refl))
+    (differs_from (codes "data") (11, lit< tt, refl)) in
+    let others : List (List ℕ) = if is_checked (codes "memory_map") then []
+    else path_text (hart ∷ codes "memory_map" ∷ []) ∷ [] in
+    let added = flat_in (λ p. unread_of_memory hart p.0) (own_pairs memory) (key, leads.2.2.0) text
+    leads.2.2.1
+    (put (bytes_eq key (codes "text") || bytes_eq key (codes "data"))
+    (path_text (hart ∷ codes "memory_map" ∷ key ∷ [])) text none e) in
+    through_hart hart root leads.0 (codes "memory_map") memory text leads.1 leads.2.1
+    (second (bytes_eq (codes "memory_map") (codes "misa"))
+    (each_entry (λ inner _. unread_of_misa hart inner) memory)
+    (behind_misa hart (codes "memory_map") memory) text refl
+    (first (bytes_eq (codes "memory_map") (codes "memory_map"))
+    (each_entry (λ inner _. unread_of_memory hart inner) memory) others text refl added))
+
 unread_is_listed : (hart : List ℕ) (root : Data) (text : List ℕ) → IsUnread hart root text
     → Contains (unread hart root) text
 unread_is_listed hart root text u =
     All-contains (IsListedIn hart root text) (opened_maps hart) u.0
     (All-from_recursion (IsListedIn hart root text) (opened_maps hart) (
       listed_of_root hart root text,
-      (listed_of_hart hart root text, (listed_of_misa hart root text, tt)),
+      (
+        listed_of_hart hart root text,
+        (listed_of_misa hart root text, (listed_of_memory hart root text, tt)),
+      ),
     ))
     u.2 u.1 u.3 u.4 u.5
 

@@ -8,6 +8,7 @@ use Rattle.rvs_tree.specs.Data.{no_items}
 use Rattle.rvs_isa.specs.declared.refusal.IsaKind.{IsaKind}
 use Rattle.rvs_isa.specs.declared.refusal.IsaKind.TheVariants.{NotAMapping, MissingEntry, BadXlen}
 use Rattle.rvs_isa.specs.declared.refusal.IsaKind.TheVariants.{BadAddressSize, BadTruth, BadNumber}
+use Rattle.rvs_isa.specs.declared.refusal.IsaKind.TheVariants.{BadMemory}
 use Rattle.rvs_isa.specs.declared.refusal.IsaRefusal.{IsaRefusal}
 use Rattle.rvs_isa.specs.Check.{checked, hart_key}
 use Rattle.rvs_isa.specs.Reads.{read_paths, ReadAreRefused}
@@ -37,6 +38,21 @@ refused path kind root e = (root, refusal_at path kind, e, refl)
 
 abbrev hart : List ℕ
 hart = codes "hart0"
+
+no_map : IsRefusedAt (hart ∷ codes "memory_map" ∷ [])
+unfolding digits digits_of
+no_map = refused (hart ∷ codes "memory_map" ∷ []) BadMemory (with_entry (codes "memory_map") bad)
+    refl
+
+no_text : IsRefusedAt (hart ∷ codes "memory_map" ∷ codes "text" ∷ [])
+unfolding digits digits_of
+no_text = refused (hart ∷ codes "memory_map" ∷ codes "text" ∷ []) BadNumber
+    (with_entry (codes "memory_map") (mapping (entry (codes "text") bad no_entries) 0)) refl
+
+no_data : IsRefusedAt (hart ∷ codes "memory_map" ∷ codes "data" ∷ [])
+unfolding digits digits_of
+no_data = refused (hart ∷ codes "memory_map" ∷ codes "data" ∷ []) BadNumber
+    (with_entry (codes "memory_map") (mapping (entry (codes "data") bad no_entries) 0)) refl
 
 pub read_are_refused : ReadAreRefused
 unfolding digits digits_of
@@ -69,7 +85,7 @@ read_are_refused path c =
                       refused (hart ∷ codes "misa" ∷ codes "reset-val" ∷ []) BadNumber
                           (with_entry (codes "misa") (mapping
                           (entry (codes "reset-val") bad no_entries) 0)) refl,
-                      tt,
+                      (no_map, (no_text, (no_data, tt))),
                     ),
                   ),
                 ),

@@ -5,13 +5,14 @@ use Rattle.std.specs.List.{flat_map}
 use Rattle.rvs_base.specs.Number.{hex_word_of}
 use Rattle.rvs_insn.specs.Isa.{Isa}
 use Rattle.rvs_insn.specs.IsaName.{isa_name}
+use Rattle.rvs_insn.specs.Memory.{Memory}
 use Rattle.rvs_isa.specs.declared.accepted_spec.AcceptedSpec.{AcceptedSpec}
 use Rattle.rvs_isa.specs.declared.refusal.IsaKind.{IsaKind}
 use Rattle.rvs_isa.specs.declared.refusal.IsaKind.TheVariants.{NotAMapping, MissingEntry}
 use Rattle.rvs_isa.specs.declared.refusal.IsaKind.TheVariants.{BadIsaText, UnsupportedExtension}
 use Rattle.rvs_isa.specs.declared.refusal.IsaKind.TheVariants.{BadXlen, BadAddressSize}
 use Rattle.rvs_isa.specs.declared.refusal.IsaKind.TheVariants.{MisaDisagrees, HartCount, BadTruth}
-use Rattle.rvs_isa.specs.declared.refusal.IsaKind.TheVariants.{BadNumber, NoMemory}
+use Rattle.rvs_isa.specs.declared.refusal.IsaKind.TheVariants.{BadNumber, BadMemory, NoMemory}
 use Rattle.rvs_isa.specs.declared.refusal.IsaRefusal.{IsaRefusal}
 use Rattle.rvs_isa.specs.Misa.{misa_word}
 
@@ -28,12 +29,22 @@ core_lines spec =
     ++ (codes "\naddress_bits " ++ (decimal spec.address_bits
     ++ (codes "\nmisa " ++ (word_text (misa_word spec) ++ codes "\n")))))))
 
+-- two lines of where its memory lies, where the specification says so
+abbrev pub memory_lines : Bool → Memory → List ℕ
+memory_lines tells memory =
+    if tells then codes "text " ++ (word_text memory.text_base ++ (codes "\ndata "
+    ++ (word_text memory.data_base ++ codes "\n"))) else []
+
 abbrev pub unread_line : List ℕ → List ℕ
 unread_line path = codes "unread " ++ (path ++ codes "\n")
 
--- what the core has, and a line for each entry that no check reads
+-- what the core has, and where its memory lies
+abbrev pub said_lines : AcceptedSpec → List ℕ
+said_lines c = core_lines c.spec ++ memory_lines c.tells_memory c.spec.memory
+
+-- the same, and a line for each entry that no check reads
 abbrev pub checked_text : AcceptedSpec → List ℕ
-checked_text c = core_lines c.spec ++ flat_map unread_line c.unread
+checked_text c = said_lines c ++ flat_map unread_line c.unread
 
 -- the number of a kind of refusal
 abbrev pub number_of : IsaKind → ℕ
@@ -47,7 +58,8 @@ number_of (MisaDisagrees stated expected) = 7
 number_of HartCount = 8
 number_of BadTruth = 9
 number_of BadNumber = 10
-number_of NoMemory = 11
+number_of BadMemory = 11
+number_of NoMemory = 12
 
 -- where the reset value disagrees, both words
 abbrev pub words_text : IsaKind → List ℕ

@@ -5,7 +5,8 @@ use Rattle.std.specs.Prelude.{option_map}
 use Rattle.rvs_tree.specs.Data.{Data, mapping, no_entries, own_pairs}
 use Rattle.rvs_insn.specs.Isa.{Isa}
 use Rattle.rvs_isa.specs.declared.refusal.IsaRefusal.{IsaRefusal}
-use Rattle.rvs_isa.specs.Check.{checked, hart_number, hart_key, misa_path, reset_path}
+use Rattle.rvs_isa.specs.Check.{checked, hart_number, hart_key, misa_path, reset_path, memory_path}
+use Rattle.rvs_isa.specs.Check.{base_path}
 use Rattle.rvs_isa.specs.Entries.{entry_at}
 use Rattle.rvs_isa.specs.Refusal.{Path, path_text, Found}
 use Rattle.rvs_isa.specs.Unread.{unread}
@@ -17,11 +18,12 @@ read_paths hart =
     [] ∷ (codes "hart_ids" ∷ []) ∷ (hart ∷ []) ∷ (hart ∷ codes "ISA" ∷ [])
     ∷ (hart ∷ codes "supported_xlen" ∷ [])
     ∷ (hart ∷ codes "physical_addr_sz" ∷ []) ∷ (hart ∷ codes "hw_data_misaligned_support" ∷ [])
-    ∷ misa_path hart ∷ reset_path hart ∷ []
+    ∷ misa_path hart ∷ reset_path hart ∷ memory_path hart ∷ base_path hart (codes "text")
+    ∷ base_path hart (codes "data") ∷ []
 
--- the maps whose entries they look at: the root, the hart and its misa
+-- the maps whose entries they look at: the root, the hart, its misa and its memory
 abbrev pub opened_maps : List ℕ → List Path
-opened_maps hart = [] ∷ (hart ∷ []) ∷ misa_path hart ∷ []
+opened_maps hart = [] ∷ (hart ∷ []) ∷ misa_path hart ∷ memory_path hart ∷ []
 
 -- A path leads to an entry of a tree.
 abbrev pub Leads : Path → Data → Type 0

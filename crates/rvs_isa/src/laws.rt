@@ -1,5 +1,6 @@
 // Laws of the definitions that the other contracts cite.
 ghost use Rattle.rvs_isa.specs.Laws.{CanonicalTextsAreAccepted, TextsAreReadAsSpelled};
+ghost use Rattle.rvs_isa.specs.Laws.{AcceptedHaveRoom};
 ghost use Rattle.rvs_isa.specs.Reads.{UnreadAreListed, OthersChangeNothing, ReadAreRefused};
 
 /// A law: the canonical text of a core is accepted, and names just what the core has.
@@ -19,4 +20,9 @@ pub fn unread_paths_are_those_that_no_check_reads()
     ensures listed { UnreadAreListed }
     ensures others { OthersChangeNothing }
     ensures refused { ReadAreRefused }
+{}
+
+/// A law: each core that is accepted has room for text and data.
+pub fn accepted_have_room()
+    ensures { AcceptedHaveRoom }
 {}

@@ -16,7 +16,7 @@ mod value;
 pub use accepted_spec::AcceptedSpec;
 pub use checks::check;
 pub use laws::{
-    canonical_texts_are_accepted, isa_texts_are_read_as_spelled,
+    accepted_have_room, canonical_texts_are_accepted, isa_texts_are_read_as_spelled,
     unread_paths_are_those_that_no_check_reads,
 };
 pub use misa::misa_word;

@@ -1,13 +1,13 @@
 // The texts of an accepted specification and of a refusal.
 ghost use Rattle.std.specs.Prelude.{◌≡◌, ◌++◌, IfOk, OnOk};
 ghost use Rattle.rvs_isa.specs.Print.{checked_text, core_lines, refusal_text, unread_line};
-ghost use Rattle.rvs_isa.specs.Print.{word_text, words_text};
+ghost use Rattle.rvs_isa.specs.Print.{word_text, words_text, memory_lines, said_lines};
 
 use crate::accepted_spec::AcceptedSpec;
 use crate::misa::misa_word;
 use crate::refusal::{IsaKind, IsaRefusal};
 use rvs_base::{NoMemory, Text, hex_text};
-use rvs_insn::{IsaSpec, isa_text};
+use rvs_insn::{IsaSpec, MemoryMap, isa_text};
 use std::alloc::Global;
 
 /// What the core has, line by line, and a line for each entry that no check reads.
@@ -18,11 +18,30 @@ use std::alloc::Global;
 pub fn print_checked(alloc: Global, c: &AcceptedSpec) -> Result<Text, NoMemory>
     ensures { IfOk result (λ text. text ≡ checked_text c.now) }
 {
-    let mut text = core_lines(alloc, &c.spec)?;
+    let mut text = said_lines(alloc, c)?;
     for path in c.unread.as_slice() {
         push_unread_line(&mut text, path.as_str())?;
     }
     Ok(text)
+}
+
+fn said_lines(alloc: Global, c: &AcceptedSpec) -> Result<Text, NoMemory>
+    ensures { IfOk result (λ text. text ≡ said_lines c.now) }
+{
+    let core = core_lines(alloc, &c.spec)?;
+    let memory = memory_lines(alloc, c.tells_memory, c.spec.memory)?;
+    Ok(Text::from(format!(in alloc; "{core}{memory}")?))
+}
+
+fn memory_lines(alloc: Global, tells: bool, memory: MemoryMap) -> Result<Text, NoMemory>
+    ensures { IfOk result (λ text. text ≡ memory_lines tells memory) }
+{
+    if !tells {
+        return Ok(Text::new(alloc));
+    }
+    let text = word_text(alloc, memory.text_base)?;
+    let data = word_text(alloc, memory.data_base)?;
+    Ok(Text::from(format!(in alloc; "text {text}\ndata {data}\n")?))
 }
 
 fn push_unread_line(text: &mut Text, path: &str) -> Result<(), NoMemory>

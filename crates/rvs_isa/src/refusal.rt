@@ -32,12 +32,14 @@ pub enum IsaKind {
     BadTruth,
     /// A number has another shape, or doesn't fit 32 bits.
     BadNumber,
+    /// `memory_map` isn't a map, one of its addresses is no multiple of 4,096, or both are one.
+    BadMemory,
     /// The allocator refused. The path says nothing then.
     NoMemory,
 }
 
 impl IsaKind {
-    /// The number under which a fault line names the kind: 1 to 11, in the order above.
+    /// The number under which a fault line names the kind: 1 to 12, in the order above.
     pub fn number(self) -> u8
         ensures { result ≡ number_of self }
     {
@@ -52,7 +54,8 @@ impl IsaKind {
             IsaKind::HartCount => 8,
             IsaKind::BadTruth => 9,
             IsaKind::BadNumber => 10,
-            IsaKind::NoMemory => 11,
+            IsaKind::BadMemory => 11,
+            IsaKind::NoMemory => 12,
         }
     }
 }

@@ -2,7 +2,7 @@
 ghost use Rattle.std.specs.Prelude.{◌≡◌, ◌++◌, IfOk, OnOk};
 ghost use Rattle.rvs_tree.specs.TreeView.{view};
 ghost use Rattle.rvs_isa.specs.Unread.{unread, each_entry, is_checked, unread_of_root};
-ghost use Rattle.rvs_isa.specs.Unread.{unread_of_hart, unread_of_misa};
+ghost use Rattle.rvs_isa.specs.Unread.{unread_of_hart, unread_of_misa, unread_of_memory};
 
 use crate::entry::path_text;
 use rvs_base::{Items, NoMemory, Text};
@@ -74,6 +74,8 @@ fn add_of_hart(
 {
     if key == "misa" {
         add_misa(alloc, paths, hart, value)
+    } else if key == "memory_map" {
+        add_memory(alloc, paths, hart, value)
     } else if is_checked(key) {
         Ok(())
     } else {
@@ -119,5 +121,37 @@ fn add_of_misa(
         Ok(())
     } else {
         paths.push(path_text(alloc, &[hart, "misa", key])?)
+    }
+}
+
+fn add_memory(
+    alloc: Global,
+    paths: &mut Items<Text>,
+    hart: &str,
+    entries: &Tree,
+) -> Result<(), NoMemory>
+    ensures { OnOk result (paths.new ≡ paths.old
+        ++ each_entry (λ key _. unread_of_memory hart.now key) (view entries.now)) }
+{
+    if entries.is_map() {
+        for i in 0..entries.len() {
+            add_of_memory(alloc, paths, hart, entries.key(i))?;
+        }
+    }
+    Ok(())
+}
+
+fn add_of_memory(
+    alloc: Global,
+    paths: &mut Items<Text>,
+    hart: &str,
+    key: &str,
+) -> Result<(), NoMemory>
+    ensures { OnOk result (paths.new ≡ paths.old ++ unread_of_memory hart.now key.now) }
+{
+    if key == "text" || key == "data" {
+        Ok(())
+    } else {
+        paths.push(path_text(alloc, &[hart, "memory_map", key])?)
     }
 }

@@ -1,5 +1,5 @@
 -- The log of a run has the executed instructions as its entries.
-use Rattle.std.proofs.Common.{◌≡◌, ℕ, List, refl}
+use Rattle.std.proofs.Common.{◌≡◌, ℕ, ◌^◌, ◌<◌, List, refl}
 use Rattle.std.specs.Prelude.{map}
 use Rattle.rvs_insn.specs.Isa.{Isa}
 use Rattle.rvs_machine.specs.Image.{ImageValue}
@@ -24,10 +24,10 @@ unfolding zeros
 run_follows image isa n = traces_follow (started image isa).setup n (started image isa).state refl
 
 -- of an image whose text and data are bytes
-pub run_entries : (image : ImageValue) (isa : Isa) (n : ℕ) → Below 256 image.text
-    → Below 256 image.data_bytes
+pub run_entries : (image : ImageValue) (isa : Isa) (n : ℕ) → image.memory.text_base < 2 ^ 32
+    → Below 256 image.text → Below 256 image.data_bytes
     → entries_of (log_of (trace_of image isa n)) ≡ map as_entry (trace_of image isa n)
-run_entries image isa n text ram =
+run_entries image isa n low text ram =
     let words = run_words (started image isa).setup n (started image isa).state text
-    (start_words image.data_bytes ram) in
+    (start_words image.memory image.data_bytes low ram) in
     logs_read_back (trace_of image isa n) words (run_follows image isa n)

@@ -5,7 +5,7 @@ use Rattle.std.proofs.Common.{length}
 use Rattle.std.specs.Prelude.{◌&&◌, nat_le, nat_lt, slice_index}
 use Rattle.std.specs.Prelude.{slice_set}
 use Rattle.rvs_insn.specs.Fields.{IsRegister}
-use Rattle.rvs_machine.specs.Image.{text_base, data_base}
+use Rattle.rvs_insn.specs.Memory.{Memory}
 use Rattle.rvs_machine.specs.Machine.{byte_at, above, load_bytes}
 use Rattle.rvs_machine.specs.Machine.{store_bytes, extended, word_at, fetch, read_reg}
 use Rattle.rvs_machine.specs.Machine.{write_reg, commit_of}
@@ -27,15 +27,16 @@ pub either_place : (n : ℕ) (b : Bool) (x y : Option ℕ) → AtMost n x → At
 either_place n true x y g h = g
 either_place n false x y g h = h
 
-pub byte_low : (text ram : List ℕ) (addr : ℕ) → Below 256 text → Below 256 ram
-    → AtMost 256 (byte_at text ram addr)
-byte_low text ram addr g h =
-    let in_text = nat_le text_base addr && nat_lt addr (text_base + length text) in
-    let in_ram = nat_le data_base addr && nat_lt addr (data_base + length ram) in
-    let of_text = slice_index text (addr - text_base) in
-    let of_ram = slice_index ram (addr - data_base) in
-    either_place 256 in_text (Some of_text) (cond in_ram (Some of_ram) None) (g (addr - text_base))
-    (some_or_none 256 in_ram of_ram (h (addr - data_base)))
+pub byte_low : (m : Memory) (text ram : List ℕ) (addr : ℕ) → Below 256 text → Below 256 ram
+    → AtMost 256 (byte_at m text ram addr)
+byte_low m text ram addr g h =
+    let in_text = nat_le m.text_base addr && nat_lt addr (m.text_base + length text) in
+    let in_ram = nat_le m.data_base addr && nat_lt addr (m.data_base + length ram) in
+    let of_text = slice_index text (addr - m.text_base) in
+    let of_ram = slice_index ram (addr - m.data_base) in
+    either_place 256 in_text (Some of_text) (cond in_ram (Some of_ram) None)
+    (g (addr - m.text_base))
+    (some_or_none 256 in_ram of_ram (h (addr - m.data_base)))
 
 pub above_low : (n : ℕ) (a b : Option ℕ) → AtMost 256 a → AtMost n b → AtMost (256 * n) (above a b)
 above_low n None b g h = tt
@@ -47,12 +48,12 @@ abbrev pub limit : ℕ → ℕ
 limit zero = 1
 limit (suc n) = 256 * limit n
 
-pub bytes_low : (n : ℕ) (text ram : List ℕ) (addr : ℕ) → Below 256 text → Below 256 ram
-    → AtMost (limit n) (load_bytes n text ram addr)
-bytes_low zero text ram addr g h = omega arith
-bytes_low (suc n) text ram addr g h =
-    above_low (limit n) (byte_at text ram addr) (load_bytes n text ram (addr + 1))
-    (byte_low text ram addr g h) (bytes_low n text ram (addr + 1) g h)
+pub bytes_low : (m : Memory) (n : ℕ) (text ram : List ℕ) (addr : ℕ) → Below 256 text → Below 256 ram
+    → AtMost (limit n) (load_bytes m n text ram addr)
+bytes_low m zero text ram addr g h = omega arith
+bytes_low m (suc n) text ram addr g h =
+    above_low (limit n) (byte_at m text ram addr) (load_bytes m n text ram (addr + 1))
+    (byte_low m text ram addr g h) (bytes_low m n text ram (addr + 1) g h)
 
 pub either_low : (b : Bool) (x y : ℕ) → x < 2 ^ 32 → y < 2 ^ 32 → cond b x y < 2 ^ 32
 either_low true x y p q = p
@@ -73,10 +74,11 @@ four_low sign v h =
 pub word_low : (text : List ℕ) (i : ℕ) → Below 256 text → word_at text i < 2 ^ 32
 word_low text i h = omega (arith, h i, h (i + 1), h (i + 2), h (i + 3))
 
-pub fetch_low : (text : List ℕ) (pc : ℕ) → Below 256 text → AtMost (2 ^ 32) (fetch text pc)
-fetch_low text pc h =
-    let at = pc - text_base in
-    let in_text = nat_le text_base pc && nat_lt pc (text_base + length text) in
+pub fetch_low : (m : Memory) (text : List ℕ) (pc : ℕ) → Below 256 text
+    → AtMost (2 ^ 32) (fetch m text pc)
+fetch_low m text pc h =
+    let at = pc - m.text_base in
+    let in_text = nat_le m.text_base pc && nat_lt pc (m.text_base + length text) in
     some_or_none (2 ^ 32) in_text (word_at text at) (word_low text at h)
 
 pub read_low : (regs : List ℕ) (o : Option ℕ) → Below (2 ^ 32) regs → read_reg regs o < 2 ^ 32

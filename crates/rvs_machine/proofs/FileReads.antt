@@ -16,6 +16,8 @@ use Rattle.rvs_base.proofs.HexDigits.{length-hex_word_of}
 use Rattle.rvs_machine.specs.declared.reading.ImageRefusal.{ImageRefusal}
 use Rattle.rvs_machine.specs.declared.reading.ImageKind.TheVariants.{TooLarge}
 use Rattle.rvs_machine.specs.declared.reading.Addresses.{Addresses}
+use Rattle.rvs_insn.specs.Memory.{Memory}
+use Rattle.rvs_insn.proofs.Regions.{text_most, data_most}
 use Rattle.rvs_machine.specs.Image.{ImageValue}
 use Rattle.rvs_machine.specs.FileLines.{Rest, has_feed, after_feed, taken_from}
 use Rattle.rvs_base.specs.Lines.{before, without_return}
@@ -25,6 +27,7 @@ use Rattle.rvs_machine.specs.ImageText.{word_from, word_line, count_with, count_
 use Rattle.rvs_text.specs.Outcomes.{◌>>=◌}
 use Rattle.rvs_machine.specs.ImageText.{put_before, word_lines, section, header_with}
 use Rattle.rvs_machine.specs.ImageText.{address_lines, whole, image_of_bytes}
+use Rattle.rvs_machine.specs.ImageText.{most_text, most_data}
 use Rattle.rvs_machine.specs.ImageFile.{line_of, words_of, section_of, bytes_of, AreWords}
 use Rattle.rvs_machine.specs.ImageFile.{FilesReadBack}
 
@@ -227,31 +230,34 @@ addresses_read at n h =
     h.1.1.0)
 
 -- what follows each part
-abbrev after_addresses : List ℕ → List ℕ → Addresses × Rest → Result ImageValue ImageRefusal
-after_addresses text ram a = whole text ram a.0 a.1
+abbrev after_addresses : Memory → List ℕ → List ℕ → Addresses × Rest
+    → Result ImageValue ImageRefusal
+after_addresses memory text ram a = whole memory text ram a.0 a.1
 
-abbrev after_data : List ℕ → List ℕ × Rest → Result ImageValue ImageRefusal
-after_data text d = address_lines d.1 >>= after_addresses text d.0
+abbrev after_data : Memory → List ℕ → List ℕ × Rest → Result ImageValue ImageRefusal
+after_data memory text d = address_lines d.1 >>= after_addresses memory text d.0
 
-abbrev after_text : List ℕ × Rest → Result ImageValue ImageRefusal
-after_text t = section (codes "data ") 262_144 t.1 >>= after_data t.0
+abbrev after_text : Memory → List ℕ × Rest → Result ImageValue ImageRefusal
+after_text memory t = section (codes "data ") (most_data memory) t.1 >>= after_data memory t.0
 
-abbrev after_header : Rest → Result ImageValue ImageRefusal
-after_header r = section (codes "text ") 4_194_304 r >>= after_text
+abbrev after_header : Memory → Rest → Result ImageValue ImageRefusal
+after_header memory r = section (codes "text ") (most_text memory) r >>= after_text memory
 
 pub files_read : FilesReadBack
 unfolding image_of_bytes
-files_read text ram at t d a few_text few_data =
+files_read memory text ram at t d a few_text few_data =
     let r3 = line_of (codes "tohost ") (hex_word_of at.tohost) (line_of (codes "begin ")
     (hex_word_of at.sig_begin) (line_of (codes "end ") (hex_word_of at.sig_end) [])) in
     let r2 = section_of (codes "data ") ram r3 in
     let r1 = section_of (codes "text ") text r2 in
-    let short : length ram ≤ 4_194_304 = omega (arith, few_data) in
-    ap (λ x. header_with 1 x >>= after_header)
+    let few : length text ≤ 4_194_304 = omega (arith, few_text, text_most memory) in
+    let short : length ram ≤ 4_194_304 = omega (arith, few_data, data_most memory) in
+    ap (λ x. header_with 1 x >>= after_header memory)
     (taken_line (codes "rvimage 1") r1 1 (plain_tested (codes "rvimage 1") refl))
-    ∙ ap (λ x. x >>= after_text) (section_read (codes "text ") text r2 4_194_304 2
-    (plain_tested (codes "text ") refl) refl t few_text few_text)
-    ∙ ap (λ x. x >>= after_data (bytes_of text)) (section_read (codes "data ") ram r3 262_144
+    ∙ ap (λ x. x >>= after_text memory) (section_read (codes "text ") text r2 (most_text memory) 2
+    (plain_tested (codes "text ") refl) refl t few few_text)
+    ∙ ap (λ x. x >>= after_data memory (bytes_of text))
+    (section_read (codes "data ") ram r3 (most_data memory)
     (2 + 1 + length text) (plain_tested (codes "data ") refl) refl d short few_data)
-    ∙ ap (λ x. x >>= after_addresses (bytes_of text) (bytes_of ram))
+    ∙ ap (λ x. x >>= after_addresses memory (bytes_of text) (bytes_of ram))
     (addresses_read at (2 + 1 + length text + 1 + length ram) a)

@@ -8,12 +8,14 @@ use Rattle.rvs_machine.specs.declared.reading.ImageKind.{ImageKind}
 use Rattle.rvs_machine.specs.declared.reading.ImageKind.TheVariants.{BadLine, TooLarge}
 use Rattle.rvs_machine.specs.declared.reading.ImageRefusal.{ImageRefusal}
 use Rattle.rvs_machine.specs.declared.reading.Addresses.{Addresses}
+use Rattle.rvs_insn.specs.Memory.{Memory}
 use Rattle.rvs_machine.specs.Image.{ImageValue}
 use Rattle.rvs_machine.specs.FileLines.{Rest, first_line, after_feed}
 use Rattle.rvs_machine.specs.ImageText.{refusal, word_in, count_in, after_name, header, word_with}
 use Rattle.rvs_text.specs.Outcomes.{◌>>=◌}
 use Rattle.rvs_machine.specs.ImageText.{word_line, count_with, count_line, put_before}
 use Rattle.rvs_machine.specs.ImageText.{word_lines, section, address_lines, whole, image_of_bytes}
+use Rattle.rvs_machine.specs.ImageText.{most_text, most_data}
 
 pub data Tree (A : Type 0) : Type 0 where
   done : A → Tree A
@@ -221,17 +223,17 @@ abbrev pub addresses_tree : List ℕ → List ℕ → Tree Parts
 addresses_tree text ram =
     bind address_tree (λ at. done (record { text = text; ram = ram; at = at }))
 
-abbrev pub data_tree : List ℕ → Tree Parts
-data_tree text = bind (section_tree (codes "data ") 262_144) (addresses_tree text)
+abbrev pub data_tree : Memory → List ℕ → Tree Parts
+data_tree memory text = bind (section_tree (codes "data ") (most_data memory)) (addresses_tree text)
 
-abbrev pub text_tree : Unit {0} → Tree Parts
-text_tree u = bind (section_tree (codes "text ") 4_194_304) data_tree
+abbrev pub text_tree : Memory → Unit {0} → Tree Parts
+text_tree memory u = bind (section_tree (codes "text ") (most_text memory)) (data_tree memory)
 
-abbrev pub file_tree : Tree Parts
-file_tree = bind header_tree text_tree
+abbrev pub file_tree : Memory → Tree Parts
+file_tree memory = bind header_tree (text_tree memory)
 
-abbrev pub judged : Parts × Rest → Result ImageValue ImageRefusal
-judged p = whole p.0.text p.0.ram p.0.at p.1
+abbrev pub judged : Memory → Parts × Rest → Result ImageValue ImageRefusal
+judged memory p = whole memory p.0.text p.0.ram p.0.at p.1
 
 then_twice : {A B C : Type 0} (x : Found A) (f : A × Rest → Found B)
     (g : B × Rest → Result C ImageRefusal) → ((x >>= f) >>= g) ≡ (x >>= (λ p. f p >>= g))
@@ -254,42 +256,53 @@ sequel t reader go later g h i bytes n =
     ∙ sym (then_twice (run t bytes n) (onward go) g)
     ∙ ap (λ x. x >>= g) (sym (run-bind t go bytes n))
 
-abbrev after_data : List ℕ → List ℕ → Rest → Result ImageValue ImageRefusal
-after_data text ram r = address_lines r >>= (λ a. whole text ram a.0 a.1)
+abbrev after_data : Memory → List ℕ → List ℕ → Rest → Result ImageValue ImageRefusal
+after_data memory text ram r = address_lines r >>= (λ a. whole memory text ram a.0 a.1)
 
-abbrev after_text : List ℕ → Rest → Result ImageValue ImageRefusal
-after_text text r = section (codes "data ") 262_144 r >>= (λ d. after_data text d.0 d.1)
+abbrev after_text : Memory → List ℕ → Rest → Result ImageValue ImageRefusal
+after_text memory text r =
+    section (codes "data ") (most_data memory) r >>= (λ d. after_data memory text d.0 d.1)
 
-abbrev after_header : Rest → Result ImageValue ImageRefusal
-after_header r = section (codes "text ") 4_194_304 r >>= (λ t. after_text t.0 t.1)
+abbrev after_header : Memory → Rest → Result ImageValue ImageRefusal
+after_header memory r =
+    section (codes "text ") (most_text memory) r >>= (λ t. after_text memory t.0 t.1)
 
-data_run : (text ram bytes : List ℕ) (n : ℕ)
-    → after_data text ram (record { bytes = bytes; line = n })
-    ≡ (run (addresses_tree text ram) bytes n >>= judged)
-data_run text ram = sequel address_tree address_lines (λ at. done (record {
+data_run : (memory : Memory) (text ram bytes : List ℕ) (n : ℕ)
+    → after_data memory text ram (record { bytes = bytes; line = n })
+    ≡ (run (addresses_tree text ram) bytes n >>= judged memory)
+data_run memory text ram = sequel address_tree address_lines (λ at. done (record {
   text = text;
   ram = ram;
   at = at;
-})) (λ at r. whole text ram at r) judged address_run (λ at bytes n. refl)
+})) (λ at r. whole memory text ram at r) (judged memory) address_run (λ at bytes n. refl)
 
-text_run : (text bytes : List ℕ) (n : ℕ) → after_text text (record { bytes = bytes; line = n })
-    ≡ (run (data_tree text) bytes n >>= judged)
-text_run text = sequel (section_tree (codes "data ") 262_144) (section (codes "data ") 262_144)
-    (addresses_tree text) (after_data text) judged (section_run (codes "data ") 262_144)
-    (data_run text)
+text_run : (memory : Memory) (text bytes : List ℕ) (n : ℕ)
+    → after_text memory text (record { bytes = bytes; line = n })
+    ≡ (run (data_tree memory text) bytes n >>= judged memory)
+text_run memory text = sequel (section_tree (codes "data ") (most_data memory))
+    (section (codes "data ") (most_data memory))
+    (addresses_tree text) (after_data memory text) (judged memory)
+    (section_run (codes "data ") (most_data memory))
+    (data_run memory text)
 
-behind_header : (bytes : List ℕ) (n : ℕ) → after_header (record { bytes = bytes; line = n })
-    ≡ (run (text_tree tt) bytes n >>= judged)
-behind_header = sequel (section_tree (codes "text ") 4_194_304) (section (codes "text ") 4_194_304)
-    data_tree after_text judged (section_run (codes "text ") 4_194_304) text_run
+behind_header : (memory : Memory) (bytes : List ℕ) (n : ℕ)
+    → after_header memory (record { bytes = bytes; line = n })
+    ≡ (run (text_tree memory tt) bytes n >>= judged memory)
+behind_header memory = sequel (section_tree (codes "text ") (most_text memory))
+    (section (codes "text ") (most_text memory)) (data_tree memory) (after_text memory)
+    (judged memory)
+    (section_run (codes "text ") (most_text memory)) (text_run memory)
 
-header_first : (x : Found (Unit {0}))
-    → ((x >>= only_rest) >>= after_header) ≡ ((x >>= onward text_tree) >>= judged)
-header_first (Err e) = refl
-header_first (Ok p) = behind_header p.1.bytes p.1.line
+header_first : (memory : Memory) (x : Found (Unit {0}))
+    → ((x >>= only_rest) >>= after_header memory)
+    ≡ ((x >>= onward (text_tree memory)) >>= judged memory)
+header_first memory (Err e) = refl
+header_first memory (Ok p) = behind_header memory p.1.bytes p.1.line
 
-pub file_run : (bytes : List ℕ) → image_of_bytes bytes ≡ (run file_tree bytes 1 >>= judged)
+pub file_run : (memory : Memory) (bytes : List ℕ)
+    → image_of_bytes memory bytes ≡ (run (file_tree memory) bytes 1 >>= judged memory)
 unfolding image_of_bytes
-file_run bytes =
-    ap (λ x. x >>= after_header) (header_run bytes 1) ∙ header_first (run header_tree bytes 1)
-    ∙ ap (λ x. x >>= judged) (sym (run-bind header_tree text_tree bytes 1))
+file_run memory bytes =
+    ap (λ x. x >>= after_header memory) (header_run bytes 1)
+    ∙ header_first memory (run header_tree bytes 1)
+    ∙ ap (λ x. x >>= judged memory) (sym (run-bind header_tree (text_tree memory) bytes 1))

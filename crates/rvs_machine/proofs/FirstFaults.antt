@@ -2,15 +2,17 @@
 use Rattle.std.proofs.Common.{◌≡◌, ◌≢◌, ℕ, zero, suc, ◌+◌, ◌≤◌, Bool, true, false, cond, List, []}
 use Rattle.std.proofs.Common.{◌∷◌, ◌++◌, Option, Some, None, Ok, Err, refl, ap, sym, subst, ◌∙◌}
 use Rattle.std.proofs.Common.{arith, codes}
-use Rattle.std.specs.Prelude.{◌==◌, is_some}
+use Rattle.std.proofs.lemmas.Bool.Decides.{nat_tests}
+use Rattle.std.specs.Prelude.{◌==◌, is_some, nat_le}
 use Rattle.rvs_machine.specs.declared.reading.ImageKind.TheVariants.{BadLine, BadRegion}
 use Rattle.rvs_machine.specs.declared.reading.ImageRefusal.{ImageRefusal}
+use Rattle.rvs_insn.specs.Memory.{Memory}
 use Rattle.rvs_machine.specs.Image.{ImageValue}
 use Rattle.rvs_machine.specs.FileLines.{Rest, first_line, after_feed, has_feed}
 use Rattle.rvs_base.specs.Digits.{digits_of}
 use Rattle.rvs_base.specs.Lines.{before, after, without_return}
 use Rattle.rvs_text.specs.Outcomes.{◌>>=◌}
-use Rattle.rvs_machine.specs.ImageText.{refusal, image_of_bytes}
+use Rattle.rvs_machine.specs.ImageText.{refusal, image_of_bytes, most_text, most_data}
 use Rattle.rvs_machine.specs.ImageFaults.{first_lines, IsFaultless, Begins, IsFirstFault}
 use Rattle.rvs_machine.specs.ImageFaults.{FaultsAreFirst}
 use Rattle.rvs_machine.proofs.FileTree.{Tree, Found, run, bind, Parts, file_tree, judged, file_run}
@@ -310,32 +312,47 @@ addresses_can text ram = can-bind address_tree _ address_can (λ at. tt)
 addresses_good : (text ram : List ℕ) → Good (addresses_tree text ram)
 addresses_good text ram = good-bind address_tree _ address_good (λ at. tt) (λ at. tt)
 
-data_count : Can (count_tree (codes "data ") 262_144)
+none_fit : (limit : ℕ) → nat_le 0 limit ≡ true
+none_fit limit = grind (arith, nat_tests)
+
+limited_can : (b : Bool) → b ≡ true → Can (limited b 0)
+limited_can true h = tt
+limited_can false h = cc
+
+data_count : (limit : ℕ) → Can (count_tree (codes "data ") limit)
 unfolding digits_of
-data_count = (codes "data 0", refl, tt)
+data_count limit = (codes "data 0", refl, limited_can (nat_le 0 limit) (none_fit limit))
 
-data_can : (text : List ℕ) → Can (data_tree text)
-data_can text = can-bind (section_tree (codes "data ") 262_144) (addresses_tree text)
-    (section_can (codes "data ") 262_144 data_count) (addresses_can text)
+data_can : (memory : Memory) (text : List ℕ) → Can (data_tree memory text)
+data_can memory text = can-bind (section_tree (codes "data ") (most_data memory))
+    (addresses_tree text)
+    (section_can (codes "data ") (most_data memory) (data_count (most_data memory)))
+    (addresses_can text)
 
-data_good : (text : List ℕ) → Good (data_tree text)
-data_good text = good-bind (section_tree (codes "data ") 262_144) (addresses_tree text)
-    (section_good (codes "data ") 262_144 data_count) (addresses_can text) (addresses_good text)
+data_good : (memory : Memory) (text : List ℕ) → Good (data_tree memory text)
+data_good memory text = good-bind (section_tree (codes "data ") (most_data memory))
+    (addresses_tree text)
+    (section_good (codes "data ") (most_data memory) (data_count (most_data memory)))
+    (addresses_can text) (addresses_good text)
 
-text_count : Can (count_tree (codes "text ") 4_194_304)
+text_count : (limit : ℕ) → Can (count_tree (codes "text ") limit)
 unfolding digits_of
-text_count = (codes "text 0", refl, tt)
+text_count limit = (codes "text 0", refl, limited_can (nat_le 0 limit) (none_fit limit))
 
-text_can : (u : Unit {0}) → Can (text_tree u)
-text_can u = can-bind (section_tree (codes "text ") 4_194_304) data_tree
-    (section_can (codes "text ") 4_194_304 text_count) data_can
+text_can : (memory : Memory) (u : Unit {0}) → Can (text_tree memory u)
+text_can memory u = can-bind (section_tree (codes "text ") (most_text memory)) (data_tree memory)
+    (section_can (codes "text ") (most_text memory) (text_count (most_text memory)))
+    (data_can memory)
 
-text_good : (u : Unit {0}) → Good (text_tree u)
-text_good u = good-bind (section_tree (codes "text ") 4_194_304) data_tree
-    (section_good (codes "text ") 4_194_304 text_count) data_can data_good
+text_good : (memory : Memory) (u : Unit {0}) → Good (text_tree memory u)
+text_good memory u = good-bind (section_tree (codes "text ") (most_text memory)) (data_tree memory)
+    (section_good (codes "text ") (most_text memory) (text_count (most_text memory)))
+    (data_can memory)
+    (data_good memory)
 
-file_good : Good file_tree
-file_good = good-bind header_tree text_tree header_good text_can text_good
+file_good : (memory : Memory) → Good (file_tree memory)
+file_good memory =
+    good-bind header_tree (text_tree memory) header_good (text_can memory) (text_good memory)
 
 -- ---- the first faulty line
 judged_line : (image : ImageValue) (b : Bool) (e : ImageRefusal)
@@ -345,66 +362,75 @@ judged_line image false e f =
     let same : refusal 0 BadRegion ≡ e = cc in ap (λ (r : ImageRefusal). r.line) (sym same)
 
 -- what is read to its end has no faulty line
-read_faultless : (bytes : List ℕ) → Completes file_tree bytes 1 → IsFaultless bytes
-read_faultless bytes c e f =
-    let is = sym (ap (λ x. x >>= judged) c.2) ∙ sym (file_run bytes) ∙ f in
+read_faultless : (memory : Memory) (bytes : List ℕ) → Completes (file_tree memory) bytes 1
+    → IsFaultless memory bytes
+read_faultless memory bytes c e f =
+    let is = sym (ap (λ x. x >>= judged memory) c.2) ∙ sym (file_run memory bytes) ∙ f in
     judged_line _ _ e is
 
-goes_on : (bytes : List ℕ) (n : ℕ) → 1 + n ≤ comes_to (run file_tree bytes 1) → Begins n bytes
-goes_on bytes n h =
-    let m = mend file_tree file_good bytes 1 n (omega arith) h in
-    (m.0, m.1, read_faultless m.0 m.2)
+goes_on : (memory : Memory) (bytes : List ℕ) (n : ℕ)
+    → 1 + n ≤ comes_to (run (file_tree memory) bytes 1) → Begins memory n bytes
+goes_on memory bytes n h =
+    let m = mend (file_tree memory) (file_good memory) bytes 1 n (omega arith) h in
+    (m.0, m.1, read_faultless memory m.0 m.2)
 
 -- the last step
-abbrev Last : List ℕ → ImageRefusal → Found Parts → Type 0
-Last bytes e x = run file_tree bytes 1 ≡ x → (x >>= judged) ≡ Err e → e.line ≢ 0
-    → IsFirstFault e.line bytes
+abbrev Last : Memory → List ℕ → ImageRefusal → Found Parts → Type 0
+Last memory bytes e x = run (file_tree memory) bytes 1 ≡ x → (x >>= judged memory) ≡ Err e
+    → e.line ≢ 0 → IsFirstFault memory e.line bytes
 
-read_err : (other : List ℕ) (e : ImageRefusal) → run file_tree other 1 ≡ Err e
-    → image_of_bytes other ≡ Err e
-read_err other e f = file_run other ∙ ap (λ x. x >>= judged) f
+read_err : (memory : Memory) (other : List ℕ) (e : ImageRefusal)
+    → run (file_tree memory) other 1 ≡ Err e → image_of_bytes memory other ≡ Err e
+read_err memory other e f = file_run memory other ∙ ap (λ x. x >>= judged memory) f
 
-last_stop : (bytes : List ℕ) (e f : ImageRefusal) → Last bytes e (Err f)
-last_stop bytes e f is eq some =
+last_stop : (memory : Memory) (bytes : List ℕ) (e f : ImageRefusal) → Last memory bytes e (Err f)
+last_stop memory bytes e f is eq some =
     let same : f ≡ e = cc in
-    let at : run file_tree bytes 1 ≡ Err e = is ∙ ap (λ (r : ImageRefusal). Err r) same in
+    let at : run (file_tree memory) bytes 1 ≡ Err e = is ∙ ap (λ (r : ImageRefusal). Err r) same in
     record {
-      stops = λ b. some (b.2 e (read_err b.0 e
-          ((alike file_tree bytes b.0 1 e.line (sym b.1) (rw at (omega arith))).stops e at)));
-      goes_on = λ n h. goes_on bytes n (rw at (omega arith));
+      stops = λ b. some (b.2 e (read_err memory b.0 e
+          ((alike (file_tree memory) bytes b.0 1 e.line (sym b.1) (rw at (omega arith))).stops e
+          at)));
+      goes_on = λ n h. goes_on memory bytes n (rw at (omega arith));
     }
 
 -- more lines follow
-behind : (bytes other : List ℕ) (p : Parts × Rest) (c : ℕ) (cs rest : List ℕ)
-    → run file_tree other 1 ≡ Ok (p.0, record { bytes = rest; line = p.1.line })
+behind : (memory : Memory) (bytes other : List ℕ) (p : Parts × Rest) (c : ℕ) (cs rest : List ℕ)
+    → run (file_tree memory) other 1 ≡ Ok (p.0, record { bytes = rest; line = p.1.line })
     → p.1.bytes ≡ c ∷ cs
     → first_lines 1 (c ∷ cs) ≡ first_lines 1 rest
-    → image_of_bytes other ≡ Err (refusal p.1.line BadLine)
-behind bytes other p c cs [] is has same = absurd cc
-behind bytes other p c cs (d ∷ ds) is has same = file_run other ∙ ap (λ x. x >>= judged) is
+    → image_of_bytes memory other ≡ Err (refusal p.1.line BadLine)
+behind memory bytes other p c cs [] is has same = absurd cc
+behind memory bytes other p c cs (d ∷ ds) is has same = file_run memory other
+    ∙ ap (λ x. x >>= judged memory) is
 
-last_go : (bytes : List ℕ) (e : ImageRefusal) (parts : Parts) (rest : List ℕ) (line : ℕ)
-    → Last bytes e (Ok (parts, record { bytes = rest; line = line }))
-last_go bytes e parts [] line is eq some = absurd (some (judged_line _ _ e eq))
-last_go bytes e parts (c ∷ cs) line is eq some =
+last_go : (memory : Memory) (bytes : List ℕ) (e : ImageRefusal) (parts : Parts) (rest : List ℕ)
+    (line : ℕ)
+    → Last memory bytes e (Ok (parts, record { bytes = rest; line = line }))
+last_go memory bytes e parts [] line is eq some = absurd (some (judged_line _ _ e eq))
+last_go memory bytes e parts (c ∷ cs) line is eq some =
     let p : Parts × Rest = (parts, record { bytes = c ∷ cs; line = line }) in
     let same : refusal line BadLine ≡ e = cc in
     let lines : line ≡ e.line = ap (λ (r : ImageRefusal). r.line) same in
     record {
       stops = λ b.
-          let q = (alike file_tree bytes b.0 1 e.line (sym b.1) (rw is (omega (arith, lines)))).goes
+          let q = (alike (file_tree memory) bytes b.0 1 e.line (sym b.1)
+          (rw is (omega (arith, lines)))).goes
           p is in
           let one : q.1 ≡ 1 = omega (arith, q.3, lines) in
           let next : first_lines 1 (c ∷ cs) ≡ first_lines 1 q.0 =
           sym (ap (λ k. first_lines k (c ∷ cs)) one) ∙ q.4 ∙ ap (λ k. first_lines k q.0) one in
-          some (sym lines ∙ b.2 (refusal line BadLine) (behind bytes b.0 p c cs q.0 q.2 refl next));
-      goes_on = λ n h. goes_on bytes n (rw is (omega (arith, lines)));
+          some (sym lines ∙ b.2 (refusal line BadLine)
+          (behind memory bytes b.0 p c cs q.0 q.2 refl next));
+      goes_on = λ n h. goes_on memory bytes n (rw is (omega (arith, lines)));
     }
 
-last : (bytes : List ℕ) (e : ImageRefusal) (x : Found Parts) → Last bytes e x
-last bytes e (Err f) = last_stop bytes e f
-last bytes e (Ok p) = last_go bytes e p.0 p.1.bytes p.1.line
+last : (memory : Memory) (bytes : List ℕ) (e : ImageRefusal) (x : Found Parts)
+    → Last memory bytes e x
+last memory bytes e (Err f) = last_stop memory bytes e f
+last memory bytes e (Ok p) = last_go memory bytes e p.0 p.1.bytes p.1.line
 
 pub faults_are_first : FaultsAreFirst
-faults_are_first bytes e is some =
-    last bytes e (run file_tree bytes 1) refl (sym (file_run bytes) ∙ is) some
+faults_are_first memory bytes e is some =
+    last memory bytes e (run (file_tree memory) bytes 1) refl (sym (file_run memory bytes) ∙ is)
+    some

@@ -25,7 +25,6 @@ use Rattle.rvs_machine.specs.Machine.{Setup, State, read_reg, imm_word, action_o
 use Rattle.rvs_machine.specs.Machine.{jump_action, store_action, loaded, is_misaligned, is_in_data}
 use Rattle.rvs_machine.specs.Machine.{load_bytes, data_word, with_data, is_reserved, wrote}
 use Rattle.rvs_machine.specs.Machine.{store_bytes}
-use Rattle.rvs_machine.specs.Image.{data_base}
 
 -- an effect, and an action, of an instruction that neither reserves nor ends a reservation
 abbrev IsOther : Effect → Type 0
@@ -68,15 +67,18 @@ leaves isa text bytes pc (GoIf taken target) h =
     (by_test (target % 4 == 0) (Go None target) (Refuse (MisalignedTarget target)) tt tt) tt
 leaves isa text bytes pc (Load size is_signed addr) h =
     by_test (is_misaligned isa size addr) (Refuse (MisalignedAccess addr))
-    (loaded is_signed size addr pc (load_bytes size text bytes addr)) tt
-    (by_load is_signed size addr pc (load_bytes size text bytes addr))
+    (loaded is_signed size addr pc (load_bytes isa.memory size text bytes addr)) tt
+    (by_load is_signed size addr pc (load_bytes isa.memory size text bytes addr))
 leaves isa text bytes pc (Store size addr value) h =
     by_test (is_misaligned isa size addr) (Refuse (MisalignedAccess addr))
-    (cond (is_in_data size bytes addr) (Keep size addr value) (Refuse (AccessFault addr))) tt
-    (by_test (is_in_data size bytes addr) (Keep size addr value) (Refuse (AccessFault addr)) tt tt)
+    (cond (is_in_data isa.memory size bytes addr) (Keep size addr value)
+    (Refuse (AccessFault addr))) tt
+    (by_test (is_in_data isa.memory size bytes addr) (Keep size addr value)
+    (Refuse (AccessFault addr)) tt tt)
 leaves isa text bytes pc (Reserve addr) h = absurd h
 leaves isa text bytes pc (StoreReserved addr value) h = absurd h
-leaves isa text bytes pc (Replace op addr value) h = by_word addr value op (data_word bytes addr)
+leaves isa text bytes pc (Replace op addr value) h = by_word addr value op
+    (data_word isa.memory bytes addr)
 leaves isa text bytes pc Pass h = tt
 leaves isa text bytes pc CallTrap h = tt
 leaves isa text bytes pc BreakTrap h = tt
@@ -103,7 +105,7 @@ nowhere : (setup : Setup) (s : State) (word : ℕ) (i : Fields) (v1 v2 : ℕ) (r
     → (done_of setup s word i v1 v2 (with_data (λ _. StoreIfReserved v1 v2) r)).1.ram ≡ s.ram
 nowhere setup s word i v1 v2 (Ok found) h =
     ap (λ b. (cond b
-    (wrote s word i v1 v2 0 (store_bytes 4 s.ram (v1 - data_base) v2) None)
+    (wrote s word i v1 v2 0 (store_bytes 4 s.ram (v1 - setup.isa.memory.data_base) v2) None)
     (wrote s word i v1 v2 1 s.ram None)).1.ram) h
 nowhere setup s word i v1 v2 (Err kind) h = refl
 
@@ -113,4 +115,4 @@ unreserved_stores_nothing setup s word i sc h =
     let v2 = read_reg s.regs i.rs2 in
     subst (λ op. (done_of setup s word i v1 v2 (action_of setup.isa setup.text s.ram s.pc
     (effect_of op s.pc v1 v2 (imm_word i)))).1.ram ≡ s.ram) (sym sc)
-    (nowhere setup s word i v1 v2 (data_word s.ram v1) h)
+    (nowhere setup s word i v1 v2 (data_word setup.isa.memory s.ram v1) h)

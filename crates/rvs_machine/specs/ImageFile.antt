@@ -7,6 +7,7 @@ use Rattle.rvs_base.specs.Number.{hex_word_of}
 use Rattle.rvs_machine.specs.declared.reading.ImageKind.TheVariants.{BadRegion}
 use Rattle.rvs_machine.specs.declared.reading.ImageRefusal.{ImageRefusal}
 use Rattle.rvs_machine.specs.declared.reading.Addresses.{Addresses}
+use Rattle.rvs_insn.specs.Memory.{Memory}
 use Rattle.rvs_machine.specs.Image.{ImageValue, is_image}
 use Rattle.rvs_machine.specs.ImageText.{refusal, most_text, most_data, image_of_bytes}
 
@@ -45,10 +46,11 @@ judged image = if is_image image then Ok image else Err (refusal 0 BadRegion)
 -- what is written is read
 abbrev pub FilesReadBack : Type 0
 FilesReadBack =
-    (text ram : List ℕ) (at : Addresses) → AreWords text → AreWords ram
-    → AreWords (at.tohost ∷ at.sig_begin ∷ at.sig_end ∷ []) → length text ≤ most_text
-    → length ram ≤ most_data
-    → image_of_bytes (file_of text ram at) ≡ judged (record {
+    (memory : Memory) (text ram : List ℕ) (at : Addresses) → AreWords text → AreWords ram
+    → AreWords (at.tohost ∷ at.sig_begin ∷ at.sig_end ∷ []) → length text ≤ most_text memory
+    → length ram ≤ most_data memory
+    → image_of_bytes memory (file_of text ram at) ≡ judged (record {
+      memory = memory;
       text = bytes_of text;
       data_bytes = bytes_of ram;
       tohost = at.tohost;

@@ -13,7 +13,8 @@ use Rattle.rvs_machine.specs.declared.reading.ImageKind.TheVariants.{BadLine, Ba
 use Rattle.rvs_machine.specs.declared.reading.ImageKind.TheVariants.{NoMemory}
 use Rattle.rvs_machine.specs.declared.reading.ImageRefusal.{ImageRefusal}
 use Rattle.rvs_machine.specs.declared.reading.Addresses.{Addresses}
-use Rattle.rvs_machine.specs.Image.{ImageValue, text_limit, data_limit, is_image}
+use Rattle.rvs_insn.specs.Memory.{Memory, text_limit, data_limit}
+use Rattle.rvs_machine.specs.Image.{ImageValue, is_image}
 use Rattle.rvs_machine.specs.FileLines.{Rest, taken}
 
 -- ---- the parts of a line
@@ -106,9 +107,10 @@ abbrev pub whole_with : ℕ → ImageValue → Option (List ℕ × Rest) → Res
 whole_with n image None = if is_image image then Ok image else Err (refusal 0 BadRegion)
 whole_with n image (Some p) = Err (refusal n BadLine)
 
-abbrev pub whole : List ℕ → List ℕ → Addresses → Rest → Result ImageValue ImageRefusal
-whole text ram a r =
+abbrev pub whole : Memory → List ℕ → List ℕ → Addresses → Rest → Result ImageValue ImageRefusal
+whole memory text ram a r =
     whole_with r.line (record {
+      memory = memory;
       text = text;
       data_bytes = ram;
       tohost = a.tohost;
@@ -118,20 +120,20 @@ whole text ram a r =
     }) (taken r)
 
 -- the most words of text and of data
-abbrev pub most_text : ℕ
-most_text = text_limit / 4
+abbrev pub most_text : Memory → ℕ
+most_text memory = text_limit memory / 4
 
-abbrev pub most_data : ℕ
-most_data = data_limit / 4
+abbrev pub most_data : Memory → ℕ
+most_data memory = data_limit memory / 4
 
 -- an image file: text, data and addresses
-unfoldable pub image_of_bytes : List ℕ → Result ImageValue ImageRefusal
-image_of_bytes bytes = do
+unfoldable pub image_of_bytes : Memory → List ℕ → Result ImageValue ImageRefusal
+image_of_bytes memory bytes = do
   r ← header (record { bytes = bytes; line = 1 })
-  t ← section (codes "text ") most_text r
-  d ← section (codes "data ") most_data t.1
+  t ← section (codes "text ") (most_text memory) r
+  d ← section (codes "data ") (most_data memory) t.1
   a ← address_lines d.1
-  whole t.0 d.0 a.0 a.1
+  whole memory t.0 d.0 a.0 a.1
 
 -- the answer of a reading: what is said, or want of memory
 abbrev pub IsSaid : {A : Type 0} → Result A ImageRefusal → Result A ImageRefusal → Type 0

@@ -1,34 +1,26 @@
 // Programs in memory.
-ghost use Rattle.std.specs.Prelude.{◌≡◌, ◌≤◌, ◌^◌};
+ghost use Rattle.std.specs.Prelude.{◌≡◌, ◌≤◌};
+ghost use Rattle.rvs_insn.specs.Memory.{data_limit};
 ghost use Rattle.rvs_machine.specs.Image.{ImageValue, is_text_length, is_tohost, is_signature};
 ghost use Rattle.rvs_machine.specs.Image.{if_image};
 
 use crate::symbol::Symbol;
 use rvs_base::{Bytes, Items};
+use rvs_insn::MemoryMap;
 use std::marker::Model;
-
-/// Where the text begins.
-pub const TEXT_BASE: u32 = 0x8000_0000;
-
-/// Where the data begins.
-pub const DATA_BASE: u32 = 0x8100_0000;
-
-/// How many bytes the text may have.
-pub const TEXT_LIMIT: usize = 0x100_0000;
-
-/// How many bytes the data may have.
-pub const DATA_LIMIT: usize = 0x10_0000;
 
 /// A program in memory. Contracts see it as the record of its fields.
 ///
-/// By an invariant of the type, the text has a whole number of words and at most 16 MiB, the data
-/// at most 1 MiB, the word at `tohost` lies in the data, and so does what lies from `sig_begin` to
-/// `sig_end`; all three are multiples of 4.
+/// By an invariant of the type, the text has a whole number of words, text and data have no more
+/// bytes than their regions, the word at `tohost` lies in the data, and so does what lies from
+/// `sig_begin` to `sig_end`; all three are multiples of 4.
 #[derive(Drop)]
 pub struct Image {
-    /// The bytes from 0x80000000 on, which are read and executed.
+    /// Where text and data begin.
+    pub memory: MemoryMap,
+    /// The bytes of the text, which are read and executed.
     pub text: Bytes,
-    /// The bytes from 0x81000000 on, which are read and written.
+    /// The bytes of the data, which are read and written.
     pub data_bytes: Bytes,
     /// Where a stored word of 1 halts a run.
     pub tohost: u32,
@@ -46,6 +38,7 @@ impl Model for Image {
     ghost Value = { ImageValue };
 
     ghost view = { λ i. record {
+      memory = i.memory;
       text = i.text;
       data_bytes = i.data_bytes;
       tohost = i.tohost;
@@ -55,6 +48,7 @@ impl Model for Image {
     } };
 
     ghost invariant = { λ i. IsImage (record {
+      memory = i.memory;
       text = i.text;
       data_bytes = i.data_bytes;
       tohost = i.tohost;
@@ -67,6 +61,7 @@ impl Model for Image {
 impl Image {
     /// The image of these parts, or `None` where they break its invariant.
     pub fn new(
+        memory: MemoryMap,
         text: Bytes,
         data_bytes: Bytes,
         tohost: u32,
@@ -75,6 +70,7 @@ impl Image {
         symbols: Items<Symbol>,
     ) -> Option<Image>
         ensures { result ≡ if_image (record {
+          memory = memory;
           text = text;
           data_bytes = data_bytes;
           tohost = tohost;
@@ -85,12 +81,13 @@ impl Image {
     {
         let text_len = text.as_slice().len();
         let data_len = data_bytes.as_slice().len();
-        if is_text_length(text_len)
-            && data_len <= DATA_LIMIT
-            && is_tohost(data_len, tohost)
-            && is_signature(data_len, sig_begin, sig_end)
+        if is_text_length(memory, text_len)
+            && data_len <= memory.data_limit() as usize
+            && is_tohost(memory, data_len, tohost)
+            && is_signature(memory, data_len, sig_begin, sig_end)
         {
             Some(Image {
+                memory,
                 text,
                 data_bytes,
                 tohost,
@@ -104,24 +101,29 @@ impl Image {
     }
 }
 
-fn is_text_length(length: usize) -> bool
-    ensures { result ≡ is_text_length length }
+fn is_text_length(memory: MemoryMap, length: usize) -> bool
+    ensures { result ≡ is_text_length memory length }
 {
-    length % 4 == 0 && length <= TEXT_LIMIT
+    length % 4 == 0 && length <= memory.text_limit() as usize
 }
 
-fn is_tohost(size: usize, at: u32) -> bool
-    requires { size ≤ 2 ^ 20 }
-    ensures { result ≡ is_tohost size at }
+fn is_tohost(memory: MemoryMap, size: usize, at: u32) -> bool
+    requires { size ≤ data_limit memory }
+    ensures { result ≡ is_tohost memory size at }
 {
-    let end = u64::from(DATA_BASE) + size as u64;
-    at % 4 == 0 && at >= DATA_BASE && u64::from(at) + 4 <= end
+    let first = memory.data_base;
+    at % 4 == 0 && at >= first && u64::from(at) + 4 <= u64::from(first) + size as u64
 }
 
-fn is_signature(size: usize, first: u32, last: u32) -> bool
-    requires { size ≤ 2 ^ 20 }
-    ensures { result ≡ is_signature size first last }
+fn is_signature(memory: MemoryMap, size: usize, first: u32, last: u32) -> bool
+    requires { size ≤ data_limit memory }
+    ensures { result ≡ is_signature memory size first last }
 {
-    let end = u64::from(DATA_BASE) + size as u64;
-    first % 4 == 0 && last % 4 == 0 && first >= DATA_BASE && first <= last && u64::from(last) <= end
+    let base = memory.data_base;
+    first % 4 == 0
+        && last % 4 == 0
+        && first >= base
+        && first <= last
+        && u64::from(last) <= u64::from(base) + size as u64
+        && u64::from(last) < 0x1_0000_0000
 }

@@ -16,7 +16,7 @@ mod run;
 mod symbol;
 
 pub use event::{Commit, End, Event, Executed, Trace, Trap, TrapKind};
-pub use image::{DATA_BASE, DATA_LIMIT, Image, TEXT_BASE, TEXT_LIMIT};
+pub use image::Image;
 pub use laws::{
     commits_are_destinations, divisions_are_defined, files_read_back, image_faults_are_first,
     reservations_are_kept, runs_keep, steps_keep, traces_follow,

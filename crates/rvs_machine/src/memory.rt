@@ -1,22 +1,22 @@
 // The bytes of text and data.
 ghost use Rattle.std.specs.Prelude.{◌≡◌, ◌≤◌, ◌<◌, ◌+◌, ◌*◌, ◌%◌, ◌^◌, length, ℕ, List, Some};
+ghost use Rattle.rvs_insn.specs.Memory.{text_limit, data_limit};
 ghost use Rattle.rvs_machine.specs.Machine.{byte_at, load_bytes, is_in_data, store_bytes, extended};
 ghost use Rattle.rvs_machine.specs.Machine.{word_at, fetch};
-ghost use Rattle.rvs_machine.specs.Image.{data_base};
 ghost use Rattle.rvs_machine.specs.NextSteps.{IsSize};
 
-use crate::image::{DATA_BASE, TEXT_BASE};
+use rvs_insn::MemoryMap;
 
 /// The word at a place of the text.
-pub(crate) fn fetch_word(text: &[u8], pc: u32) -> Option<u32>
+pub(crate) fn fetch_word(memory: MemoryMap, text: &[u8], pc: u32) -> Option<u32>
     requires words { length text.now % 4 ≡ 0 }
     requires aligned { pc % 4 ≡ 0 }
-    ensures { result ≡ fetch text.now pc }
+    ensures { result ≡ fetch memory text.now pc }
 {
-    if pc < TEXT_BASE {
+    if pc < memory.text_base {
         return None;
     }
-    let at = (pc - TEXT_BASE) as usize;
+    let at = (pc - memory.text_base) as usize;
     if at < text.len() {
         Some(word_in(text, at))
     } else {
@@ -37,26 +37,34 @@ pub(crate) fn word_in(bytes: &[u8], at: usize) -> u32
 
 /// So many bytes from an address on, or `None` where one of them isn't in memory.
 #[inline(always)]
-pub(crate) fn load(text: &[u8], ram: &[u8], size: u8, address: u32) -> Option<u32>
+pub(crate) fn load(
+    memory: MemoryMap,
+    text: &[u8],
+    ram: &[u8],
+    size: u8,
+    address: u32,
+) -> Option<u32>
     requires size { IsSize size }
-    requires short_text { length text.now ≤ 2 ^ 24 }
-    requires short_data { length ram.now ≤ 2 ^ 20 }
-    ensures { result ≡ load_bytes size text.now ram.now address }
+    requires short_text { length text.now ≤ text_limit memory }
+    requires short_data { length ram.now ≤ data_limit memory }
+    ensures { result ≡ load_bytes memory size text.now ram.now address }
 {
-    if in_data(ram, size, address) {
-        Some(number_in(ram, size, (address - DATA_BASE) as usize))
+    if in_data(memory, ram, size, address) {
+        let at = (address - memory.data_base) as usize;
+        Some(number_in(memory, ram, size, at))
     } else {
-        load_bytewise(text, ram, size, address)
+        load_bytewise(memory, text, ram, size, address)
     }
 }
 
 /// The number that so many bytes of the data make, the lowest first.
 #[inline(always)]
-fn number_in(ram: &[u8], size: u8, at: usize) -> u32
+fn number_in(memory: MemoryMap, ram: &[u8], size: u8, at: usize) -> u32
     requires size { IsSize size }
+    requires short { length ram.now ≤ data_limit memory }
     requires there { at + size ≤ length ram.now }
-    ensures { (text : List ℕ) → length text ≤ 2 ^ 24
-        → load_bytes size text ram.now (data_base + at) ≡ Some result }
+    ensures { (text : List ℕ) → length text ≤ text_limit memory
+        → load_bytes memory size text ram.now (memory.data_base + at) ≡ Some result }
 {
     match size {
         1 => u32::from(ram[at]),
@@ -66,33 +74,33 @@ fn number_in(ram: &[u8], size: u8, at: usize) -> u32
 }
 
 /// The same as `load` does, for bytes that may lie in text and data.
-fn load_bytewise(text: &[u8], ram: &[u8], size: u8, address: u32) -> Option<u32>
+fn load_bytewise(memory: MemoryMap, text: &[u8], ram: &[u8], size: u8, address: u32) -> Option<u32>
     requires size { IsSize size }
-    requires short_text { length text.now ≤ 2 ^ 24 }
-    requires short_data { length ram.now ≤ 2 ^ 20 }
-    ensures { result ≡ load_bytes size text.now ram.now address }
+    requires short_text { length text.now ≤ text_limit memory }
+    requires short_data { length ram.now ≤ data_limit memory }
+    ensures { result ≡ load_bytes memory size text.now ram.now address }
 {
     let at = u64::from(address);
-    let first = byte(text, ram, at)?;
+    let first = byte(memory, text, ram, at)?;
     if size == 1 {
         return Some(first);
     }
-    let second = byte(text, ram, at + 1)?;
+    let second = byte(memory, text, ram, at + 1)?;
     if size == 2 {
         return Some(first + second * 0x100);
     }
-    let third = byte(text, ram, at + 2)?;
-    let fourth = byte(text, ram, at + 3)?;
+    let third = byte(memory, text, ram, at + 2)?;
+    let fourth = byte(memory, text, ram, at + 3)?;
     Some(first + second * 0x100 + third * 0x1_0000 + fourth * 0x100_0000)
 }
 
-fn byte(text: &[u8], ram: &[u8], at: u64) -> Option<u32>
-    requires short_text { length text.now ≤ 2 ^ 24 }
-    requires short_data { length ram.now ≤ 2 ^ 20 }
-    ensures { result ≡ byte_at text.now ram.now at }
+fn byte(memory: MemoryMap, text: &[u8], ram: &[u8], at: u64) -> Option<u32>
+    requires short_text { length text.now ≤ text_limit memory }
+    requires short_data { length ram.now ≤ data_limit memory }
+    ensures { result ≡ byte_at memory text.now ram.now at }
 {
-    let text_base = u64::from(TEXT_BASE);
-    let data_base = u64::from(DATA_BASE);
+    let text_base = u64::from(memory.text_base);
+    let data_base = u64::from(memory.data_base);
     if text_base <= at && at < text_base + text.len() as u64 {
         Some(u32::from(text[(at - text_base) as usize]))
     } else if data_base <= at && at < data_base + ram.len() as u64 {
@@ -103,12 +111,12 @@ fn byte(text: &[u8], ram: &[u8], at: u64) -> Option<u32>
 }
 
 /// Whether so many bytes from an address on are in the data.
-pub(crate) fn in_data(ram: &[u8], size: u8, address: u32) -> bool
-    requires short_data { length ram.now ≤ 2 ^ 20 }
-    ensures { result ≡ is_in_data size ram.now address }
+pub(crate) fn in_data(memory: MemoryMap, ram: &[u8], size: u8, address: u32) -> bool
+    requires short_data { length ram.now ≤ data_limit memory }
+    ensures { result ≡ is_in_data memory size ram.now address }
 {
-    let end = u64::from(DATA_BASE) + ram.len() as u64;
-    address >= DATA_BASE && u64::from(address) + u64::from(size) <= end
+    let end = u64::from(memory.data_base) + ram.len() as u64;
+    address >= memory.data_base && u64::from(address) + u64::from(size) <= end
 }
 
 /// Stores the lowest bytes of a word.

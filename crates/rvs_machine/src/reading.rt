@@ -5,9 +5,10 @@ ghost use Rattle.rvs_machine.specs.ImageText.{header, word_line, count_line, wor
 ghost use Rattle.rvs_machine.specs.ImageText.{address_lines, image_of_bytes, whole, IsSaid};
 ghost use Rattle.rvs_machine.specs.ImageNumbers.{image_number};
 
-use crate::image::{DATA_LIMIT, Image, TEXT_LIMIT};
+use crate::image::Image;
 use crate::lines::Lines;
 use rvs_base::{Bytes, Items, short_number};
+use rvs_insn::MemoryMap;
 use std::alloc::{AllocError, Global};
 
 /// Why a file is no image.
@@ -17,7 +18,8 @@ pub enum ImageKind {
     BadLine,
     /// The regions break the invariant of [`Image`].
     BadRegion,
-    /// A count is above 4,194,304 words of text or 262,144 words of data.
+    /// A count is above the words that its region has, which are at most 4,194,304 of text and
+    /// 262,144 of data.
     TooLarge,
     /// The image couldn't be kept.
     NoMemory,
@@ -58,24 +60,34 @@ impl From<AllocError> for ImageRefusal {
     }
 }
 
-/// Reads an image file: the lines `rvimage 1`, `text <n>`, n words, `data <n>`, n words,
-/// `tohost <word>`, `begin <word>` and `end <word>`, where a word is eight hexadecimal digits and
-/// stands on a line of its own, and a count has one to seven decimal digits.
+/// Reads an image file, for a core with this memory: the lines `rvimage 1`, `text <n>`, n words,
+/// `data <n>`, n words, `tohost <word>`, `begin <word>` and `end <word>`, where a word is eight
+/// hexadecimal digits and stands on a line of its own, and a count has one to seven decimal digits.
 ///
 /// # Errors
 ///
 /// The first faulty line with its kind, a missing line being the one after the last; `BadRegion`
 /// with line 0 where no line is faulty and the regions are out of order; `NoMemory` with line 0.
 #[tactic(auto, unfolding(crate::specs::ImageText::image_of_bytes))]
-pub fn read_image(alloc: Global, bytes: &[u8]) -> Result<Image, ImageRefusal>
-    ensures { IsSaid result (image_of_bytes bytes.now) }
+pub fn read_image(alloc: Global, memory: MemoryMap, bytes: &[u8]) -> Result<Image, ImageRefusal>
+    ensures { IsSaid result (image_of_bytes memory bytes.now) }
 {
     let mut lines = Lines::new(bytes);
     header(&mut lines)?;
-    let text = section(alloc, &mut lines, b"text ", TEXT_LIMIT as u64 / 4)?;
-    let data_bytes = section(alloc, &mut lines, b"data ", DATA_LIMIT as u64 / 4)?;
+    let text = section(
+        alloc,
+        &mut lines,
+        b"text ",
+        u64::from(memory.text_limit()) / 4,
+    )?;
+    let data_bytes = section(
+        alloc,
+        &mut lines,
+        b"data ",
+        u64::from(memory.data_limit()) / 4,
+    )?;
     let at = address_lines(&mut lines)?;
-    whole(alloc, &mut lines, text, data_bytes, at)
+    whole(alloc, memory, &mut lines, text, data_bytes, at)
 }
 
 /// Where a run halts, and where the signature begins and ends.
@@ -89,18 +101,20 @@ struct Addresses {
 /// The image of what was read, where no line follows and its regions are in order.
 fn whole(
     alloc: Global,
+    memory: MemoryMap,
     lines: &mut Lines<'_>,
     text: Vec<u8>,
     data_bytes: Vec<u8>,
     at: Addresses,
 ) -> Result<Image, ImageRefusal>
-    ensures { IsSaid result (whole text.items data_bytes.items at lines.old) }
+    ensures { IsSaid result (whole memory text.items data_bytes.items at lines.old) }
 {
     let number = lines.number();
     if lines.take().is_some() {
         return Err(bad_line(number));
     }
     match Image::new(
+        memory,
         Bytes::from(text),
         Bytes::from(data_bytes),
         at.tohost,

@@ -52,7 +52,7 @@ impl Machine {
     fn advance_by(&mut self, next_step: NextStep, trace: &mut Trace) -> Option<End>
         requires step { step_of self.old.setup self.old.state
             ≡ done_step self.old.setup self.old.state next_step }
-        requires can { CanDo self.old.state.ram next_step }
+        requires can { CanDo self.old.setup.isa.memory self.old.state.ram next_step }
         ensures { HasStep self.old self.new trace.old trace.new result }
     {
         if let Some(executed) = next_step.executed() {

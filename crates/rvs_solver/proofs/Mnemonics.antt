@@ -20,13 +20,14 @@ use Rattle.rvs_solver.proofs.RegisterCalls.{has_choice}
 
 pub first_of_mnemonic : (spec : Isa) (op : Op) → ((row op).form ≡ System → ⊥)
     → first_choice spec (op ∷ []) Mnemonic (op_is op)
-    ≡ Some (least op (row op).form (first_registers (row op).form))
+    ≡ Some (least spec.memory op (row op).form (first_registers (row op).form))
 first_of_mnemonic spec op h =
     let begins = registers_begin spec.e (row op).form in
     let hit : is_same op op ≡ true = eq-eqb (number op) (number op) refl in
     ap (find (hits Mnemonic (op_is op))) (append-nil (choices spec op []))
     ∙ register_is spec op Mnemonic (op_is op) (has_choice (row op).form h) refl refl
     ∙ ap (find (hits Mnemonic (op_is op)))
-    (sym (by_registers spec.e op (row op).form) ∙ ap (map (least op (row op).form)) begins.is)
-    ∙ ap (λ t. cond t (Some (least op (row op).form (first_registers (row op).form)))
-    (find (hits Mnemonic (op_is op)) (map (least op (row op).form) begins.rest))) hit
+    (sym (by_registers spec.memory spec.e op (row op).form)
+    ∙ ap (map (least spec.memory op (row op).form)) begins.is)
+    ∙ ap (λ t. cond t (Some (least spec.memory op (row op).form (first_registers (row op).form)))
+    (find (hits Mnemonic (op_is op)) (map (least spec.memory op (row op).form) begins.rest))) hit

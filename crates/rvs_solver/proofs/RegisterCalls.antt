@@ -44,10 +44,11 @@ same_orders spec op form a b d o f =
 pub register_call : (spec : Isa) (op : Op) (form : Format) (a b d : List (Option ℕ)) (kind : Kind)
     (meaning : Meaning) → Orders spec op form a b d → is_valid meaning ≡ true
     → is_on_values meaning ≡ false → find (hits kind meaning)
-    (flat_map (at_rd op (row op).form b d) a) ≡ find (hits kind meaning) (choices spec op [])
+    (flat_map (at_rd spec.memory op (row op).form b d) a)
+    ≡ find (hits kind meaning) (choices spec op [])
 register_call spec op form a b d kind meaning o valid not_values =
     same_orders spec op form a b d o
-    (λ x y z. find (hits kind meaning) (flat_map (at_rd op (row op).form y z) x))
+    (λ x y z. find (hits kind meaning) (flat_map (at_rd spec.memory op (row op).form y z) x))
     ∙ sym (register_is spec op kind meaning
     (ap not_system (sym o.form_is) ∙ has_choice form o.not_none) valid not_values)
 

@@ -109,14 +109,14 @@ one_decides op e constants (x ∷ firsts) num h a =
 words_none : (spec : Isa) (op : Op) (form : Format) (e : Formula) (constants : List ℤ)
     → sees_first e form ≡ false → Each (λ x. x.word ≡ None) (operands spec op form constants)
 words_none spec op I e constants h =
-    pairs_each I (alignments spec op I) (immediates I constants) (λ x. x.word ≡ None)
-    (λ imm align. refl)
+    pairs_each spec.memory I (alignments spec op I) (immediates I constants)
+    (λ x. x.word ≡ None) (λ imm align. refl)
 words_none spec op Shift e constants h =
-    pairs_each Shift (alignments spec op Shift) (immediates Shift constants) (λ x. x.word ≡ None)
-    (λ imm align. refl)
+    pairs_each spec.memory Shift (alignments spec op Shift) (immediates Shift constants)
+    (λ x. x.word ≡ None) (λ imm align. refl)
 words_none spec op Branch e constants h =
-    pairs_each Branch (alignments spec op Branch) (immediates Branch constants) (λ x. x.word ≡ None)
-    (λ imm align. refl)
+    pairs_each spec.memory Branch (alignments spec op Branch) (immediates Branch constants)
+    (λ x. x.word ≡ None) (λ imm align. refl)
 words_none spec op _ e constants h = cc
 
 no_address : (form : Format) (e : Formula) → sees_first e form ≡ false

@@ -14,10 +14,10 @@ hits_of s = hits s.kind (meaning_view s.meaning.now)
 
 -- the choices with one rd, and those with one rs1 too
 abbrev pub with_rd : RegisterSearch → Option ℕ → List ChoiceValue
-with_rd s = at_rd s.op (row s.op).form s.rs1s.now s.rs2s.now
+with_rd s = at_rd s.memory s.op (row s.op).form s.rs1s.now s.rs2s.now
 
 abbrev pub with_rs1 : RegisterSearch → Option ℕ → Option ℕ → List ChoiceValue
-with_rs1 s = at_rs1 s.op (row s.op).form s.rs2s.now
+with_rs1 s = at_rs1 s.memory s.op (row s.op).form s.rs2s.now
 
 -- how often expressions are evaluated at most with one rs1, and with one rd
 abbrev pub rs1_cost : RegisterSearch → ℕ

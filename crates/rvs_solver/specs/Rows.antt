@@ -4,6 +4,7 @@ use Rattle.rvs_insn.specs.declared.op.Op.{Op}
 use Rattle.rvs_insn.specs.declared.op.Op.TheVariants.{Mul, Div, Beq, Sw, Sb, Lb, Addi, Fence, Jalr}
 use Rattle.rvs_insn.specs.declared.op.Op.TheVariants.{Sltiu, Add}
 use Rattle.rvs_insn.specs.Isa.{Isa}
+use Rattle.rvs_insn.specs.Memory.{usual_memory}
 use Rattle.rvs_expr_text.specs.declared.lexeme.NumName.{NumName}
 use Rattle.rvs_expr_text.specs.declared.lexeme.NumName.TheVariants.{Rs1Val, Rs2Val, ImmVal, EaAlign}
 use Rattle.rvs_expr_text.specs.declared.lexeme.RegName.TheVariants.{Rd, Rs1}
@@ -60,6 +61,7 @@ plain =
       zifencei = false;
       misaligned = false;
       address_bits = 32;
+      memory = usual_memory;
     }
 
 abbrev pub bound_of_row : Row → ℕ

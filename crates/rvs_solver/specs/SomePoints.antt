@@ -3,6 +3,7 @@ use Rattle.std.specs.Prelude.{◌≡◌, ℕ, pos, negsuc, true, [], ◌∷◌, 
 use Rattle.rvs_insn.specs.declared.op.Op.{Op}
 use Rattle.rvs_insn.specs.declared.op.Op.TheVariants.{Add, AmoaddW}
 use Rattle.rvs_insn.specs.Isa.{Isa}
+use Rattle.rvs_insn.specs.Memory.{usual_memory}
 use Rattle.rvs_expr_text.specs.declared.lexeme.NumName.TheVariants.{Rs1Val}
 use Rattle.rvs_expr.specs.Typed.{Formula}
 use Rattle.rvs_cgf.specs.declared.group.Kind.TheVariants.{Rd, ValComb}
@@ -32,15 +33,17 @@ choice_at op d w1 w2 =
       w2 = w2;
     }
 
--- rs1 of `amoadd.w` is the address of scratch
+-- where memory usually lies, rs1 of `amoadd.w` is the address of scratch
 abbrev pub AtAddress : Type 0
 AtAddress =
-    (isa : Isa) → first_choice isa (AmoaddW ∷ []) ValComb (nums address_point)
+    (isa : Isa) → isa.memory ≡ usual_memory
+    → first_choice isa (AmoaddW ∷ []) ValComb (nums address_point)
     ≡ Some (choice_at AmoaddW 1 0x8100_0000 1)
 
 -- and nothing else
 abbrev pub AtNoAddress : Type 0
-AtNoAddress = (isa : Isa) → first_choice isa (AmoaddW ∷ []) ValComb (nums other_point) ≡ None
+AtNoAddress = (isa : Isa) → isa.memory ≡ usual_memory
+    → first_choice isa (AmoaddW ∷ []) ValComb (nums other_point) ≡ None
 
 -- under the base E x15 is the last register of `add`
 abbrev pub LastRegister : Type 0

@@ -17,7 +17,7 @@ ghost use Rattle.rvs_solver.specs.SomePoints.{AtAddress, AtNoAddress, LastRegist
 pub fn mnemonics_take_the_first_registers()
     ensures any { (spec : Isa) (op : mnemonic.Op) → ((row op).form ≡ System → ⊥)
         → first_choice spec (op ∷ []) Mnemonic (op_is op)
-        ≡ Some (least op (row op).form (first_registers (row op).form)) }
+        ≡ Some (least spec.memory op (row op).form (first_registers (row op).form)) }
     ensures add { (spec : Isa) → first_choice spec (Add ∷ []) Mnemonic (op_is Add) ≡ Some (record {
       op = Add;
       rd = Some 1;

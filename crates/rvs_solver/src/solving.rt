@@ -225,6 +225,7 @@ fn first_of_registers<L: Ledger>(
         Format::System => None,
         _ => {
             let search = RegisterSearch {
+                memory: spec.memory,
                 kind,
                 meaning,
                 op,

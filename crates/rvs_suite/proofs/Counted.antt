@@ -8,6 +8,7 @@ use Rattle.std.proofs.lemmas.Bool.{eq-eqb}
 use Rattle.std.proofs.lemmas.Bool.Decides.{nat_tests}
 use Rattle.std.proofs.lemmas.List.Sums.{sum_by-cons}
 use Rattle.rvs_machine.specs.declared.event.Executed.{Executed}
+use Rattle.rvs_insn.specs.Memory.{Memory}
 use Rattle.rvs_insn.specs.Fields.{Fields, insn_of_word}
 use Rattle.rvs_cross.specs.Cross.{Place}
 use Rattle.rvs_cross.specs.Windows.{matches}
@@ -85,37 +86,45 @@ window-begins ps e more after h =
     ap (matches ps) cut ∙ h
 
 -- ---- a claim
-alone-hits : (l : Label) (p : Point) (e : Executed) (more : List Executed) (outcome : ℕ × ℕ)
-    → HitsAlone l p e more outcome → hits (record { ops = l.ops; point = p }) (as_entry e) ≡ true
-alone-hits l p e more outcome h =
+alone-hits : (memory : Memory) (l : Label) (p : Point) (e : Executed) (more : List Executed)
+    (outcome : ℕ × ℕ)
+    → HitsAlone memory l p e more outcome → hits (record { ops = l.ops; point = p }) (as_entry e)
+    ≡ true
+alone-hits memory l p e more outcome h =
     ap (λ (i : Option Fields). hits_insn (record { ops = l.ops; point = p }) i e.v1 e.v2) h.decoded
     ∙ h.hit
 
-single : (l : Label) (p : Point) (at : ℕ) (e : Executed) (more es : List Executed)
-    (outcome : ℕ × ℕ) → IsOnly at e more es → HitsAlone l p e more outcome
+single : (memory : Memory) (l : Label) (p : Point) (at : ℕ) (e : Executed) (more es : List Executed)
+    (outcome : ℕ × ℕ) → IsOnly at e more es → HitsAlone memory l p e more outcome
     → 1 ≤ count_by (hits (record { ops = l.ops; point = p })) (map as_entry es)
-single l p at e more es outcome only h =
+single memory l p at e more es outcome only h =
     let a : Aim = record { ops = l.ops; point = p } in
     subst (λ (xs : List Executed). 1 ≤ count_by (hits a) (map as_entry xs)) (sym only.split)
-    (alone (hits a) only.before e (more ++ only.after) (alone-hits l p e more outcome h))
+    (alone (hits a) only.before e (more ++ only.after) (alone-hits memory l p e more outcome h))
 
-counted-as : (l : Label) (p : Point) (m : Meaning) (at : ℕ) (e : Executed) (more es : List Executed)
-    (outcome : ℕ × ℕ) → IsOnly at e more es → HitsAs l p m e more outcome
+counted-as : (memory : Memory) (l : Label) (p : Point) (m : Meaning) (at : ℕ) (e : Executed)
+    (more es : List Executed)
+    (outcome : ℕ × ℕ) → IsOnly at e more es → HitsAs memory l p m e more outcome
     → 1 ≤ count_for m (map as_entry es) (record { ops = l.ops; point = p })
-counted-as l p (window ps) at e more es outcome only h =
+counted-as memory l p (window ps) at e more es outcome only h =
     let met : matches ps (insns_of (e ∷ more)) ≡ true = ap (matches ps) h.decoded ∙ h.hit in
     let is : map decoded (map as_entry es)
     ≡ insns_of (only.before ++ e ∷ (more ++ only.after)) =
     decoded-all es ∙ ap insns_of only.split in
     subst (λ (ds : List (Option Fields)). 1 ≤ count_by (begins ps) (suffixes ds)) (sym is)
     (together ps only.before e (more ++ only.after) (window-begins ps e more only.after met))
-counted-as l p (op_is op) at e more es outcome only h = single l p at e more es outcome only h
-counted-as l p (reg_is n) at e more es outcome only h = single l p at e more es outcome only h
-counted-as l p (regs f) at e more es outcome only h = single l p at e more es outcome only h
-counted-as l p (nums f) at e more es outcome only h = single l p at e more es outcome only h
+counted-as memory l p (op_is op) at e more es outcome only h = single memory l p at e more es
+    outcome only h
+counted-as memory l p (reg_is n) at e more es outcome only h = single memory l p at e more es
+    outcome only h
+counted-as memory l p (regs f) at e more es outcome only h = single memory l p at e more es outcome
+    only h
+counted-as memory l p (nums f) at e more es outcome only h = single memory l p at e more es outcome
+    only h
 
-pub counted-claim : (l : Label) (p : Point) (at : ℕ) (e : Executed) (more es : List Executed)
-    (outcome : ℕ × ℕ) → IsOnly at e more es → HitsAs l p p.meaning e more outcome
+pub counted-claim : (memory : Memory) (l : Label) (p : Point) (at : ℕ) (e : Executed)
+    (more es : List Executed)
+    (outcome : ℕ × ℕ) → IsOnly at e more es → HitsAs memory l p p.meaning e more outcome
     → 1 ≤ count (map as_entry es) (record { ops = l.ops; point = p })
-counted-claim l p at e more es outcome only h =
-    counted-as l p p.meaning at e more es outcome only h
+counted-claim memory l p at e more es outcome only h =
+    counted-as memory l p p.meaning at e more es outcome only h

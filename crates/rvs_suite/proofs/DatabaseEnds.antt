@@ -37,7 +37,7 @@ use Rattle.rvs_suite.specs.TestRun.{found_end, then_found, test_found}
 use Rattle.rvs_suite.specs.declared.judging.Made.{Made}
 use Rattle.rvs_suite.specs.declared.test_run.Run.{Run}
 use Rattle.rvs_suite.proofs.Answered.{RunsOn, ran-command}
-use Rattle.rvs_suite.proofs.DatabaseExecutables.{all-there, apart-chosen, low-chosen}
+use Rattle.rvs_suite.proofs.DatabaseExecutables.{all-there, apart-chosen, low-chosen, room-there}
 use Rattle.rvs_suite.proofs.DatabasePasses.{are-judged, never-stopped-at, never-failed}
 use Rattle.rvs_suite.proofs.DatabasePasses.{done-or-memory}
 use Rattle.rvs_suite.proofs.DatabaseReads.{finds-database-inputs}
@@ -417,7 +417,7 @@ executables {call} files asked r inputs given files' is there wanted ended told 
         sym judged.tried.files_are ∙ told in
         let same : with_trials judged.trials files ≡ files' = cc in
         subst (λ (f : Files). HasExecutable bench f given) same
-        (all-there bench files (chosen_in inputs) judged.trials judged.tried.each
+        (all-there bench (room-there files asked inputs is) files (chosen_in inputs) judged.trials judged.tried.each
         (apart-chosen 0 inputs.entries) (low-chosen files asked inputs is) wanted given there)
 
 -- ---- the promise

@@ -1,7 +1,9 @@
 -- That the executables of a database's tests are there when all were judged, and run as these do.
 use Rattle.std.proofs.Common.{◌≡◌, ◌≢◌, ◌≤◌, ◌<◌, ◌+◌, ◌^◌, ℕ, zero, suc, Bool, true, false, List}
-use Rattle.std.proofs.Common.{[], ◌∷◌, length, Contains, IsTrue, Option, Some, None, Result, Ok, Err}
-use Rattle.std.proofs.Common.{if◌then◌else◌, bytes_eq, codes, decimal, refl, sym, ap, subst, ◌∙◌, arith}
+use Rattle.std.proofs.Common.{[], ◌∷◌, length, Contains, IsTrue, Option, Some, None, Result, Ok}
+use Rattle.std.proofs.Common.{Err}
+use Rattle.std.proofs.Common.{bytes_eq, codes, decimal, refl, sym, ap, subst, ◌∙◌}
+use Rattle.std.proofs.Common.{arith}
 use Rattle.std.specs.Prelude.{⊤}
 use Rattle.std.proofs.lemmas.Fmt.{decimal_injective}
 use Rattle.std.proofs.lemmas.List.Elements.{Contains-append_right}
@@ -10,18 +12,13 @@ use Rattle.rvs_base.specs.declared.host.DeviceRun.{DeviceRun}
 use Rattle.rvs_plan.specs.Inputs.{part_end}
 use Rattle.rvs_plan.specs.declared.stop.Stop.{Stop}
 use Rattle.rvs_parts.specs.Parts.{PartValue}
+use Rattle.rvs_insn.specs.Memory.{Memory, HasRoom}
 use Rattle.rvs_insn.specs.Isa.{Isa}
-use Rattle.rvs_machine.specs.Image.{ImageValue, IsImage}
-use Rattle.rvs_machine.specs.ImageText.{image_of_bytes}
-use Rattle.rvs_machine.specs.declared.reading.ImageRefusal.{ImageRefusal}
+use Rattle.rvs_machine.specs.Image.{ImageValue}
 use Rattle.rvs_elf.specs.Executable.{image_of_elf}
 use Rattle.rvs_elf.specs.Laws.{with_marks}
 use Rattle.rvs_elf.specs.Written.{elf_of}
-use Rattle.rvs_elf.specs.declared.refusal.ElfRefusal.{ElfRefusal}
 use Rattle.rvs_elf.proofs.ReadBack.{reads_back, runs_alike}
-use Rattle.rvs_asm.specs.Answer.{answer}
-use Rattle.rvs_asm.specs.declared.refusal.AsmRefusal.{AsmRefusal}
-use Rattle.rvs_asm.proofs.Answered.{answered_stands}
 use Rattle.rvs_select.specs.declared.database.Entry.{Entry}
 use Rattle.rvs_suite.specs.DatabaseInput.{database_in, marked, marked_from, marked_in}
 use Rattle.rvs_suite.specs.DatabaseLeft.{made_in, Trial, with_trial, with_trials, AreTrialsOf}
@@ -34,46 +31,19 @@ use Rattle.rvs_suite.specs.RunDatabase.{DatabaseInputs}
 use Rattle.rvs_suite.specs.RunTests.{Bench, asks_elf}
 use Rattle.rvs_suite.specs.Specification.{said_in}
 use Rattle.rvs_suite.specs.TestFiles.{files_at}
-use Rattle.rvs_suite.specs.TestRun.{image_found, file_found, executable_found, text_found}
-use Rattle.rvs_suite.specs.TestRun.{is_image_name, is_executable_name, found_end, then_found}
+use Rattle.rvs_suite.specs.TestRun.{image_found}
+use Rattle.rvs_suite.specs.TestRun.{found_end, then_found}
 use Rattle.rvs_suite.specs.TestRun.{run_found, limit_of}
 use Rattle.rvs_suite.specs.declared.judging.Made.{Made}
 use Rattle.rvs_suite.specs.declared.test_run.Run.{Run}
 use Rattle.rvs_suite.proofs.DatabaseReads.{holds-tests}
 use Rattle.rvs_suite.proofs.Executables.{kept-executable, there-executable}
-use Rattle.rvs_suite.proofs.ImageRegions.{file-image, elf-image}
-use Rattle.rvs_suite.proofs.Meanings.{then-ok, found-of}
+use Rattle.rvs_suite.proofs.FoundImages.{sound}
+use Rattle.rvs_suite.proofs.Meanings.{then-ok, found-of, says-of}
+use Rattle.rvs_isa.proofs.Rooms.{accepted_have_room}
 use Rattle.rvs_suite.proofs.Paths.{same-ending, passed-by, other-bytes, reference-not-executable}
 use Rattle.rvs_suite.proofs.Paths.{device-not-executable}
 use Rattle.rvs_words.specs.declared.command.RunDatabaseArguments.{RunDatabaseArguments}
-
--- ---- the image of a test has its regions in order
-of-file : (name : List ℕ) (r : Result ImageValue ImageRefusal) (image : ImageValue)
-    → file_found name r ≡ Ok image → r ≡ Ok image
-of-file name (Ok i) image is = let same : i ≡ image = cc in ap Ok same
-of-file name (Err refusal) image is = absurd cc
-
-of-elf : (name : List ℕ) (r : Result ImageValue ElfRefusal) (image : ImageValue)
-    → executable_found name r ≡ Ok image → r ≡ Ok image
-of-elf name (Ok i) image is = let same : i ≡ image = cc in ap Ok same
-of-elf name (Err refusal) image is = absurd cc
-
-of-text : (name : List ℕ) (r : Result ImageValue AsmRefusal) (image : ImageValue)
-    → text_found name r ≡ Ok image → r ≡ Ok image
-of-text name (Ok i) image is = let same : i ≡ image = cc in ap Ok same
-of-text name (Err refusal) image is = absurd cc
-
-sound : (isa : Isa) (name bytes : List ℕ) (image : ImageValue)
-    → image_found isa name bytes ≡ Ok image → IsImage image
-sound isa name bytes image is = by (is_image_name name) (is_executable_name name) is
-  where
-    by : (i e : Bool) → (if i then file_found name (image_of_bytes bytes)
-        else (if e then executable_found name (image_of_elf bytes)
-        else text_found name (answer isa bytes))) ≡ Ok image → IsImage image
-    by true e is = file-image bytes image (of-file name (image_of_bytes bytes) image is)
-    by false true is = elf-image bytes image (of-elf name (image_of_elf bytes) image is)
-    by false false is =
-        (answered_stands isa bytes image (of-text name (answer isa bytes) image is)).regions
 
 -- ---- what was made of a test
 record WasMade (bench : Bench) (given : Given) (made : Made) : Type 0 where
@@ -184,7 +154,8 @@ within-chosen n [] g (i, within, at) = absurd (omega (arith, within))
 within-chosen n (e ∷ es) g there =
     by e.selected there (λ h. within-chosen (suc n) es g h)
   where
-    by : (b : Bool) → Contains (chosen_if b (record { place = n; name = e.name }) (chosen (suc n) es)) g
+    by : (b : Bool) → Contains (chosen_if b (record { place = n; name = e.name })
+        (chosen (suc n) es)) g
         → (Contains (chosen (suc n) es) g → (suc n ≤ g.place) × (g.place < suc n + length es))
         → (n ≤ g.place) × (g.place < n + suc (length es))
     by true (zero, within, at) later =
@@ -253,6 +224,27 @@ low-chosen files asked inputs is g there =
     entries-in (Ok i) = i.entries
     entries-in (Err stop) = []
 
+-- the core's regions are apart, below 2^32 and whole pages
+pub room-there : (files : Files) (asked : RunDatabaseArguments) (inputs : DatabaseInputs)
+    → database_inputs_in files asked ≡ Ok inputs → HasRoom inputs.isa.memory
+room-there files asked inputs is =
+    let s = then-ok (said_in files asked.isa) (λ said. with_entries files asked said.spec) inputs is
+    in
+    let m = then-ok (marked_in files asked.part s.0.spec asked.database)
+    (with_told files asked s.0.spec) inputs s.2 in
+    let d = then-ok (device_in files asked.device) (λ told.
+    Ok (record { isa = s.0.spec; entries = m.0; device = told })) inputs m.2 in
+    let both = d.2 in
+    let same : s.0.spec ≡ inputs.isa =
+    ap (λ (r : Result DatabaseInputs Stop). isa-in s.0.spec r) both in
+    let says = says-of files asked.isa s.0 s.1 in
+    subst (λ (isa : Isa). HasRoom isa.memory) same
+    (accepted_have_room says.tree s.0 says.accepted)
+  where
+    isa-in : Isa → Result DatabaseInputs Stop → Isa
+    isa-in isa (Ok i) = i.isa
+    isa-in isa (Err stop) = isa
+
 -- ---- all of them
 none-of : (bench : Bench) (g h : Given) → g.place ≢ h.place → g.place < 2 ^ 64 → h.place < 2 ^ 64
     → IsNoneOf bench h (executable_name bench g)
@@ -265,14 +257,15 @@ none-of bench g h apart low low' = record {
       device-not-executable bench.work (decimal h.place) (decimal g.place) (sym same);
 }
 
-has-executable : (bench : Bench) (files files' : Files) (given : Given) (t : Trial)
+has-executable : (bench : Bench) → HasRoom bench.isa.memory → (files files' : Files) (given : Given) (t : Trial)
     → IsTrue (asks_elf bench) → made_in files bench given ≡ Ok t.made
     → files' (executable_name bench given)
     ≡ with_trial t files (executable_name bench given) → HasExecutable bench files' given
-has-executable bench files files' given t wanted made kept =
+has-executable bench room files files' given t wanted made kept =
     let w = was-made files bench given t.made made in
-    let image = sound bench.isa given.name w.bytes w.image w.spelt in
-    let read = reads_back w.image image in
+    let (regions, same) = sound bench.isa given.name w.bytes w.image w.spelt in
+    let own : HasRoom w.image.memory = subst HasRoom (sym same) room in
+    let back = reads_back w.image own regions in
     record {
       bytes = w.bytes;
       made = t.made;
@@ -281,24 +274,25 @@ has-executable bench files files' given t wanted made kept =
       spelt = w.spelt;
       there = kept ∙ there-behind bench files given t wanted w;
       again = with_marks w.image;
-      read = read;
-      alike = runs_alike w.image (with_marks w.image) image read;
+      read = subst
+          (λ (m : Memory). image_of_elf m (elf_of w.image) ≡ Ok (with_marks w.image)) same back;
+      alike = runs_alike w.image (with_marks w.image) own regions back;
     }
 
-pub all-there : (bench : Bench) (files : Files) (gs : List Given) (ts : List Trial)
+pub all-there : (bench : Bench) → HasRoom bench.isa.memory → (files : Files) (gs : List Given) (ts : List Trial)
     → AreTrialsOf bench files gs ts → AreApart gs
     → ((g : Given) → Contains gs g → g.place < 2 ^ 64) → IsTrue (asks_elf bench)
     → (g : Given) → Contains gs g → HasExecutable bench (with_trials ts files) g
-all-there bench files [] ts each apart low wanted g (i, within, at) =
+all-there bench room files [] ts each apart low wanted g (i, within, at) =
     absurd (omega (arith, within))
-all-there bench files (h ∷ gs) [] each apart low wanted g there = absurd each
-all-there bench files (h ∷ gs) (t ∷ ts) each apart low wanted g (zero, within, at) =
+all-there bench room files (h ∷ gs) [] each apart low wanted g there = absurd each
+all-there bench room files (h ∷ gs) (t ∷ ts) each apart low wanted g (zero, within, at) =
     subst (λ (x : Given). HasExecutable bench (with_trials (t ∷ ts) files) x) at
-    (has-executable bench files (with_trials (t ∷ ts) files) h t wanted each.0.made
+    (has-executable bench room files (with_trials (t ∷ ts) files) h t wanted each.0.made
     (kept-trials bench (with_trial t files) gs ts (executable_name bench h) each.1
     (λ other there. none-of bench h other (apart.0 other there) (low h (0, omega arith, refl))
     (low other (Contains-append_right (h ∷ []) gs other there)))))
-all-there bench files (h ∷ gs) (t ∷ ts) each apart low wanted g (suc i, within, at) =
-    all-there bench (with_trial t files) gs ts each.1 apart.1
+all-there bench room files (h ∷ gs) (t ∷ ts) each apart low wanted g (suc i, within, at) =
+    all-there bench room (with_trial t files) gs ts each.1 apart.1
     (λ other there. low other (Contains-append_right (h ∷ []) gs other there)) wanted g
     (i, omega (arith, within), at)

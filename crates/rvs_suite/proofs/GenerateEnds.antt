@@ -1,18 +1,19 @@
 -- What every call of `generate` promises.
 use Rattle.std.proofs.Common.{◌≡◌, ℕ, Bool, true, false, if◌then◌else◌, List, [], ◌∷◌, Option, Some}
-use Rattle.std.proofs.Common.{None, is_some, Result, Ok, Contains, IsTrue, refl, sym, ap, subst}
-use Rattle.std.proofs.Common.{◌∙◌}
+use Rattle.std.proofs.Common.{None, is_some, Result, Ok, Err, Contains, IsTrue, inr, refl, sym, ap}
+use Rattle.std.proofs.Common.{subst, ◌∙◌}
 use Rattle.std.proofs.lemmas.List.Elements.{All-head}
 use Rattle.rvs_base.specs.Host.{Files, written}
 use Rattle.rvs_base.specs.Sink.{appended}
 use Rattle.rvs_plan.specs.World.{Contents}
 use Rattle.rvs_plan.specs.Plan.{Plan, gives}
 use Rattle.rvs_plan.specs.declared.stop.Stop.{Stop}
+use Rattle.rvs_plan.specs.declared.stop.Stop.TheVariants as why
 use Rattle.rvs_plan.specs.declared.status.Status.TheVariants as answer
 use Rattle.rvs_plan.specs.declared.status.Finish.TheVariants.{Done}
 use Rattle.rvs_insn.specs.Isa.{Isa}
+use Rattle.rvs_insn.specs.Memory.{Memory, HasRoom}
 use Rattle.rvs_cgf.specs.Groups.{Label, Point}
-use Rattle.rvs_cgf.specs.Valid.{IsValidIfSelected}
 use Rattle.rvs_solver.specs.Solving.{IsSolvableAt}
 use Rattle.rvs_test_text.specs.declared.claim.Claim.{Claim}
 use Rattle.rvs_test_text.specs.TestText.{step_limit}
@@ -21,22 +22,28 @@ use Rattle.rvs_test.specs.Claimed.{TestRuns}
 use Rattle.rvs_plan.specs.declared.status.Finish.TheVariants as finish
 use Rattle.rvs_suite.specs.Answered.{HasLeft, Answered, OnDone}
 use Rattle.rvs_suite.specs.Call.{Call}
+use Rattle.rvs_suite.specs.Testable.{IsTestableIfSelected}
 use Rattle.rvs_suite.specs.Printing.{print_text}
-use Rattle.rvs_suite.specs.GroupFiles.{Inputs, labels_in, part_inputs}
+use Rattle.rvs_suite.specs.GroupFiles.{Inputs, inputs_in, tested_in, parted_inputs, labels_in}
+use Rattle.rvs_suite.specs.GroupFiles.{part_inputs}
+use Rattle.rvs_suite.specs.Headline.{HasProvedTest}
+use Rattle.rvs_suite.specs.Rooms.{AsksForRoom}
 use Rattle.rvs_suite.specs.GenerateTexts.{listing}
 use Rattle.rvs_suite.specs.Generate.{path_of, writes_text, writes_test, writes_tests, written_tests}
 use Rattle.rvs_suite.specs.Generate.{generates}
 use Rattle.rvs_suite.specs.Generating as generating
 use Rattle.rvs_words.specs.declared.command.Command.TheVariants.{Generate}
 use Rattle.rvs_suite.proofs.Written.{apart-labels, test-there}
-use Rattle.rvs_suite.proofs.Answered.{Works, RunsOn, answered}
+use Rattle.rvs_suite.proofs.Answered.{Works, RunsOn, answered, ran-command}
+use Rattle.rvs_suite.proofs.RoomEnds.{asks, asked-room, asked-then}
+use Rattle.rvs_suite.proofs.Untouched.{untouched}
 use Rattle.rvs_suite.proofs.Finding.{Deeds, left, deeds-then, left-then}
 use Rattle.rvs_suite.proofs.GroupInputs.{finds-labels}
 use Rattle.rvs_suite.proofs.NoTest.{no-point, listing-none}
 use Rattle.rvs_suite.proofs.OneTest.{one-point, file-there}
 use Rattle.rvs_suite.proofs.Sparing.{generate-spares}
 use Rattle.rvs_suite.proofs.Signed.{has-test, proved}
-use Rattle.rvs_suite.proofs.Tested.{good-labels, runs-label, tested-labels}
+use Rattle.rvs_suite.proofs.Tested.{good-inputs, placed-inputs, testable-labels, runs-label, tested-labels}
 use Rattle.rvs_words.specs.declared.command.GenerateArguments.{GenerateArguments}
 
 -- ---- the tests are deeds, and what they leave
@@ -111,10 +118,11 @@ files-one work b name text files = if b then generating.with_text (path_of work 
     else files
 
 one-test : {call : Call} (work : List ℕ) (isa : Isa) (l : Label) (p : Point)
-    → IsValidIfSelected isa l → IsTrue l.selected → l.points ≡ p ∷ [] → IsSolvableAt isa l 0
+    → HasRoom isa.memory → IsTestableIfSelected isa l → IsTrue l.selected → l.points ≡ p ∷ []
+    → IsSolvableAt isa l 0
     → call.new.host.files ≡ generating.with_tests work isa (l ∷ []) call.old.host.files
     → generating.HasOneTest call work isa l
-one-test {call} work isa l p valid selected one solvable files =
+one-test {call} work isa l p place test selected one solvable files =
     let found = one-point isa l p one solvable in
     let chosen : l.selected ≡ true = selected in
     let left : call.new.host.files ≡ written (path_of work l.name) found.text call.old.host.files =
@@ -127,7 +135,7 @@ one-test {call} work isa l p valid selected one solvable files =
       there = λ files' told. file-there (path_of work l.name) found.text call.old.host.files files'
           (sym left ∙ told);
       runs = subst (λ (cs : List Claim). TestRuns isa l found.text cs (step_limit (cases_of isa l)))
-          found.claims (runs-label isa l found.text (valid selected) found.is);
+          found.claims (runs-label isa l found.text place (test selected) found.is);
     }
 
 -- ---- no point
@@ -195,36 +203,73 @@ there {call} files asked r inputs l text files' given inside selected is done to
     told inside
     selected is
 
+-- that of a label with a solvable point has the property
+proved-there : {call : Call} (files : Files) (asked : GenerateArguments)
+    → RunsOn call files (Generate asked) → (inputs : Inputs) (l : Label) (k : ℕ) (files' : Files)
+    → labels_in files asked.part asked.isa asked.families asked.groups ≡ Ok inputs
+    → Contains inputs.groups l → IsTrue l.selected → IsSolvableAt inputs.isa l k
+    → call.status ≡ answer.Done → call.new.host.files ≡ Some files'
+    → HasProvedTest files' (path_of asked.work l.name) inputs.isa l
+proved-there files asked r inputs l k files' given inside selected solvable done told =
+    let test = has-test inputs.isa l k solvable in
+    record {
+      bytes = test.0;
+      there = there files asked r inputs l test.0 files' given inside selected test.1 done told;
+      proved = proved inputs l test.0
+          (tested-labels files asked.part asked.isa asked.families asked.groups inputs given)
+          inside selected test.1;
+    }
+
+-- where there is no room for a test, it is refused
+rooms : {call : Call} (files : Files) (asked : GenerateArguments)
+    → RunsOn call files (Generate asked) → (inputs : Inputs)
+    → inputs_in files asked.isa asked.families asked.groups ≡ Ok inputs
+    → AsksForRoom call files inputs
+rooms {call} files asked r inputs given =
+    let found = labels_in files asked.part asked.isa asked.families asked.groups in
+    asks files inputs found (OnDone (generating.HasGenerated call asked.work))
+    (good-inputs files asked.isa asked.families asked.groups inputs given)
+    (placed-inputs files asked.isa asked.families asked.groups inputs given)
+    (asked-then inputs (tested_in files asked.isa asked.families asked.groups)
+    (λ i. Ok (parted_inputs asked.part i))
+    (asked-room inputs (inputs_in files asked.isa asked.families asked.groups) given))
+    (answers-generate files asked r)
+    (λ is. untouched (ran-command r) files r.told tt (inr is))
+    (λ text refused files' other. generate-spares r.ran files files' asked other r.told r.asks
+    (λ i test accepted. let no : Err (why.Refused text) ≡ Ok i = sym refused ∙ accepted in absurd cc))
+
 pub makes : {call : Call} (files : Files) (asked : GenerateArguments)
     → RunsOn call files (Generate asked) → generating.Generates call files asked
 makes {call} files asked r = record {
   answered = answers-generate files asked r;
   one = λ isa' l p given selected single solvable is.
       let inputs : Inputs = record { isa = isa'; groups = l ∷ [] } in
-      let good = good-labels files asked.part asked.isa asked.families asked.groups inputs given in
+      let all =
+      testable-labels files asked.part asked.isa asked.families asked.groups inputs given in
       let made = generated {call = call} asked.work
       (labels_in files asked.part asked.isa asked.families asked.groups) inputs given
       ((answers-generate files asked r).done is) in
-      one-test asked.work isa' l p (All-head
-      (IsValidIfSelected isa') l [] good.valid) selected
-      single solvable made.files;
+      one-test asked.work isa' l p all.place (All-head (IsTestableIfSelected isa') l [] all.each)
+      selected single solvable made.files;
   none = λ isa' l p given selected single skipped never is.
       none-test asked.work isa' l p selected single skipped never
       (generated {call = call} asked.work
       (labels_in files asked.part asked.isa asked.families asked.groups)
       (record { isa = isa'; groups = l ∷ [] }) given
       ((answers-generate files asked r).done is));
-  each = λ inputs l k files' given inside selected solvable done told.
-      let test = has-test inputs.isa l k solvable in
+  each = proved-there files asked r;
+  low = λ inputs l k files' given at inside selected solvable done told.
+      let memory : Memory = record { text_base = 0; data_base = 0x1_0000 } in
+      let test = proved-there files asked r inputs l k files' given inside selected solvable done
+      told in
+      let lies : test.proved.image.memory ≡ memory = test.proved.placed ∙ at in
       record {
-        bytes = test.0;
-        there = there files asked r inputs l test.0 files' given inside selected test.1
-            done told;
-        proved = proved inputs l test.0
-            (tested-labels files asked.part asked.isa asked.families asked.groups inputs given)
-            inside selected
-            test.1;
+        test = test;
+        text = ap (λ (m : Memory). m.text_base) lies;
+        data_at = ap (λ (m : Memory). m.data_base) lies;
+        starts = ap (λ (m : Memory). m.text_base) lies;
       };
+  rooms = λ inputs given. rooms files asked r inputs given;
   there = there files asked r;
   others_kept =
       λ files' other. generate-spares r.ran files files' asked other r.told r.asks;

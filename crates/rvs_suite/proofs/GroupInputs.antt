@@ -16,6 +16,7 @@ use Rattle.rvs_suite.specs.GroupTexts.{groups_name}
 use Rattle.rvs_suite.specs.GroupFiles.{groups_limit, joined, room, within_limit, join_found}
 use Rattle.rvs_suite.specs.GroupFiles.{and_then, text_in, groups_found, inputs_of, inputs_in, joins}
 use Rattle.rvs_suite.specs.GroupFiles.{joins_all, group_files, group_inputs, parted_inputs}
+use Rattle.rvs_suite.specs.GroupFiles.{with_room, tested_in, asks_room, tested_inputs}
 use Rattle.rvs_suite.specs.GroupFiles.{labels_in, gives_part, part_inputs}
 use Rattle.rvs_parts.specs.Parts.{PartValue}
 use Rattle.rvs_suite.proofs.Readers.{OnlyReads, OnlyReads-then}
@@ -147,18 +148,32 @@ finds-inputs files isa families names =
     (finds-groups files said.spec families names) (given-after files said.spec families
     (text_in files None names)))
 
+-- ---- what tests are made of
+pub reads-tested : (isa : List ℕ) (families : Families) (names : List (List ℕ))
+    → OnlyReads (tested_inputs isa families names)
+reads-tested isa families names =
+    OnlyReads-then (group_inputs isa families names) asks_room (reads-inputs isa families names)
+    (λ inputs. tt)
+
+pub finds-tested : (files : Files) (isa : List ℕ) (families : Families) (names : List (List ℕ))
+    → Finds files (tested_inputs isa families names) (tested_in files isa families names)
+finds-tested files isa families names =
+    finds-and_then files (group_inputs isa families names) asks_room
+    (inputs_in files isa families names) with_room
+    (finds-inputs files isa families names) (λ inputs. refl)
+
 -- ---- the labels of a part
 pub reads-labels : (part : Option PartValue) (isa : List ℕ) (families : Families)
     (names : List (List ℕ))
     → OnlyReads (part_inputs part isa families names)
 reads-labels part isa families names =
-    OnlyReads-then (group_inputs isa families names) (gives_part part)
-    (reads-inputs isa families names) (λ inputs. tt)
+    OnlyReads-then (tested_inputs isa families names) (gives_part part)
+    (reads-tested isa families names) (λ inputs. tt)
 
 pub finds-labels : (files : Files) (part : Option PartValue) (isa : List ℕ) (families : Families)
     (names : List (List ℕ))
     → Finds files (part_inputs part isa families names) (labels_in files part isa families names)
 finds-labels files part isa families names =
-    finds-and_then files (group_inputs isa families names) (gives_part part)
-    (inputs_in files isa families names) (λ inputs. Ok (parted_inputs part inputs))
-    (finds-inputs files isa families names) (λ inputs. refl)
+    finds-and_then files (tested_inputs isa families names) (gives_part part)
+    (tested_in files isa families names) (λ inputs. Ok (parted_inputs part inputs))
+    (finds-tested files isa families names) (λ inputs. refl)

@@ -7,6 +7,7 @@ use Rattle.std.specs.Int.{w32, to_le_bytes}
 use Rattle.rvs_text.specs.Outcomes.{◌>>=◌}
 use Rattle.rvs_insn.specs.Isa.{Isa}
 use Rattle.rvs_insn.specs.Word.{low_bits, word_of}
+use Rattle.rvs_insn.specs.Memory.{Memory}
 use Rattle.rvs_machine.specs.Image.{ImageValue, is_image, if_image}
 use Rattle.rvs_machine.specs.FileLines.{Rest, taken}
 use Rattle.rvs_machine.specs.ImageText as file
@@ -87,21 +88,23 @@ whole_bytes n image (Some p) h = tt
 whole_bytes n image None h =
     either_image (is_image image) image (file.refusal 0 BadRegion) h
 
-abbrev from_end : List ℕ → List ℕ → Rest → Result ImageValue ImageRefusal
-from_end text ram r = file.address_lines r >>= (λ a. file.whole text ram a.0 a.1)
+abbrev from_end : Memory → List ℕ → List ℕ → Rest → Result ImageValue ImageRefusal
+from_end memory text ram r = file.address_lines r >>= (λ a. file.whole memory text ram a.0 a.1)
 
-abbrev from_data : List ℕ → Rest → Result ImageValue ImageRefusal
-from_data text r =
-    file.section (codes "data ") file.most_data r >>= (λ d. from_end text d.0 d.1)
+abbrev from_data : Memory → List ℕ → Rest → Result ImageValue ImageRefusal
+from_data memory text r =
+    file.section (codes "data ") (file.most_data memory) r >>= (λ d. from_end memory text d.0 d.1)
 
-abbrev from_text : Rest → Result ImageValue ImageRefusal
-from_text r = file.section (codes "text ") file.most_text r >>= (λ t. from_data t.0 t.1)
+abbrev from_text : Memory → Rest → Result ImageValue ImageRefusal
+from_text memory r = file.section (codes "text ") (file.most_text memory) r >>=
+    (λ t. from_data memory t.0 t.1)
 
-end_bytes : (text ram : List ℕ) (r : Rest) → AreBytes text → AreBytes ram
-    → Holds HasBytes (from_end text ram r)
-end_bytes text ram r g h =
-    goes_any HasBytes (file.address_lines r) (λ a. file.whole text ram a.0 a.1)
+end_bytes : (memory : Memory) (text ram : List ℕ) (r : Rest) → AreBytes text → AreBytes ram
+    → Holds HasBytes (from_end memory text ram r)
+end_bytes memory text ram r g h =
+    goes_any HasBytes (file.address_lines r) (λ a. file.whole memory text ram a.0 a.1)
     (λ a. whole_bytes a.1.line (record {
+      memory = memory;
       text = text;
       data_bytes = ram;
       tohost = a.0.tohost;
@@ -110,25 +113,31 @@ end_bytes text ram r g h =
       symbols = [];
     }) (taken a.1) (record { text = g; ram = h }))
 
-data_bytes : (text : List ℕ) (r : Rest) → AreBytes text → Holds HasBytes (from_data text r)
-data_bytes text r g =
-    goes_on BytesFirst HasBytes (file.section (codes "data ") file.most_data r)
-    (λ d. from_end text d.0 d.1)
-    (section_bytes (codes "data ") file.most_data r) (λ d h. end_bytes text d.0 d.1 g h)
+data_bytes : (memory : Memory) (text : List ℕ) (r : Rest) → AreBytes text
+    → Holds HasBytes (from_data memory text r)
+data_bytes memory text r g =
+    goes_on BytesFirst HasBytes (file.section (codes "data ") (file.most_data memory) r)
+    (λ d. from_end memory text d.0 d.1)
+    (section_bytes (codes "data ") (file.most_data memory) r)
+    (λ d h. end_bytes memory text d.0 d.1 g h)
 
-text_bytes : (r : Rest) → Holds HasBytes (from_text r)
-text_bytes r =
-    goes_on BytesFirst HasBytes (file.section (codes "text ") file.most_text r) (λ t. from_data t.0 t.1)
-    (section_bytes (codes "text ") file.most_text r) (λ t h. data_bytes t.0 t.1 h)
+text_bytes : (memory : Memory) (r : Rest) → Holds HasBytes (from_text memory r)
+text_bytes memory r =
+    goes_on BytesFirst HasBytes (file.section (codes "text ") (file.most_text memory) r)
+    (λ t. from_data memory t.0 t.1)
+    (section_bytes (codes "text ") (file.most_text memory) r) (λ t h. data_bytes memory t.0 t.1 h)
 
-file_bytes : (bytes : List ℕ) → Holds HasBytes (file.image_of_bytes bytes)
+file_bytes : (memory : Memory) (bytes : List ℕ) → Holds HasBytes (file.image_of_bytes memory bytes)
 unfolding file.image_of_bytes
-file_bytes bytes =
-    goes_any HasBytes (file.header (record { bytes = bytes; line = 1 })) from_text text_bytes
+file_bytes memory bytes =
+    goes_any HasBytes (file.header (record { bytes = bytes; line = 1 })) (from_text memory)
+    (text_bytes memory)
 
-pub of_file : (bytes : List ℕ) (image : ImageValue) → file.image_of_bytes bytes ≡ Ok image
+pub of_file : (memory : Memory) (bytes : List ℕ) (image : ImageValue)
+    → file.image_of_bytes memory bytes ≡ Ok image
     → HasBytes image
-of_file bytes image e = held HasBytes (file.image_of_bytes bytes) image (file_bytes bytes) e
+of_file memory bytes image e = held HasBytes (file.image_of_bytes memory bytes) image
+    (file_bytes memory bytes) e
 
 -- ---- assembler text
 number_below : (size : ℕ) (z : ℤ) → AreBytes (number_bytes size z)
@@ -181,10 +190,11 @@ lines_below text env (r ∷ rs) p =
     (either here body [] (body_below env p (body_of r)) tt)
     (lines_below text env rs (next p (body_of r)))
 
-image_bytes : (ss : Table) (rs : List Reading) → HasBytes (image_of ss rs)
-image_bytes ss rs = record {
-  text = lines_below true (address_of ss) rs start;
-  ram = lines_below false (address_of ss) rs start;
+image_bytes : (memory : Memory) (ss : Table) (rs : List Reading)
+    → HasBytes (image_of memory ss rs)
+image_bytes memory ss rs = record {
+  text = lines_below true (address_of ss) rs (start memory);
+  ram = lines_below false (address_of ss) rs (start memory);
 }
 
 regions_bytes : (image : ImageValue) → HasBytes image
@@ -200,21 +210,24 @@ there_bytes : (o : Option (List ℕ)) (image : ImageValue) → HasBytes image
 there_bytes (Some name) image h = tt
 there_bytes None image h = regions_bytes image h
 
-linked_bytes : (o : Option AsmRefusal) (ss : Table) (rs : List Reading)
-    → Holds HasBytes (if_linked o ss rs)
-linked_bytes (Some refusal) ss rs = tt
-linked_bytes None ss rs =
-    there_bytes (first_missing ss needed) (image_of ss rs) (image_bytes ss rs)
+linked_bytes : (memory : Memory) (o : Option AsmRefusal) (ss : Table) (rs : List Reading)
+    → Holds HasBytes (if_linked memory o ss rs)
+linked_bytes memory (Some refusal) ss rs = tt
+linked_bytes memory None ss rs =
+    there_bytes (first_missing ss needed) (image_of memory ss rs) (image_bytes memory ss rs)
 
-placed_bytes : (o : Option AsmRefusal) (rs : List Reading) → Holds HasBytes (if_placed o rs)
-placed_bytes (Some refusal) rs = tt
-placed_bytes None rs =
-    linked_bytes (second_fault (labels rs start) start 1 rs) (labels rs start) rs
+placed_bytes : (memory : Memory) (o : Option AsmRefusal) (rs : List Reading)
+    → Holds HasBytes (if_placed memory o rs)
+placed_bytes memory (Some refusal) rs = tt
+placed_bytes memory None rs =
+    linked_bytes memory (second_fault (labels rs (start memory)) (start memory) 1 rs)
+    (labels rs (start memory)) rs
 
 answer_bytes : (isa : Isa) (text : List ℕ) → Holds HasBytes (answer isa text)
 unfolding answer
 answer_bytes isa text =
-    placed_bytes (first_fault isa [] start 1 (text_readings text)) (text_readings text)
+    placed_bytes isa.memory (first_fault isa [] (start isa.memory) 1 (text_readings text))
+    (text_readings text)
 
 pub of_text : (isa : Isa) (text : List ℕ) (image : ImageValue) → answer isa text ≡ Ok image
     → HasBytes image

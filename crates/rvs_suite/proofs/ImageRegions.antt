@@ -1,9 +1,13 @@
 -- The regions of an image that is read are in order.
 use Rattle.std.proofs.Common.{◌≡◌, ◌≤◌, ◌==◌, ℕ, Bool, true, false, cond, List, []}
-use Rattle.std.proofs.Common.{length, nat_le, Option, Some, None, Result, Ok, Err, refl, subst, arith, codes}
+use Rattle.std.proofs.Common.{◌<◌, length, nat_le, nat_lt, Option, Some, None, Result, Ok, Err}
+use Rattle.std.proofs.Common.{refl, ap, subst, arith, codes}
 use Rattle.std.proofs.lemmas.Bool.{and_parts}
 use Rattle.std.proofs.lemmas.Bool.Decides.{nat_tests}
 use Rattle.rvs_text.specs.Outcomes.{◌>>=◌}
+use Rattle.rvs_asm.specs.Answer.{Assembles}
+use Rattle.rvs_insn.specs.Isa.{Isa}
+use Rattle.rvs_insn.specs.Memory.{Memory}
 use Rattle.rvs_machine.specs.Image.{ImageValue, IsImage, is_image}
 use Rattle.rvs_machine.specs.FileLines.{Rest, taken}
 use Rattle.rvs_machine.specs.ImageText as file
@@ -22,6 +26,9 @@ is_zero n h = grind (arith, nat_tests)
 is_below : (m n : ℕ) → nat_le m n ≡ true → m ≤ n
 is_below m n h = grind (arith, nat_tests)
 
+is_under : (m n : ℕ) → nat_lt m n ≡ true → m < n
+is_under m n h = grind (arith, nat_tests)
+
 pub in_order : (i : ImageValue) → is_image i ≡ true → IsImage i
 in_order i h =
     let size = length i.data_bytes in
@@ -31,7 +38,8 @@ in_order i h =
     let (words, short) = and_parts _ _ text in
     let (low, high) = and_parts _ _ tohost in
     let (word, begin) = and_parts _ _ low in
-    let (ordered, last) = and_parts _ _ signature in
+    let (bounded, small_end) = and_parts _ _ signature in
+    let (ordered, last) = and_parts _ _ bounded in
     let (starts, between) = and_parts _ _ ordered in
     let (ends, first) = and_parts _ _ starts in
     let (one, other) = and_parts _ _ ends in
@@ -47,74 +55,85 @@ in_order i h =
       ordered = is_below _ _ between;
       end_word = is_zero _ other;
       end_high = is_below _ _ last;
+      end_small = is_under _ _ small_end;
     }
 
--- an image that is answered is one
-abbrev Holds : {E : Type 0} → Result ImageValue E → Type 0
-Holds (Ok image) = IsImage image
-Holds (Err e) = Unit {0}
+-- an image that is answered is one, in this memory
+abbrev Holds : {E : Type 0} → Memory → Result ImageValue E → Type 0
+Holds memory (Ok image) = IsImage image × (image.memory ≡ memory)
+Holds memory (Err e) = Unit {0}
 
-held : {E : Type 0} (r : Result ImageValue E) (image : ImageValue) → Holds r → r ≡ Ok image
-    → IsImage image
-held {E} r image h e = subst (λ (x : Result ImageValue E). Holds x) e h
+held : {E : Type 0} (memory : Memory) (r : Result ImageValue E) (image : ImageValue)
+    → Holds memory r → r ≡ Ok image → IsImage image × (image.memory ≡ memory)
+held {E} memory r image h e = subst (λ (x : Result ImageValue E). Holds memory x) e h
 
-goes_any : {A E : Type 0} (r : Result A E) (go : A → Result ImageValue E)
-    → ((a : A) → Holds (go a)) → Holds (r >>= go)
-goes_any (Ok a) go all = all a
-goes_any (Err e) go all = tt
+goes_any : {A E : Type 0} (memory : Memory) (r : Result A E) (go : A → Result ImageValue E)
+    → ((a : A) → Holds memory (go a)) → Holds memory (r >>= go)
+goes_any memory (Ok a) go all = all a
+goes_any memory (Err e) go all = tt
 
-tested : {E : Type 0} (b : Bool) (image : ImageValue) (e : E) → (b ≡ true → IsImage image)
-    → Holds (cond b (Ok image) (Err e))
-tested true image e h = h refl
-tested false image e h = tt
+tested : {E : Type 0} (memory : Memory) (b : Bool) (image : ImageValue) (e : E)
+    → image.memory ≡ memory → (b ≡ true → IsImage image) → Holds memory (cond b (Ok image) (Err e))
+tested memory true image e same h = (h refl, same)
+tested memory false image e same h = tt
 
-whole : (n : ℕ) (image : ImageValue) (o : Option (List ℕ × Rest))
-    → Holds (file.whole_with n image o)
-whole n image (Some p) = tt
-whole n image None = tested (is_image image) image (file.refusal 0 BadRegion) (in_order image)
+whole : (memory : Memory) (n : ℕ) (image : ImageValue) (o : Option (List ℕ × Rest))
+    → image.memory ≡ memory → Holds memory (file.whole_with n image o)
+whole memory n image (Some p) same = tt
+whole memory n image None same =
+    tested memory (is_image image) image (file.refusal 0 BadRegion) same (in_order image)
 
-abbrev from_end : List ℕ → List ℕ → Rest → Result ImageValue ImageRefusal
-from_end text ram r = file.address_lines r >>= (λ a. file.whole text ram a.0 a.1)
+abbrev from_end : Memory → List ℕ → List ℕ → Rest → Result ImageValue ImageRefusal
+from_end memory text ram r = file.address_lines r >>= (λ a. file.whole memory text ram a.0 a.1)
 
-abbrev from_data : List ℕ → Rest → Result ImageValue ImageRefusal
-from_data text r =
-    file.section (codes "data ") file.most_data r >>= (λ d. from_end text d.0 d.1)
+abbrev from_data : Memory → List ℕ → Rest → Result ImageValue ImageRefusal
+from_data memory text r =
+    file.section (codes "data ") (file.most_data memory) r >>= (λ d. from_end memory text d.0 d.1)
 
-abbrev from_text : Rest → Result ImageValue ImageRefusal
-from_text r = file.section (codes "text ") file.most_text r >>= (λ t. from_data t.0 t.1)
+abbrev from_text : Memory → Rest → Result ImageValue ImageRefusal
+from_text memory r =
+    file.section (codes "text ") (file.most_text memory) r >>= (λ t. from_data memory t.0 t.1)
 
-pub file-image : (bytes : List ℕ) (image : ImageValue) → image_of_bytes bytes ≡ Ok image
-    → IsImage image
+pub file-image : (memory : Memory) (bytes : List ℕ) (image : ImageValue)
+    → image_of_bytes memory bytes ≡ Ok image → IsImage image × (image.memory ≡ memory)
 unfolding image_of_bytes
-file-image bytes image is =
-    held (image_of_bytes bytes) image
-    (goes_any (file.header (record { bytes = bytes; line = 1 })) from_text (λ r.
-    goes_any (file.section (codes "text ") file.most_text r) (λ t. from_data t.0 t.1) (λ t.
-    goes_any (file.section (codes "data ") file.most_data t.1) (λ d. from_end t.0 d.0 d.1) (λ d.
-    goes_any (file.address_lines d.1) (λ a. file.whole t.0 d.0 a.0 a.1) (λ a.
-    whole a.1.line (record {
+file-image memory bytes image is =
+    held memory (image_of_bytes memory bytes) image
+    (goes_any memory (file.header (record { bytes = bytes; line = 1 })) (from_text memory) (λ r.
+    goes_any memory (file.section (codes "text ") (file.most_text memory) r)
+    (λ t. from_data memory t.0 t.1) (λ t.
+    goes_any memory (file.section (codes "data ") (file.most_data memory) t.1)
+    (λ d. from_end memory t.0 d.0 d.1) (λ d.
+    goes_any memory (file.address_lines d.1) (λ a. file.whole memory t.0 d.0 a.0 a.1) (λ a.
+    whole memory a.1.line (record {
+      memory = memory;
       text = t.0;
       data_bytes = d.0;
       tohost = a.0.tohost;
       sig_begin = a.0.sig_begin;
       sig_end = a.0.sig_end;
       symbols = [];
-    }) (taken a.1)))))) is
+    }) (taken a.1) refl))))) is
 
-chosen : (b : Bool) (image : ImageValue) → (b ≡ true → IsImage image)
-    → Holds (judged (cond b (Some image) None))
-chosen true image h = h refl
-chosen false image h = tt
+chosen : (memory : Memory) (b : Bool) (image : ImageValue) → image.memory ≡ memory
+    → (b ≡ true → IsImage image) → Holds memory (judged (cond b (Some image) None))
+chosen memory true image same h = (h refl, same)
+chosen memory false image same h = tt
 
-pub elf-image : (bytes : List ℕ) (image : ImageValue) → image_of_elf bytes ≡ Ok image
-    → IsImage image
+pub elf-image : (memory : Memory) (bytes : List ℕ) (image : ImageValue)
+    → image_of_elf memory bytes ≡ Ok image → IsImage image × (image.memory ≡ memory)
 unfolding image_of_elf
-elf-image bytes image is =
-    held (image_of_elf bytes) image
-    (goes_any (header_of bytes) _ (λ header.
-    goes_any (segments_of header bytes) _ (λ segments.
-    goes_any (symbols_of header bytes) _ (λ t.
-    goes_any (loaded bytes segments) _ (λ memory.
-    goes_any (marks_of t.0 t.1) (λ marks. image_of memory marks) (λ marks.
-    chosen (is_image (image_with memory marks)) (image_with memory marks)
-    (in_order (image_with memory marks)))))))) is
+elf-image memory bytes image is =
+    held memory (image_of_elf memory bytes) image
+    (goes_any memory (header_of memory bytes) _ (λ header.
+    goes_any memory (segments_of header bytes) _ (λ segments.
+    goes_any memory (symbols_of header bytes) _ (λ t.
+    goes_any memory (loaded memory bytes segments) _ (λ parts.
+    goes_any memory (marks_of t.0 t.1) (λ marks. image_of memory parts marks) (λ marks.
+    chosen memory (is_image (image_with memory parts marks)) (image_with memory parts marks) refl
+    (in_order (image_with memory parts marks)))))))) is
+
+-- ---- assembler text
+pub stands-map : (bytes : List ℕ) (isa : Isa) (image : ImageValue) → Assembles bytes isa image
+    → image.memory ≡ isa.memory
+stands-map bytes isa image stands = ap (λ (i : ImageValue). i.memory) stands.made

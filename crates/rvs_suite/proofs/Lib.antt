@@ -18,6 +18,8 @@ mod Finding
 mod Answered
 mod Readers
 mod GroupInputs
+mod Testable
+mod RoomEnds
 mod NormalAgain
 mod NormalPlan
 mod NormalizeEnds
@@ -53,6 +55,7 @@ mod Standing
 pub mod StepLimits
 pub mod Paths
 mod ImageRegions
+mod FoundImages
 mod DatabaseExecutables
 mod DatabasePasses
 mod DatabaseReads

@@ -1,19 +1,18 @@
 -- The log of a test that halts has the executed instructions as its entries.
-use Rattle.std.proofs.Common.{◌≡◌, ℕ, Bool, true, false, cond, List, Option, Result, Ok, Err, refl}
-use Rattle.std.proofs.Common.{ap, subst}
+use Rattle.std.proofs.Common.{◌≡◌, ℕ, Bool, true, false, cond, List, Option, Ok, refl}
+use Rattle.std.proofs.Common.{sym, ap, subst, ◌^◌, ◌<◌}
 use Rattle.std.specs.Prelude.{map}
 use Rattle.rvs_base.specs.Host.{Files}
 use Rattle.rvs_insn.specs.Isa.{Isa}
+use Rattle.rvs_insn.specs.Memory.{Memory}
+use Rattle.rvs_isa.proofs.Rooms.{accepted_have_room}
 use Rattle.rvs_machine.specs.Image.{ImageValue}
 use Rattle.rvs_machine.specs.ImageText.{image_of_bytes}
-use Rattle.rvs_machine.specs.declared.reading.ImageRefusal.{ImageRefusal}
 use Rattle.rvs_machine.specs.Run.{Outcome}
 use Rattle.rvs_elf.specs.Executable.{image_of_elf}
 use Rattle.rvs_elf.specs.Laws.{AreOctets}
-use Rattle.rvs_elf.specs.declared.refusal.ElfRefusal.{ElfRefusal}
 use Rattle.rvs_elf.proofs.Octets.{octets_stay}
 use Rattle.rvs_asm.specs.Answer.{answer}
-use Rattle.rvs_asm.specs.declared.refusal.AsmRefusal.{AsmRefusal}
 use Rattle.rvs_log.specs.Entries.{entries_of}
 use Rattle.rvs_log.specs.Logs.{log_of, as_entry}
 use Rattle.rvs_log.proofs.RunLogs.{trace_of, run_entries}
@@ -22,22 +21,8 @@ use Rattle.rvs_suite.specs.TestRun.{executable_found, text_found, limit_of}
 use Rattle.rvs_suite.specs.Halting.{BothHalt, HoldsOctets}
 use Rattle.rvs_suite.specs.declared.test_run.Run.{Run}
 use Rattle.rvs_log.proofs.Octets.{bytes_below}
+use Rattle.rvs_suite.proofs.FoundImages.{of-file, of-elf, of-text, sound}
 use Rattle.rvs_suite.proofs.ImageBytes.{HasBytes, of_file, of_text}
-
-file_is : (name : List ℕ) (r : Result ImageValue ImageRefusal) (image : ImageValue)
-    → file_found name r ≡ Ok image → r ≡ Ok image
-file_is name (Ok i) image h = let same : i ≡ image = cc in ap Ok same
-file_is name (Err e) image h = cc
-
-text_is : (name : List ℕ) (r : Result ImageValue AsmRefusal) (image : ImageValue)
-    → text_found name r ≡ Ok image → r ≡ Ok image
-text_is name (Ok i) image h = let same : i ≡ image = cc in ap Ok same
-text_is name (Err e) image h = cc
-
-executable_is : (name : List ℕ) (r : Result ImageValue ElfRefusal) (image : ImageValue)
-    → executable_found name r ≡ Ok image → r ≡ Ok image
-executable_is name (Ok i) image h = let same : i ≡ image = cc in ap Ok same
-executable_is name (Err e) image h = cc
 
 -- text and data are bytes
 record HasOctets (image : ImageValue) : Type 0 where
@@ -51,21 +36,25 @@ octets image h =
 -- an image file, an executable of bytes, or assembler text
 found_bytes : (b e : Bool) (isa : Isa) (name bytes : List ℕ) (image : ImageValue)
     → (e ≡ true → AreOctets bytes)
-    → cond b (file_found name (image_of_bytes bytes))
-    (cond e (executable_found name (image_of_elf bytes)) (text_found name (answer isa bytes)))
+    → cond b (file_found name (image_of_bytes isa.memory bytes))
+    (cond e (executable_found name (image_of_elf isa.memory bytes))
+    (text_found name (answer isa bytes)))
     ≡ Ok image → HasOctets image
 found_bytes true e isa name bytes image holds h =
-    octets image (of_file bytes image (file_is name (image_of_bytes bytes) image h))
+    octets image
+    (of_file isa.memory bytes image (of-file name (image_of_bytes isa.memory bytes) image h))
 found_bytes false true isa name bytes image holds h =
     let both =
-    octets_stay bytes image (holds refl) (executable_is name (image_of_elf bytes) image h) in
+    octets_stay isa.memory bytes image (holds refl)
+    (of-elf name (image_of_elf isa.memory bytes) image h) in
     record { text = both.0; ram = both.1 }
 found_bytes false false isa name bytes image holds h =
-    octets image (of_text isa bytes image (text_is name (answer isa bytes) image h))
+    octets image (of_text isa bytes image (of-text name (answer isa bytes) image h))
 
-image_entries : (image : ImageValue) (isa : Isa) (n : ℕ) → HasOctets image
+image_entries : (image : ImageValue) (isa : Isa) (n : ℕ) → image.memory.text_base < 2 ^ 32
+    → HasOctets image
     → entries_of (log_of (trace_of image isa n)) ≡ map as_entry (trace_of image isa n)
-image_entries image isa n h = run_entries image isa n h.text h.ram
+image_entries image isa n low h = run_entries image isa n low h.text h.ram
 
 pub halting_entries : (files : Files) (isa test : List ℕ) (steps : Option ℕ) (run : Run)
     → BothHalt files isa test steps run → HoldsOctets files test
@@ -76,5 +65,9 @@ halting_entries files isa test steps run b holds =
     let h = found_bytes (is_image_name test) (is_executable_name test) core test t.bytes t.image
     (λ executable. holds executable t.bytes t.there) t.spelt in
     let same = ap (λ (o : Outcome). o.trace) t.halts.halts in
+    let lies = (sound core test t.bytes t.image t.spelt).1 in
+    let low : t.image.memory.text_base < 2 ^ 32 =
+    subst (λ (m : Memory). m.text_base < 2 ^ 32) (sym lies)
+    (accepted_have_room b.says.tree b.said b.says.accepted).text_low in
     subst (λ es. entries_of (log_of es) ≡ map as_entry es) same
-    (image_entries t.image core (limit_of steps test t.bytes) h)
+    (image_entries t.image core (limit_of steps test t.bytes) low h)

@@ -96,7 +96,8 @@ works files asked = record {
 }
 
 -- the image of a text stands to it
-text-found : (i e : Bool) (name : List ℕ) (image : ImageValue) (file elf : Result ImageValue (List ℕ))
+text-found : (i e : Bool) (name : List ℕ) (image : ImageValue)
+    (file elf : Result ImageValue (List ℕ))
     (text : Result ImageValue AsmRefusal) → i ≡ false → e ≡ false
     → (if i then file else (if e then elf else text_found name text)) ≡ Ok image
     → text ≡ Ok image
@@ -119,7 +120,8 @@ text-halts files isa test steps run named both =
       image = t.image;
       stands = answered_stands spec t.bytes t.image
           (text-found (is_image_name test) (is_executable_name test) test t.image
-          (file_found test (image_of_bytes t.bytes)) (executable_found test (image_of_elf t.bytes))
+          (file_found test (image_of_bytes spec.memory t.bytes))
+          (executable_found test (image_of_elf spec.memory t.bytes))
           (answer spec t.bytes) named.0 named.1 t.spelt);
       halts = t.halts;
     }

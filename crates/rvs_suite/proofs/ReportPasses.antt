@@ -2,7 +2,7 @@
 use Rattle.std.proofs.Common.{◌≡◌, ◌↔◌, ℕ, Bool, true, false, if◌then◌else◌, not, ℤ, pos}
 use Rattle.std.proofs.Common.{List, [], ◌∷◌, ◌++◌, length, take, drop, All, Option, Some, None}
 use Rattle.std.proofs.Common.{nat_lt, Result, Ok, Err, refl, sym, ap, subst, ◌∙◌}
-use Rattle.std.specs.Prelude.{◌&&◌, bytes_eq}
+use Rattle.std.specs.Prelude.{◌&&◌, bytes_eq, find}
 use Rattle.std.specs.Cmp.Lexicographic.{bytes_decides}
 use Rattle.std.proofs.lemmas.List.Elements.{All-nil, All-cons, All-head, All-tail}
 use Rattle.std.proofs.lemmas.List.Elements.{All-append}
@@ -34,7 +34,8 @@ use Rattle.rvs_page.specs.declared.shown.Verdict.TheVariants as verdict
 use Rattle.rvs_page.specs.declared.shown.Page.{Page}
 use Rattle.rvs_page.specs.declared.shown.Label.{Label as ShownLabel}
 use Rattle.rvs_page.proofs.Verdicts.{pass_says_that_all_pass}
-use Rattle.rvs_suite.specs.GroupFiles.{Inputs, and_then, inputs_in}
+use Rattle.rvs_suite.specs.GroupFiles.{Inputs, and_then, inputs_in, lacks_room, unless_for}
+use Rattle.rvs_suite.specs.GroupFiles.{with_room}
 use Rattle.rvs_suite.specs.DeviceInput.{device_in}
 use Rattle.rvs_suite.specs.LogReport.{logs_in}
 use Rattle.rvs_suite.specs.Coverage.{uncounted, counts_more, file_name}
@@ -321,12 +322,25 @@ with-device files asked inputs page (Ok device) e =
     (counts_more asked.windows inputs.groups) (uncounted inputs.groups) asked.logs) e
 with-device files asked inputs page (Err stop) e = absurd cc
 
+-- no label lacks room where there is a page
+with-rooms : (files : Files) (asked : ReportArguments) (inputs : Inputs) (page : Page)
+    (o : Option Label) → and_then (unless_for inputs o) (λ (i : Inputs).
+    and_then (device_in files asked.device) (λ (device : Told).
+    and_then (logs_in files file_name (counts_more asked.windows i.groups)
+    (uncounted i.groups) asked.logs) (λ (known : Covered).
+    Ok (page_with asked i device known
+    (all_shown_in files i.isa asked.work known.counts i.groups))))) ≡ Ok page
+    → HasLabels files asked inputs page
+with-rooms files asked inputs page None e =
+    with-device files asked inputs page (device_in files asked.device) e
+with-rooms files asked inputs page (Some l) e = absurd cc
+
 has-labels : (files : Files) (asked : ReportArguments) (inputs : Inputs) (page : Page)
     → inputs_in files asked.isa asked.families asked.groups ≡ Ok inputs
     → page_in files asked ≡ Ok page → HasLabels files asked inputs page
 has-labels files asked inputs page given e =
-    with-device files asked inputs page (device_in files asked.device)
-    (sym (ap (λ (r : Result Inputs Stop). and_then r (λ (i : Inputs).
+    with-rooms files asked inputs page (find (lacks_room inputs.isa) inputs.groups)
+    (sym (ap (λ (r : Result Inputs Stop). and_then (and_then r with_room) (λ (i : Inputs).
     and_then (device_in files asked.device) (λ (device : Told).
     and_then (logs_in files file_name (counts_more asked.windows i.groups)
     (uncounted i.groups) asked.logs) (λ (known : Covered).

@@ -13,7 +13,7 @@ use Rattle.rvs_test.specs.Made.{claims_of, text_of_label}
 use Rattle.rvs_device.specs.DeviceFile.{Told}
 use Rattle.rvs_page.specs.declared.shown.Page.{Page}
 use Rattle.rvs_page.specs.declared.shown.Label.{Label as ShownLabel}
-use Rattle.rvs_suite.specs.GroupFiles.{Inputs, and_then, inputs_in, group_inputs}
+use Rattle.rvs_suite.specs.GroupFiles.{Inputs, and_then, tested_in, tested_inputs}
 use Rattle.rvs_suite.specs.DeviceInput.{device_limit, checks, device_file, device_in}
 use Rattle.rvs_suite.specs.LogReport.{takes_logs, logs_in}
 use Rattle.rvs_suite.specs.Coverage.{uncounted, counts_more, file_name}
@@ -33,7 +33,7 @@ use Rattle.rvs_suite.specs.declared.gathering.Test.{Test}
 use Rattle.rvs_words.specs.declared.command.ReportArguments.{ReportArguments}
 use Rattle.rvs_suite.proofs.Readers.{OnlyReads, OnlyReads-then}
 use Rattle.rvs_suite.proofs.Finding.{Finds, finds-then}
-use Rattle.rvs_suite.proofs.GroupInputs.{reads-inputs, finds-inputs, finds-and_then}
+use Rattle.rvs_suite.proofs.GroupInputs.{reads-tested, finds-tested, finds-and_then}
 use Rattle.rvs_suite.proofs.LogReads.{reads-logs, finds-logs}
 use Rattle.rvs_suite.proofs.RunReads.{finds-device}
 
@@ -104,8 +104,8 @@ reads-all isa work shown counts (l ∷ ls) =
 
 pub reads-page : (asked : ReportArguments) → OnlyReads (finds_page asked)
 reads-page asked =
-    OnlyReads-then (group_inputs asked.isa asked.families asked.groups) (asks_device asked)
-    (reads-inputs asked.isa asked.families asked.groups) (λ inputs.
+    OnlyReads-then (tested_inputs asked.isa asked.families asked.groups) (asks_device asked)
+    (reads-tested asked.isa asked.families asked.groups) (λ inputs.
     OnlyReads-then (device_file asked.device) (takes_all asked inputs)
     (OnlyReads-then (input device_limit asked.device) (checks asked.device) (λ found. tt)
     (λ bytes. tt)) (λ device.
@@ -174,14 +174,14 @@ found-all files isa work shown counts (l ∷ ls) =
 pub finds-page : (files : Files) (asked : ReportArguments)
     → Finds files (finds_page asked) (page_in files asked)
 finds-page files asked =
-    finds-and_then files (group_inputs asked.isa asked.families asked.groups) (asks_device asked)
-    (inputs_in files asked.isa asked.families asked.groups) (λ inputs.
+    finds-and_then files (tested_inputs asked.isa asked.families asked.groups) (asks_device asked)
+    (tested_in files asked.isa asked.families asked.groups) (λ inputs.
     and_then (device_in files asked.device) (λ device.
     and_then (logs_in files file_name (counts_more asked.windows inputs.groups)
     (uncounted inputs.groups) asked.logs) (λ covered.
     Ok (page_with asked inputs device covered
     (all_shown_in files inputs.isa asked.work covered.counts inputs.groups)))))
-    (finds-inputs files asked.isa asked.families asked.groups) (λ inputs.
+    (finds-tested files asked.isa asked.families asked.groups) (λ inputs.
     finds-and_then files (device_file asked.device) (takes_all asked inputs)
     (device_in files asked.device) (λ device.
     and_then (logs_in files file_name (counts_more asked.windows inputs.groups)

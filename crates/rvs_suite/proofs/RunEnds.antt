@@ -27,12 +27,16 @@ use Rattle.rvs_solver.specs.Solving.{IsSolvableAt}
 use Rattle.rvs_suite.specs.Call.{Call, world_of}
 use Rattle.rvs_suite.specs.Generate.{path_of}
 use Rattle.rvs_suite.specs.Headline.{HasProvedTest}
-use Rattle.rvs_suite.specs.Answered.{HasLeft}
+use Rattle.rvs_suite.specs.Answered.{HasLeft, Answered}
 use Rattle.rvs_suite.specs.GenerateTexts.{listing}
 use Rattle.rvs_suite.specs.RunTests.{Bench, tally_line, tallies, passes, with_one, verdict_of_all}
 use Rattle.rvs_suite.specs.RunTests.{RunInputs, run_inputs, bench_of, runs, run}
 use Rattle.rvs_suite.specs.RunLeft.{verdict_lines, passed_onto, with_all_judged}
 use Rattle.rvs_suite.specs.RunLeft.{task_of}
+use Rattle.rvs_suite.specs.DeviceInput.{device_in}
+use Rattle.rvs_suite.specs.GroupFiles.{Inputs, and_then, inputs_in, tested_in, parted_inputs}
+use Rattle.rvs_suite.specs.GroupFiles.{labels_in}
+use Rattle.rvs_suite.specs.Rooms.{AsksForRoom}
 use Rattle.rvs_suite.specs.Signing.{IsSigned}
 use Rattle.rvs_suite.specs.Judging.{run_inputs_in, tests_in, HasJudged, HasTestFiles, Runs}
 use Rattle.rvs_suite.specs.declared.gathering.Test.{Test}
@@ -49,8 +53,9 @@ use Rattle.rvs_suite.proofs.Passed.{are-judged}
 use Rattle.rvs_suite.proofs.Signed.{has-test, proved}
 use Rattle.rvs_suite.proofs.Signs.{signs}
 use Rattle.rvs_suite.proofs.Standing.{files-stand, test_by, test-of}
-use Rattle.rvs_suite.proofs.Tested.{groups-accepted, tested-run}
-use Rattle.rvs_suite.proofs.Untouched.{never-end, runs-on}
+use Rattle.rvs_suite.proofs.RoomEnds.{asks, asked-room, asked-then}
+use Rattle.rvs_suite.proofs.Tested.{good-inputs, placed-inputs, groups-accepted, tested-run}
+use Rattle.rvs_suite.proofs.Untouched.{never-end, runs-on, untouched}
 use Rattle.rvs_suite.proofs.Written.{apart-labels}
 use Rattle.rvs_words.specs.declared.command.RunArguments.{RunArguments}
 
@@ -342,6 +347,77 @@ proved-there {call} files asked r inputs l k files' given inside selected
           selected has.1;
     }
 
+-- how it ends
+answers-run : {call : Call} (files : Files) (asked : RunArguments)
+    → RunsOn call files (Run asked) → Answered call (run_inputs_in files asked)
+    (λ inputs end. HasJudged call asked.program asked.work end inputs)
+answers-run {call} files asked r =
+    let old = world_of call.old in
+    let new = world_of call.new in
+    let command = Run asked in
+    let plan = run asked in
+    let ran = ran-command r in
+    record {
+      done = judged-done files asked r;
+      not_passed = judged-not_passed files asked r;
+      by_inputs = λ inputs given none. elim (asked_means ran files command r.told refl none) [
+        | inl m ↦ ended files asked inputs call.status m.end given m.comes
+            m.status_is
+        | inr no_memory ↦ inr (inr no_memory)
+      ];
+      refused = λ is.
+          let was = was_refused plan old new call.old.err call.new.err
+          (at_status ran files command answer.Refused r.told refl is) in
+          record {
+            text = was.text;
+            refused = stopped files asked (why.Refused was.text)
+                (ComesTo-Completes plan (Err (why.Refused was.text)) old new files r.told
+                was.completes);
+            line = was.line;
+          };
+      by_refusal = λ text given none. elim (asked_means ran files command r.told refl none) [
+        | inl m ↦ inl (means-end plan files call.status (Err (why.Refused text)) m
+            (stops files asked (why.Refused text) given))
+        | inr no_memory ↦ inr no_memory
+      ];
+      absent = λ is. elim (was_missing plan old new call.old.err call.new.err
+          (at_status ran files command answer.HostFault r.told refl is)) [
+            | inl was ↦ inl (record {
+              name = was.name;
+              absent = stopped files asked (why.NoFile was.name)
+                  (ComesTo-Completes plan (Err (why.NoFile was.name)) old new files r.told
+                  was.completes);
+              line = was.line;
+            })
+            | inr rose ↦ inr rose
+          ];
+      by_absence = λ name given none. elim (asked_means ran files command r.told refl none) [
+        | inl m ↦ inl (means-end plan files call.status (Err (why.NoFile name)) m
+            (stops files asked (why.NoFile name) given))
+        | inr no_memory ↦ inr no_memory
+      ];
+    }
+
+-- where there is no room for a test, it is refused
+rooms : {call : Call} (files : Files) (asked : RunArguments) → RunsOn call files (Run asked)
+    → (inputs : Inputs) → inputs_in files asked.isa asked.families asked.groups ≡ Ok inputs
+    → AsksForRoom call files inputs
+rooms {call} files asked r inputs given =
+    asks files inputs (run_inputs_in files asked)
+    (λ i end. HasJudged call asked.program asked.work end i)
+    (good-inputs files asked.isa asked.families asked.groups inputs given)
+    (placed-inputs files asked.isa asked.families asked.groups inputs given)
+    (asked-then inputs (labels_in files asked.part asked.isa asked.families asked.groups)
+    (λ i. and_then (device_in files asked.device) (λ told.
+    Ok (record { groups = i; device = told })))
+    (asked-then inputs (tested_in files asked.isa asked.families asked.groups)
+    (λ i. Ok (parted_inputs asked.part i))
+    (asked-room inputs (inputs_in files asked.isa asked.families asked.groups) given)))
+    (answers-run files asked r)
+    (λ is. untouched (ran-command r) files r.told tt (inr is))
+    (λ text refused files' other. run-spares r.ran files files' asked other r.told r.asks
+    (λ i test accepted. let no : Err (why.Refused text) ≡ Ok i = sym refused ∙ accepted in absurd cc))
+
 -- where it is done, each test passes, and each label with a solvable point has one
 signed : {call : Call} (files : Files) (asked : RunArguments) → RunsOn call files (Run asked)
     → call.status ≡ answer.Done → HasLeft (run_inputs_in files asked)
@@ -361,53 +437,11 @@ pub judges : {call : Call} (files : Files) (asked : RunArguments)
     → RunsOn call files (Run asked) → Runs call files
     asked
 judges {call} files asked r =
-    let old = world_of call.old in
-    let new = world_of call.new in
     let command = Run asked in
-    let plan = run asked in
     let ran = ran-command r in
     record {
       signed = signed files asked r;
-      answered = record {
-        done = judged-done files asked r;
-        not_passed = judged-not_passed files asked r;
-        by_inputs = λ inputs given none. elim (asked_means ran files command r.told refl none) [
-          | inl m ↦ ended files asked inputs call.status m.end given m.comes
-              m.status_is
-          | inr no_memory ↦ inr (inr no_memory)
-        ];
-        refused = λ is.
-            let was = was_refused plan old new call.old.err call.new.err
-            (at_status ran files command answer.Refused r.told refl is) in
-            record {
-              text = was.text;
-              refused = stopped files asked (why.Refused was.text)
-                  (ComesTo-Completes plan (Err (why.Refused was.text)) old new files r.told
-                  was.completes);
-              line = was.line;
-            };
-        by_refusal = λ text given none. elim (asked_means ran files command r.told refl none) [
-          | inl m ↦ inl (means-end plan files call.status (Err (why.Refused text)) m
-              (stops files asked (why.Refused text) given))
-          | inr no_memory ↦ inr no_memory
-        ];
-        absent = λ is. elim (was_missing plan old new call.old.err call.new.err
-            (at_status ran files command answer.HostFault r.told refl is)) [
-              | inl was ↦ inl (record {
-                name = was.name;
-                absent = stopped files asked (why.NoFile was.name)
-                    (ComesTo-Completes plan (Err (why.NoFile was.name)) old new files r.told
-                    was.completes);
-                line = was.line;
-              })
-              | inr rose ↦ inr rose
-            ];
-        by_absence = λ name given none. elim (asked_means ran files command r.told refl none) [
-          | inl m ↦ inl (means-end plan files call.status (Err (why.NoFile name)) m
-              (stops files asked (why.NoFile name) given))
-          | inr no_memory ↦ inr no_memory
-        ];
-      };
+      answered = answers-run files asked r;
       alone = λ inputs test before run given one was now spells none.
           elim (asked_means ran files command r.told refl none) [
             | inl m ↦ done-only call.status
@@ -424,5 +458,6 @@ judges {call} files asked r =
       others_kept = λ files' other. run-spares r.ran files files' asked
           other r.told r.asks;
       each = proved-there files asked r;
+      rooms = λ inputs given. rooms files asked r inputs given;
       there = there files asked r;
     }

@@ -33,6 +33,7 @@ use Rattle.rvs_suite.specs.Tests.{run_on}
 use Rattle.rvs_suite.specs.Tested.{AreTested}
 use Rattle.rvs_suite.specs.Headline.{Names, IsKept, IsProved}
 use Rattle.rvs_suite.proofs.Counted.{counted-claim}
+use Rattle.rvs_suite.proofs.ImageRegions.{stands-map}
 use Rattle.rvs_suite.proofs.PointLines.{claim-solved, unsolved-at}
 
 -- ---- points are told apart by the names of their kinds and their keys
@@ -166,7 +167,7 @@ kept-claim isa l image o c own there h =
       more = h.more;
       only = h.only;
       hit = h.hit;
-      counted = counted-claim l h.point h.at h.entry h.more o.trace
+      counted = counted-claim isa.memory l h.point h.at h.entry h.more o.trace
           (words_of_case image isa o c.case) h.only h.hit;
     }
 
@@ -203,6 +204,7 @@ proved inputs l text t there selected is =
       image = runs.image;
       stands = runs.assembles;
       alone = image_answered text isa runs.image runs.assembles;
+      placed = stands-map text isa runs.image runs.assembles;
       halts = run.halts;
       within = run.steps;
       kept = All-map (IsKept isa l runs.image o) (named_claim l) claims

@@ -4,11 +4,14 @@ use Rattle.std.proofs.Common.{Contains, Option, Some, None, Result, Ok, Err, IfO
 use Rattle.std.proofs.Common.{sym, subst}
 use Rattle.std.proofs.lemmas.List.Elements.{All-nil, All-cons, All-append, All-head, All-tail}
 use Rattle.std.proofs.lemmas.List.Elements.{All-contains}
+use Rattle.std.specs.Prelude.{find}
 use Rattle.rvs_base.specs.Host.{Files}
 use Rattle.rvs_abstract.specs.declared.families.Families.{Families}
 use Rattle.rvs_plan.specs.declared.stop.Stop.{Stop}
 use Rattle.rvs_tree.specs.Data.{Data}
 use Rattle.rvs_insn.specs.Isa.{Isa}
+use Rattle.rvs_insn.specs.Memory.{HasRoom}
+use Rattle.rvs_isa.proofs.Rooms.{accepted_have_room}
 use Rattle.rvs_isa.specs.declared.accepted_spec.AcceptedSpec.{AcceptedSpec}
 use Rattle.rvs_yaml.specs.Parsed.{Parsed, answer}
 use Rattle.rvs_cgf.specs.Groups.{Label, Refusal, groups_of}
@@ -17,6 +20,7 @@ use Rattle.rvs_cgf.proofs.Validity.{groups_good}
 use Rattle.rvs_solver.specs.declared.solved.Solved.{Solved}
 use Rattle.rvs_test_text.specs.declared.claim.Claim.{Claim}
 use Rattle.rvs_test_text.specs.TestText.{step_limit, test_text}
+use Rattle.rvs_test_text.proofs.Fits.{regions_fit}
 use Rattle.rvs_test.specs.Made.{claims_of, cases_of, named_at, text_for, text_of_label}
 use Rattle.rvs_test.specs.Claimed.{TestRuns}
 use Rattle.rvs_test.specs.Named.{claims_read, named_claim}
@@ -25,7 +29,9 @@ use Rattle.rvs_test.proofs.Joined.{label_runs, accounted}
 use Rattle.rvs_device.specs.DeviceFile.{Told}
 use Rattle.rvs_suite.specs.Specification.{said_in}
 use Rattle.rvs_suite.specs.GroupFiles.{Inputs, and_then, text_in, checked_groups, tree_groups}
-use Rattle.rvs_suite.specs.GroupFiles.{groups_found, inputs_of, inputs_in, parted_inputs, labels_in}
+use Rattle.rvs_suite.specs.GroupFiles.{groups_found, inputs_of, inputs_in, lacks_room, unless_for}
+use Rattle.rvs_suite.specs.GroupFiles.{with_room, tested_in, parted_inputs, labels_in}
+use Rattle.rvs_suite.specs.Testable.{IsTestable, IsTestableIfSelected}
 use Rattle.rvs_parts.specs.Parts.{PartValue, is_in, parted_from}
 use Rattle.std.proofs.Common.{◌+◌}
 use Rattle.rvs_suite.specs.DeviceInput.{device_in}
@@ -35,7 +41,9 @@ use Rattle.rvs_suite.specs.Judging.{run_inputs_in}
 use Rattle.rvs_suite.specs.Tested.{AreTested}
 use Rattle.rvs_suite.specs.declared.gathering.Test.{Test}
 use Rattle.rvs_suite.proofs.PointLines.{has-lines}
+use Rattle.rvs_suite.proofs.Meanings.{says-of}
 use Rattle.rvs_suite.proofs.Runnable.{runnable}
+use Rattle.rvs_suite.proofs.Testable.{all-testable}
 use Rattle.rvs_words.specs.declared.command.RunArguments.{RunArguments}
 
 -- ---- the labels that are read are valid
@@ -71,6 +79,60 @@ good-inputs files isa families names inputs given =
     subst (λ (r : Result Inputs Stop). IfOk r IsGood) given
     (good-said files families names (said_in files isa))
 
+-- ---- the core has room for text and data
+abbrev pub IsPlaced : Inputs → Type 0
+IsPlaced inputs = HasRoom inputs.isa.memory
+
+placed-groups : (isa : Isa) (r : Result (List Label) Stop) → HasRoom isa.memory
+    → IfOk (inputs_of isa r) IsPlaced
+placed-groups isa (Ok ls) room = room
+placed-groups isa (Err stop) room = tt
+
+placed-text : (isa : Isa) (families : Families) (r : Result (List ℕ) Stop) → HasRoom isa.memory
+    → IfOk (and_then r (λ text. inputs_of isa (groups_found isa families text))) IsPlaced
+placed-text isa families (Ok text) room = placed-groups isa (groups_found isa families text) room
+placed-text isa families (Err stop) room = tt
+
+placed-said : (files : Files) (isa : List ℕ) (families : Families) (names : List (List ℕ))
+    (r : Result AcceptedSpec Stop) → said_in files isa ≡ r
+    → IfOk (and_then r (λ said. and_then (text_in files None names)
+    (λ text. inputs_of said.spec (groups_found said.spec families text)))) IsPlaced
+placed-said files isa families names (Ok said) is =
+    let says = says-of files isa said is in
+    placed-text said.spec families (text_in files None names)
+    (accepted_have_room says.tree said says.accepted)
+placed-said files isa families names (Err stop) is = tt
+
+pub placed-inputs : (files : Files) (isa : List ℕ) (families : Families) (names : List (List ℕ))
+    (inputs : Inputs) → inputs_in files isa families names ≡ Ok inputs → IsPlaced inputs
+placed-inputs files isa families names inputs given =
+    subst (λ (r : Result Inputs Stop). IfOk r IsPlaced) given
+    (placed-said files isa families names (said_in files isa) refl)
+
+-- ---- and for the test of each label
+pub record AreTestable (inputs : Inputs) : Type 0 where
+  pub place : HasRoom inputs.isa.memory
+  pub each : All (IsTestableIfSelected inputs.isa) inputs.groups
+
+testable-by : (inputs : Inputs) (o : Option Label) → IsGood inputs → IsPlaced inputs
+    → find (lacks_room inputs.isa) inputs.groups ≡ o → IfOk (unless_for inputs o) AreTestable
+testable-by inputs None good place none =
+    record { place = place; each = all-testable inputs.isa inputs.groups good.valid none }
+testable-by inputs (Some l) good place some = tt
+
+testable-found : (r : Result Inputs Stop) → IfOk r IsGood → IfOk r IsPlaced
+    → IfOk (and_then r with_room) AreTestable
+testable-found (Ok inputs) good place =
+    testable-by inputs (find (lacks_room inputs.isa) inputs.groups) good place refl
+testable-found (Err stop) good place = tt
+
+testable-in : (files : Files) (isa : List ℕ) (families : Families) (names : List (List ℕ))
+    → IfOk (tested_in files isa families names) AreTestable
+testable-in files isa families names =
+    testable-found (inputs_in files isa families names)
+    (good-said files families names (said_in files isa))
+    (placed-said files isa families names (said_in files isa) refl)
+
 -- ---- those of a part
 kept-by : {X : Type 0} (P : X → Type 0) (b : Bool) (x : X) (rest : List X) → P x → All P rest
     → All P (if b then x ∷ rest else rest)
@@ -84,25 +146,31 @@ all-parted P part place (x ∷ xs) all =
     kept-by P (is_in part place) x (parted_from part (place + 1) xs) (All-head P x xs all)
     (all-parted P part (place + 1) xs (All-tail P x xs all))
 
-good-part : (part : Option PartValue) (r : Result Inputs Stop) → IfOk r IsGood
-    → IfOk (and_then r (λ inputs. Ok (parted_inputs part inputs))) IsGood
-good-part part (Ok inputs) good = record {
-  valid = all-parted (IsValidIfSelected inputs.isa) part 0 inputs.groups good.valid;
+testable-part : (part : Option PartValue) (r : Result Inputs Stop) → IfOk r AreTestable
+    → IfOk (and_then r (λ inputs. Ok (parted_inputs part inputs))) AreTestable
+testable-part part (Ok inputs) all = record {
+  place = all.place;
+  each = all-parted (IsTestableIfSelected inputs.isa) part 0 inputs.groups all.each;
 }
-good-part part (Err stop) good = tt
+testable-part part (Err stop) all = tt
 
-pub good-labels : (files : Files) (part : Option PartValue) (isa : List ℕ) (families : Families)
-    (names : List (List ℕ))
-    (inputs : Inputs) → labels_in files part isa families names ≡ Ok inputs → IsGood inputs
-good-labels files part isa families names inputs given =
-    subst (λ (r : Result Inputs Stop). IfOk r IsGood) given
-    (good-part part (inputs_in files isa families names)
-    (good-said files families names (said_in files isa)))
+pub testable-labels : (files : Files) (part : Option PartValue) (isa : List ℕ)
+    (families : Families) (names : List (List ℕ)) (inputs : Inputs)
+    → labels_in files part isa families names ≡ Ok inputs → AreTestable inputs
+testable-labels files part isa families names inputs given =
+    subst (λ (r : Result Inputs Stop). IfOk r AreTestable) given
+    (testable-part part (tested_in files isa families names)
+    (testable-in files isa families names))
 
 pub valid-good : (inputs : Inputs) (l : Label) → IsGood inputs → Contains inputs.groups l
     → IsTrue l.selected → IsValid inputs.isa l
 valid-good inputs l good there selected =
     All-contains (IsValidIfSelected inputs.isa) inputs.groups l good.valid there selected
+
+testable-of : (inputs : Inputs) (l : Label) → AreTestable inputs → Contains inputs.groups l
+    → IsTrue l.selected → IsTestable inputs.isa l
+testable-of inputs l all there selected =
+    All-contains (IsTestableIfSelected inputs.isa) inputs.groups l all.each there selected
 
 -- ---- the text of a label's test is that of its cases
 whole : (isa : Isa) (l : Label) (cs : List Solved) (text : List ℕ) → text_for isa l cs ≡ Some text
@@ -110,70 +178,65 @@ whole : (isa : Isa) (l : Label) (cs : List Solved) (text : List ℕ) → text_fo
 whole isa l [] text is = absurd cc
 whole isa l (c ∷ cs) text is = cc
 
-pub runs-label : (isa : Isa) (l : Label) (text : List ℕ) → IsValid isa l
+pub runs-label : (isa : Isa) (l : Label) (text : List ℕ) → HasRoom isa.memory → IsTestable isa l
     → text_of_label isa l ≡ Some text
     → TestRuns isa l text (claims_of isa l) (step_limit (cases_of isa l))
-runs-label isa l text valid is = subst
+runs-label isa l text place test is = subst
     (λ (t : List ℕ). TestRuns isa l t (claims_of isa l) (step_limit (cases_of isa l)))
-    (whole isa l (cases_of isa l) text is) (label_runs isa l valid)
+    (whole isa l (cases_of isa l) text is)
+    (label_runs isa place l test.valid (regions_fit isa (cases_of isa l) test.room))
 
-reads-label : (isa : Isa) (l : Label) (text : List ℕ) → IsValid isa l
+reads-label : (isa : Isa) → HasRoom isa.memory → (l : Label) (text : List ℕ) → IsValid isa l
     → text_of_label isa l ≡ Some text
     → claims_read text ≡ Some (map (named_claim l) (claims_of isa l))
-reads-label isa l text valid is = back_there isa l valid text (claims_of isa l)
+reads-label isa place l text valid is = back_there isa place l valid text (claims_of isa l)
     (cases_of isa l) refl refl (sym (whole isa l (cases_of isa l) text is))
 
 -- ---- of all that is made of accepted inputs
-tested-good : (inputs : Inputs) → IsGood inputs → AreTested inputs
-tested-good inputs good = record {
-  valid = λ l there selected. valid-good inputs l good there selected;
+tested-all : (inputs : Inputs) → AreTestable inputs → AreTested inputs
+tested-all inputs all = record {
+  valid = λ l there selected. (testable-of inputs l all there selected).valid;
   runs = λ l text there selected is.
-      runs-label inputs.isa l text (valid-good inputs l good there selected) is;
+      runs-label inputs.isa l text all.place (testable-of inputs l all there selected) is;
   read = λ l text there selected is.
-      reads-label inputs.isa l text (valid-good inputs l good there selected) is;
+      reads-label inputs.isa all.place l text (testable-of inputs l all there selected).valid is;
   accounted = λ l k there within. accounted inputs.isa l k within;
   lines = λ l there selected. has-lines inputs.isa l;
 }
-
-pub tested : (files : Files) (isa : List ℕ) (families : Families) (names : List (List ℕ))
-    (inputs : Inputs)
-    → inputs_in files isa families names ≡ Ok inputs → AreTested inputs
-tested files isa families names inputs given =
-    tested-good inputs (good-inputs files isa families names inputs given)
 
 pub tested-labels : (files : Files) (part : Option PartValue) (isa : List ℕ) (families : Families)
     (names : List (List ℕ)) (inputs : Inputs)
     → labels_in files part isa families names ≡ Ok inputs → AreTested inputs
 tested-labels files part isa families names inputs given =
-    tested-good inputs (good-labels files part isa families names inputs given)
+    tested-all inputs (testable-labels files part isa families names inputs given)
 
 -- ---- each test can be run
-runnable-with : (isa : Isa) (l : Label) (text : Option (List ℕ)) → IsValid isa l
-    → text_of_label isa l ≡ text
+runnable-with : (isa : Isa) (l : Label) (text : Option (List ℕ)) → HasRoom isa.memory
+    → IsTestable isa l → text_of_label isa l ≡ text
     → All (IsRunnable isa) (test_with l.name (step_limit (cases_of isa l)) text)
-runnable-with isa l None valid is = All-nil (IsRunnable isa)
-runnable-with isa l (Some text) valid is =
+runnable-with isa l None place test is = All-nil (IsRunnable isa)
+runnable-with isa l (Some text) place test is =
     All-cons (IsRunnable isa) (record {
       name = l.name;
       text = text;
       steps = step_limit (cases_of isa l);
     }) [] (runnable isa l l.name text (claims_of isa l) (step_limit (cases_of isa l))
-    (runs-label isa l text valid is)) (All-nil (IsRunnable isa))
+    (runs-label isa l text place test is)) (All-nil (IsRunnable isa))
 
-runnable-by : (isa : Isa) (l : Label) (b : Bool) → (b ≡ true → IsValid isa l)
-    → All (IsRunnable isa)
+runnable-by : (isa : Isa) (l : Label) (b : Bool) → HasRoom isa.memory
+    → (b ≡ true → IsTestable isa l) → All (IsRunnable isa)
     (if b then test_with l.name (step_limit (cases_of isa l)) (text_of_label isa l) else [])
-runnable-by isa l true valid =
-    runnable-with isa l (text_of_label isa l) (valid refl) refl
-runnable-by isa l false valid = All-nil (IsRunnable isa)
+runnable-by isa l true place test =
+    runnable-with isa l (text_of_label isa l) place (test refl) refl
+runnable-by isa l false place test = All-nil (IsRunnable isa)
 
-runnable-all : (isa : Isa) (ls : List Label) → All (IsValidIfSelected isa) ls
-    → All (IsRunnable isa) (tests_of isa ls)
-runnable-all isa [] valid = All-nil (IsRunnable isa)
-runnable-all isa (l ∷ ls) valid =
+runnable-all : (isa : Isa) (ls : List Label) → HasRoom isa.memory
+    → All (IsTestableIfSelected isa) ls → All (IsRunnable isa) (tests_of isa ls)
+runnable-all isa [] place each = All-nil (IsRunnable isa)
+runnable-all isa (l ∷ ls) place each =
     All-append (IsRunnable isa) (tests_of_label isa l) (tests_of isa ls)
-    (runnable-by isa l l.selected (All-head (IsValidIfSelected isa) l ls valid))
-    (runnable-all isa ls (All-tail (IsValidIfSelected isa) l ls valid))
+    (runnable-by isa l l.selected place (All-head (IsTestableIfSelected isa) l ls each))
+    (runnable-all isa ls place (All-tail (IsTestableIfSelected isa) l ls each))
 
 -- ---- what `run` accepts, it accepts of the same files
 abbrev with_device : Inputs → Result Told Stop → Result RunInputs Stop
@@ -209,6 +272,6 @@ pub runnable-labels : (files : Files) (part : Option PartValue) (isa : List ℕ)
     → labels_in files part isa families names ≡ Ok inputs → (test : Test)
     → Contains (tests_of inputs.isa inputs.groups) test → IsRunnable inputs.isa test
 runnable-labels files part isa families names inputs given test there =
-    let good = good-labels files part isa families names inputs given in
+    let all = testable-labels files part isa families names inputs given in
     All-contains (IsRunnable inputs.isa) (tests_of inputs.isa inputs.groups) test
-    (runnable-all inputs.isa inputs.groups good.valid) there
+    (runnable-all inputs.isa inputs.groups all.place all.each) there

@@ -23,13 +23,15 @@ use Rattle.rvs_normal.proofs.Truths.{both, or-both, not-true}
 use Rattle.rvs_test.specs.Made.{text_of_label}
 use Rattle.rvs_suite.specs.Specification.{said_in}
 use Rattle.rvs_suite.specs.GroupFiles.{Inputs, and_then, text_in, checked_groups, tree_groups}
-use Rattle.rvs_suite.specs.GroupFiles.{groups_found, inputs_of, inputs_in, parted_inputs, labels_in}
+use Rattle.rvs_suite.specs.GroupFiles.{groups_found, inputs_of, inputs_in, tested_in}
+use Rattle.rvs_suite.specs.GroupFiles.{parted_inputs, labels_in}
 use Rattle.rvs_parts.specs.Parts.{PartValue, is_in, parted_from}
 use Rattle.std.specs.Prelude.{◌+◌, ◌&&◌, ◌||◌}
 use Rattle.rvs_suite.specs.Generate.{path_of}
 use Rattle.rvs_suite.specs.Generating.{with_text, with_test, with_tests}
 use Rattle.rvs_suite.proofs.Paths.{same-ending}
 use Rattle.rvs_suite.proofs.Sparing.{held, unwritten}
+use Rattle.rvs_suite.proofs.Testable.{room-keeps}
 
 -- ---- no two labels have one name
 top-own : (d : Data) → KeysOnce d → keys_are_own (own_pairs d) ≡ true
@@ -131,8 +133,9 @@ pub apart-labels : (files : Files) (part : Option PartValue) (isa : List ℕ) (f
     → labels_in files part isa families names ≡ Ok inputs → names_are_apart inputs.groups ≡ true
 apart-labels files part isa families names inputs given =
     subst (λ (r : Result Inputs Stop). IfOk r AreApart) given
-    (apart-part part (inputs_in files isa families names)
-    (apart-said files families names (said_in files isa)))
+    (apart-part part (tested_in files isa families names)
+    (room-keeps AreApart (inputs_in files isa families names)
+    (apart-said files families names (said_in files isa))))
 
 -- ---- so their tests are different files
 apart-paths : (work a b : List ℕ) → bytes_eq a b ≡ false → path_of work a ≢ path_of work b

@@ -14,7 +14,7 @@ use Rattle.rvs_suite.specs.GroupFiles.{and_then}
 use Rattle.rvs_suite.specs.Reference.{test_limit}
 use Rattle.rvs_suite.specs.RunDatabase.{Given, made_found}
 use Rattle.rvs_suite.specs.RunLeft.{with_executable}
-use Rattle.rvs_suite.specs.RunTests.{Bench, passes, with_one}
+use Rattle.rvs_suite.specs.RunTests.{Bench, filling, passes, with_one}
 use Rattle.rvs_suite.specs.TestRun.{found_end}
 use Rattle.rvs_suite.specs.declared.judging.Made.{Made}
 
@@ -53,8 +53,7 @@ with_trials (t ∷ ts) files = with_trials ts (with_trial t files)
 pub record IsTrialOf (bench : Bench) (files : Files) (given : Given) (t : Trial) : Type 0 where
   pub made : made_in files bench given ≡ Ok t.made
   pub words : t.run.words
-      ≡ started_with bench.program t.made.files.test t.made.files.executable t.made.files.device
-      bench.device.command
+      ≡ started_with (filling bench t.made.files) bench.device.command
   pub test : t.run.test ≡ started_on t.made files t.made.files.test
   pub before : t.run.before ≡ Some []
 
@@ -70,8 +69,7 @@ AreTrialsOf bench files (given ∷ rest) (t ∷ ts) =
 -- what the device is asked on a test
 abbrev pub task_on : Bench → Made → Task
 task_on bench made =
-    task bench.device.command bench.program made.files.test made.files.executable made.files.device
-    made.words
+    task bench.device.command (filling bench made.files) made.words
 
 -- the verdict on a test: what its run left, beside the words of the reference machine
 abbrev pub trial_verdict : Trial → TestVerdict

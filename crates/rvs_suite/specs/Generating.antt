@@ -15,8 +15,9 @@ use Rattle.rvs_suite.specs.Answered.{Answered, OnDone}
 use Rattle.rvs_suite.specs.Call.{Call, Asks}
 use Rattle.rvs_suite.specs.GenerateTexts.{unsolved_line, name_line, listing}
 use Rattle.rvs_suite.specs.Generate.{path_of}
-use Rattle.rvs_suite.specs.GroupFiles.{Inputs, labels_in}
-use Rattle.rvs_suite.specs.Headline.{HasProvedTest}
+use Rattle.rvs_suite.specs.GroupFiles.{Inputs, inputs_in, labels_in}
+use Rattle.rvs_suite.specs.Headline.{HasProvedTest, HasLowTest}
+use Rattle.rvs_suite.specs.Rooms.{AsksForRoom}
 use Rattle.rvs_suite.specs.Tests.{tests_of}
 use Rattle.rvs_suite.specs.declared.gathering.Test.{Test}
 use Rattle.rvs_words.specs.declared.command.Command.TheVariants.{Generate}
@@ -76,6 +77,18 @@ pub record Generates (call : Call) (files : Files) (asked : GenerateArguments) :
       → IsTrue l.selected
       → IsSolvableAt inputs.isa l k → call.status ≡ Done → call.new.host.files ≡ Some files'
       → HasProvedTest files' (path_of asked.work l.name) inputs.isa l
+  -- so also where the core's text begins at 0 and its data at 65,536: the test's image lies there
+  pub low : (inputs : Inputs) (l : Label) (k : ℕ) (files' : Files)
+      → labels_in files asked.part asked.isa asked.families asked.groups ≡ Ok inputs
+      → inputs.isa.memory ≡ record { text_base = 0; data_base = 0x1_0000 }
+      → Contains inputs.groups l
+      → IsTrue l.selected
+      → IsSolvableAt inputs.isa l k → call.status ≡ Done → call.new.host.files ≡ Some files'
+      → HasLowTest files' (path_of asked.work l.name) inputs.isa l
+  -- Where the core has no room for the test of a selected label, the first such label is named, and
+  -- no file is written.
+  pub rooms : (inputs : Inputs) → inputs_in files asked.isa asked.families asked.groups ≡ Ok inputs
+      → AsksForRoom call files inputs
   -- where it is done, each label that has a test has it in its file
   pub there : (inputs : Inputs) (l : Label) (text : List ℕ) (files' : Files)
       → labels_in files asked.part asked.isa asked.families asked.groups ≡ Ok inputs

@@ -1,5 +1,6 @@
 -- What comes of coverage group files, which are joined and read as one text.
 use Rattle.std.specs.Prelude.{ℕ, ◌+◌, ◌-◌, nat_lt, if◌then◌else◌, List, [], ◌∷◌, ◌++◌, length}
+use Rattle.std.specs.Prelude.{◌&&◌, not, Bool, find}
 use Rattle.std.specs.Prelude.{Option, Some, None, unwrap_or, Result, Ok, Err}
 use Rattle.rvs_base.specs.Host.{Files}
 use Rattle.rvs_abstract.specs.declared.families.Families.{Families}
@@ -9,7 +10,9 @@ use Rattle.rvs_plan.specs.declared.stop.Stop.{Stop}
 use Rattle.rvs_plan.specs.declared.stop.Stop.TheVariants.{Refused, NoFile}
 use Rattle.rvs_yaml.specs.Parsed.{Parsed, answer}
 use Rattle.rvs_insn.specs.Isa.{Isa}
-use Rattle.rvs_cgf.specs.Groups.{Label, Refusal, groups_of}
+use Rattle.rvs_cgf.specs.Groups.{Label, Refusal, groups_of, refusal_at, at_label}
+use Rattle.rvs_cgf.specs.declared.refusal.CgfKind.TheVariants.{NoRoom}
+use Rattle.rvs_test.specs.Made.{has_room}
 use Rattle.rvs_suite.specs.Specification.{yaml_text, said_in, specification}
 use Rattle.rvs_parts.specs.Parts.{PartValue, parted}
 use Rattle.rvs_suite.specs.GroupTexts.{groups_name, group_text}
@@ -71,6 +74,28 @@ abbrev pub inputs_in : Files → List ℕ → Families → List (List ℕ) → R
 inputs_in files isa families names = and_then (said_in files isa) (λ said. and_then
     (text_in files None names) (λ text. inputs_of said.spec (groups_found said.spec families text)))
 
+-- ---- whose tests have room
+-- a selected label for whose test the core has no room
+unfoldable pub lacks_room : Isa → Label → Bool
+lacks_room isa l = l.selected && not (has_room isa l)
+
+-- why the groups are refused for such a label
+abbrev pub no_room : Label → List ℕ
+no_room l = group_text (refusal_at (at_label l.name) NoRoom)
+
+-- inputs are refused for such a label, where there is one
+abbrev pub unless_for : Inputs → Option Label → Result Inputs Stop
+unless_for inputs None = Ok inputs
+unless_for inputs (Some l) = Err (Refused (no_room l))
+
+-- they are, for the first such label
+abbrev pub with_room : Inputs → Result Inputs Stop
+with_room inputs = unless_for inputs (find (lacks_room inputs.isa) inputs.groups)
+
+-- the same of what files give: what tests are made of
+abbrev pub tested_in : Files → List ℕ → Families → List (List ℕ) → Result Inputs Stop
+tested_in files isa families names = and_then (inputs_in files isa families names) with_room
+
 -- the labels of a part, where one is asked for
 abbrev pub parted_inputs : Option PartValue → Inputs → Inputs
 parted_inputs part inputs = record { isa = inputs.isa; groups = parted part inputs.groups }
@@ -78,7 +103,7 @@ parted_inputs part inputs = record { isa = inputs.isa; groups = parted part inpu
 abbrev pub labels_in : Files → Option PartValue → List ℕ → Families → List (List ℕ)
     → Result Inputs Stop
 labels_in files part isa families names =
-    and_then (inputs_in files isa families names) (λ inputs. Ok (parted_inputs part inputs))
+    and_then (tested_in files isa families names) (λ inputs. Ok (parted_inputs part inputs))
 
 -- ---- as plans
 -- what the files so far leave of the limit, for the next and the line feed before it
@@ -109,9 +134,16 @@ group_inputs isa families names = do
   groups ← group_files said.spec families names
   gives (record { isa = said.spec; groups = groups })
 
+abbrev pub asks_room : Inputs → Plan Inputs
+asks_room inputs = Ends (with_room inputs)
+
+-- the same, and then there has to be room for the tests of all labels
+abbrev pub tested_inputs : List ℕ → Families → List (List ℕ) → Plan Inputs
+tested_inputs isa families names = group_inputs isa families names >>= asks_room
+
 abbrev pub gives_part : Option PartValue → Inputs → Plan Inputs
 gives_part part inputs = gives (parted_inputs part inputs)
 
--- all of them are read and checked, and those of a part are kept
+-- all of them are read and checked, and the labels of a part are kept
 abbrev pub part_inputs : Option PartValue → List ℕ → Families → List (List ℕ) → Plan Inputs
-part_inputs part isa families names = group_inputs isa families names >>= gives_part part
+part_inputs part isa families names = tested_inputs isa families names >>= gives_part part

@@ -4,6 +4,7 @@ use Rattle.std.specs.Prelude.{slice_get, map}
 use Rattle.rvs_base.specs.Host.{Files}
 use Rattle.rvs_insn.specs.Isa.{Isa}
 use Rattle.rvs_machine.specs.Image.{ImageValue}
+use Rattle.rvs_machine.specs.Machine.{started}
 use Rattle.rvs_machine.specs.Run.{Outcome}
 use Rattle.rvs_machine.specs.declared.event.Executed.{Executed}
 use Rattle.rvs_machine.specs.declared.event.End.TheVariants.{Halted}
@@ -42,7 +43,7 @@ pub record IsKept (isa : Isa) (l : Label) (image : ImageValue) (o : Outcome)
   pub entry : Executed
   pub more : List Executed
   pub only : IsOnly at entry more o.trace
-  pub hit : HitsAs l point point.meaning entry more (words_of_case image isa o n.case)
+  pub hit : HitsAs isa.memory l point point.meaning entry more (words_of_case image isa o n.case)
   -- so a log of the run counts it
   pub counted : 1 ≤ count (map as_entry o.trace) (record { ops = l.ops; point = point })
 
@@ -57,6 +58,8 @@ pub record IsProved (isa : Isa) (l : Label) (bytes : List ℕ) : Type 0 where
   pub image : ImageValue
   pub stands : Assembles bytes isa image
   pub alone : answer isa bytes ≡ Ok image
+  -- it lies where the memory of the core does
+  pub placed : image.memory ≡ isa.memory
   pub halts : (run_on isa image steps).end ≡ Halted
   pub within : length (run_on isa image steps).trace ≤ steps
   pub kept : All (IsKept isa l image (run_on isa image steps)) names
@@ -69,3 +72,11 @@ pub record HasProvedTest (files : Files) (path : List ℕ) (isa : Isa) (l : Labe
   pub bytes : List ℕ
   pub there : files path ≡ Some bytes
   pub proved : IsProved isa l bytes
+
+-- a file holds a test whose image has its text from 0 on and its data from 65,536 on, and whose run
+-- begins at 0
+pub record HasLowTest (files : Files) (path : List ℕ) (isa : Isa) (l : Label) : Type 0 where
+  pub test : HasProvedTest files path isa l
+  pub text : test.proved.image.memory.text_base ≡ 0
+  pub data_at : test.proved.image.memory.data_base ≡ 0x1_0000
+  pub starts : (started test.proved.image isa).state.pc ≡ 0

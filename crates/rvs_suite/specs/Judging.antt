@@ -16,9 +16,10 @@ use Rattle.rvs_suite.specs.Answered.{Answered, HasLeft}
 use Rattle.rvs_suite.specs.Call.{Call, Asks, NothingFailed, AnswersOnly}
 use Rattle.rvs_suite.specs.GenerateTexts.{listing}
 use Rattle.rvs_suite.specs.Generate.{path_of}
-use Rattle.rvs_suite.specs.GroupFiles.{and_then, labels_in}
+use Rattle.rvs_suite.specs.GroupFiles.{Inputs, and_then, inputs_in, labels_in}
 use Rattle.rvs_suite.specs.DeviceInput.{device_in}
 use Rattle.rvs_suite.specs.Headline.{HasProvedTest}
+use Rattle.rvs_suite.specs.Rooms.{AsksForRoom}
 use Rattle.rvs_suite.specs.Tests.{reference_words, executable_of, tests_of}
 use Rattle.rvs_suite.specs.TestFiles.{IsOther, files_of}
 use Rattle.rvs_suite.specs.RunTests.{Bench, files_for, asks_elf, tally_line, verdict_of_all}
@@ -93,6 +94,10 @@ pub record Runs (call : Call) (files : Files) (asked : RunArguments) : Type 0 wh
       → IsTrue l.selected → IsSolvableAt inputs.groups.isa l k
       → (call.status ≡ Done) ⊎ (call.status ≡ NotPassed) → call.new.host.files ≡ Some files'
       → HasProvedTest files' (path_of asked.work l.name) inputs.groups.isa l
+  -- where the core has no room for the test of a selected label, the first such label is named, no
+  -- file is written, and the device isn't run
+  pub rooms : (inputs : Inputs) → inputs_in files asked.isa asked.families asked.groups ≡ Ok inputs
+      → AsksForRoom call files inputs
   -- where all tests were judged, the files of each are there
   pub there : (inputs : RunInputs) (test : Test) (files' : Files)
       → run_inputs_in files asked ≡ Ok inputs → Contains (tests_in inputs) test

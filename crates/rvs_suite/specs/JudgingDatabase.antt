@@ -131,7 +131,7 @@ pub record HasExecutable (bench : Bench) (files' : Files) (given : Given) : Type
   pub there : files' (files_at bench.work given.place given.name).executable
       ≡ Some (elf_of image)
   pub again : ImageValue
-  pub read : image_of_elf (elf_of image) ≡ Ok again
+  pub read : image_of_elf bench.isa.memory (elf_of image) ≡ Ok again
   pub alike : RunsAs again image
 
 -- a file that is none of those that are written for a test

@@ -18,6 +18,7 @@ pub mod Causes
 pub mod Answered
 pub mod GroupTexts
 pub mod GroupFiles
+pub mod Testable
 pub mod Seen
 pub mod GroupsView
 pub mod Normalize
@@ -34,6 +35,7 @@ pub mod GenerateTexts
 pub mod GenerateView
 pub mod Tested
 pub mod Headline
+pub mod Rooms
 pub mod Generate
 pub mod Generating
 pub mod TestFiles

@@ -23,7 +23,7 @@ use Rattle.rvs_page.specs.declared.shown.Verdict.TheVariants as verdict
 use Rattle.rvs_page.specs.declared.shown.Core.{Core}
 use Rattle.rvs_page.specs.declared.shown.Page.{Page}
 use Rattle.rvs_page.specs.declared.shown.Label.{Label as ShownLabel}
-use Rattle.rvs_suite.specs.GroupFiles.{Inputs, and_then, inputs_in, group_inputs}
+use Rattle.rvs_suite.specs.GroupFiles.{Inputs, and_then, tested_in, tested_inputs}
 use Rattle.rvs_suite.specs.DeviceInput.{device_file, device_in}
 use Rattle.rvs_suite.specs.LogReport.{takes_logs, logs_in}
 use Rattle.rvs_suite.specs.Coverage.{uncounted, counts_more, file_name}
@@ -88,7 +88,7 @@ all_shown_in files isa work counts (l ∷ ls) =
 -- the page of what the files give, or the first input that isn't there or is refused
 abbrev pub page_in : Files → ReportArguments → Result Page Stop
 page_in files asked =
-    and_then (inputs_in files asked.isa asked.families asked.groups) (λ inputs.
+    and_then (tested_in files asked.isa asked.families asked.groups) (λ inputs.
     and_then (device_in files asked.device) (λ device.
     and_then (logs_in files file_name (counts_more asked.windows inputs.groups)
     (uncounted inputs.groups) asked.logs) (λ covered.
@@ -124,7 +124,7 @@ shows_labels isa work shown counts (l ∷ ls) =
 -- tests, one test after the other
 abbrev pub finds_page : ReportArguments → Plan Page
 finds_page asked = do
-  inputs ← group_inputs asked.isa asked.families asked.groups
+  inputs ← tested_inputs asked.isa asked.families asked.groups
   device ← device_file asked.device
   covered ← takes_logs file_name (counts_more asked.windows inputs.groups)
       (uncounted inputs.groups) asked.logs

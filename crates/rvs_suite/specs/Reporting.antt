@@ -18,6 +18,7 @@ use Rattle.rvs_suite.specs.Tests.{reference_words, tests_of}
 use Rattle.rvs_suite.specs.TestFiles.{files_of}
 use Rattle.rvs_suite.specs.Findings.{finding_in}
 use Rattle.rvs_suite.specs.Report.{page_in, end_by}
+use Rattle.rvs_suite.specs.Rooms.{AsksForRoom}
 use Rattle.rvs_suite.specs.declared.gathering.Test.{Test}
 use Rattle.rvs_words.specs.declared.command.Command.TheVariants.{Report}
 use Rattle.rvs_words.specs.declared.command.ReportArguments.{ReportArguments}
@@ -60,6 +61,9 @@ pub record Reports (call : Call) (files : Files) (asked : ReportArguments) : Typ
       → page_in files asked ≡ Ok page
       → (verdict_of page.labels ≡ verdict.Pass)
       ↔ All (HoldPass files inputs.isa asked.work) (tests_of inputs.isa inputs.groups)
+  -- where the core has no room for the test of a selected label, the first such label is named
+  pub rooms : (inputs : Inputs) → inputs_in files asked.isa asked.families asked.groups ≡ Ok inputs
+      → AsksForRoom call files inputs
   -- what is found of a test hangs on its own three files alone
   pub apart : (others : Files) (isa : Isa) (work : List ℕ) (test : Test)
       → AreAlike files others work test

@@ -12,15 +12,14 @@ use Rattle.rvs_device.specs.Judged.{verdict_on}
 use Rattle.rvs_device.specs.Printed.{verdict_line}
 use Rattle.rvs_device.specs.declared.verdicts.TestVerdict.{TestVerdict}
 use Rattle.rvs_suite.specs.Tests.{reference_words}
-use Rattle.rvs_suite.specs.RunTests.{Bench, files_for, executable_for, passes, with_one}
+use Rattle.rvs_suite.specs.RunTests.{Bench, files_for, filling, executable_for, passes, with_one}
 use Rattle.rvs_suite.specs.declared.gathering.Test.{Test}
 
 -- a run of the device on a test: with the device's words, the test's text in its file, and an empty
 -- signature file before
 pub record IsRunOf (bench : Bench) (test : Test) (run : DeviceRun) : Type 0 where
   pub words : run.words
-      ≡ started_with bench.program (files_for bench test).test (files_for bench test).executable
-      (files_for bench test).device bench.device.command
+      ≡ started_with (filling bench (files_for bench test)) bench.device.command
   pub text : run.test ≡ Some test.text
   pub before : run.before ≡ Some []
 
@@ -38,8 +37,7 @@ verdict_by bench test run = verdict_on run.status (reference_words bench.isa tes
 -- what the device is asked on a test
 abbrev pub task_of : Bench → Test → Task
 task_of bench test =
-    task bench.device.command bench.program (files_for bench test).test
-    (files_for bench test).executable (files_for bench test).device
+    task bench.device.command (filling bench (files_for bench test))
     (reference_words bench.isa test)
 
 -- what the run on a test left spells the words of the reference machine

@@ -7,7 +7,7 @@ use Rattle.rvs_plan.specs.declared.status.Finish.TheVariants.{Done, NotPassed}
 use Rattle.rvs_insn.specs.Isa.{Isa}
 use Rattle.rvs_sig.specs.Words.{text_of_words}
 use Rattle.rvs_cgf.specs.Groups.{Label}
-use Rattle.rvs_device.specs.Command.{wants_elf}
+use Rattle.rvs_device.specs.Command.{wants_elf, Filling}
 use Rattle.rvs_device.specs.DeviceFile.{Told}
 use Rattle.rvs_device.specs.Plans.{judged}
 use Rattle.rvs_device.specs.Judging.{task}
@@ -61,10 +61,20 @@ tally_line tests passed =
     codes "total " ++ (decimal tests ++ (codes " tests, " ++ (decimal passed ++ (codes " pass, "
     ++ (decimal (tests - passed) ++ codes " fail\n")))))
 
+-- what stands for the placeholders of the device's words, for a test in these files
+abbrev pub filling : Bench → TestFiles → Filling
+filling bench files = record {
+  program = bench.program;
+  test = files.test;
+  elf = files.executable;
+  signature = files.device;
+  text_base = bench.isa.memory.text_base;
+  data_base = bench.isa.memory.data_base;
+}
+
 -- the device is run on the test in these files, and judged by these words
 abbrev pub judges_by : Bench → TestFiles → List ℕ → Plan TestVerdict
-judges_by bench files words =
-    judged (task bench.device.command bench.program files.test files.executable files.device words)
+judges_by bench files words = judged (task bench.device.command (filling bench files) words)
 
 -- the words are written, and then the device is run
 abbrev pub judges_words : Bench → TestFiles → List ℕ → Plan TestVerdict

@@ -74,8 +74,9 @@ text_found name (Err refusal) = Err (asm_text name refusal)
 
 -- the image of a test file, which is an image file, an executable or assembler text
 abbrev pub image_found : Isa → List ℕ → List ℕ → Result ImageValue (List ℕ)
-image_found isa name bytes = if is_image_name name then file_found name (image_of_bytes bytes)
-    else (if is_executable_name name then executable_found name (image_of_elf bytes)
+image_found isa name bytes = if is_image_name name then file_found name
+    (image_of_bytes isa.memory bytes)
+    else (if is_executable_name name then executable_found name (image_of_elf isa.memory bytes)
     else text_found name (answer isa bytes))
 
 -- how many instructions a test may have, where nothing says it

@@ -1,10 +1,10 @@
 // The tests of all labels at once.
 ghost use Rattle.std.specs.Prelude.{◌≡◌, ◌++◌, All, IfOk, IfSome, OnOk};
 ghost use Rattle.rvs_cgf.specs.GroupView.{label_view};
-ghost use Rattle.rvs_cgf.specs.Valid.{IsValidIfSelected};
 ghost use Rattle.rvs_suite.specs.GenerateTexts as texts;
 ghost use Rattle.rvs_suite.specs.GenerateView.{totals_view};
 ghost use Rattle.rvs_suite.specs.GroupsView.{groups_view};
+ghost use Rattle.rvs_suite.specs.Testable.{IsTestableIfSelected};
 ghost use Rattle.rvs_suite.specs.Generate.{IsSaid};
 ghost use Rattle.rvs_suite.specs.Tests.{IsRunnable, test_with, tests_of_label, tests_of};
 
@@ -47,7 +47,7 @@ pub struct Gathered {
 ///
 /// [`NoMemory`].
 pub fn gather_tests(alloc: Global, inputs: &Inputs) -> Result<Gathered, NoMemory>
-    requires { All (λ l. IsValidIfSelected inputs.now.isa (label_view l)) inputs.now.groups }
+    requires { All (λ l. IsTestableIfSelected inputs.now.isa (label_view l)) inputs.now.groups }
     ensures text { IfOk result (λ g.
         g.text ≡ texts.listing inputs.now.isa (groups_view inputs.now.groups)) }
     ensures tests { IfOk result (λ g.
@@ -71,7 +71,7 @@ fn with_total(alloc: Global, said: Said) -> Result<Text, NoMemory>
 }
 
 fn gather_labels(alloc: Global, isa: &IsaSpec, labels: &[Label]) -> Result<Gathering, NoMemory>
-    requires { All (λ l. IsValidIfSelected isa.now (label_view l)) labels.now }
+    requires { All (λ l. IsTestableIfSelected isa.now (label_view l)) labels.now }
     ensures said { IfOk result (λ g.
         IsSaid isa.now (groups_view labels.now) g.said.text (totals_view g.said.totals)) }
     ensures tests { IfOk result (λ g. g.tests ≡ tests_of isa.now (groups_view labels.now)) }
@@ -93,7 +93,7 @@ fn gather_label(
     said: &mut Said,
     tests: &mut Items<Test>,
 ) -> Result<(), NoMemory>
-    requires { IsValidIfSelected isa.now (label_view label.now) }
+    requires { IsTestableIfSelected isa.now (label_view label.now) }
     ensures text { OnOk result (said.new.text
         ≡ said.old.text ++ texts.label_text isa.now (label_view label.now)) }
     ensures totals { OnOk result (totals_view said.new.totals

@@ -21,7 +21,7 @@ use crate::gathering::Test;
 use crate::test_files::TestFiles;
 use crate::test_run::{image_of_text, run_image};
 use rvs_base::{Bytes, Host, Items, NoMemory, Sink, Text};
-use rvs_device::{Device, JudgeFault, TestVerdict, judge, verdict_line};
+use rvs_device::{Device, Filling, JudgeFault, TestVerdict, judge, verdict_line};
 use rvs_elf::write_elf;
 use rvs_insn::IsaSpec;
 use rvs_machine::Image;
@@ -230,6 +230,20 @@ pub fn judge_words<H: Host>(
     judge_device(alloc, host, bench, files, words)
 }
 
+/// Where the text of the core begins.
+fn text_base(bench: &Bench) -> u32
+    ensures { result ≡ bench.now.isa.memory.text_base }
+{
+    bench.isa.memory.text_base
+}
+
+/// Where its data begin.
+fn data_base(bench: &Bench) -> u32
+    ensures { result ≡ bench.now.isa.memory.data_base }
+{
+    bench.isa.memory.data_base
+}
+
 /// Runs the device on a test that is written, and judges what it leaves by the reference's words.
 fn judge_device<H: Host>(
     alloc: Global,
@@ -244,16 +258,15 @@ fn judge_device<H: Host>(
 {
     let test = owned(alloc, files.test.as_str())?;
     let signature = owned(alloc, files.device.as_str())?;
-    let judged = judge(
-        alloc,
-        host,
-        &bench.device,
-        bench.program.as_str(),
-        test.as_str(),
-        files.executable.as_str(),
-        signature.as_str(),
-        words,
-    );
+    let filling = Filling {
+        program: bench.program.as_str(),
+        test: test.as_str(),
+        elf: files.executable.as_str(),
+        signature: signature.as_str(),
+        text_base: text_base(bench),
+        data_base: data_base(bench),
+    };
+    let judged = judge(alloc, host, &bench.device, filling, words);
     with_stop(test, signature, judged)
 }
 

@@ -22,6 +22,7 @@ mod propagating;
 mod reference;
 mod reporting;
 mod reviewing;
+mod rooms;
 mod run;
 mod run_database;
 mod selecting;

@@ -1,10 +1,10 @@
 // What is made of labels, and said of them.
 ghost use Rattle.std.specs.Prelude.{◌≡◌, ◌<◌, ◌++◌, [], IfOk, IfSome, OnOk};
 ghost use Rattle.rvs_cgf.specs.GroupView.{label_view};
-ghost use Rattle.rvs_cgf.specs.Valid.{IsValid};
 ghost use Rattle.rvs_test.specs.Claimed.{TestRuns};
 ghost use Rattle.rvs_suite.specs.GenerateTexts as texts;
 ghost use Rattle.rvs_suite.specs.GenerateView.{IsMade, totals_view};
+ghost use Rattle.rvs_suite.specs.Testable.{IsTestable};
 
 use crate::listing::{Totals, push_made};
 use rvs_base::{NoMemory, Text};
@@ -48,7 +48,7 @@ pub fn say_made(
     label: &Label,
     said: &mut Said,
 ) -> Result<Made, NoMemory>
-    requires { IsValid isa.now (label_view label.now) }
+    requires { IsTestable isa.now (label_view label.now) }
     ensures made { IfOk result (λ m. IsMade isa.now (label_view label.now) m) }
     ensures runs { IfOk result (λ m. IfSome m.text (λ text.
         TestRuns isa.now (label_view label.now) text m.claims m.steps)) }
@@ -65,7 +65,7 @@ pub fn say_made(
 
 /// The test of a label.
 pub(crate) fn made_of(alloc: Global, label: &Label, isa: &IsaSpec) -> Result<Made, NoMemory>
-    requires { IsValid isa.now (label_view label.now) }
+    requires { IsTestable isa.now (label_view label.now) }
     ensures made { IfOk result (λ m. IsMade isa.now (label_view label.now) m) }
     ensures runs { IfOk result (λ m. IfSome m.text (λ text.
         TestRuns isa.now (label_view label.now) text m.claims m.steps)) }
@@ -83,7 +83,7 @@ fn make_counted<L: Ledger>(
     requires name { blank.name ≡ L.name }
     requires parts { blank.parts ≡ L.parts }
     requires some { 0 < blank.parts }
-    requires valid { IsValid isa.now (label_view label.now) }
+    requires testable { IsTestable isa.now (label_view label.now) }
     ensures made { IfOk result (λ m. IsMade isa.now (label_view label.now) m) }
     ensures runs { IfOk result (λ m. IfSome m.text (λ text.
         TestRuns isa.now (label_view label.now) text m.claims m.steps)) }

@@ -5,14 +5,15 @@ ghost use Rattle.rvs_plan.specs.World.{world};
 ghost use Rattle.rvs_plan.specs.Meets.{Meets};
 ghost use Rattle.rvs_parts.specs.Parts.{is_in, parted};
 ghost use Rattle.rvs_cgf.specs.GroupView.{label_view};
-ghost use Rattle.rvs_cgf.specs.Valid.{IsValidIfSelected};
 ghost use Rattle.rvs_suite.specs.Seen.{seen};
 ghost use Rattle.rvs_suite.specs.GroupsView.{inputs_view};
 ghost use Rattle.rvs_suite.specs.GroupFiles.{part_inputs, parted_inputs};
 ghost use Rattle.rvs_suite.specs.DatabaseInput.{marked_file, marked, marked_one};
+ghost use Rattle.rvs_suite.specs.Testable.{IsTestableIfSelected};
 
 use crate::database_file::read_database_file;
-use crate::group_files::{Inputs, read_inputs};
+use crate::group_files::Inputs;
+use crate::rooms::read_tested;
 use rvs_abstract::Families;
 use rvs_base::{Host, Items, NoMemory, Text};
 use rvs_cgf::{Groups, Label};
@@ -27,7 +28,8 @@ use std::alloc::Global;
 ///
 /// # Errors
 ///
-/// [`Stop`]: a file isn't there, can't be read, or isn't accepted.
+/// [`Stop`]: a file isn't there, can't be read, or isn't accepted, or the core has no room for the
+/// test of a label, in the part or not.
 pub fn read_labels<H: Host>(
     alloc: Global,
     host: &mut H,
@@ -38,16 +40,16 @@ pub fn read_labels<H: Host>(
 ) -> Result<Inputs, Stop>
     ensures met { (out : SinkState) → Meets (part_inputs part.now isa.now families names.now)
         (world (H.state host.old) out) (world (H.state host.new) out) (seen inputs_view result) }
-    ensures valid { IfOk result (λ i. All (λ l. IsValidIfSelected i.isa (label_view l)) i.groups) }
+    ensures testable { IfOk result (λ i. All (λ l. IsTestableIfSelected i.isa (label_view l)) i.groups) }
 {
-    let inputs = read_inputs(alloc, host, isa, families, names)?;
+    let inputs = read_tested(alloc, host, isa, families, names)?;
     Ok(kept_inputs(alloc, inputs, part)?)
 }
 
 fn kept_inputs(alloc: Global, inputs: Inputs, part: &Option<Part>) -> Result<Inputs, NoMemory>
-    requires { All (λ l. IsValidIfSelected inputs.isa (label_view l)) inputs.groups }
+    requires { All (λ l. IsTestableIfSelected inputs.isa (label_view l)) inputs.groups }
     ensures kept { IfOk result (λ i. inputs_view i ≡ parted_inputs part.now (inputs_view inputs)) }
-    ensures valid { IfOk result (λ i. All (λ l. IsValidIfSelected i.isa (label_view l)) i.groups) }
+    ensures testable { IfOk result (λ i. All (λ l. IsTestableIfSelected i.isa (label_view l)) i.groups) }
 {
     let Inputs { isa, groups } = inputs;
     let groups = kept_labels(alloc, groups, part)?;

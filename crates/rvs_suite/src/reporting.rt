@@ -6,7 +6,6 @@ ghost use Rattle.rvs_plan.specs.World.{World, world, IsAnswer};
 ghost use Rattle.rvs_plan.specs.Plan.{gives};
 ghost use Rattle.rvs_plan.specs.Meets.{MeetsWith, Meets};
 ghost use Rattle.rvs_cgf.specs.GroupView.{label_view};
-ghost use Rattle.rvs_cgf.specs.Valid.{IsValid, IsValidIfSelected};
 ghost use Rattle.rvs_count.specs.Report.{width};
 ghost use Rattle.rvs_device.specs.DeviceView.{told};
 ghost use Rattle.rvs_page.specs.declared.shown.State.TheVariants as state;
@@ -16,6 +15,7 @@ ghost use Rattle.rvs_suite.specs.Findings.{found_open};
 ghost use Rattle.rvs_suite.specs.GenerateView.{IsMade};
 ghost use Rattle.rvs_suite.specs.GroupsView.{groups_view, inputs_view};
 ghost use Rattle.rvs_suite.specs.Showing.{shown_label, shown_unselected};
+ghost use Rattle.rvs_suite.specs.Testable.{IsTestable, IsTestableIfSelected};
 ghost use Rattle.rvs_suite.specs.Tests.{IsRunnable};
 ghost use Rattle.rvs_suite.specs.Report.{end_by, instructions_in, page_with, shown_core};
 ghost use Rattle.rvs_suite.specs.Report.{shows_test, shows_by, shows_label, shows_labels};
@@ -24,9 +24,10 @@ ghost use Rattle.rvs_suite.specs.Report.{finds_page, puts_page, report};
 use crate::covering::{Covered, count_quietly};
 use crate::device_file::read_device_file;
 use crate::gathering::Test;
-use crate::group_files::{Inputs, read_inputs};
+use crate::group_files::Inputs;
 use crate::making::made_of;
 use crate::reviewing::{find_test, found_open};
+use crate::rooms::read_tested;
 use crate::showing::{shown_label, unselected};
 use crate::summing::total_of;
 use rvs_base::{Host, Items, NoMemory, Sink, Text};
@@ -83,7 +84,7 @@ fn find_page<H: Host>(alloc: Global, host: &mut H, asked: &ReportArguments) -> R
     ensures { (out : SinkState) → MeetsWith IsAnswer (finds_page asked.now)
         (world (H.state host.old) out) (world (H.state host.new) out) result }
 {
-    let inputs = read_inputs(alloc, host, &asked.isa, asked.families, &asked.groups)?;
+    let inputs = read_tested(alloc, host, &asked.isa, asked.families, &asked.groups)?;
     let device = read_device_file(alloc, host, &asked.device)?;
     let windows = asked.windows.as_slice();
     let logs = asked.logs.as_slice();
@@ -165,7 +166,7 @@ fn show_labels<H: Host>(
     labels: &[Label],
     counts: &[u64],
 ) -> Result<Items<ShownLabel>, Stop>
-    requires { All (λ l. IsValidIfSelected isa (label_view l)) labels.now }
+    requires { All (λ l. IsTestableIfSelected isa (label_view l)) labels.now }
     ensures { (out : SinkState) → MeetsWith IsAnswer
         (shows_labels isa work.now [] counts.now (groups_view labels.now))
         (world (H.state host.old) out) (world (H.state host.new) out) result }
@@ -189,7 +190,7 @@ fn show_label<H: Host>(
     label: &Label,
     counts: &[u64],
 ) -> Result<ShownLabel, Stop>
-    requires { IsValidIfSelected isa (label_view label.now) }
+    requires { IsTestableIfSelected isa (label_view label.now) }
     ensures { (out : SinkState) → MeetsWith IsAnswer
         (shows_label isa work.now counts.now (label_view label.now))
         (world (H.state host.old) out) (world (H.state host.new) out) result }
@@ -218,7 +219,7 @@ fn show_selected<H: Host>(
     label: &Label,
     counts: &[u64],
 ) -> Result<ShownLabel, Stop>
-    requires { IsValid isa (label_view label.now) }
+    requires { IsTestable isa (label_view label.now) }
     ensures { (out : SinkState) → MeetsWith IsAnswer (shows_by isa work.now counts.now
         (label_view label.now) (text_of_label isa (label_view label.now)))
         (world (H.state host.old) out) (world (H.state host.new) out) result }

@@ -18,7 +18,7 @@ use rvs_asm::{AsmKind, AsmRefusal};
 use rvs_asm_text::steps_of_header;
 use rvs_base::{Items, NoMemory, Text, hex_text};
 use rvs_elf::{ElfRefusal, read_elf};
-use rvs_insn::IsaSpec;
+use rvs_insn::{IsaSpec, MemoryMap};
 use rvs_machine::{
     End, Image, ImageKind, ImageRefusal, Machine, Trace, Trap, TrapKind, read_image,
 };
@@ -90,27 +90,32 @@ pub fn image_of(alloc: Global, spec: IsaSpec, name: &str, bytes: &[u8]) -> Resul
     ensures { Accepts (image_found spec name.now bytes.now) result }
 {
     if is_image_name(name) {
-        image_of_file(alloc, name, bytes)
+        image_of_file(alloc, spec.memory, name, bytes)
     } else if is_executable_name(name) {
-        image_of_executable(alloc, name, bytes)
+        image_of_executable(alloc, spec.memory, name, bytes)
     } else {
         image_of_text(alloc, spec, name, bytes)
     }
 }
 
-fn image_of_file(alloc: Global, name: &str, bytes: &[u8]) -> Result<Image, Stop>
-    ensures { Accepts (file_found name.now (image_of_bytes bytes.now)) result }
+fn image_of_file(alloc: Global, memory: MemoryMap, name: &str, bytes: &[u8]) -> Result<Image, Stop>
+    ensures { Accepts (file_found name.now (image_of_bytes memory bytes.now)) result }
 {
-    match read_image(alloc, bytes) {
+    match read_image(alloc, memory, bytes) {
         Ok(image) => Ok(image),
         Err(refusal) => Err(Stop::Refused(image_text(alloc, name, &refusal)?)),
     }
 }
 
-fn image_of_executable(alloc: Global, name: &str, bytes: &[u8]) -> Result<Image, Stop>
-    ensures { Accepts (executable_found name.now (image_of_elf bytes.now)) result }
+fn image_of_executable(
+    alloc: Global,
+    memory: MemoryMap,
+    name: &str,
+    bytes: &[u8],
+) -> Result<Image, Stop>
+    ensures { Accepts (executable_found name.now (image_of_elf memory bytes.now)) result }
 {
-    match read_elf(alloc, bytes) {
+    match read_elf(alloc, memory, bytes) {
         Ok(image) => Ok(image),
         Err(refusal) => Err(Stop::Refused(elf_text(alloc, name, &refusal)?)),
     }

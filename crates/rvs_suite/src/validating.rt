@@ -12,7 +12,8 @@ use rvs_plan::{Finish, Stop};
 use rvs_words::ValidateArguments;
 use std::alloc::Global;
 
-/// Checks an ISA file, and puts what it says of the core.
+/// Checks an ISA file, and puts what it says of the core, and where text and data begin, where it
+/// says that.
 ///
 /// # Errors
 ///

@@ -3,7 +3,7 @@ use crate::stage::{number, plain};
 use rvs_base::{Items, NoMemory, Text, release};
 use rvs_cgf::{CgfRefusal, Families, Groups, normal_text, read_groups, refusal_text};
 use rvs_count::count_log;
-use rvs_insn::IsaSpec;
+use rvs_insn::{IsaSpec, USUAL_MEMORY};
 use std::alloc::Global;
 use std::test::Fail;
 
@@ -15,6 +15,7 @@ const CORE: IsaSpec = IsaSpec {
     zifencei: false,
     misaligned: false,
     address_bits: 32,
+    memory: USUAL_MEMORY,
 };
 
 fn printed(alloc: Global, file: &str) -> Result<Text, NoMemory> {

@@ -8,6 +8,7 @@ use Rattle.std.proofs.Common.{inl, inr}
 use Rattle.std.specs.List.{range_with_len}
 use Rattle.std.proofs.lemmas.Bool.{eq-eqb}
 use Rattle.rvs_insn.specs.declared.op.Op.{Op}
+use Rattle.rvs_insn.specs.Memory.{Memory, HasRoom}
 use Rattle.rvs_insn.specs.Isa.{Isa}
 use Rattle.rvs_insn.specs.Table.{row}
 use Rattle.rvs_insn.specs.Fields.{Fields, insn_of_word}
@@ -48,7 +49,7 @@ use Rattle.rvs_solver.proofs.OneWord.{found_hits, found_each}
 use Rattle.rvs_solver.proofs.Answer.{nothing_hits}
 use Rattle.rvs_test_text.specs.declared.claim.Claim.{Claim}
 use Rattle.rvs_test_text.specs.TestText.{step_limit, test_text}
-use Rattle.rvs_test_text.specs.Claim.{insns_of, IsHit, AreHit, IsTest}
+use Rattle.rvs_test_text.specs.Claim.{insns_of, IsHit, AreHit, IsTest, FitsRegions}
 use Rattle.rvs_test.specs.Made.{places, is_solved, solved_among, cases_among, numbered, claims_of}
 use Rattle.rvs_test.specs.Made.{unsolved_of, cases_of, named_at}
 use Rattle.rvs_test.specs.Claimed.{HitsAlone, HitsTogether, HitsAs, words_of_case, IsClaimed}
@@ -150,13 +151,15 @@ none_more : (es : List Executed) → insns_of es ≡ [] → es ≡ []
 none_more [] h = refl
 none_more (e ∷ es) h = cc
 
-single_hits : (l : Label) (p : groups.Point) (m : Meaning) (e : Executed) (more : List Executed)
-    (outcome : ℕ × ℕ) → IsSingle m → HitsAlone l p e more outcome → HitsAs l p m e more outcome
-single_hits l p (op_is op) e more outcome single h = h
-single_hits l p (reg_is n) e more outcome single h = h
-single_hits l p (regs f) e more outcome single h = h
-single_hits l p (nums f) e more outcome single h = h
-single_hits l p (window ps) e more outcome single h = absurd single
+single_hits : (memory : Memory) (l : Label) (p : groups.Point) (m : Meaning) (e : Executed)
+    (more : List Executed)
+    (outcome : ℕ × ℕ) → IsSingle m → HitsAlone memory l p e more outcome
+    → HitsAs memory l p m e more outcome
+single_hits memory l p (op_is op) e more outcome single h = h
+single_hits memory l p (reg_is n) e more outcome single h = h
+single_hits memory l p (regs f) e more outcome single h = h
+single_hits memory l p (nums f) e more outcome single h = h
+single_hits memory l p (window ps) e more outcome single h = absurd single
 
 -- a choice is one instruction
 by_choice : (isa : Isa) (l : Label) (image : ImageValue) (o : Outcome) (j k : ℕ)
@@ -174,22 +177,23 @@ by_choice isa l image o j k c p at single found i =
       entry = e;
       more = i.more;
       only = i.only;
-      hit = single_hits l p p.meaning e i.more (words_of_case image isa o j) single (record {
-        alone =
-            none_more i.more
-            (rest_is (insn_of_word e.word) (Some (fields_of c)) (insns_of i.more) [] whole);
-        insn = fields_of c;
-        decoded = head_is (insn_of_word e.word) (Some (fields_of c)) (insns_of i.more) [] whole;
-        hit =
-            both_true (has_op l.ops c.op) (points.holds p c.op (facts_of (fields_of c) e.v1 e.v2))
-            (found_each (hits p.kind p.meaning) (λ (x : ChoiceValue). has_op l.ops x.op ≡ true)
-            (all_choices isa l.ops (constants_of p.meaning)) c
-            (listed isa l.ops (constants_of p.meaning)) found)
-            (meant_more p.kind p.meaning c e.v1 e.v2 i.facts
-            (found_hits (hits p.kind p.meaning)
-            (all_choices isa l.ops (constants_of p.meaning)) c found));
-        left = λ t. (i.first t, i.second t);
-      });
+      hit = single_hits isa.memory l p p.meaning e i.more (words_of_case image isa o j) single
+          (record {
+            alone =
+                none_more i.more
+                (rest_is (insn_of_word e.word) (Some (fields_of c)) (insns_of i.more) [] whole);
+            insn = fields_of c;
+            decoded = head_is (insn_of_word e.word) (Some (fields_of c)) (insns_of i.more) [] whole;
+            hit =
+                both_true (has_op l.ops c.op) (points.holds p c.op (facts_of (fields_of c) e.v1 e.v2))
+                (found_each (hits p.kind p.meaning) (λ (x : ChoiceValue). has_op l.ops x.op ≡ true)
+                (all_choices isa l.ops (constants_of p.meaning)) c
+                (listed isa l.ops (constants_of p.meaning)) found)
+                (meant_more p.kind p.meaning c e.v1 e.v2 i.facts
+                (found_hits (hits p.kind p.meaning)
+                (all_choices isa l.ops (constants_of p.meaning)) c found));
+            left = λ t. (i.first t, i.second t);
+          });
     }
 
 -- instructions one after the other match the cross point
@@ -214,7 +218,7 @@ by_window isa l image o j k is p ps at means found i =
       entry = e;
       more = i.more;
       only = i.only;
-      hit = subst (λ (m : Meaning). HitsAs l p m e i.more outcome) (sym means) together;
+      hit = subst (λ (m : Meaning). HitsAs isa.memory l p m e i.more outcome) (sym means) together;
     }
 
 claimed_one : (isa : Isa) (l : Label) (image : ImageValue) (o : Outcome) (j k : ℕ) (s : Solved)
@@ -254,30 +258,40 @@ all_claimed isa l image o a =
 
 -- ---- the test of a label runs
 
-pub label_test : (isa : Isa) (l : Label) → IsValid isa l
+named_each : (l : Label) (ds : List Claim)
+    → length (map (λ (c : Claim). named_at l c.point) ds) ≡ length ds
+named_each l [] = refl
+named_each l (d ∷ ds) =
+    let k : length (map (λ (c : Claim). named_at l c.point) ds) ≡ length ds = named_each l ds in
+    omega (arith, k)
+
+pub points_same : (isa : Isa) (l : Label)
+    → length (map (λ (c : Claim). named_at l c.point) (claims_of isa l)) ≡ length (cases_of isa l)
+points_same isa l = named_each l (claims_of isa l) ∙ claims_same isa l
+
+pub label_test : (isa : Isa) → HasRoom isa.memory → (l : Label) → IsValid isa l
+    → FitsRegions isa (cases_of isa l)
     → IsTest isa l.name (map (λ (c : Claim). named_at l c.point) (claims_of isa l)) (cases_of isa l)
-label_test isa l v = record {
+label_test isa room l v fits = record {
   few = cases_few isa l v;
-  same = mapped (claims_of isa l) ∙ claims_same isa l;
+  same = points_same isa l;
   label_text = name_text l.name v.named;
   points_text = points_text isa l v;
-  choices = cases_ready isa l v;
-} where
-  mapped : (ds : List Claim) → length (map (λ (c : Claim). named_at l c.point) ds) ≡ length ds
-  mapped [] = refl
-  mapped (d ∷ ds) =
-      let k : length (map (λ (c : Claim). named_at l c.point) ds) ≡ length ds = mapped ds in
-      omega (arith, k)
+  choices = cases_ready isa room l v;
+  room = room;
+  fits = fits;
+}
 
-pub label_runs : (isa : Isa) (l : Label) → IsValid isa l
+pub label_runs : (isa : Isa) → HasRoom isa.memory → (l : Label) → IsValid isa l
+    → FitsRegions isa (cases_of isa l)
     → TestRuns isa l
     (test_text l.name isa (map (λ (c : Claim). named_at l c.point) (claims_of isa l))
     (cases_of isa l))
     (claims_of isa l) (step_limit (cases_of isa l))
-label_runs isa l v =
+label_runs isa room l v fits =
     let cs = cases_of isa l in
     let ps = map (λ (c : Claim). named_at l c.point) (claims_of isa l) in
-    let test = label_test isa l v in
+    let test = label_test isa room l v fits in
     let r = tests_run isa l.name ps cs test in
     record {
       image = r.image;
@@ -295,12 +309,13 @@ label_runs isa l v =
     }
 
 -- the same with what the code holds
-pub runs_there : (isa : Isa) (l : Label) → IsValid isa l
+pub runs_there : (isa : Isa) → HasRoom isa.memory → (l : Label) → IsValid isa l
+    → FitsRegions isa (cases_of isa l)
     → (text : List ℕ) (ds : List Claim) (cs : List Solved) (n : ℕ) → ds ≡ claims_of isa l
     → cs ≡ cases_of isa l → n ≡ step_limit cs
     → text ≡ test_text l.name isa (map (λ (c : Claim). named_at l c.point) ds) cs
     → TestRuns isa l text ds n
-runs_there isa l v text ds cs n hd hc hn h =
+runs_there isa room l v fits text ds cs n hd hc hn h =
     let whole =
     test_text l.name isa (map (λ (c : Claim). named_at l c.point) (claims_of isa l))
     (cases_of isa l) in
@@ -312,7 +327,7 @@ runs_there isa l v text ds cs n hd hc hn h =
     let Q : List Claim → Type 0 = λ x. TestRuns isa l whole x n in
     let R : ℕ → Type 0 = λ m. TestRuns isa l whole (claims_of isa l) m in
     subst P (sym t)
-    (subst Q (sym hd) (subst R (sym (hn ∙ ap step_limit hc)) (label_runs isa l v)))
+    (subst Q (sym hd) (subst R (sym (hn ∙ ap step_limit hc)) (label_runs isa room l v fits)))
 
 -- ---- each point is accounted for
 

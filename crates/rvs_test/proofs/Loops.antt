@@ -90,15 +90,20 @@ cases_join k (x ∷ xs) ys =
     ∙ ap (λ n. cases k (x ∷ xs) ++ cases n ys)
     (let e : k + 1 + length xs ≡ k + length (x ∷ xs) = omega arith in e)
 
+pub one_case_more : (cs : List Solved) (i : ℕ) (d : Solved) → i < length cs
+    → cases 0 (take (i + 1) cs) ≡ cases 0 (take i cs) ++ case_statements i (get_or cs i d)
+one_case_more cs i d h =
+    let e : 0 + length (take i cs) ≡ i = omega (arith, length-take i cs) in
+    ap (cases 0) (take_more cs i d h)
+    ∙ cases_join 0 (take i cs) (get_or cs i d ∷ [])
+    ∙ ap (λ n. cases 0 (take i cs) ++ cases n (get_or cs i d ∷ [])) e
+    ∙ ap (λ l. cases 0 (take i cs) ++ l) (append-nil (case_statements i (get_or cs i d)))
+
 pub cases_more : (cs : List Solved) (i : ℕ) (d : Solved) → i < length cs
     → text_of (cases 0 (take (i + 1) cs)) ≡ text_of (cases 0 (take i cs))
     ++ text_of (case_statements i (get_or cs i d))
 cases_more cs i d h =
-    let e : 0 + length (take i cs) ≡ i = omega (arith, length-take i cs) in
-    ap (λ l. text_of (cases 0 l)) (take_more cs i d h)
-    ∙ ap text_of (cases_join 0 (take i cs) (get_or cs i d ∷ []))
-    ∙ ap (λ n. text_of (cases 0 (take i cs) ++ cases n (get_or cs i d ∷ []))) e
-    ∙ ap (λ l. text_of (cases 0 (take i cs) ++ l)) (append-nil (case_statements i (get_or cs i d)))
+    ap text_of (one_case_more cs i d h)
     ∙ text_join (cases 0 (take i cs)) (case_statements i (get_or cs i d))
 
 pub text_more : (ss : List Statement) (i : ℕ) (d : Statement) → i < length ss

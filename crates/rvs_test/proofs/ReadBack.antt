@@ -7,6 +7,7 @@ use Rattle.std.specs.Fmt.{decimal}
 use Rattle.std.proofs.lemmas.Bool.Decides.{nat_tests}
 use Rattle.std.proofs.lemmas.List.Elements.{filter_map-append}
 use Rattle.rvs_insn.specs.Isa.{Isa}
+use Rattle.rvs_insn.specs.Memory.{HasRoom}
 use Rattle.rvs_insn.specs.Table.{row}
 use Rattle.rvs_base.specs.Digits.{digits_of}
 use Rattle.rvs_base.specs.Lines.{before, after}
@@ -38,10 +39,10 @@ use Rattle.rvs_test.specs.Named.{named_claim}
 use Rattle.rvs_test_text.proofs.Chars.{All, tested, is_clean}
 use Rattle.rvs_test_text.proofs.Digits.{decimal_spells, digit_words}
 use Rattle.rvs_test.proofs.Loops.{numbered_length}
-use Rattle.rvs_test.proofs.Solvings.{cases_few, claims_same}
+use Rattle.rvs_test.proofs.Solvings.{cases_few, cases_ready, claims_same, name_text, points_text}
 use Rattle.rvs_test_text.proofs.TestNames.{whole}
 use Rattle.rvs_test_text.proofs.Main.{text_cut}
-use Rattle.rvs_test.proofs.Joined.{label_test}
+use Rattle.rvs_test.proofs.Joined.{points_same}
 
 -- ---- a line of a claim
 
@@ -141,16 +142,18 @@ claims_back isa l v =
     let same : length (numbered 0 ks) ≡ length (cases_of isa l) = claims_same isa l in
     numbered_back l 0 ks (omega (arith, numbered_length 0 ks, same, cases_few isa l v))
 
-label_back : (isa : Isa) (l : Label) → IsValid isa l
+label_back : (isa : Isa) → HasRoom isa.memory → (l : Label) → IsValid isa l
     → claims_read (test_text l.name isa (points_of l (claims_of isa l)) (cases_of isa l))
     ≡ Some (map (named_claim l) (claims_of isa l))
 unfolding claims_read
-label_back isa l v =
+label_back isa room l v =
     let cs = cases_of isa l in
     let ps = points_of l (claims_of isa l) in
     let head = header l.name isa (step_limit cs) ps in
     let fronts : List (List ℕ) → List (List ℕ) = filter_map behind_front in
-    ap (λ ls. all_read (fronts ls)) (text_cut isa l.name ps cs (label_test isa l v))
+    ap (λ ls. all_read (fronts ls)) (text_cut isa l.name ps cs (cases_few isa l v)
+    (points_same isa l) (name_text l.name v.named) (points_text isa l v)
+    (cases_ready isa room l v))
     ∙ ap all_read
     (filter_map-append behind_front head (map printed (whole (last_register isa) cs))
     ∙ ap (λ x. fronts head ++ x) (all_silent (whole (last_register isa) cs))
@@ -158,12 +161,12 @@ label_back isa l v =
     ∙ claims_back isa l v
 
 -- the same with what the code holds
-pub back_there : (isa : Isa) (l : Label) → IsValid isa l
+pub back_there : (isa : Isa) → HasRoom isa.memory → (l : Label) → IsValid isa l
     → (text : List ℕ) (ds : List Claim) (cs : List Solved)
     → ds ≡ claims_of isa l → cs ≡ cases_of isa l
     → text ≡ test_text l.name isa (points_of l ds) cs
     → claims_read text ≡ Some (map (named_claim l) ds)
-back_there isa l v text ds cs hd hc h =
+back_there isa room l v text ds cs hd hc h =
     let t : List Claim → List Solved → List ℕ = λ xs ys. test_text l.name isa (points_of l xs) ys in
     ap claims_read (h ∙ ap (λ xs. t xs cs) hd ∙ ap (t (claims_of isa l)) hc)
-    ∙ label_back isa l v ∙ ap (λ xs. Some (map (named_claim l) xs)) (sym hd)
+    ∙ label_back isa room l v ∙ ap (λ xs. Some (map (named_claim l) xs)) (sym hd)

@@ -9,6 +9,7 @@ use Rattle.std.proofs.lemmas.Bool.Decides.{nat_tests}
 use Rattle.std.proofs.lemmas.List.FromFn.{length-range_with_len}
 use Rattle.std.proofs.lemmas.Option.{slice_get_within, get_or_from_slice_get}
 use Rattle.std.proofs.Common.{◌⊎◌, inl, inr}
+use Rattle.rvs_insn.specs.Memory.{HasRoom}
 use Rattle.rvs_insn.specs.Isa.{Isa}
 use Rattle.rvs_insn.specs.Fields.{Fields}
 use Rattle.rvs_cross.specs.Cross.{Place}
@@ -127,17 +128,18 @@ window_ready isa l k s v f =
     let few = places_few f.point f.places (meant_at isa l k f.point v f.at) f.means in
     subst (IsReady isa) f.is (sequence_ready isa f.places f.insns few.0 few.1 f.found)
 
-choice_ready : (isa : Isa) (l : Label) (k : ℕ) (s : Solved) → IsValid isa l
+choice_ready : (isa : Isa) → HasRoom isa.memory → (l : Label) (k : ℕ) (s : Solved) → IsValid isa l
     → IsFirst isa l k s → IsReady isa s
-choice_ready isa l k s v f =
-    let r = first_ready isa l.ops f.point.kind f.point.meaning f.choice v.admitted f.found in
+choice_ready isa room l k s v f =
+    let r = first_ready isa room l.ops f.point.kind f.point.meaning f.choice v.admitted f.found in
     subst (IsReady isa) f.is (r.sound, r.made)
 
-pub solved_ready : (isa : Isa) (l : Label) (k : ℕ) (s : Solved) → IsValid isa l
+pub solved_ready : (isa : Isa) → HasRoom isa.memory → (l : Label) (k : ℕ) (s : Solved)
+    → IsValid isa l
     → first_at isa l k ≡ Some s → IsReady isa s
-solved_ready isa l k s v h =
+solved_ready isa room l k s v h =
     elim (first_is isa l k s h) [
-      | inl f ↦ choice_ready isa l k s v f
+      | inl f ↦ choice_ready isa room l k s v f
       | inr f ↦ window_ready isa l k s v f
     ]
 
@@ -149,13 +151,13 @@ some_more : (o : Option Solved) (rest : List Solved) (P : List Solved → Type 0
 some_more None rest P h k = k refl
 some_more (Some s) rest P h k = h s refl
 
-pub among_ready : (isa : Isa) (l : Label) (ks : List ℕ) → IsValid isa l
+pub among_ready : (isa : Isa) → HasRoom isa.memory → (l : Label) (ks : List ℕ) → IsValid isa l
     → AreReady isa (cases_among isa l ks)
-among_ready isa l [] v = tt
-among_ready isa l (k ∷ ks) v =
-    let rest = among_ready isa l ks v in
+among_ready isa room l [] v = tt
+among_ready isa room l (k ∷ ks) v =
+    let rest = among_ready isa room l ks v in
     some_more (first_at isa l k) (cases_among isa l ks) (AreReady isa)
-    (λ s h. (solved_ready isa l k s v h, rest)) (λ h. rest)
+    (λ s h. (solved_ready isa room l k s v h, rest)) (λ h. rest)
 
 one_long : (o : Option Solved) → length (option_to_list o) ≤ 1
 one_long None = omega arith
@@ -183,15 +185,19 @@ among_same isa l (k ∷ ks) =
     as_many (first_at isa l k) k (cases_among isa l ks) (solved_among isa l ks)
     (among_same isa l ks)
 
-pub cases_ready : (isa : Isa) (l : Label) → IsValid isa l
+pub cases_ready : (isa : Isa) → HasRoom isa.memory → (l : Label) → IsValid isa l
     → AreReady isa (cases_of isa l)
 unfolding cases_of
-cases_ready isa l v = among_ready isa l (places l) v
+cases_ready isa room l v = among_ready isa room l (places l) v
+
+-- no more than there are points
+pub cases_within : (isa : Isa) (l : Label) → length (cases_of isa l) ≤ length l.points
+unfolding cases_of
+cases_within isa l =
+    omega (arith, among_few isa l (places l), length-range_with_len 0 (length l.points))
 
 pub cases_few : (isa : Isa) (l : Label) → IsValid isa l → length (cases_of isa l) ≤ 2048
-unfolding cases_of
-cases_few isa l v =
-    omega (arith, among_few isa l (places l), length-range_with_len 0 (length l.points), v.few)
+cases_few isa l v = omega (arith, cases_within isa l, v.few)
 
 pub claims_same : (isa : Isa) (l : Label) → length (claims_of isa l) ≡ length (cases_of isa l)
 unfolding claims_of cases_of

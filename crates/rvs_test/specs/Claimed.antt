@@ -2,6 +2,7 @@
 use Rattle.std.specs.Prelude.{◌≡◌, ◌≤◌, ◌⊎◌, ℕ, ◌+◌, ◌*◌, true, List, [], ◌∷◌, length, map, All}
 use Rattle.std.specs.Prelude.{Contains, Some, slice_index, slice_get}
 use Rattle.rvs_insn.specs.Isa.{Isa}
+use Rattle.rvs_insn.specs.Memory.{Memory}
 use Rattle.rvs_insn.specs.Fields.{Fields, insn_of_word}
 use Rattle.rvs_machine.specs.declared.event.Executed.{Executed}
 use Rattle.rvs_machine.specs.declared.event.End.TheVariants.{Halted}
@@ -24,13 +25,13 @@ use Rattle.rvs_test_text.specs.Claim.{symbol_address, IsOnly, outcome_at, last_w
 use Rattle.rvs_test_text.specs.Claim.{insns_of}
 
 -- one instruction alone hits the point, and the outcome is that of its format
-pub record HitsAlone (l : Label) (p : Point) (e : Executed) (more : List Executed)
+pub record HitsAlone (memory : Memory) (l : Label) (p : Point) (e : Executed) (more : List Executed)
     (outcome : ℕ × ℕ) : Type 0 where
   pub alone : more ≡ []
   pub insn : Fields
   pub decoded : insn_of_word e.word ≡ Some insn
   pub hit : hits l.ops p insn.op (facts_of insn e.v1 e.v2) ≡ true
-  pub left : outcome ≡ outcome_at insn e
+  pub left : outcome ≡ outcome_at memory insn e
 
 -- neighbouring instructions match the cross point, and the outcome is what the first and the last
 -- of them wrote to their registers
@@ -42,9 +43,9 @@ pub record HitsTogether (ps : List Place) (e : Executed) (more : List Executed)
   pub left : outcome
       ≡ (last_word (first_rd insns) (e ∷ more), last_word (last_rd insns) (e ∷ more))
 
-abbrev pub HitsAs : Label → Point → Meaning → Executed → List Executed → ℕ × ℕ → Type 0
-HitsAs l p (window ps) e more outcome = HitsTogether ps e more outcome
-HitsAs l p m e more outcome = HitsAlone l p e more outcome
+abbrev pub HitsAs : Memory → Label → Point → Meaning → Executed → List Executed → ℕ × ℕ → Type 0
+HitsAs memory l p (window ps) e more outcome = HitsTogether ps e more outcome
+HitsAs memory l p m e more outcome = HitsAlone memory l p e more outcome
 
 -- the two words of a case in the signature
 abbrev pub words_of_case : ImageValue → Isa → Outcome → ℕ → ℕ × ℕ
@@ -65,7 +66,7 @@ pub record IsClaimed (isa : Isa) (l : Label) (image : ImageValue) (o : Outcome)
   -- the other instructions of a cross point's window
   pub more : List Executed
   pub only : IsOnly at entry more o.trace
-  pub hit : HitsAs l point point.meaning entry more (words_of_case image isa o c.case)
+  pub hit : HitsAs isa.memory l point point.meaning entry more (words_of_case image isa o c.case)
 
 -- a run halts in time, hits each claimed point, and leaves two words a case and no others
 pub record IsRun (isa : Isa) (l : Label) (image : ImageValue) (claims : List Claim) (limit : ℕ)

@@ -3,3 +3,4 @@ pub mod Found
 pub mod Claimed
 pub mod Named
 pub mod AtomicLines
+pub mod Room

@@ -9,6 +9,7 @@ use Rattle.rvs_cgf.specs.Groups.{Label}
 use Rattle.rvs_solver.specs.declared.solved.Solved.{Solved}
 use Rattle.rvs_solver.specs.Solving.{first_at}
 use Rattle.rvs_test_text.specs.declared.claim.Claim.{Claim}
+use Rattle.rvs_test_text.specs.Claim.{fits_regions}
 use Rattle.rvs_test_text.specs.TestText.{Point, test_text}
 
 -- the points of a label, by their places
@@ -73,3 +74,8 @@ text_for isa l cs =
 
 abbrev pub text_of_label : Isa → Label → Option (List ℕ)
 text_of_label isa l = text_for isa l (cases_of isa l)
+
+-- whether the core's regions have room for its test; the text of a label without a case is never
+-- made
+abbrev pub has_room : Isa → Label → Bool
+has_room isa l = fits_regions isa (cases_of isa l)

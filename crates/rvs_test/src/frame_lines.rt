@@ -22,7 +22,7 @@ pub(crate) fn unlinked(choice: &Choice) -> Insn
 }
 
 /// How many words lie between a jump and its target.
-fn between(imm: i32) -> u32
+pub(crate) fn between(imm: i32) -> u32
     ensures { result ≡ spec.between imm }
 {
     (imm.unsigned_abs() / 4).saturating_sub(1)

@@ -1,10 +1,11 @@
 // The test of a label.
 ghost use Rattle.std.specs.Prelude.{◌≡◌, ◌≤◌, ◌<◌, ◌+◌, ◌*◌, ◌^◌, ℕ, false, length, map, Contains};
-ghost use Rattle.std.specs.Prelude.{IfOk, IfSome, Some, pos, unwrap_or};
+ghost use Rattle.std.specs.Prelude.{IfOk, IfSome, IsTrue, Some, pos, unwrap_or};
 ghost use Rattle.rvs_cgf.specs.GroupView.{label_view};
 ghost use Rattle.rvs_cgf.specs.Valid.{IsValid};
 ghost use Rattle.rvs_solver.specs.Solving.{IsSolvableAt, bound_of_label};
 ghost use Rattle.rvs_test_text.specs.TestText as layout;
+ghost use Rattle.rvs_test.specs.Made as made;
 ghost use Rattle.rvs_test.specs.Made.{claims_of, unsolved_of, cases_of, text_for, text_of_label};
 ghost use Rattle.rvs_test.specs.Made.{named_at};
 ghost use Rattle.rvs_test.specs.Claimed.{TestRuns, IsAccounted};
@@ -71,11 +72,13 @@ fn test_text(
     requires steps { steps ≡ layout.step_limit cases.now }
     ensures text { IfOk result (λ text. text ≡ layout.test_text label.now.name spec.now
         (map (λ c. named_at (label_view label.now) c.point) claims.now) cases.now) }
-    ensures runs { IfOk result (λ text.
-        TestRuns spec.now (label_view label.now) text claims.now steps) }
+    ensures runs { IfOk result (λ text. IsTrue (made.has_room spec.now (label_view label.now))
+        → TestRuns spec.now (label_view label.now) text claims.now steps) }
     ensures read { IfOk result (λ text.
         claims_read text ≡ Some (map (named_claim (label_view label.now)) claims.now)) }
 {
+    // That the memory has room at all is an invariant of its type, which this call brings.
+    let _limit = spec.memory.text_limit();
     let registers = if spec.e { 15 } else { 31 };
     let mut out = Text::new(alloc);
     push_front(alloc, &mut out, label.name.as_str(), spec, steps)?;
@@ -100,7 +103,8 @@ fn text_for(
     requires steps { steps ≡ layout.step_limit cases.now }
     ensures text { IfOk result (λ text. text ≡ text_for spec.now (label_view label.now) cases.now) }
     ensures runs { IfOk result (λ text. IfSome text (λ bytes.
-        TestRuns spec.now (label_view label.now) bytes claims.now steps)) }
+        IsTrue (made.has_room spec.now (label_view label.now))
+        → TestRuns spec.now (label_view label.now) bytes claims.now steps)) }
     ensures read { IfOk result (λ text. IfSome text (λ bytes.
         claims_read bytes ≡ Some (map (named_claim (label_view label.now)) claims.now))) }
 {
@@ -114,9 +118,10 @@ fn text_for(
 /// The test of a label that is valid for the core: for each of its points, in their order, the
 /// first choice that hits it becomes a case.
 ///
-/// Its run halts within its steps. Each claim is true: exactly one instruction is executed at the
-/// symbol of the case, and it hits the point. The signature has two words for each case, which are
-/// the case's outcome, and no others. The points that are left are those that no choice hits.
+/// Where the core's regions have room for it, its run halts within its steps. Each claim is true:
+/// exactly one instruction is executed at the symbol of the case, and it hits the point. The
+/// signature has two words for each case, which are the case's outcome, and no others. The points
+/// that are left are those that no choice hits.
 ///
 /// The text says itself what it claims: who reads the lines of it that begin `#! case `, each with
 /// a decimal number, a kind up to the next space, and a key up to the end of the line, has the case
@@ -138,7 +143,8 @@ pub fn make_test<L: Ledger>(
     ensures steps { IfOk result (λ m.
         m.steps ≡ layout.step_limit (cases_of spec.now (label_view label.now))) }
     ensures runs { IfOk result (λ m. IfSome m.text (λ text.
-        TestRuns spec.now (label_view label.now) text m.claims m.steps)) }
+        IsTrue (made.has_room spec.now (label_view label.now))
+        → TestRuns spec.now (label_view label.now) text m.claims m.steps)) }
     ensures read { IfOk result (λ m. IfSome m.text (λ text.
         claims_read text ≡ Some (map (named_claim (label_view label.now)) m.claims))) }
     ensures accounted { IfOk result (λ m. (k : ℕ) → k < length label.now.points →

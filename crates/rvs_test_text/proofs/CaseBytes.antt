@@ -18,10 +18,11 @@ use Rattle.rvs_test_text.specs.Sound.{IsNearby, Accesses}
 use Rattle.rvs_test_text.specs.TestText.{source, pointer, marker, save, store_case, jump_case}
 use Rattle.rvs_test_text.specs.TestText.{unlinked, frame, copy_word, case_by, choice_statements}
 use Rattle.rvs_test_text.specs.TestText.{get_word, reserve, atomic_case}
-use Rattle.rvs_test_text.proofs.AtomicRuns.{atomic_lead, reserve_size, reserve_small}
+use Rattle.rvs_test_text.specs.TestText.{bytes_all}
+use Rattle.rvs_test_text.proofs.AtomicParts.{reserve_size, reserve_small}
+use Rattle.rvs_test_text.proofs.AtomicRuns.{atomic_lead}
 use Rattle.rvs_test_text.proofs.Shapes.{lead, source_size, source_small}
 use Rattle.rvs_test_text.proofs.JumpNames.{frame_size, frame_bytes}
-use Rattle.rvs_test_text.proofs.Assembled.{bytes_all}
 use Rattle.rvs_test_text.proofs.PlainCases.{plain_bytes, source_bytes}
 use Rattle.rvs_test_text.proofs.CaseParts.{IsMade, StoreRegisters, store_registers, imm_of, sources}
 use Rattle.rvs_test_text.proofs.CaseParts.{frame_lead}

@@ -7,7 +7,6 @@ use Rattle.rvs_insn.specs.declared.op.Format.TheVariants.{Branch, Jump}
 use Rattle.rvs_insn.specs.Isa.{Isa}
 use Rattle.rvs_insn.specs.Table.{row}
 use Rattle.rvs_insn.specs.Word.{AreOf, IsEncodable}
-use Rattle.rvs_machine.specs.Image.{data_base}
 use Rattle.rvs_machine.specs.Effects.{add32}
 use Rattle.rvs_machine.specs.Machine.{Setup, imm_word}
 use Rattle.rvs_asm.specs.Bytes.{distance, with_imm}
@@ -28,13 +27,13 @@ use Rattle.rvs_machine.proofs.Jumps.{Jumping, branch_jumps, jal_jumps}
 use Rattle.rvs_test_text.proofs.Frames.{skip_code, back_code, to_place}
 use Rattle.rvs_test_text.proofs.JumpGood.{IsJump, forward_code, backward_code, front_piece}
 use Rattle.rvs_test_text.proofs.JumpGood.{forward_good, backward_good, back_length}
-use Rattle.rvs_test_text.proofs.JumpNames.{forward_made, backward_made}
+use Rattle.rvs_test_text.proofs.JumpNames.{forward_made, backward_made, frame_size}
 use Rattle.rvs_test_text.proofs.JumpCases.{IsLabelled}
 use Rattle.rvs_test_text.proofs.Assembled.{made_all}
 use Rattle.rvs_test_text.proofs.Helpers.{pointer_free}
 use Rattle.rvs_test_text.proofs.PlainCases.{source_made}
 use Rattle.rvs_test_text.proofs.Registers.{registers_of}
-use Rattle.rvs_test_text.proofs.CaseParts.{IsMade, marked, shape_by, imm_of}
+use Rattle.rvs_test_text.proofs.CaseParts.{IsMade, marked, shape_by, imm_of, sources}
 use Rattle.rvs_test_text.proofs.CaseBytes.{source_four}
 use Rattle.rvs_test_text.proofs.CaseNames.{FrameAt}
 use Rattle.rvs_test_text.proofs.CaseRuns.{jump_case_of, jump_value, jump_taken, IsPlaced}
@@ -110,8 +109,9 @@ imm_word_is c z e = ap (λ o. cast_unsigned w32 (unwrap_or o (pos 0))) e
 
 pub jumping : (z : ℤ) (f : Format) (setup : Setup) (ram0 : List ℕ) (env : Name → ℕ) (k : ℕ)
     (c : ChoiceValue) (pc slot : ℕ) → c.imm ≡ Some z → (row c.op).form ≡ f → IsLabelled f
-    → IsMade setup.isa c → IsNearby z → IsPlaced setup ram0 pc slot
-    → env (Slot k) ≡ data_base + slot → FrameAt z env k (pc + source_size c.rs1 + source_size c.rs2)
+    → IsMade setup.isa c → IsNearby z → IsPlaced setup ram0 pc slot (sources c + frame_size z + 16)
+    → env (Slot k) ≡ setup.isa.memory.data_base + slot
+    → FrameAt z env k (pc + source_size c.rs1 + source_size c.rs2)
     → StandFrom setup pc
     (made_all env pc
     (source c.rs1 c.w1
@@ -136,18 +136,19 @@ jumping (pos n) f setup ram0 env k c pc slot imm e l is near at sig target there
     apart (env (Target k)) place n (omega (arith, target, near.words, near.some)) in
     let tail = frame (pos n) k m (unlinked c) (save p k m d) in
     let code : made_all env pc (source c.rs1 c.w1 ++ (source c.rs2 c.w2 ++ tail))
-    ≡ forward_code i c.w1 c.w2 p m q (data_base + slot) =
+    ≡ forward_code i c.w1 c.w2 p m q (setup.isa.memory.data_base + slot) =
     source_made env pc c.rs1 c.w1 (source c.rs2 c.w2 ++ tail)
     ∙ ap (λ x. source_code c.rs1 c.w1 ++ x)
     (source_made env (pc + la) c.rs2 c.w2 tail
     ∙ ap (λ x. source_code c.rs2 c.w2 ++ x)
-    (forward_made env s n k m p d (data_base + slot) (unlinked c) i sig
+    (forward_made env s n k m p d (setup.isa.memory.data_base + slot) (unlinked c) i sig
     (own_imm c (pos n) (distance (env (Target k)) place) imm dist))) in
     let stands = subst (StandFrom setup pc) code there in
     let jump = is_jump f setup.isa c place e l is (omega (arith, at.room, sa, sb)) in
     let inner =
     front_piece setup None pc i c.w1 c.w2 (jump_value f place) p m
-    (i ∷ (skip_code m q ++ save_code p (data_base + slot) m d)) (replicate 32 0) [] refl jump
+    (i ∷ (skip_code m q ++ save_code p (setup.isa.memory.data_base + slot) m d)) (replicate 32 0) []
+    refl jump
     stands (omega (arith, at.room)) in
     let goes_there : add32 place (imm_word i) ≡ dest =
     ap (add32 place) (imm_word_is c (pos n) imm)
@@ -157,7 +158,7 @@ jumping (pos n) f setup ram0 env k c pc slot imm e l is near at sig target there
     forward_good setup ram0 i c.w1 c.w2 (jump_value f place) (jump_taken f c) p m q pc slot jump
     stands
     (jumps_by f setup c place dest e l inner.1.0 goes_there al (omega (arith, at.room, sa, sb)))
-    (omega (arith, near.most)) at.room at.words at.fits at.short
+    (omega (arith, near.most)) (omega (arith, at.room)) at.words at.fits at.short
     (omega (arith, at.tohost, at.later))
   where
     apart : (a b n : ℕ) → a ≡ b + n → pos a -ℤ pos b ≡ pos n
@@ -179,18 +180,19 @@ jumping (negsuc n) f setup ram0 env k c pc slot imm e l is near at sig target th
     apart (env (Target k)) place n (omega (arith, target.0, near.words, near.some)) in
     let tail = frame (negsuc n) k m (unlinked c) (save p k m d) in
     let code : made_all env pc (source c.rs1 c.w1 ++ (source c.rs2 c.w2 ++ tail))
-    ≡ backward_code i c.w1 c.w2 p m q s (data_base + slot) =
+    ≡ backward_code i c.w1 c.w2 p m q s (setup.isa.memory.data_base + slot) =
     source_made env pc c.rs1 c.w1 (source c.rs2 c.w2 ++ tail)
     ∙ ap (λ x. source_code c.rs1 c.w1 ++ x)
     (source_made env (pc + la) c.rs2 c.w2 tail
     ∙ ap (λ x. source_code c.rs2 c.w2 ++ x)
-    (backward_made env s n k m p d (data_base + slot) place (s + 16 + 4 * q) (unlinked c) i sig
+    (backward_made env s n k m p d (setup.isa.memory.data_base + slot) place (s + 16 + 4 * q)
+    (unlinked c) i sig
     target.1 target.2 refl
     (own_imm c (negsuc n) (distance (env (Target k)) place) imm dist))) in
     let stands = subst (StandFrom setup pc) code there in
     let jump = is_jump f setup.isa c place e l is (omega (arith, at.room, sa, sb, near.most)) in
     let bc = back_code m (s + 8) q (s + 16 + 4 * q) in
-    let saving = save_code p (data_base + slot) m d in
+    let saving = save_code p (setup.isa.memory.data_base + slot) m d in
     let inner =
     front_piece setup None pc i c.w1 c.w2 (jump_value f place) p m
     (to_place (s + 4) place ∷ (bc ++ (i ∷ saving))) (replicate 32 0) [] refl jump stands
@@ -207,7 +209,8 @@ jumping (negsuc n) f setup ram0 env k c pc slot imm e l is near at sig target th
     backward_good setup ram0 i c.w1 c.w2 (jump_value f place) (jump_taken f c) p m q pc s slot refl
     at.aligned jump stands
     (jumps_by f setup c place dest e l there_i goes_there al
-    (omega (arith, at.room, sa, sb, near.most))) (omega (arith, near.most)) at.room at.words
+    (omega (arith, at.room, sa, sb, near.most))) (omega (arith, near.most)) (omega (arith, at.room))
+    at.words
     at.fits at.short (omega (arith, at.tohost, at.later))
   where
     apart : (a b n : ℕ) → b ≡ a + suc n → pos a -ℤ pos b ≡ negsuc n

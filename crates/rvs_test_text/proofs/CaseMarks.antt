@@ -2,6 +2,7 @@
 use Rattle.std.proofs.Common.{subst, ◌≡◌, ℕ, ◌+◌, ◌^◌, ◌<◌, ◌≤◌, [], true, List, ◌∷◌, ◌++◌, refl}
 use Rattle.std.proofs.Common.{ap, ◌∙◌, arith}
 use Rattle.std.specs.Prelude.{pos, unwrap_or}
+use Rattle.rvs_insn.specs.Memory.{Memory}
 use Rattle.rvs_insn.specs.declared.op.Format.{Format}
 use Rattle.rvs_insn.specs.declared.op.Format.TheVariants.{R, JumpReg, Store, Branch, Jump, Amo}
 use Rattle.rvs_insn.specs.declared.op.Format.TheVariants.{LoadReserved}
@@ -10,7 +11,6 @@ use Rattle.rvs_insn.specs.declared.op.Op.TheVariants.{ScW}
 use Rattle.rvs_insn.specs.Isa.{Isa}
 use Rattle.rvs_insn.specs.Table.{row}
 use Rattle.rvs_insn.specs.Word.{IsEncodable}
-use Rattle.rvs_machine.specs.Image.{text_base}
 use Rattle.rvs_asm.specs.declared.location.Location.{Location}
 use Rattle.rvs_asm.specs.Locations.{next}
 use Rattle.rvs_solver.specs.Choices.{ChoiceValue, fields_of}
@@ -23,7 +23,8 @@ use Rattle.rvs_test_text.specs.Statements.{line_of}
 use Rattle.rvs_test_text.specs.TestText.{sw, source, pointer, marker, save, store_case, jalr_case}
 use Rattle.rvs_test_text.specs.TestText.{jump_case, unlinked, frame, case_by, choice_statements, lr}
 use Rattle.rvs_test_text.specs.TestText.{reserve, atomic_case}
-use Rattle.rvs_test_text.proofs.AtomicRuns.{atomic_lead, reserve_size}
+use Rattle.rvs_test_text.proofs.AtomicParts.{reserve_size}
+use Rattle.rvs_test_text.proofs.AtomicRuns.{atomic_lead}
 use Rattle.rvs_test_text.proofs.Shapes.{source_size}
 use Rattle.rvs_test_text.proofs.JumpNames.{frame_marks, frame_marks_are, frame_distinct}
 use Rattle.rvs_test_text.proofs.Tables.{Marks, AllBelow, Lacks, stage, below_join, lacks_later}
@@ -36,76 +37,83 @@ use Rattle.rvs_test_text.proofs.CaseParts.{IsMade, StoreRegisters, store_registe
 use Rattle.rvs_test_text.proofs.CaseBytes.{store_tail, atomic_tail, atomic_rest}
 use Rattle.rvs_test_text.proofs.CaseNames.{own_by, own_marks}
 
-store_marks : (k : ℕ) (c : ChoiceValue) (a m : ℕ) → StoreRegisters c
-    → marks (store_case k c) (text_at a m)
-    ≡ (CaseName k, record { at = text_base + (a + 32); in_text = true }) ∷ []
-store_marks k c a m r =
+store_marks : (memory : Memory) (k : ℕ) (c : ChoiceValue) (a m : ℕ) → StoreRegisters c
+    → marks (store_case k c) (text_at memory a m)
+    ≡ (CaseName k, record { at = memory.text_base + (a + 32); in_text = true }) ∷ []
+store_marks memory k c a m r =
     let tail = store_tail k c in
     let here = a + 4 + 4 + 4 + 4 in
     let x : source_size c.rs1 ≡ 8 = ap source_size r.rs1 in
     let y : source_size c.rs2 ≡ 8 = ap source_size r.rs2 in
-    source_marks c.rs1 c.w1 (source c.rs2 c.w2 ++ tail) here m
-    ∙ source_marks c.rs2 c.w2 tail (here + source_size c.rs1) m
-    ∙ ap (λ z. (CaseName k, record { at = text_base + z; in_text = true }) ∷ [])
+    source_marks memory c.rs1 c.w1 (source c.rs2 c.w2 ++ tail) here m
+    ∙ source_marks memory c.rs2 c.w2 tail (here + source_size c.rs1) m
+    ∙ ap (λ z. (CaseName k, record { at = memory.text_base + z; in_text = true }) ∷ [])
     (let e : here + source_size c.rs1 + source_size c.rs2 ≡ a + 32 = omega (arith, x, y) in e)
 
-reserve_marks : (op : Op) (x y : ℕ) (ss : List Statement) (a m : ℕ)
-    → marks (reserve op x y ++ ss) (text_at a m) ≡ marks ss (text_at (a + reserve_size op) m)
-reserve_marks ScW x y ss a m = refl
-reserve_marks _ x y ss a m = ap (λ z. marks ss (text_at z m)) (omega arith)
+reserve_marks : (memory : Memory) (op : Op) (x y : ℕ) (ss : List Statement) (a m : ℕ)
+    → marks (reserve op x y ++ ss) (text_at memory a m)
+    ≡ marks ss (text_at memory (a + reserve_size op) m)
+reserve_marks memory ScW x y ss a m = refl
+reserve_marks memory _ x y ss a m = ap (λ z. marks ss (text_at memory z m)) (omega arith)
 
-atomic_marks : (k : ℕ) (c : ChoiceValue) (a m : ℕ)
-    → marks (atomic_case k c) (text_at a m)
-    ≡ (CaseName k, record { at = text_base + (a + atomic_lead (fields_of c)); in_text = true }) ∷ []
-atomic_marks k c a m =
+atomic_marks : (memory : Memory) (k : ℕ) (c : ChoiceValue) (a m : ℕ)
+    → marks (atomic_case k c) (text_at memory a m)
+    ≡ (
+      CaseName k,
+      record {
+        at = memory.text_base + (a + atomic_lead (fields_of c));
+        in_text = true;
+      },
+    ) ∷ []
+atomic_marks memory k c a m =
     let rest = atomic_rest k c in
     let here = a + 4 + 4 + 4 + 4 + 4 + 4 + 4 in
-    source_marks c.rs1 c.w1 (source c.rs2 c.w2 ++ rest) here m
-    ∙ source_marks c.rs2 c.w2 rest (here + source_size c.rs1) m
-    ∙ reserve_marks c.op (unwrap_or c.rs1 0) (marker c) (atomic_tail k c)
+    source_marks memory c.rs1 c.w1 (source c.rs2 c.w2 ++ rest) here m
+    ∙ source_marks memory c.rs2 c.w2 rest (here + source_size c.rs1) m
+    ∙ reserve_marks memory c.op (unwrap_or c.rs1 0) (marker c) (atomic_tail k c)
     (here + source_size c.rs1 + source_size c.rs2) m
-    ∙ ap (λ z. (CaseName k, record { at = text_base + z; in_text = true }) ∷ [])
+    ∙ ap (λ z. (CaseName k, record { at = memory.text_base + z; in_text = true }) ∷ [])
     (let e : here + source_size c.rs1 + source_size c.rs2 + reserve_size c.op
     ≡ a + atomic_lead (fields_of c) = omega arith in
     e)
 
-jump_marks : (k : ℕ) (c : ChoiceValue) (a m : ℕ)
-    → marks (jump_case k c) (text_at a m)
-    ≡ frame_marks (imm_of c) k (a + source_size c.rs1 + source_size c.rs2)
-jump_marks k c a m =
+jump_marks : (memory : Memory) (k : ℕ) (c : ChoiceValue) (a m : ℕ)
+    → marks (jump_case k c) (text_at memory a m)
+    ≡ frame_marks memory (imm_of c) k (a + source_size c.rs1 + source_size c.rs2)
+jump_marks memory k c a m =
     let tail =
     frame (imm_of c) k (marker c) (unlinked c)
     (save (pointer c) k (marker c) (unwrap_or c.rd 0)) in
-    source_marks c.rs1 c.w1 (source c.rs2 c.w2 ++ tail) a m
-    ∙ source_marks c.rs2 c.w2 tail (a + source_size c.rs1) m
-    ∙ frame_marks_are (imm_of c) k (marker c) (pointer c) (unwrap_or c.rd 0) (unlinked c)
+    source_marks memory c.rs1 c.w1 (source c.rs2 c.w2 ++ tail) a m
+    ∙ source_marks memory c.rs2 c.w2 tail (a + source_size c.rs1) m
+    ∙ frame_marks_are memory (imm_of c) k (marker c) (pointer c) (unwrap_or c.rd 0) (unlinked c)
     (a + source_size c.rs1 + source_size c.rs2) m
 
-marks_by : (f : Format) (k : ℕ) (c : ChoiceValue) (a m : ℕ) → (row c.op).form ≡ f
-    → IsEncodable (fields_of c) → marks (case_by f k c) (text_at a m) ≡ own_by f k c a
-marks_by Store k c a m e h = store_marks k c a m (store_registers c e h)
-marks_by JumpReg k c a m e h =
+marks_by : (memory : Memory) (f : Format) (k : ℕ) (c : ChoiceValue) (a m : ℕ) → (row c.op).form ≡ f
+    → IsEncodable (fields_of c) → marks (case_by f k c) (text_at memory a m) ≡ own_by memory f k c a
+marks_by memory Store k c a m e h = store_marks memory k c a m (store_registers c e h)
+marks_by memory JumpReg k c a m e h =
     ap
-    (λ x. (CaseName k, record { at = text_base + x; in_text = true })
+    (λ x. (CaseName k, record { at = memory.text_base + x; in_text = true })
     ∷ (
       Target k,
-      record { at = text_base + (a + 4 + 4 + 4 + 4 + 4 + 0 + 4 + 4); in_text = true },
+      record { at = memory.text_base + (a + 4 + 4 + 4 + 4 + 4 + 0 + 4 + 4); in_text = true },
     ) ∷ [])
     (let q : a + 4 + 4 + 4 + 4 + 4 ≡ a + 20 = omega arith in q)
     ∙ ap
-    (λ x. (CaseName k, record { at = text_base + (a + 20); in_text = true })
-    ∷ (Target k, record { at = text_base + x; in_text = true }) ∷ [])
+    (λ x. (CaseName k, record { at = memory.text_base + (a + 20); in_text = true })
+    ∷ (Target k, record { at = memory.text_base + x; in_text = true }) ∷ [])
     (let q : a + 4 + 4 + 4 + 4 + 4 + 0 + 4 + 4 ≡ a + 28 = omega arith in q)
-marks_by Amo k c a m e h = atomic_marks k c a m
-marks_by LoadReserved k c a m e h = atomic_marks k c a m
-marks_by Branch k c a m e h = jump_marks k c a m
-marks_by Jump k c a m e h = jump_marks k c a m
-marks_by R k c a m e h = plain_marks k c a m
-marks_by _ k c a m e h = plain_marks k c a m
+marks_by memory Amo k c a m e h = atomic_marks memory k c a m
+marks_by memory LoadReserved k c a m e h = atomic_marks memory k c a m
+marks_by memory Branch k c a m e h = jump_marks memory k c a m
+marks_by memory Jump k c a m e h = jump_marks memory k c a m
+marks_by memory R k c a m e h = plain_marks memory k c a m
+marks_by memory _ k c a m e h = plain_marks memory k c a m
 
 pub case_marks_is : (isa : Isa) (k : ℕ) (c : ChoiceValue) (a m : ℕ) → IsMade isa c
-    → marks (choice_statements k c) (text_at a m) ≡ own_marks k c a
-case_marks_is isa k c a m is = marks_by (row c.op).form k c a m refl is.sound.encodable
+    → marks (choice_statements k c) (text_at isa.memory a m) ≡ own_marks isa.memory k c a
+case_marks_is isa k c a m is = marks_by isa.memory (row c.op).form k c a m refl is.sound.encodable
 
 nil_below : (n l : ℕ) (t : Marks) → AllBelow n l t → AllBelow n l (t ++ [])
 nil_below n l t h = below_join n l t [] h tt

@@ -1,7 +1,8 @@
 -- What a case of any kind runs, and what its statements make.
-use Rattle.std.proofs.Common.{◌≡◌, ℕ, ◌+◌, ◌*◌, ◌%◌, ◌^◌, ◌<◌, ◌≤◌, Bool, [], true, List, ◌∷◌, ◌++◌}
+use Rattle.std.proofs.Common.{◌≡◌, ℕ, ◌+◌, ◌*◌, ◌%◌, ◌^◌, ◌≤◌, Bool, [], true, List, ◌∷◌, ◌++◌}
 use Rattle.std.proofs.Common.{length, Option, Some, None, refl, ap, ◌∙◌, arith, ◌⊎◌, inl, inr}
 use Rattle.std.specs.Prelude.{ℤ, pos, negsuc, unwrap_or}
+use Rattle.rvs_insn.specs.Memory.{Memory, HasRoom, text_limit}
 use Rattle.rvs_insn.specs.declared.op.Op.{Op}
 use Rattle.rvs_insn.specs.declared.op.Op.TheVariants.{Sb, Sh, Sw, Beq, ScW}
 use Rattle.rvs_insn.specs.declared.op.Format.{Format}
@@ -10,7 +11,6 @@ use Rattle.rvs_insn.specs.declared.op.Format.TheVariants.{LoadReserved}
 use Rattle.rvs_insn.specs.Isa.{Isa}
 use Rattle.rvs_insn.specs.Table.{row}
 use Rattle.rvs_insn.specs.Fields.{Fields}
-use Rattle.rvs_machine.specs.Image.{data_base}
 use Rattle.rvs_machine.specs.Machine.{Setup}
 use Rattle.rvs_machine.proofs.Loads.{IsAligned}
 use Rattle.rvs_machine.proofs.Stores.{store_size}
@@ -22,11 +22,13 @@ use Rattle.rvs_test_text.specs.Sound.{access_size}
 use Rattle.rvs_test_text.specs.Statements.{lui, addi}
 use Rattle.rvs_test_text.specs.TestText.{sw, lw, source, pointer, marker, store_case, between}
 use Rattle.rvs_test_text.specs.TestText.{reserve, atomic_case}
+use Rattle.rvs_test_text.proofs.Short.{IsShort}
 use Rattle.rvs_test_text.proofs.Cases.{Case}
 use Rattle.rvs_test_text.proofs.Shapes.{source_size, source_code}
 use Rattle.rvs_test_text.specs.Claim.{is_taken, filled_word}
 use Rattle.rvs_test_text.specs.declared.statement.Statement.{Statement}
-use Rattle.rvs_test_text.proofs.AtomicRuns.{reserve as reserve_code, reserve_size, atomic_code}
+use Rattle.rvs_test_text.proofs.AtomicParts.{reserve as reserve_code, reserve_size}
+use Rattle.rvs_test_text.proofs.AtomicRuns.{atomic_code}
 use Rattle.rvs_test_text.proofs.AtomicGood.{atomic_of}
 use Rattle.rvs_test_text.proofs.CaseParts.{AtomicRegisters, StoreRegisters, imm_of}
 use Rattle.rvs_test_text.proofs.CaseNames.{DataAt}
@@ -61,25 +63,27 @@ abbrev pub jump_taken : Format → ChoiceValue → Bool
 jump_taken Branch c = is_taken c.op c.w1 c.w2
 jump_taken _ c = true
 
-abbrev pub case_of_by : Format → ChoiceValue → ℕ → ℕ → Case
-case_of_by Store c pc slot = store_of (fields_of c) c.w1 c.w2 c.align pc slot
-case_of_by JumpReg c pc slot =
+abbrev pub case_of_by : Memory → Format → ChoiceValue → ℕ → ℕ → Case
+case_of_by memory Store c pc slot = store_of (fields_of c) c.w1 c.w2 c.align pc slot
+case_of_by memory JumpReg c pc slot =
     jalr_of (fields_of c) (unwrap_or c.rd 0) (unwrap_or c.imm (pos 0)) pc slot
-case_of_by Amo c pc slot = atomic_of (fields_of c) c.w2 filled_word pc slot
-case_of_by LoadReserved c pc slot = atomic_of (fields_of c) c.w2 filled_word pc slot
-case_of_by Branch c pc slot =
+case_of_by memory Amo c pc slot = atomic_of memory (fields_of c) c.w2 filled_word pc slot
+case_of_by memory LoadReserved c pc slot = atomic_of memory (fields_of c) c.w2 filled_word pc slot
+case_of_by memory Branch c pc slot =
     jump_case_of (imm_of c) c (jump_value Branch) (jump_taken Branch c) pc slot
-case_of_by Jump c pc slot = jump_case_of (imm_of c) c (jump_value Jump) (jump_taken Jump c) pc slot
-case_of_by _ c pc slot = plain_case_of c pc slot
+case_of_by memory Jump c pc slot = jump_case_of (imm_of c) c (jump_value Jump) (jump_taken Jump c)
+    pc slot
+case_of_by memory _ c pc slot = plain_case_of c pc slot
 
-abbrev pub case_of : ChoiceValue → ℕ → ℕ → Case
-case_of c pc slot = case_of_by (row c.op).form c pc slot
+abbrev pub case_of : Memory → ChoiceValue → ℕ → ℕ → Case
+case_of memory c pc slot = case_of_by memory (row c.op).form c pc slot
 
-pub store_made : (env : Name → ℕ) (pc k : ℕ) (c : ChoiceValue) (r : StoreRegisters c)
-    → env Scratch ≡ data_base
+pub store_made : (memory : Memory) (env : Name → ℕ) (pc k : ℕ) (c : ChoiceValue)
+    (r : StoreRegisters c)
+    → env Scratch ≡ memory.data_base
     → made_all env pc (store_case k c)
-    ≡ store_code (fields_of c) r.a r.b c.w1 c.w2 (pointer c) (marker c) (env (Slot k))
-store_made env pc k c r scratch =
+    ≡ store_code memory (fields_of c) r.a r.b c.w1 c.w2 (pointer c) (marker c) (env (Slot k))
+store_made memory env pc k c r scratch =
     let p = pointer c in
     let m = marker c in
     let s = env (Slot k) in
@@ -101,8 +105,8 @@ store_made env pc k c r scratch =
     ∷ (source_code a c.w1 ++ (source_code b c.w2 ++ (fields_of c ∷ (cp x 0 ++ cp x 4))))) in
     ap (λ l. pair (env Scratch) ++ (sw 0 p (pos 0) ∷ sw 0 p (pos 4) ∷ l)) rest
     ∙ ap (λ x. whole x c.rs1 c.rs2) scratch
-    ∙ ap (λ a. whole data_base a c.rs2) r.rs1
-    ∙ ap (λ b. whole data_base (Some r.a) b) r.rs2
+    ∙ ap (λ a. whole memory.data_base a c.rs2) r.rs1
+    ∙ ap (λ b. whole memory.data_base (Some r.a) b) r.rs2
 
 reserve_made : (op : Op) (a m : ℕ) (env : Name → ℕ) (pc : ℕ) (ss : List Statement)
     → made_all env pc (reserve op a m ++ ss)
@@ -110,11 +114,12 @@ reserve_made : (op : Op) (a m : ℕ) (env : Name → ℕ) (pc : ℕ) (ss : List 
 reserve_made ScW a m env pc ss = refl
 reserve_made _ a m env pc ss = ap (λ x. made_all env x ss) (omega arith)
 
-pub atomic_made : (env : Name → ℕ) (pc k : ℕ) (c : ChoiceValue) (r : AtomicRegisters c) → DataAt env
-    → c.w1 ≡ data_base
+pub atomic_made : (memory : Memory) (env : Name → ℕ) (pc k : ℕ) (c : ChoiceValue)
+    (r : AtomicRegisters c) → DataAt memory env
+    → c.w1 ≡ memory.data_base
     → made_all env pc (atomic_case k c)
-    ≡ atomic_code (fields_of c) r.a c.w2 (pointer c) (marker c) (env (Slot k))
-atomic_made env pc k c r places w1 =
+    ≡ atomic_code memory (fields_of c) r.a c.w2 (pointer c) (marker c) (env (Slot k))
+atomic_made memory env pc k c r places w1 =
     let p = pointer c in
     let m = marker c in
     let d = unwrap_or c.rd 0 in
@@ -149,38 +154,39 @@ atomic_made env pc k c r places w1 =
     (lui p (pos (high (env Scratch))) ∷ addi p p (low (env Scratch)) ∷ sw m p (pos 0)
     ∷ sw 0 p (pos 4) ∷ l)) rest
     ∙ ap (λ x. whole x (env Pattern) c.w1 c.rs1) places.0
-    ∙ ap (λ y. whole data_base y c.w1 c.rs1) places.1
-    ∙ ap (λ w. whole data_base (data_base + 8) w c.rs1) w1
-    ∙ ap (λ a. whole data_base (data_base + 8) data_base a) r.rs1
+    ∙ ap (λ y. whole memory.data_base y c.w1 c.rs1) places.1
+    ∙ ap (λ w. whole memory.data_base (memory.data_base + 8) w c.rs1) w1
+    ∙ ap (λ a. whole memory.data_base (memory.data_base + 8) memory.data_base a) r.rs1
 
 pub same_access : (op : Op) → (row op).form ≡ Store → store_size op ≡ access_size op
 same_access Sb h = refl
 same_access _ h = first_of (cc, search h)
 
-aligned_there : (op : Op) → (row op).form ≡ Store → (a : ℕ) → a % access_size op ≡ 0
-    → (data_base + a) % store_size op ≡ 0
-aligned_there Sb h a e = omega arith
-aligned_there Sh h a e = omega arith
-aligned_there Sw h a e = omega arith
-aligned_there _ h a e = cc
+aligned_there : (memory : Memory) → HasRoom memory → (op : Op) → (row op).form ≡ Store → (a : ℕ)
+    → a % access_size op ≡ 0
+    → (memory.data_base + a) % store_size op ≡ 0
+aligned_there memory room Sb h a e = omega (arith, room.data_page)
+aligned_there memory room Sh h a e = omega (arith, room.data_page)
+aligned_there memory room Sw h a e = omega (arith, room.data_page)
+aligned_there memory room _ h a e = cc
 
-pub taken : (isa : Isa) (op : Op) → (row op).form ≡ Store → (a : ℕ)
+pub taken : (isa : Isa) → HasRoom isa.memory → (op : Op) → (row op).form ≡ Store → (a : ℕ)
     → (a % access_size op ≡ 0) ⊎ (isa.misaligned ≡ true)
-    → IsAligned isa (store_size op) (data_base + a)
-taken isa op form a (inl h) = inl (aligned_there op form a h)
-taken isa op form a (inr h) = inr h
+    → IsAligned isa (store_size op) (isa.memory.data_base + a)
+taken isa room op form a (inl h) = inl (aligned_there isa.memory room op form a h)
+taken isa room op form a (inr h) = inr h
 
--- what is asked of the place of a case
-pub record IsPlaced (setup : Setup) (ram0 : List ℕ) (pc slot : ℕ) : Type 0 where
-  pub room : pc + 4096 < 2 ^ 32
+-- what is asked of the place of a case of so many bytes; the halt and the loop stand behind it
+pub record IsPlaced (setup : Setup) (ram0 : List ℕ) (pc slot size : ℕ) : Type 0 where
+  pub room : pc + size + 20 ≤ 2 ^ 32
   pub aligned : pc % 4 ≡ 0
   pub words : slot % 4 ≡ 0
   pub later : 32 ≤ slot
   pub fits : slot + 8 ≤ length ram0
-  pub short : length ram0 ≤ 2 ^ 20
-  pub tohost : setup.tohost ≡ data_base + 16
+  pub short : IsShort setup.isa.memory (length ram0)
+  pub tohost : setup.tohost ≡ setup.isa.memory.data_base + 16
   pub pattern : HasPattern ram0
-  pub text : length setup.text ≤ 2 ^ 24
+  pub text : length setup.text ≤ text_limit setup.isa.memory
 
 pub same_taken : (op : Op) → (row op).form ≡ Branch → (v1 v2 : ℕ)
     → machine_taken op v1 v2 ≡ is_taken op v1 v2

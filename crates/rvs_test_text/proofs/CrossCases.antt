@@ -3,6 +3,7 @@ use Rattle.std.proofs.Common.{None, ◌≡◌, ℕ, zero, suc, ◌+◌, ◌*◌,
 use Rattle.std.proofs.Common.{[], ◌∷◌, ◌++◌, length, Some, refl, sym, ap, ◌∙◌, arith, subst}
 use Rattle.std.proofs.Common.{append-nil}
 use Rattle.std.specs.Prelude.{pos, map}
+use Rattle.rvs_insn.specs.Memory.{Memory}
 use Rattle.rvs_insn.specs.declared.op.Op.TheVariants.{Add}
 use Rattle.rvs_insn.specs.declared.op.Format.{Format}
 use Rattle.rvs_insn.specs.declared.op.Format.TheVariants.{R, I, Shift}
@@ -10,7 +11,6 @@ use Rattle.rvs_insn.specs.Table.{row}
 use Rattle.rvs_insn.specs.Isa.{Isa}
 use Rattle.rvs_insn.specs.Fields.{Fields}
 use Rattle.rvs_insn.proofs.RoundTrip.{round_trip}
-use Rattle.rvs_machine.specs.Image.{text_base, data_base}
 use Rattle.rvs_machine.specs.Machine.{Setup}
 use Rattle.rvs_asm.specs.declared.location.Location.{Location}
 use Rattle.rvs_asm.specs.Locations.{next}
@@ -23,12 +23,13 @@ use Rattle.rvs_test_text.specs.Claim.{insns_of}
 use Rattle.rvs_test_text.specs.Statements.{line_of, addi}
 use Rattle.rvs_test_text.specs.TestText.{save, start_word, load_words, plains, first_rd, last_rd}
 use Rattle.rvs_test_text.specs.TestText.{cross_case}
+use Rattle.rvs_test_text.specs.TestText.{bytes_all}
 use Rattle.rvs_test_text.proofs.Runs.{StandFrom}
 use Rattle.rvs_test_text.proofs.Cases.{IsGood}
 use Rattle.rvs_test_text.proofs.KindLaws.{OwnFormat}
 use Rattle.rvs_test_text.proofs.Tables.{Marks, AllBelow, lacks_later}
 use Rattle.rvs_test_text.proofs.Passes.{AllFine, fine_join, marks, Distinct, AllLinked, IsThere}
-use Rattle.rvs_test_text.proofs.Assembled.{made_all, bytes_all, text_at}
+use Rattle.rvs_test_text.proofs.Assembled.{made_all, text_at}
 use Rattle.rvs_test_text.proofs.PlainCases.{source_made, source_distinct, source_linked}
 use Rattle.rvs_test_text.proofs.PlainCases.{source_marks}
 use Rattle.rvs_test_text.proofs.PlainCases.{source_bytes, fine_word, fine_save}
@@ -60,27 +61,28 @@ cross_bytes k is =
     words_bytes 8 8 (Label (CaseName k) ∷ (plains is ++ end)) ∙ omega (arith, h)
 
 -- ---- symbols
-words_marks : (r n : ℕ) (ss : List Statement) (a m : ℕ)
-    → marks (load_words r n ++ ss) (text_at a m) ≡ marks ss (text_at (a + 8 * n) m)
-words_marks r zero ss a m = ap (λ x. marks ss (text_at x m)) (omega arith)
-words_marks r (suc n) ss a m =
-    source_marks (Some r) (start_word r) (load_words (r + 1) n ++ ss) a m
-    ∙ words_marks (r + 1) n ss (a + 8) m
-    ∙ ap (λ x. marks ss (text_at x m)) (let e : a + 8 + 8 * n ≡ a + 8 * suc n = omega arith in e)
+words_marks : (memory : Memory) (r n : ℕ) (ss : List Statement) (a m : ℕ)
+    → marks (load_words r n ++ ss) (text_at memory a m) ≡ marks ss (text_at memory (a + 8 * n) m)
+words_marks memory r zero ss a m = ap (λ x. marks ss (text_at memory x m)) (omega arith)
+words_marks memory r (suc n) ss a m =
+    source_marks memory (Some r) (start_word r) (load_words (r + 1) n ++ ss) a m
+    ∙ words_marks memory (r + 1) n ss (a + 8) m
+    ∙ ap (λ x. marks ss (text_at memory x m))
+    (let e : a + 8 + 8 * n ≡ a + 8 * suc n = omega arith in e)
 
 plains_marks : (is : List Fields) (ss : List Statement) (p : Location)
     → ((q : Location) → marks ss q ≡ []) → marks (plains is ++ ss) p ≡ []
 plains_marks [] ss p h = h p
 plains_marks (i ∷ is) ss p h = plains_marks is ss (next p (line_of (Plain i)).body) h
 
-pub cross_marks : (k : ℕ) (is : List Fields) (a m : ℕ)
-    → marks (cross_case k is) (text_at a m)
-    ≡ (CaseName k, record { at = text_base + (a + 64); in_text = true }) ∷ []
-cross_marks k is a m =
+pub cross_marks : (memory : Memory) (k : ℕ) (is : List Fields) (a m : ℕ)
+    → marks (cross_case k is) (text_at memory a m)
+    ≡ (CaseName k, record { at = memory.text_base + (a + 64); in_text = true }) ∷ []
+cross_marks memory k is a m =
     let end = save 5 k (first_rd is) (last_rd is) in
-    words_marks 8 8 (Label (CaseName k) ∷ (plains is ++ end)) a m
-    ∙ ap (λ l. (CaseName k, record { at = text_base + (a + 64); in_text = true }) ∷ l)
-    (plains_marks is end (next (text_at (a + 64) m) (line_of (Label (CaseName k))).body)
+    words_marks memory 8 8 (Label (CaseName k) ∷ (plains is ++ end)) a m
+    ∙ ap (λ l. (CaseName k, record { at = memory.text_base + (a + 64); in_text = true }) ∷ l)
+    (plains_marks is end (next (text_at memory (a + 64) m) (line_of (Label (CaseName k))).body)
     (λ q. refl))
 
 -- ---- no label twice
@@ -206,11 +208,14 @@ cross_made env pc k is =
 
 -- ---- what it does
 pub cross_does : (setup : Setup) (ram0 : List ℕ) (env : Name → ℕ) (k : ℕ) (i : Fields)
-    (is : List Fields) (pc slot : ℕ) → IsSequence setup.isa (i ∷ is) → IsPlaced setup ram0 pc slot
-    → env (Slot k) ≡ data_base + slot → StandFrom setup pc (made_all env pc (cross_case k (i ∷ is)))
+    (is : List Fields) (pc slot : ℕ) → IsSequence setup.isa (i ∷ is)
+    → IsPlaced setup ram0 pc slot (80 + 4 * length (i ∷ is))
+    → env (Slot k) ≡ setup.isa.memory.data_base + slot
+    → StandFrom setup pc (made_all env pc (cross_case k (i ∷ is)))
     → IsGood setup ram0 (cross_of i is pc slot)
 cross_does setup ram0 env k i is pc slot sequence at sig there =
-    let code : made_all env pc (cross_case k (i ∷ is)) ≡ cross_code (i ∷ is) (data_base + slot) =
+    let code : made_all env pc (cross_case k (i ∷ is))
+    ≡ cross_code (i ∷ is) (setup.isa.memory.data_base + slot) =
     cross_made env pc k (i ∷ is) ∙ ap (cross_code (i ∷ is)) sig in
     cross_good setup ram0 i is pc slot sequence.all (omega (arith, sequence.most))
     (subst (StandFrom setup pc) code there) (omega (arith, at.room)) at.words at.fits at.short

@@ -4,6 +4,7 @@ use Rattle.std.proofs.Common.{◌∷◌, Some, refl, sym, ap, ◌∙◌, arith, 
 use Rattle.std.proofs.lemmas.Int.{ints}
 use Rattle.std.proofs.lemmas.Bool.Decides.{nat_tests}
 use Rattle.std.specs.Prelude.{ℤ, pos, negsuc, ◌-ℤ◌}
+use Rattle.rvs_insn.specs.Memory.{Memory}
 use Rattle.rvs_insn.specs.declared.op.Format.{Format}
 use Rattle.rvs_insn.specs.declared.op.Format.TheVariants.{Branch, Jump}
 use Rattle.rvs_insn.specs.Isa.{Isa}
@@ -12,7 +13,6 @@ use Rattle.rvs_insn.specs.Fields.{Fields}
 use Rattle.rvs_insn.specs.Word.{IsEncodable}
 use Rattle.rvs_insn.specs.Names.{is_admitted}
 use Rattle.rvs_asm_text.specs.Instructions.{in_field}
-use Rattle.rvs_machine.specs.Image.{text_base}
 use Rattle.rvs_asm.specs.declared.mark.Mark.{Mark}
 use Rattle.rvs_asm.specs.declared.location.Location.{Location}
 use Rattle.rvs_asm.specs.Locations.{next}
@@ -145,64 +145,70 @@ skip_linked t m zero p = tt
 skip_linked t m (suc n) p =
     (tt, filler_linked t n (next p (line_of (Plain (addi m m (pos 2)))).body))
 
-abbrev pub mark_at : ℕ → Mark
-mark_at x = record { at = text_base + x; in_text = true }
+abbrev pub mark_at : Memory → ℕ → Mark
+mark_at memory x = record { at = memory.text_base + x; in_text = true }
 
 -- where the names of a frame are
-abbrev pub FrameThere : ℤ → Marks → ℕ → ℕ → Type 0
-FrameThere (pos n) t k s = find_name t (Target k) ≡ Some (mark_at (s + 8 + 4 * between (pos n)))
-FrameThere (negsuc n) t k s =
-    (find_name t (Target k) ≡ Some (mark_at (s + 8)))
-    × (find_name t (CaseName k) ≡ Some (mark_at (s + 12 + 4 * between (negsuc n))))
-    × (find_name t (Done k) ≡ Some (mark_at (s + 16 + 4 * between (negsuc n))))
+abbrev pub FrameThere : Memory → ℤ → Marks → ℕ → ℕ → Type 0
+FrameThere memory (pos n) t k s = find_name t (Target k)
+    ≡ Some (mark_at memory (s + 8 + 4 * between (pos n)))
+FrameThere memory (negsuc n) t k s =
+    (find_name t (Target k) ≡ Some (mark_at memory (s + 8)))
+    × (find_name t (CaseName k) ≡ Some (mark_at memory (s + 12 + 4 * between (negsuc n))))
+    × (find_name t (Done k) ≡ Some (mark_at memory (s + 16 + 4 * between (negsuc n))))
 
 save_linked : (t : Marks) (p k a b : ℕ) (at : Location) → IsThere t (Slot k)
     → AllLinked t (save p k a b) at
 save_linked t p k a b at slot = (slot, (slot, (tt, (tt, tt))))
 
-back_linked : (t : Marks) (k m q a r done : ℕ) → k < 2 ^ 32 → done ≡ a + 8 + 4 * q → q ≤ 512
-    → find_name t (Done k) ≡ Some (mark_at done) → AllLinked t (back_body k m q) (text_at a r)
-back_linked t k m zero a r done small e most there = (
+back_linked : (memory : Memory) (t : Marks) (k m q a r done : ℕ) → k < 2 ^ 32 → done ≡ a + 8 + 4 * q
+    → q ≤ 512
+    → find_name t (Done k) ≡ Some (mark_at memory done)
+    → AllLinked t (back_body k m q) (text_at memory a r)
+back_linked memory t k m zero a r done small e most there = (
   record {
-    mark = mark_at done;
+    mark = mark_at memory done;
     there = there;
     small = small;
     near =
-        near_forward Jump (text_base + done) (text_base + a) 8 tt (omega (arith, e)) (omega arith)
+        near_forward Jump (memory.text_base + done) (memory.text_base + a) 8 tt (omega (arith, e))
+        (omega arith)
         refl;
   },
   tt,
 )
-back_linked t k m (suc n) a r done small e most there = (
+back_linked memory t k m (suc n) a r done small e most there = (
   tt,
   (
     record {
-      mark = mark_at done;
+      mark = mark_at memory done;
       there = there;
       small = small;
       near =
-          near_forward Jump (text_base + done) (text_base + (a + 4)) (8 + 4 * n) tt
+          near_forward Jump (memory.text_base + done) (memory.text_base + (a + 4)) (8 + 4 * n) tt
           (omega (arith, e))
           (omega arith) (omega arith);
     },
-    filler_linked t n (text_at (a + 4 + 4) r),
+    filler_linked t n (text_at memory (a + 4 + 4) r),
   ),
 )
 
-pub frame_linked : (z : ℤ) (t : Marks) (k m p d : ℕ) (j : Fields) (s r : ℕ) → k < 2 ^ 32
-    → IsLabelled (row j.op).form → IsNearby z → FrameThere z t k s → IsThere t (Slot k)
-    → AllLinked t (frame z k m j (save p k m d)) (text_at s r)
-frame_linked (pos n) t k m p d j s r small l near there slot =
+pub frame_linked : (memory : Memory) (z : ℤ) (t : Marks) (k m p d : ℕ) (j : Fields) (s r : ℕ)
+    → k < 2 ^ 32
+    → IsLabelled (row j.op).form → IsNearby z → FrameThere memory z t k s → IsThere t (Slot k)
+    → AllLinked t (frame z k m j (save p k m d)) (text_at memory s r)
+frame_linked memory (pos n) t k m p d j s r small l near there slot =
     let q = between (pos n) in
     let rest = save p k m d in
-    let p3 = text_at (s + 4 + 0 + 4) r in
-    let jump : IsNear t (text_base + (s + 4 + 0)) j (Target k) =
+    let p3 = text_at memory (s + 4 + 0 + 4) r in
+    let jump : IsNear t (memory.text_base + (s + 4 + 0)) j (Target k) =
     record {
-      mark = mark_at (s + 8 + 4 * q);
+      mark = mark_at memory (s + 8 + 4 * q);
       there = there;
       small = small;
       near =
-          near_forward (row j.op).form (text_base + (s + 8 + 4 * q)) (text_base + (s + 4 + 0))
+          near_forward (row j.op).form (memory.text_base + (s + 8 + 4 * q))
+          (memory.text_base + (s + 4 + 0))
           (4 + 4 * q) l (omega arith) (omega (arith, near.most)) (omega arith);
     } in (
       tt,
@@ -218,33 +224,35 @@ frame_linked (pos n) t k m p d j s r small l near there slot =
         ),
       ),
     )
-frame_linked (negsuc n) t k m p d j s r small l near there slot =
+frame_linked memory (negsuc n) t k m p d j s r small l near there slot =
     let q = between (negsuc n) in
     let rest = save p k m d in
     let tail = Label (CaseName k) ∷ To j (Target k) ∷ Label (Done k) ∷ rest in
     let at8 = s + 4 + 4 + 0 in
-    let p3 = text_at at8 r in
-    let go : IsNear t (text_base + (s + 4)) (jal 0) (CaseName k) =
+    let p3 = text_at memory at8 r in
+    let go : IsNear t (memory.text_base + (s + 4)) (jal 0) (CaseName k) =
     record {
-      mark = mark_at (s + 12 + 4 * q);
+      mark = mark_at memory (s + 12 + 4 * q);
       there = there.1;
       small = small;
       near =
-          near_forward Jump (text_base + (s + 12 + 4 * q)) (text_base + (s + 4)) (8 + 4 * q) tt
+          near_forward Jump (memory.text_base + (s + 12 + 4 * q)) (memory.text_base + (s + 4))
+          (8 + 4 * q) tt
           (omega arith) (omega (arith, near.most)) (omega arith);
     } in
-    let last : AllLinked t tail (text_at (at8 + 4 + 4 * q) r) = (
+    let last : AllLinked t tail (text_at memory (at8 + 4 + 4 * q) r) = (
       tt,
       (
         record {
-          mark = mark_at (s + 8);
+          mark = mark_at memory (s + 8);
           there = there.0;
           small = small;
           near =
-              near_back (row j.op).form (text_base + (s + 8)) (text_base + (at8 + 4 + 4 * q + 0))
+              near_back (row j.op).form (memory.text_base + (s + 8))
+              (memory.text_base + (at8 + 4 + 4 * q + 0))
               (3 + 4 * q) l (omega arith) (omega (arith, near.most)) (omega arith);
         },
-        (tt, save_linked t p k m d (text_at (at8 + 4 + 4 * q + 0 + 4 + 0) r) slot),
+        (tt, save_linked t p k m d (text_at memory (at8 + 4 + 4 * q + 0 + 4 + 0) r) slot),
       ),
     ) in (
       tt,
@@ -253,9 +261,9 @@ frame_linked (negsuc n) t k m p d j s r small l near there slot =
         (
           tt,
           linked_join t (back_body k m q) tail p3
-              (back_linked t k m q at8 r (s + 16 + 4 * q) small (omega arith)
+              (back_linked memory t k m q at8 r (s + 16 + 4 * q) small (omega arith)
               (omega (arith, near.most))
-              there.2) (subst (AllLinked t tail) (sym (back_after k m q at8 r)) last),
+              there.2) (subst (AllLinked t tail) (sym (back_after memory k m q at8 r)) last),
         ),
       ),
     )

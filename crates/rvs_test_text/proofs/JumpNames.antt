@@ -2,8 +2,8 @@
 use Rattle.std.proofs.Common.{◌≡◌, ℕ, zero, suc, ◌+◌, ◌*◌, ◌^◌, ◌<◌, true, List, []}
 use Rattle.std.proofs.Common.{◌∷◌, ◌++◌, refl, sym, ap, ◌∙◌, arith, subst, append-nil}
 use Rattle.std.specs.Prelude.{ℤ, pos, negsuc}
+use Rattle.rvs_insn.specs.Memory.{Memory}
 use Rattle.rvs_insn.specs.Fields.{Fields}
-use Rattle.rvs_machine.specs.Image.{text_base}
 use Rattle.rvs_asm.specs.declared.mark.Mark.{Mark}
 use Rattle.rvs_asm.specs.declared.location.Location.{Location}
 use Rattle.rvs_asm.specs.Locations.{next}
@@ -15,10 +15,11 @@ use Rattle.rvs_test_text.specs.declared.statement.Statement.{Statement}
 use Rattle.rvs_test_text.specs.declared.statement.Statement.TheVariants.{Label, Plain, To}
 use Rattle.rvs_test_text.specs.Statements.{line_of, addi}
 use Rattle.rvs_test_text.specs.TestText.{jal, save, between, filler, skip, back_body, frame}
+use Rattle.rvs_test_text.specs.TestText.{bytes_all}
 use Rattle.rvs_test_text.proofs.Tables.{Marks, Lacks, lacks_join}
 use Rattle.rvs_test_text.proofs.Passes.{own_marks, marks, marks_join}
 use Rattle.rvs_test_text.proofs.Passes.{after, Distinct, distinct_join}
-use Rattle.rvs_test_text.proofs.Assembled.{made_all, made_join, bytes_all, bytes_join}
+use Rattle.rvs_test_text.proofs.Assembled.{made_all, made_join, bytes_join}
 use Rattle.rvs_test_text.proofs.Assembled.{text_at, nops}
 use Rattle.rvs_test_text.proofs.Frames.{skip_code, back_code, to_place}
 use Rattle.rvs_test_text.proofs.Shapes.{save as save_code}
@@ -58,18 +59,23 @@ frame_bytes (negsuc n) k m j rest =
     omega (arith, a, b)
 
 -- ---- places
-filler_after : (n a r : ℕ) → after (filler n) (text_at a r) ≡ text_at (a + 4 * n) r
-filler_after zero a r = ap (λ x. text_at x r) (omega arith)
-filler_after (suc n) a r =
-    ap (λ x. text_at x r) (let e : a + suc n * 4 ≡ a + 4 * suc n = omega arith in e)
+filler_after : (memory : Memory) (n a r : ℕ) → after (filler n) (text_at memory a r)
+    ≡ text_at memory (a + 4 * n) r
+filler_after memory zero a r = ap (λ x. text_at memory x r) (omega arith)
+filler_after memory (suc n) a r =
+    ap (λ x. text_at memory x r) (let e : a + suc n * 4 ≡ a + 4 * suc n = omega arith in e)
 
-skip_after : (m q a r : ℕ) → after (skip m q) (text_at a r) ≡ text_at (a + 4 * q) r
-skip_after m zero a r = ap (λ x. text_at x r) (omega arith)
-skip_after m (suc n) a r = filler_after n (a + 4) r ∙ ap (λ x. text_at x r) (omega arith)
+skip_after : (memory : Memory) (m q a r : ℕ) → after (skip m q) (text_at memory a r)
+    ≡ text_at memory (a + 4 * q) r
+skip_after memory m zero a r = ap (λ x. text_at memory x r) (omega arith)
+skip_after memory m (suc n) a r = filler_after memory n (a + 4) r
+    ∙ ap (λ x. text_at memory x r) (omega arith)
 
-pub back_after : (k m q a r : ℕ) → after (back_body k m q) (text_at a r) ≡ text_at (a + 4 + 4 * q) r
-back_after k m zero a r = ap (λ x. text_at x r) (omega arith)
-back_after k m (suc n) a r = filler_after n (a + 4 + 4) r ∙ ap (λ x. text_at x r) (omega arith)
+pub back_after : (memory : Memory) (k m q a r : ℕ)
+    → after (back_body k m q) (text_at memory a r) ≡ text_at memory (a + 4 + 4 * q) r
+back_after memory k m zero a r = ap (λ x. text_at memory x r) (omega arith)
+back_after memory k m (suc n) a r = filler_after memory n (a + 4 + 4) r
+    ∙ ap (λ x. text_at memory x r) (omega arith)
 
 -- ---- lines without a label
 filler_marks : (n : ℕ) (p : Location) → marks (filler n) p ≡ []
@@ -108,54 +114,63 @@ back_distinct t k m (suc n) p = (
 )
 
 -- ---- symbols
-abbrev pub frame_marks : ℤ → ℕ → ℕ → Marks
-frame_marks (pos n) k s =
-    (CaseName k, record { at = text_base + (s + 4); in_text = true })
-    ∷ (Target k, record { at = text_base + (s + 8 + 4 * between (pos n)); in_text = true }) ∷ []
-frame_marks (negsuc n) k s =
-    (Target k, record { at = text_base + (s + 8); in_text = true })
-    ∷ (CaseName k, record { at = text_base + (s + 12 + 4 * between (negsuc n)); in_text = true })
-    ∷ (Done k, record { at = text_base + (s + 16 + 4 * between (negsuc n)); in_text = true }) ∷ []
+abbrev pub frame_marks : Memory → ℤ → ℕ → ℕ → Marks
+frame_marks memory (pos n) k s =
+    (CaseName k, record { at = memory.text_base + (s + 4); in_text = true })
+    ∷ (Target k, record { at = memory.text_base + (s + 8 + 4 * between (pos n)); in_text = true }) ∷
+    []
+frame_marks memory (negsuc n) k s =
+    (Target k, record { at = memory.text_base + (s + 8); in_text = true })
+    ∷ (
+      CaseName k,
+      record {
+        at = memory.text_base + (s + 12 + 4 * between (negsuc n));
+        in_text =
+            true;
+      },
+    )
+    ∷ (Done k, record { at = memory.text_base + (s + 16 + 4 * between (negsuc n)); in_text = true })
+    ∷ []
 
-pub frame_marks_are : (z : ℤ) (k m p d : ℕ) (j : Fields) (s r : ℕ)
-    → marks (frame z k m j (save p k m d)) (text_at s r) ≡ frame_marks z k s
-frame_marks_are (pos n) k m p d j s r =
+pub frame_marks_are : (memory : Memory) (z : ℤ) (k m p d : ℕ) (j : Fields) (s r : ℕ)
+    → marks (frame z k m j (save p k m d)) (text_at memory s r) ≡ frame_marks memory z k s
+frame_marks_are memory (pos n) k m p d j s r =
     let q = between (pos n) in
     let rest = save p k m d in
-    let here = text_at (s + 4 + 0 + 4) r in
-    let own : Mark = record { at = text_base + (s + 4); in_text = true } in
+    let here = text_at memory (s + 4 + 0 + 4) r in
+    let own : Mark = record { at = memory.text_base + (s + 4); in_text = true } in
     let inner : marks (skip m q ++ Label (Target k) ∷ rest) here
-    ≡ (Target k, record { at = text_base + (s + 8 + 4 * q); in_text = true }) ∷ [] =
+    ≡ (Target k, record { at = memory.text_base + (s + 8 + 4 * q); in_text = true }) ∷ [] =
     marks_join (skip m q) (Label (Target k) ∷ rest) here
     ∙ ap (λ l. l ++ marks (Label (Target k) ∷ rest) (after (skip m q) here)) (skip_marks m q here)
-    ∙ ap (marks (Label (Target k) ∷ rest)) (skip_after m q (s + 4 + 0 + 4) r)
-    ∙ ap (λ x. (Target k, record { at = text_base + x; in_text = true }) ∷ [])
+    ∙ ap (marks (Label (Target k) ∷ rest)) (skip_after memory m q (s + 4 + 0 + 4) r)
+    ∙ ap (λ x. (Target k, record { at = memory.text_base + x; in_text = true }) ∷ [])
     (let e : s + 4 + 0 + 4 + 4 * q ≡ s + 8 + 4 * q = omega arith in e) in
     ap (λ l. (CaseName k, own) ∷ l) inner
-frame_marks_are (negsuc n) k m p d j s r =
+frame_marks_are memory (negsuc n) k m p d j s r =
     let q = between (negsuc n) in
     let rest = save p k m d in
     let tail = Label (CaseName k) ∷ To j (Target k) ∷ Label (Done k) ∷ rest in
     let at8 = s + 4 + 4 + 0 in
-    let here = text_at at8 r in
+    let here = text_at memory at8 r in
     let inner : marks (back_body k m q ++ tail) here
-    ≡ (CaseName k, record { at = text_base + (s + 12 + 4 * q); in_text = true })
-    ∷ (Done k, record { at = text_base + (s + 16 + 4 * q); in_text = true }) ∷ [] =
+    ≡ (CaseName k, record { at = memory.text_base + (s + 12 + 4 * q); in_text = true })
+    ∷ (Done k, record { at = memory.text_base + (s + 16 + 4 * q); in_text = true }) ∷ [] =
     marks_join (back_body k m q) tail here
     ∙ ap (λ l. l ++ marks tail (after (back_body k m q) here)) (back_marks k m q here)
-    ∙ ap (marks tail) (back_after k m q at8 r)
+    ∙ ap (marks tail) (back_after memory k m q at8 r)
     ∙ ap
-    (λ x. (CaseName k, record { at = text_base + x; in_text = true })
-    ∷ (Done k, record { at = text_base + (x + 0 + 4); in_text = true }) ∷ [])
+    (λ x. (CaseName k, record { at = memory.text_base + x; in_text = true })
+    ∷ (Done k, record { at = memory.text_base + (x + 0 + 4); in_text = true }) ∷ [])
     (let e : at8 + 4 + 4 * q ≡ s + 12 + 4 * q = omega arith in e)
     ∙ ap
-    (λ x. (CaseName k, record { at = text_base + (s + 12 + 4 * q); in_text = true })
-    ∷ (Done k, record { at = text_base + x; in_text = true }) ∷ [])
+    (λ x. (CaseName k, record { at = memory.text_base + (s + 12 + 4 * q); in_text = true })
+    ∷ (Done k, record { at = memory.text_base + x; in_text = true }) ∷ [])
     (let e : s + 12 + 4 * q + 0 + 4 ≡ s + 16 + 4 * q = omega arith in e) in
     ap
-    (λ x. (Target k, record { at = text_base + x; in_text = true })
+    (λ x. (Target k, record { at = memory.text_base + x; in_text = true })
     ∷ marks (back_body k m q ++ tail) here) (let e : s + 4 + 4 ≡ s + 8 = omega arith in e)
-    ∙ ap (λ l. (Target k, record { at = text_base + (s + 8); in_text = true }) ∷ l) inner
+    ∙ ap (λ l. (Target k, record { at = memory.text_base + (s + 8); in_text = true }) ∷ l) inner
 
 -- ---- instructions
 filler_made : (env : Name → ℕ) (pc n : ℕ) → made_all env pc (filler n) ≡ nops n

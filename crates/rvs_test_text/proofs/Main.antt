@@ -1,16 +1,20 @@
 -- A test text, assembled and run.
 use Rattle.std.proofs.Common.{◌≡◌, ℕ, zero, suc, ◌+◌, ◌*◌, ◌/◌, ◌%◌, ◌^◌, ◌<◌, ◌≤◌, true, false}
 use Rattle.std.proofs.Common.{cond, List, [], ◌∷◌, ◌++◌, length, Some, None, refl, sym, ap, ◌∙◌}
-use Rattle.std.proofs.Common.{arith, append-nil, subst, Bool}
+use Rattle.std.proofs.Common.{arith, append-nil, subst}
 use Rattle.std.proofs.lemmas.Bool.Decides.{nat_tests}
 use Rattle.std.specs.Prelude.{◌&&◌, nat_le, pos, map, codes, unwrap_or, option_and_then}
 use Rattle.std.specs.Option.{option_or}
+use Rattle.std.specs.List.{list_all}
 use Rattle.std.specs.Fmt.{decimal}
 use Rattle.std.proofs.lemmas.Fmt.{decimal_by_steps}
+use Rattle.rvs_insn.specs.Memory.{Memory, text_limit, data_limit}
 use Rattle.rvs_insn.specs.declared.op.Format.{Format}
 use Rattle.rvs_insn.specs.declared.op.Format.TheVariants.{Branch, Jump}
 use Rattle.rvs_insn.specs.Isa.{Isa}
+use Rattle.rvs_cgf.specs.Limits.{most_points}
 use Rattle.rvs_insn.specs.Table.{row}
+use Rattle.rvs_insn.proofs.Regions.{regions_end}
 use Rattle.rvs_asm_text.specs.Text.{lines_of, is_text_byte}
 use Rattle.rvs_base.specs.Digits.{digits_of}
 use Rattle.rvs_base.proofs.Readings.{digits_of-decimal}
@@ -19,6 +23,7 @@ use Rattle.rvs_asm.specs.Symbols.{Table, find_mark}
 use Rattle.rvs_asm.specs.Locations.{Reading, readings, start, labels}
 use Rattle.rvs_asm.specs.Bytes.{section}
 use Rattle.rvs_asm.specs.Faults.{first_fault, second_fault, first_missing, needed, is_missing}
+use Rattle.rvs_asm.specs.Faults.{at_line}
 use Rattle.rvs_asm.specs.Answer.{text_readings, image_of, parts_of, Assembles}
 use Rattle.rvs_asm.specs.Symbols.{address_of}
 use Rattle.rvs_solver.specs.Choices.{ChoiceValue}
@@ -29,15 +34,17 @@ use Rattle.rvs_test_text.specs.declared.statement.Name.TheVariants.{EndSignature
 use Rattle.rvs_test_text.specs.Sound.{Accesses}
 use Rattle.rvs_test_text.specs.Statements.{printed}
 use Rattle.rvs_test_text.specs.TestText.{last_register, Point, header, claim_lines, test_text}
+use Rattle.rvs_test_text.specs.TestText.{code_part, bytes_all}
 use Rattle.rvs_test_text.specs.TestText.{step_limit}
 use Rattle.rvs_test_text.specs.TestText.{all_steps, jump_steps}
 use Rattle.rvs_test_text.specs.Claim.{AreReady, ArePrintable, IsTest, TestsRun}
+use Rattle.rvs_test_text.proofs.Data.{line_room}
 use Rattle.rvs_test_text.proofs.Chars.{tested}
 use Rattle.rvs_test_text.proofs.Tables.{named, find_name, found}
 use Rattle.rvs_test_text.proofs.Passes.{also, read_as, labelled, first_free, second_free}
-use Rattle.rvs_test_text.proofs.CaseList.{AllMade}
+use Rattle.rvs_test_text.proofs.Fits.{all_made, last_low}
 use Rattle.rvs_test_text.proofs.Registers.{AreCleared}
-use Rattle.rvs_test_text.proofs.TestNames.{code_fine, whole}
+use Rattle.rvs_test_text.proofs.TestNames.{code_fine, whole, HasSpace, text_size, code_bytes}
 use Rattle.rvs_test_text.proofs.Parts.{whole_read, whole_distinct, whole_stands}
 use Rattle.rvs_test_text.proofs.Parts.{whole_linked, table_small}
 use Rattle.rvs_test_text.proofs.TestNames.{table, tohost_there, begin_there}
@@ -46,48 +53,50 @@ use Rattle.rvs_test_text.proofs.Ran.{AreChoices, image_for, image_fine, test_run
 use Rattle.rvs_test_text.proofs.Text.{ArePoints, lines_back, blanks, header_read, text_are_lines}
 
 -- ---- comments make nothing
-blank_labels : (ts : List (List ℕ)) (rs : List Reading)
-    → labels (blanks ts ++ rs) start ≡ labels rs start
-blank_labels [] rs = refl
-blank_labels (t ∷ ts) rs = blank_labels ts rs
+blank_labels : (memory : Memory) (ts : List (List ℕ)) (rs : List Reading)
+    → labels (blanks ts ++ rs) (start memory) ≡ labels rs (start memory)
+blank_labels memory [] rs = refl
+blank_labels memory (t ∷ ts) rs = blank_labels memory ts rs
 
 blank_first : (isa : Isa) (n : ℕ) (ts : List (List ℕ)) (rs : List Reading)
-    → ((k : ℕ) → first_fault isa [] start k rs ≡ None)
-    → first_fault isa [] start n (blanks ts ++ rs) ≡ None
+    → ((k : ℕ) → first_fault isa [] (start isa.memory) k rs ≡ None)
+    → first_fault isa [] (start isa.memory) n (blanks ts ++ rs) ≡ None
 blank_first isa n [] rs h = h n
-blank_first isa n (t ∷ ts) rs h = blank_first isa (n + 1) ts rs h
+blank_first isa n (t ∷ ts) rs h =
+    let text : 0 ≤ text_limit isa.memory = omega arith in
+    let ram : 0 ≤ data_limit isa.memory = omega arith in
+    ap (λ k. option_or (at_line n k) (first_fault isa [] (start isa.memory) (n + 1)
+    (blanks ts ++ rs)))
+    (line_room isa.memory 0 0 text ram)
+    ∙ blank_first isa (n + 1) ts rs h
 
-blank_second : (tbl : Table) (n : ℕ) (ts : List (List ℕ)) (rs : List Reading)
-    → ((k : ℕ) → second_fault tbl start k rs ≡ None)
-    → second_fault tbl start n (blanks ts ++ rs) ≡ None
-blank_second tbl n [] rs h = h n
-blank_second tbl n (t ∷ ts) rs h = blank_second tbl (n + 1) ts rs h
+blank_second : (memory : Memory) (tbl : Table) (n : ℕ) (ts : List (List ℕ)) (rs : List Reading)
+    → ((k : ℕ) → second_fault tbl (start memory) k rs ≡ None)
+    → second_fault tbl (start memory) n (blanks ts ++ rs) ≡ None
+blank_second memory tbl n [] rs h = h n
+blank_second memory tbl n (t ∷ ts) rs h = blank_second memory tbl (n + 1) ts rs h
 
-blank_text : (env : List ℕ → ℕ) (ts : List (List ℕ)) (rs : List Reading)
-    → section true env (blanks ts ++ rs) start ≡ section true env rs start
-blank_text env [] rs = refl
-blank_text env (t ∷ ts) rs = blank_text env ts rs
+blank_text : (memory : Memory) (env : List ℕ → ℕ) (ts : List (List ℕ)) (rs : List Reading)
+    → section true env (blanks ts ++ rs) (start memory) ≡ section true env rs (start memory)
+blank_text memory env [] rs = refl
+blank_text memory env (t ∷ ts) rs = blank_text memory env ts rs
 
-blank_ram : (env : List ℕ → ℕ) (ts : List (List ℕ)) (rs : List Reading)
-    → section false env (blanks ts ++ rs) start ≡ section false env rs start
-blank_ram env [] rs = refl
-blank_ram env (t ∷ ts) rs = blank_ram env ts rs
+blank_ram : (memory : Memory) (env : List ℕ → ℕ) (ts : List (List ℕ)) (rs : List Reading)
+    → section false env (blanks ts ++ rs) (start memory) ≡ section false env rs (start memory)
+blank_ram memory env [] rs = refl
+blank_ram memory env (t ∷ ts) rs = blank_ram memory env ts rs
 
 -- ---- the image of a list of read lines
-image_blank : (tbl : Table) (ts : List (List ℕ)) (rs : List Reading)
-    → image_of tbl (blanks ts ++ rs) ≡ image_of tbl rs
-image_blank tbl ts rs =
-    ap (λ x. parts_of tbl x (section false (address_of tbl) (blanks ts ++ rs) start))
-    (blank_text (address_of tbl) ts rs)
-    ∙ ap (parts_of tbl (section true (address_of tbl) rs start)) (blank_ram (address_of tbl) ts rs)
+image_blank : (memory : Memory) (tbl : Table) (ts : List (List ℕ)) (rs : List Reading)
+    → image_of memory tbl (blanks ts ++ rs) ≡ image_of memory tbl rs
+image_blank memory tbl ts rs =
+    ap (λ x. parts_of memory tbl x (section false (address_of tbl) (blanks ts ++ rs)
+    (start memory)))
+    (blank_text memory (address_of tbl) ts rs)
+    ∙ ap (parts_of memory tbl (section true (address_of tbl) rs (start memory)))
+    (blank_ram memory (address_of tbl) ts rs)
 
 -- ---- what is asked of the choices
-all_plain : (isa : Isa) (cs : List Solved) → AreReady isa cs → AllMade isa cs
-all_plain isa [] h = tt
-all_plain isa (One c ∷ cs) h =
-    (record { sound = h.0.0; made = h.0.1 }, all_plain isa cs h.1)
-all_plain isa (Many is ∷ cs) h = (h.0, all_plain isa cs h.1)
-
 points_fine : (ps : List Point) → ArePrintable ps → ArePoints ps
 points_fine [] h = tt
 points_fine (p ∷ ps) h =
@@ -155,13 +164,9 @@ header_first label isa n ps ls low high =
 -- ---- all of it
 cleared : (isa : Isa) → AreCleared isa (last_register isa)
 cleared isa = record {
-  low = most isa.e;
+  low = last_low isa.e;
   few = λ e. subst (λ b. cond b 15 31 ≤ 15) (sym e) (omega arith);
 }
-  where
-    most : (b : Bool) → cond b 15 31 ≤ 31
-    most true = omega arith
-    most false = omega arith
 
 pub steps_high : (isa : Isa) (cs : List Solved) → AreReady isa cs → all_steps cs ≤ 544 * length cs
 steps_high isa [] h = omega arith
@@ -175,39 +180,52 @@ steps_high isa (One c ∷ cs) h =
     one Jump c a = omega (arith, a.most)
     one _ c a = omega arith
 
--- the text is cut into the lines of its header and of its statements
+-- the text is cut into the lines of its header and of its statements, whether there is room for it
+-- or not
 pub text_cut : (isa : Isa) (label : List ℕ) (points : List Point) (cs : List Solved)
-    → IsTest isa label points cs
+    → length cs ≤ most_points → length points ≡ length cs → list_all is_text_byte label ≡ true
+    → ArePrintable points → AreReady isa cs
     → lines_of (test_text label isa points cs)
     ≡ header label isa (step_limit cs) points ++ map printed (whole (last_register isa) cs)
 unfolding test_text
-text_cut isa label points cs is =
-    let few = is.few in
+text_cut isa label points cs few same named printable ready =
     let small : length cs < 2 ^ 32 = omega arith in
     let n = step_limit cs in
-    let bound : n ≤ 2000000 = omega (arith, steps_high isa cs is.choices) in
+    let bound : n ≤ 2000000 = omega (arith, steps_high isa cs ready) in
     let regs = last_register isa in
-    let fine = code_fine isa regs cs (cleared isa) small (all_plain isa cs is.choices) in
+    let fine = code_fine isa regs cs (cleared isa) small (all_made isa cs ready) in
     let lines =
-    text_are_lines label isa regs n points cs (tested is_text_byte label is.label_text)
-    (points_fine points is.points_text) (omega arith) (omega (arith, is.same)) fine small in
+    text_are_lines label isa regs n points cs (tested is_text_byte label named)
+    (points_fine points printable) (omega arith) (omega (arith, same)) fine small in
     lines_back (header label isa n points ++ map printed (whole regs cs)) lines
 
 pub tests_run : TestsRun
 unfolding header_steps
 tests_run isa label points cs is =
+    let memory = isa.memory in
     let regs = last_register isa in
     let e = cleared isa in
     let few = is.few in
     let small : length cs < 2 ^ 32 = omega arith in
-    let plain = all_plain isa cs is.choices in
-    let are : AreChoices isa regs cs = record { cleared = e; few = few; plain = plain } in
+    let plain = all_made isa cs is.choices in
+    let size : bytes_all (code_part isa cs) ≡ text_size regs cs = code_bytes isa regs cs plain in
+    let fits : text_size regs cs ≤ text_limit isa.memory = omega (arith, size, is.fits.text) in
+    let space : HasSpace isa regs cs = record {
+      room = is.room;
+      text = fits;
+      ends = omega (arith, fits, (regions_end isa.memory is.room).0);
+      ram = is.fits.ram;
+      last = is.fits.last;
+    } in
+    let are : AreChoices isa regs cs =
+    record { cleared = e; few = few; plain = plain; space = space } in
     let n = step_limit cs in
     let bound : n ≤ 2000000 = omega (arith, steps_high isa cs is.choices) in
     let head = header label isa n points in
     let body = map printed (whole regs cs) in
     let text = test_text label isa points cs in
-    let cut : lines_of text ≡ head ++ body = text_cut isa label points cs is in
+    let cut : lines_of text ≡ head ++ body =
+    text_cut isa label points cs is.few is.same is.label_text is.points_text is.choices in
     let rs = blanks head ++ read_as (whole regs cs) in
     let read_all : readings true ((head ++ body) ++ []) ≡ (blanks head ++ read_as (whole regs cs))
     ++ [] =
@@ -215,24 +233,27 @@ tests_run isa label points cs is =
     let read : text_readings text ≡ rs =
     ap (readings true) cut ∙ ap (readings true) (sym (append-nil (head ++ body))) ∙ read_all
     ∙ append-nil rs in
-    let tbl = named (table regs cs) in
+    let tbl = named (table memory regs cs) in
     let hs = table_small isa regs cs e small plain in
-    let names : labels rs start ≡ tbl =
-    blank_labels head (read_as (whole regs cs)) ∙ labelled (whole regs cs) start in
-    let placed : first_fault isa [] start 1 rs ≡ None =
+    let names : labels rs (start memory) ≡ tbl =
+    blank_labels memory head (read_as (whole regs cs)) ∙ labelled (whole regs cs) (start memory) in
+    let placed : first_fault isa [] (start memory) 1 rs ≡ None =
     blank_first isa 1 head (read_as (whole regs cs))
-    (λ k. first_free isa [] start k (whole regs cs) tt (whole_distinct isa regs cs e small plain)
-    (whole_stands isa regs cs e few plain)) in
-    let linked : second_fault tbl start 1 rs ≡ None =
-    blank_second tbl 1 head (read_as (whole regs cs))
-    (λ k. second_free (table regs cs) start k (whole regs cs) hs
+    (λ k. first_free isa [] (start memory) k (whole regs cs) tt
+    (whole_distinct isa regs cs e small plain)
+    (whole_stands isa regs cs e small space plain)) in
+    let linked : second_fault tbl (start memory) 1 rs ≡ None =
+    blank_second memory tbl 1 head (read_as (whole regs cs))
+    (λ k. second_free (table memory regs cs) (start memory) k (whole regs cs) hs
     (whole_linked isa regs cs e small plain)) in
-    let host : find_mark tbl (codes "tohost") ≡ find_name (table regs cs) ToHost =
-    found (table regs cs) ToHost tt hs in
-    let first : find_mark tbl (codes "begin_signature") ≡ find_name (table regs cs) BeginSignature =
-    found (table regs cs) BeginSignature tt hs in
-    let last : find_mark tbl (codes "end_signature") ≡ find_name (table regs cs) EndSignature =
-    found (table regs cs) EndSignature tt hs in
+    let host : find_mark tbl (codes "tohost") ≡ find_name (table memory regs cs) ToHost =
+    found (table memory regs cs) ToHost tt hs in
+    let first : find_mark tbl (codes "begin_signature")
+    ≡ find_name (table memory regs cs) BeginSignature =
+    found (table memory regs cs) BeginSignature tt hs in
+    let last : find_mark tbl (codes "end_signature")
+    ≡ find_name (table memory regs cs) EndSignature =
+    found (table memory regs cs) EndSignature tt hs in
     let marked : first_missing tbl needed ≡ None =
     ap
     (λ o. cond (is_missing o) (Some (codes "tohost"))
@@ -244,19 +265,20 @@ tests_run isa label points cs is =
     (first ∙ begin_there isa regs cs e small plain)
     ∙ ap (λ o. cond (is_missing o) (Some (codes "end_signature")) None)
     (last ∙ end_there isa regs cs e small plain) in
-    let image = image_for regs cs in
-    let made : image ≡ image_of tbl rs = sym (image_blank tbl head (read_as (whole regs cs))) in
+    let image = image_for memory regs cs in
+    let made : image ≡ image_of memory tbl rs = sym
+    (image_blank memory tbl head (read_as (whole regs cs))) in
     let assembled : Assembles text isa image = record {
-      placed = ap (first_fault isa [] start 1) read ∙ placed;
+      placed = ap (first_fault isa [] (start memory) 1) read ∙ placed;
       linked =
-          ap (λ r. second_fault (labels r start) start 1 r) read
-          ∙ ap (λ x. second_fault x start 1 rs) names ∙ linked;
+          ap (λ r. second_fault (labels r (start memory)) (start memory) 1 r) read
+          ∙ ap (λ x. second_fault x (start memory) 1 rs) names ∙ linked;
       marked =
-          ap (λ r. first_missing (labels r start) needed) read
+          ap (λ r. first_missing (labels r (start memory)) needed) read
           ∙ ap (λ x. first_missing x needed) names ∙ marked;
       made =
-          made ∙ ap (λ x. image_of x rs) (sym names)
-          ∙ ap (λ r. image_of (labels r start) r) (sym read);
+          made ∙ ap (λ x. image_of memory x rs) (sym names)
+          ∙ ap (λ r. image_of memory (labels r (start memory)) r) (sym read);
       regions = image_fine isa regs cs are;
     } in
     record {

@@ -27,7 +27,7 @@ use Rattle.rvs_asm.specs.Locations.{location_after}
 use Rattle.rvs_asm.specs.Locations.{own_label, labels}
 use Rattle.rvs_asm.specs.Bytes.{high, low, distance}
 use Rattle.rvs_asm.specs.Faults.{body_fault, is_double, fault, at_line, first_fault, symbol_fault}
-use Rattle.rvs_asm.specs.Faults.{second_fault, field_fault}
+use Rattle.rvs_asm.specs.Faults.{second_fault, field_fault, label_fault}
 use Rattle.rvs_test_text.specs.declared.statement.Name.{Name}
 use Rattle.rvs_test_text.specs.declared.statement.Fixed.TheVariants.{NoRvc}
 use Rattle.rvs_test_text.specs.declared.statement.Statement.{Statement}
@@ -175,7 +175,8 @@ Distinct t (s ∷ ss) p = OwnDistinct t s × Distinct (t ++ own_marks p s) ss (n
 abbrev pub Stands : Isa → List Statement → Location → Type 0
 Stands isa [] p = Unit {0}
 Stands isa (s ∷ ss) p =
-    (body_fault isa p (line_of s).body ≡ None) × Stands isa ss (next p (line_of s).body)
+    (option_or (body_fault isa p (line_of s).body) (label_fault (line_of s).label p) ≡ None)
+    × Stands isa ss (next p (line_of s).body)
 
 pub distinct_join : (t : Marks) (xs ys : List Statement) (p : Location) → Distinct t xs p
     → Distinct (t ++ marks xs p) ys (after xs p) → Distinct t (xs ++ ys) p
@@ -209,7 +210,9 @@ first_free isa t p n [] hs d st = refl
 first_free isa t p n (s ∷ ss) hs d st =
     let q = next p (line_of s).body in
     let one : fault isa (named t) p (Ok (line_of s)) ≡ None =
-    ap (λ b. cond b (Some DoubleSymbol) (body_fault isa p (line_of s).body))
+    ap
+    (λ b. cond b (Some DoubleSymbol)
+    (option_or (body_fault isa p (line_of s).body) (label_fault (line_of s).label p)))
     (not_double t s hs d.0) ∙ st.0 in
     let table : named t ++ own_label (line_of s).label p ≡ named (t ++ own_marks p s) =
     ap (λ l. named t ++ l) (own_labelled p s) ∙ sym (named_join t (own_marks p s)) in

@@ -25,7 +25,7 @@ use Rattle.rvs_device.specs.Printed.{verdict_line}
 use Rattle.rvs_select.specs.declared.database.Entry.{Entry}
 use Rattle.rvs_suite.specs.DatabaseInput.{marked_from}
 use Rattle.rvs_suite.specs.GenerateTexts.{label_text, total_line, none, with_labels, listing}
-use Rattle.rvs_suite.specs.GroupFiles.{Inputs, and_then, inputs_in, parted_inputs}
+use Rattle.rvs_suite.specs.GroupFiles.{Inputs, and_then, tested_in, parted_inputs}
 use Rattle.rvs_suite.specs.RunDatabase.{Given, chosen_if, chosen}
 use Rattle.rvs_suite.specs.RunLeft.{verdict_by, verdict_lines, passed_onto}
 use Rattle.rvs_suite.specs.RunTests.{Bench, passes, with_one}
@@ -55,7 +55,7 @@ read-all p (Ok inputs) =
 read-all p (Err stop) = refl
 
 pub parts-read-all : PartsReadAll
-parts-read-all files p isa families names = read-all p (inputs_in files isa families names)
+parts-read-all files p isa families names = read-all p (tested_in files isa families names)
 
 -- ---- names tell the labels apart
 not-any : (name : List ℕ) (ls : List Label) (k : ℕ) (m : Label)

@@ -63,7 +63,7 @@ pub record IsExecutableOf (isa : Isa) (test : Test) (bytes : List ℕ) : Type 0 
   pub assembled : answer isa test.text ≡ Ok image
   pub written : bytes ≡ elf_of image
   pub again : ImageValue
-  pub read : image_of_elf bytes ≡ Ok again
+  pub read : image_of_elf isa.memory bytes ≡ Ok again
   pub alike : RunsAs again image
 
 -- that of each test is one

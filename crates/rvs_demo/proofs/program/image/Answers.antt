@@ -1,5 +1,6 @@
 use Rattle.std.proofs.Common.{◌≡◌, ℕ, List, [], Some, None, sym, ap, ◌∙◌, replicate, rules}
-use Rattle.rvs_machine.specs.Image.{ImageValue, data_base, if_image}
+use Rattle.rvs_insn.specs.Memory.{usual_memory}
+use Rattle.rvs_machine.specs.Image.{ImageValue, if_image}
 use Rattle.rvs_machine.specs.declared.symbol.Symbol.{Symbol}
 use Rattle.rvs_demo.specs.Program.{code, program, image}
 use Rattle.rvs_demo.proofs.Regions.{in_order}
@@ -8,11 +9,12 @@ use Rattle.rvs_demo.proofs.program.image.Goals as goal
 abbrev image_with : List ℕ → List ℕ → List Symbol → ImageValue
 image_with text bytes symbols =
     record {
+      memory = usual_memory;
       text = text;
       data_bytes = bytes;
-      tohost = data_base;
-      sig_begin = data_base;
-      sig_end = data_base;
+      tohost = usual_memory.data_base;
+      sig_begin = usual_memory.data_base;
+      sig_end = usual_memory.data_base;
       symbols = symbols;
     }
 

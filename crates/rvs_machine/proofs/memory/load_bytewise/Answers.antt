@@ -1,4 +1,6 @@
-use Rattle.std.proofs.Common.{arith, rules}
+use Rattle.std.proofs.Common.{◌≡◌, ◌+◌, sym, ap, ◌∙◌, arith, rules}
+use Rattle.rvs_machine.specs.Machine.{byte_at}
+use Rattle.rvs_machine.proofs.Bytewise.{third_missing, fourth_missing, four_there}
 use Rattle.rvs_machine.proofs.memory.load_bytewise.Goals as goal
 
 pub byte-requires-clause-short_text : goal.byte-requires-clause-short_text
@@ -44,7 +46,17 @@ pub byte-requires-3-clause-short_data : goal.byte-requires-3-clause-short_data
 byte-requires-3-clause-short_data c = c.requires.short_data
 
 pub returns-in_err-third : goal.returns-in_err-third
-returns-in_err-third c = search rules
+returns-in_err-third c =
+    let m = c.args.memory in
+    let text = c.args.text.now in
+    let ram = c.args.ram.now in
+    let at : c.args.address ≡ c.from-at.result = omega (arith, c.from-at.ensures) in
+    let e = ap (λ x. byte_at m text ram x) at ∙ sym c.byte.ensures ∙ c.in_ok-first.was in
+    let f = ap (λ x. byte_at m text ram (x + 1)) at ∙ sym c.byte-2.ensures ∙ c.in_ok-second.was in
+    let g = ap (λ x. byte_at m text ram (x + 2)) at ∙ sym c.byte-3.ensures ∙ c.in_err-third.was in
+    c.from_residual-in_err-third.ensures
+    ∙ sym (third_missing m c.args.size text ram c.args.address c.in_ok-first.first
+    c.in_ok-second.second c.requires.size c.if-size-eq1.false c.if-size-eq2.false e f g)
 
 pub overflow_add-at-3 : goal.overflow_add-at-3
 overflow_add-at-3 c = omega arith
@@ -56,7 +68,19 @@ pub byte-requires-4-clause-short_data : goal.byte-requires-4-clause-short_data
 byte-requires-4-clause-short_data c = c.requires.short_data
 
 pub returns-in_err-fourth : goal.returns-in_err-fourth
-returns-in_err-fourth c = search rules
+returns-in_err-fourth c =
+    let m = c.args.memory in
+    let text = c.args.text.now in
+    let ram = c.args.ram.now in
+    let at : c.args.address ≡ c.from-at.result = omega (arith, c.from-at.ensures) in
+    let e = ap (λ x. byte_at m text ram x) at ∙ sym c.byte.ensures ∙ c.in_ok-first.was in
+    let f = ap (λ x. byte_at m text ram (x + 1)) at ∙ sym c.byte-2.ensures ∙ c.in_ok-second.was in
+    let g = ap (λ x. byte_at m text ram (x + 2)) at ∙ sym c.byte-3.ensures ∙ c.in_ok-third.was in
+    let h = ap (λ x. byte_at m text ram (x + 3)) at ∙ sym c.byte-4.ensures ∙ c.in_err-fourth.was in
+    c.from_residual-in_err-fourth.ensures
+    ∙ sym (fourth_missing m c.args.size text ram c.args.address c.in_ok-first.first
+    c.in_ok-second.second c.in_ok-third.third c.requires.size c.if-size-eq1.false
+    c.if-size-eq2.false e f g h)
 
 pub overflow_mul-result-2 : goal.overflow_mul-result-2
 overflow_mul-result-2 c = search rules
@@ -77,4 +101,15 @@ pub overflow_add-result-4 : goal.overflow_add-result-4
 overflow_add-result-4 c = search rules
 
 pub returns : goal.returns
-returns c = search rules
+returns c =
+    let m = c.args.memory in
+    let text = c.args.text.now in
+    let ram = c.args.ram.now in
+    let at : c.args.address ≡ c.from-at.result = omega (arith, c.from-at.ensures) in
+    let e = ap (λ x. byte_at m text ram x) at ∙ sym c.byte.ensures ∙ c.in_ok-first.was in
+    let f = ap (λ x. byte_at m text ram (x + 1)) at ∙ sym c.byte-2.ensures ∙ c.in_ok-second.was in
+    let g = ap (λ x. byte_at m text ram (x + 2)) at ∙ sym c.byte-3.ensures ∙ c.in_ok-third.was in
+    let h = ap (λ x. byte_at m text ram (x + 3)) at ∙ sym c.byte-4.ensures ∙ c.in_ok-fourth.was in
+    sym (four_there m c.args.size text ram c.args.address c.in_ok-first.first
+    c.in_ok-second.second c.in_ok-third.third c.in_ok-fourth.fourth c.requires.size
+    c.if-size-eq1.false c.if-size-eq2.false e f g h)

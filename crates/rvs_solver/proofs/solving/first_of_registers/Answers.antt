@@ -1,8 +1,14 @@
-use Rattle.std.proofs.Common.{◌*◌, ◌≤◌, ◌∙◌, [], length, sym, subst, arith}
+use Rattle.std.proofs.Common.{◌≡◌, ◌*◌, ◌≤◌, ◌∙◌, [], length, sym, ap, subst, arith}
 use Rattle.std.specs.Prelude.{All}
+use Rattle.std.specs.List.{find, flat_map}
+use Rattle.rvs_insn.specs.Isa.{Isa}
+use Rattle.rvs_insn.specs.Memory.{Memory}
+use Rattle.rvs_insn.specs.Table.{row}
 use Rattle.rvs_insn.specs.Fields.{IsRegister}
 use Rattle.rvs_cgf.specs.GroupView.{meaning_view}
 use Rattle.rvs_cgf.specs.Hits.{steps_of}
+use Rattle.rvs_solver.specs.Least.{at_rd}
+use Rattle.rvs_solver.specs.Point.{hits}
 use Rattle.rvs_solver.proofs.Low.{rds_low, rs1s_low, rs2s_low}
 use Rattle.rvs_solver.proofs.RegisterPoints.{no_system}
 use Rattle.rvs_solver.proofs.RegisterCalls.{Orders, register_call, register_cost_call}
@@ -43,8 +49,16 @@ returns-in_default g c =
     register_cost_call c.args.spec.now c.args.op c.format-form.result c.rds.result.now
     c.rs1s.result.now c.rs2s.result.now (meaning_view c.args.meaning.now) orders
     c.requires.registers in
+    let same : c.spec.inside.memory ≡ c.args.spec.now.memory =
+    ap (λ (s : Isa). s.memory) c.spec.view_is in
+    let first : c.first.result ≡ find (hits c.args.kind (meaning_view c.args.meaning.now))
+    (flat_map (at_rd c.args.spec.now.memory c.args.op (row c.args.op).form c.rs1s.result.now
+    c.rs2s.result.now) c.rds.result.now) =
+    subst (λ (m : Memory). c.first.result ≡ find (hits c.args.kind
+    (meaning_view c.args.meaning.now)) (flat_map (at_rd m c.args.op (row c.args.op).form
+    c.rs1s.result.now c.rs2s.result.now) c.rds.result.now)) same c.first.ensures.first in
     record {
-      first = c.first.ensures.first
+      first = first
           ∙ register_call c.args.spec.now c.args.op c.format-form.result c.rds.result.now
           c.rs1s.result.now c.rs2s.result.now c.args.kind (meaning_view c.args.meaning.now) orders
           c.requires.valid c.requires.registers;

@@ -1,9 +1,10 @@
-use Rattle.std.proofs.Common.{◌≡◌, Result, sym, subst, ◌∙◌}
+use Rattle.std.proofs.Common.{◌≡◌, ℕ, List, Result, sym, subst, ◌∙◌}
 use Rattle.std.proofs.lemmas.Result.{err_from_is_err_and}
 use Rattle.rvs_plan.specs.World.{world, IsAnswer}
 use Rattle.rvs_plan.specs.Meets.{MeetsWith}
 use Rattle.rvs_plan.specs.declared.stop.Stop.{Stop}
 use Rattle.rvs_plan.proofs.Sequence.{Meets-no_memory}
+use Rattle.rvs_device.specs.Command.{Filling}
 use Rattle.rvs_device.specs.Judging.{Task, task}
 use Rattle.rvs_device.specs.Plans.{judged, stopped}
 use Rattle.rvs_device.specs.declared.verdicts.TestVerdict.{TestVerdict}
@@ -39,11 +40,25 @@ returns g c = λ out.
     let executable : c.as_str-5.result.now ≡ files.executable = c.as_str-5.ensures in
     let signature : c.as_str-6.result.now ≡ files.device =
     c.as_str-6.ensures ∙ c.in_ok-signature.ensures ∙ c.as_str-2.ensures in
-    let t = task bench.device.command c.as_str-3.result.now c.as_str-4.result.now
-    c.as_str-5.result.now c.as_str-6.result.now words in
+    let text : c.text_base.result ≡ bench.isa.memory.text_base = c.text_base.ensures in
+    let data_from : c.data_base.result ≡ bench.isa.memory.data_base = c.data_base.ensures in
+    let filled : List ℕ → List ℕ → List ℕ → List ℕ → ℕ → ℕ → Filling =
+    λ program test elf signature text_base data_base.
+    record {
+      program = program;
+      test = test;
+      elf = elf;
+      signature = signature;
+      text_base = text_base;
+      data_base = data_base;
+    } in
+    let t = task bench.device.command (filled c.as_str-3.result.now c.as_str-4.result.now
+    c.as_str-5.result.now c.as_str-6.result.now c.text_base.result c.data_base.result) words in
     let is : c.with_stop.result ≡ stopped t c.judge-judged.result =
     c.with_stop.ensures t c.as_str-4.ensures c.as_str-6.ensures in
     let met = subst (λ (r : Result TestVerdict Stop). MeetsWith IsAnswer (judged t) old new r)
     (sym is) (c.judge-judged.ensures.planned out) in
     subst (λ (t : Task). MeetsWith IsAnswer (judged t) old new c.with_stop.result)
-    (λ i. task bench.device.command (program i) (test i) (executable i) (signature i) words) met
+    (λ i. task bench.device.command (filled (program i) (test i) (executable i) (signature i)
+    (text i) (data_from i)) words)
+    met

@@ -2,9 +2,9 @@ use Rattle.std.proofs.Common.{List, map, sym, ap, subst, ◌∙◌}
 use Rattle.std.specs.Prelude.{All}
 use Rattle.rvs_cgf.specs.Groups.{Label}
 use Rattle.rvs_cgf.specs.GroupView.{label_view}
-use Rattle.rvs_cgf.specs.Valid.{IsValidIfSelected}
 use Rattle.rvs_cgf.specs.declared.group.Label.{Label as Code}
 use Rattle.rvs_suite.specs.GroupFiles.{Inputs}
+use Rattle.rvs_suite.specs.Testable.{IsTestableIfSelected}
 use Rattle.rvs_suite.proofs.PartsKept.{parted_map}
 use Rattle.rvs_suite.proofs.Tested.{all-parted}
 use Rattle.rvs_suite.proofs.parting.kept_inputs.Goals as goal
@@ -16,10 +16,10 @@ returns-clause-kept c =
     ap (λ (labels : List Code). with (map label_view labels)) c.in_ok-groups.ensures
     ∙ ap with (sym (parted_map label_view c.args.part.now 0 inputs.groups))
 
-pub returns-clause-valid : goal.returns-clause-valid
-returns-clause-valid c =
+pub returns-clause-testable : goal.returns-clause-testable
+returns-clause-testable c =
     let inputs = c.args.inputs in
-    subst (All (λ (l : Code). IsValidIfSelected inputs.isa (label_view l)))
+    subst (All (λ (l : Code). IsTestableIfSelected inputs.isa (label_view l)))
     (sym c.in_ok-groups.ensures)
-    (all-parted (λ (l : Code). IsValidIfSelected inputs.isa (label_view l)) c.args.part.now 0
+    (all-parted (λ (l : Code). IsTestableIfSelected inputs.isa (label_view l)) c.args.part.now 0
     inputs.groups c.requires)

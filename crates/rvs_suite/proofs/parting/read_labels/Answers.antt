@@ -18,11 +18,11 @@ returns-in_err-kept_inputs-clause-met g c = λ out.
     let p = err_from_is_err_and c.from_residual-in_err-kept_inputs.result
     c.from_residual-in_err-kept_inputs.ensures.1 in
     rw (p.1, p.2) (Meets-then (gives_part c.args.part.now) (c.in_ok-inputs.ensures.met out)
-    (Meets-no_memory _ (world (g.H.Host.state c.read_inputs.new.host) out)))
+    (Meets-no_memory _ (world (g.H.Host.state c.read_tested.new.host) out)))
 
 pub returns-clause-met : goal.returns-clause-met
 returns-clause-met g c = λ out.
-    let w = world (g.H.Host.state c.read_inputs.new.host) out in
+    let w = world (g.H.Host.state c.read_tested.new.host) out in
     let kept = inputs_view c.in_ok-kept_inputs.field-0 in
     Meets-then (gives_part c.args.part.now) (c.in_ok-inputs.ensures.met out)
     (subst (λ (inputs : Inputs). Meets (gives inputs) w w (Ok kept))

@@ -1,4 +1,4 @@
-use Rattle.std.proofs.Common.{◌≡◌, [], List, Result, drop}
+use Rattle.std.proofs.Common.{[], List, Result, drop}
 use Rattle.rvs_base.specs.Sink.{SinkState}
 use Rattle.rvs_plan.specs.World.{World, world, IsAnswer}
 use Rattle.rvs_plan.specs.Meets.{MeetsWith}

@@ -1,11 +1,14 @@
 use Rattle.std.proofs.Common.{◌≡◌, ◌<◌, ◌≤◌, ◌∙◌, ◌++◌, ℕ, List, length, map, sym, ap, subst}
 use Rattle.std.specs.Prelude.{All}
+use Rattle.rvs_insn.specs.Isa.{Isa}
+use Rattle.rvs_insn.specs.Memory.{HasRoom}
 use Rattle.rvs_cgf.specs.GroupView.{label_view}
 use Rattle.rvs_solver.specs.declared.solved.Solved.{Solved}
 use Rattle.rvs_test_text.specs.declared.claim.Claim.{Claim}
 use Rattle.rvs_test_text.specs.TestText.{ended, front, claim_lines, line_of_claim}
 use Rattle.rvs_test_text.specs.Claim.{AreReady}
-use Rattle.rvs_test.specs.Made.{named_at, claims_of}
+use Rattle.rvs_test_text.proofs.Fits.{regions_fit}
+use Rattle.rvs_test.specs.Made.{named_at, claims_of, cases_of}
 use Rattle.rvs_test.proofs.Ends.{same_length}
 use Rattle.rvs_test.proofs.Grows.{text_there}
 use Rattle.rvs_test.proofs.Joined.{runs_there}
@@ -32,7 +35,9 @@ push_code-requires-clause-few c =
 pub push_code-requires-clause-ready : goal.push_code-requires-clause-ready
 push_code-requires-clause-ready c =
     subst (AreReady c.args.spec.now) (sym c.requires.cases)
-    (cases_ready c.args.spec.now (label_view c.args.label.now) c.requires.valid)
+    (cases_ready c.args.spec.now
+    (subst HasRoom (ap (λ (s : Isa). s.memory) c.spec.view_is) c.text_limit-limit.ensures.room)
+    (label_view c.args.label.now) c.requires.valid)
 
 pub push_data-requires : goal.push_data-requires
 push_data-requires c =
@@ -62,13 +67,18 @@ returns-clause-text c =
     c.in_ok-push_data.ensures
 
 pub returns-clause-runs : goal.returns-clause-runs
-returns-clause-runs c =
-    runs_there c.args.spec.now (label_view c.args.label.now) c.requires.valid
+returns-clause-runs c = λ is.
+    runs_there c.args.spec.now
+    (subst HasRoom (ap (λ (s : Isa). s.memory) c.spec.view_is) c.text_limit-limit.ensures.room)
+    (label_view c.args.label.now) c.requires.valid
+    (regions_fit c.args.spec.now (cases_of c.args.spec.now (label_view c.args.label.now)) is)
     c.push_data.new.out c.args.claims.now c.args.cases.now c.args.steps c.requires.claims
     c.requires.cases c.requires.steps (returns-clause-text c)
 
 pub returns-clause-read : goal.returns-clause-read
 returns-clause-read c =
-    back_there c.args.spec.now (label_view c.args.label.now) c.requires.valid
+    back_there c.args.spec.now
+    (subst HasRoom (ap (λ (s : Isa). s.memory) c.spec.view_is) c.text_limit-limit.ensures.room)
+    (label_view c.args.label.now) c.requires.valid
     c.push_data.new.out c.args.claims.now c.args.cases.now c.requires.claims c.requires.cases
     (returns-clause-text c)

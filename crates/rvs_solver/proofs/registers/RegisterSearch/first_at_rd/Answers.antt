@@ -10,7 +10,7 @@ use Rattle.rvs_solver.proofs.registers.RegisterSearch.first_at_rd.Goals as goal
 pub returns-then-asks_other_rd-clause-first : goal.returns-then-asks_other_rd-clause-first
 returns-then-asks_other_rd-clause-first g c =
     let s = c.args.self.now in
-    other_rd s.kind (meaning_view s.meaning.now) s.op (row s.op).form s.rs1s.now s.rs2s.now
+    other_rd s.kind (meaning_view s.meaning.now) s.memory s.op (row s.op).form s.rs1s.now s.rs2s.now
     c.args.rd (sym c.asks_other_rd.ensures ∙ c.if-asks_other_rd.true)
 
 pub returns-in-Some-clause-first : goal.returns-in-Some-clause-first

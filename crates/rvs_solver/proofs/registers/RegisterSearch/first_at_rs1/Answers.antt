@@ -7,5 +7,5 @@ use Rattle.rvs_solver.proofs.registers.RegisterSearch.first_at_rs1.Goals as goal
 pub returns-then-asks_other_rs1-clause-first : goal.returns-then-asks_other_rs1-clause-first
 returns-then-asks_other_rs1-clause-first g c =
     let s = c.args.self.now in
-    other_rs1 s.kind (meaning_view s.meaning.now) s.op (row s.op).form s.rs2s.now c.args.rd
+    other_rs1 s.kind (meaning_view s.meaning.now) s.memory s.op (row s.op).form s.rs2s.now c.args.rd
     c.args.rs1 (sym c.asks_other_rs1.ensures ∙ c.if-asks_other_rs1.true)

@@ -10,7 +10,7 @@ use Rattle.rvs_solver.proofs.registers.RegisterSearch.first_at_rs1.Given as goal
 abbrev pub invariant-loop-rs2 : goal.invariant-loop-rs2
 invariant-loop-rs2 g l = record {
   first : find (hits_of l.self) (with_rs1 l.self l.rd l.rs1)
-      ≡ find (hits_of l.self) (map (λ rs2. least l.self.op (row l.self.op).form
+      ≡ find (hits_of l.self) (map (λ rs2. least l.self.memory l.self.op (row l.self.op).form
       (record { rd = l.rd; rs1 = l.rs1; rs2 = rs2 })) (drop l.rs2-index l.self.rs2s.now));
   cost : l.steps ≤ l.fn.steps + l.rs2-index * steps_of (meaning_view l.self.meaning.now);
 }

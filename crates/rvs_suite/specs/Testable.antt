@@ -1,0 +1,15 @@
+-- Labels whose tests are made.
+use Rattle.std.specs.Prelude.{◌≡◌, true, IsTrue}
+use Rattle.rvs_insn.specs.Isa.{Isa}
+use Rattle.rvs_cgf.specs.Groups.{Label}
+use Rattle.rvs_cgf.specs.Valid.{IsValid}
+use Rattle.rvs_test.specs.Made.{has_room}
+
+-- a label is valid for a core, which has room for its test
+pub record IsTestable (isa : Isa) (l : Label) : Type 0 where
+  pub valid : IsValid isa l
+  pub room : IsTrue (has_room isa l)
+
+-- a label that is selected is so
+abbrev pub IsTestableIfSelected : Isa → Label → Type 0
+IsTestableIfSelected isa l = l.selected ≡ true → IsTestable isa l
