@@ -1,18 +1,17 @@
 -- A list of cross points of a number of places that no cross point has.
 use Rattle.std.proofs.Common.{◌≡◌, ℕ, zero, suc, ◌+◌, ◌*◌, ◌/◌, ◌<◌, ◌≤◌, ◌⊎◌, inl, inr, Bool, true}
-use Rattle.std.proofs.Common.{false, cond, ◌&&◌, ◌||◌, List, [], ◌∷◌, refl, sym, ap, subst}
+use Rattle.std.proofs.Common.{false, cond, ◌||◌, List, [], ◌∷◌, refl, sym, ap, subst}
 use Rattle.std.proofs.Common.{◌∙◌, arith}
 use Rattle.std.proofs.lemmas.Bool.{cases_lt}
 use Rattle.std.proofs.lemmas.Bool.Decides.{nat_tests}
 use Rattle.std.proofs.lemmas.List.Folds.{list_any-append}
 use Rattle.std.specs.List.{list_any}
 use Rattle.std.specs.Prelude.{◌==◌}
-use Rattle.rvs_cgf.specs.Groups.{Meaning, op_is, reg_is, regs, nums, window}
+use Rattle.rvs_cgf.specs.Groups.{Meaning}
 use Rattle.rvs_cgf.specs.declared.group.Label.{Label}
-use Rattle.rvs_cross.specs.First.{first_ops}
 use Rattle.rvs_insn.specs.Table.{op_count}
 use Rattle.rvs_count.specs.Counting.{Aim, aims_in}
-use Rattle.rvs_count.specs.Index.{has_places, is_for, lengths_to, lists_number, places_for}
+use Rattle.rvs_count.specs.Index.{has_places, is_for, lengths_to, places_for}
 use Rattle.rvs_count.specs.Index.{window_fits, windows_key}
 use Rattle.rvs_count.specs.declared.key.ListKey.TheVariants.{Windows}
 
@@ -24,15 +23,10 @@ listed count ns = list_any (λ n. n == count) ns
 
 none_fits : (count n : ℕ) (m : Meaning) → has_places count m ≡ false
     → window_fits count n m ≡ false
-none_fits count n (window ps) h = ap (λ b. b && lists_number n (first_ops ps)) h
-none_fits count n (op_is op) h = refl
-none_fits count n (reg_is r) h = refl
-none_fits count n (regs e) h = refl
-none_fits count n (nums e) h = refl
+none_fits count n m h = grind arith
 
 pub neither : (a b : Bool) → (a || b) ≡ false → (a ≡ false) × (b ≡ false)
-neither false b h = (refl, h)
-neither true b h = absurd cc
+neither a b h = grind arith
 
 none_placed : (count n at : ℕ) (aims : List Aim) → any_has count aims ≡ false
     → places_for (is_for (Windows count n)) at aims ≡ []
@@ -43,8 +37,7 @@ none_placed count n at (a ∷ aims) h =
     (none_placed count n (at + 1) aims two.1)
 
 or_true : (a : Bool) → (a || true) ≡ true
-or_true true = refl
-or_true false = refl
+or_true a = grind arith
 
 -- a number of places that some cross point has is noted
 pub noted : (aims : List Aim) (k m : ℕ) → 0 < k → k ≤ m → any_has k aims ≡ true

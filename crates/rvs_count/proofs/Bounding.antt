@@ -1,6 +1,6 @@
 -- Lists whose points ask for one of two values.
 use Rattle.std.proofs.Common.{◌≡◌, ℕ, suc, ℤ, ◌+◌, ◌<◌, Bool, true, false, ◌&&◌}
-use Rattle.std.proofs.Common.{◌||◌, List, [], ◌∷◌, Option, Some, None, refl, sym, ap, subst, ◌∙◌}
+use Rattle.std.proofs.Common.{◌||◌, List, [], ◌∷◌, Option, Some, refl, sym, ap, ◌∙◌}
 use Rattle.std.proofs.Common.{arith, length, get_or}
 use Rattle.std.proofs.lemmas.Bool.Decides.{nat_tests}
 use Rattle.std.specs.Ordering.{int_eq}
@@ -15,7 +15,6 @@ use Rattle.rvs_count.specs.Cells.{fact, never, AreBound, AsksValue, Covers, IsCe
 use Rattle.rvs_count.specs.Cells.{SaysValue}
 use Rattle.rvs_count.specs.Index.{places, raised, raised_all}
 use Rattle.rvs_count.specs.Shortcuts.{says}
-use Rattle.rvs_count.specs.Signs.{has_signs}
 use Rattle.rvs_count.specs.declared.asked.Asked.{Asked}
 use Rattle.rvs_count.specs.declared.cell.Cell.{Cell}
 use Rattle.rvs_count.specs.declared.shortcut.Shortcut.{Shortcut}
@@ -27,37 +26,28 @@ use Rattle.rvs_count.proofs.Marks.{any_default}
 -- ---- what a point asks
 not_value : (q : Asked) (t : Table) (name : NumName) (z v : ℤ) → fact q t ≡ t.num name
     → fact q t ≡ Some v → int_eq z v ≡ false → is_value z (t.num name) ≡ false
-not_value q t name z v named f n =
-    ap (is_value z) (sym named ∙ f) ∙ int_turned v z ∙ n
+not_value q t name z v named f n = grind (arith, int_turned)
 
 no_first : (a b : Bool) → a ≡ false → (a && b) ≡ false
 no_first a b h = ap (λ a. a && b) h
 
 no_second : (a b : Bool) → b ≡ false → (a && b) ≡ false
-no_second true b h = h
-no_second false b h = refl
+no_second a b h = grind arith
 
 pub valued_asks : (q : Asked) (mask : ℕ) (name : NumName) (z : ℤ)
     → ((t : Table) → fact q t ≡ t.num name) → (op : Op) (t : Table) (v : ℤ) → fact q t ≡ Some v
     → int_eq z v ≡ false → says (Valued mask name z) op t ≡ false
-valued_asks q mask name z named op t v f n =
-    no_first (is_value z (t.num name)) (has_signs mask t) (not_value q t name z v (named t) f n)
+valued_asks q mask name z named op t v f n = grind (arith, no_first, not_value)
 
 pub first_asks : (q : Asked) (mask : ℕ) (name other : NumName) (z y : ℤ)
     → ((t : Table) → fact q t ≡ t.num name) → (op : Op) (t : Table) (v : ℤ) → fact q t ≡ Some v
     → int_eq z v ≡ false → says (Values mask name other z y) op t ≡ false
-first_asks q mask name other z y named op t v f n =
-    no_first (is_value z (t.num name) && is_value y (t.num other)) (has_signs mask t)
-    (no_first (is_value z (t.num name)) (is_value y (t.num other))
-    (not_value q t name z v (named t) f n))
+first_asks q mask name other z y named op t v f n = grind (arith, no_first, not_value)
 
 pub second_asks : (q : Asked) (mask : ℕ) (name other : NumName) (z y : ℤ)
     → ((t : Table) → fact q t ≡ t.num other) → (op : Op) (t : Table) (v : ℤ) → fact q t ≡ Some v
     → int_eq y v ≡ false → says (Values mask name other z y) op t ≡ false
-second_asks q mask name other z y named op t v f n =
-    no_first (is_value z (t.num name) && is_value y (t.num other)) (has_signs mask t)
-    (no_second (is_value z (t.num name)) (is_value y (t.num other))
-    (not_value q t other y v (named t) f n))
+second_asks q mask name other z y named op t v f n = grind (arith, no_first, no_second, not_value)
 
 -- one that says a value
 pub saying_asks : (q : Asked) (s : Slot) (z : ℤ) → SaysValue q s z → AsksValue q s z
@@ -69,12 +59,7 @@ pub slot_asks : (q : Asked) (s : Slot) (short : Shortcut) (o : Option ℤ)
     → IfSome o (λ z. (op : Op) (t : Table) (v : ℤ) → fact q t ≡ Some v → int_eq z v ≡ false
     → says short op t ≡ false)
     → IfSome o (AsksValue q s)
-slot_asks q s short None e h = h
-slot_asks q s short (Some z) e h = λ op t v f n. same op t ∙ h op t v f n
-  where
-    same : (op : Op) (t : Table) → holds (point_view s.point.now) op t ≡ says short op t
-    same = subst (λ o. IfSome o (λ short. (op : Op) (t : Table)
-        → holds (point_view s.point.now) op t ≡ says short op t)) e s.same
+slot_asks q s short o e h = grind (arith, nat_tests)
 
 -- ---- two values
 apart_from : (x z v : ℤ) → x ≡ z → int_eq x v ≡ false → int_eq z v ≡ false
@@ -130,13 +115,10 @@ none_raised op t (s ∷ slots) cs none =
     (sym (ap (λ b. raised b s.at cs) (none 0 s (omega arith))))
 
 first_not : (a b c : Bool) → ((a || b) || c) ≡ false → a ≡ false
-first_not false b c h = refl
-first_not true b c h = h
+first_not a b c h = grind arith
 
 second_not : (a b c : Bool) → ((a || b) || c) ≡ false → b ≡ false
-second_not false false c h = refl
-second_not false true c h = h
-second_not true b c h = false_true true refl h
+second_not a b c h = grind arith
 
 pub bound_adds : (q : Asked) (slots : List Slot) (c : Cell) → c.more ≡ true
     → AreBound (length slots) q slots c.first c.second → IsCell q slots c

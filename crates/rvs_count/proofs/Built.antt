@@ -1,5 +1,5 @@
 -- The lists are built label by label.
-use Rattle.std.proofs.Common.{◌≡◌, ℕ, zero, suc, ◌+◌, ◌<◌, Bool, true, false, cond, ◌&&◌, List, []}
+use Rattle.std.proofs.Common.{◌≡◌, ℕ, zero, suc, ◌+◌, ◌<◌, Bool, true, false, cond, List, []}
 use Rattle.std.proofs.Common.{◌∷◌, ◌++◌, refl, sym, ap, ◌∙◌, length, drop, get_or, replicate, arith}
 use Rattle.std.proofs.Common.{append_assoc, length-append}
 use Rattle.std.proofs.lemmas.List.{length-map}
@@ -9,9 +9,9 @@ use Rattle.rvs_cgf.specs.GroupView.{label_view, point_view}
 use Rattle.rvs_cgf.specs.declared.group.Label.{Label}
 use Rattle.rvs_insn.specs.declared.op.Op.{Op}
 use Rattle.rvs_count.specs.Counting.{Aim, count, aims_in, aims_of_label, aims_of_points}
-use Rattle.rvs_count.specs.Index.{PlacedPoint, places, admits, is_for, stands, places_for}
+use Rattle.rvs_count.specs.Index.{places, admits, is_for, places_for}
 use Rattle.rvs_count.specs.Index.{places_in}
-use Rattle.rvs_count.specs.State.{Tallied, tally_of}
+use Rattle.rvs_count.specs.State.{tally_of}
 use Rattle.rvs_count.proofs.Following.{followed_nil}
 use Rattle.rvs_count.specs.declared.key.ListKey.{ListKey}
 use Rattle.rvs_count.specs.declared.slot.Slot.{Slot}
@@ -26,11 +26,7 @@ pub aims_more : (labels : List Label) (k : ℕ) (d : Label) → k < length label
     ≡ aims_of_label (label_view (get_or labels k d)) ++ aims_in (drop (k + 1) labels)
 aims_more [] k d h = absurd (omega arith)
 aims_more (l ∷ labels) zero d h = refl
-aims_more (l ∷ labels) (suc k) d h =
-    let e : suc k + 1 ≡ suc (k + 1) = omega arith in
-    aims_more labels k d (omega arith)
-    ∙ ap (λ n. aims_of_label (label_view (get_or labels k d)) ++ aims_in (drop n (l ∷ labels)))
-    (sym e)
+aims_more (l ∷ labels) (suc k) d h = grind (arith, (aims_more labels k d (omega arith)))
 
 zeros-append : (m n z : ℕ) → replicate m z ++ replicate n z ≡ replicate (m + n) z
 zeros-append zero n z = let e : 0 + n ≡ n = omega arith in ap (λ k. replicate k z) (sym e)
@@ -59,45 +55,19 @@ places_has : (key : ListKey) (ops : List Op) (at : ℕ) (points : List group.Poi
     → admits key ops ≡ true
     → places_for (is_for key) at (aims_of_points ops points) ≡ places_in key at points
 places_has key ops at [] h = refl
-places_has key ops at (p ∷ ps) h =
-    ap (λ b. elim (b && stands key p) as (λ _. List PlacedPoint) [
-      | true ↦ (p, at) ∷ places_for (is_for key) (at + 1) (aims_of_points ops ps)
-      | false ↦ places_for (is_for key) (at + 1) (aims_of_points ops ps)
-    ]) h
-    ∙ ap (λ l. elim (stands key p) as (λ _. List PlacedPoint) [ true ↦ (p, at) ∷ l | false ↦ l ])
-    (places_has key ops (at + 1) ps h)
+places_has key ops at (p ∷ ps) h = grind (arith, (places_has key ops (at + 1) ps h))
 
 places_lacks : (key : ListKey) (ops : List Op) (at : ℕ) (points : List group.Point)
     → admits key ops ≡ false
     → places_for (is_for key) at (aims_of_points ops points) ≡ []
 places_lacks key ops at [] h = refl
-places_lacks key ops at (p ∷ ps) h =
-    ap (λ b. elim (b && stands key p) as (λ _. List PlacedPoint) [
-      | true ↦ (p, at) ∷ places_for (is_for key) (at + 1) (aims_of_points ops ps)
-      | false ↦ places_for (is_for key) (at + 1) (aims_of_points ops ps)
-    ]) h
-    ∙ places_lacks key ops (at + 1) ps h
+places_lacks key ops at (p ∷ ps) h = grind (arith, (places_lacks key ops (at + 1) ps h))
 
 places-append : (passes : Aim → Bool) (at m : ℕ) (xs ys : List Aim) → m ≡ at + length xs
     → places_for passes at (xs ++ ys) ≡ places_for passes at xs ++ places_for passes m ys
-places-append passes at m [] ys e =
-    let f : at ≡ m = omega arith in ap (λ n. places_for passes n ys) f
+places-append passes at m [] ys e = grind arith
 places-append passes at m (x ∷ xs) ys e =
-    turn (passes x) (places-append passes (at + 1) m xs ys (omega arith))
-  where
-    turn : (b : Bool)
-        → places_for passes (at + 1) (xs ++ ys)
-        ≡ places_for passes (at + 1) xs ++ places_for passes m ys
-        → (elim b as (λ _. List PlacedPoint) [
-          | true ↦ (x.point, at) ∷ places_for passes (at + 1) (xs ++ ys)
-          | false ↦ places_for passes (at + 1) (xs ++ ys)
-        ])
-        ≡ (elim b as (λ _. List PlacedPoint) [
-          | true ↦ (x.point, at) ∷ places_for passes (at + 1) xs
-          | false ↦ places_for passes (at + 1) xs
-        ]) ++ places_for passes m ys
-    turn true p = ap (λ l. (x.point, at) ∷ l) p
-    turn false p = p
+    grind (arith, (places-append passes (at + 1) m xs ys (omega arith)))
 
 -- slots of one more label
 pub slots_more : (passes : Aim → Bool) (labels : List Label) (slots slots' : List Slot)
@@ -109,46 +79,24 @@ pub slots_more : (passes : Aim → Bool) (labels : List Label) (slots slots' : L
     → places slots' ++ places_for passes next (aims_in (drop (k + 1) labels))
     ≡ places slots ++ places_for passes first (aims_in (drop k labels))
 slots_more passes labels slots slots' k first next d h e n =
-    let here = aims_of_label (label_view (get_or labels k d)) in
-    let rest = aims_in (drop (k + 1) labels) in
-    ap (λ l. l ++ places_for passes next rest) e
-    ∙ append_assoc (places slots) (places_for passes first here) (places_for passes next rest)
-    ∙ ap (λ l. places slots ++ l) (sym (places-append passes first next here rest n))
-    ∙ ap (λ l. places slots ++ places_for passes first l) (sym (aims_more labels k d h))
+    grind (arith, append_assoc, places-append, aims_more)
 
 -- the points of one label by its mnemonics
 pub places_label : (key : ListKey) (label : Label) (first : ℕ) (has : Bool) → label.selected ≡ true
     → has ≡ admits key label.ops
     → cond has (places_in key first (map point_view label.points)) []
     ≡ places_for (is_for key) first (aims_of_label (label_view label))
-places_label key label first has s h =
-    let points = map point_view label.points in
-    ap (λ b. cond b (places_in key first points) []) h
-    ∙ turn (admits key label.ops) refl
-    ∙ ap (λ b. places_for (is_for key) first (cond b (aims_of_points label.ops points) [])) (sym s)
-  where
-    turn : (b : Bool) → admits key label.ops ≡ b
-        → cond b (places_in key first (map point_view label.points)) []
-        ≡ places_for (is_for key) first (aims_of_points label.ops (map point_view label.points))
-    turn true e = sym (places_has key label.ops first (map point_view label.points) e)
-    turn false e = sym (places_lacks key label.ops first (map point_view label.points) e)
+places_label key label first has s h = grind (arith, places_has, places_lacks)
 
 -- how many points a label has
 pub label_length : (label : Label) → label.selected ≡ true
     → length (aims_of_label (label_view label)) ≡ length label.points
-label_length label s =
-    let points = map point_view label.points in
-    let aim : group.Point → Aim = λ p. record { ops = label.ops; point = p } in
-    ap (λ b. length (cond b (aims_of_points label.ops points) [])) s
-    ∙ length-map points aim
-    ∙ length-map label.points point_view
+label_length label s = grind (arith, length-map)
 
 -- before the first line
 pub zero_counts : (aims : List Aim) → replicate {A = ℕ} (length aims) 0 ≡ map (count []) aims
 zero_counts [] = refl
-zero_counts (a ∷ aims) =
-    ap (λ n. n ∷ replicate (length aims) 0) (none_counted a)
-    ∙ ap (λ l. count [] a ∷ l) (zero_counts aims)
+zero_counts (a ∷ aims) = grind (arith, replicate, none_counted, (zero_counts aims))
 
 -- a new tally
 pub new_tally : (labels index : List Label) (windows : List Window) (counts words : List ℕ)
@@ -166,20 +114,4 @@ pub new_tally : (labels index : List Label) (windows : List Window) (counts word
       heard = record { words = words; started = false };
     }
     ≡ tally_of labels windows []
-new_tally labels index windows counts words run i n w r =
-    let with : List Label → List ℕ → List ℕ → List Fields → Tallied =
-    λ ls cs ws run. record {
-      labels =
-          ls;
-      windows =
-          windows;
-      counts = cs;
-      instructions = 0;
-      run = run;
-      heard = record { words = ws; started = false };
-    } in
-    ap (λ ls. with ls counts words run) i
-    ∙ ap (λ cs. with labels cs words run) (n ∙ zero_counts (aims_in labels))
-    ∙ ap (λ ws. with labels (map (count []) (aims_in labels)) ws run) w
-    ∙ ap (λ run. with labels (map (count []) (aims_in labels)) zeros run)
-    (r ∙ sym (followed_nil labels))
+new_tally labels index windows counts words run i n w r = grind (arith, zero_counts, followed_nil)

@@ -1,11 +1,11 @@
 -- A cell adds what the points of its list add.
 use Rattle.std.proofs.Common.{◌≡◌, ℕ, ℤ, pos, ◌+◌, ◌*◌, ◌%◌, ◌<◌, ◌≤◌}
 use Rattle.std.proofs.Common.{◌^◌, Bool, true}
-use Rattle.std.proofs.Common.{false, cond, ◌&&◌, ◌||◌, List, [], ◌∷◌, Option, Some, None, refl}
+use Rattle.std.proofs.Common.{false, ◌&&◌, List, [], ◌∷◌, Option, Some, None, refl}
 use Rattle.std.proofs.Common.{sym, ap}
 use Rattle.std.proofs.Common.{subst}
-use Rattle.std.proofs.Common.{◌∙◌, All, arith, length, get_or}
-use Rattle.std.proofs.lemmas.Bool.Decides.{nat_tests, Decides-int_eq}
+use Rattle.std.proofs.Common.{◌∙◌, All, arith, length, get_or, rules}
+use Rattle.std.proofs.lemmas.Bool.Decides.{nat_tests}
 use Rattle.std.specs.Ordering.{int_eq}
 use Rattle.std.specs.Prelude.{◌==◌, nat_lt, option_map, unsigned_abs}
 use Rattle.rvs_cgf.specs.GroupView.{point_view}
@@ -14,7 +14,6 @@ use Rattle.rvs_cgf.specs.declared.group.Kind.TheVariants as kind
 use Rattle.rvs_cgf.specs.declared.group.Label.{Label}
 use Rattle.rvs_expr.specs.Equated.{is_value}
 use Rattle.rvs_expr.specs.Meaning.{Table}
-use Rattle.rvs_expr_text.specs.declared.lexeme.RegName.TheVariants as register
 use Rattle.rvs_facts.specs.Facts.{facts_of}
 use Rattle.rvs_facts.specs.Mnemonics.{number}
 use Rattle.rvs_insn.specs.Fields.{Fields}
@@ -33,41 +32,24 @@ use Rattle.rvs_count.specs.declared.cell.Cell.{Cell}
 use Rattle.rvs_count.specs.declared.slot.Slot.{Slot}
 use Rattle.rvs_count.proofs.Hitting.{added_length, added_low}
 use Rattle.rvs_count.proofs.Places.{added_bucket, none_added, slots_low}
-use Rattle.rvs_count.proofs.Seen.{residue_low}
 
 -- ---- what a point says
 same_bool : (a b : Bool) → (a ≡ true → b ≡ true) → (b ≡ true → a ≡ true) → a ≡ b
-same_bool true b f g = sym (f refl)
-same_bool false true f g = g refl
-same_bool false false f g = refl
+same_bool a b f g = grind arith
 
 pub int_turned : (x y : ℤ) → int_eq x y ≡ int_eq y x
-int_turned x y =
-    same_bool (int_eq x y) (int_eq y x)
-    (λ h. (Decides-int_eq y x).1 (sym ((Decides-int_eq x y).0 h)))
-    (λ h. (Decides-int_eq x y).1 (sym ((Decides-int_eq y x).0 h)))
+int_turned x y = grind (arith, same_bool)
 
 pos_back : (a b : ℕ) → pos a ≡ pos b → a ≡ b
 pos_back a b h = ap unsigned_abs h
 
 register_equal : (f n : ℕ) → (f == n) ≡ int_eq (pos n) (pos f)
-register_equal f n =
-    same_bool (f == n) (int_eq (pos n) (pos f))
-    (λ h. (Decides-int_eq (pos n) (pos f)).1 (ap (λ k. pos k) (sym (equal f n h))))
-    (λ h. same f n (pos_back n f ((Decides-int_eq (pos n) (pos f)).0 h)))
-  where
-    equal : (a b : ℕ) → (a == b) ≡ true → a ≡ b
-    equal a b h = grind (arith, nat_tests)
-
-    same : (a b : ℕ) → b ≡ a → (a == b) ≡ true
-    same a b h = grind (arith, nat_tests)
+register_equal f n = grind (arith, same_bool, pos, pos_back)
 
 -- a register is there and is this one
 pub register_says : (n : ℕ) (o : Option ℕ) (v : ℤ) → option_map (λ n. pos n) o ≡ Some v
     → is_register n o ≡ int_eq (pos n) v
-register_says n None v h = cc
-register_says n (Some f) v h =
-    let e : pos f ≡ v = cc in register_equal f n ∙ ap (λ v. int_eq (pos n) v) e
+register_says n o v h = grind arith
 
 -- a number is
 pub number_says : (z : ℤ) (o : Option ℤ) (v : ℤ) → o ≡ Some v → is_value z o ≡ int_eq z v
@@ -75,63 +57,26 @@ number_says z o v h = ap (λ o. is_value z o) h ∙ int_turned v z
 
 -- ---- what a cell adds
 pub not_never : (z : ℤ) → unsigned_abs z ≤ 2 ^ 32 → int_eq never z ≡ false
-not_never z h = turn (int_eq never z) refl
-  where
-    turn : (b : Bool) → int_eq never z ≡ b → b ≡ false
-    turn false e = refl
-    turn true e =
-        let same : unsigned_abs never ≡ unsigned_abs z =
-        ap unsigned_abs ((Decides-int_eq never z).0 e) in
-        absurd (omega (arith, same, h))
+not_never z h = grind arith
 
 never_adds : (z : ℤ) (at : ℕ) (cs : List ℕ) → unsigned_abs z ≤ 2 ^ 32
     → raised (int_eq never z) at cs ≡ cs
 never_adds z at cs h = ap (λ b. raised b at cs) (not_never z h)
 
 pub false_true : {X : Type 0} (b : Bool) → b ≡ true → b ≡ false → X
-false_true b t f =
-    let bit : Bool → ℕ = λ b. cond b 1 0 in
-    let e : bit true ≡ bit false = ap bit (sym t ∙ f) in
-    absurd (omega (arith, e))
+false_true b t f = grind arith
 
 -- one that says to look at the points
 pub many_adds : (q : Asked) (slots : List Slot) (c : Cell) → c.more ≡ true → c.first ≡ never
     → IsCell q slots c
-many_adds q slots c h wide = record {
-  adds = λ m op t z cs f s. false_true c.more h m;
-  low = λ m n some low. false_true c.more h m;
-  spared = λ m op t z cs f s n.
-      false_true (may_hit c z) (is_open (int_eq c.first z || int_eq c.second z) (int_eq c.first
-      never) ((Decides-int_eq c.first never).1 wide)) n;
-}
-  where
-    is_open : (a b : Bool) → b ≡ true → (a || b) ≡ true
-    is_open true b h = refl
-    is_open false b h = h
+many_adds q slots c h wide = grind (arith, false_true)
 
 pub none_adds : (q : Asked) (c : Cell) → c ≡ pair never 0 never 0 → IsCell q [] c
-none_adds q c e = subst (IsCell q []) (sym e) is
-  where
-    is : IsCell q [] (pair never 0 never 0)
-    is = record {
-      adds = λ m op t z cs f s.
-          ap (λ l. raised (int_eq never z) 0 l) (never_adds z 0 cs s) ∙ never_adds z 0 cs s;
-      low = λ m n some low. (some, some);
-      spared = λ m op t z cs f s n. false_true false m refl;
-    }
+none_adds q c e = grind (arith, never_adds, false_true)
 
 pub one_adds : (q : Asked) (s : Slot) (y : ℤ) (c : Cell) → SaysValue q s y
     → c ≡ pair y s.at never 0 → IsCell q (s ∷ []) c
-one_adds q s y c says e = subst (IsCell q (s ∷ [])) (sym e) is
-  where
-    is : IsCell q (s ∷ []) (pair y s.at never 0)
-    is = record {
-      adds = λ m op t z cs f small.
-          never_adds z 0 (raised (int_eq y z) s.at cs) small
-          ∙ ap (λ b. raised b s.at cs) (sym (says op t z f));
-      low = λ m n some low. (low 0 s (omega arith), some);
-      spared = λ m op t z cs f small n. false_true false m refl;
-    }
+one_adds q s y c says e = grind (arith, nat_tests)
 
 pub two_add : (q : Asked) (s s' : Slot) (y y' : ℤ) (c : Cell) → SaysValue q s y
     → SaysValue q s' y' → c ≡ pair y s.at y' s'.at → IsCell q (s ∷ s' ∷ []) c
@@ -155,99 +100,45 @@ not_below : (a b : ℕ) → b ≤ a → nat_lt a b ≡ false
 not_below a b h = grind (arith, nat_tests)
 
 rd_at : (b : ℕ) → 1 ≤ b → b < 33 → asked_at b ≡ Some Rd
-rd_at b l h =
-    let e0 : nat_lt b 1 ≡ false = not_below b 1 (omega arith) in
-    let e1 : nat_lt b 33 ≡ true = below b 33 (omega arith) in
-    rw (e0, e1) refl
+rd_at b l h = simp (not_below, below)
 
 rs1_at : (b : ℕ) → 33 ≤ b → b < 65 → asked_at b ≡ Some Rs1
-rs1_at b l h =
-    let e0 : nat_lt b 1 ≡ false = not_below b 1 (omega arith) in
-    let e1 : nat_lt b 33 ≡ false = not_below b 33 (omega arith) in
-    let e2 : nat_lt b 65 ≡ true = below b 65 (omega arith) in
-    rw (e0, e1, e2) refl
+rs1_at b l h = grind (arith, not_below, below)
 
 rs2_at : (b : ℕ) → 65 ≤ b → b < 97 → asked_at b ≡ Some Rs2
-rs2_at b l h =
-    let e0 : nat_lt b 1 ≡ false = not_below b 1 (omega arith) in
-    let e1 : nat_lt b 33 ≡ false = not_below b 33 (omega arith) in
-    let e2 : nat_lt b 65 ≡ false = not_below b 65 (omega arith) in
-    let e3 : nat_lt b 97 ≡ true = below b 97 (omega arith) in
-    rw (e0, e1, e2, e3) refl
+rs2_at b l h = grind (arith, not_below, below)
 
 rs1_val_at : (b : ℕ) → 97 ≤ b → b < 164 → asked_at b ≡ Some Rs1Val
-rs1_val_at b l h =
-    let e0 : nat_lt b 1 ≡ false = not_below b 1 (omega arith) in
-    let e1 : nat_lt b 33 ≡ false = not_below b 33 (omega arith) in
-    let e2 : nat_lt b 65 ≡ false = not_below b 65 (omega arith) in
-    let e3 : nat_lt b 97 ≡ false = not_below b 97 (omega arith) in
-    let e4 : nat_lt b 164 ≡ true = below b 164 (omega arith) in
-    rw (e0, e1, e2, e3, e4) refl
+rs1_val_at b l h = grind (arith, not_below, below)
 
 rs2_val_at : (b : ℕ) → 164 ≤ b → b < 231 → asked_at b ≡ Some Rs2Val
-rs2_val_at b l h =
-    let e0 : nat_lt b 1 ≡ false = not_below b 1 (omega arith) in
-    let e1 : nat_lt b 33 ≡ false = not_below b 33 (omega arith) in
-    let e2 : nat_lt b 65 ≡ false = not_below b 65 (omega arith) in
-    let e3 : nat_lt b 97 ≡ false = not_below b 97 (omega arith) in
-    let e4 : nat_lt b 164 ≡ false = not_below b 164 (omega arith) in
-    let e5 : nat_lt b 231 ≡ true = below b 231 (omega arith) in
-    rw (e0, e1, e2, e3, e4, e5) refl
+rs2_val_at b l h = grind (arith, not_below, below)
 
 imm_val_at : (b : ℕ) → 231 ≤ b → b < 298 → asked_at b ≡ Some ImmVal
-imm_val_at b l h =
-    let e0 : nat_lt b 1 ≡ false = not_below b 1 (omega arith) in
-    let e1 : nat_lt b 33 ≡ false = not_below b 33 (omega arith) in
-    let e2 : nat_lt b 65 ≡ false = not_below b 65 (omega arith) in
-    let e3 : nat_lt b 97 ≡ false = not_below b 97 (omega arith) in
-    let e4 : nat_lt b 164 ≡ false = not_below b 164 (omega arith) in
-    let e5 : nat_lt b 231 ≡ false = not_below b 231 (omega arith) in
-    let e6 : nat_lt b 298 ≡ true = below b 298 (omega arith) in
-    rw (e0, e1, e2, e3, e4, e5, e6) refl
+imm_val_at b l h = grind (arith, not_below, below)
 
 ea_align_at : (b : ℕ) → 298 ≤ b → b < bucket_count → asked_at b ≡ Some EaAlign
-ea_align_at b l h =
-    let e0 : nat_lt b 1 ≡ false = not_below b 1 (omega arith) in
-    let e1 : nat_lt b 33 ≡ false = not_below b 33 (omega arith) in
-    let e2 : nat_lt b 65 ≡ false = not_below b 65 (omega arith) in
-    let e3 : nat_lt b 97 ≡ false = not_below b 97 (omega arith) in
-    let e4 : nat_lt b 164 ≡ false = not_below b 164 (omega arith) in
-    let e5 : nat_lt b 231 ≡ false = not_below b 231 (omega arith) in
-    let e6 : nat_lt b 298 ≡ false = not_below b 298 (omega arith) in
-    rw (e0, e1, e2, e3, e4, e5, e6) refl
+ea_align_at b l h = grind (arith, not_below)
 
 -- it is for the fact
 pub asked_there : (q : Asked) (z : ℤ) → asked_at (asked_bucket q z) ≡ Some q
-asked_there Rd z = rd_at (asked_bucket Rd z) (omega arith) (omega arith)
-asked_there Rs1 z = rs1_at (asked_bucket Rs1 z) (omega arith) (omega arith)
-asked_there Rs2 z = rs2_at (asked_bucket Rs2 z) (omega arith) (omega arith)
-asked_there Rs1Val z =
-    rs1_val_at (asked_bucket Rs1Val z) (omega arith) (omega (arith, residue_low z))
-asked_there Rs2Val z =
-    rs2_val_at (asked_bucket Rs2Val z) (omega arith) (omega (arith, residue_low z))
-asked_there ImmVal z =
-    imm_val_at (asked_bucket ImmVal z) (omega arith) (omega (arith, residue_low z))
-asked_there EaAlign z =
-    ea_align_at (asked_bucket EaAlign z) (omega arith) (omega (arith, residue_low z))
+asked_there q z = search rules
 
 -- the lists that an instruction is held against are those of its facts
 rd_sight : (o : Option ℕ)
     → option_map (asked_bucket Rd) (option_map (λ n. pos n) o)
     ≡ option_map (register_bucket kind.Rd) o
-rd_sight None = refl
-rd_sight (Some n) = refl
+rd_sight o = grind arith
 
 rs1_sight : (o : Option ℕ)
     → option_map (asked_bucket Rs1) (option_map (λ n. pos n) o)
     ≡ option_map (register_bucket kind.Rs1) o
-rs1_sight None = refl
-rs1_sight (Some n) = refl
+rs1_sight o = grind arith
 
 rs2_sight : (o : Option ℕ)
     → option_map (asked_bucket Rs2) (option_map (λ n. pos n) o)
     ≡ option_map (register_bucket kind.Rs2) o
-rs2_sight None = refl
-rs2_sight (Some n) = refl
+rs2_sight o = grind arith
 
 abbrev pub sights : Table → List (Option ℕ)
 sights t =
@@ -255,15 +146,7 @@ sights t =
     ∷ sight ImmVal t ∷ sight EaAlign t ∷ []
 
 pub sights_visited : (t : Table) → sights t ≡ visited t
-sights_visited t =
-    ap (λ o. Some 0 ∷ o ∷ sight Rs1 t ∷ sight Rs2 t ∷ sight Rs1Val t ∷ sight Rs2Val t
-    ∷ sight ImmVal t ∷ sight EaAlign t ∷ []) (rd_sight (t.reg register.Rd))
-    ∙ ap (λ o. Some 0 ∷ option_map (register_bucket kind.Rd) (t.reg register.Rd) ∷ o
-    ∷ sight Rs2 t ∷ sight Rs1Val t ∷ sight Rs2Val t ∷ sight ImmVal t ∷ sight EaAlign t ∷ [])
-    (rs1_sight (t.reg register.Rs1))
-    ∙ ap (λ o. Some 0 ∷ option_map (register_bucket kind.Rd) (t.reg register.Rd)
-    ∷ option_map (register_bucket kind.Rs1) (t.reg register.Rs1) ∷ o ∷ sight Rs1Val t
-    ∷ sight Rs2Val t ∷ sight ImmVal t ∷ sight EaAlign t ∷ []) (rs2_sight (t.reg register.Rs2))
+sights_visited t = simp (rd_sight, rs1_sight, rs2_sight)
 
 -- ---- list by list
 pub fits_more : {aims : List Aim} {m : ℕ} {cs : List ℕ} (passes : Aim → Bool) (cs' : List ℕ)
@@ -278,11 +161,7 @@ fits_more {aims} {m} {cs} passes cs' fits e =
 
 pub fits_weaker : {aims : List Aim} {m : ℕ} {cs : List ℕ} (k : ℕ) → m ≤ k → Fits aims m cs
     → Fits aims k cs
-fits_weaker {aims} {m} {cs} k h fits = record {
-  some = fits.some;
-  count = fits.count;
-  low = λ i d l. omega (arith, h, fits.low i d l);
-}
+fits_weaker {aims} {m} {cs} k h fits = grind arith
 
 -- one list, and the others
 pub then_all : (hit : Aim → Bool) (aims : List Aim) (o : Option ℕ) (os : List (Option ℕ))

@@ -1,11 +1,9 @@
 -- Blank marks change nothing.
-use Rattle.std.proofs.Common.{◌≡◌, ℕ, suc, ◌+◌, ◌*◌, ◌^◌, ◌<◌, ◌≤◌, Bool, true, false, List}
+use Rattle.std.proofs.Common.{◌≡◌, ℕ, suc, ◌+◌, ◌^◌, ◌<◌, ◌≤◌, Bool, true, false, List}
 use Rattle.std.proofs.Common.{[], ◌∷◌, ◌++◌, refl, sym, ap, subst, ◌∙◌, All, arith, length}
-use Rattle.std.proofs.lemmas.Bool.Decides.{nat_tests}
 use Rattle.std.proofs.lemmas.List.{length_push}
 use Rattle.std.proofs.lemmas.Nat.{and_le_l}
 use Rattle.std.proofs.Math.Nat.{pow-succ'}
-use Rattle.std.specs.Prelude.{◌==◌, bit_and}
 use Rattle.rvs_expr.specs.Meaning.{Table}
 use Rattle.rvs_count.specs.Index.{raised}
 use Rattle.rvs_count.specs.Marks.{raised_marks, AreFilled, HasMarks, IsHead}
@@ -20,14 +18,11 @@ use Rattle.rvs_count.proofs.Places.{raised_low}
 
 -- ---- the word of the signs
 bit_low : (b : Bool) → bit b ≤ 1
-bit_low true = omega arith
-bit_low false = omega arith
+bit_low b = grind arith
 
 word_low : (bs : List Bool) → signs_word bs < 2 ^ length bs
 word_low [] = omega arith
-word_low (b ∷ bs) =
-    let e : 2 ^ suc (length bs) ≡ 2 * 2 ^ length bs = pow-succ' 2 (length bs) in
-    subst (λ n. signs_word (b ∷ bs) < n) (sym e) (omega (arith, word_low bs, bit_low b))
+word_low (b ∷ bs) = grind (arith, pow-succ', bit_low, (word_low bs))
 
 pub signs_low : (t : Table) → signs_word (signs_of t) < 2 ^ 31
 unfolding signs_of
@@ -51,20 +46,13 @@ marks_raise w k (m ∷ ms) cs low i d h =
 
 -- ---- blank ones
 blank_free : (w : ℕ) → w < 2 ^ 31 → has_all w 2147483648 ≡ false
-blank_free w h = apart (bit_and w 2147483648) 2147483648 (omega (arith, and_le_l w 2147483648, h))
-  where
-    apart : (a b : ℕ) → a < b → (a == b) ≡ false
-    apart a b h = grind (arith, nat_tests)
+blank_free w h = grind (arith, and_le_l)
 
 abbrev pub blank : Mark
 blank = record { at = 0; mask = 2147483648 }
 
 pub filled_none : (ms : List Mark) → AreFilled ms ms
-filled_none ms = record {
-  adds = λ w cs h. refl;
-  low = λ n some low. low;
-  few = omega arith;
-}
+filled_none ms = grind arith
 
 pub filled_more : (ms ms' ms'' : List Mark) → AreFilled ms ms' → length ms' < length ms + 16
     → ms'' ≡ ms' ++ blank ∷ [] → AreFilled ms ms''
@@ -82,11 +70,7 @@ filled_more ms ms' ms'' was short e =
 
 -- ---- a head
 pub head_more : (a : Audience) (slots : List Slot) (h : Head) → h.more ≡ true → IsHead a slots h
-head_more a slots h more = record {
-  adds = λ m op t cs o. false_true h.more more m;
-  low = λ m k some low. false_true h.more more m;
-  few = λ m. false_true h.more more m;
-}
+head_more a slots h more = grind (arith, false_true)
 
 pub head_filled : (a : Audience) (slots : List Slot) (ms ms' : List Mark) (h : Head)
     → HasMarks a slots ms → length ms ≡ length slots → AreFilled ms ms' → h.marks ≡ ms'

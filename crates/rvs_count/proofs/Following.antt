@@ -18,15 +18,10 @@ use Rattle.rvs_count.proofs.Lengths.{none_there}
 
 -- ---- without cross points
 no_end : (m : Meaning) (run : List Fields) → is_cross m ≡ false → ends_run m run ≡ false
-no_end (window ps) run h = absurd cc
-no_end (op_is op) run h = refl
-no_end (reg_is r) run h = refl
-no_end (regs f) run h = refl
-no_end (nums f) run h = refl
+no_end m run h = grind arith
 
 or_none : (a b : Bool) → b ≡ false → a ≡ (a || b)
-or_none true b h = refl
-or_none false b h = sym h
+or_none a b h = grind arith
 
 -- the end of a run adds nothing
 pub no_ends_too : (passes : Aim → Bool) (run : List Fields) (aims : List Aim) (cs : List ℕ)
@@ -57,11 +52,7 @@ no_ends run (a ∷ aims) (c ∷ cs) h l =
 
 -- ---- what is followed
 pub followed_nil : (labels : List Label) → followed labels [] ≡ []
-followed_nil labels = turn (any_cross (aims_in labels))
-  where
-    turn : (b : Bool) → ◌≡◌ {A = List Fields} (cond b [] []) []
-    turn true = refl
-    turn false = refl
+followed_nil labels = grind arith
 
 pub followed_all : (labels : List Label) (run : List Fields) → any_cross (aims_in labels) ≡ true
     → followed labels run ≡ run
@@ -73,11 +64,7 @@ followed_none labels run h = ap (λ b. cond b run []) h
 
 pub followed_again : (labels : List Label) (run : List Fields) (o : Option Fields)
     → followed labels (run_with (followed labels run) o) ≡ followed labels (run_with run o)
-followed_again labels run o = turn (any_cross (aims_in labels))
-  where
-    turn : (b : Bool) → cond b (run_with (cond b run []) o) [] ≡ cond b (run_with run o) []
-    turn true = refl
-    turn false = refl
+followed_again labels run o = grind arith
 
 -- counts after one more instruction
 pub counts_followed : (labels : List Label) (es : List Entry) (e : Entry)
@@ -107,15 +94,10 @@ counts_followed labels es e = turn (any_cross (aims_in labels)) refl
 
 -- ---- the numbers of places that there are
 no_places : (k : ℕ) (m : Meaning) → is_cross m ≡ false → has_places k m ≡ false
-no_places k (window ps) h = absurd cc
-no_places k (op_is op) h = refl
-no_places k (reg_is r) h = refl
-no_places k (regs f) h = refl
-no_places k (nums f) h = refl
+no_places k m h = grind arith
 
 or_both : (a b : Bool) → a ≡ false → b ≡ false → (a || b) ≡ false
-or_both false b h k = k
-or_both true b h k = h
+or_both a b h k = grind arith
 
 none_has : (k : ℕ) (aims : List Aim) → any_cross aims ≡ false → any_has k aims ≡ false
 none_has k [] h = refl
@@ -126,9 +108,7 @@ none_has k (a ∷ aims) h =
 
 no_lengths : (aims : List Aim) (n : ℕ) → any_cross aims ≡ false → lengths_to aims n ≡ []
 no_lengths aims zero h = refl
-no_lengths aims (suc n) h =
-    ap (λ ns. ns ++ cond (any_has (suc n) aims) (suc n ∷ []) []) (no_lengths aims n h)
-    ∙ ap (λ b. cond b (suc n ∷ []) []) (none_has (suc n) aims h)
+no_lengths aims (suc n) h = simp (any_has, none_has, (no_lengths aims n h))
 
 -- where there is none, no point is a cross point
 none_cross : (aims : List Aim) → AllSized aims

@@ -104,22 +104,7 @@ pub entry_counted : (t : Tallied) (b : Bool) (e : Entry) (cs : List ℕ) (run : 
       heard = t.heard;
     }
     ≡ with_entry t b e
-entry_counted t b e cs run h r c =
-    let with : List ℕ → List Fields → Tallied =
-    λ cs run. record {
-      labels =
-          t.labels;
-      windows =
-          t.windows;
-      counts = cs;
-      instructions = t.instructions + 1;
-      run = run;
-      heard = t.heard;
-    } in
-    ap (λ cs. with cs run) c
-    ∙ ap (λ run. with (counts_with (aims_in t.labels) (run_with t.run (decoded e)) e t.counts) run)
-    r
-    ∙ ap (λ b. with_entry t b e) (sym h)
+entry_counted t b e cs run h r c = grind arith
 
 -- ---- bounds
 pub added_length : (passes : Aim → Bool) (aims : List Aim) (cs : List ℕ) → length cs ≡ length aims
@@ -130,8 +115,7 @@ added_length passes (a ∷ aims) (c ∷ cs) h =
     let l : length cs ≡ length aims = omega arith in omega (arith, added_length passes aims cs l)
 
 bit_low : (b : Bool) → cond b 1 0 ≤ 1
-bit_low true = omega arith
-bit_low false = omega arith
+bit_low b = grind arith
 
 pub added_low : (passes : Aim → Bool) (aims : List Aim) (cs : List ℕ) (m : ℕ) → All (λ n. n ≤ m) cs
     → All (λ n. n ≤ m + 1) (added passes aims cs)

@@ -6,8 +6,6 @@ pub mod Cells
 pub mod Counts
 pub mod Crossing
 pub mod Ends
-pub mod Executing
-pub mod Feeding
 pub mod Filling
 pub mod Following
 pub mod Hitting
@@ -25,7 +23,5 @@ pub mod Shifts
 pub mod Sorting
 pub mod Streams
 pub mod Sums
-pub mod Taking
-pub mod Telling
 pub mod Turned
 pub mod Wants

@@ -4,9 +4,7 @@ use Rattle.std.proofs.Common.{◌&&◌, List, []}
 use Rattle.std.proofs.Common.{◌∷◌, ◌++◌, Some, refl, sym, ap, subst, ◌∙◌, All, arith, length, drop}
 use Rattle.std.proofs.Common.{get_or, take}
 use Rattle.std.proofs.Math.Seq.{take-append_seam}
-use Rattle.std.proofs.lemmas.Bool.Decides.{nat_tests, Decides-int_eq}
-use Rattle.std.specs.Prelude.{◌==◌, IfSome}
-use Rattle.rvs_cgf.specs.GroupView.{point_view}
+use Rattle.std.proofs.lemmas.Bool.Decides.{Decides-int_eq}
 use Rattle.rvs_cgf.specs.Hits.{holds}
 use Rattle.rvs_cgf.specs.declared.group.Label.{Label}
 use Rattle.rvs_expr.specs.Equated.{is_value}
@@ -22,7 +20,6 @@ use Rattle.rvs_count.specs.Index.{insns_key, is_for, places, places_for, raised}
 use Rattle.rvs_count.specs.Index.{raised_all, IsIndex}
 use Rattle.rvs_count.specs.Marks.{raised_marks, ComesTo, HasHeads, HasMarks, HasPlaceHeads, IsHead}
 use Rattle.rvs_count.specs.Marks.{place_key, IsMark, SaysSigns}
-use Rattle.rvs_count.specs.Shortcuts.{says}
 use Rattle.rvs_count.specs.Signs.{has_all, has_signs, signs_of, signs_word}
 use Rattle.rvs_count.specs.State.{added}
 use Rattle.rvs_count.specs.declared.mark.Audience.{Audience}
@@ -83,11 +80,7 @@ more_heads who key lists hs hs' n slots h has len low at is e =
 -- the mnemonic of a list is that of the instructions that it is for
 pub always_so : (n : ℕ) (mnemonic : Op) → number mnemonic ≡ n
     → SaysSigns (audience.Mnemonic n) (shortcut.Mnemonic mnemonic) 1
-always_so n mnemonic m op t o =
-    same (number mnemonic) (number op) (m ∙ sym o) ∙ first_always t
-  where
-    same : (a b : ℕ) → a ≡ b → (a == b) ≡ true
-    same a b h = grind (arith, nat_tests)
+always_so n mnemonic m op t o = grind (arith, first_always)
 
 -- so is the place of an address
 is_there : (y z : ℤ) (t : Table) → y ≡ z → t.num EaAlign ≡ Some y
@@ -103,11 +96,7 @@ placed_says y z mask e op t o = ap (λ b. b && has_signs mask t) (is_there y z t
 
 pub marked : (a : Audience) (s : Slot) (k : Shortcut) (m : Mark) → s.shortcut ≡ Some k
     → m.at ≡ s.at → SaysSigns a k m.mask → IsMark a s m
-marked a s k m is at said =
-    let same : (op : Op) (t : Table) → holds (point_view s.point.now) op t ≡ says k op t =
-    subst (λ o. IfSome o (λ k. (op : Op) (t : Table) →
-    holds (point_view s.point.now) op t ≡ says k op t)) is s.same in
-    record { place = at; says = λ op t o. same op t ∙ said op t o }
+marked a s k m is at said = grind arith
 
 tail_marks : {a : Audience} {s : Slot} {slots : List Slot} {m : Mark} {ms : List Mark}
     → HasMarks a (s ∷ slots) (m ∷ ms) → HasMarks a slots ms
@@ -144,8 +133,7 @@ pub marks_length : (word : ℕ) (ms : List Mark) (cs : List ℕ)
     → length (raised_marks word ms cs) ≡ length cs
 marks_length word [] cs = refl
 marks_length word (m ∷ ms) cs =
-    marks_length word ms (raised (has_all word m.mask) m.at cs)
-    ∙ raised_length (has_all word m.mask) cs m.at
+    simp (raised_length, (marks_length word ms (raised (has_all word m.mask) m.at cs)))
 
 -- counts that were lent come back
 pub lent_back : (n : ℕ) (new rest : List ℕ) → length new ≡ n → take n (new ++ rest) ≡ new
@@ -159,11 +147,7 @@ pub marks_next : (signs : ℕ) (ms : List Mark) (k : ℕ) (d : Mark) (cs : List 
     (raised (has_all signs (get_or ms k d).mask) (get_or ms k d).at cs)
 marks_next signs [] k d cs h = absurd (omega arith)
 marks_next signs (m ∷ ms) zero d cs h = refl
-marks_next signs (m ∷ ms) (suc k) d cs h =
-    let e : suc k + 1 ≡ suc (k + 1) = omega arith in
-    marks_next signs ms k d cs (omega arith)
-    ∙ ap (λ n. raised_marks signs (drop n (m ∷ ms))
-    (raised (has_all signs (get_or ms k d).mask) (get_or ms k d).at cs)) (sym e)
+marks_next signs (m ∷ ms) (suc k) d cs h = grind (arith, (marks_next signs ms k d cs (omega arith)))
 
 -- ---- the marks of a list of the index
 pub added_marks : (labels : List Label) (lists : List (List Slot)) (i : Fields) (v1 v2 n b : ℕ)
@@ -183,31 +167,20 @@ pub low_marks : (labels : List Label) (lists : List (List Slot)) (a : Audience) 
     → IsIndex insns_key labels lists → key < length lists → length (aims_in labels) ≡ k
     → 0 < k → IsHead a (get_or lists key []) h → h.more ≡ false
     → All (λ (m : Mark). m.at < k) h.marks
-low_marks labels lists a key h k index l e some is m =
-    is.low m k some
-    (slots_low (is_for (insns_key key)) (aims_in labels) (get_or lists key []) k
-    (index.each key [] l) e)
+low_marks labels lists a key h k index l e some is m = grind (arith, slots_low)
 
 pub few_marks : (labels : List Label) (lists : List (List Slot)) (a : Audience) (key : ℕ) (h : Head)
     → IsIndex insns_key labels lists → key < length lists
     → IsHead a (get_or lists key []) h → h.more ≡ false
     → length h.marks ≤ length (aims_in labels) + 16
-few_marks labels lists a key h index l is m =
-    omega (
-      arith,
-      is.few m,
-      slots_few (is_for (insns_key key)) (aims_in labels) (get_or lists key [])
-          (index.each key [] l),
-    )
+few_marks labels lists a key h index l is m = grind (arith, slots_few)
 
 -- the head of a list at a number
 pub head_at : (who : ℕ → Audience) (key : ℕ → ℕ) (lists : List (List Slot)) (heads got : List Head)
     (n : ℕ) (h : Head)
     → HasHeads who key lists heads → got ≡ heads → h ≡ get_or got n h → n < length heads
     → IsHead (who n) (get_or lists (key n) []) h
-head_at who key lists heads got n h has same at l =
-    subst (IsHead (who n) (get_or lists (key n) []))
-    (sym (at ∙ ap (λ (l : List Head). get_or l n h) same)) (has.each n [] h l)
+head_at who key lists heads got n h has same at l = grind arith
 
 -- the head of the list of an address's place
 pub place_head_at : (lists : List (List Slot)) (heads got : List Head) (n place : ℕ) (h : Head)

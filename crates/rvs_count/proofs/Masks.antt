@@ -2,7 +2,7 @@
 use Rattle.std.proofs.Common.{◌≡◌, ◌≢◌, ℕ, zero, suc, ◌+◌, ◌-◌, ◌*◌, ◌≤◌, ◌/◌, ◌%◌, ◌^◌, ◌<◌, Bool}
 use Rattle.std.proofs.Common.{true}
 use Rattle.std.proofs.Common.{false, cond, ◌&&◌, List, [], ◌∷◌, refl, sym, ap, ◌∙◌, arith, get_or}
-use Rattle.std.proofs.Common.{bit_and, bit_or, w32}
+use Rattle.std.proofs.Common.{bit_and, bit_or, w32, rules}
 use Rattle.std.proofs.lemmas.Bool.Decides.{nat_tests}
 use Rattle.std.proofs.lemmas.Nat.{one_shl}
 use Rattle.std.proofs.lemmas.Nat.Bits.{bit_at_above, bit_at_and, bit_at_lowest, bit_at_not}
@@ -25,27 +25,19 @@ is_equal a b h = grind (arith, nat_tests)
 
 -- two numbers are one, or aren't
 apart : {G : Type 0} (a b : ℕ) → (a ≡ b → G) → (a ≢ b → G) → G
-apart {G} a b f g = turn (a == b) refl
-  where
-    turn : (t : Bool) → (a == b) ≡ t → G
-    turn true h = f (equal a b h)
-    turn false h = g (other a b h)
+apart {G} a b f g = grind (arith, equal, other)
 
 -- ---- the bits of a word of signs
 low : (b : Bool) (n : ℕ) → (cond b 1 0 + 2 * n) % 2 ≡ cond b 1 0
-low true n = omega arith
-low false n = omega arith
+low b n = grind arith
 
 half : (b : Bool) (n : ℕ) → (cond b 1 0 + 2 * n) / 2 ≡ n
-half true n = omega arith
-half false n = omega arith
+half b n = grind arith
 
 word_bit : (bs : List Bool) (k : ℕ) → bit_at (signs_word bs) k ≡ cond (get_or bs k false) 1 0
 word_bit [] k = bit_at-zero k
 word_bit (b ∷ bs) zero = bit_at_lowest (signs_word (b ∷ bs)) ∙ low b (signs_word bs)
-word_bit (b ∷ bs) (suc k) =
-    bit_at-suc (signs_word (b ∷ bs)) k ∙ ap (λ n. bit_at n k) (half b (signs_word bs))
-    ∙ word_bit bs k
+word_bit (b ∷ bs) (suc k) = simp (bit_at-suc, half, (word_bit bs k))
 
 -- ---- those of a mask
 abbrev shl : ℕ → ℕ
@@ -63,41 +55,26 @@ abbrev HasBit : ℕ → ℕ → ℕ → Type 0
 HasBit w m i = bit_at m i ≡ 1 → bit_at w i ≡ 1
 
 bit_there : (w m : ℕ) → has_all w m ≡ true → (i : ℕ) → HasBit w m i
-bit_there w m h i e =
-    let same : bit_at (bit_and w m) i ≡ bit_at m i =
-    ap (λ n. bit_at n i) (equal (bit_and w m) m h) in
-    let low : bit_at w i < 2 = bit_at-lt w i in
-    omega (arith, same, e, low, bit_at_and w m i)
+bit_there w m h i e = grind (arith, bit_and, equal, low, bit_at-lt, bit_at_and)
 
 kept_bit : (w m i : ℕ) → HasBit w m i → bit_at (bit_and w m) i ≡ bit_at m i
-kept_bit w m i h = turn (bit_at m i) refl (bit_at-lt m i)
-  where
-    turn : (b : ℕ) → bit_at m i ≡ b → b < 2 → bit_at (bit_and w m) i ≡ bit_at m i
-    turn zero e l = omega (arith, bit_at_and w m i, e)
-    turn (suc zero) e l = omega (arith, bit_at_and w m i, e, h e)
-    turn (suc (suc b)) e l = absurd (omega (arith, l))
+kept_bit w m i h = grind (arith, bit_at-lt, bit_and, bit_at_and)
 
 bits_there : (w m : ℕ) → ((i : ℕ) → HasBit w m i) → has_all w m ≡ true
-bits_there w m h =
-    is_equal (bit_and w m) m (same_from_bits (bit_and w m) m (λ i. kept_bit w m i (h i)))
+bits_there w m h = search (rules, is_equal, bit_and, same_from_bits, kept_bit)
 
 -- two truth values that follow from each other are one
 same_truth : (a b : Bool) → (a ≡ true → b ≡ true) → (b ≡ true → a ≡ true) → a ≡ b
-same_truth true b f g = sym (f refl)
-same_truth false true f g = g refl
-same_truth false false f g = refl
+same_truth a b f g = grind arith
 
 left_true : (a b : Bool) → (a && b) ≡ true → a ≡ true
-left_true true b h = refl
-left_true false b h = cc
+left_true a b h = grind arith
 
 right_true : (a b : Bool) → (a && b) ≡ true → b ≡ true
-right_true true b h = h
-right_true false b h = cc
+right_true a b h = grind arith
 
 both_true : (a b : Bool) → a ≡ true → b ≡ true → (a && b) ≡ true
-both_true true b p q = q
-both_true false b p q = cc
+both_true a b p q = grind arith
 
 -- ---- one sign
 one_bit : (bs : List Bool) (k : ℕ) → k < 32 → has_all (signs_word bs) (shl k) ≡ get_or bs k false
@@ -163,12 +140,10 @@ both_signs t m n = joined_masks (signs_word (signs_of t)) m n
 
 pub more_signs : (b : Bool) (t : Table) (m n : ℕ)
     → (b && has_signs (bit_or m n) t) ≡ ((b && has_signs m t) && has_signs n t)
-more_signs true t m n = both_signs t m n
-more_signs false t m n = refl
+more_signs b t m n = search (rules, both_signs)
 
 pub no_signs : (t : Table) → has_signs 0 t ≡ true
-no_signs t = bits_there (signs_word (signs_of t)) 0
-    (λ i e. absurd (omega (arith, e, bit_at-zero i)))
+no_signs t = grind (arith, bits_there, bit_at-zero)
 
 -- ---- the bits that a word lacks
 -- a mask has no bit from 32 on

@@ -1,6 +1,6 @@
 -- Instructions that match a cross point are as many as its places, they all decode, and the first
 -- is listed.
-use Rattle.std.proofs.Common.{◌≡◌, ◌≢◌, ℕ, Bool, true, false, ◌&&◌, ◌||◌, List, [], ◌∷◌, ◌++◌}
+use Rattle.std.proofs.Common.{◌≡◌, ◌≢◌, ℕ, Bool, true, false, ◌&&◌, List, [], ◌∷◌, ◌++◌}
 use Rattle.std.proofs.Common.{Option, Some, None, refl, sym, ap, ◌∙◌, length, arith}
 use Rattle.std.proofs.lemmas.Bool.Decides.{nat_tests}
 use Rattle.std.proofs.lemmas.List.{length-map}
@@ -19,8 +19,7 @@ use Rattle.rvs_count.specs.Index.{is_matched}
 use Rattle.rvs_insn.specs.Fields.{Fields}
 
 and_false : (a b : Bool) → b ≡ false → (a && b) ≡ false
-and_false true b h = h
-and_false false b h = refl
+and_false a b h = grind arith
 
 length_fits : (v : Values) (ps : List Place) (is : List (Option Fields))
     → length is ≢ length ps → all_fit v ps is ≡ false
@@ -44,8 +43,7 @@ decoded_fits : (v : Values) (ps : List Place) (xs ys : List (Option Fields))
 decoded_fits v [] [] ys = refl
 decoded_fits v [] (x ∷ xs) ys = refl
 decoded_fits v (p ∷ ps) [] ys = refl
-decoded_fits v (p ∷ ps) (x ∷ xs) ys =
-    and_false (fits_decoded v p x) (all_fit v ps (xs ++ None ∷ ys)) (decoded_fits v ps xs ys)
+decoded_fits v (p ∷ ps) (x ∷ xs) ys = simp (and_false, (decoded_fits v ps xs ys))
 
 -- one doesn't decode
 pub decoded_matches : (ps : List Place) (xs ys : List (Option Fields))
@@ -56,24 +54,16 @@ decoded_matches ps xs ys =
     (λ k d l. decoded_fits _ ps xs ys)
 
 front_true : (a b c : Bool) → ((a && b) && c) ≡ true → a ≡ true
-front_true true b c h = refl
-front_true false b c h = cc
+front_true a b c h = grind arith
 
 first_fits : (v : Values) (ps : List Place) (i : Fields) (is : List (Option Fields))
     → all_fit v ps (Some i ∷ is) ≡ true → is_listed (first_ops ps) i.op ≡ true
-first_fits v [] i is h = cc
-first_fits v (p ∷ ps) i is h = front_true (is_listed p.ops i.op) _ (all_fit v ps is) h
+first_fits v ps i is h = grind arith
 
 any_gives : (passes : Values → Bool) (b : Bool) → ((v : Values) → passes v ≡ true → b ≡ true)
     → (vs : List Values) → list_any passes vs ≡ true → b ≡ true
 any_gives passes b gives [] h = cc
-any_gives passes b gives (v ∷ vs) h =
-    turn (passes v) (gives v) (any_gives passes b gives vs) h
-  where
-    turn : (t : Bool) → (t ≡ true → b ≡ true) → (list_any passes vs ≡ true → b ≡ true)
-        → (t || list_any passes vs) ≡ true → b ≡ true
-    turn true here later h = here refl
-    turn false here later h = later h
+any_gives passes b gives (v ∷ vs) h = grind (arith, (any_gives passes b gives vs))
 
 -- so many instructions aren't as many as there are places
 pub other_length : (m : code.Meaning) (c : Cross) (run : List Fields) (count : ℕ) → m ≡ Window c

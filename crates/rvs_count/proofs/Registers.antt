@@ -1,17 +1,15 @@
 -- Entries add what the cells of registers add.
-use Rattle.std.proofs.Common.{◌≡◌, ℕ, suc, ℤ, pos, ◌+◌, ◌*◌, ◌/◌, ◌%◌, ◌<◌, true}
-use Rattle.std.proofs.Common.{false, List, [], ◌∷◌, ◌++◌, refl, sym, ap, subst, ◌∙◌, arith, length}
+use Rattle.std.proofs.Common.{◌≡◌, ℕ, ℤ, pos, ◌+◌, ◌*◌, ◌/◌, ◌%◌, ◌<◌, true}
+use Rattle.std.proofs.Common.{false, List, [], ◌∷◌, ◌++◌, refl, sym, subst, arith, length}
 use Rattle.std.proofs.Common.{get_or}
-use Rattle.std.proofs.lemmas.Bool.Decides.{nat_tests}
 use Rattle.std.specs.Ordering.{int_eq}
 use Rattle.rvs_count.specs.Buckets.{bucket_count}
 use Rattle.rvs_insn.specs.Table.{op_count}
 use Rattle.rvs_count.specs.Cells.{asked_bucket, HasCells, IsCell}
-use Rattle.rvs_count.specs.Entries.{entry_at, is_field, is_look, look, raised_entry, register_count}
+use Rattle.rvs_count.specs.Entries.{entry_at, is_field, look, register_count}
 use Rattle.rvs_count.specs.Entries.{HasEntries, IsEntry, IsEntryAt}
 use Rattle.rvs_count.specs.declared.asked.Asked.{Asked}
-use Rattle.rvs_count.specs.declared.asked.Asked.TheVariants.{Rd, Rs1, Rs2, Rs1Val, Rs2Val, ImmVal}
-use Rattle.rvs_count.specs.declared.asked.Asked.TheVariants.{EaAlign}
+use Rattle.rvs_count.specs.declared.asked.Asked.TheVariants.{Rd, Rs1, Rs2}
 use Rattle.rvs_count.specs.Shared.{HasBlocks}
 use Rattle.rvs_count.specs.declared.cell.Cell.{Cell}
 use Rattle.rvs_count.specs.declared.slot.Slot.{Slot}
@@ -21,32 +19,17 @@ use Rattle.rvs_count.proofs.Marks.{any_default, pushed_each}
 
 -- one that says to look at the cell
 pub looks : (c : Cell) (z : ℤ) → IsEntry c z look
-looks c z = record {
-  few = λ h. false_true (is_look look) refl h;
-  adds = λ h counts. false_true (is_look look) refl h;
-  low = λ h. false_true (is_look look) refl h;
-}
+looks c z = grind (arith, false_true)
 
 -- one that names nothing
 pub none_said : (c : Cell) (z : ℤ) → c.more ≡ false → int_eq c.second z ≡ false
     → int_eq c.first z ≡ false → IsEntry c z 0
-none_said c z m s f = record {
-  few = λ h. m;
-  adds = λ h counts. rw (f, s) refl;
-  low = λ h. omega arith;
-}
+none_said c z m s f = grind arith
 
 -- one that names a point
 pub one_said : (c : Cell) (z : ℤ) (e : ℕ) → c.more ≡ false → int_eq c.second z ≡ false
     → int_eq c.first z ≡ true → e ≡ entry_at c.first_at → IsEntry c z e
-one_said c z e m s f is = record {
-  few = λ h. m;
-  adds = λ h counts. rw (f, s) (ap (λ e. raised_entry e counts) (sym (at h)));
-  low = λ h. omega (arith, at h);
-}
-  where
-    at : is_look e ≡ false → e ≡ suc c.first_at
-    at h = grind (arith, nat_tests)
+one_said c z e m s f is = grind arith
 
 -- one more
 pub more_entries : (cells : List Cell) (es es' : List ℕ) (n e : ℕ) → HasEntries cells es
@@ -85,13 +68,7 @@ rs2_list r h = omega arith
 
 pub field_list : (q : Asked) (n : ℕ) → (q ≡ Rd → n ≡ 0) → (q ≡ Rs1 → n ≡ 1) → (q ≡ Rs2 → n ≡ 2)
     → is_field q ≡ true → (r : ℕ) → r < 32 → asked_bucket q (pos r) ≡ 1 + (32 * n + r)
-field_list Rd n a b c h r l = rd_list r l ∙ ap (λ n. 1 + (32 * n + r)) (sym (a refl))
-field_list Rs1 n a b c h r l = rs1_list r l ∙ ap (λ n. 1 + (32 * n + r)) (sym (b refl))
-field_list Rs2 n a b c h r l = rs2_list r l ∙ ap (λ n. 1 + (32 * n + r)) (sym (c refl))
-field_list Rs1Val n a b c h r l = absurd cc
-field_list Rs2Val n a b c h r l = absurd cc
-field_list ImmVal n a b c h r l = absurd cc
-field_list EaAlign n a b c h r l = absurd cc
+field_list q n a b c h r l = grind arith
 
 -- a mnemonic's cell of a register in a field, and its entry
 pub register_cell : (lists : List (List Slot)) (cells : List Cell) (blocks places entries got : List

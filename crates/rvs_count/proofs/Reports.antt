@@ -1,6 +1,6 @@
 -- Lines of points, of entries that aren't counted and of labels, one after another.
 use Rattle.std.proofs.Common.{◌≡◌, ℕ, zero, suc, ◌+◌, ◌<◌, List, [], ◌∷◌}
-use Rattle.std.proofs.Common.{◌++◌, length, map, drop, get_or, flat_map, refl, sym, ap, ◌∙◌}
+use Rattle.std.proofs.Common.{◌++◌, length, map, drop, get_or, flat_map, refl}
 use Rattle.std.proofs.Common.{arith, append_assoc, append-nil}
 use Rattle.rvs_cgf.specs.GroupView.{point_view, skipped_view}
 use Rattle.rvs_cgf.specs.declared.group.Point.{Point}
@@ -11,9 +11,7 @@ drop-at : {A : Type 0} (xs : List A) (i : ℕ) (d : A) → i < length xs
     → drop i xs ≡ get_or xs i d ∷ drop (i + 1) xs
 drop-at [] i d h = absurd (omega arith)
 drop-at (x ∷ xs) zero d h = refl
-drop-at (x ∷ xs) (suc i) d h =
-    let e : suc i + 1 ≡ suc (i + 1) = omega arith in
-    drop-at xs i d (omega arith) ∙ ap (λ n. get_or xs i d ∷ drop n (x ∷ xs)) (sym e)
+drop-at (x ∷ xs) (suc i) d h = grind (arith, (drop-at xs i d (omega arith)))
 
 drop-all : {A : Type 0} (xs : List A) → drop (length xs) xs ≡ []
 drop-all [] = refl
@@ -24,31 +22,18 @@ pub points_more : (text counts : List ℕ) (ps : List Point) (i : ℕ) (d : Poin
     → (text ++ point_line (get_or counts i 0) (point_view (get_or ps i d)))
     ++ points_text (drop (i + 1) counts) (map point_view (drop (i + 1) ps))
     ≡ text ++ points_text (drop i counts) (map point_view (drop i ps))
-points_more text counts ps i d h l =
-    append_assoc text (point_line (get_or counts i 0) (point_view (get_or ps i d)))
-    (points_text (drop (i + 1) counts) (map point_view (drop (i + 1) ps)))
-    ∙ sym (ap (λ xs. text ++ points_text (drop i counts) (map point_view xs)) (drop-at ps i d h)
-    ∙ ap (λ cs. text
-    ++ points_text cs (point_view (get_or ps i d) ∷ map point_view (drop (i + 1) ps)))
-    (drop-at counts i 0 (omega arith)))
+points_more text counts ps i d h l = grind (arith, append_assoc, drop-at)
 
 pub points_all : (text counts : List ℕ) (ps : List Point) → length counts ≡ length ps
     → text ++ points_text (drop (length ps) counts) (map point_view (drop (length ps) ps)) ≡ text
-points_all text counts ps l =
-    ap (λ n. text ++ points_text (drop n counts) (map point_view (drop (length ps) ps))) (sym l)
-    ∙ ap (λ cs. text ++ points_text cs (map point_view (drop (length ps) ps))) (drop-all counts)
-    ∙ append-nil text
+points_all text counts ps l = grind (arith, drop-all, append-nil)
 
 pub skipped_more : (text : List ℕ) (ss : List Skipped) (i : ℕ) (d : Skipped) → i < length ss
     → (text ++ skipped_line (skipped_view (get_or ss i d)))
     ++ flat_map skipped_line (map skipped_view (drop (i + 1) ss))
     ≡ text ++ flat_map skipped_line (map skipped_view (drop i ss))
-skipped_more text ss i d h =
-    append_assoc text (skipped_line (skipped_view (get_or ss i d)))
-    (flat_map skipped_line (map skipped_view (drop (i + 1) ss)))
-    ∙ sym (ap (λ xs. text ++ flat_map skipped_line (map skipped_view xs)) (drop-at ss i d h))
+skipped_more text ss i d h = grind (arith, append_assoc, flat_map, drop-at)
 
 pub skipped_all : (text : List ℕ) (ss : List Skipped)
     → text ++ flat_map skipped_line (map skipped_view (drop (length ss) ss)) ≡ text
-skipped_all text ss = ap (λ xs. text ++ flat_map skipped_line (map skipped_view xs)) (drop-all ss)
-    ∙ append-nil text
+skipped_all text ss = simp (flat_map, drop-all, append-nil)

@@ -2,7 +2,7 @@
 use Rattle.std.proofs.Common.{◌≡◌, ◌≢◌, ℕ, zero, suc, ◌+◌, ◌-◌, ◌<◌, ◌≤◌, ◌⊎◌, inl, inr, Bool}
 use Rattle.std.proofs.Common.{false, cond, List, [], ◌∷◌, ◌++◌, Option, Some, None, refl, sym, ap}
 use Rattle.std.proofs.Common.{◌∙◌, length, take, drop, arith, append_assoc, append-nil}
-use Rattle.std.proofs.Common.{length-append}
+use Rattle.std.proofs.Common.{length-append, rules}
 use Rattle.std.proofs.Math.Seq.{drop-append-add}
 use Rattle.std.proofs.lemmas.Bool.{cases_lt}
 use Rattle.std.proofs.lemmas.List.{drop-append-le, drop-map, length-drop, length-map, map-append}
@@ -13,29 +13,21 @@ use Rattle.rvs_count.specs.Runs.{last, suffixes, run_of, run_with}
 
 -- ---- the last of a list
 drop_zero : {X : Type 0} (xs : List X) → drop 0 xs ≡ xs
-drop_zero [] = refl
-drop_zero (x ∷ xs) = refl
+drop_zero = grind arith
 
 pub last_all : {X : Type 0} (n : ℕ) (xs : List X) → length xs ≤ n → last n xs ≡ xs
-last_all n xs h =
-    let e : length xs - n ≡ 0 = omega arith in ap (λ k. drop k xs) e ∙ drop_zero xs
+last_all n xs h = grind (arith, drop_zero)
 
 last_back : {X : Type 0} (n : ℕ) (xs ys : List X) → n ≤ length ys
     → last n (xs ++ ys) ≡ last n ys
-last_back n xs ys h =
-    let e : length (xs ++ ys) - n ≡ length xs + (length ys - n) =
-    omega (arith, length-append xs ys) in
-    ap (λ k. drop k (xs ++ ys)) e ∙ drop-append-add xs ys (length ys - n)
+last_back n xs ys h = grind (arith, length-append, drop-append-add)
 
 last_front : {X : Type 0} (n k : ℕ) (xs ys : List X) → n ≡ k + length ys
     → last n (xs ++ ys) ≡ last k xs ++ ys
-last_front n k xs ys h =
-    let e : length (xs ++ ys) - n ≡ length xs - k = omega (arith, length-append xs ys) in
-    ap (λ k. drop k (xs ++ ys)) e ∙ drop-append-le (length xs - k) xs ys (omega arith)
+last_front n k xs ys h = grind (arith, length-append, drop-append-le)
 
 last-map : {X Y : Type 0} (f : X → Y) (n : ℕ) (xs : List X) → last n (map f xs) ≡ map f (last n xs)
-last-map f n xs =
-    ap (λ k. drop (k - n) (map f xs)) (length-map xs f) ∙ drop-map f (length xs - n) xs
+last-map f n xs = simp (length-map, drop-map)
 
 -- the last six see what the last n of them see
 last_twice : {X : Type 0} (n m : ℕ) (xs ys : List X) → n ≤ m
@@ -64,8 +56,7 @@ windows n passes xs = count_by (λ s. passes (take n s)) (suffixes xs)
 
 windows-cons : {X : Type 0} (n : ℕ) (passes : List X → Bool) (x : X) (xs : List X)
     → windows n passes (x ∷ xs) ≡ cond (passes (take n (x ∷ xs))) 1 0 + windows n passes xs
-windows-cons n passes x xs =
-    sum_by-cons (λ s. cond (passes (take n s)) 1 0) (x ∷ xs) (suffixes xs)
+windows-cons n passes x xs = simp sum_by-cons
 
 take_all : {X : Type 0} (n : ℕ) (xs : List X) → length xs ≤ n → take n xs ≡ xs
 take_all zero [] h = refl
@@ -75,9 +66,7 @@ take_all (suc n) (x ∷ xs) h = ap (λ l. x ∷ l) (take_all n xs (omega arith))
 
 -- a list of one is its own front and its own end
 one_window : {X : Type 0} (n : ℕ) (x : X) → take n (x ∷ []) ≡ last n (x ∷ [])
-one_window zero x = refl
-one_window (suc n) x =
-    take_all (suc n) (x ∷ []) (omega arith) ∙ sym (last_all (suc n) (x ∷ []) (omega arith))
+one_window = search (rules, take_all, last_all)
 
 abbrev Pushes : {X : Type 0} → ℕ → (List X → Bool) → List X → X → Type 0
 Pushes n passes xs x =
@@ -132,14 +121,8 @@ pub windows_push : {X : Type 0} (n : ℕ) (passes : List X → Bool)
     → ((xs : List X) → length xs ≢ n → passes xs ≡ false) → (xs : List X) (x : X)
     → count_by (λ s. passes (take n s)) (suffixes (xs ++ x ∷ []))
     ≡ count_by (λ s. passes (take n s)) (suffixes xs) + cond (passes (last n (xs ++ x ∷ []))) 1 0
-windows_push n passes fits [] x =
-    let none : windows n passes (x ∷ []) ≡ bit (passes (take n (x ∷ []))) + windows n passes [] =
-    windows-cons n passes x [] in
-    let same : bit (passes (take n (x ∷ []))) ≡ bit (passes (last n (x ∷ []))) =
-    ap (λ l. bit (passes l)) (one_window n x) in
-    omega (arith, none, same)
-windows_push n passes fits (y ∷ ys) x =
-    push_more n passes fits y ys x (windows_push n passes fits ys x)
+windows_push n passes fits [] x = simp (windows-cons, one_window)
+windows_push n passes fits (y ∷ ys) x = grind (arith, push_more, (windows_push n passes fits ys x))
 
 -- ---- what a counter keeps
 abbrev Decoded : {X : Type 0} → (List (Option X) → Bool) → Type 0
@@ -183,16 +166,13 @@ sees_some {X = X} n passes few front run x sees ys =
 sees_more : {X : Type 0} (n : ℕ) (passes : List (Option X) → Bool) → n ≤ 6 → Fits n passes
     → Decoded passes → (front : List (Option X)) (run : List X) (x : Option X)
     → Sees n passes front run → Sees n passes (front ++ x ∷ []) (run_with run x)
-sees_more n passes few fits decoded front run None sees =
-    sees_none n passes fits decoded front
-sees_more n passes few fits decoded front run (Some x) sees =
-    sees_some n passes few front run x sees
+sees_more n passes few fits decoded front run None sees = search (rules, sees_none)
+sees_more n passes few fits decoded front run (Some x) sees = search (rules, sees_some)
 
 sees_all : {X : Type 0} (n : ℕ) (passes : List (Option X) → Bool) → n ≤ 6 → Fits n passes
     → Decoded passes → (front : List (Option X)) (run : List X) (xs : List (Option X))
     → Sees n passes front run → Sees n passes (front ++ xs) (fold run_with run xs)
-sees_all n passes few fits decoded front run [] sees ys =
-    ap (λ l. passes (last n (l ++ ys))) (append-nil front) ∙ sees ys
+sees_all n passes few fits decoded front run [] sees ys = grind (arith, append-nil)
 sees_all n passes few fits decoded front run (x ∷ xs) sees ys =
     ap (λ l. passes (last n (l ++ ys))) (sym (append_assoc front (x ∷ []) xs))
     ∙ sees_all n passes few fits decoded (front ++ x ∷ []) (run_with run x) xs

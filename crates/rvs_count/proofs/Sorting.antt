@@ -1,15 +1,14 @@
 -- The points of a mnemonic, bucket by bucket.
-use Rattle.std.proofs.Common.{◌≡◌, ℕ, zero, suc, ◌+◌, ◌*◌, ◌/◌, ◌%◌, ◌<◌, Bool, true, false, ◌&&◌}
+use Rattle.std.proofs.Common.{◌≡◌, ℕ, zero, suc, ◌+◌, ◌*◌, ◌/◌, ◌%◌, ◌<◌}
 use Rattle.std.proofs.Common.{List, [], ◌∷◌, ◌++◌, refl, sym, ap, subst, ◌∙◌, arith, length, drop}
 use Rattle.std.proofs.Common.{get_or}
 use Rattle.std.proofs.lemmas.List.{append_assoc}
-use Rattle.std.specs.Prelude.{◌==◌}
 use Rattle.rvs_cgf.specs.declared.group.Label.{Label}
-use Rattle.rvs_count.specs.Buckets.{bucket_of, bucket_count}
+use Rattle.rvs_count.specs.Buckets.{bucket_count}
 use Rattle.rvs_count.specs.Counting.{Aim, aims_in}
-use Rattle.rvs_count.specs.Index.{PlacedPoint, place_of, places, places_for, in_bucket, insns_key}
+use Rattle.rvs_count.specs.Index.{place_of, places, places_for, in_bucket, insns_key}
 use Rattle.rvs_count.specs.Index.{is_for}
-use Rattle.rvs_count.specs.Index.{has_number, meaning_fits, IsIndex}
+use Rattle.rvs_count.specs.Index.{IsIndex}
 use Rattle.rvs_count.specs.declared.key.ListKey.TheVariants.{Any, Insns}
 use Rattle.rvs_count.specs.declared.slot.Slot.{Slot}
 
@@ -19,69 +18,21 @@ next_slot : (bucket : ℕ) (slots : List Slot) (k : ℕ) (d : Slot) → k < leng
     ≡ in_bucket bucket (place_of (get_or slots k d) ∷ [])
     ++ in_bucket bucket (places (drop (k + 1) slots))
 next_slot bucket [] k d h = absurd (omega arith)
-next_slot bucket (s ∷ slots) zero d h = turn (bucket_of (place_of s).0 == bucket)
-  where
-    turn : (b : Bool)
-        → (elim b as (λ _. List PlacedPoint) [
-          | true ↦ place_of s ∷ in_bucket bucket (places slots)
-          | false ↦ in_bucket bucket (places slots)
-        ])
-        ≡ (elim b as (λ _. List PlacedPoint) [ true ↦ place_of s ∷ [] | false ↦ [] ])
-        ++ in_bucket bucket (places slots)
-    turn true = refl
-    turn false = refl
-next_slot bucket (s ∷ slots) (suc k) d h =
-    let e : suc k + 1 ≡ suc (k + 1) = omega arith in
-    next_slot bucket slots k d (omega arith)
-    ∙ ap (λ n. in_bucket bucket (place_of (get_or slots k d) ∷ [])
-    ++ in_bucket bucket (places (drop n (s ∷ slots)))) (sym e)
+next_slot bucket (s ∷ slots) zero d h = grind arith
+next_slot bucket (s ∷ slots) (suc k) d h = grind (arith, (next_slot bucket slots k d (omega arith)))
 
 pub slot_more : (bucket : ℕ) (slots list list' : List Slot) (k : ℕ) (d : Slot) → k < length slots
     → places list' ≡ places list ++ in_bucket bucket (place_of (get_or slots k d) ∷ [])
     → places list' ++ in_bucket bucket (places (drop (k + 1) slots))
     ≡ places list ++ in_bucket bucket (places (drop k slots))
-slot_more bucket slots list list' k d h e =
-    let rest = in_bucket bucket (places (drop (k + 1) slots)) in
-    ap (λ l. l ++ rest) e
-    ∙ append_assoc (places list) (in_bucket bucket (place_of (get_or slots k d) ∷ [])) rest
-    ∙ ap (λ l. places list ++ l) (sym (next_slot bucket slots k d h))
+slot_more bucket slots list list' k d h e = grind (arith, append_assoc, next_slot)
 
 -- those of a bucket among those of a mnemonic
 bucket_for : (n bucket at : ℕ) (aims : List Aim)
     → in_bucket bucket (places_for (is_for (Any n)) at aims)
     ≡ places_for (is_for (Insns n bucket)) at aims
 bucket_for n bucket at [] = refl
-bucket_for n bucket at (a ∷ aims) =
-    turn (has_number n a.ops) (meaning_fits n a.point.meaning) (bucket_of a.point == bucket)
-    (bucket_for n bucket (at + 1) aims) refl
-  where
-    turn : (h f q : Bool)
-        → in_bucket bucket (places_for (is_for (Any n)) (at + 1) aims)
-        ≡ places_for (is_for (Insns n bucket)) (at + 1) aims
-        → (bucket_of a.point == bucket) ≡ q
-        → in_bucket bucket (elim (h && f) as (λ _. List PlacedPoint) [
-          | true ↦ (a.point, at) ∷ places_for (is_for (Any n)) (at + 1) aims
-          | false ↦ places_for (is_for (Any n)) (at + 1) aims
-        ])
-        ≡ (elim (h && (q && f)) as (λ _. List PlacedPoint) [
-          | true ↦ (a.point, at) ∷ places_for (is_for (Insns n bucket)) (at + 1) aims
-          | false ↦ places_for (is_for (Insns n bucket)) (at + 1) aims
-        ])
-    turn false f q rest e = rest
-    turn true false true rest e = rest
-    turn true false false rest e = rest
-    turn true true true rest e =
-        ap (λ b. elim b as (λ _. List PlacedPoint) [
-          | true ↦ (a.point, at) ∷ in_bucket bucket (places_for (is_for (Any n)) (at + 1) aims)
-          | false ↦ in_bucket bucket (places_for (is_for (Any n)) (at + 1) aims)
-        ]) e
-        ∙ ap (λ l. (a.point, at) ∷ l) rest
-    turn true true false rest e =
-        ap (λ b. elim b as (λ _. List PlacedPoint) [
-          | true ↦ (a.point, at) ∷ in_bucket bucket (places_for (is_for (Any n)) (at + 1) aims)
-          | false ↦ in_bucket bucket (places_for (is_for (Any n)) (at + 1) aims)
-        ]) e
-        ∙ rest
+bucket_for n bucket at (a ∷ aims) = grind (arith, (bucket_for n bucket (at + 1) aims))
 
 -- an element of a list with one more
 pushed_at : {X : Type 0} (P : ℕ → X → Type 0) (xs : List X) (x : X)

@@ -1,8 +1,7 @@
 -- What all the lists that are looked at add together.
 use Rattle.std.proofs.Common.{◌≡◌, ℕ, ◌+◌, Bool, true, false, ◌&&◌, List, []}
-use Rattle.std.proofs.Common.{◌∷◌, Option, Some, None, refl, sym, ap, ◌∙◌, length}
-use Rattle.std.proofs.Common.{arith}
-use Rattle.std.specs.Prelude.{◌==◌}
+use Rattle.std.proofs.Common.{◌∷◌, Option, Some, refl, sym, ◌∙◌, length}
+use Rattle.std.proofs.Common.{arith, rules}
 use Rattle.rvs_cgf.specs.Groups.{Point}
 use Rattle.rvs_cgf.specs.Hits.{has_op, holds}
 use Rattle.rvs_facts.specs.Facts.{facts_of}
@@ -26,68 +25,45 @@ total hit (o ∷ os) a = bit (is_seen o a.point && hit a) + total hit os a
 plus_none : (aims : List Aim) (cs : List ℕ) → plus (λ a. 0) aims cs ≡ cs
 plus_none [] cs = refl
 plus_none (a ∷ aims) [] = refl
-plus_none (a ∷ aims) (c ∷ cs) =
-    let z : c + 0 ≡ c = omega arith in ap (λ n. n ∷ plus (λ a. 0) aims cs) z
-    ∙ ap (λ l. c ∷ l) (plus_none aims cs)
+plus_none (a ∷ aims) (c ∷ cs) = grind (arith, (plus_none aims cs))
 
 plus_after : (p : Aim → Bool) (f : Aim → ℕ) (aims : List Aim) (cs : List ℕ)
     → plus f aims (added p aims cs) ≡ plus (λ a. bit (p a) + f a) aims cs
 plus_after p f [] cs = refl
 plus_after p f (a ∷ aims) [] = refl
-plus_after p f (a ∷ aims) (c ∷ cs) =
-    let e : c + bit (p a) + f a ≡ c + (bit (p a) + f a) = omega arith in
-    ap (λ n. n ∷ plus f aims (added p aims cs)) e
-    ∙ ap (λ l. (c + (bit (p a) + f a)) ∷ l) (plus_after p f aims cs)
+plus_after p f (a ∷ aims) (c ∷ cs) = grind (arith, bit, (plus_after p f aims cs))
 
 plus_is : (f : Aim → ℕ) (p : Aim → Bool) (aims : List Aim) (cs : List ℕ)
     → ((a : Aim) → f a ≡ bit (p a)) → plus f aims cs ≡ added p aims cs
 plus_is f p [] cs h = refl
 plus_is f p (a ∷ aims) [] h = refl
-plus_is f p (a ∷ aims) (c ∷ cs) h = ap (λ n. (c + n) ∷ plus f aims cs) (h a)
-    ∙ ap (λ l. (c + bit (p a)) ∷ l) (plus_is f p aims cs h)
+plus_is f p (a ∷ aims) (c ∷ cs) h = grind (arith, bit, (plus_is f p aims cs h))
 
 all_total : (hit : Aim → Bool) (os : List (Option ℕ)) (aims : List Aim) (cs : List ℕ)
     → added_all hit os aims cs ≡ plus (total hit os) aims cs
 all_total hit [] aims cs = sym (plus_none aims cs)
 all_total hit (o ∷ os) aims cs =
-    all_total hit os aims (added (λ a. is_seen o a.point && hit a) aims cs)
-    ∙ plus_after (λ a. is_seen o a.point && hit a) (total hit os) aims cs
+    simp (plus_after, (all_total hit os aims (added (λ a. is_seen o a.point && hit a) aims cs)))
 
 -- a point is in one list
 seen_bit : (o : Option ℕ) (p : Point) → bit (is_seen o p && true) ≡ bit (sees (bucket_of p) o)
-seen_bit None p = refl
-seen_bit (Some c) p = turn (bucket_of p == c)
-  where
-    turn : (b : Bool) → bit (b && true) ≡ bit b
-    turn true = refl
-    turn false = refl
+seen_bit o p = grind arith
 
 unseen_bit : (o : Option ℕ) (p : Point) → bit (is_seen o p && false) ≡ 0
-unseen_bit o p = turn (is_seen o p)
-  where
-    turn : (b : Bool) → bit (b && false) ≡ 0
-    turn true = refl
-    turn false = refl
+unseen_bit o p = grind (arith, bit)
 
 total_hit : (hit : Aim → Bool) (os : List (Option ℕ)) (a : Aim) → hit a ≡ true
     → total hit os a ≡ seen (bucket_of a.point) os
 total_hit hit [] a h = refl
-total_hit hit (o ∷ os) a h =
-    ap (λ b. bit (is_seen o a.point && b) + total hit os a) h
-    ∙ ap (λ n. n + total hit os a) (seen_bit o a.point)
-    ∙ ap (λ n. bit (sees (bucket_of a.point) o) + n) (total_hit hit os a h)
+total_hit hit (o ∷ os) a h = grind (arith, bit, seen_bit, sees, (total_hit hit os a h))
 
 total_missed : (hit : Aim → Bool) (os : List (Option ℕ)) (a : Aim) → hit a ≡ false
     → total hit os a ≡ 0
 total_missed hit [] a h = refl
-total_missed hit (o ∷ os) a h =
-    ap (λ b. bit (is_seen o a.point && b) + total hit os a) h
-    ∙ omega (arith, unseen_bit o a.point, total_missed hit os a h)
+total_missed hit (o ∷ os) a h = grind (arith, bit, unseen_bit, (total_missed hit os a h))
 
 both : (a b : Bool) → (a && b) ≡ true → b ≡ true
-both true true h = refl
-both true false h = cc
-both false b h = cc
+both a b h = grind arith
 
 total_one : (i : Fields) (v1 v2 : ℕ) (a : Aim)
     → total (λ a. hits_insn a (Some i) v1 v2) (visited (facts_of i v1 v2)) a
@@ -106,10 +82,7 @@ total_one i v1 v2 a = turn (hits_insn a (Some i) v1 v2) refl
 pub all_added : (i : Fields) (v1 v2 : ℕ) (aims : List Aim) (cs : List ℕ)
     → added_all (λ a. hits_insn a (Some i) v1 v2) (visited (facts_of i v1 v2)) aims cs
     ≡ added (λ a. hits_insn a (Some i) v1 v2) aims cs
-all_added i v1 v2 aims cs =
-    all_total (λ a. hits_insn a (Some i) v1 v2) (visited (facts_of i v1 v2)) aims cs
-    ∙ plus_is (total (λ a. hits_insn a (Some i) v1 v2) (visited (facts_of i v1 v2)))
-    (λ a. hits_insn a (Some i) v1 v2) aims cs (total_one i v1 v2)
+all_added i v1 v2 aims cs = search (rules, all_total, plus_is, total_one)
 
 -- where there are no counts
 pub none_to_add : (passes : Aim → Bool) (aims : List Aim) (cs : List ℕ) → length cs ≡ 0

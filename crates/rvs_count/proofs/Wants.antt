@@ -14,14 +14,11 @@ use Rattle.rvs_count.specs.Index.{insns_key, is_for, places, places_for, IsIndex
 use Rattle.rvs_count.specs.State.{added}
 use Rattle.rvs_count.specs.Wanted.{from_of, to_of, wants, AreEmpty, HasWanted, IsWanted}
 use Rattle.rvs_count.specs.declared.asked.Asked.{Asked}
-use Rattle.rvs_count.specs.declared.asked.Asked.TheVariants.{Rd, Rs1, Rs2, Rs1Val, Rs2Val, ImmVal}
-use Rattle.rvs_count.specs.declared.asked.Asked.TheVariants.{EaAlign}
 use Rattle.rvs_count.specs.declared.slot.Slot.{Slot}
 use Rattle.rvs_count.specs.declared.wanted.Wanted.{Wanted}
 use Rattle.rvs_count.proofs.Marks.{pushed_each}
 use Rattle.rvs_count.proofs.Cells.{sight_none}
 use Rattle.rvs_count.proofs.Places.{added_bucket, none_added}
-use Rattle.rvs_count.proofs.Seen.{residue_low}
 
 -- what seven tests say
 pub wanted_is : (lists : List (List Slot)) (m : ℕ) (a b c d e f g : Bool)
@@ -41,20 +38,7 @@ pub wanted_is : (lists : List (List Slot)) (m : ℕ) (a b c d e f g : Bool)
       imm_val = f;
       ea_align = g;
     })
-wanted_is lists m a b c d e f g at bt ct dt et ft gt = record { each = each }
-  where
-    w : Wanted
-    w = record { rd = a; rs1 = b; rs2 = c; rs1_val = d; rs2_val = e; imm_val = f; ea_align = g }
-
-    each : (q : Asked) → wants w q ≡ false
-        → AreEmpty lists (m * bucket_count + from_of q) (m * bucket_count + to_of q)
-    each Rd h = at h
-    each Rs1 h = bt h
-    each Rs2 h = ct h
-    each Rs1Val h = dt h
-    each Rs2Val h = et h
-    each ImmVal h = ft h
-    each EaAlign h = gt h
+wanted_is lists m a b c d e f g at bt ct dt et ft gt = grind arith
 
 -- one more mnemonic
 pub more_wanted : (lists : List (List Slot)) (ws ws' : List Wanted) (n : ℕ) (w : Wanted)
@@ -68,22 +52,10 @@ more_wanted lists ws ws' n w has len is e =
 
 -- a value's list is among those for its fact
 in_range : (q : Asked) (z : ℤ) → (from_of q ≤ asked_bucket q z) × (asked_bucket q z < to_of q)
-in_range Rd z = (omega arith, omega arith)
-in_range Rs1 z = (omega arith, omega arith)
-in_range Rs2 z = (omega arith, omega arith)
-in_range Rs1Val z = (omega arith, omega (arith, residue_low z))
-in_range Rs2Val z = (omega arith, omega (arith, residue_low z))
-in_range ImmVal z = (omega arith, omega (arith, residue_low z))
-in_range EaAlign z = (omega arith, omega (arith, residue_low z))
+in_range q z = grind arith
 
 top : (q : Asked) → to_of q ≤ bucket_count
-top Rd = omega arith
-top Rs1 = omega arith
-top Rs2 = omega arith
-top Rs1Val = omega arith
-top Rs2Val = omega arith
-top ImmVal = omega arith
-top EaAlign = omega arith
+top q = grind arith
 
 -- what isn't wanted adds nothing
 pub unwanted : (labels : List Label) (lists : List (List Slot)) (i : Fields) (v1 v2 n : ℕ)

@@ -1,10 +1,7 @@
-pub mod Bounds
 pub mod Buckets
 pub mod Cells
 pub mod Counting
 pub mod Entries
-pub mod Feeds
-pub mod Progress
 pub mod Index
 pub mod Marks
 pub mod Report

@@ -1,11 +1,12 @@
 -- What a counter has after some bytes of a log.
-use Rattle.std.specs.Prelude.{ℕ, ◌+◌, ◌==◌, ◌||◌, Bool, true, false, if◌then◌else◌, List, [], ◌∷◌}
-use Rattle.std.specs.Prelude.{◌++◌, cond, map, length, Option, Some}
+use Rattle.std.specs.Prelude.{ℕ, ◌+◌, ◌≤◌, ◌||◌, Bool, true, false, if◌then◌else◌, List, [], ◌∷◌}
+use Rattle.std.specs.Prelude.{cond, map, length, Option, Some}
 use Rattle.std.specs.List.{list_any}
+use Rattle.std.proofs.Common.{arith}
 use Rattle.rvs_log.specs.Grammar.{Reading, Says, Writes, Nothing}
-use Rattle.rvs_log.specs.Lines.{whole_lines, tail_of, line_says, held, held_more, held_says}
 use Rattle.rvs_log.specs.Entries.{Entry, Heard, unheard, hear, heard, heard_write, entry_at}
 use Rattle.rvs_log.specs.Entries.{entries_in}
+use Rattle.rvs_log.specs.Taken.{Taken, state_for}
 use Rattle.rvs_cgf.specs.Groups.{Meaning, window}
 use Rattle.rvs_cgf.specs.declared.group.Label.{Label}
 use Rattle.rvs_cross.specs.Windows.{matches}
@@ -37,12 +38,8 @@ pub record Tallied : Type 0 where
   pub run : List Fields
   pub heard : Heard
 
-pub record CountState : Type 0 where
-  pub tally : Tallied
-  -- what has come of the line that is still open, or none where that is over 4,096 bytes
-  pub waiting : Option (List ℕ)
-  -- how many bytes were fed
-  pub fed : ℕ
+abbrev pub CountState : Type 0
+CountState = Taken Tallied
 
 -- what these instructions and these lines lead to
 abbrev pub tally_from : List Label → List Window → List Entry → Heard → Tallied
@@ -61,16 +58,9 @@ abbrev pub tally_of : List Label → List Window → List Reading → Tallied
 tally_of labels windows readings =
     tally_from labels windows (kept windows (entries_in unheard readings)) (heard unheard readings)
 
-abbrev pub state_with : Tallied → Option (List ℕ) → ℕ → CountState
-state_with tally waiting fed = record { tally = tally; waiting = waiting; fed = fed }
-
-abbrev pub state_at : List Label → List Window → List (List ℕ) → List ℕ → ℕ → CountState
-state_at labels windows lines tail n =
-    state_with (tally_of labels windows (map line_says lines)) (held tail) n
-
 -- the state of some bytes, after n were fed
-unfoldable pub state_of : List Label → List Window → List ℕ → ℕ → CountState
-state_of labels windows bytes n = state_at labels windows (whole_lines bytes) (tail_of bytes) n
+abbrev pub state_of : List Label → List Window → List ℕ → ℕ → CountState
+state_of labels windows bytes n = state_for (tally_of labels windows) bytes n
 
 -- one more for each point that passes
 abbrev pub added : (Aim → Bool) → List Aim → List ℕ → List ℕ
@@ -108,24 +98,14 @@ with_reading t (Says pc word w) =
 with_reading t (Writes w) = record t { heard = heard_write t.heard w }
 with_reading t Nothing = t
 
--- after a line feed
-abbrev pub with_end : CountState → CountState
-with_end s = state_with (with_reading s.tally (held_says s.waiting)) (Some []) s.fed
-
--- after bytes without a line feed
-abbrev pub with_bytes : CountState → List ℕ → CountState
-with_bytes s more = state_with s.tally (held_more s.waiting more) s.fed
-
--- after more bytes, which aren't counted as fed
-abbrev pub with_all : CountState → List ℕ → CountState
-with_all s [] = s
-with_all s (b ∷ bs) =
-    elim (b == 10) [ true ↦ with_all (with_end s) bs | false ↦ with_all (with_bytes s (b ∷ [])) bs ]
-
--- bytes ended by a line feed, where the last line lacks one
-abbrev pub ended_by : List ℕ → List ℕ → List ℕ
-ended_by [] bytes = bytes
-ended_by (b ∷ bs) bytes = bytes ++ 10 ∷ []
-
-abbrev pub ended : List ℕ → List ℕ
-ended bytes = ended_by (tail_of bytes) bytes
+-- a line adds at most one instruction
+pub reading_adds : (t : Tallied) (r : Reading)
+    → (with_reading t r).instructions ≤ t.instructions + 1
+reading_adds t Nothing = omega arith
+reading_adds t (Writes w) = omega arith
+reading_adds t (Says pc word w) = turn (is_in t.windows pc)
+  where
+    turn : (b : Bool)
+        → (with_entry t b (entry_at t.heard.words pc word)).instructions ≤ t.instructions + 1
+    turn true = omega arith
+    turn false = omega arith

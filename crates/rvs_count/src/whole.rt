@@ -1,13 +1,10 @@
 // Counting in a log that is there whole.
-ghost use Rattle.std.specs.Prelude.{◌≡◌, ◌≤◌, ◌+◌, ◌^◌, ℕ, List, ◌++◌, IfOk, length, map};
+ghost use Rattle.std.specs.Prelude.{◌≡◌, ◌≤◌, ◌^◌, IfOk, length, map};
 ghost use Rattle.rvs_log.specs.Entries.{entries_of};
-ghost use Rattle.rvs_cgf.specs.declared.group.Label.{Label as Group};
 ghost use Rattle.rvs_count.specs.Counting.{aims_in, count, kept};
-ghost use Rattle.rvs_base.specs.declared.asked.Window.{Window as Span};
-ghost use Rattle.rvs_count.specs.State.{state_of};
 ghost use Rattle.rvs_log.specs.Lines.{log_limit};
 
-use crate::counter::Counter;
+use crate::counter::new_counter;
 use rvs_base::{Items, NoMemory, Window};
 use rvs_cgf::Groups;
 use std::alloc::Global;
@@ -17,20 +14,6 @@ use std::alloc::Global;
 pub struct Counted {
     pub counts: Items<u64>,
     pub instructions: u64,
-}
-
-/// Feeds a whole log to a new counter.
-fn feed_whole(counter: &mut Counter<'_>, log: &[u8])
-    requires new { counter.old.fed ≡ 0 }
-    requires short { length log.now ≤ log_limit }
-    ensures { (labels : List Group) (windows : List Span) (bytes : List ℕ) (n : ℕ) →
-        counter.old ≡ state_of labels windows bytes n →
-        counter.new ≡ state_of labels windows (bytes ++ log.now) (n + length log.now) }
-{
-    match counter.feed(log) {
-        Ok(()) => {},
-        Err(_) => unreachable!(),
-    }
 }
 
 /// Counts in a log that is there whole, of at most 2^40 bytes.
@@ -50,12 +33,12 @@ pub fn count_log(
     ensures instructions { IfOk result (λ c. c.instructions
         ≡ length (kept windows (entries_of log.now))) }
 {
-    let mut counter = Counter::new(alloc, groups, windows)?;
-    feed_whole(&mut counter, log);
-    counter.finish();
-    let counts = Vec::from_slice(alloc, counter.counts())?;
+    let mut counter = new_counter(alloc, groups, windows)?;
+    counter.read_whole(log);
+    let tally = counter.told();
+    let counts = Vec::from_slice(alloc, tally.counts())?;
     Ok(Counted {
         counts: Items::from(counts),
-        instructions: counter.instructions(),
+        instructions: tally.instructions(),
     })
 }

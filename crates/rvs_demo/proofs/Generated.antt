@@ -1,5 +1,5 @@
 -- One more of the instructions that are drawn.
-use Rattle.std.proofs.Common.{◌≡◌, ℕ, suc, ◌+◌, ◌-◌, ◌<◌, ◌/◌, List, ◌++◌, sym, ap, ◌∙◌}
+use Rattle.std.proofs.Common.{◌≡◌, ℕ, ◌+◌, ◌-◌, ◌<◌, ◌/◌, List, ◌++◌}
 use Rattle.std.proofs.Common.{append_assoc, arith}
 use Rattle.std.proofs.lemmas.List.Concat.{flat_map-cons}
 use Rattle.std.specs.Int.{w32, to_le_bytes}
@@ -13,20 +13,10 @@ bytes_of i = to_le_bytes w32 (word_of i)
 split : (n i s : ℕ) → i < n
     → code (generated (n - i) s)
     ≡ bytes_of (drawn (next_seed s / 256)) ++ code (generated (n - (i + 1)) (next_seed s))
-split n i s less =
-    let e : n - i ≡ suc (n - (i + 1)) = omega arith in
-    ap (λ k. code (generated k s)) e
-    ∙ flat_map-cons bytes_of (drawn (next_seed s / 256)) (generated (n - (i + 1)) (next_seed s))
+split n i s less = grind (arith, flat_map-cons)
 
 pub generated_next : (old now new all : List ℕ) (n i s next : ℕ) → i < n
     → old ++ all ≡ now ++ code (generated (n - i) s) → next ≡ next_seed s
     → new ≡ now ++ bytes_of (drawn (next / 256))
     → old ++ all ≡ new ++ code (generated (n - (i + 1)) next)
-generated_next old now new all n i s next less inv is pushed =
-    let rest = code (generated (n - (i + 1)) next) in
-    let more :
-    bytes_of (drawn (next_seed s / 256)) ++ code (generated (n - (i + 1)) (next_seed s))
-    ≡ bytes_of (drawn (next / 256)) ++ rest =
-    ap (λ k. bytes_of (drawn (k / 256)) ++ code (generated (n - (i + 1)) k)) (sym is) in
-    inv ∙ ap (λ l. now ++ l) (split n i s less ∙ more)
-    ∙ sym (append_assoc now (bytes_of (drawn (next / 256))) rest) ∙ ap (λ l. l ++ rest) (sym pushed)
+generated_next old now new all n i s next less inv is pushed = grind (arith, split, append_assoc)

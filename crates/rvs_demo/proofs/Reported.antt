@@ -1,9 +1,7 @@
 -- What the counter reports of the run.
 use Rattle.std.proofs.Common.{◌≡◌, ℕ, zero, suc, ◌+◌, List, [], ◌∷◌, refl, ap, subst, ◌∙◌, length}
 use Rattle.std.proofs.Common.{map, replicate, arith}
-use Rattle.std.specs.Int.{w32, to_le_bytes}
 use Rattle.rvs_insn.specs.Fields.{Fields}
-use Rattle.rvs_insn.specs.Word.{word_of}
 use Rattle.rvs_cgf.specs.GroupView.{label_view}
 use Rattle.rvs_cgf.specs.Groups as group
 use Rattle.rvs_cgf.specs.declared.group.Label.{Label}
@@ -15,9 +13,12 @@ use Rattle.rvs_log.proofs.Octets.{AreBytes, bytes_below, joined, word_bytes}
 use Rattle.rvs_log.proofs.RunLogs.{run_entries}
 use Rattle.rvs_count.specs.Counting.{aims_of, count, kept}
 use Rattle.rvs_count.specs.Report.{report_of}
-use Rattle.rvs_count.specs.State.{CountState, state_of, ended}
-use Rattle.rvs_count.specs.Feeds.{Fed}
+use Rattle.rvs_log.specs.Taken.{IsTold, ended, state_for}
+use Rattle.rvs_log.specs.Grammar.{Reading}
+use Rattle.rvs_count.specs.State.{CountState, Tallied, state_of, tally_of, with_reading}
+use Rattle.rvs_log.specs.Feeds.{Fed}
 use Rattle.rvs_base.specs.declared.asked.Window.{Window}
+use Rattle.rvs_count.proofs.Streams.{tally_told}
 use Rattle.rvs_count.proofs.Ends.{counted_all, counted_instructions, counted_labels}
 use Rattle.rvs_demo.specs.Program.{code, core, image, program}
 use Rattle.rvs_demo.specs.Label.{label}
@@ -26,8 +27,7 @@ use Rattle.rvs_demo.specs.Demo.{run, entries, report}
 -- ---- the log has the run's instructions as its entries
 code_bytes : (is : List Fields) → AreBytes (code is)
 code_bytes [] = tt
-code_bytes (i ∷ is) =
-    joined (to_le_bytes w32 (word_of i)) (code is) (word_bytes (word_of i)) (code_bytes is)
+code_bytes (i ∷ is) = grind (arith, joined, word_bytes, (code_bytes is))
 
 zero_bytes : (n : ℕ) → AreBytes (replicate n 0)
 zero_bytes zero = tt
@@ -47,7 +47,7 @@ all_kept (e ∷ es) = ap (λ l. e ∷ l) (all_kept es)
 
 -- ---- what is reported
 abbrev pub report_in : CountState → List ℕ
-report_in s = report_of (map label_view s.tally.labels) s.tally.counts s.tally.instructions
+report_in s = report_of (map label_view s.told.labels) s.told.counts s.told.instructions
 
 abbrev reported : List group.Label → List Entry → List ℕ
 reported labels es = report_of labels (map (count es) (aims_of labels)) (length es)
@@ -70,14 +70,17 @@ run_log n m is = ap (λ (m : Whole). log_of (run_of m.setup (n + 11) m.state).tr
 pub fed_report : (n : ℕ) (m : Whole) (labels : List Label) (windows : List Window)
     (first now last : CountState) → m ≡ started (image n) core → windows ≡ []
     → map label_view labels ≡ label ∷ [] → first ≡ state_of labels windows [] 0
-    → Fed first now (log_of (run_of m.setup (n + 11) m.state).trace)
-    → ((labels : List Label) (windows : List Window) (bytes : List ℕ) (k : ℕ)
-    → now ≡ state_of labels windows bytes k → last ≡ state_of labels windows (ended bytes) k)
+    → Fed with_reading first now (log_of (run_of m.setup (n + 11) m.state).trace)
+    → ((told : List Reading → Tallied) → IsTold with_reading told → (bytes : List ℕ) (k : ℕ)
+    → now ≡ state_for told bytes k → last ≡ state_for told (ended bytes) k)
     → report_in last ≡ report n
 fed_report n m labels windows first now last machine none groups start fed finish =
     let log = log_of (run n).trace in
-    let whole : Fed first now log = subst (Fed first now) (run_log n m machine) fed in
+    let whole : Fed with_reading first now log =
+    subst (Fed with_reading first now) (run_log n m machine) fed in
     let k = 0 + length log in
-    ap report_in (finish labels windows log k (whole.state labels windows [] 0 start))
+    let told = tally_of labels windows in
+    let is = tally_told labels windows in
+    ap report_in (finish told is log k (whole.state told is [] 0 start))
     ∙ ap (λ ws. report_in (state_of labels ws (ended log) k)) none
     ∙ run_report labels n k groups

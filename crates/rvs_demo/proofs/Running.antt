@@ -1,16 +1,14 @@
 -- What a run logs, step by step, and what a counter was fed of it.
-use Rattle.std.proofs.Common.{◌≡◌, ℕ, suc, ◌+◌, ◌-◌, ◌*◌, ◌<◌, ◌≤◌, true, false, List, [], ◌∷◌}
-use Rattle.std.proofs.Common.{◌++◌, Some, refl, sym, ap, subst, ◌∙◌, append_assoc, append-nil}
-use Rattle.std.proofs.Common.{arith}
+use Rattle.std.proofs.Common.{◌≡◌, ℕ, suc, ◌+◌, ◌-◌, ◌*◌, ◌<◌, ◌≤◌, true, false, List, []}
+use Rattle.std.proofs.Common.{◌++◌, Some, sym, ap, subst, ◌∙◌, append_assoc}
+use Rattle.std.proofs.Common.{arith, rules}
 use Rattle.rvs_machine.specs.declared.event.Event.{Event}
-use Rattle.rvs_machine.specs.declared.event.Event.TheVariants.{Ran, Halted, Trapped}
 use Rattle.rvs_machine.specs.Machine.{Setup, State, Whole, step_of}
 use Rattle.rvs_machine.specs.Run.{Outcome, follow, run_of}
 use Rattle.rvs_log.specs.Logs.{log_of}
-use Rattle.rvs_log.specs.Written.{line_of}
-use Rattle.rvs_count.specs.State.{CountState}
-use Rattle.rvs_count.specs.Feeds.{Fed}
-use Rattle.rvs_count.proofs.Feeding.{Fed-none, Fed-more}
+use Rattle.rvs_count.specs.State.{CountState, with_reading}
+use Rattle.rvs_log.specs.Feeds.{Fed}
+use Rattle.rvs_log.proofs.Feeding.{Fed-more}
 use Rattle.rvs_demo.specs.Counted.{executed_in, goes_on}
 
 -- the log of a run of at most n steps
@@ -23,16 +21,11 @@ piece_of setup s = log_of (executed_in (step_of setup s).0)
 
 after_event : (go : State → Outcome) (ev : Event) (s : State) → goes_on ev ≡ true
     → log_of (follow go ev s).trace ≡ log_of (executed_in ev) ++ log_of (go s).trace
-after_event go (Ran e) s h =
-    ap (λ l. l ++ log_of (go s).trace) (sym (append-nil (line_of e ++ 10 ∷ [])))
-after_event go (Halted e) s h = absurd cc
-after_event go (Trapped t) s h = absurd cc
+after_event go ev s h = search rules
 
 at_event : (go : State → Outcome) (ev : Event) (s : State) → goes_on ev ≡ false
     → log_of (follow go ev s).trace ≡ log_of (executed_in ev)
-at_event go (Ran e) s h = absurd cc
-at_event go (Halted e) s h = refl
-at_event go (Trapped t) s h = refl
+at_event go ev s h = grind arith
 
 log_goes : (setup : Setup) (n : ℕ) (s : State) → goes_on (step_of setup s).0 ≡ true
     → log_from setup (suc n) s ≡ piece_of setup s ++ log_from setup n (step_of setup s).1
@@ -49,7 +42,7 @@ stepped m = record m { state = (step_of m.setup m.state).1 }
 -- i steps of a run were made, and the counter was fed what they log
 pub record Running (limit i : ℕ) (first now : Whole) (old new : CountState) : Type 0 where
   pub done : List ℕ
-  pub fed : Fed old new done
+  pub fed : Fed with_reading old new done
   pub log : log_from first.setup limit first.state
       ≡ done ++ log_from now.setup (limit - i) now.state
   pub low : new.fed ≤ old.fed + 51 * i
@@ -57,20 +50,12 @@ pub record Running (limit i : ℕ) (first now : Whole) (old new : CountState) : 
 
 pub Running-start : (limit : ℕ) (m : Whole) (c : CountState) → c.waiting ≡ Some []
     → Running limit 0 m m c c
-Running-start limit m c begun =
-    let e : limit ≡ limit - 0 = omega arith in
-    record {
-      done = [];
-      fed = Fed-none c;
-      log = ap (λ n. log_from m.setup n m.state) e;
-      low = omega arith;
-      begun = begun;
-    }
+Running-start limit m c begun = search rules
 
 pub Running-more : (limit i : ℕ) (first now next : Whole) (old mid new : CountState) → i < limit
     → Running limit i first now old mid → goes_on (step_of now.setup now.state).0 ≡ true
-    → next ≡ stepped now → Fed mid new (piece_of now.setup now.state) → new.fed ≤ mid.fed + 51
-    → new.waiting ≡ Some [] → Running limit (i + 1) first next old new
+    → next ≡ stepped now → Fed with_reading mid new (piece_of now.setup now.state)
+    → new.fed ≤ mid.fed + 51 → new.waiting ≡ Some [] → Running limit (i + 1) first next old new
 Running-more limit i first now next old mid new less r goes is fed low begun =
     let left = limit - (i + 1) in
     let e : limit - i ≡ suc left = omega arith in
@@ -93,8 +78,8 @@ Running-more limit i first now next old mid new less r goes is fed low begun =
 -- all of it, where the run ends before its limit
 pub Running-stops : (limit i : ℕ) (first now : Whole) (old mid new : CountState) → i < limit
     → Running limit i first now old mid → goes_on (step_of now.setup now.state).0 ≡ false
-    → Fed mid new (piece_of now.setup now.state)
-    → Fed old new (log_from first.setup limit first.state)
+    → Fed with_reading mid new (piece_of now.setup now.state)
+    → Fed with_reading old new (log_from first.setup limit first.state)
 Running-stops limit i first now old mid new less r stops fed =
     let left = limit - (i + 1) in
     let e : limit - i ≡ suc left = omega arith in
@@ -102,5 +87,5 @@ Running-stops limit i first now old mid new less r stops fed =
     ≡ r.done ++ piece_of now.setup now.state =
     r.log ∙ ap (λ n. r.done ++ log_from now.setup n now.state) e
     ∙ ap (λ l. r.done ++ l) (log_stops now.setup left now.state stops) in
-    subst (Fed old new) (sym all)
+    subst (Fed with_reading old new) (sym all)
     (Fed-more old mid new r.done (piece_of now.setup now.state) r.fed fed)

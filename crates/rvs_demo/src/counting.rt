@@ -3,7 +3,8 @@ ghost use Rattle.std.specs.Prelude.{◌≡◌, ◌≤◌, ◌+◌, ◌*◌, Some
 ghost use Rattle.rvs_machine.specs.Machine.{step_of};
 ghost use Rattle.rvs_machine.specs.Run.{run_of};
 ghost use Rattle.rvs_log.specs.Logs.{log_of};
-ghost use Rattle.rvs_count.specs.Feeds.{Fed};
+ghost use Rattle.rvs_log.specs.Feeds.{Fed};
+ghost use Rattle.rvs_count.specs.State.{with_reading};
 ghost use Rattle.rvs_demo.specs.Counted.{executed_in, goes_on};
 ghost use Rattle.rvs_log.specs.Lines.{log_limit};
 
@@ -17,7 +18,7 @@ fn count_step(machine: &mut Machine, counter: &mut Counter<'_>) -> bool
     ensures goes { result ≡ goes_on (step_of machine.old.setup machine.old.state).0 }
     ensures machine { machine.new
         ≡ record machine.old { state = (step_of machine.old.setup machine.old.state).1 } }
-    ensures counted { Fed counter.old counter.new
+    ensures counted { Fed with_reading counter.old counter.new
         (log_of (executed_in (step_of machine.old.setup machine.old.state).0)) }
     ensures low { counter.new.fed ≤ counter.old.fed + 51 }
     ensures begun { counter.new.waiting ≡ Some [] }
@@ -36,7 +37,7 @@ fn count_step(machine: &mut Machine, counter: &mut Counter<'_>) -> bool
 pub(crate) fn count_run(machine: &mut Machine, counter: &mut Counter<'_>, limit: u64)
     requires begun { counter.old.waiting ≡ Some [] }
     requires few { counter.old.fed + 51 * limit ≤ log_limit }
-    ensures { Fed counter.old counter.new
+    ensures { Fed with_reading counter.old counter.new
         (log_of (run_of machine.old.setup limit machine.old.state).trace) }
 {
     for _ in 0..limit {

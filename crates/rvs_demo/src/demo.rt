@@ -9,7 +9,7 @@ use crate::label::label;
 use crate::program::{CORE, image};
 use rvs_base::{DemoSize, Items, NoMemory, Text};
 use rvs_cgf::Groups;
-use rvs_count::Counter;
+use rvs_count::new_counter;
 use rvs_machine::Machine;
 use std::alloc::Global;
 
@@ -29,10 +29,10 @@ fn report(alloc: Global, count: u64) -> Result<Text, NoMemory>
 {
     let groups = groups(alloc)?;
     let mut machine = Machine::new(image(alloc, count)?, CORE);
-    let mut counter = Counter::new(alloc, &groups, Items::new(alloc))?;
+    let mut counter = new_counter(alloc, &groups, Items::new(alloc))?;
     count_run(&mut machine, &mut counter, count + 11);
     counter.finish();
-    counter.report(alloc)
+    counter.told().report(alloc)
 }
 
 /// Runs the program with so many generated instructions, and counts its coverage: what is executed

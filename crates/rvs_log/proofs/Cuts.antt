@@ -2,7 +2,7 @@
 use Rattle.std.proofs.Common.{◌≡◌, ℕ, zero, suc, ◌+◌, ◌<◌, ◌≤◌, Bool, true, false, cond, List, []}
 use Rattle.std.proofs.Common.{◌∷◌, ◌++◌, Option, Some, None, refl, sym, ap, subst, ◌∙◌, length}
 use Rattle.std.proofs.Common.{take, drop, get_or, arith, append_assoc, append-nil, length-append}
-use Rattle.std.proofs.Common.{length-drop}
+use Rattle.std.proofs.Common.{length-drop, rules}
 use Rattle.std.proofs.lemmas.Bool.Decides.{nat_tests}
 use Rattle.std.specs.Prelude.{◌==◌, nat_le}
 use Rattle.rvs_log.specs.Lines.{held, held_more}
@@ -10,32 +10,17 @@ use Rattle.rvs_log.specs.Cutting.{held_after, lines_held, lines_after}
 
 -- ---- bytes that wait
 held_long : (t more : List ℕ) → nat_le (length t) 4096 ≡ false → None ≡ held (t ++ more)
-held_long t more h =
-    sym (ap (λ b. cond b (Some (t ++ more)) None)
-    (longer (length t) (length more) (length (t ++ more)) h (length-append t more)))
-  where
-    longer : (a b c : ℕ) → nat_le a 4096 ≡ false → c ≡ a + b → nat_le c 4096 ≡ false
-    longer a b c h e = grind (arith, nat_tests)
+held_long t more h = grind (arith, length-append)
 
 held_more_held : (t more : List ℕ) → held_more (held t) more ≡ held (t ++ more)
-held_more_held t [] = ap held (sym (append-nil t))
-held_more_held t (c ∷ cs) = turn (nat_le (length t) 4096) refl
-  where
-    turn : (b : Bool) → nat_le (length t) 4096 ≡ b
-        → held_more (cond b (Some t) None) (c ∷ cs) ≡ held (t ++ c ∷ cs)
-    turn true h = refl
-    turn false h = held_long t (c ∷ cs) h
+held_more_held t more = search (rules, append-nil, held_long)
 
 held_more_none : (c : List ℕ) → held_more None c ≡ None
-held_more_none [] = refl
-held_more_none (x ∷ c) = refl
+held_more_none c = grind arith
 
 held_more_twice : (w : Option (List ℕ)) (a c : List ℕ)
     → held_more (held_more w a) c ≡ held_more w (a ++ c)
-held_more_twice w [] c = refl
-held_more_twice None (x ∷ a) c = held_more_none c
-held_more_twice (Some bytes) (x ∷ a) c = held_more_held (bytes ++ x ∷ a) c
-    ∙ ap held (append_assoc bytes (x ∷ a) c)
+held_more_twice w a c = search (rules, held_more_none, held_more_held, append_assoc)
 
 -- ---- going over bytes
 abbrev feedless : List ℕ → Type 0
@@ -83,66 +68,20 @@ held_join : (w : Option (List ℕ)) (a b : List ℕ)
     → held_after w (a ++ b) ≡ held_after (held_after w a) b
 held_join w [] b = refl
 held_join w (x ∷ a) b =
-    turn (x == 10) (held_join (Some []) a b) (held_join (held_more w (x ∷ [])) a b)
-  where
-    turn : (t : Bool) → held_after (Some []) (a ++ b) ≡ held_after (held_after (Some []) a) b
-        → held_after (held_more w (x ∷ [])) (a ++ b)
-        ≡ held_after (held_after (held_more w (x ∷ [])) a) b
-        → (elim t as (λ _. Option (List ℕ)) [
-          | true ↦ held_after (Some []) (a ++ b)
-          | false ↦ held_after (held_more w (x ∷ [])) (a ++ b)
-        ])
-        ≡ held_after (elim t as (λ _. Option (List ℕ)) [
-          | true ↦ held_after (Some []) a
-          | false ↦ held_after (held_more w (x ∷ [])) a
-        ]) b
-    turn true p q = p
-    turn false p q = q
+    grind (arith, (held_join (Some []) a b), (held_join (held_more w (x ∷ [])) a b))
 
 lines_join : (w : Option (List ℕ)) (a b : List ℕ)
     → lines_after w (a ++ b) ≡ lines_after w a ++ lines_after (held_after w a) b
 lines_join w [] b = refl
 lines_join w (x ∷ a) b =
-    turn (x == 10) (lines_join (Some []) a b) (lines_join (held_more w (x ∷ [])) a b)
-  where
-    turn : (t : Bool)
-        → lines_after (Some []) (a ++ b)
-        ≡ lines_after (Some []) a ++ lines_after (held_after (Some []) a) b
-        → lines_after (held_more w (x ∷ [])) (a ++ b)
-        ≡ lines_after (held_more w (x ∷ [])) a
-        ++ lines_after (held_after (held_more w (x ∷ [])) a) b
-        → (elim t as (λ _. List (List ℕ)) [
-          | true ↦ lines_held w ++ lines_after (Some []) (a ++ b)
-          | false ↦ lines_after (held_more w (x ∷ [])) (a ++ b)
-        ])
-        ≡ (elim t as (λ _. List (List ℕ)) [
-          | true ↦ lines_held w ++ lines_after (Some []) a
-          | false ↦ lines_after (held_more w (x ∷ [])) a
-        ])
-        ++ lines_after (elim t as (λ _. Option (List ℕ)) [
-          | true ↦ held_after (Some []) a
-          | false ↦ held_after (held_more w (x ∷ [])) a
-        ]) b
-    turn true p q = ap (λ l. lines_held w ++ l) p
-        ∙ sym (append_assoc (lines_held w) (lines_after (Some []) a)
-        (lines_after (held_after (Some []) a) b))
-    turn false p q = q
+    grind (arith, append_assoc, (lines_join (Some []) a b), (lines_join (held_more w (x ∷ [])) a b))
 
 -- ---- a line feed
 take_line : (hay : List ℕ) (end : ℕ) → end < length hay → (get_or hay end 0 == 10) ≡ true
     → take (end + 1) hay ≡ take end hay ++ 10 ∷ []
 take_line [] end h e = absurd (omega arith)
-take_line (b ∷ bs) zero h e = ap (λ c. c ∷ take 0 bs) (is_ten b e) ∙ ap (λ l. 10 ∷ l) (take_none bs)
-  where
-    is_ten : (c : ℕ) → (c == 10) ≡ true → c ≡ 10
-    is_ten c e = grind (arith, nat_tests)
-
-    take_none : (xs : List ℕ) → take 0 xs ≡ []
-    take_none [] = refl
-    take_none (x ∷ xs) = refl
-take_line (b ∷ bs) (suc end) h e =
-    let k : suc end + 1 ≡ suc (end + 1) = omega arith in ap (λ n. take n (b ∷ bs)) k
-    ∙ ap (λ l. b ∷ l) (take_line bs end (omega arith) e)
+take_line (b ∷ bs) zero h e = grind arith
+take_line (b ∷ bs) (suc end) h e = grind (arith, (take_line bs end (omega arith) e))
 
 take_twice : (a b : ℕ) (xs : List ℕ) → a ≤ length xs
     → take (a + b) xs ≡ take a xs ++ take b (drop a xs)
@@ -156,17 +95,13 @@ take_twice (suc a) b (x ∷ xs) h =
 held_line : (w : Option (List ℕ)) (hay : List ℕ) (end : ℕ) → end < length hay
     → ((k : ℕ) → 0 ≤ k → k < end → (get_or hay k 0 == 10) ≡ true → ⊥)
     → (get_or hay end 0 == 10) ≡ true → held_after w (take (end + 1) hay) ≡ Some []
-held_line w hay end within none here = ap (λ l. held_after w l) (take_line hay end within here)
-    ∙ held_feedless w (take end hay) (10 ∷ []) (feedless_take hay end none)
+held_line w hay end within none here = simp (take_line, held_feedless, feedless_take)
 
 lines_line : (w : Option (List ℕ)) (hay : List ℕ) (end : ℕ) → end < length hay
     → ((k : ℕ) → 0 ≤ k → k < end → (get_or hay k 0 == 10) ≡ true → ⊥)
     → (get_or hay end 0 == 10) ≡ true
     → lines_after w (take (end + 1) hay) ≡ lines_held (held_more w (take end hay))
-lines_line w hay end within none here =
-    ap (λ l. lines_after w l) (take_line hay end within here)
-    ∙ lines_feedless w (take end hay) (10 ∷ []) (feedless_take hay end none)
-    ∙ append-nil (lines_held (held_more w (take end hay)))
+lines_line w hay end within none here = simp (take_line, lines_feedless, feedless_take, append-nil)
 
 -- one line more of a piece
 pub held_step : (w w0 : Option (List ℕ)) (piece : List ℕ) (used end : ℕ) → used ≤ length piece
@@ -174,10 +109,7 @@ pub held_step : (w w0 : Option (List ℕ)) (piece : List ℕ) (used end : ℕ) �
     → ((k : ℕ) → 0 ≤ k → k < end → (get_or (drop used piece) k 0 == 10) ≡ true → ⊥)
     → (get_or (drop used piece) end 0 == 10) ≡ true
     → held_after w0 (take (used + (end + 1)) piece) ≡ Some []
-held_step w w0 piece used end fits e within none here =
-    ap (λ l. held_after w0 l) (take_twice used (end + 1) piece fits)
-    ∙ held_join w0 (take used piece) (take (end + 1) (drop used piece))
-    ∙ held_line (held_after w0 (take used piece)) (drop used piece) end within none here
+held_step w w0 piece used end fits e within none here = simp (take_twice, held_join, held_line)
 
 pub lines_step : (w w0 : Option (List ℕ)) (piece : List ℕ) (used end : ℕ) → used ≤ length piece
     → w ≡ held_after w0 (take used piece) → lines_after w0 (take used piece) ≡ []
@@ -187,13 +119,7 @@ pub lines_step : (w w0 : Option (List ℕ)) (piece : List ℕ) (used end : ℕ) 
     → lines_after w0 (take (used + (end + 1)) piece)
     ≡ lines_held (held_more w (take end (drop used piece)))
 lines_step w w0 piece used end fits e l within none here =
-    ap (λ l. lines_after w0 l) (take_twice used (end + 1) piece fits)
-    ∙ lines_join w0 (take used piece) (take (end + 1) (drop used piece))
-    ∙ ap
-    (λ p. p ++ lines_after (held_after w0 (take used piece)) (take (end + 1) (drop used piece)))
-    l
-    ∙ ap (λ w. lines_after w (take (end + 1) (drop used piece))) (sym e)
-    ∙ lines_line w (drop used piece) end within none here
+    grind (arith, take_twice, lines_join, lines_line)
 
 -- no line ends before its line feed
 lines_before : (w0 : Option (List ℕ)) (piece : List ℕ) (used end : ℕ) → used ≤ length piece
@@ -260,20 +186,7 @@ pub step_at : (w w0 : Option (List ℕ)) (piece rest line : List ℕ) (used end 
     × (lines_after w0 (take (used + (end + 1)) piece) ≡ lines_held (held_more w line))
     × (used + (end + 1) ≤ length piece) × (lines_after w0 (take (used + end) piece) ≡ [])
 step_at w w0 piece rest line used end r l fits e none within before here =
-    let P : List ℕ → Type 0 = λ rest. line ≡ take end rest → end < length rest
-    → ((k : ℕ) → 0 ≤ k → k < end → (get_or rest k 0 == 10) ≡ true → ⊥)
-    → (get_or rest end 0 == 10) ≡ true
-    → (held_after w0 (take (used + (end + 1)) piece) ≡ Some [])
-    × (lines_after w0 (take (used + (end + 1)) piece) ≡ lines_held (held_more w line))
-    × (used + (end + 1) ≤ length piece) × (lines_after w0 (take (used + end) piece) ≡ []) in
-    let base : P (drop used piece) = λ l within before here. (
-      held_step w w0 piece used end fits e within before here,
-      lines_step w w0 piece used end fits e none within before here
-          ∙ ap (λ l. lines_held (held_more w l)) (sym l),
-      omega (arith, within, length-drop used piece),
-      lines_before w0 piece used end fits none before,
-    ) in
-    subst P (sym r) base l within before here
+    grind (arith, held_step, lines_step, length-drop, lines_before)
 
 pub rest_at : (w w0 : Option (List ℕ)) (piece rest : List ℕ) (used : ℕ) → rest ≡ drop used piece
     → w ≡ held_after w0 (take used piece) → lines_after w0 (take used piece) ≡ []

@@ -14,3 +14,9 @@ pub mod RunWords
 pub mod Starts
 pub mod Straight
 pub mod Values
+pub mod Feeding
+pub mod Pieces
+pub mod Streams
+pub mod Taking
+pub mod Telling
+pub mod ExecutedLines

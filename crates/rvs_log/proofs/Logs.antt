@@ -1,7 +1,7 @@
 -- The log of a run has the run as its entries.
 use Rattle.std.proofs.Common.{◌≡◌, ℕ, suc, ◌+◌, ◌/◌, ◌%◌, ◌^◌, ◌<◌, ◌≤◌, Bool, true, false, cond}
 use Rattle.std.proofs.Common.{not, ◌&&◌, List, [], ◌∷◌, ◌++◌, Option, Some, None, refl, sym, ap}
-use Rattle.std.proofs.Common.{◌∙◌, length, arith, append_assoc, append-nil, length-append}
+use Rattle.std.proofs.Common.{◌∙◌, length, arith, append_assoc, append-nil, length-append, rules}
 use Rattle.std.proofs.lemmas.Bool.Decides.{nat_tests}
 use Rattle.std.specs.Prelude.{◌==◌, nat_lt, nat_le, map, codes, All}
 use Rattle.rvs_base.specs.Lines.{without_return}
@@ -26,25 +26,17 @@ plain [] = true
 plain (b ∷ bs) = ok b && plain bs
 
 pub both : (a b : Bool) → (a && b) ≡ true → (a ≡ true) × (b ≡ true)
-both true true h = (refl, refl)
-both true false h = cc
-both false b h = cc
+both a b h = grind arith
 
 and_true : (a b : Bool) → a ≡ true → b ≡ true → (a && b) ≡ true
-and_true true true g h = refl
-and_true true false g h = h
-and_true false b g h = g
+and_true a b g h = grind arith
 
 pub neither : (a b : Bool) → (not a && not b) ≡ true → (a ≡ false) × (b ≡ false)
-neither true b h = cc
-neither false true h = cc
-neither false false h = (refl, refl)
+neither a b h = grind arith
 
 pub plain_join : (a b : List ℕ) → plain a ≡ true → plain b ≡ true → plain (a ++ b) ≡ true
 plain_join [] b g h = h
-plain_join (x ∷ a) b g h =
-    and_true (ok x) (plain (a ++ b)) (both (ok x) (plain a) g).0
-    (plain_join a b (both (ok x) (plain a) g).1 h)
+plain_join (x ∷ a) b g h = grind (arith, nat_tests, (plain_join a b (both (ok x) (plain a) g).1 h))
 
 -- ---- plain lines
 whole_plain : (front l rest : List ℕ) → plain l ≡ true
@@ -72,60 +64,32 @@ tail_plain front (b ∷ l) rest h =
 
 pub return_plain : (l : List ℕ) → plain l ≡ true → without_return l ≡ l
 return_plain [] h = refl
-return_plain (b ∷ []) h =
-    ap (λ t. cond t [] (b ∷ [])) (neither (b == 10) (b == 13) (both (ok b) true h).0).1
-return_plain (b ∷ c ∷ l) h =
-    ap (λ l. b ∷ l) (return_plain (c ∷ l) (both (ok b) (plain (c ∷ l)) h).1)
+return_plain (b ∷ []) h = grind (arith, neither, both)
+return_plain (b ∷ c ∷ l) h = simp (both, (return_plain (c ∷ l) (both (ok b) (plain (c ∷ l)) h).1))
 
 -- ---- the parts of a line
 low_ok : (d : ℕ) → ok (48 + d) ≡ true
-low_ok d =
-    and_true (not (48 + d == 10)) (not (48 + d == 13)) (grind (arith, nat_tests))
-    (grind (arith, nat_tests))
+low_ok d = grind (arith, and_true)
 
 high_ok : (d : ℕ) → ok (87 + d) ≡ true
-high_ok d =
-    and_true (not (87 + d == 10)) (not (87 + d == 13)) (grind (arith, nat_tests))
-    (grind (arith, nat_tests))
+high_ok d = grind (arith, and_true)
 
 digit_ok : (d : ℕ) → ok (hex_digit_of d) ≡ true
-digit_ok d = turn (nat_lt d 10)
-  where
-    turn : (b : Bool) → ok (cond b (48 + d) (87 + d)) ≡ true
-    turn true = low_ok d
-    turn false = high_ok d
+digit_ok d = grind (arith, low_ok, high_ok)
 
 digits_plain : (w : ℕ) (places : List ℕ) → plain (map (hex_digit_at w) places) ≡ true
 digits_plain w [] = refl
-digits_plain w (p ∷ ps) =
-    and_true (ok (hex_digit_at w p)) (plain (map (hex_digit_at w) ps)) (digit_ok (w / 16 ^ p % 16))
-    (digits_plain w ps)
+digits_plain w (p ∷ ps) = simp (and_true, digit_ok, (digits_plain w ps))
 
 word_plain : (w : ℕ) → plain (hex_word_of w) ≡ true
 unfolding hex_word_of
 word_plain w = digits_plain w (7 ∷ 6 ∷ 5 ∷ 4 ∷ 3 ∷ 2 ∷ 1 ∷ 0 ∷ [])
 
 padded_plain : (r : ℕ) → r < 32 → plain (padded r) ≡ true
-padded_plain r h = turn (nat_lt r 10) refl
-  where
-    turn : (b : Bool) → nat_lt r 10 ≡ b → plain (padded r) ≡ true
-    turn true e =
-        let l : r < 10 = grind (arith, nat_tests) in
-        ap (λ l. plain l) (padded_one r l)
-        ∙ and_true (ok (48 + r)) (plain (32 ∷ [])) (low_ok r) refl
-    turn false e =
-        let l : 10 ≤ r = grind (arith, nat_tests) in
-        ap (λ l. plain l) (padded_two r l h)
-        ∙ and_true (ok (48 + r / 10)) (plain ((48 + r % 10) ∷ [])) (low_ok (r / 10))
-        (and_true (ok (48 + r % 10)) true (low_ok (r % 10)) refl)
+padded_plain r h = grind (arith, padded_one, and_true, low_ok, padded_two)
 
 padded_length : (r : ℕ) → r < 32 → length (padded r) ≡ 2
-padded_length r h = turn (nat_lt r 10) refl
-  where
-    turn : (b : Bool) → nat_lt r 10 ≡ b → length (padded r) ≡ 2
-    turn true e = let l : r < 10 = grind (arith, nat_tests) in ap (λ l. length l) (padded_one r l)
-    turn false e =
-        let l : 10 ≤ r = grind (arith, nat_tests) in ap (λ l. length l) (padded_two r l h)
+padded_length r h = grind (arith, padded_one, padded_two)
 
 commit_plain : (w : Option Write) → IsSmall w → plain (commit_text w) ≡ true
 commit_plain None h = refl
@@ -140,18 +104,7 @@ commit_size None = 0
 commit_size (Some w) = 15
 
 commit_length : (w : Option Write) → IsSmall w → length (commit_text w) ≡ commit_size w
-commit_length None h = refl
-commit_length (Some w) h =
-    omega (
-      arith,
-      length-append (codes " x")
-          (padded w.reg ++ (codes " 0x" ++ hex_word_of w.value)),
-      length-append (padded w.reg)
-          (codes " 0x" ++ hex_word_of w.value),
-      length-append (codes " 0x") (hex_word_of w.value),
-      padded_length w.reg h.0,
-      hex_length w.value,
-    )
+commit_length w h = search (rules, length-append, padded_length, hex_length)
 
 pub line_plain : (e : Executed) → IsSmall e.commit → plain (line_of e) ≡ true
 line_plain e h =
@@ -166,50 +119,21 @@ line_plain e h =
 
 pub line_length : (e : Executed) → IsSmall e.commit
     → length (line_of e) ≡ 35 + commit_size e.commit
-line_length e h =
-    omega (
-      arith,
-      length-append (codes "core   0: 3 0x") (hex_word_of e.pc
-          ++ (codes " (0x" ++ (hex_word_of e.word ++ (codes ")" ++ commit_text e.commit)))),
-      length-append (hex_word_of e.pc)
-          (codes " (0x" ++ (hex_word_of e.word ++ (codes ")" ++ commit_text e.commit))),
-      length-append (codes " (0x") (hex_word_of e.word ++ (codes ")" ++ commit_text e.commit)),
-      length-append (hex_word_of e.word) (codes ")" ++ commit_text e.commit),
-      length-append (codes ")") (commit_text e.commit),
-      hex_length e.pc,
-      hex_length e.word,
-      commit_length e.commit h,
-    )
+line_length e h = grind (arith, length-append, hex_length, commit_length)
 
 short_commit : (w : Option Write) → commit_size w ≤ 15
-short_commit None = omega arith
-short_commit (Some w) = omega arith
+short_commit w = grind arith
 
 pub line_short : (e : Executed) → IsSmall e.commit → length (line_of e) ≤ 50
 line_short e h = omega (arith, line_length e h, short_commit e.commit)
 
 -- ---- the line, and the log
 line_reads : (e : Executed) → HasWords e → line_says (line_of e) ≡ Says e.pc e.word e.commit
-line_reads e h =
-    ap (λ b. cond b (reading_of (without_return (line_of e))) Nothing)
-    (short (length (line_of e)) (line_short e h.commit))
-    ∙ ap (λ l. reading_of l) (return_plain (line_of e) (line_plain e h.commit))
-    ∙ reads_back e h.pc h.word h.commit
-  where
-    short : (n : ℕ) → n ≤ 50 → nat_le n 4096 ≡ true
-    short n h = grind (arith, nat_tests)
+line_reads e h = grind (arith, line_short, return_plain, line_plain, reads_back)
 
 entry_is : (words : List ℕ) (e : Executed) → ReadsAt words e
     → entry_at words e.pc e.word ≡ as_entry e
-entry_is words e h =
-    ap (λ v. record {
-      pc =
-          e.pc;
-      word = e.word;
-      v1 = v;
-      v2 = word_of words (rs2_of_word e.word);
-    }) (sym h.v1)
-    ∙ ap (λ v. record { pc = e.pc; word = e.word; v1 = e.v1; v2 = v }) (sym h.v2)
+entry_is words e h = grind arith
 
 abbrev Each : List Executed → Type 0
 Each [] = Unit {0}
@@ -237,18 +161,10 @@ trace_reads (e ∷ es) h w t =
 
 no_tail : (es : List Executed) → Each es → tail_of (log_of es) ≡ []
 no_tail [] w = refl
-no_tail (e ∷ es) w = ap tail_of (log_next e es)
-    ∙ tail_plain [] (line_of e) (log_of es) (line_plain e w.0.commit) ∙ no_tail es w.1
+no_tail (e ∷ es) w = search (rules, log_next, tail_plain, line_plain, (no_tail es w.1))
 
 pub logs_read_back : LogsReadBack
-logs_read_back es w t =
-    ap (λ l. entries_in unheard (map line_says (whole_lines (log_of es) ++ last_line l)))
-    (no_tail es (each es w))
-    ∙ ap (λ l. entries_in unheard (map line_says l)) (append-nil (whole_lines (log_of es)))
-    ∙ trace_reads es unheard (each es w) t
+logs_read_back es w t = simp (no_tail, each, append-nil, trace_reads)
 
 pub lines_differ : LinesDiffer
-lines_differ a b g h e =
-    let same : Says a.pc a.word a.commit ≡ Says b.pc b.word b.commit =
-    sym (reads_back a g.pc g.word g.commit) ∙ ap reading_of e ∙ reads_back b h.pc h.word h.commit in
-    (cc, cc, cc)
+lines_differ a b g h e = grind (arith, reads_back)

@@ -7,8 +7,7 @@ use Rattle.rvs_log.specs.Grammar.{Reading, Nothing, after_brackets, after_core, 
 use Rattle.rvs_log.specs.Grammar.{or_nothing, reading_of, sail_log, write_line, writes}
 
 or_none : (o : Option Reading) → option_or o None ≡ o
-or_none None = refl
-or_none (Some r) = refl
+or_none o = grind arith
 
 core_led : (bs : List ℕ) → reading_of (99 ∷ bs) ≡ or_nothing (commit_log (99 ∷ bs))
 unfolding reading_of after_brackets write_line

@@ -21,17 +21,7 @@ use Rattle.rvs_log.proofs.Numbers.{register_one, register_two}
 
 -- a text begins with what something follows
 led_by_byte : (t : ℕ) (bs r : List ℕ) → Some r ≡ after_byte t bs → bs ≡ t ∷ r
-led_by_byte t [] r e = absurd cc
-led_by_byte t (b ∷ bs) r e = turn (b == t) refl e
-  where
-    equal : (a b : ℕ) → (a == b) ≡ true → a ≡ b
-    equal a b h = grind (arith, nat_tests)
-
-    turn : (x : Bool) → (b == t) ≡ x → Some r ≡ cond x (Some bs) None → b ∷ bs ≡ t ∷ r
-    turn true h g =
-        let same : bs ≡ r = cc in
-        ap (λ n. n ∷ bs) (equal b t h) ∙ ap (λ xs. t ∷ xs) same
-    turn false h g = absurd cc
+led_by_byte t bs r e = grind arith
 
 -- the front of a line of a commit log, and an address and a word behind it
 pub line_is : (line rest : List ℕ) (found : ℕ × ℕ × List ℕ)
@@ -71,16 +61,7 @@ marked_is text rest found front words = ap pc_and_word front ∙ words
 
 -- digits end where a token does
 token_ends : (d e : List ℕ) (v : ℕ) → Some e ≡ at_end d → hex_run v d ≡ (v, d)
-token_ends [] e v h = refl
-token_ends (x ∷ ds) e v h = turn (x == 32) refl h
-  where
-    equal : (a b : ℕ) → (a == b) ≡ true → a ≡ b
-    equal a b h = grind (arith, nat_tests)
-
-    turn : (t : Bool) → (x == 32) ≡ t → Some e ≡ cond t (Some (x ∷ ds)) None
-        → hex_run v (x ∷ ds) ≡ (v, x ∷ ds)
-    turn true g h = subst (λ n. hex_run v (n ∷ ds) ≡ (v, n ∷ ds)) (sym (equal x 32 g)) refl
-    turn false g h = absurd cc
+token_ends d e v h = grind arith
 
 -- a register in two places, and a word, written
 written_is : (a d e : List ℕ) (reg value : ℕ) → reg < 32

@@ -2,7 +2,7 @@
 use Rattle.std.proofs.Common.{◌≡◌, ℕ, zero, suc, ◌+◌, ◌*◌, ◌/◌, ◌%◌, ◌^◌, ◌<◌, ◌≤◌, Bool, true}
 use Rattle.std.proofs.Common.{false, ◌&&◌, cond}
 use Rattle.std.proofs.Common.{List, [], ◌∷◌, Option, Some, None, refl, sym, ap, ◌∙◌, length, get_or}
-use Rattle.std.proofs.Common.{arith, subst}
+use Rattle.std.proofs.Common.{arith, subst, rules}
 use Rattle.std.proofs.lemmas.Bool.Decides.{nat_tests}
 use Rattle.std.specs.Prelude.{◌==◌, nat_lt, IfSome}
 use Rattle.rvs_log.specs.Grammar.{first_write, hex_run, hex_value}
@@ -20,16 +20,12 @@ fits_from k [] = true
 fits_from k (v ∷ vs) = is_entry (k / 256) (hex_value (k % 256)) v && fits_from (k + 1) vs
 
 both : (a b : Bool) → (a && b) ≡ true → (a ≡ true) × (b ≡ true)
-both true true h = (refl, refl)
-both true false h = cc
-both false b h = cc
+both a b h = grind arith
 
 fits_at : (b : ℕ) (vs : List ℕ) (k : ℕ) → fits_from b vs ≡ true → k < length vs
     → is_entry ((b + k) / 256) (hex_value ((b + k) % 256)) (get_or vs k 0) ≡ true
 fits_at b [] k h l = absurd (omega arith)
-fits_at b (v ∷ vs) zero h l =
-    let e : b ≡ b + 0 = omega arith in
-    subst (λ n. is_entry (n / 256) (hex_value (n % 256)) v ≡ true) e (both _ _ h).0
+fits_at b (v ∷ vs) zero h l = grind (arith, both)
 fits_at b (v ∷ vs) (suc k) h l =
     let e : b + 1 + k ≡ b + suc k = omega arith in
     subst (λ n. is_entry (n / 256) (hex_value (n % 256)) (get_or vs k 0) ≡ true) e
@@ -51,16 +47,11 @@ equal a b h = grind (arith, nat_tests)
 
 none_is : (place : ℕ) (o : Option ℕ) (v : ℕ) → is_entry place o v ≡ true → o ≡ None
     → v ≡ 4294967296
-none_is place None v h e = equal v 4294967296 h
-none_is place (Some d) v h e = absurd cc
+none_is place o v h e = grind arith
 
 digit_is : (place : ℕ) (o : Option ℕ) (v : ℕ) → is_entry place o v ≡ true
     → IfSome o (λ d. (d < 16) × (v ≡ 16 ^ place * d))
-digit_is place None v h = tt
-digit_is place (Some d) v h = (
-  grind (arith, nat_tests, (both (v == 16 ^ place * d) (nat_lt d 16) h).1),
-  equal v (16 ^ place * d) (both (v == 16 ^ place * d) (nat_lt d 16) h).0,
-)
+digit_is place o v h = grind arith
 
 pub place_none : (place byte k : ℕ) → place < 4 → byte < 256 → k ≡ byte → hex_value byte ≡ None
     → get_or PLACES (256 * place + k) 0 ≡ 4294967296
@@ -72,11 +63,7 @@ place_none place byte k p h same e =
 pub place_digit : (place byte k : ℕ) → place < 4 → byte < 256 → k ≡ byte
     → IfSome (hex_value byte) (λ d. (d < 16)
     × (get_or PLACES (256 * place + k) 0 ≡ 16 ^ place * d))
-place_digit place byte k p h same =
-    subst (λ n. IfSome (hex_value byte) (λ d. (d < 16)
-    × (get_or PLACES (256 * place + n) 0 ≡ 16 ^ place * d))) (sym same)
-    (digit_is place (hex_value byte) (get_or PLACES (256 * place + byte) 0)
-    (entry_at place byte p h))
+place_digit place byte k p h same = grind (arith, digit_is, entry_at)
 
 digit_low : (place d : ℕ) → place < 4 → d < 16 → 16 ^ place * d ≤ 4294967296
 digit_low zero d p h = omega arith
@@ -86,11 +73,7 @@ digit_low (suc (suc (suc zero))) d p h = omega arith
 digit_low (suc (suc (suc (suc n)))) d p h = absurd (omega arith)
 
 low_is : (place : ℕ) (o : Option ℕ) (v : ℕ) → place < 4 → is_entry place o v ≡ true → v ≤ 4294967296
-low_is place None v p h = let e = equal v 4294967296 h in omega (arith, e)
-low_is place (Some d) v p h =
-    let is = digit_is place (Some d) v h in
-    let low = digit_low place d p is.0 in
-    rw (is.1) low
+low_is place o v p h = search (rules, equal, digit_is, digit_low)
 
 pub place_low : (place byte k : ℕ) → place < 4 → byte < 256 → k ≡ byte
     → get_or PLACES (256 * place + k) 0 ≤ 4294967296
@@ -102,18 +85,13 @@ place_low place byte k p h same =
 -- what a digit counts at the last place
 pub value_is : (o : Option ℕ) (v : ℕ) → (o ≡ None → v ≡ 4294967296)
     → IfSome o (λ d. (d < 16) × (v ≡ 16 ^ 0 * d)) → cond (nat_lt v 16) (Some v) None ≡ o
-value_is None v n s = rw (n refl) refl
-value_is (Some d) v n s =
-    let e : v ≡ d = omega (arith, s.1) in
-    let low : nat_lt d 16 ≡ true = grind (arith, nat_tests, s.0) in
-    rw (e, low) refl
+value_is o v n s = grind arith
 
 -- a sum that stays small has digits alone
 found : (G : Type 0) (scale v : ℕ) (o : Option ℕ) → (o ≡ None → v ≡ 4294967296)
     → IfSome o (λ d. (d < 16) × (v ≡ scale * d)) → v < 4294967296
     → ((d : ℕ) → o ≡ Some d → d < 16 → v ≡ scale * d → G) → G
-found G scale v None n s h k = let e = n refl in absurd (omega (arith, e, h))
-found G scale v (Some d) n s h k = k d refl s.0 s.1
+found G scale v o n s h k = grind arith
 
 -- four digits more, by what they count
 pub four_counted : (v a b c d w x y z : ℕ) (bs : List ℕ)
@@ -144,24 +122,12 @@ pub four_small : (a b c d : Option ℕ) (w x y z : ℕ)
     → (c ≡ None → y ≡ 4294967296) → IfSome c (λ k. (k < 16) × (y ≡ 16 ^ 1 * k))
     → (d ≡ None → z ≡ 4294967296) → IfSome d (λ k. (k < 16) × (z ≡ 16 ^ 0 * k))
     → w + x + y + z < 4294967296 → w + x + y + z < 65536
-four_small a b c d w x y z wn ws xn xs yn ys zn zs h =
-    let G = w + x + y + z < 65536 in
-    found G (16 ^ 3) w a wn ws (omega (arith, h)) (λ p ep lp wp.
-    found G (16 ^ 2) x b xn xs (omega (arith, h)) (λ q eq lq xq.
-    found G (16 ^ 1) y c yn ys (omega (arith, h)) (λ r er lr yr.
-    found G (16 ^ 0) z d zn zs (omega (arith, h)) (λ s es ls zs.
-    omega (arith, wp, xq, yr, zs, lp, lq, lr, ls)))))
+four_small a b c d w x y z wn ws xn xs yn ys zn zs h = grind (arith, found)
 
 -- no write begins at a digit or behind it
 digit_skips : (a d : ℕ) (bs : List ℕ) → hex_value a ≡ Some d
     → first_write false (a ∷ bs) ≡ first_write false bs
-digit_skips a d bs e = turn (a == 32) refl
-  where
-    turn : (t : Bool) → (a == 32) ≡ t → first_write t bs ≡ first_write false bs
-    turn true h =
-        let bad : Some d ≡ None = sym e ∙ ap hex_value (equal a 32 h) in
-        absurd cc
-    turn false h = refl
+digit_skips a d bs e = grind (arith, equal)
 
 -- nor among four digits
 pub four_skipped : (a b c d w x y z : ℕ) (bs : List ℕ)
@@ -175,11 +141,4 @@ pub four_skipped : (a b c d w x y z : ℕ) (bs : List ℕ)
     → IfSome (hex_value d) (λ k. (k < 16) × (z ≡ 16 ^ 0 * k))
     → w + x + y + z < 4294967296
     → first_write false (a ∷ b ∷ c ∷ d ∷ bs) ≡ first_write false bs
-four_skipped a b c d w x y z bs wn ws xn xs yn ys zn zs h =
-    let G = first_write false (a ∷ b ∷ c ∷ d ∷ bs) ≡ first_write false bs in
-    found G (16 ^ 3) w (hex_value a) wn ws (omega (arith, h)) (λ p ep lp wp.
-    found G (16 ^ 2) x (hex_value b) xn xs (omega (arith, h)) (λ q eq lq xq.
-    found G (16 ^ 1) y (hex_value c) yn ys (omega (arith, h)) (λ r er lr yr.
-    found G (16 ^ 0) z (hex_value d) zn zs (omega (arith, h)) (λ s es ls zs.
-    digit_skips a p (b ∷ c ∷ d ∷ bs) ep ∙ digit_skips b q (c ∷ d ∷ bs) eq
-    ∙ digit_skips c r (d ∷ bs) er ∙ digit_skips d s bs es))))
+four_skipped a b c d w x y z bs wn ws xn xs yn ys zn zs h = search (rules, found, digit_skips)

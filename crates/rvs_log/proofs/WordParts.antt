@@ -1,7 +1,7 @@
 -- What is read is a byte or a word, and so is what is written.
 use Rattle.std.proofs.Common.{ℕ, zero, suc, ◌+◌, ◌*◌, ◌/◌, ◌%◌, ◌^◌, ◌-◌, ◌<◌, Bool, true}
 use Rattle.std.proofs.Common.{false, cond, List, Option, Some, None, arith}
-use Rattle.std.proofs.Common.{length}
+use Rattle.std.proofs.Common.{length, rules}
 use Rattle.std.specs.Prelude.{◌&&◌, nat_le, nat_lt, slice_index}
 use Rattle.std.specs.Prelude.{slice_set}
 use Rattle.rvs_insn.specs.Fields.{IsRegister}
@@ -19,29 +19,18 @@ AtMost n None = Unit {0}
 AtMost n (Some v) = v < n
 
 pub some_or_none : (n : ℕ) (b : Bool) (v : ℕ) → v < n → AtMost n (cond b (Some v) None)
-some_or_none n true v h = h
-some_or_none n false v h = tt
+some_or_none n b v h = grind arith
 
 pub either_place : (n : ℕ) (b : Bool) (x y : Option ℕ) → AtMost n x → AtMost n y
     → AtMost n (cond b x y)
-either_place n true x y g h = g
-either_place n false x y g h = h
+either_place n b x y g h = grind arith
 
 pub byte_low : (m : Memory) (text ram : List ℕ) (addr : ℕ) → Below 256 text → Below 256 ram
     → AtMost 256 (byte_at m text ram addr)
-byte_low m text ram addr g h =
-    let in_text = nat_le m.text_base addr && nat_lt addr (m.text_base + length text) in
-    let in_ram = nat_le m.data_base addr && nat_lt addr (m.data_base + length ram) in
-    let of_text = slice_index text (addr - m.text_base) in
-    let of_ram = slice_index ram (addr - m.data_base) in
-    either_place 256 in_text (Some of_text) (cond in_ram (Some of_ram) None)
-    (g (addr - m.text_base))
-    (some_or_none 256 in_ram of_ram (h (addr - m.data_base)))
+byte_low m text ram addr g h = grind (arith, either_place, some_or_none)
 
 pub above_low : (n : ℕ) (a b : Option ℕ) → AtMost 256 a → AtMost n b → AtMost (256 * n) (above a b)
-above_low n None b g h = tt
-above_low n (Some low) None g h = tt
-above_low n (Some low) (Some high) g h = omega (arith, g, h)
+above_low n a b g h = grind arith
 
 -- 256 to this power
 abbrev pub limit : ℕ → ℕ
@@ -52,39 +41,29 @@ pub bytes_low : (m : Memory) (n : ℕ) (text ram : List ℕ) (addr : ℕ) → Be
     → AtMost (limit n) (load_bytes m n text ram addr)
 bytes_low m zero text ram addr g h = omega arith
 bytes_low m (suc n) text ram addr g h =
-    above_low (limit n) (byte_at m text ram addr) (load_bytes m n text ram (addr + 1))
-    (byte_low m text ram addr g h) (bytes_low m n text ram (addr + 1) g h)
+    grind (arith, above_low, byte_low, (bytes_low m n text ram (addr + 1) g h))
 
 pub either_low : (b : Bool) (x y : ℕ) → x < 2 ^ 32 → y < 2 ^ 32 → cond b x y < 2 ^ 32
-either_low true x y p q = p
-either_low false x y p q = q
+either_low b x y p q = grind arith
 
 pub one_low : (sign : Bool) (v : ℕ) → v < 256 → extended sign 1 v < 2 ^ 32
-one_low sign v h =
-    either_low (sign && nat_le (2 ^ 7) v) (v + (2 ^ 32 - 2 ^ 8)) v (omega arith) (omega arith)
+one_low sign v h = grind (arith, either_low)
 
 pub two_low : (sign : Bool) (v : ℕ) → v < 65536 → extended sign 2 v < 2 ^ 32
-two_low sign v h =
-    either_low (sign && nat_le (2 ^ 15) v) (v + (2 ^ 32 - 2 ^ 16)) v (omega arith) (omega arith)
+two_low sign v h = grind (arith, either_low)
 
 pub four_low : (sign : Bool) (v : ℕ) → v < 4294967296 → extended sign 4 v < 2 ^ 32
-four_low sign v h =
-    either_low (sign && nat_le (2 ^ 31) v) (v + (2 ^ 32 - 2 ^ 32)) v (omega arith) (omega arith)
+four_low sign v h = grind (arith, either_low)
 
 pub word_low : (text : List ℕ) (i : ℕ) → Below 256 text → word_at text i < 2 ^ 32
 word_low text i h = omega (arith, h i, h (i + 1), h (i + 2), h (i + 3))
 
 pub fetch_low : (m : Memory) (text : List ℕ) (pc : ℕ) → Below 256 text
     → AtMost (2 ^ 32) (fetch m text pc)
-fetch_low m text pc h =
-    let at = pc - m.text_base in
-    let in_text = nat_le m.text_base pc && nat_lt pc (m.text_base + length text) in
-    some_or_none (2 ^ 32) in_text (word_at text at) (word_low text at h)
+fetch_low m text pc h = grind (arith, some_or_none, word_low)
 
 pub read_low : (regs : List ℕ) (o : Option ℕ) → Below (2 ^ 32) regs → read_reg regs o < 2 ^ 32
-read_low regs None h = omega arith
-read_low regs (Some zero) h = omega arith
-read_low regs (Some (suc r)) h = h (suc r)
+read_low regs o h = grind arith
 
 -- ---- what is written is a byte or a word
 pub store_low : (n : ℕ) (ram : List ℕ) (at value : ℕ) → Below 256 ram
@@ -96,25 +75,15 @@ store_low (suc n) ram at value h =
 
 pub write_low : (regs : List ℕ) (rd value : Option ℕ) → IsSmall (commit_of rd value)
     → Below (2 ^ 32) regs → Below (2 ^ 32) (write_reg regs rd value)
-write_low regs None value g h = h
-write_low regs (Some zero) value g h = h
-write_low regs (Some (suc r)) None g h = h
-write_low regs (Some (suc r)) (Some v) g h = set_below (2 ^ 32) regs (suc r) v h g.1
+write_low regs rd value g h = search (rules, set_below)
 
 pub commit_low : (rd value : Option ℕ) → HasValue rd value → IsRegister rd
     → IsSmall (commit_of rd value)
-commit_low None value g h = tt
-commit_low (Some zero) value g h = tt
-commit_low (Some (suc r)) None g h = tt
-commit_low (Some (suc r)) (Some v) g h = (h, g)
+commit_low rd value g h = grind arith
 
 pub some_low : (rd : Option ℕ) (v : ℕ) → v < 2 ^ 32 → IsRegister rd
     → IsSmall (commit_of rd (Some v))
-some_low None v g h = tt
-some_low (Some zero) v g h = tt
-some_low (Some (suc r)) v g h = (h, g)
+some_low rd v g h = grind arith
 
 pub none_low : (rd : Option ℕ) → IsSmall (commit_of rd None)
-none_low None = tt
-none_low (Some zero) = tt
-none_low (Some (suc r)) = tt
+none_low rd = grind arith

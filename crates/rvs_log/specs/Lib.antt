@@ -8,3 +8,7 @@ pub mod Read
 pub mod Registers
 pub mod Seen
 pub mod Written
+pub mod Feeds
+pub mod Progress
+pub mod Streams
+pub mod Taken

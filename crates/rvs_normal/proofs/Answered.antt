@@ -1,16 +1,15 @@
 -- The answer for lines of which each front has a tree, and for lines of rows.
 use Rattle.std.proofs.Common.{◌≡◌, ℕ, zero, suc, ◌+◌, ◌≤◌, Bool, true, false, List, [], ◌∷◌, ◌++◌}
-use Rattle.std.proofs.Common.{length, refl, sym, ap, subst, ◌∙◌, arith, append_assoc, append-nil}
+use Rattle.std.proofs.Common.{refl, sym, ap, subst, ◌∙◌, arith, append_assoc, append-nil}
 use Rattle.std.proofs.Common.{Ok}
-use Rattle.std.specs.Prelude.{◌||◌, map, take, nat_lt, not}
-use Rattle.std.proofs.lemmas.Bool.Decides.{nat_tests}
+use Rattle.std.specs.Prelude.{◌||◌, map, take, not}
 use Rattle.rvs_tree.specs.Data.{Data, depth}
 use Rattle.rvs_tree.specs.Value.{Value}
 use Rattle.rvs_yaml_text.specs.Scalar.{is_blank}
 use Rattle.rvs_yaml_text.specs.Text.{lines_of, words_of}
-use Rattle.rvs_yaml.specs.Checks.{Checked, ◌>>=◌, ◌>>◌}
+use Rattle.rvs_yaml.specs.Checks.{Checked, ◌>>=◌}
 use Rattle.rvs_yaml.specs.Block.{tree_of}
-use Rattle.rvs_yaml.specs.Parsed.{within_limits, front, at_end, answer_after, answer, HasTree}
+use Rattle.rvs_yaml.specs.Parsed.{within_limits, front, answer_after, answer, HasTree}
 use Rattle.rvs_normal.specs.Again.{KeepsLimit}
 use Rattle.rvs_normal.proofs.Lines.{fed, AreInked, lines-fed}
 use Rattle.rvs_normal.proofs.Rows.{Row, row_text, row_words, row-inked, line-words}
@@ -24,18 +23,15 @@ use Rattle.rvs_normal.proofs.Cuts.{cut_groups, groups-cut, groups-distinct, are-
 use Rattle.rvs_normal.proofs.Cuts.{groups-count}
 
 take-none : {X : Type 0} (xs : List X) → take 0 xs ≡ []
-take-none [] = refl
-take-none (x ∷ xs) = refl
+take-none = grind arith
 
 take-nil : {X : Type 0} (n : ℕ) → ◌≡◌ {A = List X} (take n []) []
-take-nil zero = refl
-take-nil (suc n) = refl
+take-nil = grind arith
 
 -- ---- from fronts to the answer
 answered : (done ls : List (List ℕ)) (tree : Data) → ((m : ℕ) → HasTree (done ++ take m ls))
     → front (done ++ ls) ≡ Ok tree → answer_after done ls ≡ Ok tree
-answered done [] tree trees whole =
-    ap (at_end (length done)) (ap front (sym (append-nil done)) ∙ whole)
+answered done [] tree trees whole = grind (arith, append-nil)
 answered done (l ∷ ls) tree trees whole =
     let first : HasTree (done ++ (l ∷ [])) =
     subst (λ xs. HasTree (done ++ (l ∷ xs))) (take-none ls) (trees 1) in
@@ -65,10 +61,7 @@ words-of n started (r ∷ rs) tail good is =
     (words-of (suc n) (started || not (is_blank true (row_text r))) rs tail good.1 is)
 
 small-enough : (v : Value) → v.nodes ≤ 500000 → depth v.tree ≤ 4 → within_limits v ≡ Ok tt
-small-enough v n d =
-    let deep : nat_lt 32 (depth v.tree) ≡ false = grind (arith, nat_tests) in
-    let many : nat_lt 500000 v.nodes ≡ false = grind (arith, nat_tests) in
-    rw (deep, many) refl
+small-enough v n d = grind arith
 
 -- the rows are those of these groups, whose names are apart
 pub record Shows (gs : List Group) (rs : List Row) : Type 0 where
@@ -96,11 +89,7 @@ rows-read rs gs tail is s =
 
 front-of : (gs : List Group) (ls : List (List ℕ)) (r : Reads gs ls) → 1 + groups_count gs ≤ 500000
     → front ls ≡ Ok r.value.tree
-front-of gs ls r few =
-    let size = groups-size gs r.value r.has in
-    let small = small-enough r.value (omega (arith, size.nodes, few)) size.depth in
-    ap (λ f. f >>= (λ v. within_limits v >> Ok v.tree)) r.is
-    ∙ ap (λ u. u >> Ok r.value.tree) small
+front-of gs ls r few = grind (arith, groups-size, small-enough)
 
 -- ---- fronts of rows
 are-rows-take : (n : ℕ) (rs : List Row) → AreRows rs → AreRows (take n rs)
@@ -127,8 +116,7 @@ cols-take : (n : ℕ) (rs : List Row) → cols (take n rs) ≡ take (count n rs)
 cols-take zero [] = refl
 cols-take zero (r ∷ rs) = sym (take-none (cols (r ∷ rs)))
 cols-take (suc n) [] = refl
-cols-take (suc n) (r ∷ rs) = ap (λ cs. row_cols r ++ cs) (cols-take n rs)
-    ∙ sym (take-behind (row_cols r) (cols rs) (count n rs))
+cols-take (suc n) (r ∷ rs) = simp (row_cols, take-behind, cols, (cols-take n rs))
 
 line-fronts : (P : List (List ℕ) → Type 0) (m : ℕ) (rs : List Row)
     → ((k : ℕ) → P (map row_text (take k rs))) → P (map row_text rs ++ ([] ∷ []))
@@ -140,12 +128,8 @@ line-fronts P (suc m) (r ∷ rs) p q = line-fronts (λ ls. P (row_text r ∷ ls)
 
 front-shows : (k : ℕ) (rs : List Row) (gs : List Group) → Shows gs rs
     → Shows (cut_groups (count k rs) gs) (take k rs)
-front-shows k rs gs s = let n = count k rs in record {
-  good = are-rows-take k rs s.good;
-  same = cols-take k rs ∙ ap (take n) s.same ∙ groups-cut n gs;
-  apart = groups-distinct n gs s.apart;
-  named = are-groups n gs s.named;
-}
+front-shows k rs gs s =
+    grind (arith, are-rows-take, cols-take, groups-cut, groups-distinct, are-groups)
 
 front-tree : (k : ℕ) (rs : List Row) (gs : List Group) → Shows gs rs
     → 1 + groups_count gs ≤ 500000 → HasTree (map row_text (take k rs))
@@ -165,16 +149,11 @@ inked-rows (r ∷ rs) good = (row-inked r good.0, inked-rows rs good.1)
 -- ---- the answer, where the text keeps the limit on nodes
 whole-read : (rs : List Row) (gs : List Group) → Shows gs rs
     → Reads gs (lines_of (fed (map row_text rs)))
-whole-read rs gs s =
-    subst (Reads gs) (sym (lines-fed (map row_text rs) (inked-rows rs s.good)))
-    (rows-read rs gs ([] ∷ []) empty-line s)
+whole-read rs gs s = grind (arith, lines-fed, row_text, inked-rows, rows-read, empty-line)
 
 pub limit-few : (rs : List Row) (gs : List Group) → Shows gs rs
     → KeepsLimit (fed (map row_text rs)) → 1 + groups_count gs ≤ 500000
-limit-few rs gs s keeps =
-    let r = whole-read rs gs s in
-    let size = groups-size gs r.value r.has in
-    omega (arith, size.nodes, keeps r.value r.is)
+limit-few rs gs s keeps = grind (arith, whole-read, groups-size)
 
 pub few-limit : (rs : List Row) (gs : List Group) → Shows gs rs → 1 + groups_count gs ≤ 500000
     → KeepsLimit (fed (map row_text rs))

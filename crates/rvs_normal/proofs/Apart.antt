@@ -1,6 +1,6 @@
 -- Keys and names that differ.
-use Rattle.std.proofs.Common.{◌≡◌, ℕ, Bool, true, false, List, [], ◌∷◌, ◌++◌, refl, sym, ap}
-use Rattle.std.proofs.Common.{subst, ◌∙◌, true≢false}
+use Rattle.std.proofs.Common.{◌≡◌, ℕ, true, false, List, [], ◌∷◌, ◌++◌, refl, sym}
+use Rattle.std.proofs.Common.{subst, arith, rules}
 use Rattle.std.specs.Prelude.{not, map, bytes_eq}
 use Rattle.std.specs.List.{list_any}
 use Rattle.std.proofs.lemmas.List.Folds.{list_any-append}
@@ -37,11 +37,7 @@ FreeOf seen (k ∷ ks) = (has_key k seen ≡ false) × FreeOf seen ks
 one-more : (seen : List (List ℕ)) (k : List ℕ) (ms : List (List ℕ)) → FreeOf seen ms → Differs k ms
     → FreeOf (seen ++ (k ∷ [])) ms
 one-more seen k [] f d = tt
-one-more seen k (m ∷ ms) f d = (
-  list_any-append (λ l. bytes_eq l m) seen (k ∷ [])
-      ∙ or-last (has_key m seen) (bytes_eq k m) f.0 d.0,
-  one-more seen k ms f.1 d.1,
-)
+one-more seen k (m ∷ ms) f d = grind (arith, list_any-append, or-last, (one-more seen k ms f.1 d.1))
 
 free-from : (seen ks : List (List ℕ)) → FreeOf seen ks → Distinct ks → AreFree seen ks
 free-from seen [] f d = tt
@@ -62,36 +58,17 @@ kind_of (role.Entries k) = k
 kind_of _ = kind.Mnemonic
 
 own-name : (k : Kind) → kind_of (role_of (kind_name k)) ≡ k
-own-name kind.Mnemonic = refl
-own-name kind.Rs1 = refl
-own-name kind.Rs2 = refl
-own-name kind.Rd = refl
-own-name kind.OpComb = refl
-own-name kind.ValComb = refl
-own-name kind.CrossComb = refl
+own-name k = grind arith
 
 name-apart : (j k : Kind) → same_kind k j ≡ false → bytes_eq (kind_name j) (kind_name k) ≡ false
-name-apart j k h = by-case (bytes_eq (kind_name j) (kind_name k)) refl
-  where
-    by-case : (s : Bool) → bytes_eq (kind_name j) (kind_name k) ≡ s → s ≡ false
-    by-case false e = refl
-    by-case true e =
-        let same : kind_name k ≡ kind_name j =
-        sym ((bytes_eq-Decides (kind_name j) (kind_name k)).0 e) in
-        let is : k ≡ j = sym (own-name k) ∙ ap (λ n. kind_of (role_of n)) same ∙ own-name j in
-        sym (same-self k) ∙ ap (same_kind k) is ∙ h
+name-apart j k h = grind (arith, bytes_eq-Decides, own-name, same-self)
 
 kind-through : (a b c : Kind) → same_kind a b ≡ true → same_kind b c ≡ true → same_kind a c ≡ true
 kind-through a b c h k = subst (λ d. same_kind d c ≡ true) (sym (kind-is a b h)) k
 
 -- ---- keys that differ
 pub eq-back : (a b : List ℕ) → bytes_eq a b ≡ false → bytes_eq b a ≡ false
-eq-back a b h = by-case (bytes_eq b a) refl
-  where
-    by-case : (s : Bool) → bytes_eq b a ≡ s → bytes_eq b a ≡ false
-    by-case false e = e
-    by-case true e =
-        absurd (true≢false (sym ((bytes_eq-Decides a b).1 (sym ((bytes_eq-Decides b a).0 e))) ∙ h))
+eq-back a b h = grind (arith, bytes_eq-Decides)
 
 -- ---- keys of blocks
 abbrev pub NotHas : Kind → List ℕ → List Block → Type 0
@@ -104,13 +81,7 @@ other-key k key q h s = eq-back q.key key (and-false (same_kind q.kind k) (bytes
 
 joined-not-has : (k : Kind) (key : List ℕ) (q : Point) (bs : List Block) → is_point k key q ≡ false
     → NotHas k key bs → NotHas k key (joined q bs)
-joined-not-has k key q [] h n = (λ s. (other-key k key q h s, tt), tt)
-joined-not-has k key q (b ∷ bs) h n = by-case (same_kind b.kind q.kind) refl
-  where
-    by-case : (s : Bool) → same_kind b.kind q.kind ≡ s → NotHas k key (joined q (b ∷ bs))
-    by-case true e =
-        rw (e, joined) (λ s. (other-key k key q h s, n.0 (kind-through b.kind q.kind k e s)), n.1)
-    by-case false e = rw (e, joined) (λ s. (other-key k key q h s, tt), n)
+joined-not-has k key q bs h n = search rules
 
 not-has : (k : Kind) (key : List ℕ) (ps : List Point) → has k key ps ≡ false
     → NotHas k key (blocks ps)
@@ -124,12 +95,7 @@ AllDistinct (b ∷ bs) = Distinct (keys b.points) × AllDistinct bs
 
 joined-distinct : (p : Point) (bs : List Block) → NotHas p.kind p.key bs → AllDistinct bs
     → AllDistinct (joined p bs)
-joined-distinct p [] n d = ((tt, tt), tt)
-joined-distinct p (b ∷ bs) n d = by-case (same_kind b.kind p.kind) refl
-  where
-    by-case : (s : Bool) → same_kind b.kind p.kind ≡ s → AllDistinct (joined p (b ∷ bs))
-    by-case true e = rw (e, joined) ((n.0 e, d.0), d.1)
-    by-case false e = rw (e, joined) ((tt, tt), d)
+joined-distinct p bs n d = grind arith
 
 pub distinct-blocks : (ps : List Point) → are_distinct ps ≡ true → AllDistinct (blocks ps)
 distinct-blocks [] h = tt

@@ -1,5 +1,6 @@
 -- The maps of parts and of keys with a text behind them.
 use Rattle.std.proofs.Common.{◌≡◌, ℕ, true, false, List, [], ◌∷◌, ◌++◌, refl, ap, ◌∙◌, None, Ok}
+use Rattle.std.proofs.Common.{arith}
 use Rattle.std.specs.Prelude.{◌==◌, map}
 use Rattle.rvs_tree.specs.Value.{Value, scalar_value, map_value, Written, has_key}
 use Rattle.rvs_yaml_text.specs.Word.{Key, key, nothing, text}
@@ -27,8 +28,7 @@ pub entry-opened : (known : Anchors) (c : ℕ) (seen : List (List ℕ)) (l : ℕ
     → entries known c (seen ++ (k.name ∷ [])) rest ≡ Ok (found vs [])
     → entries known c seen (below (word_at l c (key k None nothing)) inner rest)
     ≡ Ok (found (written k v ∷ vs) [])
-entry-opened known c seen l k v inner rest vs here fresh plain b r =
-    rw (here, fresh, plain, entries, opened known c l k v inner b, r) refl
+entry-opened known c seen l k v inner rest vs here fresh plain b r = grind (arith, opened)
 
 pub block-opened : (known : Anchors) (line c l : ℕ) (k : Key) (v : Value) (inner rest : Outline)
     (vs : List Written)
@@ -37,8 +37,7 @@ pub block-opened : (known : Anchors) (line c l : ℕ) (k : Key) (v : Value) (inn
     → entries known c (k.name ∷ []) rest ≡ Ok (found vs [])
     → block known line (below (word_at l c (key k None nothing)) inner rest)
     ≡ Ok (found (map_value l (written k v ∷ vs)) [])
-block-opened known line c l k v inner rest vs plain b r =
-    rw (block, opened known c l k v inner b, plain, r) refl
+block-opened known line c l k v inner rest vs plain b r = grind (arith, opened)
 
 pub entry-text : (known : Anchors) (c : ℕ) (seen : List (List ℕ)) (l : ℕ) (k t : List ℕ)
     (rest : Outline) (vs : List Written)
@@ -138,8 +137,7 @@ pub entries-parts : {X : Type 0} (known : Anchors) (c : ℕ) (part : X → Part)
     → (c == c) ≡ true → AreBlocks c part is xs → AreFree seen (map (λ x. (part x).name) xs)
     → Gives (SaysParts part is xs)
     (entries known c seen (outline (words ns (parts_cols c (map part xs)))))
-entries-parts known c part is seen [] ns here good free =
-    record { list = []; same = refl; says_so = tt }
+entries-parts known c part is seen [] ns here good free = grind arith
 entries-parts known c part is seen (x ∷ xs) ns here good free =
     let b = good.1 known (first ns) (others ns) in
     let r = entries-parts known c part is (seen ++ ((part x).name ∷ [])) xs

@@ -1,9 +1,9 @@
 -- Words by their columns and shapes, on any lines.
 use Rattle.std.proofs.Common.{◌≡◌, ℕ, Bool, true, false, List, [], ◌∷◌, ◌++◌, refl, ap, ◌∙◌, arith}
-use Rattle.std.proofs.Common.{None}
+use Rattle.std.proofs.Common.{None, rules}
 use Rattle.std.specs.Prelude.{◌&&◌, ◌||◌, ◌==◌, nat_lt}
 use Rattle.std.proofs.lemmas.Bool.Decides.{nat_tests}
-use Rattle.rvs_yaml_text.specs.Word.{Shape, key, nothing, text, Word, head_of, sort_of, is_bare_key}
+use Rattle.rvs_yaml_text.specs.Word.{Shape, key, nothing, text, Word, head_of}
 use Rattle.rvs_yaml_text.specs.Scalar.{key_name, quoted_name}
 use Rattle.rvs_yaml_text.specs.Text.{word_at}
 use Rattle.rvs_yaml.specs.Block.{end, below, outline}
@@ -33,8 +33,7 @@ behind (c ∷ cs) ns = behind cs (others ns)
 pub words-append : (ns : List ℕ) (xs ys : List Col)
     → words ns (xs ++ ys) ≡ words ns xs ++ words (behind xs ns) ys
 words-append ns [] ys = refl
-words-append ns (x ∷ xs) ys =
-    ap (λ ws. word_at (first ns) x.0 x.1 ∷ ws) (words-append (others ns) xs ys)
+words-append ns (x ∷ xs) ys = simp (words-append (others ns) xs ys)
 
 -- ---- parts: a key with nothing behind it, and the words below it
 pub record Part : Type 0 where
@@ -61,22 +60,17 @@ not-lt : (a b : ℕ) → nat_lt a b ≡ true → nat_lt b a ≡ false
 not-lt a b h = grind (arith, nat_tests)
 
 no-dash : (p q r : Bool) → p ≡ false → (p || (q && false && r)) ≡ false
-no-dash false true true e = refl
-no-dash false true false e = refl
-no-dash false false r e = refl
-no-dash true q r e = cc
+no-dash p q r e = grind arith
 
 stops-deeper : (l c : ℕ) (x : Col) (ns : List ℕ) (ps : List Part) → nat_lt c x.0 ≡ true
     → Stops (head_of (word_at l x.0 x.1)) (outline (words ns (parts_cols c ps)))
 stops-deeper l c x ns [] d = tt
-stops-deeper l c x ns (p ∷ ps) d =
-    no-dash (nat_lt x.0 c) (is_bare_key (sort_of x.1)) (x.0 == c) (not-lt c x.0 d)
+stops-deeper l c x ns (p ∷ ps) d = simp (no-dash, not-lt)
 
 all-stop : (c : ℕ) (ms ns : List ℕ) (xs : List Col) (ps : List Part) → IsDeeper c xs
     → AllStop (words ms xs) (outline (words ns (parts_cols c ps)))
 all-stop c ms ns [] ps d = tt
-all-stop c ms ns (x ∷ xs) ps d =
-    (stops-deeper (first ms) c x ns ps d.0, all-stop c (others ms) ns xs ps d.1)
+all-stop c ms ns (x ∷ xs) ps d = search (rules, stops-deeper, (all-stop c (others ms) ns xs ps d.1))
 
 same-column : (c : ℕ) → nat_lt c c ≡ false
 same-column c = grind (arith, nat_tests)

@@ -32,8 +32,7 @@ cut_groups (suc n) (g ∷ gs) =
     record { name = g.name; nodes = cut_nodes n g.nodes } ∷ cut_groups (left_nodes n g.nodes) gs
 
 take-none : (xs : List Col) → take 0 xs ≡ []
-take-none [] = refl
-take-none (x ∷ xs) = refl
+take-none xs = grind arith
 
 keys-cut : (n : ℕ) (ks : List (List ℕ)) (rest : List Col)
     → take n (points_cols 4 zero_text ks ++ rest)
@@ -124,12 +123,8 @@ pub are-groups : (n : ℕ) (gs : List Group) → AreGroups gs → AreGroups (cut
 are-groups zero [] a = tt
 are-groups (suc n) [] a = tt
 are-groups zero (g ∷ gs) a = tt
-are-groups (suc n) (g ∷ gs) a = (
-  a.0,
-  nodes-distinct n g.nodes a.1,
-  are-nodes n g.nodes a.2,
-  are-groups (left_nodes n g.nodes) gs a.3,
-)
+are-groups (suc n) (g ∷ gs) a =
+    grind (arith, nodes-distinct, are-nodes, (are-groups (left_nodes n g.nodes) gs a.3))
 
 -- ---- and no more nodes count for them
 take-count : (n : ℕ) (ks : List (List ℕ)) → keys_count (take n ks) ≤ keys_count ks
@@ -148,5 +143,4 @@ pub groups-count : (n : ℕ) (gs : List Group) → groups_count (cut_groups n gs
 groups-count zero [] = omega arith
 groups-count (suc n) [] = omega arith
 groups-count zero (g ∷ gs) = omega arith
-groups-count (suc n) (g ∷ gs) =
-    omega (arith, cut-count n g.nodes, groups-count (left_nodes n g.nodes) gs)
+groups-count (suc n) (g ∷ gs) = grind (arith, cut-count, (groups-count (left_nodes n g.nodes) gs))

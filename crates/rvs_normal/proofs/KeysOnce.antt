@@ -1,11 +1,11 @@
 -- Each map of an accepted text has each of its keys once.
 use Rattle.std.proofs.Common.{◌≡◌, ℕ, Bool, true, false, List, [], ◌∷◌, ◌++◌, refl, sym, ap, subst}
-use Rattle.std.proofs.Common.{◌∙◌, append_assoc, append-nil}
+use Rattle.std.proofs.Common.{◌∙◌, append_assoc, append-nil, arith, rules}
 use Rattle.std.specs.Prelude.{◌||◌, not, bytes_eq}
 use Rattle.std.specs.List.{list_any}
 use mathlib.Core.Bool.{cond}
 use Rattle.std.proofs.lemmas.List.Folds.{list_any-append}
-use Rattle.rvs_tree.specs.Data.{Data, scalar, sequence, mapping, Items, no_items, item, items_of}
+use Rattle.rvs_tree.specs.Data.{Data, Items, no_items, item, items_of}
 use Rattle.rvs_tree.specs.Data.{list_of, Entries, no_entries, entry, entries_of, pairs_of, Pairs}
 use Rattle.rvs_tree.specs.Data.{own_pairs}
 use Rattle.rvs_tree.specs.Value.{Value, list_value, map_value, trees, Written, has_key, pairs_in}
@@ -32,9 +32,7 @@ from-entries no_entries h = tt
 from-entries (entry k d es) h = (h.0, from-entries es h.1)
 
 own-pairs-owned : (d : Data) → KeysOnce d → PairsOwned (own_pairs d)
-own-pairs-owned (scalar t l) h = tt
-own-pairs-owned (sequence is l) h = tt
-own-pairs-owned (mapping es l) h = from-entries es h.1
+own-pairs-owned d h = search (rules, from-entries)
 
 pairs-append : (ps qs : Pairs) → PairsOwned ps → PairsOwned qs → PairsOwned (ps ++ qs)
 pairs-append [] qs h k = k
@@ -42,13 +40,10 @@ pairs-append (p ∷ ps) qs h k = (h.0, pairs-append ps qs h.1 k)
 
 pairs-in-owned : (is : Items) → ItemsOnce is → PairsOwned (pairs_in (list_of is))
 pairs-in-owned no_items h = tt
-pairs-in-owned (item d ds) h = pairs-append (own_pairs d) (pairs_in (list_of ds))
-    (own-pairs-owned d h.0) (pairs-in-owned ds h.1)
+pairs-in-owned (item d ds) h = grind (arith, pairs-append, own-pairs-owned, (pairs-in-owned ds h.1))
 
 merged-owned : (d : Data) → KeysOnce d → PairsOwned (merged_pairs d)
-merged-owned (scalar t l) h = tt
-merged-owned (sequence is l) h = pairs-in-owned is h
-merged-owned (mapping es l) h = from-entries es h.1
+merged-owned d h = search (rules, pairs-in-owned, from-entries)
 
 -- none of these keys is among the pairs
 abbrev pub NoneIn : List (List ℕ) → Pairs → Type 0
@@ -61,15 +56,12 @@ keys-append (p ∷ ps) qs = ap (λ ks. p.0 ∷ ks) (keys-append ps qs)
 
 has-pushed : (k : List ℕ) (ps : Pairs) (p : List ℕ × Data) → has_key k (keys_of ps) ≡ false
     → bytes_eq p.0 k ≡ false → has_key k (keys_of (ps ++ (p ∷ []))) ≡ false
-has-pushed k ps p h e = ap (has_key k) (keys-append ps (p ∷ []))
-    ∙ list_any-append (λ l. bytes_eq l k) (keys_of ps) (p.0 ∷ [])
-    ∙ or-last (has_key k (keys_of ps)) (bytes_eq p.0 k) h e
+has-pushed k ps p h e = simp (keys-append, list_any-append, or-last)
 
 any-pushed : (k : List ℕ) (ps : Pairs) (p : List ℕ × Data)
     → list_any (λ f. bytes_eq f.0 k) ps ≡ false → bytes_eq p.0 k ≡ false
     → list_any (λ f. bytes_eq f.0 k) (ps ++ (p ∷ [])) ≡ false
-any-pushed k ps p h e = list_any-append (λ f. bytes_eq f.0 k) ps (p ∷ [])
-    ∙ or-last (list_any (λ f. bytes_eq f.0 k) ps) (bytes_eq p.0 k) h e
+any-pushed k ps p h e = simp (list_any-append, or-last)
 
 -- a pair whose key none has may stand behind them
 own-pushed : (ps : Pairs) (p : List ℕ × Data) → keys_are_own ps ≡ true
@@ -212,8 +204,7 @@ written-append (v ∷ vs) us h k = (h.0, written-append vs us h.1 k)
 -- ---- one key more
 has-behind : (k : List ℕ) (ks : List (List ℕ)) (j : List ℕ) → has_key k ks ≡ false
     → bytes_eq j k ≡ false → has_key k (ks ++ (j ∷ [])) ≡ false
-has-behind k ks j h e =
-    list_any-append (λ l. bytes_eq l k) ks (j ∷ []) ∙ or-last (has_key k ks) (bytes_eq j k) h e
+has-behind k ks j h e = simp (list_any-append, or-last)
 
 pub apart-pushed : (ks : List (List ℕ)) (k : List ℕ) → Apart ks → has_key k ks ≡ false
     → Apart (ks ++ (k ∷ []))
@@ -225,8 +216,7 @@ apart-pushed (j ∷ ks) k a h =
 explicit-append : (ws : List Written) (w : Written)
     → explicit_keys (ws ++ (w ∷ [])) ≡ explicit_keys ws ++ own_key w
 explicit-append [] w = append-nil (own_key w)
-explicit-append (u ∷ ws) w = ap (λ ks. own_key u ++ ks) (explicit-append ws w)
-    ∙ sym (append_assoc (own_key u) (explicit_keys ws) (own_key w))
+explicit-append (u ∷ ws) w = simp (append_assoc, (explicit-append ws w))
 
 -- the key merges, or is new
 abbrev pub IsNew : List Written → Key → Type 0
@@ -234,12 +224,4 @@ IsNew ws k = (k.merges || not (has_key k.name (explicit_keys ws))) ≡ true
 
 pub apart-written : (ws : List Written) (k : Key) (v : Value) → Apart (explicit_keys ws)
     → IsNew ws k → Apart (explicit_keys (ws ++ (written k v ∷ [])))
-apart-written ws k v a n =
-    subst Apart (sym (explicit-append ws (written k v))) (by-case k.merges refl)
-  where
-    by-case : (b : Bool) → k.merges ≡ b → Apart (explicit_keys ws ++ own_key (written k v))
-    by-case true e = subst Apart (sym
-        (ap (λ b. explicit_keys ws ++ cond b [] (k.name ∷ [])) e ∙ append-nil (explicit_keys ws))) a
-    by-case false e = subst Apart (sym (ap (λ b. explicit_keys ws ++ cond b [] (k.name ∷ [])) e))
-        (apart-pushed (explicit_keys ws) k.name a
-        (or-true k.merges (has_key k.name (explicit_keys ws)) n e))
+apart-written ws k v a n = grind (arith, explicit-append, append-nil, apart-pushed, or-true)

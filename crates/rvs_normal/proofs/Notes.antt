@@ -1,18 +1,18 @@
 -- What is read from a tree: its skipped keys are printable, and its labels have the names of their
 -- entries.
 use Rattle.std.proofs.Common.{◌≡◌, ℕ, ◌+◌, Bool, true, false, List, [], ◌∷◌, ◌++◌, length, refl, ap}
-use Rattle.std.proofs.Common.{subst, ◌∙◌, Ok, Err}
-use Rattle.std.specs.Prelude.{◌&&◌, not, nat_le, nat_lt, if◌then◌else◌, bytes_eq, codes}
+use Rattle.std.proofs.Common.{subst, ◌∙◌, Ok, Err, arith, rules}
+use Rattle.std.specs.Prelude.{not, nat_le, nat_lt, if◌then◌else◌, bytes_eq, codes}
 use Rattle.std.specs.List.{list_any, list_all}
 use Rattle.std.proofs.lemmas.List.Folds.{list_any-append, list_all-append}
 use Rattle.rvs_insn.specs.Isa.{Isa}
-use Rattle.rvs_tree.specs.Data.{Data, Pairs, own_pairs, is_map}
+use Rattle.rvs_tree.specs.Data.{Data, Pairs, own_pairs}
 use Rattle.rvs_abstract.specs.declared.families.Families.{Families}
 use Rattle.rvs_cgf.specs.Keys.{is_printable, is_label_name}
 use Rattle.rvs_cgf.specs.Groups.{Point, Label, EntryNames, at_label, at_node, at_key, Found, ◌>>=◌}
 use Rattle.rvs_cgf.specs.Groups.{◌>>◌, holds, Taken, Nodes, Listed, entries, all_entries}
 use Rattle.rvs_cgf.specs.Groups.{passed_over, role_of, by_role, node_step, starting, for_each}
-use Rattle.rvs_cgf.specs.Groups.{main_of, first_points, selected_label, chosen, selects, label_of}
+use Rattle.rvs_cgf.specs.Groups.{main_of, first_points, selected_label, chosen, label_of}
 use Rattle.rvs_cgf.specs.Groups.{with_label, label_step, nothing_listed, groups_of}
 use Rattle.rvs_cgf.specs.Groups.{size_of}
 use Rattle.rvs_cgf.specs.Spelled.{keys_are_own}
@@ -36,39 +36,29 @@ Has P (Err e) = Unit {0}
 
 has-then : {A B : Type 0} (P : A → Type 0) (Q : B → Type 0) (a : Found A) (f : A → Found B)
     → Has P a → ((x : A) → P x → Has Q (f x)) → Has Q (a >>= f)
-has-then P Q (Ok x) f h k = k x h
-has-then P Q (Err e) f h k = tt
+has-then h e = grind arith
 
 has-next : {A B : Type 0} (Q : B → Type 0) (a : Found A) (f : A → Found B) → ((x : A) → Has Q (f x))
     → Has Q (a >>= f)
-has-next Q (Ok x) f k = k x
-has-next Q (Err e) f k = tt
+has-next h = grind arith
 
 has-of : {A : Type 0} (P : A → Type 0) (a : Found A) → ((x : A) → a ≡ Ok x → P x) → Has P a
-has-of P (Ok x) h = h x refl
-has-of P (Err e) h = tt
+has-of h = grind arith
 
 has-holds : {B : Type 0} (Q : B → Type 0) (good : Bool) (place : EntryNames) (kind : _)
     (b : Found B) → (good ≡ true → Has Q b) → Has Q (holds good place kind >> b)
-has-holds Q true place kind b h = h refl
-has-holds Q false place kind b h = tt
+has-holds h = grind arith
 
 has-if : {B : Type 0} (Q : B → Type 0) (t : Bool) (x y : Found B) → (t ≡ true → Has Q x)
     → (t ≡ false → Has Q y) → Has Q (if t then x else y)
-has-if Q true x y h k = h refl
-has-if Q false x y h k = k refl
+has-if h e = grind arith
 
 -- ---- notes
 abbrev pub Noted : Taken → Type 0
 Noted t = list_all is_note t.skipped ≡ true
 
 noted-kept : (Q : Point → Type 0) → Kept Noted Q
-noted-kept Q = record {
-  one = λ p t h q b c. h;
-  passed = λ s t n h. list_all-append is_note t.skipped (s ∷ [])
-      ∙ and-true (list_all is_note t.skipped) (is_note s && true) h
-      (and-true (is_note s) true n refl);
-}
+noted-kept Q = grind (arith, list_all-append, is_note, and-true)
 
 -- ---- nodes
 abbrev NodesNoted : Nodes → Type 0
@@ -129,18 +119,11 @@ label-named isa families name d h =
 chosen-named : (isa : Isa) (families : Families) (name : List ℕ) (d : Data) (b : Bool)
     → is_label_name name ≡ true
     → Has (IsNamed name) (chosen isa families name d b)
-chosen-named isa families name d true h = label-named isa families name d h
-chosen-named isa families name d false h =
-    (refl, and-true (is_printable name) true (name-printable name h) refl)
+chosen-named isa families name d b h = search (rules, label-named, and-true, name-printable)
 
 of-named : (isa : Isa) (families : Families) (name : List ℕ) (d : Data)
     → Has (IsNamed name) (label_of isa families name d)
-of-named isa families name d =
-    has-if (IsNamed name) (is_label_name name) _ _
-    (λ h. has-if (IsNamed name) (is_map d) _ _
-    (λ _. has-next (IsNamed name) (selects name _) _ (λ b. chosen-named isa families name d b h))
-    (λ _. tt))
-    (λ _. tt)
+of-named isa families name d = search (rules, has-if, has-next, chosen-named)
 
 -- no entry has the name of a label that stands before it
 abbrev Later : List Label → Pairs → Type 0
@@ -158,11 +141,7 @@ record Well (es : Pairs) (l : Listed) : Type 0 where
 
 later-less : (ls : List Label) (e : List ℕ × Data) (es : Pairs) → Later ls (e ∷ es) → Later ls es
 later-less [] e es h = tt
-later-less (l ∷ ls) e es h = (
-  (or-both (bytes_eq l.name e.0)
-      (list_any (λ f. bytes_eq l.name f.0) es) h.0).1,
-  later-less ls e es h.1,
-)
+later-less (l ∷ ls) e es h = grind (arith, or-both, (later-less ls e es h.1))
 
 later-push : (ls : List Label) (l : Label) (es : Pairs) → Later ls es
     → list_any (λ e. bytes_eq l.name e.0) es ≡ false → Later (ls ++ (l ∷ [])) es

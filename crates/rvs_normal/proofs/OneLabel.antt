@@ -1,5 +1,5 @@
 -- One label, printed and read again.
-use Rattle.std.proofs.Common.{◌≡◌, [], ◌∷◌, ◌++◌, pos, refl, sym, ap, subst, ◌∙◌, lit<, lit≤}
+use Rattle.std.proofs.Common.{◌≡◌, [], ◌∷◌, ◌++◌, pos, refl, sym, ap, subst, ◌∙◌, lit<, lit≤, rules}
 use Rattle.std.proofs.lemmas.Fmt.{decimal_digit}
 use Rattle.std.proofs.lemmas.List.Elements.{All-nil, All-cons}
 use Rattle.rvs_insn.specs.Isa.{Isa}
@@ -50,12 +50,7 @@ valid isa = record {
 }
 
 plain : (isa : Isa) → IsPlain isa example
-plain isa = record {
-  valid = valid isa;
-  apart = refl;
-  ops_are = refl;
-  own_name = refl;
-}
+plain isa = search (rules, valid)
 
 can : (isa : Isa) → CanBeSpelled isa (example ∷ [])
 can isa = record { plain = (plain isa, tt); few_labels = lit≤ tt; few_points = lit≤ tt }

@@ -1,20 +1,19 @@
 -- The words of printed groups are those of parts in parts.
-use Rattle.std.proofs.Common.{◌≡◌, ℕ, suc, Bool, true, false, List, [], ◌∷◌, ◌++◌, refl, sym, ap}
-use Rattle.std.proofs.Common.{◌∙◌, append_assoc, append-nil, Option, Some, None}
+use Rattle.std.proofs.lemmas.Bool.Decides.{nat_tests}
+use Rattle.std.proofs.Common.{◌≡◌, ℕ, suc, Bool, true, false, List, [], ◌∷◌, ◌++◌, refl, ap}
+use Rattle.std.proofs.Common.{◌∙◌, append_assoc, append-nil, Option, Some, None, arith}
 use Rattle.std.specs.Prelude.{if◌then◌else◌, map, filter, codes}
 use Rattle.rvs_yaml_text.specs.Word.{Word}
 use Rattle.rvs_yaml_text.specs.Text.{line_words}
 use Rattle.rvs_cgf.specs.Groups.{Point, Skipped, Label, same_kind}
 use Rattle.rvs_cgf.specs.declared.group.Kind.{Kind}
-use Rattle.rvs_cgf.specs.declared.group.Kind.TheVariants.{Mnemonic, Rs1, Rs2, Rd, OpComb, ValComb}
-use Rattle.rvs_cgf.specs.declared.group.Kind.TheVariants.{CrossComb}
 use Rattle.rvs_cgf.specs.Print.{kind_name, goes_on}
 use Rattle.rvs_cgf.specs.Spelled.{Block, joined, blocks, selected}
 use Rattle.rvs_normal.proofs.Lines.{inked-utf8}
 use Rattle.rvs_normal.proofs.Rows.{Row, label_row, node_row, point_row, note_row, inner_note_row}
 use Rattle.rvs_normal.proofs.Rows.{IsRow, row_words}
 use Rattle.rvs_normal.proofs.Columns.{Col, words, Part, opener, parts_cols, point_col, points_cols}
-use Rattle.rvs_normal.proofs.Printed.{head_rows, points_rows, skipped_row, label_rows, rows}
+use Rattle.rvs_normal.proofs.Printed.{points_rows, skipped_row, label_rows, rows}
 
 abbrev pub AreRows : List Row → Type 0
 AreRows [] = Unit {0}
@@ -51,19 +50,15 @@ lines n (r ∷ rs) = row_lines n r ++ lines (suc n) rs
 
 pub words-by-columns : (n : ℕ) (rs : List Row) → rows_words n rs ≡ words (lines n rs) (cols rs)
 words-by-columns n [] = refl
-words-by-columns n (label_row name ∷ rs) =
-    ap (λ ws. row_words n (label_row name) ++ ws) (words-by-columns (suc n) rs)
-words-by-columns n (node_row name ∷ rs) =
-    ap (λ ws. row_words n (node_row name) ++ ws) (words-by-columns (suc n) rs)
-words-by-columns n (point_row k ∷ rs) =
-    ap (λ ws. row_words n (point_row k) ++ ws) (words-by-columns (suc n) rs)
+words-by-columns n (label_row name ∷ rs) = grind (arith, nat_tests, (words-by-columns (suc n) rs))
+words-by-columns n (node_row name ∷ rs) = simp (row_words, node_row, (words-by-columns (suc n) rs))
+words-by-columns n (point_row k ∷ rs) = simp (row_words, point_row, (words-by-columns (suc n) rs))
 words-by-columns n (note_row t ∷ rs) = words-by-columns (suc n) rs
 words-by-columns n (inner_note_row t ∷ rs) = words-by-columns (suc n) rs
 
 cols-append : (xs ys : List Row) → cols (xs ++ ys) ≡ cols xs ++ cols ys
 cols-append [] ys = refl
-cols-append (x ∷ xs) ys = ap (λ cs. row_cols x ++ cs) (cols-append xs ys)
-    ∙ sym (append_assoc (row_cols x) (cols xs) (cols ys))
+cols-append (x ∷ xs) ys = simp (append_assoc, (cols-append xs ys))
 
 -- ---- parts
 abbrev pub keys : List Point → List (List ℕ)
@@ -85,90 +80,20 @@ cols_behind before (b ∷ bs) = head_cols before b.kind
     ++ (points_cols 4 (codes "0") (keys b.points) ++ parts_cols 2 (map node_part bs))
 
 whole : (bs : List Block) → cols_behind None bs ≡ parts_cols 2 (map node_part bs)
-whole [] = refl
-whole (b ∷ bs) = refl
+whole bs = grind arith
 
 pub same-kind-back : (j k : Kind) → same_kind j k ≡ same_kind k j
-same-kind-back Mnemonic Mnemonic = refl
-same-kind-back Mnemonic Rs1 = refl
-same-kind-back Mnemonic Rs2 = refl
-same-kind-back Mnemonic Rd = refl
-same-kind-back Mnemonic OpComb = refl
-same-kind-back Mnemonic ValComb = refl
-same-kind-back Mnemonic CrossComb = refl
-same-kind-back Rs1 Mnemonic = refl
-same-kind-back Rs1 Rs1 = refl
-same-kind-back Rs1 Rs2 = refl
-same-kind-back Rs1 Rd = refl
-same-kind-back Rs1 OpComb = refl
-same-kind-back Rs1 ValComb = refl
-same-kind-back Rs1 CrossComb = refl
-same-kind-back Rs2 Mnemonic = refl
-same-kind-back Rs2 Rs1 = refl
-same-kind-back Rs2 Rs2 = refl
-same-kind-back Rs2 Rd = refl
-same-kind-back Rs2 OpComb = refl
-same-kind-back Rs2 ValComb = refl
-same-kind-back Rs2 CrossComb = refl
-same-kind-back Rd Mnemonic = refl
-same-kind-back Rd Rs1 = refl
-same-kind-back Rd Rs2 = refl
-same-kind-back Rd Rd = refl
-same-kind-back Rd OpComb = refl
-same-kind-back Rd ValComb = refl
-same-kind-back Rd CrossComb = refl
-same-kind-back OpComb Mnemonic = refl
-same-kind-back OpComb Rs1 = refl
-same-kind-back OpComb Rs2 = refl
-same-kind-back OpComb Rd = refl
-same-kind-back OpComb OpComb = refl
-same-kind-back OpComb ValComb = refl
-same-kind-back OpComb CrossComb = refl
-same-kind-back ValComb Mnemonic = refl
-same-kind-back ValComb Rs1 = refl
-same-kind-back ValComb Rs2 = refl
-same-kind-back ValComb Rd = refl
-same-kind-back ValComb OpComb = refl
-same-kind-back ValComb ValComb = refl
-same-kind-back ValComb CrossComb = refl
-same-kind-back CrossComb Mnemonic = refl
-same-kind-back CrossComb Rs1 = refl
-same-kind-back CrossComb Rs2 = refl
-same-kind-back CrossComb Rd = refl
-same-kind-back CrossComb OpComb = refl
-same-kind-back CrossComb ValComb = refl
-same-kind-back CrossComb CrossComb = refl
+same-kind-back j k = grind arith
 
 joined-cols : (before : Option Kind) (p : Point) (bs : List Block)
     → head_cols before p.kind ++ (point_col 4 (codes "0") p.key ∷ cols_behind (Some p.kind) bs)
     ≡ cols_behind before (joined p bs)
-joined-cols before p [] = refl
-joined-cols before p (b ∷ bs) = by-case (same_kind b.kind p.kind) refl
-  where
-    by-case : (s : Bool) → same_kind b.kind p.kind ≡ s
-        → head_cols before p.kind
-        ++ (point_col 4 (codes "0") p.key ∷ cols_behind (Some p.kind) (b ∷ bs))
-        ≡ cols_behind before (joined p (b ∷ bs))
-    by-case true e = rw (e, joined, same-kind-back p.kind b.kind ∙ e, head_cols) refl
-    by-case false e = rw (e, joined, same-kind-back p.kind b.kind ∙ e, head_cols) refl
+joined-cols before p bs = grind arith
 
 points-cols : (before : Option Kind) (ps : List Point)
     → cols (points_rows before ps) ≡ cols_behind before (blocks ps)
 points-cols before [] = refl
-points-cols before (p ∷ ps) =
-    cols-append (head_rows before p.kind) (point_row p.key ∷ points_rows (Some p.kind) ps)
-    ∙ ap (λ cs. cs ++ (point_col 4 (codes "0") p.key ∷ cols (points_rows (Some p.kind) ps)))
-    (head-cols before p.kind)
-    ∙ ap (λ cs. head_cols before p.kind ++ (point_col 4 (codes "0") p.key ∷ cs))
-    (points-cols (Some p.kind) ps)
-    ∙ joined-cols before p (blocks ps)
-  where
-    head-cols : (before : Option Kind) (k : Kind) → cols (head_rows before k) ≡ head_cols before k
-    head-cols before k = by-case (goes_on before k) refl
-      where
-        by-case : (s : Bool) → goes_on before k ≡ s → cols (head_rows before k) ≡ head_cols before k
-        by-case true e = rw (e, head_rows, head_cols) refl
-        by-case false e = rw (e, head_rows, head_cols) refl
+points-cols before (p ∷ ps) = grind (arith, nat_tests, (points-cols (Some p.kind) ps))
 
 skipped-cols : (ss : List Skipped) → cols (map skipped_row ss) ≡ []
 skipped-cols [] = refl

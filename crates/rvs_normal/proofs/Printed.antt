@@ -1,9 +1,9 @@
 -- The normal text of groups by its lines, and their words.
-use Rattle.std.proofs.Common.{◌≡◌, ℕ, Bool, true, false, List, [], ◌∷◌, ◌++◌, refl, sym, ap, ◌∙◌}
-use Rattle.std.proofs.Common.{append_assoc, Option, Some, None}
-use Rattle.std.specs.Prelude.{◌==◌, if◌then◌else◌, map, codes}
+use Rattle.std.proofs.Common.{◌≡◌, ℕ, List, [], ◌∷◌, ◌++◌, refl, sym, ap, ◌∙◌}
+use Rattle.std.proofs.Common.{append_assoc, Option, Some, None, arith}
+use Rattle.std.specs.Prelude.{if◌then◌else◌, map, codes}
 use Rattle.std.specs.List.{flat_map}
-use Rattle.rvs_yaml_text.specs.Bytes.{feed_byte, single_quote_byte, colon_byte}
+use Rattle.rvs_yaml_text.specs.Bytes.{feed_byte}
 use Rattle.rvs_yaml_text.specs.Printed as yaml
 use Rattle.rvs_yaml_text.specs.Printed.{in_quotes}
 use Rattle.rvs_cgf.specs.Groups.{Point, Skipped, Label}
@@ -40,34 +40,17 @@ texts rs = fed (map row_text rs)
 
 texts-append : (xs ys : List Row) → texts (xs ++ ys) ≡ texts xs ++ texts ys
 texts-append [] ys = refl
-texts-append (x ∷ xs) ys = ap (λ r. row_text x ++ (feed_byte ∷ r)) (texts-append xs ys)
-    ∙ sym (append_assoc (row_text x) (feed_byte ∷ texts xs) (texts ys))
+texts-append (x ∷ xs) ys = simp (row_text, append_assoc, (texts-append xs ys))
 
 same-doubled : (k : List ℕ) → doubled k ≡ yaml.doubled k
 same-doubled [] = refl
-same-doubled (c ∷ cs) = by-case (c == single_quote_byte) refl (same-doubled cs)
-  where
-    by-case : (b : Bool) → (c == single_quote_byte) ≡ b → doubled cs ≡ yaml.doubled cs
-        → doubled (c ∷ cs) ≡ yaml.doubled (c ∷ cs)
-    by-case true e same =
-        rw (e, yaml.doubled) (ap (λ r. single_quote_byte ∷ single_quote_byte ∷ r) same)
-    by-case false e same = rw (e, yaml.doubled) (ap (λ r. c ∷ r) same)
+same-doubled (c ∷ cs) = grind (arith, (same-doubled cs))
 
 point-text : (k rest : List ℕ) → point_line k ++ rest ≡ row_text (point_row k) ++ (feed_byte ∷ rest)
-point-text k rest =
-    ap (λ d. codes "    '" ++ ((d ++ codes "': 0\n") ++ rest)) (same-doubled k)
-    ∙ ap (λ r. codes "    '" ++ r) (append_assoc (yaml.doubled k) (codes "': 0\n") rest)
-    ∙ sym (ap (λ r. codes "    '" ++ r)
-    (append_assoc (yaml.doubled k ++ (single_quote_byte ∷ [])) (codes ": 0") (feed_byte ∷ rest)
-    ∙ append_assoc (yaml.doubled k) (single_quote_byte ∷ []) (codes ": 0" ++ (feed_byte ∷ rest))))
+point-text k rest = simp (same-doubled, append_assoc)
 
 head-text : (before : Option Kind) (k : Kind) → head_line before k ≡ texts (head_rows before k)
-head-text before k = by-case (goes_on before k) refl
-  where
-    by-case : (b : Bool) → goes_on before k ≡ b → head_line before k ≡ texts (head_rows before k)
-    by-case true e = rw (e, head_line, head_rows) refl
-    by-case false e = rw (e, head_line, head_rows) (ap (λ r. codes "  " ++ r)
-        (sym (append_assoc (kind_name k) (colon_byte ∷ []) (feed_byte ∷ []))))
+head-text before k = grind (arith, append_assoc)
 
 points-text : (before : Option Kind) (ps : List Point)
     → points_text before ps ≡ texts (points_rows before ps)
@@ -82,33 +65,11 @@ points-text before (p ∷ ps) =
 
 skipped-text : (ss : List Skipped) → flat_map skipped_line ss ≡ texts (map skipped_row ss)
 skipped-text [] = refl
-skipped-text (s ∷ ss) =
-    ap (λ r. r ++ flat_map skipped_line ss) (one s)
-    ∙ append_assoc (row_text (skipped_row s)) (feed_byte ∷ []) (flat_map skipped_line ss)
-    ∙ ap (λ r. row_text (skipped_row s) ++ (feed_byte ∷ r)) (skipped-text ss)
-  where
-    one : (s : Skipped) → skipped_line s ≡ row_text (skipped_row s) ++ (feed_byte ∷ [])
-    one s = ap (λ r. codes "  # skipped " ++ r)
-        (ap (λ r. s.node ++ (codes " " ++ r)) refl
-        ∙ sym (append_assoc s.node (codes " " ++ s.key) (feed_byte ∷ [])))
+skipped-text (s ∷ ss) = simp (append_assoc, row_text, (skipped-text ss))
 
 label-text : (l : Label) → label_text l ≡ texts (label_rows l)
-label-text l = by-case l.selected refl
-  where
-    by-case : (b : Bool) → l.selected ≡ b → label_text l ≡ texts (label_rows l)
-    by-case true e = rw (e, label_text, label_rows)
-        (append_assoc l.name (codes ":\n")
-        (points_text None l.points ++ flat_map skipped_line l.skipped)
-        ∙ ap (λ r. l.name ++ (codes ":\n" ++ r))
-        (ap (λ r. r ++ flat_map skipped_line l.skipped) (points-text None l.points)
-        ∙ ap (λ r. texts (points_rows None l.points) ++ r) (skipped-text l.skipped)
-        ∙ sym (texts-append (points_rows None l.points) (map skipped_row l.skipped)))
-        ∙ sym (append_assoc l.name (colon_byte ∷ [])
-        (feed_byte ∷ texts (points_rows None l.points ++ map skipped_row l.skipped))))
-    by-case false e = rw (e, label_text, label_rows) (ap (λ r. codes "# unselected " ++ r) refl)
+label-text l = grind (arith, append_assoc, points-text, skipped-text, texts-append)
 
 pub groups-text : (ls : List Label) → normal_text ls ≡ texts (rows ls)
 groups-text [] = refl
-groups-text (l ∷ ls) = ap (λ r. r ++ normal_text ls) (label-text l)
-    ∙ ap (λ r. texts (label_rows l) ++ r) (groups-text ls)
-    ∙ sym (texts-append (label_rows l) (rows ls))
+groups-text (l ∷ ls) = simp (label-text, texts-append, (groups-text ls))

@@ -1,26 +1,23 @@
 -- The normal text of groups that were read is read again as the selected ones.
 use Rattle.std.proofs.Common.{◌≡◌, ℕ, ◌+◌, ◌*◌, ◌≤◌, ◌<◌, Bool, true, false, List, [], ◌∷◌, ◌++◌}
 use Rattle.std.proofs.Common.{length, refl, sym, ap, subst, ◌∙◌, arith, append_assoc, append-nil}
-use Rattle.std.proofs.Common.{Option, Some, None, Ok, Err, All, true≢false, bytes_eq}
-use Rattle.std.specs.Prelude.{◌==◌, not, codes, sum_by}
-use Rattle.std.specs.List.{list_all, list_any, flat_map}
+use Rattle.std.proofs.Common.{Option, Some, Ok, All, true≢false, bytes_eq, rules}
+use Rattle.std.specs.Prelude.{not, codes, sum_by}
+use Rattle.std.specs.List.{list_all, list_any}
 use Rattle.std.proofs.lemmas.List.{length-append}
 use Rattle.std.proofs.lemmas.List.Sums.{sum_by-cons}
 use Rattle.std.proofs.lemmas.List.Elements.{All-head, All-tail}
 use Rattle.rvs_insn.specs.Isa.{Isa}
 use Rattle.rvs_insn.specs.Names.{is_admitted_op}
-use Rattle.rvs_tree.specs.Data.{Data, Entries, no_entries, entry, pairs_of, own_pairs, scalar}
-use Rattle.rvs_tree.specs.Data.{sequence, mapping}
+use Rattle.rvs_tree.specs.Data.{Data, Entries, no_entries, entry, pairs_of, own_pairs}
 use Rattle.rvs_tree.specs.Value.{Value}
-use Rattle.rvs_yaml_text.specs.Text.{lines_of, words_of}
 use Rattle.rvs_yaml.specs.Checks.{Checked, ◌>>=◌, ◌>>◌}
-use Rattle.rvs_yaml.specs.Block.{tree_of}
-use Rattle.rvs_yaml.specs.Parsed.{within_limits, front, at_end, answer_after, answer}
+use Rattle.rvs_yaml.specs.Parsed.{within_limits, front, answer_after, answer}
 use Rattle.rvs_abstract.specs.declared.families.Families.{Families}
 use Rattle.rvs_cgf.specs.Keys.{is_printable}
-use Rattle.rvs_cgf.specs.Groups.{Point, Label, size_of, groups_of, ops_of}
-use Rattle.rvs_cgf.specs.Print.{doubled, doubled_byte, head_line, point_line, points_text}
-use Rattle.rvs_cgf.specs.Print.{skipped_line, label_text, normal_text}
+use Rattle.rvs_cgf.specs.Groups.{Point, Label, size_of, groups_of}
+use Rattle.rvs_cgf.specs.Print.{doubled, point_line, points_text}
+use Rattle.rvs_cgf.specs.Print.{label_text, normal_text}
 use Rattle.rvs_cgf.specs.Valid.{IsMeant}
 use Rattle.rvs_cgf.specs.Spelled.{IsPlain, ArePlain, selected, keys_are_own, nodes_are_own}
 use Rattle.rvs_cgf.specs.Spelled.{are_admitted, CanBeSpelled}
@@ -39,54 +36,27 @@ use Rattle.rvs_normal.proofs.Spelling.{printed-is-read, selected-first, selected
 -- ---- trees of texts
 tree-of-answer : (done ls : List (List ℕ)) (tree : Data) → answer_after done ls ≡ Ok tree
     → front (done ++ ls) ≡ Ok tree
-tree-of-answer done [] tree h = ap front (append-nil done) ∙ ended (front done) h
-  where
-    ended : (r : Checked Data) → at_end (length done) r ≡ Ok tree → r ≡ Ok tree
-    ended (Ok d) h = cc
-    ended (Err k) h = cc
+tree-of-answer done [] tree h = grind (arith, append-nil)
 tree-of-answer done (l ∷ ls) tree h =
-    by-front (front (done ++ (l ∷ []))) refl (tree-of-answer (done ++ (l ∷ [])) ls tree)
-  where
-    by-front : (r : Checked Data) → front (done ++ (l ∷ [])) ≡ r
-        → (answer_after (done ++ (l ∷ [])) ls ≡ Ok tree
-        → front ((done ++ (l ∷ [])) ++ ls) ≡ Ok tree)
-        → front (done ++ (l ∷ ls)) ≡ Ok tree
-    by-front (Ok d) e k =
-        ap front (sym (append_assoc done (l ∷ []) ls)) ∙ k (sym (rw (e, answer_after) refl) ∙ h)
-    by-front (Err kind) e k =
-        let bad : answer_after done (l ∷ ls) ≡ Err (length (done ++ (l ∷ [])), kind) =
-        rw (e, answer_after) refl in
-        let worse = sym bad ∙ h in
-        cc
+    grind (arith, append_assoc, (tree-of-answer (done ++ (l ∷ [])) ls tree))
 
 front-owned : (r : Checked Value) (tree : Data) → Has TreeOwned r
     → (r >>= (λ v. within_limits v >> Ok v.tree)) ≡ Ok tree → KeysOnce tree
-front-owned (Err k) tree o h = cc
-front-owned (Ok v) tree o h = subst KeysOnce (kept (within_limits v) h) o
-  where
-    kept : (c : Checked (Unit {0})) → (c >> Ok v.tree) ≡ Ok tree → v.tree ≡ tree
-    kept (Ok u) h = cc
-    kept (Err k) h = cc
+front-owned r tree o h = grind arith
 
 pub answer-owned : (bytes : List ℕ) (tree : Data) → answer bytes ≡ Ok tree → KeysOnce tree
-answer-owned bytes tree h = front-owned (tree_of (words_of 1 false (lines_of bytes))) tree
-    (tree-owned (words_of 1 false (lines_of bytes))) (tree-of-answer [] (lines_of bytes) tree h)
+answer-owned bytes tree h = grind (arith, front-owned, tree-owned, tree-of-answer)
 
 top-own : (d : Data) → KeysOnce d → keys_are_own (own_pairs d) ≡ true
-top-own (scalar t l) o = refl
-top-own (sequence is l) o = refl
-top-own (mapping es l) o = o.0
+top-own d o = grind arith
 
 each-own : (es : Entries) → EntriesOnce es
     → list_all (λ e. keys_are_own (own_pairs e.1)) (pairs_of es) ≡ true
 each-own no_entries o = refl
-each-own (entry k d es) o = and-true (keys_are_own (own_pairs d))
-    (list_all (λ e. keys_are_own (own_pairs e.1)) (pairs_of es)) (top-own d o.0) (each-own es o.1)
+each-own (entry k d es) o = grind (arith, and-true, top-own, (each-own es o.1))
 
 nodes-own : (d : Data) → KeysOnce d → nodes_are_own d ≡ true
-nodes-own (scalar t l) o = refl
-nodes-own (sequence is l) o = refl
-nodes-own (mapping es l) o = each-own es o.1
+nodes-own d o = search (rules, each-own)
 
 -- ---- labels that are printed
 points-printable : (ps : List Point) → All IsMeant ps → list_all (λ p. is_printable p.key) ps ≡ true
@@ -95,12 +65,7 @@ points-printable (p ∷ ps) h = and-true (is_printable p.key) (list_all (λ p. i
     (All-head IsMeant p ps h).printable (points-printable ps (All-tail IsMeant p ps h))
 
 plain-printed : (isa : Isa) (l : Label) → IsPlain isa l → IsPrinted l
-plain-printed isa l h = record {
-  named = h.valid.named;
-  keys_printable = points-printable l.points h.valid.meant;
-  distinct = h.valid.distinct;
-  apart = h.apart;
-}
+plain-printed isa l h = grind (arith, points-printable)
 
 all-printed : (isa : Isa) (ls : List Label) → ArePlain isa (selected ls) → AllNotes ls
     → ArePrinted ls
@@ -120,14 +85,7 @@ all-printed isa (l ∷ ls) h n = by-case l.selected refl (λ q. all-printed isa 
 
 -- a label with mnemonics has points
 some-points : (isa : Isa) (l : Label) → IsPlain isa l → IsSome l.points
-some-points isa l h = by-points l.points (subst (λ ops. 0 < length ops) h.ops_are h.valid.some_op)
-  where
-    by-points : (ps : List Point) → 0 < length (ops_of ps) → IsSome ps
-    by-points [] k = absurd (none k)
-      where
-        none : 0 < 0 → ⊥
-        none k = omega arith
-    by-points (p ∷ ps) k = tt
+some-points isa l h = grind arith
 
 all-some : (isa : Isa) (ls : List Label) → ArePlain isa ls → AllSome ls
 all-some isa [] h = tt
@@ -177,12 +135,7 @@ letters (l ∷ ls) = (length l.name + key_letters l.points) + letters ls
 
 doubled-long : (k : List ℕ) → length k ≤ length (doubled k)
 doubled-long [] = omega arith
-doubled-long (c ∷ cs) = by-case (c == 39) refl (doubled-long cs)
-  where
-    by-case : (b : Bool) → (c == 39) ≡ b → length cs ≤ length (doubled cs)
-        → length (c ∷ cs) ≤ length (doubled (c ∷ cs))
-    by-case true e h = rw (e, doubled_byte) (omega (arith, h))
-    by-case false e h = rw (e, doubled_byte) (omega (arith, h))
+doubled-long (c ∷ cs) = grind (arith, (doubled-long cs))
 
 point-long : (k : List ℕ) → length k ≤ length (point_line k)
 point-long k = omega (arith, doubled-long k, length-append (doubled k) (codes "': 0\n"))
@@ -191,36 +144,16 @@ points-long : (before : Option Kind) (ps : List Point)
     → key_letters ps ≤ length (points_text before ps)
 points-long before [] = omega arith
 points-long before (p ∷ ps) =
-    omega (
-      arith,
-      point-long p.key,
-      points-long (Some p.kind) ps,
-      length-append (head_line before p.kind ++ point_line p.key) (points_text (Some p.kind) ps),
-      length-append (head_line before p.kind) (point_line p.key),
-    )
+    grind (arith, point-long, length-append, (points-long (Some p.kind) ps))
 
 label-long : (l : Label) → l.selected ≡ true
     → length l.name + key_letters l.points ≤ length (label_text l)
-label-long l e =
-    rw (e, label_text) (omega (
-      arith,
-      points-long None l.points,
-      length-append (l.name ++ codes ":\n")
-          (points_text None l.points ++ flat_map skipped_line l.skipped),
-      length-append l.name (codes ":\n"),
-      length-append (points_text None l.points) (flat_map skipped_line l.skipped),
-    ))
+label-long l e = grind (arith, points-long, length-append)
 
 text-long : (ls : List Label) → letters (selected ls) ≤ length (normal_text ls)
 text-long [] = omega arith
-text-long (l ∷ ls) = by-case l.selected refl (text-long ls)
-  where
-    by-case : (b : Bool) → l.selected ≡ b → letters (selected ls) ≤ length (normal_text ls)
-        → letters (selected (l ∷ ls)) ≤ length (normal_text (l ∷ ls))
-    by-case true e h = let same = ap letters (selected-first l ls e) in
-        omega (arith, same, h, label-long l e, length-append (label_text l) (normal_text ls))
-    by-case false e h = let same = ap letters (selected-others l ls e) in
-        omega (arith, same, h, length-append (label_text l) (normal_text ls))
+text-long (l ∷ ls) =
+    grind (arith, selected-first, label-long, length-append, selected-others, (text-long ls))
 
 -- ---- how many nodes
 abbrev point_count : List Label → ℕ
@@ -241,20 +174,13 @@ times-more n m h = grind arith
 
 points-few : (isa : Isa) (ls : List Label) → ArePlain isa ls → point_count ls ≤ sum_by size_of ls
 points-few isa [] h = omega arith
-points-few isa (l ∷ ls) h = omega (
-  arith,
-  sum_by-cons size_of l ls,
-  points-few isa ls h.1,
-  times-more (length l.points) (length l.ops) h.0.valid.some_op,
-)
+points-few isa (l ∷ ls) h = omega (arith, (points-few isa ls h.1), sum_by-cons, times-more)
 
 -- ---- the whole
 plain-admitted : (isa : Isa) (ls : List Label) → ArePlain isa ls
     → list_all (λ l. list_all (is_admitted_op isa) l.ops) ls ≡ true
 plain-admitted isa [] h = refl
-plain-admitted isa (l ∷ ls) h = and-true (list_all (is_admitted_op isa) l.ops)
-    (list_all (λ m. list_all (is_admitted_op isa) m.ops) ls) h.0.valid.admitted
-    (plain-admitted isa ls h.1)
+plain-admitted isa (l ∷ ls) h = grind (arith, and-true, (plain-admitted isa ls h.1))
 
 -- what is known of groups that were read from a text
 record WasRead (isa : Isa) (ls : List Label) : Type 0 where
@@ -294,20 +220,9 @@ pub short-keeps : (isa : Isa) (families : Families) (bytes : List ℕ) (d : Data
     → groups_of isa families d ≡ Ok ls → length (normal_text ls) ≤ 4194304
     → KeepsLimit (normal_text ls)
 short-keeps isa families bytes d ls a g short =
-    let w = was-read isa families bytes d ls a g in
-    printed-keeps ls w.printed w.apart (omega (
-      arith,
-      whole-cost (selected ls),
-      labels-cost (selected ls),
-      points-few isa (selected ls) w.can.plain,
-      w.can.few_labels,
-      w.can.few_points,
-      text-long ls,
-      short,
-    ))
+    grind (arith, was-read, printed-keeps, whole-cost, labels-cost, points-few, text-long)
 
 pub own-admitted : (isa : Isa) (families : Families) (bytes : List ℕ) (d : Data) (ls : List Label)
     → answer bytes ≡ Ok d
     → groups_of isa families d ≡ Ok ls → are_admitted isa ls ≡ true
-own-admitted isa families bytes d ls a g =
-    plain-admitted isa (selected ls) (was-read isa families bytes d ls a g).can.plain
+own-admitted isa families bytes d ls a g = grind (arith, plain-admitted, was-read)

@@ -1,6 +1,6 @@
 -- The lines of printed groups, and their words.
-use Rattle.std.proofs.Common.{◌≡◌, ℕ, Bool, true, false, List, [], ◌∷◌, ◌++◌, refl, ap, ◌∙◌, arith}
-use Rattle.std.proofs.Common.{Some, None}
+use Rattle.std.proofs.Common.{◌≡◌, ℕ, Bool, true, false, List, [], ◌∷◌, ◌++◌, refl, ap, arith}
+use Rattle.std.proofs.Common.{Some, None, rules}
 use Rattle.std.specs.Prelude.{◌&&◌, ◌||◌, ◌==◌, nat_le}
 use Rattle.std.specs.List.{list_all}
 use Rattle.std.proofs.lemmas.Bool.Decides.{nat_tests}
@@ -12,7 +12,7 @@ use Rattle.rvs_yaml_text.specs.Scalar.{quoted_name, is_unsupported_start, is_res
 use Rattle.rvs_yaml_text.specs.Scalar.{is_indicator_byte}
 use Rattle.rvs_yaml_text.specs.Printed.{in_quotes, doubled}
 use Rattle.rvs_yaml_text.specs.Text.{word_at, words_at, last_words, line_words, is_mark, key_of}
-use Rattle.rvs_yaml_text.specs.Text.{shape_from, plain_key}
+use Rattle.rvs_yaml_text.specs.Text.{shape_from}
 use Rattle.rvs_yaml_text.proofs.Printing.{printed-reads-back}
 use Rattle.rvs_cgf.specs.Keys.{is_printable}
 use Rattle.rvs_normal.proofs.Truths.{both, and-true}
@@ -37,11 +37,7 @@ record NotMarks (c : ℕ) : Type 0 where
   colon : (c == 58) ≡ false
 
 not-marks : (c : ℕ) → is_next c ≡ true → NotMarks c
-not-marks c h = record {
-  space = grind (arith, nat_tests);
-  hash = grind (arith, nat_tests);
-  colon = grind (arith, nat_tests);
-}
+not-marks c h = grind arith
 
 split-name : (spaced : Bool) (cs : List ℕ) → list_all is_next cs ≡ true
     → key_split spaced (cs ++ (colon_byte ∷ [])) ≡ Some (cs, [])
@@ -73,43 +69,18 @@ record NotStart (c : ℕ) : Type 0 where
   less : (c == 60) ≡ false
 
 not-start : (c : ℕ) → is_first c ≡ true → NotStart c
-not-start c h = record {
-  unsupported = grind (arith, nat_tests);
-  reserved = grind (arith, nat_tests);
-  question = grind (arith, nat_tests);
-  indicator = grind (arith, nat_tests);
-  space = grind (arith, nat_tests);
-  tab = grind (arith, nat_tests);
-  hash = grind (arith, nat_tests);
-  dash = grind (arith, nat_tests);
-  dot = grind (arith, nat_tests);
-  single = grind (arith, nat_tests);
-  double = grind (arith, nat_tests);
-  less = grind (arith, nat_tests);
-}
+not-start c h = search rules
 
 first-next : (c : ℕ) → is_first c ≡ true → is_next c ≡ true
 first-next c h = rw h refl
 
 starts-well : (c : ℕ) (cs : List ℕ) → is_first c ≡ true → start_fault (c ∷ cs) ≡ None
-starts-well c cs h = let n = not-start c h in
-    rw (n.unsupported, n.reserved, n.indicator, n.question, start_fault) refl
+starts-well c cs h = grind (arith, not-start)
 
 key-of-name : (c : ℕ) (cs : List ℕ) → is_first c ≡ true → list_all is_next cs ≡ true
     → key_of (c ∷ (cs ++ (colon_byte ∷ []))) ≡ Some (key_name (c ∷ cs), [])
 key-of-name c cs h k =
-    let n = not-start c h in
-    let all : list_all is_next (c ∷ cs) ≡ true =
-    and-true (is_next c) (list_all is_next cs) (first-next c h) k in
-    rw (
-      n.single,
-      n.double,
-      key_of,
-      starts-well c (cs ++ (colon_byte ∷ [])) h,
-      split-name false (c ∷ cs) all,
-      trimmed-name (c ∷ cs) all,
-      plain_key,
-    ) refl
+    grind (arith, not-start, and-true, first-next, starts-well, split-name, trimmed-name)
 
 at-last : (line column c : ℕ) (bs : List ℕ) → (c == 32) ≡ false → (c == 45) ≡ false
     → words_at line false column (c ∷ bs) ≡ last_words line false column (c ∷ bs)
@@ -127,12 +98,7 @@ pub name-word : (line column c : ℕ) (cs : List ℕ) → is_first c ≡ true �
     → words_at line false column (c ∷ (cs ++ (colon_byte ∷ [])))
     ≡ word_at line column (key (key_name (c ∷ cs)) None nothing) ∷ []
 name-word line column c cs h k =
-    let n = not-start c h in
-    at-last line column c (cs ++ (colon_byte ∷ [])) n.space n.dash
-    ∙ last-word line column c (cs ++ (colon_byte ∷ [])) (not-blank c (cs ++ (colon_byte ∷ [])) h)
-    n.tab
-    ∙ ap (λ o. word_at line column (shape_from (c ∷ (cs ++ (colon_byte ∷ []))) o) ∷ [])
-    (key-of-name c cs h k)
+    search (rules, not-start, at-last, last-word, not-blank, key-of-name)
 
 pub merges-nothing : (c : ℕ) (cs : List ℕ) → is_first c ≡ true → (key_name (c ∷ cs)).merges ≡ false
 merges-nothing c cs h = let n = not-start c h in rw (n.less) refl
@@ -141,9 +107,7 @@ merges-nothing c cs h = let n = not-start c h in rw (n.less) refl
 pub quoted-word : (line : ℕ) (k : List ℕ)
     → words_at line false 4 (in_quotes k ++ (colon_byte ∷ space_byte ∷ 48 ∷ []))
     ≡ word_at line 4 (key (quoted_name k) None (text (48 ∷ []))) ∷ []
-quoted-word line k =
-    ap (λ o. word_at line 4 (shape_from (in_quotes k ++ (colon_byte ∷ space_byte ∷ 48 ∷ [])) o)
-    ∷ []) (printed-reads-back.keys k (space_byte ∷ 48 ∷ []) refl)
+quoted-word line k = grind (arith, printed-reads-back)
 
 -- ---- lines
 pub data Row : Type 0 where
@@ -184,9 +148,7 @@ name-inked (c ∷ cs) h = let p = both (is_next c) (list_all is_next cs) h in
     and-true (is_ink c) (is_printable cs) (next-ink c p.0) (name-inked cs p.1)
 
 pub plain-inked : (name : List ℕ) → is_plain name ≡ true → is_printable name ≡ true
-plain-inked [] h = refl
-plain-inked (c ∷ cs) h = let p = both (is_first c) (list_all is_next cs) h in
-    and-true (is_ink c) (is_printable cs) (next-ink c (first-next c p.0)) (name-inked cs p.1)
+plain-inked name h = search (rules, both, and-true, is_ink, next-ink, first-next, name-inked)
 
 doubled-inked : (k : List ℕ) → is_printable k ≡ true → is_printable (doubled k) ≡ true
 doubled-inked [] h = refl
@@ -201,45 +163,24 @@ doubled-inked (c ∷ cs) h =
         rw (e, doubled) (and-true (is_ink c) (is_printable (doubled cs)) i r)
 
 pub row-inked : (r : Row) → IsRow r → is_printable (row_text r) ≡ true
-row-inked (label_row name) h = inked-append name (colon_byte ∷ []) (plain-inked name h) refl
-row-inked (node_row name) h = inked-append name (colon_byte ∷ []) (plain-inked name h) refl
-row-inked (point_row k) h = inked-append (in_quotes k) (colon_byte ∷ space_byte ∷ 48 ∷ [])
-    (inked-append (doubled k) (single_quote_byte ∷ []) (doubled-inked k h) refl) refl
-row-inked (note_row t) h = h
-row-inked (inner_note_row t) h = h
+row-inked r h = search (rules, inked-append, plain-inked, doubled-inked)
 
 words-of-row : (line : ℕ) (r : Row) → IsRow r
     → words_at line false 0 (row_text r) ≡ row_words line r
 words-of-row line (label_row []) h = cc
-words-of-row line (label_row (c ∷ cs)) h = let p = both (is_first c) (list_all is_next cs) h in
-    name-word line 0 c cs p.0 p.1
+words-of-row line (label_row (c ∷ cs)) h = grind (arith, both, name-word)
 words-of-row line (node_row []) h = cc
-words-of-row line (node_row (c ∷ cs)) h = let p = both (is_first c) (list_all is_next cs) h in
-    name-word line 2 c cs p.0 p.1
+words-of-row line (node_row (c ∷ cs)) h = grind (arith, both, name-word)
 words-of-row line (point_row k) h = quoted-word line k
 words-of-row line (note_row t) h = refl
 words-of-row line (inner_note_row t) h = refl
 
 no-mark : (r : Row) → IsRow r → is_mark dash_byte (row_text r) ≡ false
-no-mark (label_row []) h = cc
-no-mark (label_row (c ∷ cs)) h = let n =
-    not-start c (both (is_first c) (list_all is_next cs) h).0 in rw (n.dash) refl
-no-mark (node_row name) h = refl
-no-mark (point_row k) h = refl
-no-mark (note_row t) h = refl
-no-mark (inner_note_row t) h = refl
+no-mark r h = grind arith
 
 no-dots : (r : Row) → IsRow r → is_mark dot_byte (row_text r) ≡ false
-no-dots (label_row []) h = cc
-no-dots (label_row (c ∷ cs)) h = let n =
-    not-start c (both (is_first c) (list_all is_next cs) h).0 in rw (n.dot) refl
-no-dots (node_row name) h = refl
-no-dots (point_row k) h = refl
-no-dots (note_row t) h = refl
-no-dots (inner_note_row t) h = refl
+no-dots r h = grind arith
 
 pub line-words : (line : ℕ) (started : Bool) (r : Row) → IsRow r
     → line_words line started (row_text r) ≡ row_words line r
-line-words line started r h = rw
-    (inked-utf8 (row_text r) (row-inked r h), no-mark r h, no-dots r h, line_words)
-    (words-of-row line r h)
+line-words line started r h = grind (arith, inked-utf8, row-inked, no-mark, no-dots, words-of-row)

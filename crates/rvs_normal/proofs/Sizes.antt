@@ -1,9 +1,9 @@
 -- Maps without merges: their pairs, how many nodes count for them, and how deep they are.
-use Rattle.std.proofs.Common.{◌≡◌, ℕ, suc, ◌+◌, ◌≤◌, max, min, false, List, [], ◌∷◌, ◌++◌, refl}
+use Rattle.std.proofs.Common.{◌≡◌, ℕ, suc, ◌+◌, ◌≤◌, min, false, List, [], ◌∷◌, ◌++◌, refl}
 use Rattle.std.proofs.Common.{sym, ap, ◌∙◌, arith, append_assoc, append-nil}
 use Rattle.std.specs.Prelude.{map}
 use Rattle.rvs_tree.specs.Data.{entries_of, pairs_of, own_pairs, Pairs, depth, entries_depth}
-use Rattle.rvs_tree.specs.Value.{Written, map_value, resolved, explicit_keys, written_nodes_from}
+use Rattle.rvs_tree.specs.Value.{Written, map_value, resolved, written_nodes_from}
 use Rattle.rvs_tree.specs.Value.{plus, text_nodes}
 
 abbrev pub AreOwn : List Written → Type 0
@@ -26,9 +26,7 @@ pairs-back (e ∷ es) = ap (λ r. e ∷ r) (pairs-back es)
 
 pub own-pairs : (line : ℕ) (ws : List Written) → AreOwn ws
     → own_pairs (map_value line ws).tree ≡ pairs ws
-own-pairs line ws own =
-    ap (λ es. pairs_of (entries_of es)) (resolved-own (explicit_keys ws) [] ws own)
-    ∙ pairs-back (pairs ws)
+own-pairs line ws own = simp (resolved-own, pairs-back)
 
 -- ---- depth
 abbrev pub AreShallow : ℕ → List Written → Type 0
@@ -38,17 +36,11 @@ AreShallow d (w ∷ ws) = (depth w.value.tree ≤ d) × AreShallow d ws
 pairs-depth : (d : ℕ) (ws : List Written) → AreShallow d ws
     → entries_depth (entries_of (pairs ws)) ≤ d
 pairs-depth d [] s = omega arith
-pairs-depth d (w ∷ ws) s = max-under (depth w.value.tree) (entries_depth (entries_of (pairs ws))) d
-    s.0 (pairs-depth d ws s.1)
-  where
-    max-under : (a b d : ℕ) → a ≤ d → b ≤ d → max a b ≤ d
-    max-under a b d h k = grind arith
+pairs-depth d (w ∷ ws) s = grind (arith, (pairs-depth d ws s.1))
 
 pub map-depth : (d line : ℕ) (ws : List Written) → AreOwn ws → AreShallow d ws
     → depth (map_value line ws).tree ≤ suc d
-map-depth d line ws own s = let e =
-    ap (λ es. entries_depth (entries_of es)) (resolved-own (explicit_keys ws) [] ws own) in
-    omega (arith, pairs-depth d ws s, e)
+map-depth d line ws own s = grind (arith, resolved-own, pairs-depth)
 
 -- ---- nodes
 -- how many nodes count for the entries, their keys among them

@@ -1,7 +1,7 @@
 -- The normal text of groups is read as a tree that spells them.
 use Rattle.std.proofs.Common.{◌≡◌, ℕ, ◌+◌, ◌*◌, ◌≤◌, Bool, true, false, List, [], ◌∷◌, ◌++◌, length}
 use Rattle.std.proofs.Common.{refl, sym, ap, subst, ◌∙◌, arith, Ok, None, Some, Option}
-use Rattle.std.specs.Prelude.{◌&&◌, ◌||◌, map, codes, nat_le}
+use Rattle.std.specs.Prelude.{◌&&◌, ◌||◌, map, codes}
 use Rattle.std.specs.List.{list_all}
 use mathlib.Core.Bool.{cond}
 use Rattle.std.proofs.lemmas.Bool.Decides.{nat_tests}
@@ -11,18 +11,16 @@ use Rattle.rvs_yaml_text.specs.Scalar.{key_name}
 use Rattle.rvs_yaml.specs.Parsed.{answer}
 use Rattle.rvs_abstract.specs.Calls.{is_letter, is_digit}
 use Rattle.rvs_cgf.specs.Keys.{is_name_byte, is_label_name, is_printable}
-use Rattle.rvs_cgf.specs.Groups.{Point, Skipped, Label, same_kind, is_empty_scalar}
+use Rattle.rvs_cgf.specs.Groups.{Point, Skipped, Label, is_empty_scalar}
 use Rattle.rvs_cgf.specs.declared.group.Kind.{Kind}
-use Rattle.rvs_cgf.specs.declared.group.Kind.TheVariants.{Mnemonic, Rs1, Rs2, Rd, OpComb, ValComb}
-use Rattle.rvs_cgf.specs.declared.group.Kind.TheVariants.{CrossComb}
-use Rattle.rvs_cgf.specs.Print.{kind_name, goes_on, normal_text}
+use Rattle.rvs_cgf.specs.Print.{kind_name, normal_text}
 use Rattle.rvs_cgf.specs.Spelled.{Block, joined, blocks, selected, kinds_are_apart, SpellsKeys}
 use Rattle.rvs_cgf.specs.Spelled.{SpellsNodes, SpellsLabels, SpellsAll, Spells}
 use Rattle.rvs_cgf.specs.Valid.{are_distinct}
 use Rattle.rvs_normal.specs.Again.{names_are_apart, notes_are_printable, KeepsLimit}
 use Rattle.rvs_normal.proofs.Truths.{both, and-true}
 use Rattle.rvs_normal.proofs.Lines.{inked-append}
-use Rattle.rvs_normal.proofs.Rows.{is_first, is_next, is_plain, merges-nothing, Row, point_row}
+use Rattle.rvs_normal.proofs.Rows.{is_first, is_next, is_plain, Row, point_row}
 use Rattle.rvs_normal.proofs.Columns.{parts_cols}
 use Rattle.rvs_normal.proofs.Blocks.{SaysTexts, SaysParts}
 use Rattle.rvs_normal.proofs.Sizes.{pairs, own-pairs}
@@ -49,12 +47,7 @@ same-nodes (b ∷ bs) = ap (λ ps. placed.node_part b ∷ ps) (same-nodes bs)
 
 same-groups : (ls : List Label) → map placed.label_part ls ≡ map group_part (map group_of ls)
 same-groups [] = refl
-same-groups (l ∷ ls) =
-    ap (λ ps. record {
-      name = l.name;
-      inner = parts_cols 2 ps;
-    } ∷ map placed.label_part ls) (same-nodes (blocks l.points))
-    ∙ ap (λ ps. group_part (group_of l) ∷ ps) (same-groups ls)
+same-groups (l ∷ ls) = simp (parts_cols, same-nodes, group_part, (same-groups ls))
 
 -- ---- what is known of labels
 pub record IsPrinted (l : Label) : Type 0 where
@@ -81,47 +74,23 @@ next-bytes (c ∷ cs) h = let p = both (is_name_byte c) (list_all is_name_byte c
     and-true (is_next c) (list_all is_next cs) (next-byte c p.0) (next-bytes cs p.1)
 
 pub name-plain : (name : List ℕ) → is_label_name name ≡ true → is_plain name ≡ true
-name-plain [] h = h
-name-plain (c ∷ cs) h =
-    let p = both (is_letter c || is_digit c)
-    (list_all is_name_byte (c ∷ cs) && nat_le (length (c ∷ cs)) 64) h in
-    let q = both (list_all is_name_byte (c ∷ cs)) (nat_le (length (c ∷ cs)) 64) p.1 in
-    let r = both (is_name_byte c) (list_all is_name_byte cs) q.0 in
-    and-true (is_first c) (list_all is_next cs) (first-byte c p.0) (next-bytes cs r.1)
+name-plain name h = grind arith
 
 name-merges : (name : List ℕ) → is_label_name name ≡ true → (key_name name).merges ≡ false
-name-merges [] h = cc
-name-merges (c ∷ cs) h = merges-nothing c cs (first-byte c (both (is_letter c || is_digit c)
-    (list_all is_name_byte (c ∷ cs) && nat_le (length (c ∷ cs)) 64) h).0)
+name-merges name h = grind arith
 
 kind-plain : (k : Kind) → is_plain (kind_name k) ≡ true
-kind-plain Mnemonic = refl
-kind-plain Rs1 = refl
-kind-plain Rs2 = refl
-kind-plain Rd = refl
-kind-plain OpComb = refl
-kind-plain ValComb = refl
-kind-plain CrossComb = refl
+kind-plain k = grind arith
 
 kind-merges : (k : Kind) → (key_name (kind_name k)).merges ≡ false
-kind-merges Mnemonic = refl
-kind-merges Rs1 = refl
-kind-merges Rs2 = refl
-kind-merges Rd = refl
-kind-merges OpComb = refl
-kind-merges ValComb = refl
-kind-merges CrossComb = refl
+kind-merges k = grind arith
 
 rows-append : (xs ys : List Row) → AreRows xs → AreRows ys → AreRows (xs ++ ys)
 rows-append [] ys a b = b
 rows-append (x ∷ xs) ys a b = (a.0, rows-append xs ys a.1 b)
 
 head-good : (before : Option Kind) (k : Kind) → AreRows (head_rows before k)
-head-good before k = by-case (goes_on before k) refl
-  where
-    by-case : (s : Bool) → goes_on before k ≡ s → AreRows (head_rows before k)
-    by-case true e = rw (e, head_rows) tt
-    by-case false e = rw (e, head_rows) (kind-plain k, tt)
+head-good before k = grind (arith, head_rows, kind-plain)
 
 points-good : (before : Option Kind) (ps : List Point)
     → list_all (λ p. is_printable p.key) ps ≡ true → AreRows (points_rows before ps)
@@ -164,8 +133,7 @@ label-good l h n = by-case l.selected refl
 
 rows-good : (ls : List Label) → ArePrinted ls → AreRows (rows ls)
 rows-good [] h = tt
-rows-good (l ∷ ls) h =
-    rows-append (label_rows l) (rows ls) (label-good l h.0 h.1) (rows-good ls h.2)
+rows-good (l ∷ ls) h = grind (arith, rows-append, label_rows, rows, label-good, (rows-good ls h.2))
 
 -- ---- the selected labels
 abbrev pub AllPrinted : List Label → Type 0
@@ -182,12 +150,7 @@ selected-others l ls e = ap (λ s. cond s (l ∷ selected ls) (selected ls)) e
 
 selected-printed : (ls : List Label) → ArePrinted ls → AllPrinted (selected ls)
 selected-printed [] h = tt
-selected-printed (l ∷ ls) h = by-case l.selected refl (selected-printed ls h.2)
-  where
-    by-case : (s : Bool) → l.selected ≡ s → AllPrinted (selected ls)
-        → AllPrinted (selected (l ∷ ls))
-    by-case true e others = subst AllPrinted (sym (selected-first l ls e)) (h.0 e, others)
-    by-case false e others = subst AllPrinted (sym (selected-others l ls e)) others
+selected-printed (l ∷ ls) h = grind (arith, nat_tests, (selected-printed ls h.2))
 
 nodes-good : (bs : List Block) → AllDistinct bs → AreNodes (map node_of bs)
 nodes-good [] d = tt
@@ -216,25 +179,12 @@ points_cost [] = 0
 points_cost (p ∷ ps) = (138 + length p.key) + points_cost ps
 
 kind-short : (k : Kind) → length (kind_name k) ≤ 10
-kind-short Mnemonic = omega arith
-kind-short Rs1 = omega arith
-kind-short Rs2 = omega arith
-kind-short Rd = omega arith
-kind-short OpComb = omega arith
-kind-short ValComb = omega arith
-kind-short CrossComb = omega arith
+kind-short k = grind arith
 
 joined-cost : (p : Point) (bs : List Block)
     → 64 * nodes_count (map node_of (joined p bs))
     ≤ (138 + length p.key) + 64 * nodes_count (map node_of bs)
-joined-cost p [] = omega (arith, kind-short p.kind)
-joined-cost p (b ∷ bs) = by-case (same_kind b.kind p.kind) refl
-  where
-    by-case : (s : Bool) → same_kind b.kind p.kind ≡ s
-        → 64 * nodes_count (map node_of (joined p (b ∷ bs)))
-        ≤ (138 + length p.key) + 64 * nodes_count (map node_of (b ∷ bs))
-    by-case true e = rw (e, joined) (omega (arith, kind-short p.kind))
-    by-case false e = rw (e, joined) (omega (arith, kind-short p.kind))
+joined-cost p bs = grind arith
 
 blocks-cost : (ps : List Point) → 64 * nodes_count (map node_of (blocks ps)) ≤ points_cost ps
 blocks-cost [] = omega arith
@@ -302,28 +252,17 @@ nodes-map (b ∷ bs) v some f h = (
 )
 
 joined-full : (p : Point) (bs : List Block) → NoneEmpty bs → NoneEmpty (joined p bs)
-joined-full p [] f = (tt, tt)
-joined-full p (b ∷ bs) f = by-case (same_kind b.kind p.kind) refl
-  where
-    by-case : (s : Bool) → same_kind b.kind p.kind ≡ s → NoneEmpty (joined p (b ∷ bs))
-    by-case true e = rw (e, joined) (tt, f.1)
-    by-case false e = rw (e, joined) (tt, f)
+joined-full p bs f = grind arith
 
 blocks-full : (ps : List Point) → NoneEmpty (blocks ps)
 blocks-full [] = tt
 blocks-full (p ∷ ps) = joined-full p (blocks ps) (blocks-full ps)
 
 joined-some : (p : Point) (bs : List Block) → SomeBlock (joined p bs)
-joined-some p [] = tt
-joined-some p (b ∷ bs) = by-case (same_kind b.kind p.kind) refl
-  where
-    by-case : (s : Bool) → same_kind b.kind p.kind ≡ s → SomeBlock (joined p (b ∷ bs))
-    by-case true e = rw (e, joined) tt
-    by-case false e = rw (e, joined) tt
+joined-some p bs = grind arith
 
 some-blocks : (ps : List Point) → IsSome ps → SomeBlock (blocks ps)
-some-blocks [] f = absurd f
-some-blocks (p ∷ ps) f = joined-some p (blocks ps)
+some-blocks ps f = grind arith
 
 spells-labels : (ls : List Label) (ws : List Written) → AllSome ls
     → SaysParts group_part IsGroup (map group_of ls) ws → SpellsLabels ls (pairs ws)
@@ -331,9 +270,7 @@ spells-labels [] [] f s = tt
 spells-labels [] (w ∷ ws) f s = absurd s
 spells-labels (l ∷ ls) [] f s = absurd s
 spells-labels (l ∷ ls) (w ∷ ws) f s =
-    let m =
-    nodes-map (blocks l.points) w.value (some-blocks l.points f.0) (blocks-full l.points) s.2 in
-    (s.0, m.0, m.1, spells-labels ls ws f.1 s.3)
+    grind (arith, nodes-map, some-blocks, blocks-full, (spells-labels ls ws f.1 s.3))
 
 spells-all : (ls : List Label) (v : Value) → AllSome ls → HasGroups (map group_of ls) v
     → SpellsAll ls v.tree
@@ -363,23 +300,14 @@ printed-shows ls good apart = record {
 
 pub printed-few : (ls : List Label) → ArePrinted ls → names_are_apart (selected ls) ≡ true
     → KeepsLimit (normal_text ls) → 1 + groups_count (map group_of (selected ls)) ≤ 500000
-printed-few ls good apart keeps =
-    limit-few (rows ls) (map group_of (selected ls)) (printed-shows ls good apart)
-    (subst KeepsLimit (groups-text ls) keeps)
+printed-few ls good apart keeps = grind (arith, limit-few, rows, printed-shows, groups-text)
 
 pub printed-keeps : (ls : List Label) → ArePrinted ls → names_are_apart (selected ls) ≡ true
     → 1 + groups_count (map group_of (selected ls)) ≤ 500000 → KeepsLimit (normal_text ls)
-printed-keeps ls good apart few =
-    subst KeepsLimit (sym (groups-text ls))
-    (few-limit (rows ls) (map group_of (selected ls)) (printed-shows ls good apart) few)
+printed-keeps ls good apart few = grind (arith, groups-text, few-limit, rows, printed-shows)
 
 pub printed-is-read : (ls : List Label) → ArePrinted ls → AllSome (selected ls)
     → names_are_apart (selected ls) ≡ true
     → 1 + groups_count (map group_of (selected ls)) ≤ 500000 → IsRead ls
 printed-is-read ls good some apart few =
-    let a = rows-answered (rows ls) (map group_of (selected ls)) (printed-shows ls good apart) few
-    in record {
-      tree = a.value.tree;
-      is = ap answer (groups-text ls) ∙ a.is;
-      spells = spells-all (selected ls) a.value some a.has;
-    }
+    grind (arith, rows-answered, rows, printed-shows, groups-text, spells-all)

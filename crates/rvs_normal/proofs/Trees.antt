@@ -1,6 +1,6 @@
 -- Maps of maps of maps: their words give their tree, of which each node is counted.
 use Rattle.std.proofs.Common.{◌≡◌, ℕ, suc, ◌+◌, ◌≤◌, min, false, List, [], ◌∷◌, ◌++◌, refl, sym}
-use Rattle.std.proofs.Common.{ap, subst, arith}
+use Rattle.std.proofs.Common.{subst, arith, rules}
 use Rattle.std.specs.Prelude.{map, codes}
 use Rattle.rvs_tree.specs.Data.{depth}
 use Rattle.rvs_tree.specs.Value.{Value, Written, scalar_value, plus, text_nodes}
@@ -83,14 +83,12 @@ points-deeper (k ∷ ks) = (refl, points-deeper ks)
 
 are-blocks : (ns : List Node) → AreNodes ns → AreBlocks 2 node_part IsNode ns
 are-blocks [] good = tt
-are-blocks (n ∷ ns) good =
-    (points-deeper n.keys, keys-block n.keys good.1, good.0, are-blocks ns good.2)
+are-blocks (n ∷ ns) good = grind (arith, points-deeper, keys-block, (are-blocks ns good.2))
 
 nodes-block : (ns : List Node) → Distinct (node_names ns) → AreNodes ns
     → Blocks (HasNodes ns) (parts_cols 2 (map node_part ns))
 nodes-block [] d good = no-block (HasNodes []) (λ l. (l, refl))
-nodes-block (n ∷ ns) d good = block-parts 2 node_part IsNode n ns refl (are-blocks (n ∷ ns) good)
-    (free n.name (node_names ns) d)
+nodes-block (n ∷ ns) d good = search (rules, block-parts, are-blocks, free)
 
 points-deep : (ks : List (List ℕ)) → IsDeeper 0 (points_cols 4 zero_text ks)
 points-deep [] = tt
@@ -102,22 +100,17 @@ deeper-append c (x ∷ xs) ys d e = (d.0, deeper-append c xs ys d.1 e)
 
 nodes-deeper : (ns : List Node) → IsDeeper 0 (parts_cols 2 (map node_part ns))
 nodes-deeper [] = tt
-nodes-deeper (n ∷ ns) = (
-  refl,
-  deeper-append 0 (points_cols 4 zero_text n.keys)
-      (parts_cols 2 (map node_part ns)) (points-deep n.keys) (nodes-deeper ns),
-)
+nodes-deeper (n ∷ ns) =
+    grind (arith, deeper-append, points_cols, parts_cols, points-deep, (nodes-deeper ns))
 
 groups-blocks : (gs : List Group) → AreGroups gs → AreBlocks 0 group_part IsGroup gs
 groups-blocks [] good = tt
-groups-blocks (g ∷ gs) good =
-    (nodes-deeper g.nodes, nodes-block g.nodes good.1 good.2, good.0, groups-blocks gs good.3)
+groups-blocks (g ∷ gs) good = grind (arith, nodes-deeper, nodes-block, (groups-blocks gs good.3))
 
 pub groups-block : (gs : List Group) → Distinct (group_names gs) → AreGroups gs
     → Blocks (HasGroups gs) (all_cols gs)
 groups-block [] d good = no-block (HasGroups []) (λ l. (l, refl))
-groups-block (g ∷ gs) d good = block-parts 0 group_part IsGroup g gs refl
-    (groups-blocks (g ∷ gs) good) (free g.name (group_names gs) d)
+groups-block (g ∷ gs) d good = search (rules, block-parts, groups-blocks, free)
 
 -- ---- nothing merges
 pub own-of-texts : (t : List ℕ) (ks : List (List ℕ)) (ws : List Written) → SaysTexts t ks ws
@@ -160,8 +153,7 @@ record AreSized (count deep : ℕ) (ws : List Written) : Type 0 where
 
 scalar-size : (t : List ℕ) (deep : ℕ) (v : Value) → IsText t v → plus 1 (text_nodes t) ≡ 1
     → 1 ≤ deep → HasSize 1 deep v
-scalar-size t deep v is one d =
-    subst (λ u. HasSize 1 deep u) (sym is.1) (record { nodes = one; depth = d })
+scalar-size t deep v is one d = grind arith
 
 none-sized : (deep : ℕ) → AreSized 0 deep []
 none-sized deep = record { nodes = refl; shallow = tt }
@@ -169,12 +161,7 @@ none-sized deep = record { nodes = refl; shallow = tt }
 one-sized : (name : List ℕ) (count rest deep : ℕ) (w : Written) (ws : List Written)
     → w.key ≡ name → HasSize count deep w.value → AreSized rest deep ws
     → AreSized ((text_nodes name + count) + rest) deep (w ∷ ws)
-one-sized name count rest deep w ws e first others =
-    let named : text_nodes w.key ≡ text_nodes name = ap text_nodes e in
-    record {
-      nodes = omega (arith, named, first.nodes, others.nodes);
-      shallow = (first.depth, others.shallow);
-    }
+one-sized name count rest deep w ws e first others = grind arith
 
 map-size : (says : List Written → Type 0) (count deep : ℕ) (v : Value) (h : Maps says v)
     → AreOwn h.list → AreSized count deep h.list → HasSize (1 + count) (suc deep) v
@@ -189,8 +176,7 @@ texts-sized : (ks : List (List ℕ)) (ws : List Written) → SaysTexts zero_text
 texts-sized [] [] s = none-sized 1
 texts-sized [] (w ∷ ws) s = absurd s
 texts-sized (k ∷ ks) [] s = absurd s
-texts-sized (k ∷ ks) (w ∷ ws) s = one-sized k 1 (keys_count ks) 1 w ws s.0
-    (scalar-size zero_text 1 w.value s.2 refl (omega arith)) (texts-sized ks ws s.3)
+texts-sized (k ∷ ks) (w ∷ ws) s = grind (arith, one-sized, scalar-size, (texts-sized ks ws s.3))
 
 keys-size : (ks : List (List ℕ)) (v : Value) → HasKeys ks v → HasSize (1 + keys_count ks) 2 v
 keys-size [] v h = scalar-size [] 2 v h refl (omega arith)
@@ -202,8 +188,7 @@ nodes-sized : (ns : List Node) (ws : List Written) → SaysParts node_part IsNod
 nodes-sized [] [] s = none-sized 2
 nodes-sized [] (w ∷ ws) s = absurd s
 nodes-sized (n ∷ ns) [] s = absurd s
-nodes-sized (n ∷ ns) (w ∷ ws) s = one-sized n.name (1 + keys_count n.keys) (nodes_count ns) 2 w ws
-    s.0 (keys-size n.keys w.value s.2) (nodes-sized ns ws s.3)
+nodes-sized (n ∷ ns) (w ∷ ws) s = grind (arith, one-sized, keys-size, (nodes-sized ns ws s.3))
 
 nodes-size : (ns : List Node) (v : Value) → HasNodes ns v → HasSize (1 + nodes_count ns) 3 v
 nodes-size [] v h = scalar-size [] 3 v h refl (omega arith)
@@ -217,9 +202,7 @@ groups-sized : (gs : List Group) (ws : List Written) → SaysParts group_part Is
 groups-sized [] [] s = none-sized 3
 groups-sized [] (w ∷ ws) s = absurd s
 groups-sized (g ∷ gs) [] s = absurd s
-groups-sized (g ∷ gs) (w ∷ ws) s =
-    one-sized g.name (1 + nodes_count g.nodes) (groups_count gs) 3 w ws s.0
-    (nodes-size g.nodes w.value s.2) (groups-sized gs ws s.3)
+groups-sized (g ∷ gs) (w ∷ ws) s = grind (arith, one-sized, nodes-size, (groups-sized gs ws s.3))
 
 pub groups-size : (gs : List Group) (v : Value) → HasGroups gs v → HasSize (1 + groups_count gs) 4 v
 groups-size [] v h = scalar-size [] 4 v h refl (omega arith)

@@ -1,6 +1,6 @@
 -- Lines of points, and how many of them are measured, one after another.
 use Rattle.std.proofs.Common.{◌≡◌, ℕ, zero, suc, ◌+◌, ◌<◌, List, [], ◌∷◌, ◌++◌, length, map, drop}
-use Rattle.std.proofs.Common.{get_or, refl, sym, ap, ◌∙◌, arith, append_assoc, append-nil}
+use Rattle.std.proofs.Common.{get_or, refl, arith, append_assoc, append-nil}
 use Rattle.rvs_cgf.specs.GroupView.{point_view}
 use Rattle.rvs_cgf.specs.declared.group.Point.{Point}
 use Rattle.rvs_prop.specs.Report.{measured, one_measured, point_line, points_text}
@@ -9,9 +9,7 @@ drop-at : {A : Type 0} (xs : List A) (i : ℕ) (d : A) → i < length xs
     → drop i xs ≡ get_or xs i d ∷ drop (i + 1) xs
 drop-at [] i d h = absurd (omega arith)
 drop-at (x ∷ xs) zero d h = refl
-drop-at (x ∷ xs) (suc i) d h =
-    let e : suc i + 1 ≡ suc (i + 1) = omega arith in
-    drop-at xs i d (omega arith) ∙ ap (λ n. get_or xs i d ∷ drop n (x ∷ xs)) (sym e)
+drop-at (x ∷ xs) (suc i) d h = grind (arith, (drop-at xs i d (omega arith)))
 
 drop-all : {A : Type 0} (xs : List A) → drop (length xs) xs ≡ []
 drop-all [] = refl
@@ -22,41 +20,20 @@ pub points_more : (text rs hs : List ℕ) (ps : List Point) (i : ℕ) (d : Point
     → (text ++ point_line (get_or rs i 0) (get_or hs i 0) (point_view (get_or ps i d)))
     ++ points_text (drop (i + 1) rs) (drop (i + 1) hs) (map point_view (drop (i + 1) ps))
     ≡ text ++ points_text (drop i rs) (drop i hs) (map point_view (drop i ps))
-points_more text rs hs ps i d h l m =
-    append_assoc text (point_line (get_or rs i 0) (get_or hs i 0) (point_view (get_or ps i d)))
-    (points_text (drop (i + 1) rs) (drop (i + 1) hs) (map point_view (drop (i + 1) ps)))
-    ∙ sym (ap (λ xs. text ++ points_text (drop i rs) (drop i hs) (map point_view xs))
-    (drop-at ps i d h)
-    ∙ ap (λ cs. text
-    ++ points_text cs (drop i hs) (point_view (get_or ps i d) ∷ map point_view (drop (i + 1) ps)))
-    (drop-at rs i 0 (omega (arith, h, l)))
-    ∙ ap (λ cs. text ++ points_text (get_or rs i 0 ∷ drop (i + 1) rs) cs
-    (point_view (get_or ps i d) ∷ map point_view (drop (i + 1) ps)))
-    (drop-at hs i 0 (omega (arith, h, m))))
+points_more text rs hs ps i d h l m = grind (arith, append_assoc, drop-at)
 
 pub points_all : (text rs hs : List ℕ) (ps : List Point) → length rs ≡ length ps
     → text
     ++ points_text (drop (length ps) rs) (drop (length ps) hs)
     (map point_view (drop (length ps) ps))
     ≡ text
-points_all text rs hs ps l =
-    ap (λ n. text ++ points_text (drop n rs) (drop (length ps) hs)
-    (map point_view (drop (length ps) ps))) (sym l)
-    ∙ ap (λ cs. text ++ points_text cs (drop (length ps) hs)
-    (map point_view (drop (length ps) ps))) (drop-all rs)
-    ∙ append-nil text
+points_all text rs hs ps l = grind (arith, drop-all, append-nil)
 
 pub measured_more : (n : ℕ) (ps : List Point) (i : ℕ) (d : Point) → i < length ps
     → n + one_measured (point_view (get_or ps i d)) + measured (map point_view (drop (i + 1) ps))
     ≡ n + measured (map point_view (drop i ps))
-measured_more n ps i d h =
-    let one = one_measured (point_view (get_or ps i d)) in
-    let rest = measured (map point_view (drop (i + 1) ps)) in
-    let e : n + one + rest ≡ n + (one + rest) = omega arith in
-    e ∙ ap (λ xs. n + measured (map point_view xs)) (sym (drop-at ps i d h))
+measured_more n ps i d h = grind (arith, drop-at)
 
 pub measured_all : (n : ℕ) (ps : List Point)
     → n + measured (map point_view (drop (length ps) ps)) ≡ n
-measured_all n ps =
-    let z : n + measured [] ≡ n = omega arith in
-    ap (λ xs. n + measured (map point_view xs)) (drop-all ps) ∙ z
+measured_all n ps = grind (arith, drop-all)

@@ -1,48 +1,33 @@
 -- A result that is stored at once counts.
-use Rattle.std.proofs.Common.{◌≡◌, ◌≤◌, ℕ, zero, suc, ◌+◌, Bool, true, false, cond, List, []}
-use Rattle.std.proofs.Common.{◌∷◌, ◌++◌, Some, refl, ap, ◌∙◌, get_or, arith}
+use Rattle.std.proofs.Common.{◌≡◌, ◌≤◌, ℕ, zero, suc, Bool, true, false, List, []}
+use Rattle.std.proofs.Common.{◌∷◌, ◌++◌, Some, ap, ◌∙◌, get_or, arith}
 use Rattle.std.specs.Prelude.{◌==◌, ◌&&◌, ◌||◌, not, map}
 use Rattle.std.specs.List.{slice_get}
 use Rattle.rvs_count.specs.Counting.{Aim, hits}
 use Rattle.rvs_prop.specs.Acts.{Act}
-use Rattle.rvs_prop.specs.Reach.{is_saved, overwrites, reached, reaches, saves, saves_register}
+use Rattle.rvs_prop.specs.Reach.{reached, reaches, saves_register}
 use Rattle.rvs_prop.specs.Reach.{target_of}
 use Rattle.rvs_prop.specs.Stored.{StoredCounts}
 
 reach : (own none saved later : Bool) → none ≡ false → saved ≡ true
     → (own || (not none && (saved || later))) ≡ true
-reach true none saved later e f = refl
-reach false none saved later e f = λ k. not (e k) && (f k || later)
+reach own none saved later e f = grind arith
 
 -- the first of two neighbours reaches
 pub reaches_next : (lo hi : ℕ) (a s : Act) (behind : List Act)
     → (target_of a.entry == 0) ≡ false
     → saves_register lo hi (target_of a.entry) s.entry ≡ true
     → reaches lo hi a.entry (s ∷ behind) ≡ true
-reaches_next lo hi a s behind some saved =
-    let r = target_of a.entry in
-    reach (saves lo hi a.entry) (r == 0) (saves_register lo hi r s.entry)
-    (not (overwrites r s) && is_saved lo hi r behind) some saved
+reaches_next lo hi a s behind some saved = simp reach
 
 -- the number of a list with these neighbours
 stored : (lo hi : ℕ) (front behind : List Act) (a s : Act) (aim : Aim)
     → hits aim a.entry ≡ true → (target_of a.entry == 0) ≡ false
     → saves_register lo hi (target_of a.entry) s.entry ≡ true
     → 1 ≤ reached lo hi (front ++ a ∷ s ∷ behind) aim
-stored lo hi [] behind a s aim hit some saved =
-    let later = reaches_next lo hi a s behind some saved in
-    let own : (hits aim a.entry && reaches lo hi a.entry (s ∷ behind)) ≡ true =
-    λ k. hit k && later k in
-    let rest = reached lo hi (s ∷ behind) aim in
-    let e : reached lo hi (a ∷ s ∷ behind) aim ≡ 1 + rest =
-    ap (λ b. cond b 1 0 + rest) own in
-    omega (arith, e)
+stored lo hi [] behind a s aim hit some saved = grind (arith, reaches_next)
 stored lo hi (b ∷ front) behind a s aim hit some saved =
-    let more = front ++ a ∷ s ∷ behind in
-    let later = stored lo hi front behind a s aim hit some saved in
-    let own = cond (hits aim b.entry && reaches lo hi b.entry more) 1 0 in
-    let e : reached lo hi (b ∷ more) aim ≡ own + reached lo hi more aim = refl in
-    omega (arith, e, later)
+    grind (arith, (stored lo hi front behind a s aim hit some saved))
 
 -- the number of the point at a place
 at : (f : Aim → ℕ) (aims : List Aim) (place : ℕ) (aim : Aim) → slice_get aims place ≡ Some aim

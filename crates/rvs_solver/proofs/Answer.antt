@@ -1,7 +1,7 @@
 -- No answer says that nothing hits, and an answer that nothing before it does.
 use Rattle.std.proofs.Common.{◌≡◌, ℕ, ◌<◌, Bool, true, false, cond, List, [], ◌∷◌, length, get_or}
-use Rattle.std.proofs.Common.{Option, Some, None, refl, sym, ap, ◌∙◌, arith, zero, suc}
-use Rattle.std.specs.Prelude.{find, slice_get, IfOk, IfNone, Result, Ok, Err}
+use Rattle.std.proofs.Common.{Option, Some, None, refl, sym, ap, ◌∙◌, arith, zero, suc, rules}
+use Rattle.std.specs.Prelude.{find, slice_get, IfOk, IfNone, Result}
 use Rattle.rvs_insn.specs.declared.op.Op.{Op}
 use Rattle.rvs_insn.specs.Isa.{Isa}
 use Rattle.rvs_cgf.specs.declared.group.Kind.{Kind}
@@ -12,8 +12,7 @@ use Rattle.rvs_solver.specs.First.{all_choices, first_choice, IsFirstOf, IsLeast
 
 passed : {X : Type 0} (t : Bool) (x : X) (o : Option X) → cond t (Some x) o ≡ None
     → (t ≡ false) × (o ≡ None)
-passed true x o h = cc
-passed false x o h = (refl, h)
+passed h = grind arith
 
 none_at : {X : Type 0} (p : X → Bool) (xs : List X) → find p xs ≡ None → (k : ℕ) (d : X)
     → k < length xs → p (get_or xs k d) ≡ false
@@ -32,27 +31,17 @@ nothing_hits spec ops kind meaning none (c, (k, l, at), hit) =
 pub none_clause : {E : Type 0} → (spec : Isa) (ops : List Op) (kind : Kind) (meaning : Meaning)
     (r : Result (Option ChoiceValue) E) → IfOk r (λ c. c ≡ first_choice spec ops kind meaning)
     → IfOk r (λ c. IfNone c (Solvable spec ops kind meaning → ⊥))
-none_clause spec ops kind meaning (Ok None) h = nothing_hits spec ops kind meaning (sym h)
-none_clause spec ops kind meaning (Ok (Some c)) h = tt
-none_clause spec ops kind meaning (Err e) h = tt
+none_clause spec ops kind meaning r h = search (rules, nothing_hits)
 
 later : {X : Type 0} (p : X → Bool) (y : X) (ys : List X) (n : ℕ) → p y ≡ false
     → ((k : ℕ) (z : X) → k < n → slice_get ys k ≡ Some z → p z ≡ false) → (k : ℕ) (z : X)
     → k < suc n → slice_get (y ∷ ys) k ≡ Some z → p z ≡ false
-later p y ys n e h zero z l at = let is : y ≡ z = cc in ap p (sym is) ∙ e
-later p y ys n e h (suc k) z l at = h k z (omega arith) at
+later p y k z e h = grind arith
 
 first_here : {X : Type 0} (p : X → Bool) (y x : X) (ys : List X) (t : Bool)
     → (find p ys ≡ Some x → IsFirstOf p ys x) → p y ≡ t → cond t (Some y) (find p ys) ≡ Some x
     → IsFirstOf p (y ∷ ys) x
-first_here p y x ys true h e f = let is : y ≡ x =
-    cc in record {
-      place = 0;
-      here = f;
-      passes = ap p (sym is) ∙ e;
-      before =
-          λ k z l at. absurd (omega arith);
-    }
+first_here p y x ys true h e f = grind arith
 first_here p y x ys false h e f = let rest =
     h f in record {
       place = suc rest.place;
@@ -68,5 +57,4 @@ first_of p (y ∷ ys) x h = first_here p y x ys (p y) (first_of p ys x) refl h
 
 pub is_least : (spec : Isa) (ops : List Op) (kind : Kind) (meaning : Meaning) (c : ChoiceValue)
     → first_choice spec ops kind meaning ≡ Some c → IsLeast spec ops kind meaning c
-is_least spec ops kind meaning c h =
-    first_of (hits kind meaning) (all_choices spec ops (constants_of meaning)) c h
+is_least spec ops kind meaning c h = grind (arith, first_of)

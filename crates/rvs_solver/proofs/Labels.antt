@@ -1,7 +1,7 @@
 -- The points of a valid label.
-use Rattle.std.proofs.Common.{◌≡◌, ℕ, ◌+◌, ◌<◌, ◌≤◌, true, List, [], length, map, get_or, Option}
-use Rattle.std.proofs.Common.{Some, None, refl, sym, ap, ◌∙◌, subst}
-use Rattle.std.specs.Prelude.{option_map, option_and_then, slice_get, IfSome, IfNone}
+use Rattle.std.proofs.Common.{◌≡◌, ℕ, ◌+◌, ◌<◌, ◌≤◌, true, List, length, map, get_or, Option}
+use Rattle.std.proofs.Common.{Some, sym, ap, ◌∙◌, subst, arith}
+use Rattle.std.specs.Prelude.{option_and_then, slice_get, IfSome, IfNone}
 use Rattle.std.proofs.lemmas.List.{get_or-map, length-map}
 use Rattle.std.proofs.lemmas.Option.{slice_get_read, slice_get-map}
 use Rattle.rvs_insn.specs.Isa.{Isa}
@@ -15,7 +15,7 @@ use Rattle.rvs_cgf.specs.declared.group.Label.{Label}
 use Rattle.rvs_cgf.proofs.Saying.{said_by}
 use Rattle.rvs_solver.specs.Point.{is_valid}
 use Rattle.rvs_solver.specs.Solving.{first_meant, first_of_point, first_at, bound_meant, bound_at}
-use Rattle.rvs_solver.specs.Solving.{bound_or_none, SolvesAs, IsLeastAt, IsSolvable, IsSolvableAs}
+use Rattle.rvs_solver.specs.Solving.{SolvesAs, IsLeastAt, IsSolvableAs}
 use Rattle.rvs_solver.specs.Solving.{IsSolvableAt}
 use Rattle.rvs_solver.specs.declared.solved.Solved.{Solved}
 
@@ -23,21 +23,17 @@ use Rattle.rvs_solver.specs.declared.solved.Solved.{Solved}
 
 meaning_valid : (k : Kind) (key : List ℕ) (m : Meaning) → says k key ≡ means m
     → is_valid m ≡ true
-meaning_valid k key m e = said_by k key m e (λ op _ is. ap is_valid is) (λ r _ is. ap is_valid is)
-    (λ f e is. ap is_valid is ∙ registers_alone [] key f e)
-    (λ f e is. ap is_valid is ∙ numbers_alone [] key f e) (λ ps _ is. ap is_valid is)
+meaning_valid k key m e = grind (arith, said_by, registers_alone, numbers_alone)
 
 pub point_valid : (isa : Isa) (l : LabelOf) (k : ℕ) (d : PointOf) → IsValid isa l
     → k < length l.points → is_valid (get_or l.points k d).meaning ≡ true
-point_valid isa l k d v h = let p =
-    get_or l.points k d in meaning_valid p.kind p.key p.meaning (v.meant k d h).said
+point_valid isa l k d v h = grind (arith, get_or, meaning_valid)
 
 -- ---- the code's point
 
 pub point_there : (l : Label) (k : ℕ) (p : Point) → k < length l.points → p ≡ get_or l.points k p
     → slice_get (label_view l).points k ≡ Some (point_view p)
-point_there l k p h is = slice_get-map point_view l.points k
-    ∙ ap (option_map point_view) (slice_get_read l.points (length l.points) k p refl h is)
+point_there l k p h is = grind (arith, slice_get-map, slice_get_read, length)
 
 pub valid_there : (isa : Isa) (l : Label) (k : ℕ) (p : Point) → IsValid isa (label_view l)
     → k < length l.points → p ≡ get_or l.points k p → is_valid (meaning_view p.meaning) ≡ true
@@ -64,18 +60,14 @@ pub none_there : (isa : Isa) (l : LabelOf) (k : ℕ) (p : PointOf) (s : Option S
     → slice_get l.points k ≡ Some p
     → IfNone s (IsSolvableAs isa l.ops p.kind p.meaning → ⊥)
     → IfNone s (IsSolvableAt isa l k → ⊥)
-none_there isa l k p None at h = λ w. h (subst (λ (x : PointOf). IsSolvable isa l x)
-    (some_is w.point p (sym w.is ∙ at)) w.solvable)
-none_there isa l k p (Some s) at h = tt
+none_there isa l k p s at h = grind arith
 
 pub least_there : (isa : Isa) (l : LabelOf) (k : ℕ) (p : PointOf) (s : Option Solved)
     → slice_get l.points k ≡ Some p → IfSome s (SolvesAs isa l.ops p p.meaning)
     → IfSome s (IsLeastAt isa l k)
-least_there isa l k p None at h = tt
-least_there isa l k p (Some s) at h = record { point = p; is = at; solves = h }
+least_there isa l k p s at h = grind arith
 
 pub cost_there : (isa : Isa) (l : LabelOf) (k : ℕ) (p : PointOf) (new old : ℕ)
     → slice_get l.points k ≡ Some p → new ≤ old + bound_meant isa l.ops p.meaning
     → new ≤ old + bound_at isa l k
-cost_there isa l k p new old at h = let P : Option PointOf → Type 0 =
-    λ o. new ≤ old + bound_or_none isa l o in subst P (sym at) h
+cost_there isa l k p new old at h = grind (arith, Option)

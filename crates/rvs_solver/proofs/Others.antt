@@ -1,11 +1,11 @@
 -- Where a point asks for another register, nothing is found at this one.
-use Rattle.std.proofs.Common.{◌≡◌, ℕ, true, List, Option, None, sym}
+use Rattle.std.proofs.Common.{◌≡◌, ℕ, true, List, Option, None, sym, rules}
 use Rattle.std.specs.Prelude.{find}
 use Rattle.rvs_insn.specs.declared.op.Format.{Format}
 use Rattle.rvs_insn.specs.declared.op.Op.{Op}
 use Rattle.rvs_insn.specs.Memory.{Memory}
 use Rattle.rvs_cgf.specs.declared.group.Kind.{Kind}
-use Rattle.rvs_cgf.specs.declared.group.Kind.TheVariants.{Rd, Rs1}
+use Rattle.rvs_cgf.specs.declared.group.Kind.TheVariants.{Rd}
 use Rattle.rvs_cgf.specs.Groups.{Meaning}
 use Rattle.rvs_cgf.specs.Groups.{reg_is}
 use Rattle.rvs_cgf.specs.Hits.{is_register}
@@ -30,8 +30,4 @@ pub other_rs1 : (kind : Kind) (meaning : Meaning) (memory : Memory) (op : Op) (f
     (rs2s : List (Option ℕ))
     (rd rs1 : Option ℕ) → asks_other_rs1 kind meaning rs1 ≡ true
     → None ≡ find (hits kind meaning) (at_rs1 memory op form rs2s rd rs1)
-other_rs1 Rs1 (reg_is r) memory op form rs2s rd rs1 h =
-    sym (none_of_map (hits Rs1 (reg_is r))
-    (λ rs2. least memory op form (record { rd = rd; rs1 = rs1; rs2 = rs2 }))
-    (λ rs2. not_true (is_register r rs1) h) rs2s)
-other_rs1 _ _ memory op form rs2s rd rs1 h = cc
+other_rs1 kind meaning memory op form rs2s rd rs1 h = search (rules, none_of_map, not_true)

@@ -9,7 +9,6 @@ use Rattle.rvs_insn.specs.Isa.{Isa}
 use Rattle.rvs_insn.specs.Table.{row}
 use Rattle.rvs_cgf.specs.declared.group.Kind.{Kind}
 use Rattle.rvs_cgf.specs.Groups.{Meaning}
-use Rattle.rvs_cgf.specs.Groups.{op_is, reg_is, regs, nums, window}
 use Rattle.rvs_cgf.specs.Hits.{steps_of}
 use Rattle.rvs_solver.specs.Datasets.{rds, rs1s, rs2s}
 use Rattle.rvs_solver.specs.Choices.{choices}
@@ -35,11 +34,7 @@ same_orders : (spec : Isa) (op : Op) (form : Format) (a b d : List (Option ℕ))
     → Orders spec op form a b d → {K : Type 0}
     → (f : List (Option ℕ) → List (Option ℕ) → List (Option ℕ) → K)
     → f a b d ≡ f (rds spec.e (row op).form) (rs1s spec.e (row op).form) (rs2s spec.e (row op).form)
-same_orders spec op form a b d o f =
-    ap (λ x. f x b d) (o.rds_are ∙ ap (rds spec.e) o.form_is)
-    ∙ ap (λ x. f (rds spec.e (row op).form) x d) (o.rs1s_are ∙ ap (rs1s spec.e) o.form_is)
-    ∙ ap (f (rds spec.e (row op).form) (rs1s spec.e (row op).form))
-    (o.rs2s_are ∙ ap (rs2s spec.e) o.form_is)
+same_orders spec op form a b d o f = grind arith
 
 pub register_call : (spec : Isa) (op : Op) (form : Format) (a b d : List (Option ℕ)) (kind : Kind)
     (meaning : Meaning) → Orders spec op form a b d → is_valid meaning ≡ true
@@ -68,17 +63,4 @@ bound_is spec _ h = refl
 pub register_cost_call : (spec : Isa) (op : Op) (form : Format) (a b d : List (Option ℕ))
     (meaning : Meaning) → Orders spec op form a b d → is_on_values meaning ≡ false
     → length a * (length b * (length d * steps_of meaning)) ≤ bound_of spec meaning op
-register_cost_call spec op form a b d (op_is key) o not_values =
-    no_cost (length a) (length b) (length d)
-register_cost_call spec op form a b d (reg_is key) o not_values =
-    no_cost (length a) (length b) (length d)
-register_cost_call spec op form a b d (regs e) o not_values =
-    let same : length a * (length b * (length d * 1)) ≡ register_bound spec (row op).form =
-    one_cost (length a) (length b) (length d)
-    ∙ same_orders spec op form a b d o (λ x y z. length x * (length y * length z))
-    ∙ sym (bound_is spec (row op).form
-    (ap not_system (sym o.form_is) ∙ has_choice form o.not_none)) in
-    omega (arith, same)
-register_cost_call spec op form a b d (nums e) o not_values = cc
-register_cost_call spec op form a b d (window ps) o not_values =
-    no_cost (length a) (length b) (length d)
+register_cost_call spec op form a b d meaning o not_values = grind arith

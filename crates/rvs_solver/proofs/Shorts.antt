@@ -1,5 +1,5 @@
 -- Immediates fit 32 bits.
-use Rattle.std.proofs.Common.{◌≡◌, Bool, true, false, List, [], ◌∷◌, ◌++◌, refl, arith}
+use Rattle.std.proofs.Common.{◌≡◌, Bool, true, List, [], ◌∷◌, ◌++◌, refl, arith, rules}
 use Rattle.std.specs.Prelude.{ℤ, pos, negsuc, nat_lt, unsigned_abs, fold, flat_map, All}
 use Rattle.std.specs.Prelude.{if◌then◌else◌}
 use Rattle.std.proofs.lemmas.Bool.{ltb-true}
@@ -26,9 +26,7 @@ between_is low high z a b h = grind (arith, ints)
 
 joined_here : (t u : Bool) (kept : List ℤ) (z : ℤ) → (t ≡ true → IsShort z) → Each IsShort kept
     → Each IsShort (if t then (if u then kept else (kept ++ z ∷ [])) else kept)
-joined_here true true kept z k h = h
-joined_here true false kept z k h = each_append IsShort kept (z ∷ []) h (k refl, tt)
-joined_here false u kept z k h = h
+joined_here t u kept z k h = search (rules, each_append)
 
 joined_short : (low high : ℤ) → IsShort low → IsShort high → (kept : List ℤ) (z : ℤ)
     → Each IsShort kept → Each IsShort (with_number low high kept z)

@@ -1,6 +1,6 @@
 -- The first choices of some points.
 use Rattle.std.proofs.Common.{◌≡◌, ℕ, true, [], ◌∷◌, Option, Some, None, refl, ap, sym, ◌∙◌, subst}
-use Rattle.std.proofs.Common.{append-nil}
+use Rattle.std.proofs.Common.{append-nil, arith}
 use Rattle.std.specs.Prelude.{find, flat_map}
 use Rattle.rvs_insn.specs.declared.op.Format.TheVariants.{R}
 use Rattle.rvs_insn.specs.declared.op.Op.TheVariants.{Add, AmoaddW}
@@ -53,13 +53,7 @@ of_few : (isa : Isa) (r : ℕ) (o : Option ChoiceValue) → isa.e ≡ true
     (rds true R))
     ≡ o
     → first_choice isa (Add ∷ []) Rd (reg_is r) ≡ o
-of_few isa r o e h =
-    ap (find (hits Rd (reg_is r))) (append-nil (choices isa Add []))
-    ∙ register_is isa Add Rd (reg_is r) (has_choice R (λ x. cc)) refl refl
-    ∙ ap (λ b. find (hits Rd (reg_is r)) (flat_map (at_rd isa.memory Add R (rs1s b R) (rs2s b R))
-    (rds b R)))
-    e
-    ∙ h
+of_few isa r o e h = grind (arith, append-nil, register_is, has_choice)
 
 pub last_register : LastRegister
 unfolding rds rs1s rs2s

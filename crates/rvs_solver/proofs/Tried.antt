@@ -1,7 +1,7 @@
 -- Where the expression doesn't see which immediate it is, the first one decides.
 use Rattle.std.proofs.Common.{◌≡◌, ℕ, ◌+◌, ◌≤◌, Bool, true, false, List, [], ◌∷◌, length, take}
-use Rattle.std.proofs.Common.{Option, Some, None, refl, sym, ap, ◌∙◌, arith, zero, suc, cond}
-use Rattle.std.proofs.Common.{length-take}
+use Rattle.std.proofs.Common.{Option, Some, None, refl, sym, ap, ◌∙◌, arith, cond}
+use Rattle.std.proofs.Common.{length-take, rules}
 use Rattle.std.specs.Prelude.{ℤ, find, flat_map, All, sum_by}
 use Rattle.std.specs.Option.{option_or}
 use Rattle.std.proofs.lemmas.List.Folds.{find-append}
@@ -12,29 +12,26 @@ use Rattle.rvs_insn.specs.declared.op.Op.{Op}
 use Rattle.rvs_insn.specs.Isa.{Isa}
 use Rattle.rvs_insn.specs.Table.{row}
 use Rattle.rvs_expr_text.specs.declared.lexeme.NumName.{NumName}
-use Rattle.rvs_expr_text.specs.declared.lexeme.NumName.TheVariants.{Rs1Val, Rs2Val, ImmVal, EaAlign}
+use Rattle.rvs_expr_text.specs.declared.lexeme.NumName.TheVariants.{ImmVal}
 use Rattle.rvs_expr.specs.Typed.{Formula}
 use Rattle.rvs_expr.specs.Only.{only_numbers}
 use Rattle.rvs_facts.specs.Facts.{alignment}
 use Rattle.rvs_solver.specs.Truth.{num_at, uses}
 use Rattle.rvs_solver.proofs.Framing.{frame}
 use Rattle.rvs_solver.specs.declared.operand.Operand.{Operand}
-use Rattle.rvs_solver.specs.Datasets.{immediates, alignments}
 use Rattle.rvs_solver.specs.Choices.{Registers, ChoiceValue, table_of}
 use Rattle.rvs_solver.specs.Bound.{first_registers, operands}
-use Rattle.rvs_solver.specs.Walk.{may_store_address, same_registers, base_of, query_with}
+use Rattle.rvs_solver.specs.Walk.{may_store_address, base_of, query_with}
 use Rattle.rvs_solver.specs.Walk.{is_true_at, with_numbers, word_or, at_w1, at_operand, first_in}
 use Rattle.rvs_solver.specs.Walk.{own_addresses, sees_first, to_try}
 use Rattle.rvs_solver.proofs.Search.{Each, flat_one, find_alike, first_decides}
 use Rattle.rvs_solver.proofs.Operands.{pairs_each}
 
 both_none : {Y : Type 0} (o r : Option Y) → option_or o r ≡ None → (o ≡ None) × (r ≡ None)
-both_none None r h = (refl, h)
-both_none (Some y) r h = cc
+both_none h = grind arith
 
 no_first : {Y : Type 0} (o r : Option Y) → o ≡ None → option_or o r ≡ r
-no_first None r h = refl
-no_first (Some y) r h = cc
+no_first h = grind arith
 
 none_flat : {X Y : Type 0} (p : Y → Bool) (f g : X → List Y)
     → ((x : X) → find p (f x) ≡ None → find p (g x) ≡ None) → (xs : List X)
@@ -49,35 +46,22 @@ none_flat p f g h (x ∷ xs) e =
 -- where the first operand is an immediate and nothing else
 no_alignment : (form : Format) (e : Formula) (a : Option ℤ) (b : Option ℤ)
     → sees_first e form ≡ false → alignment form a b ≡ None
-no_alignment I e a b h = refl
-no_alignment Shift e a b h = refl
-no_alignment Branch e a b h = refl
-no_alignment _ e a b h = cc
+no_alignment form e a b h = grind arith
 
 not_seen : (form : Format) (e : Formula) → sees_first e form ≡ false → uses e ImmVal ≡ false
-not_seen I e h = h
-not_seen Shift e h = h
-not_seen Branch e h = h
-not_seen _ e h = cc
+not_seen form e h = grind arith
 
 unseen_agrees : (op : Op) (e : Formula) (r : Registers) (x y : Operand) (w1 w2 : ℕ)
     → sees_first e (row op).form ≡ false → (name : NumName) → uses e name ≡ true
     → num_at (table_of (with_numbers (base_of op r) y w1 w2)) name
     ≡ num_at (table_of (with_numbers (base_of op r) x w1 w2)) name
-unseen_agrees op e r x y w1 w2 h Rs1Val used = refl
-unseen_agrees op e r x y w1 w2 h Rs2Val used = refl
-unseen_agrees op e r x y w1 w2 h ImmVal used = let fails : uses e ImmVal ≡ false =
-    not_seen (row op).form e h in cc
-unseen_agrees op e r x y w1 w2 h EaAlign used =
-    no_alignment (row op).form e _ y.imm h ∙ sym (no_alignment (row op).form e _ x.imm h)
+unseen_agrees op e r x y w1 w2 h name used = grind arith
 
 unseen_truth : (op : Op) (e : Formula) (r : Registers) (x y : Operand) (w1 w2 : ℕ)
     → only_numbers e ≡ true → sees_first e (row op).form ≡ false
     → is_true_at e (with_numbers (base_of op r) y w1 w2)
     ≡ is_true_at e (with_numbers (base_of op r) x w1 w2)
-unseen_truth op e r x y w1 w2 num h =
-    frame e (table_of (with_numbers (base_of op r) y w1 w2))
-    (table_of (with_numbers (base_of op r) x w1 w2)) num (unseen_agrees op e r x y w1 w2 h)
+unseen_truth op e r x y w1 w2 num h = grind (arith, frame, unseen_agrees)
 
 unseen_none : (op : Op) (e : Formula) (constants : List ℤ) (x y : Operand)
     → only_numbers e ≡ true → sees_first e (row op).form ≡ false → x.word ≡ None → y.word ≡ None
@@ -108,28 +92,18 @@ one_decides op e constants (x ∷ firsts) num h a =
 
 words_none : (spec : Isa) (op : Op) (form : Format) (e : Formula) (constants : List ℤ)
     → sees_first e form ≡ false → Each (λ x. x.word ≡ None) (operands spec op form constants)
-words_none spec op I e constants h =
-    pairs_each spec.memory I (alignments spec op I) (immediates I constants)
-    (λ x. x.word ≡ None) (λ imm align. refl)
-words_none spec op Shift e constants h =
-    pairs_each spec.memory Shift (alignments spec op Shift) (immediates Shift constants)
-    (λ x. x.word ≡ None) (λ imm align. refl)
-words_none spec op Branch e constants h =
-    pairs_each spec.memory Branch (alignments spec op Branch) (immediates Branch constants)
-    (λ x. x.word ≡ None) (λ imm align. refl)
+words_none spec op I e constants h = search (rules, pairs_each, None)
+words_none spec op Shift e constants h = grind (arith, pairs_each, None)
+words_none spec op Branch e constants h = search (rules, pairs_each, None)
 words_none spec op _ e constants h = cc
 
 no_address : (form : Format) (e : Formula) → sees_first e form ≡ false
     → may_store_address form ≡ false
-no_address I e h = refl
-no_address Shift e h = refl
-no_address Branch e h = refl
-no_address _ e h = cc
+no_address form e h = grind arith
 
 none_of_none : (same : Option ChoiceValue) (firsts : List Operand) → same ≡ None
     → own_addresses same firsts ≡ []
-none_of_none None firsts h = refl
-none_of_none (Some c) firsts h = cc
+none_of_none same firsts h = grind arith
 
 -- the operands that are tried find what all find
 pub tried_find : (spec : Isa) (op : Op) (e : Formula) (constants : List ℤ) (sees : Bool)
@@ -140,26 +114,14 @@ pub tried_find : (spec : Isa) (op : Op) (e : Formula) (constants : List ℤ) (se
     (operands spec op (row op).form constants)
 tried_find spec op e constants true h num = refl
 tried_find spec op e constants false h num =
-    let form = (row op).form in
-    let s = query_with op form e constants in
-    let firsts = operands spec op form constants in
-    let none : s.same ≡ None =
-    ap (λ b. cond b (Some (base_of op (same_registers form))) None) (no_address form e h) in
-    ap (λ o. option_or o (find (is_true_at e) (own_addresses s.same (take 1 firsts))))
-    (one_decides op e constants firsts num h (words_none spec op form e constants h))
-    ∙ ap (λ l. option_or (find (is_true_at e) (flat_map (at_operand s) firsts))
-    (find (is_true_at e) l))
-    (none_of_none s.same (take 1 firsts) none ∙ sym (none_of_none s.same firsts none))
+    grind (arith, None, cond, Some, no_address, take, one_decides, words_none, none_of_none)
 
 pub tried_all : {X : Type 0} (P : X → Type 0) (xs : List X) → All P xs → All P (take 1 xs)
-tried_all P [] a k d l = a k d l
-tried_all P (x ∷ xs) a zero d l = a 0 d (omega arith)
-tried_all P (x ∷ xs) a (suc k) d l = absurd (omega arith)
+tried_all h = grind arith
 
 pub tried_passes : (P : Operand → Type 0) (sees : Bool) (ops : List Operand) → All P ops
     → All P (to_try sees ops)
-tried_passes P true ops a = a
-tried_passes P false ops a = tried_all P ops a
+tried_passes P sees ops a = grind arith
 
 pub tried_cost : (f : Operand → ℕ) (sees : Bool) (ops : List Operand)
     → length (to_try sees ops) + sum_by f (to_try sees ops) ≤ length ops + sum_by f ops

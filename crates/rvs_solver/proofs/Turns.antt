@@ -63,33 +63,21 @@ passed_at p y z o is h = ap (λ t. cond t (Some z) o) (ap p (sym is) ∙ h)
 pub map_found : {X Y : Type 0} (p : Y → Bool) (f : X → Y) (xs : List X) (i : ℕ) (d : X) (y : Y)
     (whole : Option Y) → i < length xs → whole ≡ find p (map f (drop i xs)) → y ≡ f (get_or xs i d)
     → p y ≡ true → Some y ≡ whole
-map_found p f xs i d y whole h inv is hit =
-    sym (inv ∙ ap (λ l. find p (map f l)) (rest_at xs i d h)
-    ∙ found_at p y (f (get_or xs i d)) (find p (map f (drop (i + 1) xs))) is hit)
+map_found p f xs i d y whole h inv is hit = grind (arith, map, rest_at, found_at, get_or, drop)
 
 pub map_passed : {X Y : Type 0} (p : Y → Bool) (f : X → Y) (xs : List X) (i : ℕ) (d : X) (y : Y)
     (whole : Option Y) → i < length xs → whole ≡ find p (map f (drop i xs)) → y ≡ f (get_or xs i d)
     → p y ≡ false → whole ≡ find p (map f (drop (i + 1) xs))
-map_passed p f xs i d y whole h inv is miss =
-    inv ∙ ap (λ l. find p (map f l)) (rest_at xs i d h)
-    ∙ passed_at p y (f (get_or xs i d)) (find p (map f (drop (i + 1) xs))) is miss
+map_passed p f xs i d y whole h inv is miss = grind (arith, map, rest_at, passed_at, get_or, drop)
 
 -- ---- the choice that stores its own address
 
 pub address_found : (p : ChoiceValue → Bool) (same : Option ChoiceValue) (x : ChoiceValue)
     (first : Operand) (y : ChoiceValue) → same ≡ Some x → y ≡ storing_address x first
     → p y ≡ true → Some y ≡ find p (own_addresses same (first ∷ []))
-address_found p None x first y is e h = cc
-address_found p (Some z) x first y is e h =
-    let there : x ≡ z = cc in
-    sym (found_at p y (storing_address z first) None
-    (e ∙ ap (λ c. storing_address c first) there) h)
+address_found p same x first y is e h = grind arith
 
 pub address_passed : (p : ChoiceValue → Bool) (same : Option ChoiceValue) (x : ChoiceValue)
     (first : Operand) (y : ChoiceValue) → same ≡ Some x → y ≡ storing_address x first
     → p y ≡ false → None ≡ find p (own_addresses same (first ∷ []))
-address_passed p None x first y is e h = cc
-address_passed p (Some z) x first y is e h =
-    let there : x ≡ z = cc in
-    sym (passed_at p y (storing_address z first) None
-    (e ∙ ap (λ c. storing_address c first) there) h)
+address_passed p same x first y is e h = grind arith

@@ -1,6 +1,5 @@
 -- How a command answers that reads its inputs first, and then does its deeds.
-use Rattle.std.proofs.Common.{◌≡◌, ◌⊎◌, inl, inr, List, Some, Result, Ok, Err}
-use Rattle.std.proofs.Common.{refl, ap, subst, ◌∙◌}
+use Rattle.std.proofs.Common.{◌≡◌, ◌⊎◌, inl, inr, List, Some, Result, Ok, Err, refl, ap, subst, ◌∙◌}
 use Rattle.rvs_base.specs.Host.{Files, Tells}
 use Rattle.rvs_base.specs.Sink.{SinkState}
 use Rattle.rvs_plan.specs.World.{World, Contents, contents}
@@ -20,10 +19,9 @@ use Rattle.rvs_suite.specs.Plans.{plan_of}
 use Rattle.rvs_words.specs.Commands.{command_of}
 use Rattle.rvs_suite.specs.Call.{Call, world_of}
 use Rattle.rvs_suite.specs.Answered.{HasLeft, Answered}
-use Rattle.rvs_suite.proofs.Ends.{same_end, means-end, WasRefused, was_refused}
-use Rattle.rvs_suite.proofs.Ends.{was_missing}
-use Rattle.rvs_suite.proofs.Finding.{Finds, end-found, Behind, behind, Deeds, left, end-deeds}
-use Rattle.rvs_suite.proofs.Finding.{left-after}
+use Rattle.rvs_suite.proofs.Ends.{same_end, means-end, WasRefused, was_refused, was_missing}
+use Rattle.rvs_inputs.proofs.Finding.{Finds, end-found, Behind, behind, Deeds, left, end-deeds}
+use Rattle.rvs_inputs.proofs.Finding.{left-after}
 use Rattle.rvs_suite.proofs.Running.{Ran, at_status, asked_means}
 use Rattle.rvs_words.specs.declared.command.Command.{Command}
 

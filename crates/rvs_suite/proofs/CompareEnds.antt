@@ -14,20 +14,21 @@ use Rattle.rvs_sig.specs.Words.{words_of}
 use Rattle.rvs_sig.specs.declared.comparison.Verdict.{Verdict}
 use Rattle.rvs_suite.specs.Call.{Call}
 use Rattle.rvs_device.specs.Judged.{signature_limit}
-use Rattle.rvs_suite.specs.Compare.{signature, words, words_end, verdict_finish}
-use Rattle.rvs_suite.specs.Compare.{announce, compare_right, compare}
+use Rattle.rvs_plain.specs.Compare.{signature, words, words_end, verdict_finish}
+use Rattle.rvs_plain.specs.Compare.{announce, compare_right, compare}
 use Rattle.rvs_suite.specs.Comparing as comparing
 use Rattle.rvs_suite.specs.Comparing.{Both, words_in, both_in}
-use Rattle.rvs_suite.specs.GroupFiles.{and_then}
-use Rattle.rvs_suite.specs.Texts.{verdict_line}
+use Rattle.rvs_inputs.specs.GroupFiles.{and_then}
+use Rattle.rvs_plain.specs.Texts.{verdict_line}
 use Rattle.rvs_words.specs.declared.command.Command.TheVariants.{Compare}
 use Rattle.rvs_suite.proofs.Answered.{Works, RunsOn, answered}
-use Rattle.rvs_suite.proofs.Finding.{Finds}
-use Rattle.rvs_suite.proofs.GroupInputs.{finds-and_then}
+use Rattle.rvs_inputs.proofs.Finding.{Finds}
+use Rattle.rvs_inputs.proofs.GroupInputs.{finds-and_then}
 use Rattle.rvs_suite.proofs.Spending.{Spends, Spends-then, spent}
-use Rattle.rvs_suite.proofs.Keeping.{WritesNone, WritesNone-then, reads-none, keeps}
-use Rattle.rvs_suite.proofs.NormalPlan.{then-then, then-same}
-use Rattle.rvs_suite.proofs.Readers.{OnlyReads, OnlyReads-then}
+use Rattle.rvs_inputs.proofs.Keeping.{WritesNone, WritesNone-then, reads-none}
+use Rattle.rvs_suite.proofs.Running.{keeps}
+use Rattle.rvs_inputs.proofs.Chains.{then-then, then-same}
+use Rattle.rvs_inputs.proofs.Readers.{OnlyReads, OnlyReads-then}
 use Rattle.rvs_suite.proofs.Verdicts.{finish-done, finish-not_passed}
 use Rattle.rvs_words.specs.declared.command.CompareArguments.{CompareArguments}
 

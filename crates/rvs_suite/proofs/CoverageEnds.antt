@@ -1,7 +1,6 @@
 -- What every call of `coverage` promises.
-use Rattle.std.proofs.Common.{◌≡◌, ◌≤◌, ◌+◌, ℕ, List, [], ◌∷◌, map, length}
-use Rattle.std.proofs.Common.{Result, Ok, refl, sym, ap, subst, ◌∙◌, arith, ◌++◌, append_assoc}
-use Rattle.std.proofs.Common.{append-nil}
+use Rattle.std.proofs.Common.{◌≡◌, ◌≤◌, ◌+◌, ℕ, List, [], ◌∷◌, map, length, Result, Ok, refl, sym}
+use Rattle.std.proofs.Common.{ap, subst, ◌∙◌, arith, ◌++◌, append_assoc, append-nil}
 use Rattle.rvs_base.specs.Host.{Files}
 use Rattle.rvs_plan.specs.World.{Contents}
 use Rattle.rvs_plan.specs.declared.stop.Stop.{Stop}
@@ -9,34 +8,35 @@ use Rattle.rvs_plan.specs.declared.status.Status.TheVariants.{Done}
 use Rattle.rvs_log.specs.Entries.{Entry, entries_of}
 use Rattle.rvs_cgf.specs.Groups.{Label}
 use Rattle.rvs_count.specs.Counting.{Aim, aims_of, count, kept}
-use Rattle.rvs_suite.specs.declared.covering.Covered.{Covered}
+use Rattle.rvs_coverage.specs.declared.covering.Covered.{Covered}
 use Rattle.rvs_log.specs.Logs.{log_of, as_entry}
 use Rattle.rvs_count.specs.Report.{report_of}
 use Rattle.rvs_base.specs.declared.asked.Window.{Window}
 use Rattle.rvs_plan.specs.declared.status.Finish.TheVariants as finish
 use Rattle.rvs_suite.specs.Call.{Call}
 use Rattle.rvs_suite.specs.Answered.{HasLeft, Answered, OnDone}
-use Rattle.rvs_suite.specs.GroupFiles.{Inputs, inputs_in}
-use Rattle.rvs_suite.specs.Coverage.{measure, uncounted, counted_with, counts_more, file_name}
-use Rattle.rvs_suite.specs.Coverage.{report_on, report_with, report_in, reported}
-use Rattle.rvs_suite.specs.LogLines.{log_line, lines_of_many}
+use Rattle.rvs_inputs.specs.GroupFiles.{Inputs, inputs_in}
+use Rattle.rvs_coverage.specs.Coverage.{measure, uncounted, counted_with, counts_more, file_name}
+use Rattle.rvs_coverage.specs.Coverage.{report_on, report_with, report_in, reported}
+use Rattle.rvs_coverage.specs.LogLines.{log_line, lines_of_many}
 use Rattle.std.specs.List.{zip}
-use Rattle.rvs_suite.specs.Printing.{print_text}
-use Rattle.rvs_suite.specs.Coverage.{coverage}
+use Rattle.rvs_inputs.specs.Printing.{print_text}
+use Rattle.rvs_coverage.specs.Coverage.{coverage}
 use Rattle.rvs_suite.specs.Covering as covering
 use Rattle.rvs_words.specs.declared.command.Command.TheVariants.{Coverage}
 use Rattle.rvs_suite.proofs.Answered.{Works, RunsOn, answered}
 use Rattle.rvs_suite.proofs.OneCount.{one-count}
 use Rattle.rvs_suite.proofs.LogEntries.{halting_entries}
-use Rattle.rvs_suite.specs.LogReport.{AreLogs}
-use Rattle.rvs_suite.specs.Summing.{sum_up_to_most, over, summed}
-use Rattle.rvs_suite.proofs.Sums.{plus_map, AreLow, summed_all, over_map, zeros_map, map_map}
-use Rattle.rvs_suite.proofs.Sums.{total_map}
+use Rattle.rvs_coverage.specs.LogReport.{AreLogs}
+use Rattle.rvs_coverage.specs.Summing.{sum_up_to_most, over, summed}
+use Rattle.rvs_coverage.proofs.Sums.{plus_map, AreLow, summed_all, over_map, zeros_map, map_map}
+use Rattle.rvs_coverage.proofs.Sums.{total_map}
 use Rattle.rvs_suite.proofs.LogAmounts.{log-few, kept-few, count-few}
 use Rattle.rvs_suite.proofs.WordLimits.{coverage-few}
-use Rattle.rvs_suite.proofs.LogReads.{reads-reported, finds-reported, known_of, found-report}
-use Rattle.rvs_suite.proofs.LogReads.{few-logs}
-use Rattle.rvs_suite.proofs.Keeping.{WritesNone, WritesNone-then, reads-none, keeps}
+use Rattle.rvs_coverage.proofs.LogReads.{reads-reported, finds-reported, known_of, found-report}
+use Rattle.rvs_coverage.proofs.LogReads.{few-logs}
+use Rattle.rvs_inputs.proofs.Keeping.{WritesNone, WritesNone-then, reads-none}
+use Rattle.rvs_suite.proofs.Running.{keeps}
 use Rattle.rvs_suite.proofs.Tested.{good-inputs, valid-good}
 use Rattle.rvs_words.specs.declared.command.CoverageArguments.{CoverageArguments}
 

@@ -24,18 +24,16 @@ use Rattle.rvs_device.specs.Judging.{Spells}
 use Rattle.rvs_suite.specs.Call.{Call, world_of, NothingFailed, AnswersOnly}
 use Rattle.rvs_suite.specs.DatabaseLeft.{made_in, Trial, with_trials, task_on, trial_lines}
 use Rattle.rvs_suite.specs.DatabaseLeft.{trials_passed, runs_of}
-use Rattle.rvs_suite.specs.GroupFiles.{and_then}
-use Rattle.rvs_suite.specs.JudgingDatabase.{database_inputs_in, chosen_in, HasJudged}
-use Rattle.rvs_suite.specs.JudgingDatabase.{LeftAsItWas, HasStopped, IsMadeOf, HasExecutable}
-use Rattle.rvs_suite.specs.JudgingDatabase.{RunsDatabase}
-use Rattle.rvs_suite.specs.Reference.{test_limit}
-use Rattle.rvs_suite.specs.RunDatabase.{Given, made_by, made_found, DatabaseInputs}
-use Rattle.rvs_suite.specs.RunDatabase.{database_inputs, database_bench, runs_database}
-use Rattle.rvs_suite.specs.RunDatabase.{run_database}
-use Rattle.rvs_suite.specs.RunTests.{Bench, asks_elf, tally_line, tallies, verdict_of_all}
-use Rattle.rvs_suite.specs.TestRun.{found_end, then_found, test_found}
-use Rattle.rvs_suite.specs.declared.judging.Made.{Made}
-use Rattle.rvs_suite.specs.declared.test_run.Run.{Run}
+use Rattle.rvs_inputs.specs.GroupFiles.{and_then}
+use Rattle.rvs_suite.specs.JudgingDatabase.{database_inputs_in, chosen_in, HasJudged, LeftAsItWas}
+use Rattle.rvs_suite.specs.JudgingDatabase.{HasStopped, IsMadeOf, HasExecutable, RunsDatabase}
+use Rattle.rvs_reference.specs.Reference.{test_limit}
+use Rattle.rvs_run.specs.RunDatabase.{Given, made_by, made_found, DatabaseInputs, database_inputs}
+use Rattle.rvs_run.specs.RunDatabase.{database_bench, runs_database, run_database}
+use Rattle.rvs_run.specs.RunTests.{Bench, asks_elf, tally_line, tallies, verdict_of_all}
+use Rattle.rvs_reference.specs.TestRun.{found_end, then_found, test_found}
+use Rattle.rvs_run.specs.declared.judging.Made.{Made}
+use Rattle.rvs_reference.specs.declared.test_run.Run.{Run}
 use Rattle.rvs_suite.proofs.Answered.{RunsOn, ran-command}
 use Rattle.rvs_suite.proofs.DatabaseExecutables.{all-there, apart-chosen, low-chosen, room-there}
 use Rattle.rvs_suite.proofs.DatabasePasses.{are-judged, never-stopped-at, never-failed}
@@ -44,7 +42,7 @@ use Rattle.rvs_suite.proofs.DatabaseReads.{finds-database-inputs}
 use Rattle.rvs_suite.proofs.DatabaseRuns.{TriedAll, EndedAt, tried-all}
 use Rattle.rvs_suite.proofs.DatabaseSpares.{database-spares}
 use Rattle.rvs_suite.proofs.Ends.{means-end, was_refused, was_missing}
-use Rattle.rvs_suite.proofs.Finding.{Behind, behind, end-found}
+use Rattle.rvs_inputs.proofs.Finding.{Behind, behind, end-found}
 use Rattle.rvs_suite.proofs.Meanings.{then-ok, found-of}
 use Rattle.rvs_suite.proofs.RunSteps.{first_did, contents_of, appended-twice}
 use Rattle.rvs_suite.proofs.Running.{at_status, asked_means}

@@ -1,9 +1,7 @@
 -- That the executables of a database's tests are there when all were judged, and run as these do.
 use Rattle.std.proofs.Common.{◌≡◌, ◌≢◌, ◌≤◌, ◌<◌, ◌+◌, ◌^◌, ℕ, zero, suc, Bool, true, false, List}
 use Rattle.std.proofs.Common.{[], ◌∷◌, length, Contains, IsTrue, Option, Some, None, Result, Ok}
-use Rattle.std.proofs.Common.{Err}
-use Rattle.std.proofs.Common.{bytes_eq, codes, decimal, refl, sym, ap, subst, ◌∙◌}
-use Rattle.std.proofs.Common.{arith}
+use Rattle.std.proofs.Common.{Err, bytes_eq, codes, decimal, refl, sym, ap, subst, ◌∙◌, arith}
 use Rattle.std.specs.Prelude.{⊤}
 use Rattle.std.proofs.lemmas.Fmt.{decimal_injective}
 use Rattle.std.proofs.lemmas.List.Elements.{Contains-append_right}
@@ -20,29 +18,27 @@ use Rattle.rvs_elf.specs.Laws.{with_marks}
 use Rattle.rvs_elf.specs.Written.{elf_of}
 use Rattle.rvs_elf.proofs.ReadBack.{reads_back, runs_alike}
 use Rattle.rvs_select.specs.declared.database.Entry.{Entry}
-use Rattle.rvs_suite.specs.DatabaseInput.{database_in, marked, marked_from, marked_in}
+use Rattle.rvs_inputs.specs.DatabaseInput.{database_in, marked, marked_from, marked_in}
 use Rattle.rvs_suite.specs.DatabaseLeft.{made_in, Trial, with_trial, with_trials, AreTrialsOf}
-use Rattle.rvs_suite.specs.DeviceInput.{device_in}
-use Rattle.rvs_suite.specs.GroupFiles.{and_then}
+use Rattle.rvs_inputs.specs.DeviceInput.{device_in}
+use Rattle.rvs_inputs.specs.GroupFiles.{and_then}
 use Rattle.rvs_suite.specs.JudgingDatabase.{database_inputs_in, chosen_in, HasExecutable, IsNoneOf}
-use Rattle.rvs_suite.specs.Reference.{test_limit}
-use Rattle.rvs_suite.specs.RunDatabase.{Given, chosen, chosen_if, made_by, made_found, elf_found}
-use Rattle.rvs_suite.specs.RunDatabase.{DatabaseInputs}
-use Rattle.rvs_suite.specs.RunTests.{Bench, asks_elf}
-use Rattle.rvs_suite.specs.Specification.{said_in}
-use Rattle.rvs_suite.specs.TestFiles.{files_at}
-use Rattle.rvs_suite.specs.TestRun.{image_found}
-use Rattle.rvs_suite.specs.TestRun.{found_end, then_found}
-use Rattle.rvs_suite.specs.TestRun.{run_found, limit_of}
-use Rattle.rvs_suite.specs.declared.judging.Made.{Made}
-use Rattle.rvs_suite.specs.declared.test_run.Run.{Run}
+use Rattle.rvs_reference.specs.Reference.{test_limit}
+use Rattle.rvs_run.specs.RunDatabase.{Given, chosen, chosen_if, made_by, made_found, elf_found}
+use Rattle.rvs_run.specs.RunDatabase.{DatabaseInputs}
+use Rattle.rvs_run.specs.RunTests.{Bench, asks_elf}
+use Rattle.rvs_inputs.specs.Specification.{said_in}
+use Rattle.rvs_generate.specs.TestFiles.{files_at}
+use Rattle.rvs_reference.specs.TestRun.{image_found, found_end, then_found, run_found, limit_of}
+use Rattle.rvs_run.specs.declared.judging.Made.{Made}
+use Rattle.rvs_reference.specs.declared.test_run.Run.{Run}
 use Rattle.rvs_suite.proofs.DatabaseReads.{holds-tests}
 use Rattle.rvs_suite.proofs.Executables.{kept-executable, there-executable}
 use Rattle.rvs_suite.proofs.FoundImages.{sound}
 use Rattle.rvs_suite.proofs.Meanings.{then-ok, found-of, says-of}
 use Rattle.rvs_isa.proofs.Rooms.{accepted_have_room}
-use Rattle.rvs_suite.proofs.Paths.{same-ending, passed-by, other-bytes, reference-not-executable}
-use Rattle.rvs_suite.proofs.Paths.{device-not-executable}
+use Rattle.rvs_generate.proofs.Paths.{same-ending, passed-by, other-bytes, reference-not-executable}
+use Rattle.rvs_generate.proofs.Paths.{device-not-executable}
 use Rattle.rvs_words.specs.declared.command.RunDatabaseArguments.{RunDatabaseArguments}
 
 -- ---- what was made of a test

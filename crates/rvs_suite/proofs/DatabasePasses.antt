@@ -1,8 +1,7 @@
 -- Which trials of a database pass, by the verdict on all of them; and one test that passes.
 use Rattle.std.proofs.Common.{◌≡◌, ◌≢◌, ◌≤◌, ◌⊎◌, inl, inr, ℕ, zero, suc, ◌+◌, ◌==◌, Bool, true}
-use Rattle.std.proofs.Common.{false}
-use Rattle.std.proofs.Common.{if◌then◌else◌, List, [], ◌∷◌, ◌++◌, length, length-append, option_map}
-use Rattle.std.proofs.Common.{Option, Some, Ok, Err, refl, sym, ap, subst, ◌∙◌, arith}
+use Rattle.std.proofs.Common.{false, if◌then◌else◌, List, [], ◌∷◌, ◌++◌, length, length-append}
+use Rattle.std.proofs.Common.{option_map, Option, Some, Ok, Err, refl, sym, ap, subst, ◌∙◌, arith}
 use Rattle.std.proofs.Common.{All, Contains}
 use Rattle.std.proofs.lemmas.List.{append_cancel_left}
 use Rattle.std.proofs.lemmas.Bool.Decides.{nat_tests}
@@ -24,9 +23,9 @@ use Rattle.rvs_suite.specs.Call.{Call}
 use Rattle.rvs_suite.specs.DatabaseLeft.{made_in, Trial, with_trials, AreTrialsOf, task_on}
 use Rattle.rvs_suite.specs.DatabaseLeft.{with_trial, trial_verdict, trials_passed, runs_of}
 use Rattle.rvs_suite.specs.JudgingDatabase.{chosen_in, HasSpelled, AreJudged, HasJudged, HasStopped}
-use Rattle.rvs_suite.specs.RunDatabase.{Given, DatabaseInputs, database_bench}
-use Rattle.rvs_suite.specs.RunTests.{Bench, passes, with_one, verdict_of_all}
-use Rattle.rvs_suite.specs.declared.judging.Made.{Made}
+use Rattle.rvs_run.specs.RunDatabase.{Given, DatabaseInputs, database_bench}
+use Rattle.rvs_run.specs.RunTests.{Bench, passes, with_one, verdict_of_all}
+use Rattle.rvs_run.specs.declared.judging.Made.{Made}
 
 -- ---- one trial
 spelled-by : (bench : Bench) (t : Trial) (v : TestVerdict) → trial_verdict t ≡ v

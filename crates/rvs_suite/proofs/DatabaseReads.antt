@@ -13,21 +13,21 @@ use Rattle.rvs_select.specs.Database.{database_of}
 use Rattle.rvs_select.specs.declared.database.Entry.{Entry}
 use Rattle.rvs_select.specs.declared.refusal.SelectRefusal.{SelectRefusal}
 use Rattle.rvs_select.proofs.Accepted.{accepts, read_few}
-use Rattle.rvs_suite.specs.GroupFiles.{and_then}
-use Rattle.rvs_suite.specs.DatabaseInput.{database_limit, checked_end, tree_end, checks}
-use Rattle.rvs_suite.specs.DatabaseInput.{database_file, database_in, marked, gives_marked}
-use Rattle.rvs_suite.specs.DatabaseInput.{marked_file, marked_in}
+use Rattle.rvs_inputs.specs.GroupFiles.{and_then}
+use Rattle.rvs_inputs.specs.DatabaseInput.{database_limit, checked_end, tree_end, checks}
+use Rattle.rvs_inputs.specs.DatabaseInput.{database_file, database_in, marked, gives_marked}
+use Rattle.rvs_inputs.specs.DatabaseInput.{marked_file, marked_in}
 use Rattle.rvs_parts.specs.Parts.{PartValue}
-use Rattle.rvs_suite.specs.DeviceInput.{device_file, device_in}
+use Rattle.rvs_inputs.specs.DeviceInput.{device_file, device_in}
 use Rattle.rvs_suite.specs.JudgingDatabase.{database_inputs_in}
-use Rattle.rvs_suite.specs.RunDatabase.{DatabaseInputs, with_device, device_behind}
-use Rattle.rvs_suite.specs.RunDatabase.{database_behind, database_inputs}
-use Rattle.rvs_suite.specs.Select.{selection_in, reads_selection}
+use Rattle.rvs_run.specs.RunDatabase.{DatabaseInputs, with_device, device_behind}
+use Rattle.rvs_run.specs.RunDatabase.{database_behind, database_inputs}
+use Rattle.rvs_plain.specs.Select.{selection_in, reads_selection}
 use Rattle.rvs_suite.specs.Selecting.{HoldsTests}
-use Rattle.rvs_suite.specs.Specification.{said_in, specification}
-use Rattle.rvs_suite.proofs.Readers.{OnlyReads, OnlyReads-then}
-use Rattle.rvs_suite.proofs.Finding.{Finds}
-use Rattle.rvs_suite.proofs.GroupInputs.{reads-specification, finds-specification, finds-and_then}
+use Rattle.rvs_inputs.specs.Specification.{said_in, specification}
+use Rattle.rvs_inputs.proofs.Readers.{OnlyReads, OnlyReads-then}
+use Rattle.rvs_inputs.proofs.Finding.{Finds}
+use Rattle.rvs_inputs.proofs.GroupInputs.{reads-specification, finds-specification, finds-and_then}
 use Rattle.rvs_suite.proofs.Meanings.{then-ok, whole-of}
 use Rattle.rvs_suite.proofs.RunReads.{finds-device}
 use Rattle.rvs_words.specs.declared.command.RunDatabaseArguments.{RunDatabaseArguments}

@@ -1,7 +1,6 @@
 -- What the effects of `run` over a database leave, test by test.
 use Rattle.std.proofs.Common.{◌≡◌, ◌⊎◌, inl, inr, ℕ, List, [], ◌∷◌, ◌++◌, append_assoc, append-nil}
-use Rattle.std.proofs.Common.{Option, Result, Ok, Err, refl, sym, ap, subst, ◌∙◌}
-use Rattle.std.proofs.Common.{Bool, bytes_eq}
+use Rattle.std.proofs.Common.{Option, Result, Ok, Err, refl, sym, ap, subst, ◌∙◌, Bool, bytes_eq}
 use Rattle.rvs_base.specs.Host.{Files, with_left, run_over}
 use Rattle.rvs_base.specs.Sink.{appended}
 use Rattle.rvs_base.specs.declared.host.DeviceRun.{DeviceRun}
@@ -18,19 +17,18 @@ use Rattle.rvs_device.specs.declared.verdicts.TestVerdict.{TestVerdict}
 use Rattle.rvs_suite.specs.DatabaseLeft.{made_in, Trial, started_on, with_trial}
 use Rattle.rvs_suite.specs.DatabaseLeft.{with_trials, IsTrialOf, AreTrialsOf, task_on}
 use Rattle.rvs_suite.specs.DatabaseLeft.{trial_verdict, trial_lines, trials_passed, runs_of}
-use Rattle.rvs_suite.specs.GroupFiles.{and_then}
-use Rattle.rvs_suite.specs.Reference.{test_limit}
-use Rattle.rvs_suite.specs.RunDatabase.{Given, made_found, announces_made, judges_given}
-use Rattle.rvs_suite.specs.RunDatabase.{judges_chosen}
-use Rattle.rvs_suite.specs.RunTests.{Bench, judges_words, announces, passes, with_one}
-use Rattle.rvs_suite.specs.TestRun.{found_end, accepted}
-use Rattle.rvs_suite.specs.declared.judging.Made.{Made}
+use Rattle.rvs_inputs.specs.GroupFiles.{and_then}
+use Rattle.rvs_reference.specs.Reference.{test_limit}
+use Rattle.rvs_run.specs.RunDatabase.{Given, made_found, announces_made, judges_given}
+use Rattle.rvs_run.specs.RunDatabase.{judges_chosen}
+use Rattle.rvs_run.specs.RunTests.{Bench, judges_words, announces, passes, with_one}
+use Rattle.rvs_reference.specs.TestRun.{found_end, accepted}
+use Rattle.rvs_run.specs.declared.judging.Made.{Made}
 use Rattle.rvs_suite.proofs.Executables.{written_before, after-executable, saw-executable}
-use Rattle.rvs_suite.proofs.NormalPlan.{then-then}
-use Rattle.rvs_suite.proofs.Paths.{found-in, same-bytes}
-use Rattle.rvs_suite.proofs.RunSteps.{first_did, first_written, first_read, first_ran}
-use Rattle.rvs_suite.proofs.RunSteps.{left-over, left-there, contents_of, appended-twice}
-use Rattle.rvs_suite.proofs.RunSteps.{append-none}
+use Rattle.rvs_inputs.proofs.Chains.{then-then}
+use Rattle.rvs_generate.proofs.Paths.{found-in, same-bytes}
+use Rattle.rvs_suite.proofs.RunSteps.{first_did, first_written, first_read, first_ran, left-over}
+use Rattle.rvs_suite.proofs.RunSteps.{left-there, contents_of, appended-twice, append-none}
 
 -- ---- what follows when a test is read
 -- what follows what comes of a test

@@ -10,15 +10,14 @@ use Rattle.rvs_plan.specs.Inputs.{part_end}
 use Rattle.rvs_plan.specs.declared.stop.Stop.{Stop}
 use Rattle.rvs_plan.specs.declared.status.Status.{Status}
 use Rattle.rvs_suite.specs.JudgingDatabase.{database_inputs_in, chosen_in, IsNoneOf}
-use Rattle.rvs_suite.specs.Reference.{test_limit}
-use Rattle.rvs_suite.specs.RunDatabase.{Given, elf_found, made_by, made_found, announces_made}
-use Rattle.rvs_suite.specs.RunDatabase.{judges_given, judges_chosen, DatabaseInputs}
-use Rattle.rvs_suite.specs.RunDatabase.{database_inputs, database_bench, runs_database}
-use Rattle.rvs_suite.specs.RunDatabase.{run_database}
-use Rattle.rvs_suite.specs.RunTests.{Bench, asks_elf, if_asked, with_one, tallies}
-use Rattle.rvs_suite.specs.TestFiles.{files_at}
-use Rattle.rvs_suite.specs.TestRun.{accepted, then_found, image_found, test_found}
-use Rattle.rvs_suite.specs.declared.test_run.Run.{Run}
+use Rattle.rvs_reference.specs.Reference.{test_limit}
+use Rattle.rvs_run.specs.RunDatabase.{Given, elf_found, made_by, made_found, announces_made}
+use Rattle.rvs_run.specs.RunDatabase.{judges_given, judges_chosen, DatabaseInputs, database_inputs}
+use Rattle.rvs_run.specs.RunDatabase.{database_bench, runs_database, run_database}
+use Rattle.rvs_run.specs.RunTests.{Bench, asks_elf, if_asked, with_one, tallies}
+use Rattle.rvs_generate.specs.TestFiles.{files_at}
+use Rattle.rvs_reference.specs.TestRun.{accepted, then_found, image_found, test_found}
+use Rattle.rvs_reference.specs.declared.test_run.Run.{Run}
 use Rattle.rvs_suite.proofs.DatabaseReads.{finds-database-inputs}
 use Rattle.rvs_suite.proofs.Running.{Ran}
 use Rattle.rvs_suite.proofs.Sparing.{Spares, Spares-then, SparesOver, spares-found, spares}

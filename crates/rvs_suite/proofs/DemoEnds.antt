@@ -16,7 +16,7 @@ use Rattle.rvs_demo.proofs.Whole.{is_whole}
 use Rattle.rvs_plan.specs.declared.status.Finish.TheVariants as finish
 use Rattle.rvs_suite.specs.Call.{Call, world_of, Asks, HostRose}
 use Rattle.rvs_suite.specs.Answered.{Answered, OnDone}
-use Rattle.rvs_suite.specs.Demonstrate.{demonstrate}
+use Rattle.rvs_plain.specs.Demonstrate.{demonstrate}
 use Rattle.rvs_suite.specs.Demonstrating.{Demonstrates}
 use Rattle.rvs_suite.specs.Plans.{Performs}
 use Rattle.rvs_words.specs.Commands.{command_of}

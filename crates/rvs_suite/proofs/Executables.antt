@@ -1,19 +1,13 @@
 -- The executable of a test, which is written where the device asks for it.
 use Rattle.std.proofs.Common.{◌≡◌, ◌≢◌, ℕ, Bool, true, false, List, ◌∷◌, Option, Some, None}
-use Rattle.std.proofs.Common.{Ok, bytes_eq, refl, ap}
+use Rattle.std.proofs.Common.{bytes_eq, refl}
 use Rattle.rvs_base.specs.Host.{Files}
 use Rattle.rvs_base.specs.declared.host.DeviceRun.{DeviceRun}
 use Rattle.rvs_plan.specs.World.{Contents}
 use Rattle.rvs_plan.specs.Effect.{Write, Effect, Did, after, Saw}
-use Rattle.rvs_insn.specs.Isa.{Isa}
-use Rattle.rvs_machine.specs.Image.{ImageValue}
-use Rattle.rvs_elf.specs.Written.{elf_of}
-use Rattle.rvs_asm.specs.Answer.{answer}
-use Rattle.rvs_suite.specs.Tests.{elf_of_image, executable_of}
-use Rattle.rvs_suite.specs.RunTests.{if_asked}
+use Rattle.rvs_run.specs.RunTests.{if_asked}
 use Rattle.rvs_suite.specs.RunLeft.{with_executable}
-use Rattle.rvs_suite.specs.declared.gathering.Test.{Test}
-use Rattle.rvs_suite.proofs.Paths.{found-in, passed-by, same-bytes, other-bytes}
+use Rattle.rvs_generate.proofs.Paths.{found-in, passed-by, same-bytes, other-bytes}
 
 -- ---- effects
 -- the write of an executable, where there is one, and then others
@@ -51,9 +45,3 @@ pub there-executable : (wants : Bool) (name executable : List ℕ) (files : File
 there-executable true name executable files wanted =
     found-in (bytes_eq name name) _ _ (same-bytes name)
 there-executable false name executable files wanted = absurd cc
-
--- ---- what it is
-pub elf-of-test : (isa : Isa) (test : Test) (image : ImageValue)
-    → answer isa test.text ≡ Ok image → executable_of isa test ≡ elf_of image
-unfolding executable_of
-elf-of-test isa test image stands = ap elf_of_image stands

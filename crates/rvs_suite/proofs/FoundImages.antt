@@ -9,8 +9,8 @@ use Rattle.rvs_elf.specs.declared.refusal.ElfRefusal.{ElfRefusal}
 use Rattle.rvs_asm.specs.Answer.{answer}
 use Rattle.rvs_asm.specs.declared.refusal.AsmRefusal.{AsmRefusal}
 use Rattle.rvs_asm.proofs.Answered.{answered_stands}
-use Rattle.rvs_suite.specs.TestRun.{image_found, file_found, executable_found, text_found}
-use Rattle.rvs_suite.specs.TestRun.{is_image_name, is_executable_name}
+use Rattle.rvs_reference.specs.TestRun.{image_found, file_found, executable_found, text_found}
+use Rattle.rvs_reference.specs.TestRun.{is_image_name, is_executable_name}
 use Rattle.rvs_suite.proofs.ImageRegions.{file-image, elf-image, stands-map}
 
 pub of-file : (name : List ℕ) (r : Result ImageValue ImageRefusal) (image : ImageValue)

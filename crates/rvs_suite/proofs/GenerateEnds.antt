@@ -22,28 +22,29 @@ use Rattle.rvs_test.specs.Claimed.{TestRuns}
 use Rattle.rvs_plan.specs.declared.status.Finish.TheVariants as finish
 use Rattle.rvs_suite.specs.Answered.{HasLeft, Answered, OnDone}
 use Rattle.rvs_suite.specs.Call.{Call}
-use Rattle.rvs_suite.specs.Testable.{IsTestableIfSelected}
-use Rattle.rvs_suite.specs.Printing.{print_text}
-use Rattle.rvs_suite.specs.GroupFiles.{Inputs, inputs_in, tested_in, parted_inputs, labels_in}
-use Rattle.rvs_suite.specs.GroupFiles.{part_inputs}
+use Rattle.rvs_generate.specs.Testable.{IsTestableIfSelected}
+use Rattle.rvs_inputs.specs.Printing.{print_text}
+use Rattle.rvs_inputs.specs.GroupFiles.{Inputs, inputs_in, parted_inputs}
+use Rattle.rvs_generate.specs.TestedInputs.{tested_in, labels_in, part_inputs}
 use Rattle.rvs_suite.specs.Headline.{HasProvedTest}
 use Rattle.rvs_suite.specs.Rooms.{AsksForRoom}
-use Rattle.rvs_suite.specs.GenerateTexts.{listing}
-use Rattle.rvs_suite.specs.Generate.{path_of, writes_text, writes_test, writes_tests, written_tests}
-use Rattle.rvs_suite.specs.Generate.{generates}
+use Rattle.rvs_generate.specs.GenerateTexts.{listing}
+use Rattle.rvs_generate.specs.Generate.{path_of, writes_text, writes_test, writes_tests}
+use Rattle.rvs_generate.specs.Generate.{written_tests, generates}
 use Rattle.rvs_suite.specs.Generating as generating
 use Rattle.rvs_words.specs.declared.command.Command.TheVariants.{Generate}
 use Rattle.rvs_suite.proofs.Written.{apart-labels, test-there}
 use Rattle.rvs_suite.proofs.Answered.{Works, RunsOn, answered, ran-command}
 use Rattle.rvs_suite.proofs.RoomEnds.{asks, asked-room, asked-then}
 use Rattle.rvs_suite.proofs.Untouched.{untouched}
-use Rattle.rvs_suite.proofs.Finding.{Deeds, left, deeds-then, left-then}
-use Rattle.rvs_suite.proofs.GroupInputs.{finds-labels}
+use Rattle.rvs_inputs.proofs.Finding.{Deeds, left, deeds-then, left-then}
+use Rattle.rvs_suite.proofs.TestedInputs.{finds-labels}
 use Rattle.rvs_suite.proofs.NoTest.{no-point, listing-none}
 use Rattle.rvs_suite.proofs.OneTest.{one-point, file-there}
 use Rattle.rvs_suite.proofs.Sparing.{generate-spares}
 use Rattle.rvs_suite.proofs.Signed.{has-test, proved}
-use Rattle.rvs_suite.proofs.Tested.{good-inputs, placed-inputs, testable-labels, runs-label, tested-labels}
+use Rattle.rvs_suite.proofs.Tested.{good-inputs, placed-inputs, testable-labels, runs-label}
+use Rattle.rvs_suite.proofs.Tested.{tested-labels}
 use Rattle.rvs_words.specs.declared.command.GenerateArguments.{GenerateArguments}
 
 -- ---- the tests are deeds, and what they leave

@@ -16,10 +16,10 @@ use Rattle.rvs_asm.specs.Answer.{answer}
 use Rattle.rvs_log.specs.Entries.{entries_of}
 use Rattle.rvs_log.specs.Logs.{log_of, as_entry}
 use Rattle.rvs_log.proofs.RunLogs.{trace_of, run_entries}
-use Rattle.rvs_suite.specs.TestRun.{is_image_name, is_executable_name, file_found}
-use Rattle.rvs_suite.specs.TestRun.{executable_found, text_found, limit_of}
+use Rattle.rvs_reference.specs.TestRun.{is_image_name, is_executable_name, file_found}
+use Rattle.rvs_reference.specs.TestRun.{executable_found, text_found, limit_of}
 use Rattle.rvs_suite.specs.Halting.{BothHalt, HoldsOctets}
-use Rattle.rvs_suite.specs.declared.test_run.Run.{Run}
+use Rattle.rvs_reference.specs.declared.test_run.Run.{Run}
 use Rattle.rvs_log.proofs.Octets.{bytes_below}
 use Rattle.rvs_suite.proofs.FoundImages.{of-file, of-elf, of-text, sound}
 use Rattle.rvs_suite.proofs.ImageBytes.{HasBytes, of_file, of_text}

@@ -14,8 +14,9 @@ use Rattle.rvs_test_text.specs.declared.claim.Claim.{Claim}
 use Rattle.rvs_test_text.specs.TestText.{step_limit}
 use Rattle.rvs_test.specs.Made.{is_solved, unsolved_among, cases_among, claims_of, unsolved_of}
 use Rattle.rvs_test.specs.Made.{cases_of, text_for, text_of_label}
-use Rattle.rvs_suite.specs.GenerateTexts.{unsolved_line, point_lines, steps_line, name_line, none}
-use Rattle.rvs_suite.specs.GenerateTexts.{sum_up_to_most, tests_in, Totals, total_line, listing}
+use Rattle.rvs_generate.specs.GenerateTexts.{unsolved_line, point_lines, steps_line, name_line}
+use Rattle.rvs_generate.specs.GenerateTexts.{none}
+use Rattle.rvs_generate.specs.GenerateTexts.{sum_up_to_most, tests_in, Totals, total_line, listing}
 use Rattle.rvs_suite.proofs.OneTest.{claims-are}
 use Rattle.rvs_suite.proofs.PointLines.{unsolved-at}
 

@@ -15,12 +15,11 @@ use Rattle.rvs_cgf.specs.Spelled.{bare, selected}
 use Rattle.rvs_normal.proofs.ReadAgain.{read-again, short-keeps, own-admitted}
 use Rattle.rvs_plan.specs.Inputs.{part_end, too_long_text}
 use Rattle.rvs_plan.specs.declared.stop.Stop.TheVariants.{Refused}
-use Rattle.rvs_suite.specs.GroupTexts.{groups_name}
+use Rattle.rvs_inputs.specs.GroupTexts.{groups_name}
 use Rattle.rvs_isa.specs.declared.accepted_spec.AcceptedSpec.{AcceptedSpec}
-use Rattle.rvs_suite.specs.Specification.{said_in, bytes_said, isa_limit}
-use Rattle.rvs_suite.specs.GroupFiles.{groups_limit, join_found, and_then}
-use Rattle.rvs_suite.specs.GroupFiles.{text_in, checked_groups, tree_groups, groups_found, Inputs}
-use Rattle.rvs_suite.specs.GroupFiles.{inputs_of, inputs_in}
+use Rattle.rvs_inputs.specs.Specification.{said_in, bytes_said, isa_limit}
+use Rattle.rvs_inputs.specs.GroupFiles.{groups_limit, join_found, and_then, text_in, checked_groups}
+use Rattle.rvs_inputs.specs.GroupFiles.{tree_groups, groups_found, Inputs, inputs_of, inputs_in}
 
 -- the groups again, where these are those of a text
 again-of : (isa : Isa) (families other : Families) (text : List ℕ) (inputs : Inputs)

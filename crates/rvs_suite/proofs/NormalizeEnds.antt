@@ -5,14 +5,15 @@ use Rattle.rvs_plan.specs.World.{Contents}
 use Rattle.rvs_plan.specs.declared.status.Finish.TheVariants as finish
 use Rattle.rvs_suite.specs.Answered.{OnDone}
 use Rattle.rvs_suite.specs.Call.{Call}
-use Rattle.rvs_suite.specs.GroupFiles.{group_inputs, inputs_in}
-use Rattle.rvs_suite.specs.Normalize.{print_normal, normalize}
+use Rattle.rvs_inputs.specs.GroupFiles.{group_inputs, inputs_in}
+use Rattle.rvs_plain.specs.Normalize.{print_normal, normalize}
 use Rattle.rvs_suite.specs.Normalizing as normalizing
 use Rattle.rvs_words.specs.declared.command.Command.TheVariants.{Normalize}
 use Rattle.rvs_suite.proofs.Answered.{Works, RunsOn, answered}
-use Rattle.rvs_suite.proofs.GroupInputs.{reads-inputs, finds-inputs}
+use Rattle.rvs_inputs.proofs.GroupInputs.{reads-inputs, finds-inputs}
 use Rattle.rvs_suite.proofs.NormalAgain.{normal-again}
-use Rattle.rvs_suite.proofs.Keeping.{WritesNone, WritesNone-then, reads-none, keeps}
+use Rattle.rvs_inputs.proofs.Keeping.{WritesNone, WritesNone-then, reads-none}
+use Rattle.rvs_suite.proofs.Running.{keeps}
 use Rattle.rvs_words.specs.declared.command.NormalizeArguments.{NormalizeArguments}
 
 abbrev works : (files : Files) (asked : NormalizeArguments)

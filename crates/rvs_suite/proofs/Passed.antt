@@ -13,10 +13,10 @@ use Rattle.rvs_device.specs.declared.verdicts.TestVerdict.{TestVerdict}
 use Rattle.rvs_device.specs.declared.verdicts.TestVerdict.TheVariants.{Pass, NoSignature, TooLong}
 use Rattle.rvs_device.specs.declared.verdicts.TestVerdict.TheVariants.{BadSignature, Differs}
 use Rattle.rvs_device.specs.declared.verdicts.TestVerdict.TheVariants.{Lengths}
-use Rattle.rvs_suite.specs.RunTests.{Bench, passes, with_one, verdict_of_all}
+use Rattle.rvs_run.specs.RunTests.{Bench, passes, with_one, verdict_of_all}
 use Rattle.rvs_suite.specs.RunLeft.{AreRunsOf, verdict_by, passed_onto, task_of, HasSpelled}
 use Rattle.rvs_suite.specs.RunLeft.{AreJudged}
-use Rattle.rvs_suite.specs.declared.gathering.Test.{Test}
+use Rattle.rvs_generate.specs.declared.gathering.Test.{Test}
 
 spelled-by : (bench : Bench) (t : Test) (r : DeviceRun) (v : TestVerdict)
     → verdict_by bench t r ≡ v → passes v ≡ true → HasSpelled bench (t, r)

@@ -1,58 +1,31 @@
 -- What a call tells of its progress, from what its work told.
-use Rattle.std.proofs.Common.{◌≡◌, ◌≤◌, ◌<◌, ◌^◌, inl, inr, ℕ, Bool, true, false, List, [], ◌∷◌}
+use Rattle.std.proofs.Common.{◌≡◌, ◌≤◌, ◌<◌, ◌^◌, inl, inr, ℕ, true, false, List, [], ◌∷◌}
 use Rattle.std.proofs.Common.{length, Some, Result, Ok, Err, refl, sym, ap, subst, ◌∙◌}
 use Rattle.std.proofs.Common.{arith, append-nil, is_some, ◌/◌}
 use Rattle.rvs_base.specs.Host.{HostState, Files}
 use Rattle.rvs_base.specs.Sink.{SinkState}
 use Rattle.rvs_plan.specs.World.{World}
-use Rattle.rvs_plan.specs.Plan.{Plan}
-use Rattle.rvs_plan.specs.Meets.{MeetsWith}
-use Rattle.rvs_plan.specs.World.{Absence}
 use Rattle.rvs_plan.specs.Account.{Concludes, status_of}
 use Rattle.rvs_plan.specs.declared.stop.Stop.{Stop}
 use Rattle.rvs_plan.specs.declared.stop.Stop.TheVariants as why
 use Rattle.rvs_plan.specs.declared.status.Status.{Status}
 use Rattle.rvs_plan.specs.declared.status.Status.TheVariants as answer
 use Rattle.rvs_plan.specs.declared.status.Finish.{Finish}
-use Rattle.rvs_count.specs.Progress.{HasTold, left_by, lines_of_file, lines_of_steps, progress_line}
-use Rattle.rvs_count.specs.Progress.{progress_lines, put, step}
-use Rattle.rvs_suite.specs.Call.{Call, call}
+use Rattle.rvs_log.specs.Progress.{left_by, lines_of_file, lines_of_steps, progress_line}
+use Rattle.rvs_log.specs.Progress.{progress_lines, put, step}
+use Rattle.rvs_suite.specs.Call.{Call}
 use Rattle.rvs_suite.specs.Progressing.{Promise, asks_progress, lines_of}
-use Rattle.rvs_suite.specs.Telling.{HasToldOf, as_planned, is_whole, lines_of_logs, unlost}
-use Rattle.rvs_suite.specs.declared.unfinished.Unfinished.{Unfinished}
-use Rattle.rvs_suite.specs.declared.unfinished.Unfinished.TheVariants.{Stopped, Untold}
+use Rattle.rvs_coverage.specs.Telling.{HasToldOf, as_planned, is_whole, lines_of_logs, unlost}
+use Rattle.rvs_coverage.specs.declared.unfinished.Unfinished.{Unfinished}
+use Rattle.rvs_coverage.specs.declared.unfinished.Unfinished.TheVariants.{Stopped, Untold}
 use Rattle.rvs_words.specs.Commands.{command_of}
 use Rattle.rvs_words.specs.declared.command.Command.{Command}
 use Rattle.rvs_words.specs.declared.command.Command.TheVariants.{Coverage}
 use Rattle.rvs_words.specs.declared.command.CoverageArguments.{CoverageArguments}
-use Rattle.rvs_count.proofs.Telling.{put-none}
+use Rattle.rvs_log.proofs.Telling.{put-none}
 use Rattle.rvs_suite.specs.Plans.{Performs}
-use Rattle.rvs_suite.proofs.Tellings.{told-cut, told-none}
-
--- ---- the end of work that has no progress to tell
-as-it-was : {A : Type 0} (r : Result A Stop) → as_planned (unlost r) ≡ r
-as-it-was (Ok a) = refl
-as-it-was (Err stop) = refl
-
-pub meets-unlost : {absence : Absence} {A : Type 0} {plan : Plan A} {old new : World}
-    (r : Result A Stop) (u : Result A Unfinished) → u ≡ unlost r
-    → MeetsWith absence plan old new r → MeetsWith absence plan old new (as_planned u)
-meets-unlost {absence} {A} {plan} {old} {new} r u is m =
-    subst (λ (end : Result A Stop). MeetsWith absence plan old new end)
-    (sym (ap as_planned is ∙ as-it-was r)) m
-
-cut-by : {A : Type 0} {asked : Bool} {lines : Files → List ℕ} {host : HostState}
-    {old new : SinkState} (r : Result A Stop) → HasTold asked lines host old new true false
-    → HasToldOf asked lines host old new (unlost r)
-cut-by (Ok a) t = t
-cut-by (Err stop) t = told-cut t
-
-pub told-unlost : {A : Type 0} {asked : Bool} {lines : Files → List ℕ} {host : HostState}
-    {old new : SinkState} (r : Result A Stop) (u : Result A Unfinished) → u ≡ unlost r
-    → HasTold asked lines host old new true false → HasToldOf asked lines host old new u
-told-unlost {A} {asked} {lines} {host} {old} {new} r u is t =
-    subst (λ (end : Result A Unfinished). HasToldOf asked lines host old new end) (sym is)
-    (cut-by r t)
+use Rattle.rvs_coverage.proofs.Tellings.{told-none}
+use Rattle.rvs_coverage.proofs.Quiet.{as-it-was, told-unlost}
 
 pub performs-unlost : {command : Command} {old new : World} (r : Result Finish Stop)
     (u : Result Finish Unfinished) → u ≡ unlost r → Performs command old new r

@@ -16,9 +16,9 @@ use Rattle.rvs_suite.specs.Covering as covering
 use Rattle.rvs_suite.specs.Propagating as propagating
 use Rattle.rvs_suite.specs.Progressing as progressing
 use Rattle.rvs_suite.specs.Progressing.{asks_progress, behind, lines_of}
-use Rattle.rvs_suite.specs.Telling.{HasToldOf, as_planned}
-use Rattle.rvs_suite.specs.declared.unfinished.Unfinished.{Unfinished}
-use Rattle.rvs_count.specs.Progress.{put}
+use Rattle.rvs_coverage.specs.Telling.{HasToldOf, as_planned}
+use Rattle.rvs_coverage.specs.declared.unfinished.Unfinished.{Unfinished}
+use Rattle.rvs_log.specs.Progress.{put}
 use Rattle.rvs_suite.specs.Generating as generating
 use Rattle.rvs_suite.specs.Normalizing as normalizing
 use Rattle.rvs_suite.specs.Referencing as referencing

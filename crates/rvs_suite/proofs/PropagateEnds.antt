@@ -16,7 +16,7 @@ use Rattle.rvs_cgf.specs.Groups.{Meaning, op_is, reg_is, regs, nums, window}
 use Rattle.rvs_count.specs.Counting.{Aim, aims_of, hits}
 use Rattle.rvs_prop.specs.Acts.{Act, acts_of}
 use Rattle.rvs_prop.proofs.Listing.{acts_are_entries}
-use Rattle.rvs_suite.specs.declared.propagating.Traced.{Traced}
+use Rattle.rvs_coverage.specs.declared.propagating.Traced.{Traced}
 use Rattle.rvs_prop.specs.Reach.{reached, reaches}
 use Rattle.std.specs.Prelude.{◌&&◌}
 use Rattle.rvs_prop.specs.Report.{report_of}
@@ -25,26 +25,27 @@ use Rattle.rvs_words.specs.declared.command.SignedLog.{SignedLog}
 use Rattle.rvs_suite.specs.Call.{Call}
 use Rattle.rvs_suite.specs.Answered.{Answered, OnDone}
 use Rattle.rvs_suite.specs.Covering.{HasReported}
-use Rattle.rvs_suite.specs.GroupFiles.{Inputs, inputs_in}
-use Rattle.rvs_suite.specs.Printing.{print_text}
-use Rattle.rvs_suite.specs.Propagate.{measure, untracked, tracked_with, tracks_more, file_name}
-use Rattle.rvs_suite.specs.Propagate.{report_on, report_with, report_in, reported, propagate}
-use Rattle.rvs_suite.specs.LogLines.{lines_of_many}
-use Rattle.rvs_suite.specs.LogReport.{AreLogs}
-use Rattle.rvs_suite.specs.Summing.{sum_up_to_most, over, summed}
+use Rattle.rvs_inputs.specs.GroupFiles.{Inputs, inputs_in}
+use Rattle.rvs_inputs.specs.Printing.{print_text}
+use Rattle.rvs_coverage.specs.Propagate.{measure, untracked, tracked_with, tracks_more, file_name}
+use Rattle.rvs_coverage.specs.Propagate.{report_on, report_with, report_in, reported, propagate}
+use Rattle.rvs_coverage.specs.LogLines.{lines_of_many}
+use Rattle.rvs_coverage.specs.LogReport.{AreLogs}
+use Rattle.rvs_coverage.specs.Summing.{sum_up_to_most, over, summed}
 use Rattle.rvs_suite.specs.Propagating as propagating
 use Rattle.rvs_words.specs.declared.command.Command.TheVariants.{Propagate}
 use Rattle.rvs_words.specs.declared.command.PropagateArguments.{PropagateArguments}
 use Rattle.rvs_suite.proofs.Answered.{Works, RunsOn, answered}
 use Rattle.rvs_suite.proofs.CoverageEnds.{counted-report}
-use Rattle.rvs_suite.proofs.Sums.{plus_map, AreLow, summed_all, over_map, zeros_map, map_map}
-use Rattle.rvs_suite.proofs.Sums.{total_map}
+use Rattle.rvs_coverage.proofs.Sums.{plus_map, AreLow, summed_all, over_map, zeros_map, map_map}
+use Rattle.rvs_coverage.proofs.Sums.{total_map}
 use Rattle.rvs_suite.proofs.LogAmounts.{log-few, count-few}
 use Rattle.rvs_suite.proofs.WordLimits.{propagate-few}
-use Rattle.rvs_suite.proofs.LogReads.{reads-reported, finds-reported, known_of, as-many}
-use Rattle.rvs_suite.proofs.LogReads.{few-logs, found-report}
+use Rattle.rvs_coverage.proofs.LogReads.{reads-reported, finds-reported, known_of, as-many}
+use Rattle.rvs_coverage.proofs.LogReads.{few-logs, found-report}
 use Rattle.rvs_suite.proofs.OneReached.{one-reached}
-use Rattle.rvs_suite.proofs.Keeping.{WritesNone, WritesNone-then, reads-none, keeps}
+use Rattle.rvs_inputs.proofs.Keeping.{WritesNone, WritesNone-then, reads-none}
+use Rattle.rvs_suite.proofs.Running.{keeps}
 use Rattle.rvs_suite.proofs.Tested.{good-inputs, valid-good}
 
 abbrev works : (files : Files) (asked : PropagateArguments) → Works (Propagate asked) files

@@ -1,7 +1,6 @@
 -- What every call of `reference` promises.
-use Rattle.std.proofs.Common.{◌≡◌, ℕ, Bool, true, false, List, length, Option, Some, None}
-use Rattle.std.proofs.Common.{Result, Ok, Err, refl, if◌then◌else◌}
-use Rattle.std.proofs.Common.{sym, ap, ◌∙◌}
+use Rattle.std.proofs.Common.{◌≡◌, ℕ, Bool, true, false, List, length, Option, Some, None, Result}
+use Rattle.std.proofs.Common.{Ok, Err, refl, if◌then◌else◌, sym, ap, ◌∙◌}
 use Rattle.rvs_base.specs.Host.{Files, with_file, written}
 use Rattle.rvs_base.specs.Sink.{appended}
 use Rattle.rvs_plan.specs.Inputs.{part_end}
@@ -20,22 +19,23 @@ use Rattle.rvs_sig.specs.Words.{text_of_words}
 use Rattle.rvs_log.specs.Logs.{log_of}
 use Rattle.rvs_suite.specs.Answered.{OnDone}
 use Rattle.rvs_suite.specs.Call.{Call, world_of}
-use Rattle.rvs_suite.specs.GroupFiles.{and_then}
+use Rattle.rvs_inputs.specs.GroupFiles.{and_then}
 use Rattle.rvs_suite.specs.Halting.{BothHalt, NamesText, TextHalts, with_log}
-use Rattle.rvs_suite.specs.Reference.{test_limit, trial, records}
+use Rattle.rvs_reference.specs.Reference.{test_limit, trial, records}
 use Rattle.rvs_suite.specs.Referencing as referencing
 use Rattle.rvs_suite.specs.Referencing.{trial_in, run_in}
-use Rattle.rvs_suite.specs.Specification.{said_in, specification}
-use Rattle.rvs_suite.specs.TestRun.{accepted, found_end, test_found, is_image_name}
-use Rattle.rvs_suite.specs.TestRun.{is_executable_name, file_found, executable_found, text_found}
-use Rattle.rvs_suite.specs.TestTexts.{ran_line}
-use Rattle.rvs_suite.specs.declared.test_run.Run.{Run}
+use Rattle.rvs_inputs.specs.Specification.{said_in, specification}
+use Rattle.rvs_reference.specs.TestRun.{accepted, found_end, test_found, is_image_name}
+use Rattle.rvs_reference.specs.TestRun.{is_executable_name, file_found, executable_found}
+use Rattle.rvs_reference.specs.TestRun.{text_found}
+use Rattle.rvs_reference.specs.TestTexts.{ran_line}
+use Rattle.rvs_reference.specs.declared.test_run.Run.{Run}
 use Rattle.rvs_words.specs.declared.command.Command.TheVariants.{Reference}
 use Rattle.rvs_suite.proofs.Answered.{Works, RunsOn, answered}
-use Rattle.rvs_suite.proofs.Finding.{Finds, Deeds, left}
-use Rattle.rvs_suite.proofs.GroupInputs.{finds-specification, finds-and_then}
+use Rattle.rvs_inputs.proofs.Finding.{Finds, Deeds, left}
+use Rattle.rvs_inputs.proofs.GroupInputs.{finds-specification, finds-and_then}
 use Rattle.rvs_suite.proofs.Meanings.{both-halt}
-use Rattle.rvs_suite.proofs.NormalPlan.{then-then}
+use Rattle.rvs_inputs.proofs.Chains.{then-then}
 use Rattle.rvs_suite.proofs.Sparing.{reference-spares}
 use Rattle.rvs_words.specs.declared.command.ReferenceArguments.{ReferenceArguments}
 

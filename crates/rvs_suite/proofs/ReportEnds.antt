@@ -5,19 +5,21 @@ use Rattle.rvs_plan.specs.World.{Contents}
 use Rattle.rvs_page.specs.Shown.{verdict_of}
 use Rattle.rvs_suite.specs.Call.{Call}
 use Rattle.rvs_suite.specs.Answered.{Answered}
-use Rattle.rvs_suite.specs.Coverage.{uncounted, counts_more, file_name}
-use Rattle.rvs_suite.specs.DeviceInput.{device_in}
-use Rattle.rvs_suite.specs.GroupFiles.{Inputs, and_then, inputs_in, tested_in}
-use Rattle.rvs_suite.specs.LogReport.{logs_in}
+use Rattle.rvs_coverage.specs.Coverage.{uncounted, counts_more, file_name}
+use Rattle.rvs_inputs.specs.DeviceInput.{device_in}
+use Rattle.rvs_inputs.specs.GroupFiles.{Inputs, and_then, inputs_in}
+use Rattle.rvs_generate.specs.TestedInputs.{tested_in}
+use Rattle.rvs_coverage.specs.LogReport.{logs_in}
 use Rattle.rvs_suite.specs.Rooms.{AsksForRoom}
-use Rattle.rvs_suite.specs.Report.{end_by, page_with, all_shown_in, page_in, finds_page, puts_page}
-use Rattle.rvs_suite.specs.Report.{report}
+use Rattle.rvs_report.specs.Report.{end_by, page_with, all_shown_in, page_in, finds_page, puts_page}
+use Rattle.rvs_report.specs.Report.{report}
 use Rattle.rvs_suite.specs.Reporting as reporting
 use Rattle.rvs_suite.proofs.Answered.{Works, RunsOn, answered, ran-command}
 use Rattle.rvs_suite.proofs.RoomEnds.{asks, asked-room, asked-then}
 use Rattle.rvs_suite.proofs.Tested.{good-inputs, placed-inputs}
 use Rattle.rvs_suite.proofs.Untouched.{untouched}
-use Rattle.rvs_suite.proofs.Keeping.{WritesNone, WritesNone-then, reads-none, keeps}
+use Rattle.rvs_inputs.proofs.Keeping.{WritesNone, WritesNone-then, reads-none}
+use Rattle.rvs_suite.proofs.Running.{keeps}
 use Rattle.rvs_suite.proofs.ReportReads.{reads-page, finds-page}
 use Rattle.rvs_suite.proofs.ReportPasses.{shown-passes, all-pass, found-apart}
 use Rattle.rvs_words.specs.declared.command.Command.TheVariants.{Report}

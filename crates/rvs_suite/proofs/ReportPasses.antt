@@ -4,8 +4,7 @@ use Rattle.std.proofs.Common.{List, [], ◌∷◌, ◌++◌, length, take, drop,
 use Rattle.std.proofs.Common.{nat_lt, Result, Ok, Err, refl, sym, ap, subst, ◌∙◌}
 use Rattle.std.specs.Prelude.{◌&&◌, bytes_eq, find}
 use Rattle.std.specs.Cmp.Lexicographic.{bytes_decides}
-use Rattle.std.proofs.lemmas.List.Elements.{All-nil, All-cons, All-head, All-tail}
-use Rattle.std.proofs.lemmas.List.Elements.{All-append}
+use Rattle.std.proofs.lemmas.List.Elements.{All-nil, All-cons, All-head, All-tail, All-append}
 use Rattle.rvs_base.specs.Host.{Files}
 use Rattle.rvs_plan.specs.declared.stop.Stop.{Stop}
 use Rattle.rvs_insn.specs.Isa.{Isa}
@@ -34,22 +33,22 @@ use Rattle.rvs_page.specs.declared.shown.Verdict.TheVariants as verdict
 use Rattle.rvs_page.specs.declared.shown.Page.{Page}
 use Rattle.rvs_page.specs.declared.shown.Label.{Label as ShownLabel}
 use Rattle.rvs_page.proofs.Verdicts.{pass_says_that_all_pass}
-use Rattle.rvs_suite.specs.GroupFiles.{Inputs, and_then, inputs_in, lacks_room, unless_for}
-use Rattle.rvs_suite.specs.GroupFiles.{with_room}
-use Rattle.rvs_suite.specs.DeviceInput.{device_in}
-use Rattle.rvs_suite.specs.LogReport.{logs_in}
-use Rattle.rvs_suite.specs.Coverage.{uncounted, counts_more, file_name}
-use Rattle.rvs_suite.specs.Tests.{reference_words, test_with, tests_of_label, tests_of}
-use Rattle.rvs_suite.specs.TestFiles.{files_of}
-use Rattle.rvs_suite.specs.Findings.{likeness, found_open, compared, spelt, found_on}
-use Rattle.rvs_suite.specs.Findings.{by_likeness, finding_in}
-use Rattle.rvs_suite.specs.Showing.{shown_unselected}
-use Rattle.rvs_suite.specs.Report.{test_of, page_with, shown_by, shown_in, all_shown_in, page_in}
+use Rattle.rvs_inputs.specs.GroupFiles.{Inputs, and_then, inputs_in}
+use Rattle.rvs_generate.specs.TestedInputs.{lacks_room, unless_for, with_room}
+use Rattle.rvs_inputs.specs.DeviceInput.{device_in}
+use Rattle.rvs_coverage.specs.LogReport.{logs_in}
+use Rattle.rvs_coverage.specs.Coverage.{uncounted, counts_more, file_name}
+use Rattle.rvs_generate.specs.Tests.{reference_words, test_with, tests_of_label, tests_of}
+use Rattle.rvs_generate.specs.TestFiles.{files_of}
+use Rattle.rvs_report.specs.Findings.{likeness, found_open, compared, spelt, found_on}
+use Rattle.rvs_report.specs.Findings.{by_likeness, finding_in}
+use Rattle.rvs_report.specs.Showing.{shown_unselected}
+use Rattle.rvs_report.specs.Report.{test_of, page_with, shown_by, shown_in, all_shown_in, page_in}
 use Rattle.rvs_suite.specs.Reporting.{HoldPass, AreAlike}
-use Rattle.rvs_suite.specs.declared.covering.Covered.{Covered}
-use Rattle.rvs_suite.specs.declared.reviewing.Likeness.TheVariants.{Other, Same}
-use Rattle.rvs_suite.specs.declared.reviewing.Found.{Found}
-use Rattle.rvs_suite.specs.declared.gathering.Test.{Test}
+use Rattle.rvs_coverage.specs.declared.covering.Covered.{Covered}
+use Rattle.rvs_report.specs.declared.reviewing.Likeness.TheVariants.{Other, Same}
+use Rattle.rvs_report.specs.declared.reviewing.Found.{Found}
+use Rattle.rvs_generate.specs.declared.gathering.Test.{Test}
 use Rattle.rvs_words.specs.declared.command.ReportArguments.{ReportArguments}
 
 -- ---- the signature: it passes as it does where `run` judges it

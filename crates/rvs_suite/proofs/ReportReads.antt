@@ -13,28 +13,29 @@ use Rattle.rvs_test.specs.Made.{claims_of, text_of_label}
 use Rattle.rvs_device.specs.DeviceFile.{Told}
 use Rattle.rvs_page.specs.declared.shown.Page.{Page}
 use Rattle.rvs_page.specs.declared.shown.Label.{Label as ShownLabel}
-use Rattle.rvs_suite.specs.GroupFiles.{Inputs, and_then, tested_in, tested_inputs}
-use Rattle.rvs_suite.specs.DeviceInput.{device_limit, checks, device_file, device_in}
-use Rattle.rvs_suite.specs.LogReport.{takes_logs, logs_in}
-use Rattle.rvs_suite.specs.Coverage.{uncounted, counts_more, file_name}
-use Rattle.rvs_suite.specs.Tests.{reference_words}
-use Rattle.rvs_suite.specs.TestFiles.{files_of}
-use Rattle.rvs_suite.specs.Findings.{likeness, found_on, by_likeness, finding_in, asks_like}
-use Rattle.rvs_suite.specs.Findings.{if_like}
-use Rattle.rvs_suite.specs.Findings.{finds_signature, finds_words, finds_test}
-use Rattle.rvs_suite.specs.Showing.{shown_label, shown_unselected}
-use Rattle.rvs_suite.specs.Report.{test_of, page_with, shown_by, shown_in, all_shown_in, page_in}
-use Rattle.rvs_suite.specs.Report.{shows_by, shows_label, shows_labels, finds_page}
-use Rattle.rvs_suite.specs.declared.covering.Covered.{Covered}
-use Rattle.rvs_suite.specs.declared.reviewing.Likeness.{Likeness}
-use Rattle.rvs_suite.specs.declared.reviewing.Likeness.TheVariants.{Absent, Other, Same}
-use Rattle.rvs_suite.specs.declared.reviewing.Found.{Found}
-use Rattle.rvs_suite.specs.declared.gathering.Test.{Test}
+use Rattle.rvs_inputs.specs.GroupFiles.{Inputs, and_then}
+use Rattle.rvs_generate.specs.TestedInputs.{tested_in, tested_inputs}
+use Rattle.rvs_inputs.specs.DeviceInput.{device_limit, checks, device_file, device_in}
+use Rattle.rvs_coverage.specs.LogReport.{takes_logs, logs_in}
+use Rattle.rvs_coverage.specs.Coverage.{uncounted, counts_more, file_name}
+use Rattle.rvs_generate.specs.Tests.{reference_words}
+use Rattle.rvs_generate.specs.TestFiles.{files_of}
+use Rattle.rvs_report.specs.Findings.{likeness, found_on, by_likeness, finding_in, asks_like}
+use Rattle.rvs_report.specs.Findings.{if_like, finds_signature, finds_words, finds_test}
+use Rattle.rvs_report.specs.Showing.{shown_label, shown_unselected}
+use Rattle.rvs_report.specs.Report.{test_of, page_with, shown_by, shown_in, all_shown_in, page_in}
+use Rattle.rvs_report.specs.Report.{shows_by, shows_label, shows_labels, finds_page}
+use Rattle.rvs_coverage.specs.declared.covering.Covered.{Covered}
+use Rattle.rvs_report.specs.declared.reviewing.Likeness.{Likeness}
+use Rattle.rvs_report.specs.declared.reviewing.Likeness.TheVariants.{Absent, Other, Same}
+use Rattle.rvs_report.specs.declared.reviewing.Found.{Found}
+use Rattle.rvs_generate.specs.declared.gathering.Test.{Test}
 use Rattle.rvs_words.specs.declared.command.ReportArguments.{ReportArguments}
-use Rattle.rvs_suite.proofs.Readers.{OnlyReads, OnlyReads-then}
-use Rattle.rvs_suite.proofs.Finding.{Finds, finds-then}
-use Rattle.rvs_suite.proofs.GroupInputs.{reads-tested, finds-tested, finds-and_then}
-use Rattle.rvs_suite.proofs.LogReads.{reads-logs, finds-logs}
+use Rattle.rvs_inputs.proofs.Readers.{OnlyReads, OnlyReads-then}
+use Rattle.rvs_inputs.proofs.Finding.{Finds, finds-then}
+use Rattle.rvs_suite.proofs.TestedInputs.{reads-tested, finds-tested}
+use Rattle.rvs_inputs.proofs.GroupInputs.{finds-and_then}
+use Rattle.rvs_coverage.proofs.LogReads.{reads-logs, finds-logs}
 use Rattle.rvs_suite.proofs.RunReads.{finds-device}
 
 -- ---- the parts of the plan

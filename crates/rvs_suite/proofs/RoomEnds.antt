@@ -25,12 +25,13 @@ use Rattle.rvs_test.specs.Made.{cases_of, has_room}
 use Rattle.rvs_test.proofs.Solvings.{cases_few, cases_ready}
 use Rattle.rvs_suite.specs.Answered.{Answered}
 use Rattle.rvs_suite.specs.Call.{Call, world_of}
-use Rattle.rvs_suite.specs.GroupTexts.{group_text}
-use Rattle.rvs_suite.specs.GroupFiles.{Inputs, and_then, lacks_room, no_room, unless_for, with_room}
+use Rattle.rvs_inputs.specs.GroupTexts.{group_text}
+use Rattle.rvs_inputs.specs.GroupFiles.{Inputs, and_then}
+use Rattle.rvs_generate.specs.TestedInputs.{lacks_room, no_room, unless_for, with_room}
 use Rattle.rvs_suite.specs.Rooms.{IsFirstLacking, IsRefusedFor, AsksForRoom}
 use Rattle.rvs_suite.proofs.Meanings.{then-ok}
 use Rattle.rvs_suite.proofs.Tested.{IsGood, IsPlaced, valid-good}
-use Rattle.rvs_suite.proofs.Testable.{has-room, none-first, none-behind}
+use Rattle.rvs_generate.proofs.Testable.{has-room, none-first, none-behind}
 
 -- ---- the first label that lacks room
 not-by : (selected room : Bool) → (selected ≡ true → room ≡ true) → (selected && not room) ≡ false

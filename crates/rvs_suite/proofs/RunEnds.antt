@@ -25,29 +25,27 @@ use Rattle.rvs_device.proofs.Passing as passing
 use Rattle.rvs_cgf.specs.Groups.{Label}
 use Rattle.rvs_solver.specs.Solving.{IsSolvableAt}
 use Rattle.rvs_suite.specs.Call.{Call, world_of}
-use Rattle.rvs_suite.specs.Generate.{path_of}
+use Rattle.rvs_generate.specs.Generate.{path_of}
 use Rattle.rvs_suite.specs.Headline.{HasProvedTest}
 use Rattle.rvs_suite.specs.Answered.{HasLeft, Answered}
-use Rattle.rvs_suite.specs.GenerateTexts.{listing}
-use Rattle.rvs_suite.specs.RunTests.{Bench, tally_line, tallies, passes, with_one, verdict_of_all}
-use Rattle.rvs_suite.specs.RunTests.{RunInputs, run_inputs, bench_of, runs, run}
-use Rattle.rvs_suite.specs.RunLeft.{verdict_lines, passed_onto, with_all_judged}
-use Rattle.rvs_suite.specs.RunLeft.{task_of}
-use Rattle.rvs_suite.specs.DeviceInput.{device_in}
-use Rattle.rvs_suite.specs.GroupFiles.{Inputs, and_then, inputs_in, tested_in, parted_inputs}
-use Rattle.rvs_suite.specs.GroupFiles.{labels_in}
+use Rattle.rvs_generate.specs.GenerateTexts.{listing}
+use Rattle.rvs_run.specs.RunTests.{Bench, tally_line, tallies, passes, with_one, verdict_of_all}
+use Rattle.rvs_run.specs.RunTests.{RunInputs, run_inputs, bench_of, runs, run}
+use Rattle.rvs_suite.specs.RunLeft.{verdict_lines, passed_onto, with_all_judged, task_of}
+use Rattle.rvs_inputs.specs.DeviceInput.{device_in}
+use Rattle.rvs_inputs.specs.GroupFiles.{Inputs, and_then, inputs_in, parted_inputs}
+use Rattle.rvs_generate.specs.TestedInputs.{tested_in, labels_in}
 use Rattle.rvs_suite.specs.Rooms.{AsksForRoom}
 use Rattle.rvs_suite.specs.Signing.{IsSigned}
 use Rattle.rvs_suite.specs.Judging.{run_inputs_in, tests_in, HasJudged, HasTestFiles, Runs}
-use Rattle.rvs_suite.specs.declared.gathering.Test.{Test}
+use Rattle.rvs_generate.specs.declared.gathering.Test.{Test}
 use Rattle.rvs_words.specs.declared.command.Command.TheVariants.{Run}
 use Rattle.rvs_suite.proofs.Answered.{RunsOn, ran-command}
 use Rattle.rvs_suite.proofs.Ends.{means-end, was_refused, was_missing}
-use Rattle.rvs_suite.proofs.Finding.{Behind, behind, end-found}
+use Rattle.rvs_inputs.proofs.Finding.{Behind, behind, end-found}
 use Rattle.rvs_suite.proofs.Running.{at_status, asked_means}
 use Rattle.rvs_suite.proofs.RunReads.{finds-run}
-use Rattle.rvs_suite.proofs.RunSteps.{first_did, contents_of, appended-twice, JudgedAll}
-use Rattle.rvs_suite.proofs.RunSteps.{judged-all}
+use Rattle.rvs_suite.proofs.RunSteps.{first_did, contents_of, appended-twice, JudgedAll, judged-all}
 use Rattle.rvs_suite.proofs.Sparing.{run-spares}
 use Rattle.rvs_suite.proofs.Passed.{are-judged}
 use Rattle.rvs_suite.proofs.Signed.{has-test, proved}

@@ -6,13 +6,15 @@ use Rattle.rvs_plan.specs.Inputs.{input, part_end}
 use Rattle.rvs_plan.specs.declared.stop.Stop.{Stop}
 use Rattle.rvs_yaml.specs.Parsed.{answer}
 use Rattle.rvs_device.specs.DeviceFile.{Told}
-use Rattle.rvs_suite.specs.GroupFiles.{Inputs, and_then, labels_in, part_inputs}
-use Rattle.rvs_suite.specs.DeviceInput.{device_limit, tree_end, checks, device_file, device_in}
-use Rattle.rvs_suite.specs.RunTests.{RunInputs, run_inputs}
+use Rattle.rvs_inputs.specs.GroupFiles.{Inputs, and_then}
+use Rattle.rvs_generate.specs.TestedInputs.{labels_in, part_inputs}
+use Rattle.rvs_inputs.specs.DeviceInput.{device_limit, tree_end, checks, device_file, device_in}
+use Rattle.rvs_run.specs.RunTests.{RunInputs, run_inputs}
 use Rattle.rvs_suite.specs.Judging.{run_inputs_in}
-use Rattle.rvs_suite.proofs.Readers.{OnlyReads, OnlyReads-then}
-use Rattle.rvs_suite.proofs.Finding.{Finds}
-use Rattle.rvs_suite.proofs.GroupInputs.{reads-labels, finds-labels, finds-and_then}
+use Rattle.rvs_inputs.proofs.Readers.{OnlyReads, OnlyReads-then}
+use Rattle.rvs_inputs.proofs.Finding.{Finds}
+use Rattle.rvs_suite.proofs.TestedInputs.{reads-labels, finds-labels}
+use Rattle.rvs_inputs.proofs.GroupInputs.{finds-and_then}
 use Rattle.rvs_words.specs.declared.command.RunArguments.{RunArguments}
 
 abbrev with_device : Inputs → Told → Plan RunInputs

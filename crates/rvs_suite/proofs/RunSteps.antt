@@ -14,19 +14,19 @@ use Rattle.rvs_plan.specs.declared.status.Finish.{Finish}
 use Rattle.rvs_sig.specs.Words.{text_of_words}
 use Rattle.rvs_device.specs.Printed.{verdict_line}
 use Rattle.rvs_suite.specs.RunLeft.{task_of}
-use Rattle.rvs_suite.specs.Tests.{reference_words, executable_of}
-use Rattle.rvs_suite.specs.RunTests.{Bench, files_for, asks_elf, executable_for, passes, announces}
-use Rattle.rvs_suite.specs.RunTests.{writes_executable, judges_words, judges_one, judges_all}
-use Rattle.rvs_suite.specs.RunTests.{with_one}
+use Rattle.rvs_generate.specs.Tests.{reference_words, executable_of}
+use Rattle.rvs_run.specs.RunTests.{Bench, files_for, asks_elf, executable_for, passes, announces}
+use Rattle.rvs_run.specs.RunTests.{writes_executable, judges_words, judges_one, judges_all}
+use Rattle.rvs_run.specs.RunTests.{with_one}
 use Rattle.rvs_suite.specs.RunLeft.{IsRunOf, AreRunsOf, verdict_by, verdict_lines, passed_onto}
 use Rattle.rvs_suite.specs.RunLeft.{with_written, with_judged, with_all_judged}
-use Rattle.rvs_suite.specs.declared.gathering.Test.{Test}
+use Rattle.rvs_generate.specs.declared.gathering.Test.{Test}
 use Rattle.rvs_device.specs.declared.verdicts.TestVerdict.{TestVerdict}
 use Rattle.rvs_suite.proofs.Executables.{written_before, after-executable, saw-executable}
 use Rattle.rvs_suite.proofs.Executables.{kept-executable}
-use Rattle.rvs_suite.proofs.NormalPlan.{then-then}
-use Rattle.rvs_suite.proofs.Paths.{found-in, passed-by, same-bytes, other-bytes, not-reference}
-use Rattle.rvs_suite.proofs.Paths.{not-executable, not-device}
+use Rattle.rvs_inputs.proofs.Chains.{then-then}
+use Rattle.rvs_generate.proofs.Paths.{found-in, passed-by, same-bytes, other-bytes, not-reference}
+use Rattle.rvs_generate.proofs.Paths.{not-executable, not-device}
 
 -- ---- the first effect of a plan that comes to its end
 pub record FirstDid (deed : Deed) (plan : Plan Finish) (end : Result Finish Stop)

@@ -7,19 +7,19 @@ use Rattle.rvs_plan.specs.Performed.{NeverStops}
 use Rattle.rvs_plan.specs.Meets.{MeetsWith, Meets}
 use Rattle.rvs_plan.specs.Account.{Accounts, Concludes, NoneRose, Means}
 use Rattle.rvs_plan.proofs.Answering.{Answers, Answers-of, Accounts-means, Means-never_stops}
-use Rattle.rvs_plan.proofs.Answering.{Obeys-meets}
-use Rattle.rvs_plan.proofs.Answering.{Obeys-usage, Obeys-no_memory, Meets-not_usage, usage-status}
-use Rattle.rvs_plan.proofs.Answering.{memory-status, status-usage}
+use Rattle.rvs_plan.proofs.Answering.{Obeys-meets, Obeys-usage, Obeys-no_memory, Meets-not_usage}
+use Rattle.rvs_plan.proofs.Answering.{usage-status, memory-status, status-usage}
 use Rattle.rvs_plan.proofs.Sequence.{Meets-no_memory}
 use Rattle.rvs_plan.specs.declared.stop.Stop.{Stop}
 use Rattle.rvs_plan.specs.declared.stop.Stop.TheVariants as why
 use Rattle.rvs_plan.specs.declared.status.Status.{Status}
 use Rattle.rvs_plan.specs.declared.status.Status.TheVariants as answer
 use Rattle.rvs_plan.specs.declared.status.Finish.{Finish}
-use Rattle.rvs_suite.specs.Demonstrate.{demonstrate}
+use Rattle.rvs_plain.specs.Demonstrate.{demonstrate}
 use Rattle.rvs_suite.specs.Plans.{plan_of, absence_of, IsApart, Performs}
 use Rattle.rvs_words.specs.declared.command.Command.{Command}
 use Rattle.rvs_words.specs.declared.command.Command.TheVariants.{Unknown, Demo}
+use Rattle.rvs_inputs.proofs.Keeping.{WritesNone, accounted}
 
 -- a command that met its plan
 pub Performs-meets : {command : Command} {old new : World} {result : Result Finish Stop}
@@ -143,3 +143,11 @@ pub asked_means : {command : Command} {old new : World} {err err' : SinkState} {
 asked_means {command} {old} {new} {err} {err'} {status} r files asked t is none = subst
     (λ (c : Command). Means (plan_of c) files status ⊎ (status ≡ answer.NoMemory)) is
     (answered r files t none)
+
+pub keeps : {command : Command} {old new : World} {err err' : SinkState} {status : Status}
+    → Ran command old new err err' status → (files : Files) (asked : Command) → Tells old.host files
+    → command ≡ asked → WritesNone (plan_of asked) → new.host.files ≡ old.host.files
+keeps {command} {old} {new} {err} {err'} {status} r files asked t is none =
+    accounted (plan_of asked) old new err err' status none (subst
+    (λ (c : Command). Accounts (plan_of c) old new err err' status) is
+    ((answers r).effects files t))

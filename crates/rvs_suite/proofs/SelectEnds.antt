@@ -5,11 +5,12 @@ use Rattle.rvs_plan.specs.World.{Contents}
 use Rattle.rvs_plan.specs.declared.status.Finish.TheVariants as finish
 use Rattle.rvs_suite.specs.Answered.{OnDone}
 use Rattle.rvs_suite.specs.Call.{Call}
-use Rattle.rvs_suite.specs.Select.{selection_in, reads_selection, print_selection, select}
+use Rattle.rvs_plain.specs.Select.{selection_in, reads_selection, print_selection, select}
 use Rattle.rvs_suite.specs.Selecting as selecting
 use Rattle.rvs_suite.proofs.Answered.{Works, RunsOn, answered}
 use Rattle.rvs_suite.proofs.DatabaseReads.{reads-selection, finds-selection, selected-tests}
-use Rattle.rvs_suite.proofs.Keeping.{WritesNone, WritesNone-then, reads-none, keeps}
+use Rattle.rvs_inputs.proofs.Keeping.{WritesNone, WritesNone-then, reads-none}
+use Rattle.rvs_suite.proofs.Running.{keeps}
 use Rattle.rvs_words.specs.declared.command.Command.TheVariants.{Select}
 use Rattle.rvs_words.specs.declared.command.SelectArguments.{SelectArguments}
 

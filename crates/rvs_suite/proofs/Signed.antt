@@ -1,7 +1,6 @@
 -- That each test that is made is what the headline says.
-use Rattle.std.proofs.Common.{◌≡◌, ◌*◌, inl, inr, ℕ, zero, suc, true, false}
-use Rattle.std.proofs.Common.{true≢false, List, [], ◌∷◌, ◌++◌, map, Contains, Option}
-use Rattle.std.proofs.Common.{Some, cond, is_some, option_to_list}
+use Rattle.std.proofs.Common.{◌≡◌, ◌*◌, inl, inr, ℕ, zero, suc, true, false, true≢false, List, []}
+use Rattle.std.proofs.Common.{◌∷◌, ◌++◌, map, Contains, Option, Some, cond, is_some, option_to_list}
 use Rattle.std.proofs.Common.{None, IsTrue, bytes_eq, slice_get, refl, sym, ap, subst, ◌∙◌, arith}
 use Rattle.std.specs.Prelude.{not}
 use Rattle.std.proofs.lemmas.List.{length-map}
@@ -28,8 +27,8 @@ use Rattle.rvs_test.specs.Made.{cases_among, solved_among, numbered, places}
 use Rattle.rvs_test.specs.Claimed.{IsClaimed, words_of_case}
 use Rattle.rvs_test.specs.Named.{Named, named_claim}
 use Rattle.rvs_test.proofs.Joined.{accounted}
-use Rattle.rvs_suite.specs.GroupFiles.{Inputs}
-use Rattle.rvs_suite.specs.Tests.{run_on}
+use Rattle.rvs_inputs.specs.GroupFiles.{Inputs}
+use Rattle.rvs_generate.specs.Tests.{run_on}
 use Rattle.rvs_suite.specs.Tested.{AreTested}
 use Rattle.rvs_suite.specs.Headline.{Names, IsKept, IsProved}
 use Rattle.rvs_suite.proofs.Counted.{counted-claim}

@@ -14,13 +14,13 @@ use Rattle.rvs_test_text.specs.Claim.{words_after}
 use Rattle.rvs_test.specs.Made.{cases_of}
 use Rattle.rvs_suite.specs.Call.{Call}
 use Rattle.rvs_suite.specs.Headline.{IsProved}
-use Rattle.rvs_suite.specs.RunTests.{Bench, RunInputs, bench_of}
+use Rattle.rvs_run.specs.RunTests.{Bench, RunInputs, bench_of}
 use Rattle.rvs_suite.specs.RunLeft.{IsRunOf, AreRunsOf, task_of, HasSpelled}
 use Rattle.rvs_suite.specs.Judging.{tests_in, HasJudged}
 use Rattle.rvs_suite.specs.Signing.{Passes, IsSigned}
 use Rattle.rvs_suite.specs.Tested.{AreTested}
-use Rattle.rvs_suite.specs.Tests.{reference_words, words_of_image, run_on}
-use Rattle.rvs_suite.specs.declared.gathering.Test.{Test}
+use Rattle.rvs_generate.specs.Tests.{reference_words, words_of_image, run_on}
+use Rattle.rvs_generate.specs.declared.gathering.Test.{Test}
 use Rattle.rvs_suite.proofs.Signed.{has-test, proved}
 use Rattle.rvs_suite.proofs.Standing.{among-runs, test_by, test-of}
 

@@ -20,36 +20,36 @@ use Rattle.rvs_plan.specs.declared.status.Status.{Status}
 use Rattle.rvs_plan.specs.declared.status.Status.TheVariants as answer
 use Rattle.rvs_plan.specs.declared.status.Finish.{Finish}
 use Rattle.rvs_device.specs.Command.{wants_elf}
-use Rattle.rvs_suite.specs.Specification.{isa_limit, checks, specification}
-use Rattle.rvs_suite.specs.Reference.{test_limit, trial, records, reference_on, reference}
-use Rattle.rvs_suite.specs.TestRun.{accepted, test_found}
+use Rattle.rvs_inputs.specs.Specification.{isa_limit, checks, specification}
+use Rattle.rvs_reference.specs.Reference.{test_limit, trial, records, reference_on, reference}
+use Rattle.rvs_reference.specs.TestRun.{accepted, test_found}
 use Rattle.rvs_insn.specs.Isa.{Isa}
 use Rattle.rvs_cgf.specs.Groups.{Label}
 use Rattle.rvs_test.specs.Made.{cases_of, text_of_label}
 use Rattle.rvs_test_text.specs.TestText.{step_limit}
-use Rattle.rvs_suite.specs.Printing.{print_text}
-use Rattle.rvs_suite.specs.GroupFiles.{part_inputs, labels_in}
-use Rattle.rvs_suite.specs.GenerateTexts.{listing}
-use Rattle.rvs_suite.specs.Generate.{path_of, writes_text, writes_test, writes_tests, written_tests}
-use Rattle.rvs_suite.specs.Generate.{generates, generate}
-use Rattle.rvs_suite.specs.Tests.{reference_words, executable_of, test_with, tests_of_label}
-use Rattle.rvs_suite.specs.Tests.{tests_of}
-use Rattle.rvs_suite.specs.RunTests.{Bench, files_for, asks_elf, if_asked, judges_made, announces}
-use Rattle.rvs_suite.specs.RunTests.{judges_one, with_one, judges_all, tallies}
-use Rattle.rvs_suite.specs.RunTests.{RunInputs, run_inputs, bench_of, runs, run}
+use Rattle.rvs_inputs.specs.Printing.{print_text}
+use Rattle.rvs_generate.specs.TestedInputs.{part_inputs, labels_in}
+use Rattle.rvs_generate.specs.GenerateTexts.{listing}
+use Rattle.rvs_generate.specs.Generate.{path_of, writes_text, writes_test, writes_tests}
+use Rattle.rvs_generate.specs.Generate.{written_tests, generates, generate}
+use Rattle.rvs_generate.specs.Tests.{reference_words, executable_of, test_with, tests_of_label}
+use Rattle.rvs_generate.specs.Tests.{tests_of}
+use Rattle.rvs_run.specs.RunTests.{Bench, files_for, asks_elf, if_asked, judges_made, announces}
+use Rattle.rvs_run.specs.RunTests.{judges_one, with_one, judges_all, tallies}
+use Rattle.rvs_run.specs.RunTests.{RunInputs, run_inputs, bench_of, runs, run}
 use Rattle.rvs_suite.specs.Generating.{IsNoTest}
-use Rattle.rvs_suite.specs.TestFiles.{IsOther, files_of}
+use Rattle.rvs_generate.specs.TestFiles.{IsOther, files_of}
 use Rattle.rvs_suite.specs.Judging.{run_inputs_in, tests_in}
 use Rattle.rvs_suite.specs.Plans.{plan_of}
-use Rattle.rvs_suite.proofs.Finding.{Finds}
-use Rattle.rvs_suite.proofs.GroupInputs.{finds-labels}
+use Rattle.rvs_inputs.proofs.Finding.{Finds}
+use Rattle.rvs_suite.proofs.TestedInputs.{finds-labels}
 use Rattle.rvs_suite.proofs.RunReads.{finds-run}
 use Rattle.rvs_suite.proofs.Running.{Ran, answers}
 use Rattle.rvs_words.specs.declared.command.Command.{Command}
 use Rattle.rvs_words.specs.declared.command.Command.TheVariants.{Generate, Reference, Run}
-use Rattle.rvs_suite.specs.declared.gathering.Test.{Test}
-use Rattle.rvs_suite.specs.declared.test_run.Run.{Run as TestRun}
-use Rattle.rvs_suite.specs.declared.test_files.TestFiles.{TestFiles}
+use Rattle.rvs_generate.specs.declared.gathering.Test.{Test}
+use Rattle.rvs_reference.specs.declared.test_run.Run.{Run as TestRun}
+use Rattle.rvs_generate.specs.declared.test_files.TestFiles.{TestFiles}
 use Rattle.rvs_words.specs.declared.command.GenerateArguments.{GenerateArguments}
 use Rattle.rvs_words.specs.declared.command.ReferenceArguments.{ReferenceArguments}
 use Rattle.rvs_words.specs.declared.command.RunArguments.{RunArguments}

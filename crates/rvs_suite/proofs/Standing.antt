@@ -1,9 +1,8 @@
 -- That the files of each test stand when all tests were judged, since no two labels have one
 -- name.
-use Rattle.std.proofs.Common.{◌≡◌, ◌≢◌, inl, inr, ℕ, zero, suc, Bool, true, false, List, []}
-use Rattle.std.proofs.Common.{◌∷◌, ◌++◌, Contains, IsTrue, Option, Some, None, option_map}
-use Rattle.std.proofs.Common.{if◌then◌else◌, bytes_eq, refl, sym, ap, subst, ◌∙◌}
-use Rattle.std.proofs.Common.{arith}
+use Rattle.std.proofs.Common.{◌≡◌, ◌≢◌, inl, inr, ℕ, zero, suc, Bool, true, false, List, [], ◌∷◌}
+use Rattle.std.proofs.Common.{◌++◌, Contains, IsTrue, Option, Some, None, option_map, if◌then◌else◌}
+use Rattle.std.proofs.Common.{bytes_eq, refl, sym, ap, subst, ◌∙◌, arith}
 use Rattle.std.specs.Prelude.{not, ⊤}
 use Rattle.std.specs.List.{list_any}
 use Rattle.std.proofs.lemmas.List.Elements.{Contains-append_left, Contains-append_right}
@@ -20,17 +19,17 @@ use Rattle.rvs_normal.proofs.Truths.{both, or-both, not-true}
 use Rattle.rvs_test_text.specs.TestText.{step_limit}
 use Rattle.rvs_test.specs.Made.{cases_of, text_of_label}
 use Rattle.rvs_suite.specs.Call.{Call}
-use Rattle.rvs_suite.specs.Tests.{reference_words, executable_of, test_with, tests_of_label}
-use Rattle.rvs_suite.specs.Tests.{tests_of}
-use Rattle.rvs_suite.specs.TestFiles.{IsOther, files_of}
-use Rattle.rvs_suite.specs.RunTests.{Bench, RunInputs, files_for, asks_elf, bench_of}
+use Rattle.rvs_generate.specs.Tests.{reference_words, executable_of, test_with, tests_of_label}
+use Rattle.rvs_generate.specs.Tests.{tests_of}
+use Rattle.rvs_generate.specs.TestFiles.{IsOther, files_of}
+use Rattle.rvs_run.specs.RunTests.{Bench, RunInputs, files_for, asks_elf, bench_of}
 use Rattle.rvs_suite.specs.RunLeft.{IsRunOf, AreRunsOf, with_judged, with_all_judged}
 use Rattle.rvs_suite.specs.Judging.{tests_in, HasJudged, HasTestFiles}
-use Rattle.rvs_suite.specs.declared.gathering.Test.{Test}
-use Rattle.rvs_suite.proofs.Paths.{found-in, passed-by, same-bytes, other-bytes, not-reference}
-use Rattle.rvs_suite.proofs.Paths.{not-executable, reference-not-executable}
-use Rattle.rvs_suite.proofs.Paths.{device-not-executable, not-device, apart-signatures, test-other}
-use Rattle.rvs_suite.proofs.Paths.{executable-other, reference-other, device-other}
+use Rattle.rvs_generate.specs.declared.gathering.Test.{Test}
+use Rattle.rvs_generate.proofs.Paths.{found-in, passed-by, same-bytes, other-bytes, not-reference}
+use Rattle.rvs_generate.proofs.Paths.{not-executable, reference-not-executable}
+use Rattle.rvs_generate.proofs.Paths.{device-not-executable, not-device, apart-signatures}
+use Rattle.rvs_generate.proofs.Paths.{test-other, executable-other, reference-other, device-other}
 use Rattle.rvs_suite.proofs.Executables.{kept-executable, there-executable}
 
 -- ---- tests of labels

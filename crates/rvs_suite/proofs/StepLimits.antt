@@ -16,8 +16,8 @@ use Rattle.rvs_machine.specs.Machine.{started}
 use Rattle.rvs_machine.specs.Run.{Outcome}
 use Rattle.rvs_machine.proofs.Kept.{runs_are_bounded}
 use Rattle.rvs_suite.specs.Halting.{Halts}
-use Rattle.rvs_suite.specs.declared.test_run.Run.{Run}
-use Rattle.rvs_suite.specs.TestRun.{is_image_name, is_executable_name, usual_limit, limit_of}
+use Rattle.rvs_reference.specs.declared.test_run.Run.{Run}
+use Rattle.rvs_reference.specs.TestRun.{is_image_name, is_executable_name, usual_limit, limit_of}
 use Rattle.rvs_suite.proofs.InAll.{InAll, none-in, chain-in, first-in}
 use Rattle.rvs_suite.proofs.WordLimits.{IsLow, tested, asked-low}
 

@@ -9,11 +9,11 @@ use Rattle.rvs_machine.specs.Run.{Outcome, run_of}
 use Rattle.rvs_machine.specs.declared.event.Executed.{Executed}
 use Rattle.rvs_machine.specs.declared.event.End.{End}
 use Rattle.rvs_machine.specs.declared.event.End.TheVariants.{Halted, Trapped, StepLimit, NoMemory}
-use Rattle.rvs_suite.specs.TestRun.{then_found, image_found, limit_of, left_by, run_end}
-use Rattle.rvs_suite.specs.TestRun.{outcome_end, run_found, test_found}
-use Rattle.rvs_suite.specs.Reference.{test_limit}
+use Rattle.rvs_reference.specs.TestRun.{then_found, image_found, limit_of, left_by, run_end}
+use Rattle.rvs_reference.specs.TestRun.{outcome_end, run_found, test_found}
+use Rattle.rvs_reference.specs.Reference.{test_limit}
 use Rattle.rvs_suite.specs.Halting.{Halts, TestHalts}
-use Rattle.rvs_suite.specs.declared.test_run.Run.{Run}
+use Rattle.rvs_reference.specs.declared.test_run.Run.{Run}
 
 halts_by : (name : List ℕ) (limit : ℕ) (isa : Isa) (image : ImageValue) (trace : List Executed)
     (state : State) (end : End) (run : Run) → run_of (started image isa).setup limit

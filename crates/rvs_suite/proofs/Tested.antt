@@ -27,24 +27,25 @@ use Rattle.rvs_test.specs.Named.{claims_read, named_claim}
 use Rattle.rvs_test.proofs.ReadBack.{back_there}
 use Rattle.rvs_test.proofs.Joined.{label_runs, accounted}
 use Rattle.rvs_device.specs.DeviceFile.{Told}
-use Rattle.rvs_suite.specs.Specification.{said_in}
-use Rattle.rvs_suite.specs.GroupFiles.{Inputs, and_then, text_in, checked_groups, tree_groups}
-use Rattle.rvs_suite.specs.GroupFiles.{groups_found, inputs_of, inputs_in, lacks_room, unless_for}
-use Rattle.rvs_suite.specs.GroupFiles.{with_room, tested_in, parted_inputs, labels_in}
-use Rattle.rvs_suite.specs.Testable.{IsTestable, IsTestableIfSelected}
-use Rattle.rvs_parts.specs.Parts.{PartValue, is_in, parted_from}
-use Rattle.std.proofs.Common.{◌+◌}
-use Rattle.rvs_suite.specs.DeviceInput.{device_in}
-use Rattle.rvs_suite.specs.Tests.{IsRunnable, test_with, tests_of_label, tests_of}
-use Rattle.rvs_suite.specs.RunTests.{RunInputs}
+use Rattle.rvs_inputs.specs.Specification.{said_in}
+use Rattle.rvs_inputs.specs.GroupFiles.{Inputs, and_then, text_in, checked_groups, tree_groups}
+use Rattle.rvs_inputs.specs.GroupFiles.{groups_found, inputs_of, inputs_in}
+use Rattle.rvs_generate.specs.TestedInputs.{lacks_room, unless_for, with_room, tested_in, labels_in}
+use Rattle.rvs_inputs.specs.GroupFiles.{parted_inputs}
+use Rattle.rvs_generate.specs.Testable.{IsTestable, IsTestableIfSelected}
+use Rattle.rvs_parts.specs.Parts.{PartValue}
+use Rattle.rvs_inputs.specs.DeviceInput.{device_in}
+use Rattle.rvs_generate.specs.Tests.{IsRunnable, test_with, tests_of_label, tests_of}
+use Rattle.rvs_run.specs.RunTests.{RunInputs}
 use Rattle.rvs_suite.specs.Judging.{run_inputs_in}
 use Rattle.rvs_suite.specs.Tested.{AreTested}
-use Rattle.rvs_suite.specs.declared.gathering.Test.{Test}
+use Rattle.rvs_generate.specs.declared.gathering.Test.{Test}
 use Rattle.rvs_suite.proofs.PointLines.{has-lines}
 use Rattle.rvs_suite.proofs.Meanings.{says-of}
-use Rattle.rvs_suite.proofs.Runnable.{runnable}
-use Rattle.rvs_suite.proofs.Testable.{all-testable}
+use Rattle.rvs_generate.proofs.Runnable.{runnable}
+use Rattle.rvs_generate.proofs.Testable.{all-testable}
 use Rattle.rvs_words.specs.declared.command.RunArguments.{RunArguments}
+use Rattle.rvs_inputs.proofs.PartsKept.{all-parted}
 
 -- ---- the labels that are read are valid
 pub record IsGood (inputs : Inputs) : Type 0 where
@@ -132,19 +133,6 @@ testable-in files isa families names =
     testable-found (inputs_in files isa families names)
     (good-said files families names (said_in files isa))
     (placed-said files isa families names (said_in files isa) refl)
-
--- ---- those of a part
-kept-by : {X : Type 0} (P : X → Type 0) (b : Bool) (x : X) (rest : List X) → P x → All P rest
-    → All P (if b then x ∷ rest else rest)
-kept-by P true x rest first later = All-cons P x rest first later
-kept-by P false x rest first later = later
-
-pub all-parted : {X : Type 0} (P : X → Type 0) (part : Option PartValue) (place : ℕ) (xs : List X)
-    → All P xs → All P (parted_from part place xs)
-all-parted P part place [] all = all
-all-parted P part place (x ∷ xs) all =
-    kept-by P (is_in part place) x (parted_from part (place + 1) xs) (All-head P x xs all)
-    (all-parted P part (place + 1) xs (All-tail P x xs all))
 
 testable-part : (part : Option PartValue) (r : Result Inputs Stop) → IfOk r AreTestable
     → IfOk (and_then r (λ inputs. Ok (parted_inputs part inputs))) AreTestable

@@ -18,45 +18,46 @@ use Rattle.rvs_plan.specs.declared.status.Status.TheVariants as answer
 use Rattle.rvs_plan.specs.declared.status.Finish.{Finish}
 use Rattle.rvs_device.specs.Judged.{signature_limit}
 use Rattle.rvs_insn.specs.Isa.{Isa}
-use Rattle.rvs_suite.specs.Compare as comparing
-use Rattle.rvs_suite.specs.Validate.{print_said}
-use Rattle.rvs_suite.specs.Demonstrate.{demonstrate}
-use Rattle.rvs_suite.specs.Specification.{specification}
+use Rattle.rvs_plain.specs.Compare as comparing
+use Rattle.rvs_plain.specs.Validate.{print_said}
+use Rattle.rvs_plain.specs.Demonstrate.{demonstrate}
+use Rattle.rvs_inputs.specs.Specification.{specification}
 use Rattle.rvs_cgf.specs.Groups.{Label}
 use Rattle.rvs_test.specs.Made.{text_of_label}
-use Rattle.rvs_suite.specs.GroupFiles.{Inputs, group_inputs, part_inputs}
-use Rattle.rvs_suite.specs.GenerateTexts.{listing}
-use Rattle.rvs_suite.specs.Generate.{path_of, writes_text, writes_test, writes_tests, written_tests}
-use Rattle.rvs_suite.specs.Generate.{generates}
-use Rattle.rvs_suite.specs.Normalize.{print_normal}
-use Rattle.rvs_suite.specs.Printing.{print_text}
-use Rattle.rvs_suite.specs.Coverage as covering
-use Rattle.rvs_suite.specs.Propagate as propagating
-use Rattle.rvs_suite.specs.Reference.{test_limit, trial, records, reference_on}
-use Rattle.rvs_suite.specs.TestRun.{accepted, test_found}
-use Rattle.rvs_suite.specs.Tests.{tests_of}
-use Rattle.rvs_suite.specs.RunTests.{Bench, judges_made, made_for, announces, judges_one, with_one}
-use Rattle.rvs_suite.specs.RunTests.{judges_all, tallies, RunInputs}
-use Rattle.rvs_suite.specs.RunTests.{run_inputs, bench_of, runs}
+use Rattle.rvs_inputs.specs.GroupFiles.{Inputs, group_inputs}
+use Rattle.rvs_generate.specs.TestedInputs.{part_inputs}
+use Rattle.rvs_generate.specs.GenerateTexts.{listing}
+use Rattle.rvs_generate.specs.Generate.{path_of, writes_text, writes_test, writes_tests}
+use Rattle.rvs_generate.specs.Generate.{written_tests, generates}
+use Rattle.rvs_plain.specs.Normalize.{print_normal}
+use Rattle.rvs_inputs.specs.Printing.{print_text}
+use Rattle.rvs_coverage.specs.Coverage as covering
+use Rattle.rvs_coverage.specs.Propagate as propagating
+use Rattle.rvs_reference.specs.Reference.{test_limit, trial, records, reference_on}
+use Rattle.rvs_reference.specs.TestRun.{accepted, test_found}
+use Rattle.rvs_generate.specs.Tests.{tests_of}
+use Rattle.rvs_run.specs.RunTests.{Bench, judges_made, made_for, announces, judges_one, with_one}
+use Rattle.rvs_run.specs.RunTests.{judges_all, tallies, RunInputs, run_inputs, bench_of, runs}
 use Rattle.rvs_suite.specs.Plans.{plan_of, ReadsFirst}
 use Rattle.rvs_suite.proofs.Ends.{was_refused, WasMissing, was_missing}
-use Rattle.rvs_suite.proofs.Readers.{OnlyReads, OnlyReads-then}
-use Rattle.rvs_suite.proofs.GroupInputs.{reads-specification, reads-inputs, reads-labels}
-use Rattle.rvs_suite.proofs.LogReads.{reads-reported}
+use Rattle.rvs_inputs.proofs.Readers.{OnlyReads, OnlyReads-then}
+use Rattle.rvs_inputs.proofs.GroupInputs.{reads-specification, reads-inputs}
+use Rattle.rvs_suite.proofs.TestedInputs.{reads-labels}
+use Rattle.rvs_coverage.proofs.LogReads.{reads-reported}
 use Rattle.rvs_suite.proofs.RunReads.{reads-run}
 use Rattle.rvs_suite.proofs.DatabaseReads.{reads-selection}
 use Rattle.rvs_suite.proofs.ReportReads.{reads-page}
-use Rattle.rvs_suite.specs.Report.{finds_page, puts_page}
-use Rattle.rvs_suite.specs.Select.{reads_selection, print_selection}
+use Rattle.rvs_report.specs.Report.{finds_page, puts_page}
+use Rattle.rvs_plain.specs.Select.{reads_selection, print_selection}
 use Rattle.rvs_suite.proofs.Running.{Ran, answers}
 use Rattle.rvs_words.specs.declared.command.Command.{Command}
 use Rattle.rvs_words.specs.declared.command.Command.TheVariants.{Unknown, Compare, Validate}
 use Rattle.rvs_words.specs.declared.command.Command.TheVariants.{Normalize, Generate, Reference}
 use Rattle.rvs_words.specs.declared.command.Command.TheVariants.{Coverage, Propagate, Run, Demo}
 use Rattle.rvs_words.specs.declared.command.Command.TheVariants.{RunDatabase, Report, Select}
-use Rattle.rvs_suite.specs.declared.test_run.Run.{Run as TestRun}
-use Rattle.rvs_suite.specs.declared.gathering.Test.{Test}
-use Rattle.rvs_suite.specs.declared.test_files.TestFiles.{TestFiles}
+use Rattle.rvs_reference.specs.declared.test_run.Run.{Run as TestRun}
+use Rattle.rvs_generate.specs.declared.gathering.Test.{Test}
+use Rattle.rvs_generate.specs.declared.test_files.TestFiles.{TestFiles}
 
 -- a plan that doesn't stop, whatever is found and answered
 abbrev pub NeverStops : {A : Type 0} → Plan A → Type 0

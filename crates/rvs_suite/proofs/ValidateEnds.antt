@@ -6,15 +6,16 @@ use Rattle.rvs_plan.specs.declared.status.Finish.TheVariants as finish
 use Rattle.rvs_suite.specs.Answered.{OnDone}
 use Rattle.rvs_suite.specs.Call.{Call}
 use Rattle.rvs_plan.specs.Inputs.{input}
-use Rattle.rvs_suite.specs.Specification.{isa_limit, specification, said_in}
-use Rattle.rvs_suite.specs.Specification as spec
-use Rattle.rvs_suite.specs.Validate.{print_said, validate}
+use Rattle.rvs_inputs.specs.Specification.{isa_limit, specification, said_in}
+use Rattle.rvs_inputs.specs.Specification as spec
+use Rattle.rvs_plain.specs.Validate.{print_said, validate}
 use Rattle.rvs_suite.specs.Validating as validating
 use Rattle.rvs_words.specs.declared.command.Command.TheVariants.{Validate}
 use Rattle.rvs_suite.proofs.Answered.{Works, RunsOn, answered}
-use Rattle.rvs_suite.proofs.GroupInputs.{reads-specification, finds-specification}
+use Rattle.rvs_inputs.proofs.GroupInputs.{reads-specification, finds-specification}
 use Rattle.rvs_suite.proofs.Spending.{Spends, Spends-then, spent}
-use Rattle.rvs_suite.proofs.Keeping.{WritesNone, WritesNone-then, reads-none, keeps}
+use Rattle.rvs_inputs.proofs.Keeping.{WritesNone, WritesNone-then, reads-none}
+use Rattle.rvs_suite.proofs.Running.{keeps}
 use Rattle.rvs_words.specs.declared.command.ValidateArguments.{ValidateArguments}
 
 abbrev works : (files : Files) (asked : ValidateArguments)

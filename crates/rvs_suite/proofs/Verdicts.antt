@@ -1,14 +1,13 @@
 -- A verdict is a pass exactly where the words are the same.
-use Rattle.std.proofs.Common.{◌≡◌, ◌≢◌, ℕ, Bool, true, false, ◌==◌, eq-eqb}
-use Rattle.std.proofs.Common.{if◌then◌else◌, List, length, Option, Some, None, refl, sym}
-use Rattle.std.proofs.Common.{ap, subst, ◌∙◌, arith}
+use Rattle.std.proofs.Common.{◌≡◌, ◌≢◌, ℕ, Bool, true, false, ◌==◌, eq-eqb, if◌then◌else◌, List}
+use Rattle.std.proofs.Common.{length, Option, Some, None, refl, sym, ap, subst, ◌∙◌, arith}
 use Rattle.std.proofs.lemmas.Bool.Decides.{nat_tests}
 use Rattle.std.specs.List.{zip, position}
 use Rattle.rvs_plan.specs.declared.status.Finish.TheVariants as finish
 use Rattle.rvs_sig.proofs.Differences.{agrees, differs_nowhere}
 use Rattle.rvs_sig.specs.Verdicts.{differ, verdict_at, verdict_of}
 use Rattle.rvs_sig.specs.declared.comparison.Verdict.TheVariants.{Same, Lengths}
-use Rattle.rvs_suite.specs.Compare.{verdict_finish}
+use Rattle.rvs_plain.specs.Compare.{verdict_finish}
 
 done_by : (left right : List ℕ) (lengths : Bool) (first : Option ℕ) → (length left == length right)
     ≡ lengths → position differ (zip left right) ≡ first → verdict_finish

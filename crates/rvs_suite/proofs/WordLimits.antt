@@ -5,19 +5,17 @@ use Rattle.std.proofs.Common.{codes, refl, subst, arith}
 use Rattle.std.specs.Prelude.{map, option_and_then, ◌==◌}
 use Rattle.std.proofs.lemmas.List.{length-map}
 use Rattle.std.proofs.lemmas.Bool.Decides.{nat_tests}
-use Rattle.rvs_words.specs.Commands.{Values, number_of, most_steps, within_steps, steps_of}
-use Rattle.rvs_words.specs.Commands.{some_of, most_logs, with_options, compare_of}
-use Rattle.rvs_words.specs.Commands.{validate_of, normalize_of, generate_of, reference_of}
-use Rattle.rvs_words.specs.Commands.{coverage_of, propagate_of, report_of, select_of}
-use Rattle.rvs_words.specs.Commands.{run_groups_of}
-use Rattle.rvs_words.specs.Commands.{run_database_of, run_of, demo_of, named, asked_by, command_of}
-use Rattle.rvs_words.specs.Commands.{validate_options, normalize_options, generate_options}
-use Rattle.rvs_words.specs.Commands.{reference_options, coverage_options, propagate_options}
-use Rattle.rvs_words.specs.Commands.{run_options, report_options, select_options}
+use Rattle.rvs_words.specs.Commands.{Values, number_of, most_steps, within_steps, steps_of, some_of}
+use Rattle.rvs_words.specs.Commands.{most_logs, with_options, compare_of, validate_of, normalize_of}
+use Rattle.rvs_words.specs.Commands.{generate_of, reference_of, coverage_of, propagate_of}
+use Rattle.rvs_words.specs.Commands.{report_of, select_of, run_groups_of, run_database_of, run_of}
+use Rattle.rvs_words.specs.Commands.{demo_of, named, asked_by, command_of, validate_options}
+use Rattle.rvs_words.specs.Commands.{normalize_options, generate_options, reference_options}
+use Rattle.rvs_words.specs.Commands.{coverage_options, propagate_options, run_options}
+use Rattle.rvs_words.specs.Commands.{report_options, select_options}
 use Rattle.rvs_words.specs.Words.{values_of}
 use Rattle.rvs_words.specs.Windows.{all_windows}
-use Rattle.rvs_words.specs.LogWords.{signed_log, signed_each, with_each, with_ranges}
-use Rattle.rvs_words.specs.LogWords.{signed_logs}
+use Rattle.rvs_words.specs.LogWords.{signed_log, signed_each, with_each, with_ranges, signed_logs}
 use Rattle.rvs_base.specs.declared.asked.Window.{Window}
 use Rattle.rvs_words.specs.declared.command.SignedLog.{SignedLog}
 use Rattle.rvs_words.specs.declared.command.Command.{Command}

@@ -21,17 +21,19 @@ use Rattle.rvs_normal.proofs.ReadAgain.{answer-owned}
 use Rattle.rvs_normal.proofs.Notes.{read-well}
 use Rattle.rvs_normal.proofs.Truths.{both, or-both, not-true}
 use Rattle.rvs_test.specs.Made.{text_of_label}
-use Rattle.rvs_suite.specs.Specification.{said_in}
-use Rattle.rvs_suite.specs.GroupFiles.{Inputs, and_then, text_in, checked_groups, tree_groups}
-use Rattle.rvs_suite.specs.GroupFiles.{groups_found, inputs_of, inputs_in, tested_in}
-use Rattle.rvs_suite.specs.GroupFiles.{parted_inputs, labels_in}
+use Rattle.rvs_inputs.specs.Specification.{said_in}
+use Rattle.rvs_inputs.specs.GroupFiles.{Inputs, and_then, text_in, checked_groups, tree_groups}
+use Rattle.rvs_inputs.specs.GroupFiles.{groups_found, inputs_of, inputs_in}
+use Rattle.rvs_generate.specs.TestedInputs.{tested_in}
+use Rattle.rvs_inputs.specs.GroupFiles.{parted_inputs}
+use Rattle.rvs_generate.specs.TestedInputs.{labels_in}
 use Rattle.rvs_parts.specs.Parts.{PartValue, is_in, parted_from}
 use Rattle.std.specs.Prelude.{◌+◌, ◌&&◌, ◌||◌}
-use Rattle.rvs_suite.specs.Generate.{path_of}
+use Rattle.rvs_generate.specs.Generate.{path_of}
 use Rattle.rvs_suite.specs.Generating.{with_text, with_test, with_tests}
-use Rattle.rvs_suite.proofs.Paths.{same-ending}
+use Rattle.rvs_generate.proofs.Paths.{same-ending}
 use Rattle.rvs_suite.proofs.Sparing.{held, unwritten}
-use Rattle.rvs_suite.proofs.Testable.{room-keeps}
+use Rattle.rvs_generate.proofs.Testable.{room-keeps}
 
 -- ---- no two labels have one name
 top-own : (d : Data) → KeysOnce d → keys_are_own (own_pairs d) ≡ true

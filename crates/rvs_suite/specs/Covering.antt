@@ -13,15 +13,15 @@ use Rattle.rvs_log.specs.Logs.{log_of, as_entry}
 use Rattle.rvs_count.specs.Report.{report_of}
 use Rattle.rvs_suite.specs.Answered.{Answered, OnDone}
 use Rattle.rvs_suite.specs.Call.{Call, Asks}
-use Rattle.rvs_suite.specs.Coverage.{report_in}
-use Rattle.rvs_suite.specs.LogReport.{AreLogs}
-use Rattle.rvs_suite.specs.LogLines.{log_line, lines_of_many}
-use Rattle.rvs_suite.specs.Summing.{over}
+use Rattle.rvs_coverage.specs.Coverage.{report_in}
+use Rattle.rvs_coverage.specs.LogReport.{AreLogs}
+use Rattle.rvs_coverage.specs.LogLines.{log_line, lines_of_many}
+use Rattle.rvs_coverage.specs.Summing.{over}
 use Rattle.rvs_base.specs.declared.asked.Window.{Window}
 use Rattle.rvs_log.specs.Lines.{log_limit}
-use Rattle.rvs_suite.specs.GroupFiles.{Inputs, inputs_in}
+use Rattle.rvs_inputs.specs.GroupFiles.{Inputs, inputs_in}
 use Rattle.rvs_suite.specs.Halting.{BothHalt, HoldsOctets}
-use Rattle.rvs_suite.specs.declared.test_run.Run.{Run}
+use Rattle.rvs_reference.specs.declared.test_run.Run.{Run}
 use Rattle.rvs_words.specs.declared.command.Command.TheVariants.{Coverage}
 use Rattle.rvs_words.specs.declared.command.CoverageArguments.{CoverageArguments}
 

@@ -10,13 +10,13 @@ use Rattle.rvs_device.specs.Judged.{verdict_on}
 use Rattle.rvs_device.specs.Judging.{Task, task}
 use Rattle.rvs_device.specs.Printed.{verdict_line}
 use Rattle.rvs_device.specs.declared.verdicts.TestVerdict.{TestVerdict}
-use Rattle.rvs_suite.specs.GroupFiles.{and_then}
-use Rattle.rvs_suite.specs.Reference.{test_limit}
-use Rattle.rvs_suite.specs.RunDatabase.{Given, made_found}
+use Rattle.rvs_inputs.specs.GroupFiles.{and_then}
+use Rattle.rvs_reference.specs.Reference.{test_limit}
+use Rattle.rvs_run.specs.RunDatabase.{Given, made_found}
 use Rattle.rvs_suite.specs.RunLeft.{with_executable}
-use Rattle.rvs_suite.specs.RunTests.{Bench, filling, passes, with_one}
-use Rattle.rvs_suite.specs.TestRun.{found_end}
-use Rattle.rvs_suite.specs.declared.judging.Made.{Made}
+use Rattle.rvs_run.specs.RunTests.{Bench, filling, passes, with_one}
+use Rattle.rvs_reference.specs.TestRun.{found_end}
+use Rattle.rvs_run.specs.declared.judging.Made.{Made}
 
 -- over these files, what comes of a test before it is judged, or why the command stops there
 abbrev pub made_in : Files → Bench → Given → Result Made Stop

@@ -13,13 +13,14 @@ use Rattle.rvs_test_text.specs.TestText.{step_limit}
 use Rattle.rvs_test.specs.Claimed.{TestRuns}
 use Rattle.rvs_suite.specs.Answered.{Answered, OnDone}
 use Rattle.rvs_suite.specs.Call.{Call, Asks}
-use Rattle.rvs_suite.specs.GenerateTexts.{unsolved_line, name_line, listing}
-use Rattle.rvs_suite.specs.Generate.{path_of}
-use Rattle.rvs_suite.specs.GroupFiles.{Inputs, inputs_in, labels_in}
+use Rattle.rvs_generate.specs.GenerateTexts.{unsolved_line, name_line, listing}
+use Rattle.rvs_generate.specs.Generate.{path_of}
+use Rattle.rvs_inputs.specs.GroupFiles.{Inputs, inputs_in}
+use Rattle.rvs_generate.specs.TestedInputs.{labels_in}
 use Rattle.rvs_suite.specs.Headline.{HasProvedTest, HasLowTest}
 use Rattle.rvs_suite.specs.Rooms.{AsksForRoom}
-use Rattle.rvs_suite.specs.Tests.{tests_of}
-use Rattle.rvs_suite.specs.declared.gathering.Test.{Test}
+use Rattle.rvs_generate.specs.Tests.{tests_of}
+use Rattle.rvs_generate.specs.declared.gathering.Test.{Test}
 use Rattle.rvs_words.specs.declared.command.Command.TheVariants.{Generate}
 use Rattle.rvs_words.specs.declared.command.GenerateArguments.{GenerateArguments}
 

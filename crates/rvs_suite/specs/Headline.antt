@@ -20,7 +20,7 @@ use Rattle.rvs_test_text.specs.Statements.{name_of}
 use Rattle.rvs_test_text.specs.Claim.{symbol_address, IsOnly, words_after}
 use Rattle.rvs_test.specs.Claimed.{HitsAs, words_of_case}
 use Rattle.rvs_test.specs.Named.{Named, claims_read}
-use Rattle.rvs_suite.specs.Tests.{run_on}
+use Rattle.rvs_generate.specs.Tests.{run_on}
 
 -- a line of the header names this point
 pub record Names (n : Named) (p : Point) : Type 0 where

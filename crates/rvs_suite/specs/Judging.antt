@@ -14,20 +14,21 @@ use Rattle.rvs_device.specs.Command.{wants_elf}
 use Rattle.rvs_device.specs.Judging.{Spells}
 use Rattle.rvs_suite.specs.Answered.{Answered, HasLeft}
 use Rattle.rvs_suite.specs.Call.{Call, Asks, NothingFailed, AnswersOnly}
-use Rattle.rvs_suite.specs.GenerateTexts.{listing}
-use Rattle.rvs_suite.specs.Generate.{path_of}
-use Rattle.rvs_suite.specs.GroupFiles.{Inputs, and_then, inputs_in, labels_in}
-use Rattle.rvs_suite.specs.DeviceInput.{device_in}
+use Rattle.rvs_generate.specs.GenerateTexts.{listing}
+use Rattle.rvs_generate.specs.Generate.{path_of}
+use Rattle.rvs_inputs.specs.GroupFiles.{Inputs, and_then, inputs_in}
+use Rattle.rvs_generate.specs.TestedInputs.{labels_in}
+use Rattle.rvs_inputs.specs.DeviceInput.{device_in}
 use Rattle.rvs_suite.specs.Headline.{HasProvedTest}
 use Rattle.rvs_suite.specs.Rooms.{AsksForRoom}
-use Rattle.rvs_suite.specs.Tests.{reference_words, executable_of, tests_of}
-use Rattle.rvs_suite.specs.TestFiles.{IsOther, files_of}
-use Rattle.rvs_suite.specs.RunTests.{Bench, files_for, asks_elf, tally_line, verdict_of_all}
-use Rattle.rvs_suite.specs.RunTests.{RunInputs, bench_of}
+use Rattle.rvs_generate.specs.Tests.{reference_words, executable_of, tests_of}
+use Rattle.rvs_generate.specs.TestFiles.{IsOther, files_of}
+use Rattle.rvs_run.specs.RunTests.{Bench, files_for, asks_elf, tally_line, verdict_of_all}
+use Rattle.rvs_run.specs.RunTests.{RunInputs, bench_of}
 use Rattle.rvs_suite.specs.RunLeft.{IsRunOf, AreRunsOf, verdict_lines, passed_onto}
 use Rattle.rvs_suite.specs.RunLeft.{with_all_judged, task_of, AreJudged}
 use Rattle.rvs_suite.specs.Signing.{IsSigned}
-use Rattle.rvs_suite.specs.declared.gathering.Test.{Test}
+use Rattle.rvs_generate.specs.declared.gathering.Test.{Test}
 use Rattle.rvs_words.specs.declared.command.Command.TheVariants.{Run}
 use Rattle.rvs_words.specs.declared.command.RunArguments.{RunArguments}
 

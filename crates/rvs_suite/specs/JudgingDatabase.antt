@@ -1,7 +1,6 @@
 -- What every call of `run` over a database promises.
 use Rattle.std.specs.Prelude.{◌≡◌, ◌≢◌, ◌≤◌, ◌⊎◌, ◌↔◌, ℕ, List, [], ◌∷◌, ◌++◌, length, Some}
-use Rattle.std.specs.Prelude.{option_map}
-use Rattle.std.specs.Prelude.{None, Result, Ok, Err, All, Contains, IsTrue}
+use Rattle.std.specs.Prelude.{option_map, None, Result, Ok, Err, All, Contains, IsTrue}
 use Rattle.rvs_base.specs.Host.{Files, Tells}
 use Rattle.rvs_base.specs.Sink.{appended}
 use Rattle.rvs_base.specs.declared.host.DeviceRun.{DeviceRun}
@@ -21,19 +20,19 @@ use Rattle.rvs_device.specs.Judging.{Spells}
 use Rattle.rvs_device.specs.declared.verdicts.TestVerdict.TheVariants.{Pass}
 use Rattle.rvs_suite.specs.Answered.{HasLeft, HasRefused, HasMissed}
 use Rattle.rvs_suite.specs.Call.{Call, world_of, Asks, NothingFailed, HostRose, AnswersOnly}
-use Rattle.rvs_suite.specs.DatabaseInput.{marked_in}
+use Rattle.rvs_inputs.specs.DatabaseInput.{marked_in}
 use Rattle.rvs_suite.specs.DatabaseLeft.{made_in, Trial, with_trials, AreTrialsOf, task_on}
 use Rattle.rvs_suite.specs.DatabaseLeft.{trial_verdict, trial_lines, trials_passed, runs_of}
-use Rattle.rvs_suite.specs.DeviceInput.{device_in}
-use Rattle.rvs_suite.specs.GroupFiles.{and_then}
+use Rattle.rvs_inputs.specs.DeviceInput.{device_in}
+use Rattle.rvs_inputs.specs.GroupFiles.{and_then}
 use Rattle.rvs_suite.specs.Referencing.{trial_in}
-use Rattle.rvs_suite.specs.RunDatabase.{Given, chosen, made_found, DatabaseInputs, database_bench}
-use Rattle.rvs_suite.specs.RunTests.{Bench, asks_elf, tally_line, verdict_of_all}
-use Rattle.rvs_suite.specs.Specification.{said_in}
-use Rattle.rvs_suite.specs.TestFiles.{files_at}
-use Rattle.rvs_suite.specs.TestRun.{image_found, limit_of}
-use Rattle.rvs_suite.specs.declared.judging.Made.{Made}
-use Rattle.rvs_suite.specs.declared.test_run.Run.{Run}
+use Rattle.rvs_run.specs.RunDatabase.{Given, chosen, made_found, DatabaseInputs, database_bench}
+use Rattle.rvs_run.specs.RunTests.{Bench, asks_elf, tally_line, verdict_of_all}
+use Rattle.rvs_inputs.specs.Specification.{said_in}
+use Rattle.rvs_generate.specs.TestFiles.{files_at}
+use Rattle.rvs_reference.specs.TestRun.{image_found, limit_of}
+use Rattle.rvs_run.specs.declared.judging.Made.{Made}
+use Rattle.rvs_reference.specs.declared.test_run.Run.{Run}
 use Rattle.rvs_words.specs.Commands.{most_steps}
 use Rattle.rvs_words.specs.declared.command.Command.TheVariants.{RunDatabase}
 use Rattle.rvs_words.specs.declared.command.RunDatabaseArguments.{RunDatabaseArguments}

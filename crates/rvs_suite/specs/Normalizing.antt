@@ -7,7 +7,7 @@ use Rattle.rvs_cgf.specs.Print.{normal_text}
 use Rattle.rvs_cgf.specs.Spelled.{bare, selected}
 use Rattle.rvs_suite.specs.Answered.{Answered, OnDone}
 use Rattle.rvs_suite.specs.Call.{Call, Asks}
-use Rattle.rvs_suite.specs.GroupFiles.{Inputs, groups_limit, inputs_in}
+use Rattle.rvs_inputs.specs.GroupFiles.{Inputs, groups_limit, inputs_in}
 use Rattle.rvs_words.specs.declared.command.Command.TheVariants.{Normalize}
 use Rattle.rvs_words.specs.declared.command.NormalizeArguments.{NormalizeArguments}
 

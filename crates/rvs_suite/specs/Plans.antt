@@ -8,18 +8,18 @@ use Rattle.rvs_plan.specs.declared.stop.Stop.{Stop}
 use Rattle.rvs_plan.specs.declared.stop.Stop.TheVariants as why
 use Rattle.rvs_plan.specs.declared.status.Finish.{Finish}
 use Rattle.rvs_words.specs.Commands.{command_of}
-use Rattle.rvs_suite.specs.Compare as comparing
-use Rattle.rvs_suite.specs.Validate as validating
-use Rattle.rvs_suite.specs.Coverage as covering
-use Rattle.rvs_suite.specs.Propagate as propagating
-use Rattle.rvs_suite.specs.Generate as generating
-use Rattle.rvs_suite.specs.Normalize as normalizing
-use Rattle.rvs_suite.specs.Reference as running
-use Rattle.rvs_suite.specs.RunTests as judging
-use Rattle.rvs_suite.specs.RunDatabase as giving
-use Rattle.rvs_suite.specs.Report as reporting
-use Rattle.rvs_suite.specs.Select as selecting
-use Rattle.rvs_suite.specs.Demonstrate as demonstrating
+use Rattle.rvs_plain.specs.Compare as comparing
+use Rattle.rvs_plain.specs.Validate as validating
+use Rattle.rvs_coverage.specs.Coverage as covering
+use Rattle.rvs_coverage.specs.Propagate as propagating
+use Rattle.rvs_generate.specs.Generate as generating
+use Rattle.rvs_plain.specs.Normalize as normalizing
+use Rattle.rvs_reference.specs.Reference as running
+use Rattle.rvs_run.specs.RunTests as judging
+use Rattle.rvs_run.specs.RunDatabase as giving
+use Rattle.rvs_report.specs.Report as reporting
+use Rattle.rvs_plain.specs.Select as selecting
+use Rattle.rvs_plain.specs.Demonstrate as demonstrating
 use Rattle.rvs_words.specs.declared.command.Command.{Command}
 use Rattle.rvs_words.specs.declared.command.Command.TheVariants.{Unknown, Compare, Validate}
 use Rattle.rvs_words.specs.declared.command.Command.TheVariants.{Normalize, Generate, Reference}

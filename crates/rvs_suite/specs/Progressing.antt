@@ -3,11 +3,11 @@ use Rattle.std.specs.Prelude.{◌≡◌, ◌≤◌, ◌<◌, ◌^◌, ℕ, Bool,
 use Rattle.rvs_base.specs.Host.{Files, Tells}
 use Rattle.rvs_base.specs.Sink.{SinkState}
 use Rattle.rvs_plan.specs.declared.status.Status.TheVariants.{Done}
-use Rattle.rvs_count.specs.Progress.{IsFront, progress_line, put}
+use Rattle.rvs_log.specs.Progress.{IsFront, progress_line, put}
 use Rattle.rvs_suite.specs.Call.{Call, Asks}
-use Rattle.rvs_suite.specs.Coverage as covering
-use Rattle.rvs_suite.specs.Propagate as propagating
-use Rattle.rvs_suite.specs.Telling.{lines_of_logs}
+use Rattle.rvs_coverage.specs.Coverage as covering
+use Rattle.rvs_coverage.specs.Propagate as propagating
+use Rattle.rvs_coverage.specs.Telling.{lines_of_logs}
 use Rattle.rvs_words.specs.Commands.{command_of}
 use Rattle.rvs_words.specs.declared.command.Command.{Command}
 use Rattle.rvs_words.specs.declared.command.Command.TheVariants.{Coverage, Propagate}

@@ -16,12 +16,12 @@ use Rattle.rvs_prop.specs.State.{hit_count}
 use Rattle.rvs_suite.specs.Answered.{Answered, OnDone}
 use Rattle.rvs_suite.specs.Call.{Call, Asks}
 use Rattle.rvs_suite.specs.Covering.{HasReported}
-use Rattle.rvs_suite.specs.GroupFiles.{Inputs, inputs_in}
+use Rattle.rvs_inputs.specs.GroupFiles.{Inputs, inputs_in}
 use Rattle.rvs_log.specs.Lines.{log_limit}
-use Rattle.rvs_suite.specs.Propagate.{file_name, report_in}
-use Rattle.rvs_suite.specs.LogReport.{AreLogs}
-use Rattle.rvs_suite.specs.LogLines.{lines_of_many}
-use Rattle.rvs_suite.specs.Summing.{over}
+use Rattle.rvs_coverage.specs.Propagate.{file_name, report_in}
+use Rattle.rvs_coverage.specs.LogReport.{AreLogs}
+use Rattle.rvs_coverage.specs.LogLines.{lines_of_many}
+use Rattle.rvs_coverage.specs.Summing.{over}
 use Rattle.rvs_words.specs.declared.command.SignedLog.{SignedLog}
 use Rattle.rvs_words.specs.declared.command.Command.TheVariants.{Propagate}
 use Rattle.rvs_words.specs.declared.command.PropagateArguments.{PropagateArguments}

@@ -1,5 +1,6 @@
 -- What every call that makes tests promises of labels for whose tests the core has no room.
-use Rattle.std.specs.Prelude.{◌≡◌, ◌⊎◌, ℕ, List, ◌∷◌, ◌++◌, [], false, Some, IsTrue, Contains, codes}
+use Rattle.std.specs.Prelude.{◌≡◌, ◌⊎◌, ℕ, List, ◌∷◌, ◌++◌, [], false, Some, IsTrue, Contains}
+use Rattle.std.specs.Prelude.{codes}
 use Rattle.rvs_base.specs.Host.{Files}
 use Rattle.rvs_base.specs.Sink.{appended}
 use Rattle.rvs_plan.specs.World.{contents}
@@ -9,7 +10,7 @@ use Rattle.rvs_insn.specs.Isa.{Isa}
 use Rattle.rvs_cgf.specs.Groups.{Label}
 use Rattle.rvs_test.specs.Made.{has_room}
 use Rattle.rvs_suite.specs.Call.{Call, world_of, NothingFailed, AnswersOnly}
-use Rattle.rvs_suite.specs.GroupFiles.{Inputs}
+use Rattle.rvs_inputs.specs.GroupFiles.{Inputs}
 
 -- of these labels, this is the first that is selected and for whose test there is no room
 pub record IsFirstLacking (isa : Isa) (ls : List Label) (l : Label) : Type 0 where

@@ -11,9 +11,9 @@ use Rattle.rvs_device.specs.Judging.{Spells, Task, task}
 use Rattle.rvs_device.specs.Judged.{verdict_on}
 use Rattle.rvs_device.specs.Printed.{verdict_line}
 use Rattle.rvs_device.specs.declared.verdicts.TestVerdict.{TestVerdict}
-use Rattle.rvs_suite.specs.Tests.{reference_words}
-use Rattle.rvs_suite.specs.RunTests.{Bench, files_for, filling, executable_for, passes, with_one}
-use Rattle.rvs_suite.specs.declared.gathering.Test.{Test}
+use Rattle.rvs_generate.specs.Tests.{reference_words}
+use Rattle.rvs_run.specs.RunTests.{Bench, files_for, filling, executable_for, passes, with_one}
+use Rattle.rvs_generate.specs.declared.gathering.Test.{Test}
 
 -- a run of the device on a test: with the device's words, the test's text in its file, and an empty
 -- signature file before

@@ -11,9 +11,9 @@ use Rattle.rvs_select.specs.Print.{selection_text}
 use Rattle.rvs_select.specs.declared.database.Entry.{Entry}
 use Rattle.rvs_suite.specs.Answered.{Answered, OnDone}
 use Rattle.rvs_suite.specs.Call.{Call, Asks}
-use Rattle.rvs_suite.specs.DatabaseInput.{database_limit}
-use Rattle.rvs_suite.specs.Select.{selection_in}
-use Rattle.rvs_suite.specs.Specification.{said_in}
+use Rattle.rvs_inputs.specs.DatabaseInput.{database_limit}
+use Rattle.rvs_plain.specs.Select.{selection_in}
+use Rattle.rvs_inputs.specs.Specification.{said_in}
 use Rattle.rvs_words.specs.declared.command.Command.TheVariants.{Select}
 use Rattle.rvs_words.specs.declared.command.SelectArguments.{SelectArguments}
 

@@ -8,10 +8,10 @@ use Rattle.rvs_device.specs.Judging.{Spells}
 use Rattle.rvs_test_text.specs.Claim.{words_after}
 use Rattle.rvs_suite.specs.Call.{Call}
 use Rattle.rvs_suite.specs.Headline.{IsProved}
-use Rattle.rvs_suite.specs.RunTests.{Bench}
+use Rattle.rvs_run.specs.RunTests.{Bench}
 use Rattle.rvs_suite.specs.RunLeft.{IsRunOf, task_of}
-use Rattle.rvs_suite.specs.Tests.{reference_words, run_on}
-use Rattle.rvs_suite.specs.declared.gathering.Test.{Test}
+use Rattle.rvs_generate.specs.Tests.{reference_words, run_on}
+use Rattle.rvs_generate.specs.declared.gathering.Test.{Test}
 
 -- the device was run on a test in this call, with the test's text in its file and an empty
 -- signature file before, and left the words that the test leaves on the reference machine

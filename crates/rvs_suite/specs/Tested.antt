@@ -10,8 +10,8 @@ use Rattle.rvs_test.specs.Made.{claims_of, unsolved_of, cases_of, text_of_label}
 use Rattle.rvs_test.specs.Named.{claims_read, named_claim}
 use Rattle.rvs_test.specs.Claimed.{TestRuns, IsAccounted}
 use Rattle.rvs_test_text.specs.TestText.{step_limit}
-use Rattle.rvs_suite.specs.GenerateTexts.{point_lines, case_line, unsolved_line}
-use Rattle.rvs_suite.specs.GroupFiles.{Inputs}
+use Rattle.rvs_generate.specs.GenerateTexts.{point_lines, case_line, unsolved_line}
+use Rattle.rvs_inputs.specs.GroupFiles.{Inputs}
 
 -- the lines that are put for the points of a label
 pub record HasLines (isa : Isa) (l : Label) : Type 0 where

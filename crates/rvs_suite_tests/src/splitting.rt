@@ -3,14 +3,14 @@ use crate::groups::groups_of;
 use crate::stage::first_word;
 use rvs_base::{Items, MemoryHost, release};
 use rvs_cgf::Groups;
-use rvs_count::Counter;
+use rvs_count::{Counter, new_counter};
 use std::alloc::Global;
 use std::test::Fail;
 
 /// Adds how many instructions there were, and how often each point was hit.
 fn tell_counts(counter: &Counter<'_>, report: &mut String) -> Result<(), Fail> {
-    write!(report, "{} instructions", counter.instructions())?;
-    for count in counter.counts() {
+    write!(report, "{} instructions", counter.told().instructions())?;
+    for count in counter.told().counts() {
         write!(report, ", {count}")?;
     }
     report.push_str("\n")?;
@@ -46,11 +46,11 @@ fn tell_bytes(counter: &mut Counter<'_>, log: &[u8], report: &mut String) -> Res
 }
 
 fn tell_log(alloc: Global, groups: &Groups, log: &[u8], report: &mut String) -> Result<(), Fail> {
-    let mut cut = Counter::new(alloc, groups, Items::new(alloc)).map_err(|_| "no memory")?;
+    let mut cut = new_counter(alloc, groups, Items::new(alloc)).map_err(|_| "no memory")?;
     let told = tell_cuts(&mut cut, log, report);
     release(cut);
     told?;
-    let mut bytes = Counter::new(alloc, groups, Items::new(alloc)).map_err(|_| "no memory")?;
+    let mut bytes = new_counter(alloc, groups, Items::new(alloc)).map_err(|_| "no memory")?;
     let told = tell_bytes(&mut bytes, log, report);
     release(bytes);
     told

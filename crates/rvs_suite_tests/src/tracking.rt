@@ -1,16 +1,17 @@
 // A log whose hits are tracked, cut at every place.
 use crate::groups::groups_of;
 use crate::stage::first_word;
-use rvs_base::{MemoryHost, number_below, release};
+use rvs_base::{MemoryHost, Window, number_below, release};
 use rvs_cgf::Groups;
-use rvs_prop::Tracker;
+use rvs_prop::{Tracker, new_tracker};
 use std::alloc::Global;
 use std::test::Fail;
 
 /// Adds how many instructions there were, and of each point how many of how many hits reached.
 fn tell_numbers(tracker: &Tracker<'_>, report: &mut String) -> Result<(), Fail> {
-    write!(report, "{} instructions", tracker.instructions())?;
-    for (reached, hits) in tracker.reached().iter().zip(tracker.hits()) {
+    write!(report, "{} instructions", tracker.told().instructions())?;
+    let trail = tracker.told();
+    for (reached, hits) in trail.reached().iter().zip(trail.hits()) {
         write!(report, ", {reached} of {hits}")?;
     }
     report.push_str("\n")?;
@@ -48,15 +49,15 @@ fn tell_bytes(tracker: &mut Tracker<'_>, log: &[u8], report: &mut String) -> Res
 fn tell_log(
     alloc: Global,
     groups: &Groups,
-    (lo, hi): (u32, u32),
+    range: Window,
     log: &[u8],
     report: &mut String,
 ) -> Result<(), Fail> {
-    let mut cut = Tracker::new(alloc, groups, lo, hi).map_err(|_| "no memory")?;
+    let mut cut = new_tracker(alloc, groups, range).map_err(|_| "no memory")?;
     let told = tell_cuts(&mut cut, log, report);
     release(cut);
     told?;
-    let mut bytes = Tracker::new(alloc, groups, lo, hi).map_err(|_| "no memory")?;
+    let mut bytes = new_tracker(alloc, groups, range).map_err(|_| "no memory")?;
     let told = tell_bytes(&mut bytes, log, report);
     release(bytes);
     told
@@ -75,7 +76,8 @@ pub fn tell(alloc: Global, row: &str, host: &MemoryHost, report: &mut String) ->
     let (range, names) = first_word(row)?;
     let (log, file) = first_word(names)?;
     let (lo, hi) = range.split_once(':').ok_or("no range")?;
-    let range = (address(lo)?, address(hi)?);
+    let (lo, hi) = (address(lo)?, address(hi)?);
+    let range = Window { lo, hi };
     let log = host.file(log).ok_or("no log")?;
     let file = str::from_utf8(host.file(file).ok_or("no groups")?).map_err(|_| "no text")?;
     let groups = groups_of(alloc, file)?;

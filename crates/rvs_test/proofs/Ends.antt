@@ -23,9 +23,7 @@ same_length l = length-map l.points point_view
 -- the end of the loop is the number of points
 pub end_is : (l : CodeLabel) (ps : List CodePoint) (k : ℕ) → ps ≡ l.points → k < length ps
     → k < length (label_view l).points
-end_is l ps k e h =
-    let same : length ps ≡ length (label_view l).points = ap length e ∙ sym (same_length l) in
-    omega (arith, same)
+end_is l ps k e h = grind (arith, length, same_length)
 
 pub end_at : (l : CodeLabel) (ps : List CodePoint) (k : ℕ) → ps ≡ l.points → k ≡ length ps
     → k ≡ length (label_view l).points

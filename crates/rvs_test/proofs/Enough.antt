@@ -1,20 +1,20 @@
 -- Where the regions of a core have room for a test.
-use Rattle.std.proofs.Common.{◌≡◌, ℕ, ◌+◌, ◌*◌, ◌<◌, ◌≤◌, true, List, [], ◌∷◌, ◌++◌, length, take}
-use Rattle.std.proofs.Common.{get_or, sym, ap, ◌∙◌, arith}
+use Rattle.std.proofs.Common.{◌≡◌, ℕ, ◌+◌, ◌*◌, ◌<◌, ◌≤◌, true, List, length, take}
+use Rattle.std.proofs.Common.{get_or, ap, ◌∙◌, arith, rules}
 use Rattle.std.proofs.lemmas.Bool.Decides.{nat_tests}
 use Rattle.rvs_insn.specs.Isa.{Isa}
 use Rattle.rvs_insn.specs.Memory.{Memory, HasRoom}
 use Rattle.rvs_cgf.specs.Groups.{Label}
 use Rattle.rvs_cgf.specs.Valid.{IsValid}
 use Rattle.rvs_solver.specs.declared.solved.Solved.{Solved}
-use Rattle.rvs_test_text.specs.TestText.{bytes_all, case_statements, cases, clear, last_register}
-use Rattle.rvs_test_text.specs.TestText.{halt, loop, code_part}
+use Rattle.rvs_test_text.specs.TestText.{bytes_all, case_statements, cases, last_register}
+use Rattle.rvs_test_text.specs.TestText.{code_part}
 use Rattle.rvs_test_text.specs.Claim.{IsReady, AreReady}
 use Rattle.rvs_test_text.proofs.Assembled.{bytes_join}
 use Rattle.rvs_test_text.proofs.Every.{case_bytes, case_size, size_low}
 use Rattle.rvs_test_text.proofs.Fits.{code_is_short}
 use Rattle.rvs_test_text.proofs.TestNames.{clear_bytes}
-use Rattle.rvs_test.specs.Made.{cases_of, has_room}
+use Rattle.rvs_test.specs.Made.{has_room}
 use Rattle.rvs_test.specs.Room.{hold}
 use Rattle.rvs_test.proofs.Grows.{made_of_ready, ready_at}
 use Rattle.rvs_test.proofs.Loops.{one_case_more}
@@ -23,15 +23,7 @@ use Rattle.rvs_test.proofs.Solvings.{cases_ready, cases_within}
 -- ---- the bytes of the code, case by case
 pub code_is : (isa : Isa) (cs : List Solved)
     → bytes_all (code_part isa cs) ≡ 4 * last_register isa + 20 + bytes_all (cases 0 cs)
-code_is isa cs =
-    let regs = last_register isa in
-    let a : bytes_all (clear 1 regs) ≡ 4 * regs = clear_bytes 1 regs in
-    let b : bytes_all (code_part isa cs)
-    ≡ bytes_all (clear 1 regs) + bytes_all (cases 0 cs ++ (halt ++ loop)) =
-    bytes_join (clear 1 regs) (cases 0 cs ++ (halt ++ loop)) in
-    let d : bytes_all (cases 0 cs ++ (halt ++ loop)) ≡ bytes_all (cases 0 cs) + 20 =
-    bytes_join (cases 0 cs) (halt ++ loop) in
-    omega (arith, a, b, d)
+code_is isa cs = grind (arith, clear_bytes, bytes_join)
 
 -- a case more
 pub bytes_more : (cs : List Solved) (i : ℕ) (d : Solved) → i < length cs
@@ -61,9 +53,4 @@ hold_less m a b n k low few h = grind (arith, nat_tests)
 pub large_enough : (isa : Isa) (l : Label) (n : ℕ) → HasRoom isa.memory → IsValid isa l
     → n ≡ length l.points → hold isa.memory (144 + 2100 * n) n ≡ true → has_room isa l ≡ true
 large_enough isa l n room valid e h =
-    let cs = cases_of isa l in
-    let few : length cs ≤ length l.points = cases_within isa l in
-    let short : bytes_all (code_part isa cs) ≤ 4 * 31 + 20 + 2100 * length cs =
-    code_is_short isa cs (cases_ready isa room l valid) in
-    hold_less isa.memory (bytes_all (code_part isa cs)) (144 + 2100 * n) (length cs) n
-    (omega (arith, short, few, e)) (omega (arith, few, e)) h
+    search (rules, length, cases_within, code_is_short, cases_ready, hold_less)

@@ -2,7 +2,7 @@
 use Rattle.std.proofs.Common.{◌≡◌, ℕ, ◌+◌, ◌<◌, List, [], ◌∷◌, ◌++◌, length, map, take}
 use Rattle.std.proofs.Common.{get_or, zero, suc, sym, ap, ◌∙◌, subst, arith, append_assoc}
 use Rattle.std.proofs.Common.{append-nil}
-use Rattle.std.specs.Prelude.{◌-◌, All, OnOk, Result, Ok, Err, Some, slice_get, unwrap_or}
+use Rattle.std.specs.Prelude.{◌-◌, All, OnOk, Result, Some, slice_get, unwrap_or}
 use Rattle.std.proofs.lemmas.Option.{slice_get_within, get_or_from_slice_get}
 use Rattle.rvs_insn.specs.Fields.{Fields}
 use Rattle.rvs_cgf.specs.GroupView.{point_view, label_view}
@@ -11,14 +11,11 @@ use Rattle.rvs_cgf.specs.declared.group.Label.{Label as Label'}
 use Rattle.rvs_solver.proofs.Labels.{point_there}
 use Rattle.rvs_insn.specs.Isa.{Isa}
 use Rattle.rvs_insn.specs.declared.op.Format.{Format}
-use Rattle.rvs_insn.specs.declared.op.Format.TheVariants.{Branch, Jump}
-use Rattle.rvs_insn.specs.Table.{row}
 use Rattle.rvs_solver.specs.declared.solved.Solved.{Solved}
-use Rattle.rvs_solver.specs.declared.solved.Solved.TheVariants.{One, Many}
 use Rattle.rvs_solver.proofs.Search.{Each}
 use Rattle.rvs_solver.proofs.Operands.{all_from_each}
 use Rattle.rvs_test_text.specs.declared.statement.Statement.{Statement}
-use Rattle.rvs_test_text.specs.declared.statement.Statement.TheVariants.{Label, Plain, To}
+use Rattle.rvs_test_text.specs.declared.statement.Statement.TheVariants.{Label}
 use Rattle.rvs_test_text.specs.Statements.{printed, IsLinked, IsPrinted}
 use Rattle.rvs_test_text.specs.TestText.{Point as Named, claim_lines, front, header, step_limit}
 use Rattle.rvs_test_text.specs.TestText.{test_text, ended, text_of, case_statements, begin, clear}
@@ -27,7 +24,7 @@ use Rattle.rvs_test_text.specs.TestText.{slots}
 use Rattle.rvs_test_text.specs.TestText.{data_part, claim_line, line_of_claim, last_rd}
 use Rattle.rvs_test_text.specs.declared.statement.Name.TheVariants.{EndSignature}
 use Rattle.rvs_test_text.specs.declared.claim.Claim.{Claim}
-use Rattle.rvs_test.specs.Made.{named, named_or_none, named_at}
+use Rattle.rvs_test.specs.Made.{named, named_at}
 use Rattle.rvs_test_text.specs.Claim.{IsReady, AreReady}
 use Rattle.rvs_test_text.proofs.KindLaws.{LinkedFormat}
 use Rattle.rvs_test_text.proofs.Passes.{IsFine, AllFine}
@@ -40,13 +37,11 @@ starts old a h = sym (append-nil old) ∙ ap (λ x. old ++ x) (sym h)
 
 pub grows : (old before new a b more : List ℕ) → before ≡ old ++ a → new ≡ before ++ more
     → b ≡ a ++ more → new ≡ old ++ b
-grows old before new a b more h k e =
-    k ∙ ap (λ x. x ++ more) h ∙ append_assoc old a more ∙ ap (λ x. old ++ x) (sym e)
+grows old before new a b more h k e = grind (arith, append_assoc)
 
 pub list_grows : (old before new a b more : List Statement) → before ≡ old ++ a
     → new ≡ before ++ more → b ≡ a ++ more → new ≡ old ++ b
-list_grows old before new a b more h k e =
-    k ∙ ap (λ x. x ++ more) h ∙ append_assoc old a more ∙ ap (λ x. old ++ x) (sym e)
+list_grows old before new a b more h k e = grind (arith, append_assoc)
 
 pub begins_text : (old : List ℕ) → old ≡ old ++ text_of []
 begins_text old = starts old (text_of []) text_none
@@ -54,22 +49,17 @@ begins_text old = starts old (text_of []) text_none
 -- ---- what is assembled can be printed
 
 linked : (f : Format) → LinkedFormat f → IsLinked f
-linked Branch h = tt
-linked Jump h = tt
-linked _ h = absurd h
+linked f h = grind arith
 
 printed_one : (isa : Isa) (s : Statement) → IsFine isa s → IsPrinted s
-printed_one isa (Plain i) h = h.1
-printed_one isa (To i n) h = linked (row i.op).form h.0
-printed_one isa _ h = tt
+printed_one isa s h = grind arith
 
 printed_each : (isa : Isa) (ss : List Statement) → AllFine isa ss → Each IsPrinted ss
 printed_each isa [] h = tt
 printed_each isa (s ∷ ss) h = (printed_one isa s h.0, printed_each isa ss h.1)
 
 pub made_of_ready : (isa : Isa) (s : Solved) → IsReady isa s → IsMade isa s
-made_of_ready isa (One c) h = record { sound = h.0; made = h.1 }
-made_of_ready isa (Many is) h = h
+made_of_ready isa s h = grind arith
 
 pub case_printed : (isa : Isa) (k : ℕ) (s : Solved) → k < 2048 → IsReady isa s
     → All IsPrinted (case_statements k s)
@@ -88,16 +78,12 @@ ready_at isa (c ∷ cs) (suc k) s h l is = ready_at isa cs k s h.1 (omega arith)
 
 pub end_grows : (old : List Statement) (s t : Statement) (us vs : List Statement)
     → (((old ++ s ∷ []) ++ t ∷ []) ++ us) ++ vs ≡ old ++ (s ∷ t ∷ (us ++ vs))
-end_grows old s t us vs =
-    append_assoc ((old ++ s ∷ []) ++ t ∷ []) us vs
-    ∙ append_assoc (old ++ s ∷ []) (t ∷ []) (us ++ vs)
-    ∙ append_assoc old (s ∷ []) (t ∷ (us ++ vs))
+end_grows old s t us vs = simp append_assoc
 
 -- ---- parts of the text
 
 pub then_ok : {A E : Type 0} (r : Result A E) (P Q : Type 0) → (P → Q) → OnOk r P → OnOk r Q
-then_ok (Ok x) P Q h p = h p
-then_ok (Err e) P Q h p = tt
+then_ok h e = grind arith
 
 pub code_there : (isa : Isa) (cs : List Solved) (o a b c d : List ℕ) → a ≡ o ++ text_of begin
     → b ≡ a ++ text_of (clear 1 (last_register isa)) → c ≡ b ++ text_of (cases 0 cs)
@@ -135,8 +121,7 @@ data_there n o a b c h1 h2 h3 =
 pub line_there : (l : Label') (c : Claim) (p : Point') → c.point < length l.points
     → p ≡ get_or l.points c.point p
     → claim_line c.case (named (point_view p)) ≡ line_of_claim (named_at (label_view l)) c
-line_there l c p h is =
-    sym (ap (λ o. claim_line c.case (named_or_none o)) (point_there l c.point p h is))
+line_there l c p h is = grind (arith, point_there)
 
 pub claim_more : (l : Label') (cs : List Claim) (i : ℕ) (d : Claim) (line : List ℕ) (p : Point')
     → i < length cs → line ≡ claim_line (get_or cs i d).case (named (point_view p))

@@ -4,7 +4,7 @@ use Rattle.std.proofs.Common.{◌||◌, List, [], ◌∷◌, ◌++◌, length, m
 use Rattle.std.proofs.Common.{ap, ◌∙◌, subst, arith}
 use Rattle.std.specs.Prelude.{ℤ, filter, find, flat_map, is_some, option_map, option_and_then}
 use Rattle.std.specs.Prelude.{option_to_list, slice_get, All, Contains}
-use Rattle.std.proofs.Common.{inl, inr}
+use Rattle.std.proofs.Common.{inl, inr, rules}
 use Rattle.std.specs.List.{range_with_len}
 use Rattle.std.proofs.lemmas.Bool.{eq-eqb}
 use Rattle.rvs_insn.specs.declared.op.Op.{Op}
@@ -27,7 +27,6 @@ use Rattle.rvs_cross.specs.Sequences.{first_sequence}
 use Rattle.rvs_cross.specs.Sequences as cross
 use Rattle.rvs_cross.proofs.Solved.{sequence_solves, nothing_solves}
 use Rattle.rvs_cgf.specs.declared.group.Kind.{Kind}
-use Rattle.rvs_cgf.specs.declared.group.Kind.TheVariants.{Rd}
 use Rattle.rvs_cgf.specs.Groups as groups
 use Rattle.rvs_cgf.specs.Groups.{Meaning, op_is, reg_is, regs, nums, window, Label}
 use Rattle.rvs_cgf.specs.Hits.{is_register, field_of, is_meant, has_op}
@@ -67,13 +66,11 @@ or_left : (s t : Bool) → s ≡ true → (s || t) ≡ true
 or_left s t h = rw h refl
 
 or_right : (s t : Bool) → t ≡ true → (s || t) ≡ true
-or_right true t h = refl
-or_right false t h = h
+or_right s t h = grind arith
 
 kept_too : {X : Type 0} (P : X → Type 0) (t : Bool) (x : X) (rest : List X) → P x → Each P rest
     → Each P (cond t (x ∷ rest) rest)
-kept_too P true x rest h r = (h, r)
-kept_too P false x rest h r = r
+kept_too h e = grind arith
 
 filtered : {X : Type 0} (P : X → Type 0) (q : X → Bool) (xs : List X) → Each P xs
     → Each P (filter q xs)
@@ -124,17 +121,12 @@ more_true t u f e h = ap is_true ((truth-more t u e f).same true (defined (truth
 
 same_field : (k : Kind) (c : ChoiceValue) (v1 v2 : ℕ)
     → field_of k (table_of c) ≡ field_of k (facts_of (fields_of c) v1 v2)
-same_field Rd c v1 v2 = refl
-same_field _ c v1 v2 = refl
+same_field k c v1 v2 = grind arith
 
 meant_more : (k : Kind) (m : Meaning) (c : ChoiceValue) (v1 v2 : ℕ)
     → Extends (table_of c) (facts_of (fields_of c) v1 v2) → is_meant k m c.op (table_of c) ≡ true
     → is_meant k m c.op (facts_of (fields_of c) v1 v2) ≡ true
-meant_more k (op_is op) c v1 v2 e h = h
-meant_more k (reg_is n) c v1 v2 e h = ap (is_register n) (sym (same_field k c v1 v2)) ∙ h
-meant_more k (regs f) c v1 v2 e h = more_true (table_of c) (facts_of (fields_of c) v1 v2) f e h
-meant_more k (nums f) c v1 v2 e h = more_true (table_of c) (facts_of (fields_of c) v1 v2) f e h
-meant_more k (window ps) c v1 v2 e h = h
+meant_more k m c v1 v2 e h = search (rules, same_field, more_true)
 
 both_true : (s t : Bool) → s ≡ true → t ≡ true → (s && t) ≡ true
 both_true s t h k = rw (h, k) refl
@@ -155,11 +147,7 @@ single_hits : (memory : Memory) (l : Label) (p : groups.Point) (m : Meaning) (e 
     (more : List Executed)
     (outcome : ℕ × ℕ) → IsSingle m → HitsAlone memory l p e more outcome
     → HitsAs memory l p m e more outcome
-single_hits memory l p (op_is op) e more outcome single h = h
-single_hits memory l p (reg_is n) e more outcome single h = h
-single_hits memory l p (regs f) e more outcome single h = h
-single_hits memory l p (nums f) e more outcome single h = h
-single_hits memory l p (window ps) e more outcome single h = absurd single
+single_hits memory l p m e more outcome single h = grind arith
 
 -- a choice is one instruction
 by_choice : (isa : Isa) (l : Label) (image : ImageValue) (o : Outcome) (j k : ℕ)
@@ -238,16 +226,13 @@ hit_more : (isa : Isa) (l : Label) (image : ImageValue) (o : Outcome) (j k : ℕ
     → AreHit image isa o j (option_to_list s ++ cs)
     → Each (IsClaimed isa l image o) (numbered j (cond (is_some s) (k ∷ ks) ks))
 hit_more isa l image o j k cs ks None h rest a = rest j a
-hit_more isa l image o j k cs ks (Some s) h rest a =
-    (claimed_one isa l image o j k s h a.0, rest (j + 1) a.1)
+hit_more isa l image o j k cs ks (Some s) h rest a = search (rules, claimed_one)
 
 claimed_each : (isa : Isa) (l : Label) (image : ImageValue) (o : Outcome) (ks : List ℕ) (j : ℕ)
     → AreHit image isa o j (cases_among isa l ks)
     → Each (IsClaimed isa l image o) (numbered j (solved_among isa l ks))
 claimed_each isa l image o [] j a = tt
-claimed_each isa l image o (k ∷ ks) j a =
-    hit_more isa l image o j k (cases_among isa l ks) (solved_among isa l ks) (first_at isa l k)
-    refl (claimed_each isa l image o ks) a
+claimed_each isa l image o (k ∷ ks) j a = grind (arith, hit_more, (claimed_each isa l image o ks))
 
 all_claimed : (isa : Isa) (l : Label) (image : ImageValue) (o : Outcome)
     → AreHit image isa o 0 (cases_of isa l) → All (IsClaimed isa l image o) (claims_of isa l)
@@ -261,9 +246,7 @@ all_claimed isa l image o a =
 named_each : (l : Label) (ds : List Claim)
     → length (map (λ (c : Claim). named_at l c.point) ds) ≡ length ds
 named_each l [] = refl
-named_each l (d ∷ ds) =
-    let k : length (map (λ (c : Claim). named_at l c.point) ds) ≡ length ds = named_each l ds in
-    omega (arith, k)
+named_each l (d ∷ ds) = simp (length, map, (named_each l ds))
 
 pub points_same : (isa : Isa) (l : Label)
     → length (map (λ (c : Claim). named_at l c.point) (claims_of isa l)) ≡ length (cases_of isa l)
@@ -272,15 +255,8 @@ points_same isa l = named_each l (claims_of isa l) ∙ claims_same isa l
 pub label_test : (isa : Isa) → HasRoom isa.memory → (l : Label) → IsValid isa l
     → FitsRegions isa (cases_of isa l)
     → IsTest isa l.name (map (λ (c : Claim). named_at l c.point) (claims_of isa l)) (cases_of isa l)
-label_test isa room l v fits = record {
-  few = cases_few isa l v;
-  same = points_same isa l;
-  label_text = name_text l.name v.named;
-  points_text = points_text isa l v;
-  choices = cases_ready isa room l v;
-  room = room;
-  fits = fits;
-}
+label_test isa room l v fits =
+    grind (arith, cases_few, points_same, name_text, points_text, cases_ready)
 
 pub label_runs : (isa : Isa) → HasRoom isa.memory → (l : Label) → IsValid isa l
     → FitsRegions isa (cases_of isa l)
@@ -336,8 +312,7 @@ there xs x y (k, h, at) = (suc k, omega arith, at)
 
 here_or : {X : Type 0} (t : Bool) (y x : X) (o : Option X) (ys : List X)
     → cond t (Some y) o ≡ Some x → (o ≡ Some x → Contains ys x) → Contains (y ∷ ys) x
-here_or true y x o ys f rest = let is : y ≡ x = cc in (0, omega arith, is)
-here_or false y x o ys f rest = there ys x y (rest f)
+here_or h y = search (rules, there)
 
 found_there : {X : Type 0} (p : X → Bool) (xs : List X) (x : X) → find p xs ≡ Some x → Contains xs x
 found_there p [] x h = cc
@@ -345,24 +320,10 @@ found_there p (y ∷ ys) x h = here_or (p y) y x (find p ys) ys h (found_there p
 
 single_solvable : (isa : Isa) (ops : List Op) (k : Kind) (m : Meaning) → IsSingle m
     → Solvable isa ops k m → IsSolvableAs isa ops k m
-single_solvable isa ops k (op_is op) single h = h
-single_solvable isa ops k (reg_is n) single h = h
-single_solvable isa ops k (regs f) single h = h
-single_solvable isa ops k (nums f) single h = h
-single_solvable isa ops k (window ps) single h = absurd single
+single_solvable isa ops k m single h = grind arith
 
 by_first : (isa : Isa) (l : Label) (k : ℕ) (s : Solved) → IsFirst isa l k s → IsSolvableAt isa l k
-by_first isa l k s f =
-    let all = all_choices isa l.ops (constants_of f.point.meaning) in
-    record {
-      point = f.point;
-      is = f.at;
-      solvable = single_solvable isa l.ops f.point.kind f.point.meaning f.single (
-        f.choice,
-        found_there (hits f.point.kind f.point.meaning) all f.choice f.found,
-        found_hits (hits f.point.kind f.point.meaning) all f.choice f.found,
-      );
-    }
+by_first isa l k s f = grind (arith, single_solvable, found_there, found_hits)
 
 by_first_window : (isa : Isa) (l : Label) (k : ℕ) (s : Solved) → IsFirstWindow isa l k s
     → IsSolvableAt isa l k
@@ -386,8 +347,7 @@ solvable isa l k s h =
     ]
 
 none_first : {A : Type 0} (f : A → Solved) (o : Option A) → option_map f o ≡ None → o ≡ None
-none_first f None h = refl
-none_first f (Some c) h = cc
+none_first f = grind arith
 
 nothing_meant : (isa : Isa) (ops : List Op) (k : Kind) (m : Meaning)
     → first_meant isa ops k m ≡ None → IsSolvableAs isa ops k m → ⊥
@@ -410,14 +370,10 @@ not_solvable isa l k h w =
 in_range : (a n k : ℕ) → k < n → Contains (range_with_len a n) (a + k)
 in_range a zero k h = absurd (omega arith)
 in_range a (suc n) zero h = let e : a ≡ a + 0 = omega arith in (0, omega arith, e)
-in_range a (suc n) (suc k) h =
-    let P : ℕ → Type 0 = λ m. Contains (range_with_len (a + 1) n) m in
-    let e : a + 1 + k ≡ a + suc k = omega arith in
-    there (range_with_len (a + 1) n) (a + suc k) a (subst P e (in_range (a + 1) n k (omega arith)))
+in_range a (suc n) (suc k) h = grind (arith, suc, there, (in_range (a + 1) n k (omega arith)))
 
 kept_here : (t : Bool) (k : ℕ) (rest : List ℕ) → t ≡ true → Contains (cond t (k ∷ rest) rest) k
-kept_here true k rest h = (0, omega arith, refl)
-kept_here false k rest h = cc
+kept_here t k rest h = grind arith
 
 kept_there : (t : Bool) (x k : ℕ) (rest : List ℕ) → Contains rest k
     → Contains (cond t (x ∷ rest) rest) k
@@ -428,8 +384,7 @@ kept_there false x k rest h = h
 pub in_filter : (q : ℕ → Bool) (xs : List ℕ) (k : ℕ) → Contains xs k → q k ≡ true
     → Contains (filter q xs) k
 in_filter q [] k (i, h, at) t = absurd (omega arith)
-in_filter q (x ∷ xs) k (zero, h, at) t =
-    subst (Contains (filter q (x ∷ xs))) at (kept_here (q x) x (filter q xs) (ap q at ∙ t))
+in_filter q (x ∷ xs) k (zero, h, at) t = grind (arith, kept_here)
 in_filter q (x ∷ xs) k (suc i, h, at) t =
     kept_there (q x) x k (filter q xs) (in_filter q xs k (i, omega arith, at) t)
 
@@ -439,8 +394,7 @@ in_numbered [] j k (i, h, at) = absurd (omega arith)
 in_numbered (x ∷ ks) j k (zero, h, at) =
     (record { case = j; point = x }, (0, omega arith, refl), at)
 in_numbered (x ∷ ks) j k (suc i, h, at) =
-    let r = in_numbered ks (j + 1) k (i, omega arith, at) in
-    (r.0, there (numbered (j + 1) ks) r.0 (record { case = j; point = x }) r.1, r.2)
+    grind (arith, there, (in_numbered ks (j + 1) k (i, omega arith, at)))
 
 place_there : (l : Label) (k : ℕ) → k < length l.points → Contains (places l) k
 place_there l k h =
@@ -470,17 +424,14 @@ accounted isa l k h = account isa l k (first_at isa l k) refl h
 
 passed_test : (t : Bool) (x k : ℕ) (rest : List ℕ) (q : ℕ → Bool) → q x ≡ t
     → (Contains rest k → q k ≡ true) → Contains (cond t (x ∷ rest) rest) k → q k ≡ true
-passed_test true x k rest q e h (zero, l, at) = ap q (sym at) ∙ e
-passed_test true x k rest q e h (suc i, l, at) = h (i, omega arith, at)
-passed_test false x k rest q e h a = h a
+passed_test t x k rest q e h a = grind arith
 
 out_of_filter : (q : ℕ → Bool) (xs : List ℕ) (k : ℕ) → Contains (filter q xs) k → q k ≡ true
 out_of_filter q [] k (i, h, at) = absurd (omega arith)
 out_of_filter q (x ∷ xs) k a = passed_test (q x) x k (filter q xs) q refl (out_of_filter q xs k) a
 
 none_solved : (o : Option Solved) → not (is_some o) ≡ true → o ≡ None
-none_solved None h = refl
-none_solved (Some s) h = cc
+none_solved o h = grind arith
 
 pub left_unsolvable : (isa : Isa) (l : Label) (k : ℕ) → Contains (unsolved_of isa l) k
     → IsSolvableAt isa l k → ⊥

@@ -36,16 +36,8 @@ FoundIs cs ds us = record { cases = cs; claims = ds; unsolved = us }
 
 words_suc : (r n : ℕ)
     → load_words r (suc n) ≡ load_words r n ++ load_word (r + n) (start_word (r + n))
-words_suc r zero =
-    append-nil (load_word r (start_word r))
-    ∙ ap (λ x. load_word x (start_word x)) (let e : r ≡ r + 0 = omega arith in e)
-words_suc r (suc n) =
-    ap (λ l. load_word r (start_word r) ++ l) (words_suc (r + 1) n)
-    ∙ sym
-    (append_assoc (load_word r (start_word r)) (load_words (r + 1) n)
-    (load_word (r + 1 + n) (start_word (r + 1 + n))))
-    ∙ ap (λ x. load_words r (suc n) ++ load_word x (start_word x))
-    (let e : r + 1 + n ≡ r + suc n = omega arith in e)
+words_suc r zero = grind (arith, append-nil)
+words_suc r (suc n) = grind (arith, append_assoc, suc, (words_suc (r + 1) n))
 
 pub words_more : (r n : ℕ)
     → load_words r (n + 1) ≡ load_words r n ++ load_word (r + n) (start_word (r + n))
@@ -53,42 +45,27 @@ words_more r n = ap (load_words r) (add-one n) ∙ words_suc r n
 
 clear_suc : (r n : ℕ) → clear r (suc n) ≡ clear r n ++ Plain (addi (r + n) 0 (pos 0)) ∷ []
 clear_suc r zero = ap (λ x. Plain (addi x 0 (pos 0)) ∷ []) (let e : r ≡ r + 0 = omega arith in e)
-clear_suc r (suc n) =
-    ap (λ l. Plain (addi r 0 (pos 0)) ∷ l) (clear_suc (r + 1) n)
-    ∙ ap (λ x. clear r (suc n) ++ Plain (addi x 0 (pos 0)) ∷ [])
-    (let e : r + 1 + n ≡ r + suc n = omega arith in e)
+clear_suc r (suc n) = grind (arith, suc, (clear_suc (r + 1) n))
 
 pub clear_more : (r n : ℕ)
     → text_of (clear r (n + 1)) ≡ text_of (clear r n)
     ++ text_of (Plain (addi (r + n) 0 (pos 0)) ∷ [])
-clear_more r n =
-    ap (λ m. text_of (clear r m)) (add-one n) ∙ ap text_of (clear_suc r n)
-    ∙ text_join (clear r n) (Plain (addi (r + n) 0 (pos 0)) ∷ [])
+clear_more r n = grind (arith, add-one, clear_suc, text_join)
 
 slots_suc : (k n : ℕ)
     → slots k (suc n) ≡ slots k n ++ LabelLine (Slot (k + n)) ∷ FixedLine Unset ∷ []
-slots_suc k zero =
-    ap (λ x. LabelLine (Slot x) ∷ FixedLine Unset ∷ []) (let e : k ≡ k + 0 = omega arith in e)
-slots_suc k (suc n) =
-    ap (λ l. LabelLine (Slot k) ∷ FixedLine Unset ∷ l) (slots_suc (k + 1) n)
-    ∙ ap (λ x. slots k (suc n) ++ LabelLine (Slot x) ∷ FixedLine Unset ∷ [])
-    (let e : k + 1 + n ≡ k + suc n = omega arith in e)
+slots_suc k zero = grind arith
+slots_suc k (suc n) = grind (arith, suc, (slots_suc (k + 1) n))
 
 pub slots_more : (k n : ℕ)
     → text_of (slots k (n + 1)) ≡ text_of (slots k n)
     ++ text_of (LabelLine (Slot (k + n)) ∷ FixedLine Unset ∷ [])
-slots_more k n =
-    ap (λ m. text_of (slots k m)) (add-one n) ∙ ap text_of (slots_suc k n)
-    ∙ text_join (slots k n) (LabelLine (Slot (k + n)) ∷ FixedLine Unset ∷ [])
+slots_more k n = grind (arith, add-one, slots_suc, text_join)
 
 cases_join : (k : ℕ) (xs ys : List Solved)
     → cases k (xs ++ ys) ≡ cases k xs ++ cases (k + length xs) ys
 cases_join k [] ys = ap (λ n. cases n ys) (let e : k ≡ k + 0 = omega arith in e)
-cases_join k (x ∷ xs) ys =
-    ap (λ l. case_statements k x ++ l) (cases_join (k + 1) xs ys)
-    ∙ sym (append_assoc (case_statements k x) (cases (k + 1) xs) (cases (k + 1 + length xs) ys))
-    ∙ ap (λ n. cases k (x ∷ xs) ++ cases n ys)
-    (let e : k + 1 + length xs ≡ k + length (x ∷ xs) = omega arith in e)
+cases_join k (x ∷ xs) ys = grind (arith, append_assoc, length, (cases_join (k + 1) xs ys))
 
 pub one_case_more : (cs : List Solved) (i : ℕ) (d : Solved) → i < length cs
     → cases 0 (take (i + 1) cs) ≡ cases 0 (take i cs) ++ case_statements i (get_or cs i d)
@@ -131,10 +108,7 @@ last_is (i ∷ j ∷ is) d h =
 
 range_suc : (a n : ℕ) → range_with_len a (suc n) ≡ range_with_len a n ++ (a + n) ∷ []
 range_suc a zero = ap (λ x. x ∷ []) (let e : a ≡ a + 0 = omega arith in e)
-range_suc a (suc n) =
-    ap (λ l. a ∷ l) (range_suc (a + 1) n)
-    ∙ ap (λ x. range_with_len a (suc n) ++ x ∷ [])
-    (let e : a + 1 + n ≡ a + suc n = omega arith in e)
+range_suc a (suc n) = grind (arith, suc, (range_suc (a + 1) n))
 
 range_more : (n : ℕ) → range_with_len 0 (n + 1) ≡ range_with_len 0 n ++ n ∷ []
 range_more n =
@@ -143,23 +117,16 @@ range_more n =
 
 pub numbered_length : (j : ℕ) (ks : List ℕ) → length (numbered j ks) ≡ length ks
 numbered_length j [] = refl
-numbered_length j (k ∷ ks) =
-    let e : length (numbered (j + 1) ks) ≡ length ks = numbered_length (j + 1) ks in
-    omega (arith, e)
+numbered_length j (k ∷ ks) = simp (length, (numbered_length (j + 1) ks))
 
 numbered_join : (j : ℕ) (ks : List ℕ) (k : ℕ)
     → numbered j (ks ++ k ∷ []) ≡ numbered j ks ++ record { case = j + length ks; point = k } ∷ []
-numbered_join j [] k =
-    ap (λ x. record { case = x; point = k } ∷ []) (let e : j ≡ j + 0 = omega arith in e)
-numbered_join j (x ∷ ks) k =
-    ap (λ l. record { case = j; point = x } ∷ l) (numbered_join (j + 1) ks k)
-    ∙ ap (λ n. numbered j (x ∷ ks) ++ record { case = n; point = k } ∷ [])
-    (let e : j + 1 + length ks ≡ j + length (x ∷ ks) = omega arith in e)
+numbered_join j [] k = grind arith
+numbered_join j (x ∷ ks) k = grind (arith, length, (numbered_join (j + 1) ks k))
 
 all_same : (a b : List Solved) (d e : List Claim) (u v : List ℕ) → a ≡ b → d ≡ e → u ≡ v
     → FoundIs a d u ≡ FoundIs b e v
-all_same a b d e u v h k l =
-    ap (λ x. FoundIs x d u) h ∙ ap (λ x. FoundIs b x u) k ∙ ap (FoundIs b e) l
+all_same a b d e u v h k l = grind arith
 
 one_kept : (p : ℕ → Bool) (ks : List ℕ) (k : ℕ) (b : Bool) → p k ≡ b
     → filter p (ks ++ k ∷ []) ≡ filter p ks ++ cond b (k ∷ []) []
@@ -167,8 +134,7 @@ one_kept p ks k b h = filter-append p ks (k ∷ []) ∙ ap (λ t. filter p ks ++
 
 flat_one_more : (f : ℕ → List Solved) (ks : List ℕ) (k : ℕ)
     → flat_map f (ks ++ k ∷ []) ≡ flat_map f ks ++ f k
-flat_one_more f ks k =
-    flat_map-append f ks (k ∷ []) ∙ ap (λ l. flat_map f ks ++ l) (append-nil (f k))
+flat_one_more f ks k = simp (flat_map-append, append-nil)
 
 after_one : (isa : Isa) (l : Label) (n : ℕ) (o : Option Solved) → first_at isa l n ≡ o
     → (let ks = range_with_len 0 n in
@@ -217,9 +183,7 @@ found_none isa l = refl
 
 steps_join : (xs ys : List Solved) → all_steps (xs ++ ys) ≡ all_steps xs + all_steps ys
 steps_join [] ys = omega arith
-steps_join (x ∷ xs) ys =
-    let e : all_steps (xs ++ ys) ≡ all_steps xs + all_steps ys = steps_join xs ys in
-    omega (arith, e)
+steps_join (x ∷ xs) ys = grind (arith, (steps_join xs ys))
 
 pub steps_more : (cs : List Solved) (i : ℕ) (d : Solved) → i < length cs
     → all_steps (take (i + 1) cs) ≡ all_steps (take i cs) + case_steps (get_or cs i d)

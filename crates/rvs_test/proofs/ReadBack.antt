@@ -1,14 +1,13 @@
 -- What a test claims is read back from its text.
 use Rattle.std.proofs.Common.{◌≡◌, ℕ, ◌+◌, ◌^◌, ◌<◌, true, false, cond, List, [], ◌∷◌, ◌++◌, length}
 use Rattle.std.proofs.Common.{Option, Some, None, refl, sym, ap, ◌∙◌, arith, append-nil}
-use Rattle.std.specs.Prelude.{◌==◌, map, slice_get, option_map, option_and_then}
-use Rattle.std.specs.List.{filter_map, cons_option, list_all}
+use Rattle.std.specs.Prelude.{◌==◌, map, option_map, option_and_then}
+use Rattle.std.specs.List.{filter_map, list_all}
 use Rattle.std.specs.Fmt.{decimal}
 use Rattle.std.proofs.lemmas.Bool.Decides.{nat_tests}
 use Rattle.std.proofs.lemmas.List.Elements.{filter_map-append}
 use Rattle.rvs_insn.specs.Isa.{Isa}
 use Rattle.rvs_insn.specs.Memory.{HasRoom}
-use Rattle.rvs_insn.specs.Table.{row}
 use Rattle.rvs_base.specs.Digits.{digits_of}
 use Rattle.rvs_base.specs.Lines.{before, after}
 use Rattle.rvs_base.proofs.Readings.{digits_of-decimal}
@@ -17,26 +16,19 @@ use Rattle.rvs_cgf.specs.Groups as groups
 use Rattle.rvs_cgf.specs.Groups.{Label}
 use Rattle.rvs_cgf.specs.Valid.{IsValid}
 use Rattle.rvs_cgf.specs.declared.group.Kind.{Kind}
-use Rattle.rvs_cgf.specs.declared.group.Kind.TheVariants.{Mnemonic}
 use Rattle.rvs_solver.specs.declared.solved.Solved.{Solved}
 use Rattle.rvs_test_text.specs.declared.claim.Claim.{Claim}
 use Rattle.rvs_test_text.specs.declared.statement.Name.{Name}
-use Rattle.rvs_test_text.specs.declared.statement.Name.TheVariants.{Start}
 use Rattle.rvs_test_text.specs.declared.statement.Fixed.{Fixed}
-use Rattle.rvs_test_text.specs.declared.statement.Fixed.TheVariants.{NoRvc}
 use Rattle.rvs_test_text.specs.declared.statement.Statement.{Statement}
-use Rattle.rvs_test_text.specs.declared.statement.Statement.TheVariants.{Label as LabelLine, Plain}
-use Rattle.rvs_test_text.specs.declared.statement.Statement.TheVariants.{High}
-use Rattle.rvs_test_text.specs.declared.statement.Statement.TheVariants.{Low, To, Nops}
-use Rattle.rvs_test_text.specs.declared.statement.Statement.TheVariants.{Fixed as FixedLine}
-use Rattle.rvs_test_text.specs.Statements.{name_of, written, operands_of, fixed_text, printed}
+use Rattle.rvs_test_text.specs.Statements.{name_of, written, fixed_text, printed}
 use Rattle.rvs_test_text.specs.TestText.{Point, claim_lines, header, step_limit, test_text}
 use Rattle.rvs_test_text.specs.TestText.{last_register}
 use Rattle.rvs_test.specs.Made.{places, solved_among, numbered, claims_of, cases_of, named_or_none}
 use Rattle.rvs_test.specs.Made.{named_at}
 use Rattle.rvs_test.specs.Named.{Named, point_read, claim_read, behind_front, all_read, claims_read}
 use Rattle.rvs_test.specs.Named.{named_claim}
-use Rattle.rvs_test_text.proofs.Chars.{All, tested, is_clean}
+use Rattle.rvs_test_text.proofs.Chars.{All, is_clean}
 use Rattle.rvs_test_text.proofs.Digits.{decimal_spells, digit_words}
 use Rattle.rvs_test.proofs.Loops.{numbered_length}
 use Rattle.rvs_test.proofs.Solvings.{cases_few, cases_ready, claims_same, name_text, points_text}
@@ -51,15 +43,11 @@ no_space c h = grind (arith, nat_tests)
 
 before_space : (t rest : List ℕ) → All is_clean t → before 32 (t ++ 32 ∷ rest) ≡ t
 before_space [] rest h = refl
-before_space (c ∷ cs) rest h =
-    ap (λ b. cond b [] (c ∷ before 32 (cs ++ 32 ∷ rest))) (no_space c h.0)
-    ∙ ap (λ x. c ∷ x) (before_space cs rest h.1)
+before_space (c ∷ cs) rest h = grind (arith, cond, no_space, (before_space cs rest h.1))
 
 after_space : (t rest : List ℕ) → All is_clean t → after 32 (t ++ 32 ∷ rest) ≡ Some rest
 after_space [] rest h = refl
-after_space (c ∷ cs) rest h =
-    ap (λ b. cond b (Some (cs ++ 32 ∷ rest)) (after 32 (cs ++ 32 ∷ rest))) (no_space c h.0)
-    ∙ after_space cs rest h.1
+after_space (c ∷ cs) rest h = grind (arith, cond, Some, no_space, (after_space cs rest h.1))
 
 claim_back : (k : ℕ) (p : Point) → k < 2 ^ 64 → All is_clean p.kind
     → claim_read (decimal k ++ 32 ∷ (p.kind ++ 32 ∷ p.key))
@@ -81,41 +69,28 @@ claim_back k p small h =
 -- ---- a kind is one word
 
 kind_test : (k : Kind) → list_all is_clean (kind_name k) ≡ true
-kind_test Mnemonic = refl
-kind_test k = refl
+kind_test k = grind arith
 
 named_clean : (o : Option groups.Point) → All is_clean (named_or_none o).kind
-named_clean None = tt
-named_clean (Some p) = tested is_clean (kind_name p.kind) (kind_test p.kind)
+named_clean o = grind arith
 
 -- ---- the lines of the statements claim nothing
 
 written_silent : (w : List ℕ) (ts : List (List ℕ)) → behind_front (written w ts) ≡ None
-written_silent w [] = refl
-written_silent w (t ∷ ts) = refl
+written_silent w ts = grind arith
 
 name_silent : (n : Name) → behind_front (name_of n ++ 58 ∷ []) ≡ None
-name_silent Start = refl
-name_silent n = refl
+name_silent n = grind arith
 
 fixed_silent : (f : Fixed) → behind_front (fixed_text f) ≡ None
-fixed_silent NoRvc = refl
-fixed_silent f = refl
+fixed_silent f = grind arith
 
 silent : (s : Statement) → behind_front (printed s) ≡ None
-silent (LabelLine n) = name_silent n
-silent (Plain i) = written_silent (row i.op).name (operands_of (row i.op).form i)
-silent (High r n) = refl
-silent (Low r n) = refl
-silent (To i n) =
-    written_silent (row i.op).name (operands_of (row i.op).form i ++ name_of n ∷ [])
-silent (Nops n) = refl
-silent (FixedLine f) = fixed_silent f
+silent s = grind arith
 
 all_silent : (ss : List Statement) → filter_map behind_front (map printed ss) ≡ []
 all_silent [] = refl
-all_silent (s ∷ ss) =
-    ap (λ o. cons_option o (filter_map behind_front (map printed ss))) (silent s) ∙ all_silent ss
+all_silent (s ∷ ss) = simp (silent, (all_silent ss))
 
 -- ---- all lines
 
@@ -127,11 +102,7 @@ numbered_back : (l : Label) (j : ℕ) (ks : List ℕ) → j + length ks < 2 ^ 64
     ≡ Some (map (named_claim l) (numbered j ks))
 numbered_back l j [] h = refl
 numbered_back l j (k ∷ ks) h =
-    let rest = filter_map behind_front (claim_lines (j + 1) (points_of l (numbered (j + 1) ks))) in
-    ap (option_and_then (λ c. option_map (λ cs. c ∷ cs) (all_read rest)))
-    (claim_back j (named_at l k) (omega arith) (named_clean (slice_get l.points k)))
-    ∙ ap (option_map (λ cs. named_claim l (record { case = j; point = k }) ∷ cs))
-    (numbered_back l (j + 1) ks (omega arith))
+    grind (arith, claim_back, named_clean, (numbered_back l (j + 1) ks (omega arith)))
 
 claims_back : (isa : Isa) (l : Label) → IsValid isa l
     → all_read (filter_map behind_front (claim_lines 0 (points_of l (claims_of isa l))))

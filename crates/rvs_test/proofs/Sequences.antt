@@ -1,6 +1,6 @@
 -- A case can be made from the instructions that solve a cross point.
 use Rattle.std.proofs.Common.{◌≡◌, ℕ, zero, suc, ◌+◌, ◌<◌, ◌≤◌, true, List, [], ◌∷◌, length}
-use Rattle.std.proofs.Common.{Option, Some, None, Ok, refl, sym, ap, subst, ◌∙◌, arith}
+use Rattle.std.proofs.Common.{Option, Some, None, Ok, refl, ap, subst, ◌∙◌, arith}
 use Rattle.std.specs.Prelude.{All, Contains, pos, ℤ}
 use Rattle.std.specs.List.{range_with_len}
 use Rattle.rvs_insn.specs.declared.op.Format.{Format}
@@ -25,7 +25,7 @@ use Rattle.rvs_solver.proofs.Search.{Each}
 use Rattle.rvs_solver.proofs.Product.{each_flat, each_map}
 use Rattle.rvs_solver.proofs.Operands.{each_then}
 use Rattle.rvs_test_text.specs.Sound.{computes, IsMiddle, IsComputing, AllComputing, IsSequence}
-use Rattle.rvs_test_text.proofs.Registers.{HasField, has_low, admitted_op}
+use Rattle.rvs_test_text.proofs.Registers.{HasField, admitted_op}
 
 -- ---- the instructions of a mnemonic
 
@@ -43,13 +43,10 @@ IsMissing (Some r) = ⊥
 
 range_inner : (a n : ℕ) → 8 ≤ a → a + n ≤ 16 → Each IsInner (range_with_len a n)
 range_inner a zero low high = tt
-range_inner a (suc n) low high =
-    ((low, omega arith), range_inner (a + 1) n (omega arith) (omega arith))
+range_inner a (suc n) low high = grind (arith, (range_inner (a + 1) n (omega arith) (omega arith)))
 
 inner : Each IsThere middle
-inner =
-    each_map Some IsInner IsThere (λ r h. h) middle_registers
-    (range_inner 8 8 (omega arith) (omega arith))
+inner = grind (arith, each_map, Some, range_inner)
 
 record IsOver (op : Op) (imm : Option ℤ) (P : Option ℕ → Type 0) (i : Fields) : Type 0 where
   op_is : i.op ≡ op
@@ -82,78 +79,39 @@ record IsOf (op : Op) (i : Fields) : Type 0 where
   rs2 : IsMiddle i.rs2
 
 is_middle : (o : Option ℕ) → IsThere o → IsMiddle o
-is_middle (Some r) h = h
-is_middle None h = absurd h
+is_middle o h = grind arith
 
 no_middle : (o : Option ℕ) → IsMissing o → IsMiddle o
-no_middle None h = tt
-no_middle (Some r) h = absurd h
+no_middle o h = grind arith
 
 -- the fields are those of the format
 of_r : (rd rs1 rs2 : Option ℕ) → IsThere rd → IsThere rs1 → IsThere rs2
     → AreOf R rd rs1 rs2 None
-of_r (Some d) (Some s) (Some t) a b c =
-    (omega (arith, a.1), omega (arith, b.1), omega (arith, c.1))
-of_r None rs1 rs2 a b c = absurd a
-of_r (Some d) None rs2 a b c = absurd b
-of_r (Some d) (Some s) None a b c = absurd c
+of_r rd rs1 rs2 a b c = grind arith
 
 of_i : (rd rs1 rs2 : Option ℕ) → IsThere rd → IsThere rs1 → IsMissing rs2
     → AreOf I rd rs1 rs2 (Some (pos 1))
-of_i (Some d) (Some s) None a b c = (omega (arith, a.1), omega (arith, b.1), omega arith)
-of_i None rs1 rs2 a b c = absurd a
-of_i (Some d) None rs2 a b c = absurd b
-of_i (Some d) (Some s) (Some t) a b c = absurd c
+of_i rd rs1 rs2 a b c = grind arith
 
 of_shift : (rd rs1 rs2 : Option ℕ) → IsThere rd → IsThere rs1 → IsMissing rs2
     → AreOf Shift rd rs1 rs2 (Some (pos 1))
-of_shift (Some d) (Some s) None a b c = (omega (arith, a.1), omega (arith, b.1), omega arith)
-of_shift None rs1 rs2 a b c = absurd a
-of_shift (Some d) None rs2 a b c = absurd b
-of_shift (Some d) (Some s) (Some t) a b c = absurd c
+of_shift rd rs1 rs2 a b c = grind arith
 
 -- those of an instruction of this mnemonic
 encodable_by : (form : Format) (op : Op) (i : Fields) (imm : Option ℤ) → (row op).form ≡ form
     → i.op ≡ op → i.imm ≡ imm → AreOf form i.rd i.rs1 i.rs2 imm → IsEncodable i
-encodable_by form op i imm e same_op same_imm h =
-    subst (λ (f : Format). AreOf f i.rd i.rs1 i.rs2 i.imm)
-    (sym (ap (λ (o : Op). (row o).form) same_op ∙ e))
-    (subst (λ (z : Option ℤ). AreOf form i.rd i.rs1 i.rs2 z) (sym same_imm) h)
+encodable_by form op i imm e same_op same_imm h = grind (arith, Option)
 
 with_sources : (op : Op) (i : Fields) → (row op).form ≡ R → IsOver op None IsThere i → IsOf op i
-with_sources op i e o =
-    record {
-      form = ap computes e;
-      encodable =
-          encodable_by R op i None e o.op_is o.imm_is (of_r i.rd i.rs1 i.rs2 o.rd o.rs1 o.rs2);
-      rd = is_middle i.rd o.rd;
-      rs1 = is_middle i.rs1 o.rs1;
-      rs2 = is_middle i.rs2 o.rs2;
-    }
+with_sources op i e o = grind (arith, encodable_by, None, of_r, is_middle)
 
 with_immediate : (op : Op) (i : Fields) → (row op).form ≡ I
     → IsOver op (Some (pos 1)) IsMissing i → IsOf op i
-with_immediate op i e o =
-    record {
-      form = ap computes e;
-      encodable = encodable_by I op i (Some (pos 1)) e o.op_is o.imm_is
-          (of_i i.rd i.rs1 i.rs2 o.rd o.rs1 o.rs2);
-      rd = is_middle i.rd o.rd;
-      rs1 = is_middle i.rs1 o.rs1;
-      rs2 = no_middle i.rs2 o.rs2;
-    }
+with_immediate op i e o = grind (arith, encodable_by, Some, of_i, is_middle, no_middle)
 
 with_amount : (op : Op) (i : Fields) → (row op).form ≡ Shift
     → IsOver op (Some (pos 1)) IsMissing i → IsOf op i
-with_amount op i e o =
-    record {
-      form = ap computes e;
-      encodable = encodable_by Shift op i (Some (pos 1)) e o.op_is o.imm_is
-          (of_shift i.rd i.rs1 i.rs2 o.rd o.rs1 o.rs2);
-      rd = is_middle i.rd o.rd;
-      rs1 = is_middle i.rs1 o.rs1;
-      rs2 = no_middle i.rs2 o.rs2;
-    }
+with_amount op i e o = grind (arith, encodable_by, Some, of_shift, is_middle, no_middle)
 
 of_form : (form : Format) (op : Op) → (row op).form ≡ form → Each (IsOf op) (in_format form op)
 of_form R op e =
@@ -182,8 +140,7 @@ among P (y ∷ ys) x a (suc k, h, at) = among P ys x a.1 (k, omega arith, at)
 
 -- each core has x8 to x15
 middle_has : (isa : Isa) (o : Option ℕ) → IsMiddle o → HasField isa o
-middle_has isa None h = tt
-middle_has isa (Some r) h = has_low isa r h.1
+middle_has isa o h = grind arith
 
 computing : (isa : Isa) (i : Fields) → cross.IsComputing isa i → IsComputing isa i
 computing isa i c =
@@ -222,9 +179,7 @@ sequence_ready isa ps is some few found =
 
 by_kind : (k : Kind) (key : List ℕ) (ps : List Place) → says k key ≡ means (window ps)
     → crosses.parse key ≡ Ok (crosses.read ps)
-by_kind k key ps h = said_by k key (window ps) h (λ op _ is. absurd cc) (λ r _ is. absurd cc)
-    (λ f _ is. absurd cc) (λ f _ is. absurd cc)
-    (λ qs e is. let same : qs ≡ ps = cc in e ∙ ap (λ x. Ok (crosses.read x)) same)
+by_kind k key ps h = grind (arith, said_by, Ok)
 
 -- a cross point of a valid label has one to six places
 pub places_few : (p : Point) (ps : List Place) → IsMeant p → p.meaning ≡ window ps

@@ -1,6 +1,6 @@
 -- The cases of a label: a case can be made from each, and each belongs to a claim.
-use Rattle.std.proofs.Common.{◌≡◌, ℕ, ◌+◌, ◌<◌, ◌≤◌, Bool, true, false, cond, ◌&&◌, ◌||◌, List, []}
-use Rattle.std.proofs.Common.{◌∷◌, ◌++◌, length, map, get_or, Option, Some, None, refl, sym, ap}
+use Rattle.std.proofs.Common.{◌≡◌, ℕ, ◌+◌, ◌<◌, ◌≤◌, Bool, true, cond, ◌&&◌, List, []}
+use Rattle.std.proofs.Common.{◌∷◌, ◌++◌, length, map, get_or, Option, Some, None, refl}
 use Rattle.std.proofs.Common.{◌∙◌, subst, arith, length-append}
 use Rattle.std.specs.Prelude.{All, nat_le, filter, is_some, option_map, option_and_then}
 use Rattle.std.specs.Prelude.{option_to_list, slice_get}
@@ -8,19 +8,17 @@ use Rattle.std.specs.List.{list_all, range_with_len}
 use Rattle.std.proofs.lemmas.Bool.Decides.{nat_tests}
 use Rattle.std.proofs.lemmas.List.FromFn.{length-range_with_len}
 use Rattle.std.proofs.lemmas.Option.{slice_get_within, get_or_from_slice_get}
-use Rattle.std.proofs.Common.{◌⊎◌, inl, inr}
+use Rattle.std.proofs.Common.{◌⊎◌, inl, inr, rules}
 use Rattle.rvs_insn.specs.Memory.{HasRoom}
 use Rattle.rvs_insn.specs.Isa.{Isa}
 use Rattle.rvs_insn.specs.Fields.{Fields}
 use Rattle.rvs_cross.specs.Cross.{Place}
 use Rattle.rvs_cross.specs.Sequences.{first_sequence}
 use Rattle.rvs_asm_text.specs.Text.{is_text_byte}
-use Rattle.rvs_abstract.specs.Calls.{is_letter, is_digit}
 use Rattle.rvs_cgf.specs.Keys.{is_name_byte, is_label_name}
 use Rattle.rvs_cgf.specs.Print.{kind_name}
 use Rattle.rvs_cgf.specs.Valid.{IsMeant, IsValid}
 use Rattle.rvs_cgf.specs.declared.group.Kind.{Kind}
-use Rattle.rvs_cgf.specs.declared.group.Kind.TheVariants.{Mnemonic}
 use Rattle.rvs_cgf.specs.Groups as groups
 use Rattle.rvs_cgf.specs.Groups.{Meaning, op_is, reg_is, regs, nums, window, Label}
 use Rattle.rvs_solver.specs.Choices.{ChoiceValue}
@@ -65,51 +63,28 @@ pub record IsFirstWindow (isa : Isa) (l : Label) (k : ℕ) (s : Solved) : Type 0
 chosen : (isa : Isa) (l : Label) (k : ℕ) (s : Solved) (p : groups.Point) (o : Option ChoiceValue)
     → slice_get l.points k ≡ Some p → IsSingle p.meaning
     → first_choice isa l.ops p.kind p.meaning ≡ o → option_map One o ≡ Some s → IsFirst isa l k s
-chosen isa l k s p None at single found h = cc
-chosen isa l k s p (Some c) at single found h =
-    let is : One c ≡ s = cc in
-    record { point = p; choice = c; at = at; single = single; found = found; is = is }
+chosen isa l k s p o at single found h = grind arith
 
 matched : (isa : Isa) (l : Label) (k : ℕ) (s : Solved) (p : groups.Point) (ps : List Place)
     (o : Option (List Fields)) → slice_get l.points k ≡ Some p → p.meaning ≡ window ps
     → first_sequence isa ps ≡ o → option_map Many o ≡ Some s → IsFirstWindow isa l k s
-matched isa l k s p ps None at means found h = cc
-matched isa l k s p ps (Some is) at means found h =
-    let same : Many is ≡ s = cc in
-    record {
-      point = p;
-      places = ps;
-      insns = is;
-      at = at;
-      means = means;
-      found = found;
-      is = same;
-    }
+matched isa l k s p ps o at means found h = grind arith
 
 alone : (isa : Isa) (l : Label) (k : ℕ) (s : Solved) (p : groups.Point) (m : Meaning)
     → slice_get l.points k ≡ Some p → p.meaning ≡ m → IsSingle m
     → option_map One (first_choice isa l.ops p.kind m) ≡ Some s → IsFirst isa l k s
-alone isa l k s p m at means single h =
-    chosen isa l k s p (first_choice isa l.ops p.kind p.meaning) at
-    (subst IsSingle (sym means) single) refl
-    (ap (λ (x : Meaning). option_map One (first_choice isa l.ops p.kind x)) means ∙ h)
+alone isa l k s p m at means single h = grind (arith, chosen)
 
 -- by what the point means
 by_meaning : (isa : Isa) (l : Label) (k : ℕ) (s : Solved) (p : groups.Point) (m : Meaning)
     → slice_get l.points k ≡ Some p → p.meaning ≡ m → first_meant isa l.ops p.kind m ≡ Some s
     → IsFirst isa l k s ⊎ IsFirstWindow isa l k s
-by_meaning isa l k s p (window ps) at means h =
-    inr (matched isa l k s p ps (first_sequence isa ps) at means refl h)
-by_meaning isa l k s p (op_is op) at means h = inl (alone isa l k s p (op_is op) at means tt h)
-by_meaning isa l k s p (reg_is n) at means h = inl (alone isa l k s p (reg_is n) at means tt h)
-by_meaning isa l k s p (regs f) at means h = inl (alone isa l k s p (regs f) at means tt h)
-by_meaning isa l k s p (nums f) at means h = inl (alone isa l k s p (nums f) at means tt h)
+by_meaning isa l k s p m at means h = grind arith
 
 pointed : (isa : Isa) (l : Label) (k : ℕ) (s : Solved) (o : Option groups.Point)
     → slice_get l.points k ≡ o → option_and_then (first_of_point isa l) o ≡ Some s
     → IsFirst isa l k s ⊎ IsFirstWindow isa l k s
-pointed isa l k s None at h = cc
-pointed isa l k s (Some p) at h = by_meaning isa l k s p p.meaning at refl h
+pointed isa l k s o at h = grind arith
 
 pub first_is : (isa : Isa) (l : Label) (k : ℕ) (s : Solved) → first_at isa l k ≡ Some s
     → IsFirst isa l k s ⊎ IsFirstWindow isa l k s
@@ -130,9 +105,7 @@ window_ready isa l k s v f =
 
 choice_ready : (isa : Isa) → HasRoom isa.memory → (l : Label) (k : ℕ) (s : Solved) → IsValid isa l
     → IsFirst isa l k s → IsReady isa s
-choice_ready isa room l k s v f =
-    let r = first_ready isa room l.ops f.point.kind f.point.meaning f.choice v.admitted f.found in
-    subst (IsReady isa) f.is (r.sound, r.made)
+choice_ready isa room l k s v f = grind (arith, first_ready)
 
 pub solved_ready : (isa : Isa) → HasRoom isa.memory → (l : Label) (k : ℕ) (s : Solved)
     → IsValid isa l
@@ -148,42 +121,29 @@ solved_ready isa room l k s v h =
 some_more : (o : Option Solved) (rest : List Solved) (P : List Solved → Type 0)
     → ((s : Solved) → o ≡ Some s → P (s ∷ rest)) → (o ≡ None → P rest)
     → P (option_to_list o ++ rest)
-some_more None rest P h k = k refl
-some_more (Some s) rest P h k = h s refl
+some_more o rest P h k = grind arith
 
 pub among_ready : (isa : Isa) → HasRoom isa.memory → (l : Label) (ks : List ℕ) → IsValid isa l
     → AreReady isa (cases_among isa l ks)
 among_ready isa room l [] v = tt
 among_ready isa room l (k ∷ ks) v =
-    let rest = among_ready isa room l ks v in
-    some_more (first_at isa l k) (cases_among isa l ks) (AreReady isa)
-    (λ s h. (solved_ready isa room l k s v h, rest)) (λ h. rest)
+    grind (arith, some_more, solved_ready, (among_ready isa room l ks v))
 
 one_long : (o : Option Solved) → length (option_to_list o) ≤ 1
-one_long None = omega arith
-one_long (Some s) = omega arith
+one_long o = grind arith
 
 among_few : (isa : Isa) (l : Label) (ks : List ℕ) → length (cases_among isa l ks) ≤ length ks
 among_few isa l [] = omega arith
-among_few isa l (k ∷ ks) =
-    omega (
-      arith,
-      length-append (option_to_list (first_at isa l k)) (cases_among isa l ks),
-      one_long (first_at isa l k),
-      among_few isa l ks,
-    )
+among_few isa l (k ∷ ks) = grind (arith, length-append, one_long, (among_few isa l ks))
 
 as_many : (o : Option Solved) (k : ℕ) (cs : List Solved) (ks : List ℕ) → length ks ≡ length cs
     → length (cond (is_some o) (k ∷ ks) ks) ≡ length (option_to_list o ++ cs)
-as_many None k cs ks h = h
-as_many (Some s) k cs ks h = omega (arith, h)
+as_many o k cs ks h = grind arith
 
 among_same : (isa : Isa) (l : Label) (ks : List ℕ)
     → length (solved_among isa l ks) ≡ length (cases_among isa l ks)
 among_same isa l [] = refl
-among_same isa l (k ∷ ks) =
-    as_many (first_at isa l k) k (cases_among isa l ks) (solved_among isa l ks)
-    (among_same isa l ks)
+among_same isa l (k ∷ ks) = grind (arith, as_many, (among_same isa l ks))
 
 pub cases_ready : (isa : Isa) → HasRoom isa.memory → (l : Label) → IsValid isa l
     → AreReady isa (cases_of isa l)
@@ -209,8 +169,7 @@ lines_of_numbered : (f : ℕ → Point) (j : ℕ) (ks : List ℕ)
     → claim_lines j (map (λ (c : Claim). f c.point) (numbered j ks))
     ≡ map (line_of_claim f) (numbered j ks)
 lines_of_numbered f j [] = refl
-lines_of_numbered f j (k ∷ ks) =
-    ap (λ x. line_of_claim f (record { case = j; point = k }) ∷ x) (lines_of_numbered f (j + 1) ks)
+lines_of_numbered f j (k ∷ ks) = simp (lines_of_numbered f (j + 1) ks)
 
 pub lines_of_claims : (isa : Isa) (l : Label) (f : ℕ → Point)
     → claim_lines 0 (map (λ (c : Claim). f c.point) (claims_of isa l))
@@ -231,17 +190,10 @@ key_byte : (c : ℕ) → (nat_le 32 c && nat_le c 126) ≡ true → is_text_byte
 key_byte c h = grind (arith, nat_tests)
 
 pub name_text : (name : List ℕ) → is_label_name name ≡ true → list_all is_text_byte name ≡ true
-name_text [] h = cc
-name_text (c ∷ cs) h =
-    let k =
-    both (is_letter c || is_digit c)
-    (list_all is_name_byte (c ∷ cs) && nat_le (length (c ∷ cs)) 64) h in
-    let m = both (list_all is_name_byte (c ∷ cs)) (nat_le (length (c ∷ cs)) 64) k.1 in
-    weaker is_name_byte is_text_byte name_byte (c ∷ cs) m.0
+name_text name h = search (rules, both, length, weaker, name_byte)
 
 kind_text : (k : Kind) → list_all is_text_byte (kind_name k) ≡ true
-kind_text Mnemonic = refl
-kind_text k = refl
+kind_text k = grind arith
 
 abbrev pub IsPrintablePoint : Point → Type 0
 IsPrintablePoint p = (list_all is_text_byte p.kind ≡ true) × (list_all is_text_byte p.key ≡ true)
@@ -274,11 +226,7 @@ points_text isa l v = named_text isa l (claims_of isa l) v
 filtered : (p : ℕ → Bool) (n : ℕ) (ks : List ℕ) → Each (λ k. k < n) ks
     → Each (λ k. k < n) (filter p ks)
 filtered p n [] a = tt
-filtered p n (k ∷ ks) a = kept (p k) k (filter p ks) a.0 (filtered p n ks a.1) where
-  kept : (t : Bool) (k : ℕ) (rest : List ℕ) → k < n → Each (λ k. k < n) rest
-      → Each (λ k. k < n) (cond t (k ∷ rest) rest)
-  kept true k rest h r = (h, r)
-  kept false k rest h r = r
+filtered p n (k ∷ ks) a = grind (arith, nat_tests, (filtered p n ks a.1))
 
 below : (j n : ℕ) (ks : List ℕ) → Each (λ k. k < n) ks
     → Each (λ (c : Claim). c.point < n) (numbered j ks)

@@ -2,7 +2,7 @@
 use Rattle.std.proofs.Common.{◌≡◌, ◌≢◌, ℕ, ◌+◌, ◌*◌, ◌%◌, ◌^◌, ◌<◌, ◌≤◌, List, []}
 use Rattle.std.proofs.Common.{◌∷◌, length, Option, Some, None, true, refl, sym, ap, ◌∙◌}
 use Rattle.std.proofs.Common.{arith}
-use Rattle.std.proofs.Common.{subst, inl, inr}
+use Rattle.std.proofs.Common.{subst, inl, rules}
 use Rattle.std.specs.Prelude.{slice_index, unwrap_or}
 use Rattle.rvs_insn.specs.Memory.{Memory, HasRoom, text_limit}
 use Rattle.rvs_insn.specs.declared.op.Op.{Op}
@@ -21,8 +21,8 @@ use Rattle.rvs_machine.proofs.Atomics.{atomic_step, replaced_low}
 use Rattle.rvs_test_text.proofs.Short.{IsShort}
 use Rattle.rvs_test_text.proofs.Runs.{StandFrom, Piece}
 use Rattle.rvs_test_text.proofs.Pieces.{lui, addi, high_part, low_part, load_word, one_piece}
-use Rattle.rvs_test_text.proofs.Pieces.{then_piece, ends_at, read_same, read_other, same_length}
-use Rattle.rvs_test_text.proofs.Stored.{store_length, stored_other, stored_word}
+use Rattle.rvs_test_text.proofs.Pieces.{then_piece, ends_at, read_same}
+use Rattle.rvs_test_text.proofs.Stored.{stored_word}
 use Rattle.rvs_test_text.proofs.Shapes.{stands_there}
 use Rattle.rvs_test_text.proofs.StoreRuns.{lw}
 
@@ -94,36 +94,29 @@ reserved_held memory ScW held = Some memory.data_base
 reserved_held memory _ held = held
 
 pub reserve_long : (op : Op) (a m : ℕ) → 4 * length (reserve op a m) ≡ reserve_size op
-reserve_long ScW a m = refl
-reserve_long _ a m = refl
+reserve_long op a m = grind arith
 
 pub reserve_small : (op : Op) → reserve_size op ≤ 4
-reserve_small ScW = omega arith
-reserve_small _ = omega arith
+reserve_small op = grind arith
 
 pub reserve_few : (op : Op) → reserve_count op ≤ 1
-reserve_few ScW = omega arith
-reserve_few _ = omega arith
+reserve_few op = grind arith
 
 pub reserved_length : (op : Op) (regs : List ℕ) (m v : ℕ)
     → length (reserved_regs op regs m v) ≡ length regs
-reserved_length ScW regs m v = same_length regs m v
-reserved_length _ regs m v = refl
+reserved_length op regs m v = search rules
 
 read_past : (regs : List ℕ) (r : Option ℕ) (m v : ℕ) → unwrap_or r 0 ≢ m
     → read_reg (write_reg regs (Some m) (Some v)) r ≡ read_reg regs r
-read_past regs None m v ne = refl
-read_past regs (Some a) m v ne = read_other regs m a v ne
+read_past regs r m v ne = search rules
 
 pub reserved_read : (op : Op) (regs : List ℕ) (r : Option ℕ) (m v : ℕ) → unwrap_or r 0 ≢ m
     → read_reg (reserved_regs op regs m v) r ≡ read_reg regs r
-reserved_read ScW regs r m v ne = read_past regs r m v ne
-reserved_read _ regs r m v ne = refl
+reserved_read op regs r m v ne = search rules
 
 pub is_held : (memory : Memory) (op : Op) (held : Option ℕ)
     → IsHeld op (reserved_held memory op held) memory.data_base
-is_held memory ScW held = refl
-is_held memory _ held = tt
+is_held memory op held = grind arith
 
 -- a row at the start of the data
 pub first_step : (setup : Setup) → HasRoom setup.isa.memory
@@ -138,18 +131,7 @@ pub first_step : (setup : Setup) → HasRoom setup.isa.memory
           (atomic_data i.op ram 0 v2),
     )
 first_step setup room held pc i v2 regs ram form there e1 e2 fits kept =
-    let base = setup.isa.memory.data_base in
-    let same : base ≡ base + 0 = omega arith in
-    let P : ℕ → Type 0 = λ x. step_of setup (state held pc regs ram) ≡ (
-      Ran (entry pc i x v2 (Some (atomic_value i.op (word_at ram 0)))),
-      state (atomic_held i.op held x) (add32 pc 4)
-          (write_reg regs i.rd (Some (atomic_value i.op (word_at ram 0))))
-          (atomic_data i.op ram 0 v2),
-    ) in
-    subst P (sym same)
-    (atomic_step setup room held pc i v2 0 regs ram form there (e1 ∙ same) e2 refl
-    (let four : 0 + 4 ≤ length ram = omega (arith, fits) in four)
-    (subst (IsHeld i.op held) same kept))
+    grind (arith, state, entry, Some, atomic_value, atomic_held, atomic_data, atomic_step, length)
 
 pub reserve_piece : (op : Op) (setup : Setup) → HasRoom setup.isa.memory
     → (held : Option ℕ) (pc a m : ℕ) (regs ram : List ℕ)
@@ -176,19 +158,12 @@ reserve_piece ScW setup has_room held pc a m regs ram base there room fits =
       count = refl;
       within = (omega arith, omega arith, tt);
     }
-reserve_piece _ setup has_room held pc a m regs ram base there room fits =
-    let e : pc ≡ pc + 0 = omega arith in
-    record { steps = []; runs = ap (λ x. state held x regs ram) e; count = refl; within = tt }
+reserve_piece _ setup has_room held pc a m regs ram base there room fits = grind (arith, state)
 
 -- ---- the data after the row
 pub same_front : (l l' : List ℕ) (i : ℕ)
     → ((j : ℕ) → j < i + 4 → slice_index l j ≡ slice_index l' j) → word_at l i ≡ word_at l' i
-same_front l l' i same =
-    let a : slice_index l i ≡ slice_index l' i = same i (omega arith) in
-    let b : slice_index l (i + 1) ≡ slice_index l' (i + 1) = same (i + 1) (omega arith) in
-    let c : slice_index l (i + 2) ≡ slice_index l' (i + 2) = same (i + 2) (omega arith) in
-    let d : slice_index l (i + 3) ≡ slice_index l' (i + 3) = same (i + 3) (omega arith) in
-    rw (a, b, c, d) refl
+same_front l l' i same = grind arith
 
 -- the word that is in scratch after it
 abbrev pub atomic_word : Op → ℕ → ℕ → ℕ
@@ -201,8 +176,7 @@ atomic_word_low LrW old v2 p q = p
 atomic_word_low op old v2 p q = replaced_low op old v2 p q
 
 pub data_long : (op : Op) (ram : List ℕ) (v2 : ℕ) → length (atomic_data op ram 0 v2) ≡ length ram
-data_long LrW ram v2 = refl
-data_long op ram v2 = store_length 4 0 (replaced op (word_at ram 0) v2) ram
+data_long op ram v2 = search rules
 
 pub data_word : (op : Op) (ram : List ℕ) (old v2 : ℕ) → word_at ram 0 ≡ old → 4 ≤ length ram
     → old < 2 ^ 32 → v2 < 2 ^ 32 → word_at (atomic_data op ram 0 v2) 0 ≡ atomic_word op old v2
@@ -215,13 +189,10 @@ data_word op ram old v2 e fits p q =
 
 pub data_kept : (op : Op) (ram : List ℕ) (v2 i : ℕ) → 4 ≤ i
     → slice_index (atomic_data op ram 0 v2) i ≡ slice_index ram i
-data_kept LrW ram v2 i h = refl
-data_kept op ram v2 i h = stored_other 4 0 (replaced op (word_at ram 0) v2) i ram (inr h)
+data_kept op ram v2 i h = search rules
 
 pub value_low : (op : Op) (old : ℕ) → old < 2 ^ 32 → atomic_value op old < 2 ^ 32
-value_low ScW old h = omega arith
-value_low _ old h = h
+value_low op old h = grind arith
 
 pub has : (rd : Option ℕ) (v : ℕ) → v < 2 ^ 32 → HasValue rd (Some v)
-has None v h = tt
-has (Some d) v h = h
+has rd v h = grind arith

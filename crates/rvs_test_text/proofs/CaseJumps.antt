@@ -1,6 +1,6 @@
 -- The jump of a case, wherever it stands.
-use Rattle.std.proofs.Common.{◌≡◌, ℕ, zero, suc, ◌+◌, ◌*◌, ◌%◌, ◌^◌, ◌<◌, ◌≤◌, [], List, ◌∷◌, ◌++◌}
-use Rattle.std.proofs.Common.{length, Option, Some, None, refl, sym, ap, ◌∙◌, arith, subst}
+use Rattle.std.proofs.Common.{◌≡◌, ℕ, suc, ◌+◌, ◌*◌, ◌%◌, ◌^◌, ◌<◌, ◌≤◌, [], List, ◌∷◌, ◌++◌}
+use Rattle.std.proofs.Common.{length, Option, Some, None, refl, ap, ◌∙◌, arith, subst, rules}
 use Rattle.std.specs.Prelude.{ℤ, pos, negsuc, unwrap_or, replicate, ◌-ℤ◌}
 use Rattle.rvs_insn.specs.declared.op.Format.{Format}
 use Rattle.rvs_insn.specs.declared.op.Format.TheVariants.{Branch, Jump}
@@ -47,61 +47,31 @@ jumps_by Branch setup c at target e l there here al room ram =
     subst (λ t. Jumping setup ram at (fields_of c) c.w1 c.w2 None t target)
     (same_taken c.op e c.w1 c.w2)
     (branch_jumps setup ram at (fields_of c) c.w1 c.w2 target e there here al room)
-jumps_by Jump setup c at target e l there here al room ram =
-    jal_jumps setup ram at (fields_of c) c.w1 c.w2 target e there here al room
+jumps_by Jump setup c at target e l there here al room ram = search (rules, jal_jumps)
 jumps_by _ setup c at target e l there here al room ram = absurd l
 
 pub not_zero : (n : ℕ) → (n ≡ 0 → ⊥) → 0 < n
-not_zero zero h = absurd (h refl)
-not_zero (suc n) h = omega arith
+not_zero n h = grind arith
 
 no_value_fits : (rd rs1 rs2 : Option ℕ) (imm : Option ℤ) → AreOf Branch rd rs1 rs2 imm
     → HasValue rd None
-no_value_fits None rs1 rs2 imm h = tt
-no_value_fits (Some d) rs1 rs2 imm h = absurd h
+no_value_fits rd rs1 rs2 imm h = grind arith
 
 some_value : (rd : Option ℕ) (v : ℕ) → v < 2 ^ 32 → HasValue rd (Some v)
-some_value None v h = tt
-some_value (Some d) v h = h
+some_value rd v h = grind arith
 
 value_fits : (f : Format) (c : ChoiceValue) (at : ℕ) → (row c.op).form ≡ f → IsLabelled f
     → IsEncodable (fields_of c) → at + 4 < 2 ^ 32 → HasValue c.rd (jump_value f at)
-value_fits Branch c at e l h room =
-    no_value_fits c.rd c.rs1 c.rs2 c.imm (subst (λ f. AreOf f c.rd c.rs1 c.rs2 c.imm) e h)
-value_fits Jump c at e l h room = some_value c.rd (at + 4) room
-value_fits _ c at e l h room = absurd l
+value_fits f c at e l h room = grind arith
 
 is_jump : (f : Format) (isa : Isa) (c : ChoiceValue) (at : ℕ) → (row c.op).form ≡ f → IsLabelled f
     → IsMade isa c → at + 4 < 2 ^ 32
     → IsJump (fields_of c) c.w1 c.w2 (jump_value f at) (pointer c) (marker c)
-is_jump f isa c at e l is room =
-    let are = registers_of (fields_of c) is.sound.encodable in
-    let free = pointer_free c in
-    let mk = marked c in
-    record {
-      rd_low = are.rd;
-      rs1_low = are.rs1;
-      rs2_low = are.rs2;
-      first = is.sound.first;
-      second = is.sound.second;
-      same = is.sound.same;
-      has = value_fits f c at e l is.sound.encodable room;
-      p_some = free.some;
-      p_low = omega (arith, free.low);
-      m_some = mk.some;
-      m_low = omega (arith, mk.low);
-      p_m = mk.apart;
-      p_rd = free.rd;
-      m_rd = λ q. mk.rd (sym q);
-      m_rs1 = λ q. mk.rs1 (sym q);
-      m_rs2 = λ q. mk.rs2 (sym q);
-    }
+is_jump f isa c at e l is room = grind (arith, registers_of, pointer_free, marked, value_fits)
 
 own_imm : (c : ChoiceValue) (z z' : ℤ) → c.imm ≡ Some z → z' ≡ z
     → with_imm (unlinked c) z' ≡ fields_of c
-own_imm c z z' e same =
-    ap (λ (o : Option ℤ). record { op = c.op; rd = c.rd; rs1 = c.rs1; rs2 = c.rs2; imm = o })
-    (ap Some same ∙ sym e)
+own_imm c z z' e same = grind (arith, Option, Some)
 
 imm_word_is : (c : ChoiceValue) (z : ℤ) → c.imm ≡ Some z
     → imm_word (fields_of c) ≡ cast_unsigned w32 z
@@ -218,6 +188,4 @@ jumping (negsuc n) f setup ram0 env k c pc slot imm e l is near at sig target th
 
 pub imm_there : (f : Format) (isa : Isa) (c : ChoiceValue) → (row c.op).form ≡ f → IsLabelled f
     → IsMade isa c → c.imm ≡ Some (imm_of c)
-imm_there f isa c e l is =
-    let s = shape_by f c e l is.sound.encodable in
-    s.imm ∙ ap Some (sym (ap (λ x. unwrap_or x (pos 0)) s.imm))
+imm_there f isa c e l is = grind (arith, shape_by, Some)

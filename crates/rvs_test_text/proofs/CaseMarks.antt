@@ -1,13 +1,12 @@
 -- What the statements of a case of any kind mark, and that no name is marked twice.
-use Rattle.std.proofs.Common.{subst, ◌≡◌, ℕ, ◌+◌, ◌^◌, ◌<◌, ◌≤◌, [], true, List, ◌∷◌, ◌++◌, refl}
-use Rattle.std.proofs.Common.{ap, ◌∙◌, arith}
+use Rattle.std.proofs.Common.{◌≡◌, ℕ, ◌+◌, ◌^◌, ◌<◌, ◌≤◌, [], true, List, ◌∷◌, ◌++◌, refl}
+use Rattle.std.proofs.Common.{ap, ◌∙◌, arith, rules}
 use Rattle.std.specs.Prelude.{pos, unwrap_or}
 use Rattle.rvs_insn.specs.Memory.{Memory}
 use Rattle.rvs_insn.specs.declared.op.Format.{Format}
 use Rattle.rvs_insn.specs.declared.op.Format.TheVariants.{R, JumpReg, Store, Branch, Jump, Amo}
 use Rattle.rvs_insn.specs.declared.op.Format.TheVariants.{LoadReserved}
 use Rattle.rvs_insn.specs.declared.op.Op.{Op}
-use Rattle.rvs_insn.specs.declared.op.Op.TheVariants.{ScW}
 use Rattle.rvs_insn.specs.Isa.{Isa}
 use Rattle.rvs_insn.specs.Table.{row}
 use Rattle.rvs_insn.specs.Word.{IsEncodable}
@@ -21,7 +20,7 @@ use Rattle.rvs_test_text.specs.declared.statement.Statement.{Statement}
 use Rattle.rvs_test_text.specs.declared.statement.Statement.TheVariants.{Plain, High, Low}
 use Rattle.rvs_test_text.specs.Statements.{line_of}
 use Rattle.rvs_test_text.specs.TestText.{sw, source, pointer, marker, save, store_case, jalr_case}
-use Rattle.rvs_test_text.specs.TestText.{jump_case, unlinked, frame, case_by, choice_statements, lr}
+use Rattle.rvs_test_text.specs.TestText.{jump_case, unlinked, frame, case_by, choice_statements}
 use Rattle.rvs_test_text.specs.TestText.{reserve, atomic_case}
 use Rattle.rvs_test_text.proofs.AtomicParts.{reserve_size}
 use Rattle.rvs_test_text.proofs.AtomicRuns.{atomic_lead}
@@ -31,30 +30,21 @@ use Rattle.rvs_test_text.proofs.Tables.{Marks, AllBelow, Lacks, stage, below_joi
 use Rattle.rvs_test_text.proofs.Tables.{lacks_join}
 use Rattle.rvs_test_text.proofs.Passes.{marks, Distinct}
 use Rattle.rvs_test_text.proofs.Assembled.{text_at}
-use Rattle.rvs_test_text.proofs.PlainCases.{plain_marks, plain_distinct, source_marks}
+use Rattle.rvs_test_text.proofs.PlainCases.{plain_distinct, source_marks}
 use Rattle.rvs_test_text.proofs.PlainCases.{source_distinct}
-use Rattle.rvs_test_text.proofs.CaseParts.{IsMade, StoreRegisters, store_registers, imm_of}
+use Rattle.rvs_test_text.proofs.CaseParts.{IsMade, StoreRegisters, imm_of}
 use Rattle.rvs_test_text.proofs.CaseBytes.{store_tail, atomic_tail, atomic_rest}
 use Rattle.rvs_test_text.proofs.CaseNames.{own_by, own_marks}
 
 store_marks : (memory : Memory) (k : ℕ) (c : ChoiceValue) (a m : ℕ) → StoreRegisters c
     → marks (store_case k c) (text_at memory a m)
     ≡ (CaseName k, record { at = memory.text_base + (a + 32); in_text = true }) ∷ []
-store_marks memory k c a m r =
-    let tail = store_tail k c in
-    let here = a + 4 + 4 + 4 + 4 in
-    let x : source_size c.rs1 ≡ 8 = ap source_size r.rs1 in
-    let y : source_size c.rs2 ≡ 8 = ap source_size r.rs2 in
-    source_marks memory c.rs1 c.w1 (source c.rs2 c.w2 ++ tail) here m
-    ∙ source_marks memory c.rs2 c.w2 tail (here + source_size c.rs1) m
-    ∙ ap (λ z. (CaseName k, record { at = memory.text_base + z; in_text = true }) ∷ [])
-    (let e : here + source_size c.rs1 + source_size c.rs2 ≡ a + 32 = omega (arith, x, y) in e)
+store_marks memory k c a m r = grind (arith, store_tail, source_size, source_marks, true)
 
 reserve_marks : (memory : Memory) (op : Op) (x y : ℕ) (ss : List Statement) (a m : ℕ)
     → marks (reserve op x y ++ ss) (text_at memory a m)
     ≡ marks ss (text_at memory (a + reserve_size op) m)
-reserve_marks memory ScW x y ss a m = refl
-reserve_marks memory _ x y ss a m = ap (λ z. marks ss (text_at memory z m)) (omega arith)
+reserve_marks memory op x y ss a m = grind arith
 
 atomic_marks : (memory : Memory) (k : ℕ) (c : ChoiceValue) (a m : ℕ)
     → marks (atomic_case k c) (text_at memory a m)
@@ -80,36 +70,11 @@ atomic_marks memory k c a m =
 jump_marks : (memory : Memory) (k : ℕ) (c : ChoiceValue) (a m : ℕ)
     → marks (jump_case k c) (text_at memory a m)
     ≡ frame_marks memory (imm_of c) k (a + source_size c.rs1 + source_size c.rs2)
-jump_marks memory k c a m =
-    let tail =
-    frame (imm_of c) k (marker c) (unlinked c)
-    (save (pointer c) k (marker c) (unwrap_or c.rd 0)) in
-    source_marks memory c.rs1 c.w1 (source c.rs2 c.w2 ++ tail) a m
-    ∙ source_marks memory c.rs2 c.w2 tail (a + source_size c.rs1) m
-    ∙ frame_marks_are memory (imm_of c) k (marker c) (pointer c) (unwrap_or c.rd 0) (unlinked c)
-    (a + source_size c.rs1 + source_size c.rs2) m
+jump_marks memory k c a m = simp (imm_of, source_marks, source_size, frame_marks_are)
 
 marks_by : (memory : Memory) (f : Format) (k : ℕ) (c : ChoiceValue) (a m : ℕ) → (row c.op).form ≡ f
     → IsEncodable (fields_of c) → marks (case_by f k c) (text_at memory a m) ≡ own_by memory f k c a
-marks_by memory Store k c a m e h = store_marks memory k c a m (store_registers c e h)
-marks_by memory JumpReg k c a m e h =
-    ap
-    (λ x. (CaseName k, record { at = memory.text_base + x; in_text = true })
-    ∷ (
-      Target k,
-      record { at = memory.text_base + (a + 4 + 4 + 4 + 4 + 4 + 0 + 4 + 4); in_text = true },
-    ) ∷ [])
-    (let q : a + 4 + 4 + 4 + 4 + 4 ≡ a + 20 = omega arith in q)
-    ∙ ap
-    (λ x. (CaseName k, record { at = memory.text_base + (a + 20); in_text = true })
-    ∷ (Target k, record { at = memory.text_base + x; in_text = true }) ∷ [])
-    (let q : a + 4 + 4 + 4 + 4 + 4 + 0 + 4 + 4 ≡ a + 28 = omega arith in q)
-marks_by memory Amo k c a m e h = atomic_marks memory k c a m
-marks_by memory LoadReserved k c a m e h = atomic_marks memory k c a m
-marks_by memory Branch k c a m e h = jump_marks memory k c a m
-marks_by memory Jump k c a m e h = jump_marks memory k c a m
-marks_by memory R k c a m e h = plain_marks memory k c a m
-marks_by memory _ k c a m e h = plain_marks memory k c a m
+marks_by memory f k c a m e h = grind arith
 
 pub case_marks_is : (isa : Isa) (k : ℕ) (c : ChoiceValue) (a m : ℕ) → IsMade isa c
     → marks (choice_statements k c) (text_at isa.memory a m) ≡ own_marks isa.memory k c a
@@ -146,13 +111,7 @@ store_distinct n k c t p small below =
 
 reserve_distinct : (op : Op) (x y : ℕ) (t : Marks) (ss : List Statement) (p : Location)
     → ((q : Location) → Distinct t ss q) → Distinct t (reserve op x y ++ ss) p
-reserve_distinct ScW x y t ss p h =
-    (tt, subst (λ u. Distinct u ss (next p (line_of (Plain (lr y x))).body)) (nil t) (h _))
-  where
-    nil : (t : Marks) → t ≡ t ++ []
-    nil [] = refl
-    nil (m ∷ ms) = ap (λ l. m ∷ l) (nil ms)
-reserve_distinct _ x y t ss p h = h p
+reserve_distinct op x y t ss p h = search rules
 
 atomic_distinct : (n k : ℕ) (c : ChoiceValue) (t : Marks) (p : Location) → k < 2 ^ 32
     → AllBelow n (k + 1) t → Distinct t (atomic_case k c) p

@@ -1,30 +1,27 @@
 -- What a case of any kind runs, and what its statements make.
-use Rattle.std.proofs.Common.{◌≡◌, ℕ, ◌+◌, ◌*◌, ◌%◌, ◌^◌, ◌≤◌, Bool, [], true, List, ◌∷◌, ◌++◌}
-use Rattle.std.proofs.Common.{length, Option, Some, None, refl, ap, ◌∙◌, arith, ◌⊎◌, inl, inr}
+use Rattle.std.proofs.lemmas.Bool.Decides.{nat_tests}
+use Rattle.std.proofs.Common.{◌≡◌, ℕ, ◌+◌, ◌*◌, ◌%◌, ◌^◌, ◌≤◌, Bool, true, List, ◌++◌}
+use Rattle.std.proofs.Common.{length, Option, Some, None, arith, ◌⊎◌}
 use Rattle.std.specs.Prelude.{ℤ, pos, negsuc, unwrap_or}
 use Rattle.rvs_insn.specs.Memory.{Memory, HasRoom, text_limit}
 use Rattle.rvs_insn.specs.declared.op.Op.{Op}
-use Rattle.rvs_insn.specs.declared.op.Op.TheVariants.{Sb, Sh, Sw, Beq, ScW}
 use Rattle.rvs_insn.specs.declared.op.Format.{Format}
 use Rattle.rvs_insn.specs.declared.op.Format.TheVariants.{JumpReg, Store, Branch, Jump, Amo}
 use Rattle.rvs_insn.specs.declared.op.Format.TheVariants.{LoadReserved}
 use Rattle.rvs_insn.specs.Isa.{Isa}
 use Rattle.rvs_insn.specs.Table.{row}
-use Rattle.rvs_insn.specs.Fields.{Fields}
 use Rattle.rvs_machine.specs.Machine.{Setup}
 use Rattle.rvs_machine.proofs.Loads.{IsAligned}
 use Rattle.rvs_machine.proofs.Stores.{store_size}
-use Rattle.rvs_asm.specs.Bytes.{high, low}
 use Rattle.rvs_solver.specs.Choices.{ChoiceValue, fields_of}
 use Rattle.rvs_test_text.specs.declared.statement.Name.{Name}
-use Rattle.rvs_test_text.specs.declared.statement.Name.TheVariants.{Slot, Scratch, Pattern}
+use Rattle.rvs_test_text.specs.declared.statement.Name.TheVariants.{Slot, Scratch}
 use Rattle.rvs_test_text.specs.Sound.{access_size}
-use Rattle.rvs_test_text.specs.Statements.{lui, addi}
-use Rattle.rvs_test_text.specs.TestText.{sw, lw, source, pointer, marker, store_case, between}
+use Rattle.rvs_test_text.specs.TestText.{pointer, marker, store_case, between}
 use Rattle.rvs_test_text.specs.TestText.{reserve, atomic_case}
 use Rattle.rvs_test_text.proofs.Short.{IsShort}
 use Rattle.rvs_test_text.proofs.Cases.{Case}
-use Rattle.rvs_test_text.proofs.Shapes.{source_size, source_code}
+use Rattle.rvs_test_text.proofs.Shapes.{source_size}
 use Rattle.rvs_test_text.specs.Claim.{is_taken, filled_word}
 use Rattle.rvs_test_text.specs.declared.statement.Statement.{Statement}
 use Rattle.rvs_test_text.proofs.AtomicParts.{reserve as reserve_code, reserve_size}
@@ -32,7 +29,6 @@ use Rattle.rvs_test_text.proofs.AtomicRuns.{atomic_code}
 use Rattle.rvs_test_text.proofs.AtomicGood.{atomic_of}
 use Rattle.rvs_test_text.proofs.CaseParts.{AtomicRegisters, StoreRegisters, imm_of}
 use Rattle.rvs_test_text.proofs.CaseNames.{DataAt}
-use Rattle.rvs_test_text.proofs.CaseBytes.{atomic_tail, atomic_rest, store_tail}
 use Rattle.rvs_machine.proofs.Jumps.{is_taken as machine_taken}
 use Rattle.rvs_test_text.proofs.Frames.{forward_mark, backward_mark}
 use Rattle.rvs_test_text.proofs.JumpGood.{jump_of}
@@ -40,7 +36,7 @@ use Rattle.rvs_test_text.proofs.JalrGood.{jalr_of}
 use Rattle.rvs_test_text.proofs.StoreRuns.{scratch_after as scratch}
 use Rattle.rvs_test_text.proofs.StoreGood.{store_code, store_of}
 use Rattle.rvs_test_text.proofs.Assembled.{made_all}
-use Rattle.rvs_test_text.proofs.PlainCases.{HasPattern, source_made, case_of as plain_case_of}
+use Rattle.rvs_test_text.proofs.PlainCases.{HasPattern, case_of as plain_case_of}
 
 abbrev pub jump_case_of : ℤ → ChoiceValue → (ℕ → Option ℕ) → Bool → ℕ → ℕ → Case
 jump_case_of (pos n) c value t pc slot =
@@ -83,98 +79,32 @@ pub store_made : (memory : Memory) (env : Name → ℕ) (pc k : ℕ) (c : Choice
     → env Scratch ≡ memory.data_base
     → made_all env pc (store_case k c)
     ≡ store_code memory (fields_of c) r.a r.b c.w1 c.w2 (pointer c) (marker c) (env (Slot k))
-store_made memory env pc k c r scratch =
-    let p = pointer c in
-    let m = marker c in
-    let s = env (Slot k) in
-    let tail = store_tail k c in
-    let here = pc + 4 + 4 + 4 + 4 in
-    let pair : ℕ → List Fields = λ x. lui p (pos (high x)) ∷ addi p p (low x) ∷ [] in
-    let cp : ℕ → ℕ → List Fields =
-    λ x o. pair x ++ (lw m p (pos o) ∷ (pair s ++ (sw m p (pos o) ∷ []))) in
-    let rest : made_all env here (source c.rs1 c.w1 ++ (source c.rs2 c.w2 ++ tail))
-    ≡ source_code c.rs1 c.w1
-    ++ (source_code c.rs2 c.w2 ++ (fields_of c ∷ (cp (env Scratch) 0 ++ cp (env Scratch) 4))) =
-    source_made env here c.rs1 c.w1 (source c.rs2 c.w2 ++ tail)
-    ∙ ap (λ l. source_code c.rs1 c.w1 ++ l)
-    (source_made env (here + source_size c.rs1) c.rs2 c.w2 tail) in
-    let whole : ℕ → Option ℕ → Option ℕ → List Fields =
-    λ x a b. pair x
-    ++
-    (sw 0 p (pos 0) ∷ sw 0 p (pos 4)
-    ∷ (source_code a c.w1 ++ (source_code b c.w2 ++ (fields_of c ∷ (cp x 0 ++ cp x 4))))) in
-    ap (λ l. pair (env Scratch) ++ (sw 0 p (pos 0) ∷ sw 0 p (pos 4) ∷ l)) rest
-    ∙ ap (λ x. whole x c.rs1 c.rs2) scratch
-    ∙ ap (λ a. whole memory.data_base a c.rs2) r.rs1
-    ∙ ap (λ b. whole memory.data_base (Some r.a) b) r.rs2
+store_made memory env pc k c r scratch = grind (arith, nat_tests)
 
 reserve_made : (op : Op) (a m : ℕ) (env : Name → ℕ) (pc : ℕ) (ss : List Statement)
     → made_all env pc (reserve op a m ++ ss)
     ≡ reserve_code op a m ++ made_all env (pc + reserve_size op) ss
-reserve_made ScW a m env pc ss = refl
-reserve_made _ a m env pc ss = ap (λ x. made_all env x ss) (omega arith)
+reserve_made op a m env pc ss = grind arith
 
 pub atomic_made : (memory : Memory) (env : Name → ℕ) (pc k : ℕ) (c : ChoiceValue)
     (r : AtomicRegisters c) → DataAt memory env
     → c.w1 ≡ memory.data_base
     → made_all env pc (atomic_case k c)
     ≡ atomic_code memory (fields_of c) r.a c.w2 (pointer c) (marker c) (env (Slot k))
-atomic_made memory env pc k c r places w1 =
-    let p = pointer c in
-    let m = marker c in
-    let d = unwrap_or c.rd 0 in
-    let s = env (Slot k) in
-    let here = pc + 4 + 4 + 4 + 4 + 4 + 4 + 4 in
-    let got : ℕ → List Fields =
-    λ x. lui p (pos (high x)) ∷ addi p p (low x) ∷ lw m p (pos 0) ∷ [] in
-    let tail : ℕ → List Fields =
-    λ x. fields_of c
-    ∷ (got x
-    ++ (lui p (pos (high s)) ∷ addi p p (low s) ∷ sw d p (pos 0) ∷ sw m p (pos 4) ∷ [])) in
-    let rest : made_all env here (source c.rs1 c.w1 ++ (source c.rs2 c.w2 ++ atomic_rest k c))
-    ≡ source_code c.rs1 c.w1
-    ++
-    (source_code c.rs2 c.w2
-    ++ (reserve_code c.op (unwrap_or c.rs1 0) m ++ tail (env Scratch))) =
-    source_made env here c.rs1 c.w1 (source c.rs2 c.w2 ++ atomic_rest k c)
-    ∙ ap (λ l. source_code c.rs1 c.w1 ++ l)
-    (source_made env (here + source_size c.rs1) c.rs2 c.w2 (atomic_rest k c)
-    ∙ ap (λ l. source_code c.rs2 c.w2 ++ l)
-    (reserve_made c.op (unwrap_or c.rs1 0) m env (here + source_size c.rs1 + source_size c.rs2)
-    (atomic_tail k c))) in
-    let whole : ℕ → ℕ → ℕ → Option ℕ → List Fields =
-    λ x y w a. got y
-    ++
-    (lui p (pos (high x)) ∷ addi p p (low x) ∷ sw m p (pos 0) ∷ sw 0 p (pos 4)
-    ∷ (source_code a w
-    ++ (source_code c.rs2 c.w2 ++ (reserve_code c.op (unwrap_or a 0) m ++ tail x)))) in
-    ap
-    (λ l. got (env Pattern)
-    ++
-    (lui p (pos (high (env Scratch))) ∷ addi p p (low (env Scratch)) ∷ sw m p (pos 0)
-    ∷ sw 0 p (pos 4) ∷ l)) rest
-    ∙ ap (λ x. whole x (env Pattern) c.w1 c.rs1) places.0
-    ∙ ap (λ y. whole memory.data_base y c.w1 c.rs1) places.1
-    ∙ ap (λ w. whole memory.data_base (memory.data_base + 8) w c.rs1) w1
-    ∙ ap (λ a. whole memory.data_base (memory.data_base + 8) memory.data_base a) r.rs1
+atomic_made memory env pc k c r places w1 = grind (arith, nat_tests)
 
 pub same_access : (op : Op) → (row op).form ≡ Store → store_size op ≡ access_size op
-same_access Sb h = refl
-same_access _ h = first_of (cc, search h)
+same_access op h = grind arith
 
 aligned_there : (memory : Memory) → HasRoom memory → (op : Op) → (row op).form ≡ Store → (a : ℕ)
     → a % access_size op ≡ 0
     → (memory.data_base + a) % store_size op ≡ 0
-aligned_there memory room Sb h a e = omega (arith, room.data_page)
-aligned_there memory room Sh h a e = omega (arith, room.data_page)
-aligned_there memory room Sw h a e = omega (arith, room.data_page)
-aligned_there memory room _ h a e = cc
+aligned_there memory room op h a e = grind arith
 
 pub taken : (isa : Isa) → HasRoom isa.memory → (op : Op) → (row op).form ≡ Store → (a : ℕ)
     → (a % access_size op ≡ 0) ⊎ (isa.misaligned ≡ true)
     → IsAligned isa (store_size op) (isa.memory.data_base + a)
-taken isa room op form a (inl h) = inl (aligned_there isa.memory room op form a h)
-taken isa room op form a (inr h) = inr h
+taken isa room op form a h = grind arith
 
 -- what is asked of the place of a case of so many bytes; the halt and the loop stand behind it
 pub record IsPlaced (setup : Setup) (ram0 : List ℕ) (pc slot size : ℕ) : Type 0 where
@@ -190,5 +120,4 @@ pub record IsPlaced (setup : Setup) (ram0 : List ℕ) (pc slot size : ℕ) : Typ
 
 pub same_taken : (op : Op) → (row op).form ≡ Branch → (v1 v2 : ℕ)
     → machine_taken op v1 v2 ≡ is_taken op v1 v2
-same_taken Beq h v1 v2 = refl
-same_taken _ h v1 v2 = first_of (cc, search h)
+same_taken op h v1 v2 = grind arith

@@ -1,4 +1,5 @@
 -- A case of a cross point: its lines, their symbols, their instructions, and what it does.
+use Rattle.std.proofs.lemmas.Bool.Decides.{nat_tests}
 use Rattle.std.proofs.Common.{None, ◌≡◌, ℕ, zero, suc, ◌+◌, ◌*◌, ◌^◌, ◌<◌, ◌≤◌, true, List}
 use Rattle.std.proofs.Common.{[], ◌∷◌, ◌++◌, length, Some, refl, sym, ap, ◌∙◌, arith, subst}
 use Rattle.std.proofs.Common.{append-nil}
@@ -6,8 +7,6 @@ use Rattle.std.specs.Prelude.{pos, map}
 use Rattle.rvs_insn.specs.Memory.{Memory}
 use Rattle.rvs_insn.specs.declared.op.Op.TheVariants.{Add}
 use Rattle.rvs_insn.specs.declared.op.Format.{Format}
-use Rattle.rvs_insn.specs.declared.op.Format.TheVariants.{R, I, Shift}
-use Rattle.rvs_insn.specs.Table.{row}
 use Rattle.rvs_insn.specs.Isa.{Isa}
 use Rattle.rvs_insn.specs.Fields.{Fields}
 use Rattle.rvs_insn.proofs.RoundTrip.{round_trip}
@@ -30,9 +29,8 @@ use Rattle.rvs_test_text.proofs.KindLaws.{OwnFormat}
 use Rattle.rvs_test_text.proofs.Tables.{Marks, AllBelow, lacks_later}
 use Rattle.rvs_test_text.proofs.Passes.{AllFine, fine_join, marks, Distinct, AllLinked, IsThere}
 use Rattle.rvs_test_text.proofs.Assembled.{made_all, text_at}
-use Rattle.rvs_test_text.proofs.PlainCases.{source_made, source_distinct, source_linked}
-use Rattle.rvs_test_text.proofs.PlainCases.{source_marks}
-use Rattle.rvs_test_text.proofs.PlainCases.{source_bytes, fine_word, fine_save}
+use Rattle.rvs_test_text.proofs.PlainCases.{source_distinct, source_linked}
+use Rattle.rvs_test_text.proofs.PlainCases.{source_bytes, fine_save}
 use Rattle.rvs_test_text.proofs.Registers.{Has, has_low, admitted_low}
 use Rattle.rvs_test_text.proofs.CaseRuns.{IsPlaced}
 use Rattle.rvs_test_text.proofs.Window.{Words, entries, entry_in, words_behind, words_code}
@@ -42,33 +40,22 @@ use Rattle.rvs_test_text.proofs.CrossGood.{rd_middle, last_middle, cross_code, c
 words_bytes : (r n : ℕ) (ss : List Statement)
     → bytes_all (load_words r n ++ ss) ≡ 8 * n + bytes_all ss
 words_bytes r zero ss = omega arith
-words_bytes r (suc n) ss =
-    source_bytes (Some r) (start_word r) (load_words (r + 1) n ++ ss)
-    ∙ (let h : bytes_all (load_words (r + 1) n ++ ss) ≡ 8 * n + bytes_all ss =
-    words_bytes (r + 1) n ss in omega (arith, h))
+words_bytes r (suc n) ss = grind (arith, source_bytes, Some, (words_bytes (r + 1) n ss))
 
 plains_bytes : (is : List Fields) (ss : List Statement)
     → bytes_all (plains is ++ ss) ≡ 4 * length is + bytes_all ss
 plains_bytes [] ss = omega arith
-plains_bytes (i ∷ is) ss =
-    let h : bytes_all (plains is ++ ss) ≡ 4 * length is + bytes_all ss = plains_bytes is ss in
-    omega (arith, h)
+plains_bytes (i ∷ is) ss = grind (arith, length, (plains_bytes is ss))
 
 pub cross_bytes : (k : ℕ) (is : List Fields) → bytes_all (cross_case k is) ≡ 80 + 4 * length is
-cross_bytes k is =
-    let end = save 5 k (first_rd is) (last_rd is) in
-    let h : bytes_all (plains is ++ end) ≡ 4 * length is + 16 = plains_bytes is end in
-    words_bytes 8 8 (Label (CaseName k) ∷ (plains is ++ end)) ∙ omega (arith, h)
+cross_bytes k is = grind (arith, length, plains_bytes, words_bytes)
 
 -- ---- symbols
 words_marks : (memory : Memory) (r n : ℕ) (ss : List Statement) (a m : ℕ)
     → marks (load_words r n ++ ss) (text_at memory a m) ≡ marks ss (text_at memory (a + 8 * n) m)
 words_marks memory r zero ss a m = ap (λ x. marks ss (text_at memory x m)) (omega arith)
 words_marks memory r (suc n) ss a m =
-    source_marks memory (Some r) (start_word r) (load_words (r + 1) n ++ ss) a m
-    ∙ words_marks memory (r + 1) n ss (a + 8) m
-    ∙ ap (λ x. marks ss (text_at memory x m))
-    (let e : a + 8 + 8 * n ≡ a + 8 * suc n = omega arith in e)
+    grind (arith, nat_tests, (words_marks memory (r + 1) n ss (a + 8) m))
 
 plains_marks : (is : List Fields) (ss : List Statement) (p : Location)
     → ((q : Location) → marks ss q ≡ []) → marks (plains is ++ ss) p ≡ []
@@ -78,12 +65,7 @@ plains_marks (i ∷ is) ss p h = plains_marks is ss (next p (line_of (Plain i)).
 pub cross_marks : (memory : Memory) (k : ℕ) (is : List Fields) (a m : ℕ)
     → marks (cross_case k is) (text_at memory a m)
     ≡ (CaseName k, record { at = memory.text_base + (a + 64); in_text = true }) ∷ []
-cross_marks memory k is a m =
-    let end = save 5 k (first_rd is) (last_rd is) in
-    words_marks memory 8 8 (Label (CaseName k) ∷ (plains is ++ end)) a m
-    ∙ ap (λ l. (CaseName k, record { at = memory.text_base + (a + 64); in_text = true }) ∷ l)
-    (plains_marks is end (next (text_at memory (a + 64) m) (line_of (Label (CaseName k))).body)
-    (λ q. refl))
+cross_marks memory k is a m = grind (arith, words_marks, true, plains_marks, text_at)
 
 -- ---- no label twice
 words_distinct : (t : Marks) (r n : ℕ) (ss : List Statement) (p : Location)
@@ -116,43 +98,24 @@ cross_distinct n k is t p small below =
 -- ---- its lines can be read and assembled
 words_fine : (isa : Isa) (r n : ℕ) → r + n ≤ 16 → AllFine isa (load_words r n)
 words_fine isa r zero h = tt
-words_fine isa r (suc n) h =
-    let low : r < 16 = omega arith in
-    let w = fine_word isa (Some r) (start_word r) (has_low isa r low) in
-    (w.0, (w.1.0, words_fine isa (r + 1) n (omega arith)))
+words_fine isa r (suc n) h = grind (arith, nat_tests, (words_fine isa (r + 1) n (omega arith)))
 
 own_computing : (f : Format) → computes f ≡ true → OwnFormat f
-own_computing R h = tt
-own_computing I h = tt
-own_computing Shift h = tt
-own_computing _ h = cc
+own_computing f h = grind arith
 
 plains_fine : (isa : Isa) (is : List Fields) → AllComputing isa is → AllFine isa (plains is)
 plains_fine isa [] are = tt
-plains_fine isa (i ∷ is) are = (
-  (own_computing (row i.op).form are.0.form, are.0.encodable, are.0.admitted),
-  plains_fine isa is are.1,
-)
+plains_fine isa (i ∷ is) are = grind (arith, own_computing, (plains_fine isa is are.1))
 
 ends_low : (isa : Isa) (is : List Fields) → AllComputing isa is
     → (first_rd is < 16) × (last_rd is < 16)
 ends_low isa [] are = (omega arith, omega arith)
-ends_low isa (i ∷ is) are =
-    let a = rd_middle isa i are.0 in let b = last_middle isa i is are in
-    (omega (arith, a.high), omega (arith, b.high))
+ends_low isa (i ∷ is) are = grind (arith, rd_middle, last_middle)
 
 pub cross_fine : (isa : Isa) (k : ℕ) (is : List Fields) → k < 2 ^ 32 → IsSequence isa is
     → AllFine isa (cross_case k is)
 cross_fine isa k is small sequence =
-    let end = save 5 k (first_rd is) (last_rd is) in
-    let low = ends_low isa is sequence.all in
-    fine_join isa (load_words 8 8) (Label (CaseName k) ∷ (plains is ++ end))
-    (words_fine isa 8 8 (omega arith)) (
-      small,
-      fine_join isa (plains is) end (plains_fine isa is sequence.all)
-          (fine_save isa 5 k (first_rd is) (last_rd is) (has_low isa 5 (omega arith))
-          (has_low isa (first_rd is) low.0) (has_low isa (last_rd is) low.1) small),
-    )
+    grind (arith, nat_tests, ends_low, fine_join, words_fine, plains_fine, fine_save, has_low)
 
 -- ---- each symbol is there
 words_linked : (t : Marks) (r n : ℕ) (ss : List Statement) (p : Location)
@@ -182,29 +145,16 @@ cross_linked t k is p slot =
 words_made : (env : Name → ℕ) (pc r n : ℕ) (ss : List Statement)
     → made_all env pc (load_words r n ++ ss) ≡ words_code r n ++ made_all env (pc + 8 * n) ss
 words_made env pc r zero ss = ap (λ x. made_all env x ss) (omega arith)
-words_made env pc r (suc n) ss =
-    source_made env pc (Some r) (start_word r) (load_words (r + 1) n ++ ss)
-    ∙ ap (λ l. words_code r 1 ++ l) (words_made env (pc + 8) (r + 1) n ss)
-    ∙ ap (λ x. words_code r (suc n) ++ made_all env x ss)
-    (let e : pc + 8 + 8 * n ≡ pc + 8 * suc n = omega arith in e)
+words_made env pc r (suc n) ss = grind (arith, nat_tests, (words_made env (pc + 8) (r + 1) n ss))
 
 plains_made : (env : Name → ℕ) (pc : ℕ) (is : List Fields) (ss : List Statement)
     → made_all env pc (plains is ++ ss) ≡ is ++ made_all env (pc + 4 * length is) ss
 plains_made env pc [] ss = ap (λ x. made_all env x ss) (omega arith)
-plains_made env pc (i ∷ is) ss =
-    ap (λ l. i ∷ l)
-    (plains_made env (pc + 4) is ss
-    ∙ ap (λ x. is ++ made_all env x ss)
-    (let e : pc + 4 + 4 * length is ≡ pc + 4 * suc (length is) = omega arith in e))
+plains_made env pc (i ∷ is) ss = grind (arith, nat_tests, (plains_made env (pc + 4) is ss))
 
 cross_made : (env : Name → ℕ) (pc k : ℕ) (is : List Fields)
     → made_all env pc (cross_case k is) ≡ cross_code is (env (Slot k))
-cross_made env pc k is =
-    let end = save 5 k (first_rd is) (last_rd is) in
-    let at : pc + 8 * 8 + 0 ≡ pc + 64 = omega arith in
-    words_made env pc 8 8 (Label (CaseName k) ∷ (plains is ++ end))
-    ∙ ap (λ x. words_code 8 8 ++ made_all env x (plains is ++ end)) at
-    ∙ ap (λ l. words_code 8 8 ++ l) (plains_made env (pc + 64) is end)
+cross_made env pc k is = simp (words_made, words_code, made_all, plains_made)
 
 -- ---- what it does
 pub cross_does : (setup : Setup) (ram0 : List ℕ) (env : Name → ℕ) (k : ℕ) (i : Fields)
@@ -235,40 +185,4 @@ sample : (isa : Isa)
     → IsSequence isa
     (record { op = Add; rd = Some 8; rs1 = Some 9; rs2 = Some 10; imm = None } ∷ addi 11 8 (pos 1)
     ∷ [])
-sample isa =
-    let has : (r : ℕ) → r < 16 → Has isa r = λ r low. has_low isa r low in
-    let first : Fields =
-    record { op = Add; rd = Some 8; rs1 = Some 9; rs2 = Some 10; imm = None } in
-    let second : Fields = addi 11 8 (pos 1) in
-    record {
-      some = omega arith;
-      most = omega arith;
-      all = (
-        record {
-          encodable = (omega arith, omega arith, omega arith);
-          admitted =
-              admitted_low isa first (has 8 (omega arith)) (has 9 (omega arith))
-              (has 10 (omega arith)) refl;
-          form =
-              refl;
-          rd =
-              (omega arith, omega arith);
-          rs1 =
-              (omega arith, omega arith);
-          rs2 = (omega arith, omega arith);
-        },
-        (
-          record {
-            encodable = (omega arith, omega arith, omega arith);
-            admitted =
-                admitted_low isa second (has 11 (omega arith)) (has 8 (omega arith)) tt refl;
-            form =
-                refl;
-            rd = (omega arith, omega arith);
-            rs1 = (omega arith, omega arith);
-            rs2 = tt;
-          },
-          tt,
-        ),
-      );
-    }
+sample isa = grind (arith, Has, has_low, Some, None, admitted_low)

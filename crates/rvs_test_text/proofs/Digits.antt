@@ -1,15 +1,15 @@
 -- Printed numbers and registers are words, and are read as what they print.
 use Rattle.std.proofs.Common.{◌≡◌, ℕ, zero, suc, ◌+◌, ◌/◌, ◌%◌, ◌^◌, ◌<◌, ◌≤◌, Bool, true, false}
 use Rattle.std.proofs.Common.{cond, ◌&&◌, List, [], ◌∷◌, ◌++◌, Some, None, get_or, refl, ap, ◌∙◌}
-use Rattle.std.proofs.Common.{arith}
-use Rattle.std.specs.Prelude.{◌==◌, nat_lt, ℤ, pos, negsuc, option_and_then}
+use Rattle.std.proofs.Common.{arith, rules}
+use Rattle.std.specs.Prelude.{◌==◌, ℤ, pos, negsuc, option_and_then}
 use Rattle.std.specs.Option.{option_map, option_or}
 use Rattle.std.specs.Fmt.{decimal, signed_decimal, digits as digits_in}
 use Rattle.std.specs.Char.{digit_value, is_digit as is_digit_in}
 use Rattle.std.proofs.lemmas.Fmt.{decimal_by_steps, first_decimal}
 use Rattle.std.proofs.lemmas.Bool.Decides.{nat_tests}
 use Rattle.rvs_insn.specs.Word.{FitsBits}
-use Rattle.rvs_base.specs.Digits.{digits_of, below, number_below, natural_of}
+use Rattle.rvs_base.specs.Digits.{digits_of, below, natural_of}
 use Rattle.rvs_base.proofs.Readings.{digits_of-decimal}
 use Rattle.rvs_asm_text.specs.Numbers.{number_limit, magnitude_of, negated, number_of}
 use Rattle.rvs_asm_text.specs.Registers.{abi_of, abi_number, has_leading_zero, register_digits}
@@ -17,7 +17,7 @@ use Rattle.rvs_asm_text.specs.Registers.{register_of}
 use Rattle.rvs_test_text.specs.Statements.{register, glyph, hex5}
 use Rattle.rvs_test_text.proofs.Chars.{All, all_join, all_map, is_clean, is_plain, is_digit}
 use Rattle.rvs_test_text.proofs.Chars.{plain_clean}
-use Rattle.rvs_test_text.proofs.Chars.{plain_not, digit_plain, digit_no_x, is_a_digit, IsWord}
+use Rattle.rvs_test_text.proofs.Chars.{plain_not, digit_plain, is_a_digit, IsWord}
 
 -- digits that spell a number
 pub record Spells (n : ℕ) (ds : List ℕ) : Type 0 where
@@ -29,28 +29,18 @@ pub digit_words : (ds : List ℕ) → All is_digit ds → All is_clean ds
 digit_words ds h = all_map is_digit is_clean ds (λ c e. plain_clean c (digit_plain c e)) h
 
 extended_word : (ds : List ℕ) (c : ℕ) → IsWord ds → is_digit c ≡ true → IsWord (ds ++ c ∷ [])
-extended_word [] c w h = absurd w
-extended_word (d ∷ ds) c w h =
-    (w.0, all_join is_clean ds (c ∷ []) w.1 (plain_clean c (digit_plain c h), tt))
+extended_word ds c w h = search (rules, all_join, is_clean, plain_clean, digit_plain)
 
 record IsPrinted (n : ℕ) (ds : List ℕ) : Type 0 where
   some : IsWord ds
   digits : All is_digit ds
 
 first_digit : (n : ℕ) → n < 10 → IsPrinted n ((48 + n) ∷ [])
-first_digit n h =
-    let d = is_a_digit n h in
-    record { some = (plain_clean (48 + n) (digit_plain (48 + n) d), tt); digits = (d, tt) }
+first_digit n h = grind (arith, is_a_digit, plain_clean, digit_plain)
 
 next_digit : (n : ℕ) (ds : List ℕ) → 10 ≤ n → IsPrinted (n / 10) ds
     → IsPrinted n (ds ++ (48 + n % 10) ∷ [])
-next_digit n ds h s =
-    let low : n % 10 < 10 = omega arith in
-    let d = is_a_digit (n % 10) low in
-    record {
-      some = extended_word ds (48 + n % 10) s.some d;
-      digits = all_join is_digit ds ((48 + n % 10) ∷ []) s.digits (d, tt);
-    }
+next_digit n ds h s = grind (arith, is_a_digit, extended_word, all_join, is_digit)
 
 pub decimal_spells : (n : ℕ) → n < 2 ^ 64 → Spells n (decimal n)
 decimal_spells n h =
@@ -58,24 +48,13 @@ decimal_spells n h =
     record { value = digits_of-decimal n h; some = s.some; digits = s.digits }
 
 not_hex : (s t : Bool) → t ≡ false → (s && t) ≡ false
-not_hex true t h = h
-not_hex false t h = refl
+not_hex s t h = grind arith
 
 natural_read : (n : ℕ) (ds : List ℕ) → Spells n ds → natural_of ds ≡ Some n
-natural_read n [] s = absurd s.some
-natural_read n (c ∷ []) s =
-    ap (λ b. cond b (digits_of 16 []) (digits_of 10 (c ∷ []))) (not_hex (c == 48) false refl)
-    ∙ s.value
-natural_read n (c ∷ d ∷ cs) s =
-    ap (λ b. cond b (digits_of 16 cs) (digits_of 10 (c ∷ d ∷ cs)))
-    (not_hex (c == 48) (d == 120 && true) (no_x d (digit_no_x d s.digits.1.0))) ∙ s.value
-  where
-    no_x : (d : ℕ) → (d == 120) ≡ false → (d == 120 && true) ≡ false
-    no_x d e = rw e refl
+natural_read n ds s = grind arith
 
 is_below : (limit n : ℕ) → n < limit → below limit n ≡ Some n
-is_below limit n h =
-    let e : nat_lt n limit ≡ true = grind (arith, nat_tests) in ap (λ b. cond b (Some n) None) e
+is_below limit n h = grind (arith, true, cond, Some, None)
 
 magnitude_read : (n : ℕ) (text : List ℕ) → n < 2 ^ 63 → natural_of text ≡ Some n
     → magnitude_of text ≡ Some n
@@ -84,15 +63,10 @@ magnitude_read n text h e = ap (option_and_then (below number_limit)) e ∙ is_b
 -- a number without a sign
 unsigned_read : (n c : ℕ) (cs : List ℕ) → n < 2 ^ 63 → (c == 45) ≡ false
     → natural_of (c ∷ cs) ≡ Some n → number_of (c ∷ cs) ≡ Some (pos n)
-unsigned_read n c cs h plain e =
-    ap (λ b. cond b (option_map negated (magnitude_of cs)) (option_map pos (magnitude_of (c ∷ cs))))
-    plain ∙ ap (option_map pos) (magnitude_read n (c ∷ cs) h e)
+unsigned_read n c cs h plain e = grind (arith, cond, magnitude_read)
 
 plain_read : (n : ℕ) (ds : List ℕ) → n < 2 ^ 63 → Spells n ds → number_of ds ≡ Some (pos n)
-plain_read n [] h s = absurd s.some
-plain_read n (c ∷ cs) h s =
-    unsigned_read n c cs h (plain_not c (digit_plain c s.digits.0)).minus
-    (natural_read n (c ∷ cs) s)
+plain_read n ds h s = search rules
 
 -- a text without brackets
 abbrev pub NoOpen : List ℕ → Type 0
@@ -130,14 +104,11 @@ negative_number m h =
     }
 
 pub signed_number : (z : ℤ) → FitsBits 12 z → IsNumber z (signed_decimal z)
-signed_number (pos n) f = decimal_number n (omega arith)
-signed_number (negsuc m) f = negative_number m (omega arith)
+signed_number z f = search (rules, decimal_number, negative_number)
 
 -- ---- registers
 leading_zero : (ds : List ℕ) → 48 < get_or ds 0 0 → has_leading_zero ds ≡ false
-leading_zero [] h = refl
-leading_zero (c ∷ []) h = refl
-leading_zero (c ∷ d ∷ ds) h = grind (arith, nat_tests)
+leading_zero ds h = grind arith
 
 one_zero : has_leading_zero (decimal 0) ≡ false
 unfolding digits_in
@@ -145,13 +116,10 @@ one_zero = refl
 
 no_zero : (r : ℕ) → r < 32 → has_leading_zero (decimal r) ≡ false
 no_zero zero h = one_zero
-no_zero (suc r) h =
-    leading_zero (decimal (suc r)) (first_decimal (suc r) (omega arith) (omega arith))
+no_zero (suc r) h = grind (arith, leading_zero, suc, first_decimal)
 
 digits_read : (r : ℕ) → r < 32 → register_digits (decimal r) ≡ Some r
-digits_read r h =
-    ap (λ b. cond b None (number_below 32 10 (decimal r))) (no_zero r h)
-    ∙ ap (option_and_then (below 32)) (digits_of-decimal r (omega arith)) ∙ is_below 32 r h
+digits_read r h = grind (arith, cond, None, no_zero, digits_of-decimal, is_below)
 
 -- a printed register is read as it, and is a word
 pub record IsRegisterText (r : ℕ) (text : List ℕ) : Type 0 where

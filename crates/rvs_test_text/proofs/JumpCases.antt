@@ -1,9 +1,8 @@
 -- The lines of a case with a jump frame.
-use Rattle.std.proofs.Common.{◌≡◌, ℕ, zero, suc, ◌+◌, ◌*◌, ◌%◌, ◌^◌, ◌<◌, ◌≤◌, true, List}
-use Rattle.std.proofs.Common.{◌∷◌, Some, refl, sym, ap, ◌∙◌, arith, subst}
-use Rattle.std.proofs.lemmas.Int.{ints}
+use Rattle.std.proofs.Common.{◌≡◌, ℕ, suc, ◌+◌, ◌*◌, ◌%◌, ◌^◌, ◌<◌, ◌≤◌, true, List}
+use Rattle.std.proofs.Common.{◌∷◌, Some, sym, arith, subst}
 use Rattle.std.proofs.lemmas.Bool.Decides.{nat_tests}
-use Rattle.std.specs.Prelude.{ℤ, pos, negsuc, ◌-ℤ◌}
+use Rattle.std.specs.Prelude.{ℤ, pos, negsuc}
 use Rattle.rvs_insn.specs.Memory.{Memory}
 use Rattle.rvs_insn.specs.declared.op.Format.{Format}
 use Rattle.rvs_insn.specs.declared.op.Format.TheVariants.{Branch, Jump}
@@ -15,30 +14,25 @@ use Rattle.rvs_insn.specs.Names.{is_admitted}
 use Rattle.rvs_asm_text.specs.Instructions.{in_field}
 use Rattle.rvs_asm.specs.declared.mark.Mark.{Mark}
 use Rattle.rvs_asm.specs.declared.location.Location.{Location}
-use Rattle.rvs_asm.specs.Locations.{next}
 use Rattle.rvs_asm.specs.Bytes.{distance}
-use Rattle.rvs_test_text.specs.declared.statement.Name.{Name}
 use Rattle.rvs_test_text.specs.declared.statement.Name.TheVariants.{Case as CaseName, Target, Done}
 use Rattle.rvs_test_text.specs.declared.statement.Name.TheVariants.{Slot}
 use Rattle.rvs_test_text.specs.declared.statement.Statement.{Statement}
-use Rattle.rvs_test_text.specs.declared.statement.Statement.TheVariants.{Label, Plain, To}
+use Rattle.rvs_test_text.specs.declared.statement.Statement.TheVariants.{Label, To}
 use Rattle.rvs_test_text.specs.Sound.{IsNearby}
-use Rattle.rvs_test_text.specs.Statements.{line_of, addi}
 use Rattle.rvs_test_text.specs.TestText.{jal, save, between, filler, skip, back_body, frame}
-use Rattle.rvs_test_text.proofs.WordLaws.{IsSmall}
 use Rattle.rvs_test_text.proofs.KindLaws.{LinkedFormat}
 use Rattle.rvs_test_text.proofs.Tables.{Marks, find_name}
-use Rattle.rvs_test_text.proofs.Passes.{IsFine, AllFine, fine_join}
-use Rattle.rvs_test_text.proofs.Passes.{after, AllLinked, linked_join}
+use Rattle.rvs_test_text.proofs.Passes.{AllFine}
+use Rattle.rvs_test_text.proofs.Passes.{AllLinked, linked_join}
 use Rattle.rvs_test_text.proofs.Passes.{IsThere, IsNear}
 use Rattle.rvs_test_text.proofs.Assembled.{text_at}
-use Rattle.rvs_test_text.proofs.Registers.{Has, has_zero, has_addi, has_jal}
+use Rattle.rvs_test_text.proofs.Registers.{Has}
 use Rattle.rvs_test_text.proofs.JumpNames.{back_after}
 
 -- ---- fine lines
 filler_fine : (isa : Isa) (n : ℕ) → n < 2 ^ 32 → AllFine isa (filler n)
-filler_fine isa zero h = tt
-filler_fine isa (suc n) h = (h, tt)
+filler_fine isa n h = grind arith
 
 pub record IsLinkable (isa : Isa) (j : Fields) : Type 0 where
   pub form : LinkedFormat (row j.op).form
@@ -49,57 +43,7 @@ pub record IsLinkable (isa : Isa) (j : Fields) : Type 0 where
 pub frame_fine : (z : ℤ) (isa : Isa) (k m : ℕ) (j : Fields) (rest : List Statement) → Has isa m
     → k < 2 ^ 32 → IsLinkable isa j → IsNearby z → AllFine isa rest
     → AllFine isa (frame z k m j rest)
-frame_fine (pos n) isa k m j rest hm small is near hr =
-    let x0 = has_zero isa in
-    let z1 : 1 < 2 ^ 11 = omega arith in
-    let b : between (pos n) < 2 ^ 32 = omega (arith, near.most) in (
-      (tt, (hm.low, x0.low, z1), has_addi isa m 0 (pos 1) hm x0),
-      (
-        small,
-        (
-          (is.form, is.imm, is.encodable, is.admitted, small),
-          fine_join isa (skip m (between (pos n))) (Label (Target k) ∷ rest)
-              (skips m (between (pos n)) hm b) (small, hr),
-        ),
-      ),
-    )
-  where
-    skips : (m q : ℕ) → Has isa m → q < 2 ^ 32 → AllFine isa (skip m q)
-    skips m zero hm b = tt
-    skips m (suc q) hm b =
-        let z2 : 2 < 2 ^ 11 = omega arith in (
-          (tt, (hm.low, hm.low, z2), has_addi isa m m (pos 2) hm hm),
-          filler_fine isa q (omega arith),
-        )
-frame_fine (negsuc n) isa k m j rest hm small is near hr =
-    let x0 = has_zero isa in
-    let z1 : 1 < 2 ^ 11 = omega arith in
-    let b : between (negsuc n) < 2 ^ 32 = omega (arith, near.most) in (
-      (tt, (hm.low, x0.low, z1), has_addi isa m 0 (pos 1) hm x0),
-      (
-        jump (CaseName k) small,
-        (
-          small,
-          fine_join isa (back_body k m (between (negsuc n)))
-              (Label (CaseName k) ∷ To j (Target k) ∷ Label (Done k) ∷ rest)
-              (backs m (between (negsuc n)) hm b)
-              (small, ((is.form, is.imm, is.encodable, is.admitted, small), (small, hr))),
-        ),
-      ),
-    )
-  where
-    jump : (x : Name) → IsSmall x → IsFine isa (To (jal 0) x)
-    jump x h =
-        let a : 0 < 32 = omega arith in let w : 0 < 2 ^ 20 = omega arith in
-        (tt, refl, (a, (w, refl)), has_jal isa 0 (has_zero isa), h)
-
-    backs : (m q : ℕ) → Has isa m → q < 2 ^ 32 → AllFine isa (back_body k m q)
-    backs m zero hm b = (jump (Done k) small, tt)
-    backs m (suc q) hm b =
-        let z2 : 2 < 2 ^ 11 = omega arith in (
-          (tt, (hm.low, hm.low, z2), has_addi isa m m (pos 2) hm hm),
-          (jump (Done k) small, filler_fine isa q (omega arith)),
-        )
+frame_fine z isa k m j rest hm small is near hr = grind arith
 
 -- ---- linked lines
 -- formats with a label
@@ -110,40 +54,17 @@ IsLabelled _ = ⊥
 
 near_forward : (f : Format) (a b d : ℕ) → IsLabelled f → a ≡ b + d → d ≤ 4000 → d % 2 ≡ 0
     → in_field f (distance a b) ≡ true
-near_forward Branch a b d l e h w =
-    let z : pos a -ℤ pos b ≡ pos d = grind (arith, ints) in ap (in_field Branch) z ∙ fits d h w
-  where
-    fits : (d : ℕ) → d ≤ 4000 → d % 2 ≡ 0 → in_field Branch (pos d) ≡ true
-    fits d h w = grind (arith, nat_tests)
-near_forward Jump a b d l e h w =
-    let z : pos a -ℤ pos b ≡ pos d = grind (arith, ints) in ap (in_field Jump) z ∙ fits d h w
-  where
-    fits : (d : ℕ) → d ≤ 4000 → d % 2 ≡ 0 → in_field Jump (pos d) ≡ true
-    fits d h w = grind (arith, nat_tests)
-near_forward _ a b d l e h w = absurd l
+near_forward f a b d l e h w = grind arith
 
 near_back : (f : Format) (a b d : ℕ) → IsLabelled f → b ≡ a + suc d → d < 4000 → d % 2 ≡ 1
     → in_field f (distance a b) ≡ true
-near_back Branch a b d l e h w =
-    let z : pos a -ℤ pos b ≡ negsuc d = grind (arith, ints) in ap (in_field Branch) z ∙ fits d h w
-  where
-    fits : (d : ℕ) → d < 4000 → d % 2 ≡ 1 → in_field Branch (negsuc d) ≡ true
-    fits d h w = grind (arith, nat_tests)
-near_back Jump a b d l e h w =
-    let z : pos a -ℤ pos b ≡ negsuc d = grind (arith, ints) in ap (in_field Jump) z ∙ fits d h w
-  where
-    fits : (d : ℕ) → d < 4000 → d % 2 ≡ 1 → in_field Jump (negsuc d) ≡ true
-    fits d h w = grind (arith, nat_tests)
-near_back _ a b d l e h w = absurd l
+near_back f a b d l e h w = grind arith
 
 filler_linked : (t : Marks) (n : ℕ) (p : Location) → AllLinked t (filler n) p
-filler_linked t zero p = tt
-filler_linked t (suc n) p = (tt, tt)
+filler_linked t n p = grind arith
 
 skip_linked : (t : Marks) (m q : ℕ) (p : Location) → AllLinked t (skip m q) p
-skip_linked t m zero p = tt
-skip_linked t m (suc n) p =
-    (tt, filler_linked t n (next p (line_of (Plain (addi m m (pos 2)))).body))
+skip_linked t m q p = grind arith
 
 abbrev pub mark_at : Memory → ℕ → Mark
 mark_at memory x = record { at = memory.text_base + x; in_text = true }
@@ -165,65 +86,13 @@ back_linked : (memory : Memory) (t : Marks) (k m q a r done : ℕ) → k < 2 ^ 3
     → q ≤ 512
     → find_name t (Done k) ≡ Some (mark_at memory done)
     → AllLinked t (back_body k m q) (text_at memory a r)
-back_linked memory t k m zero a r done small e most there = (
-  record {
-    mark = mark_at memory done;
-    there = there;
-    small = small;
-    near =
-        near_forward Jump (memory.text_base + done) (memory.text_base + a) 8 tt (omega (arith, e))
-        (omega arith)
-        refl;
-  },
-  tt,
-)
-back_linked memory t k m (suc n) a r done small e most there = (
-  tt,
-  (
-    record {
-      mark = mark_at memory done;
-      there = there;
-      small = small;
-      near =
-          near_forward Jump (memory.text_base + done) (memory.text_base + (a + 4)) (8 + 4 * n) tt
-          (omega (arith, e))
-          (omega arith) (omega arith);
-    },
-    filler_linked t n (text_at memory (a + 4 + 4) r),
-  ),
-)
+back_linked memory t k m q a r done small e most there = grind arith
 
 pub frame_linked : (memory : Memory) (z : ℤ) (t : Marks) (k m p d : ℕ) (j : Fields) (s r : ℕ)
     → k < 2 ^ 32
     → IsLabelled (row j.op).form → IsNearby z → FrameThere memory z t k s → IsThere t (Slot k)
     → AllLinked t (frame z k m j (save p k m d)) (text_at memory s r)
-frame_linked memory (pos n) t k m p d j s r small l near there slot =
-    let q = between (pos n) in
-    let rest = save p k m d in
-    let p3 = text_at memory (s + 4 + 0 + 4) r in
-    let jump : IsNear t (memory.text_base + (s + 4 + 0)) j (Target k) =
-    record {
-      mark = mark_at memory (s + 8 + 4 * q);
-      there = there;
-      small = small;
-      near =
-          near_forward (row j.op).form (memory.text_base + (s + 8 + 4 * q))
-          (memory.text_base + (s + 4 + 0))
-          (4 + 4 * q) l (omega arith) (omega (arith, near.most)) (omega arith);
-    } in (
-      tt,
-      (
-        tt,
-        (
-          jump,
-          linked_join t (skip m q) (Label (Target k) ∷ rest) p3 (skip_linked t m q p3) (
-            tt,
-            save_linked t p k m d (next (after (skip m q) p3) (line_of (Label (Target k))).body)
-                slot,
-          ),
-        ),
-      ),
-    )
+frame_linked memory (pos n) t k m p d j s r small l near there slot = grind (arith, nat_tests)
 frame_linked memory (negsuc n) t k m p d j s r small l near there slot =
     let q = between (negsuc n) in
     let rest = save p k m d in

@@ -1,19 +1,15 @@
 -- A test text, assembled and run.
 use Rattle.std.proofs.Common.{◌≡◌, ℕ, zero, suc, ◌+◌, ◌*◌, ◌/◌, ◌%◌, ◌^◌, ◌<◌, ◌≤◌, true, false}
 use Rattle.std.proofs.Common.{cond, List, [], ◌∷◌, ◌++◌, length, Some, None, refl, sym, ap, ◌∙◌}
-use Rattle.std.proofs.Common.{arith, append-nil, subst}
+use Rattle.std.proofs.Common.{arith, append-nil}
 use Rattle.std.proofs.lemmas.Bool.Decides.{nat_tests}
-use Rattle.std.specs.Prelude.{◌&&◌, nat_le, pos, map, codes, unwrap_or, option_and_then}
-use Rattle.std.specs.Option.{option_or}
+use Rattle.std.specs.Prelude.{◌&&◌, nat_le, map, codes, option_and_then}
 use Rattle.std.specs.List.{list_all}
 use Rattle.std.specs.Fmt.{decimal}
 use Rattle.std.proofs.lemmas.Fmt.{decimal_by_steps}
-use Rattle.rvs_insn.specs.Memory.{Memory, text_limit, data_limit}
-use Rattle.rvs_insn.specs.declared.op.Format.{Format}
-use Rattle.rvs_insn.specs.declared.op.Format.TheVariants.{Branch, Jump}
+use Rattle.rvs_insn.specs.Memory.{Memory, text_limit}
 use Rattle.rvs_insn.specs.Isa.{Isa}
 use Rattle.rvs_cgf.specs.Limits.{most_points}
-use Rattle.rvs_insn.specs.Table.{row}
 use Rattle.rvs_insn.proofs.Regions.{regions_end}
 use Rattle.rvs_asm_text.specs.Text.{lines_of, is_text_byte}
 use Rattle.rvs_base.specs.Digits.{digits_of}
@@ -23,22 +19,17 @@ use Rattle.rvs_asm.specs.Symbols.{Table, find_mark}
 use Rattle.rvs_asm.specs.Locations.{Reading, readings, start, labels}
 use Rattle.rvs_asm.specs.Bytes.{section}
 use Rattle.rvs_asm.specs.Faults.{first_fault, second_fault, first_missing, needed, is_missing}
-use Rattle.rvs_asm.specs.Faults.{at_line}
-use Rattle.rvs_asm.specs.Answer.{text_readings, image_of, parts_of, Assembles}
-use Rattle.rvs_asm.specs.Symbols.{address_of}
-use Rattle.rvs_solver.specs.Choices.{ChoiceValue}
+use Rattle.rvs_asm.specs.Answer.{text_readings, image_of, Assembles}
 use Rattle.rvs_solver.specs.declared.solved.Solved.{Solved}
 use Rattle.rvs_solver.specs.declared.solved.Solved.TheVariants.{One, Many}
 use Rattle.rvs_test_text.specs.declared.statement.Name.TheVariants.{ToHost, BeginSignature}
 use Rattle.rvs_test_text.specs.declared.statement.Name.TheVariants.{EndSignature}
-use Rattle.rvs_test_text.specs.Sound.{Accesses}
 use Rattle.rvs_test_text.specs.Statements.{printed}
-use Rattle.rvs_test_text.specs.TestText.{last_register, Point, header, claim_lines, test_text}
+use Rattle.rvs_test_text.specs.TestText.{last_register, Point, header, test_text}
 use Rattle.rvs_test_text.specs.TestText.{code_part, bytes_all}
 use Rattle.rvs_test_text.specs.TestText.{step_limit}
-use Rattle.rvs_test_text.specs.TestText.{all_steps, jump_steps}
-use Rattle.rvs_test_text.specs.Claim.{AreReady, ArePrintable, IsTest, TestsRun}
-use Rattle.rvs_test_text.proofs.Data.{line_room}
+use Rattle.rvs_test_text.specs.TestText.{all_steps}
+use Rattle.rvs_test_text.specs.Claim.{AreReady, ArePrintable, TestsRun}
 use Rattle.rvs_test_text.proofs.Chars.{tested}
 use Rattle.rvs_test_text.proofs.Tables.{named, find_name, found}
 use Rattle.rvs_test_text.proofs.Passes.{also, read_as, labelled, first_free, second_free}
@@ -62,13 +53,7 @@ blank_first : (isa : Isa) (n : ℕ) (ts : List (List ℕ)) (rs : List Reading)
     → ((k : ℕ) → first_fault isa [] (start isa.memory) k rs ≡ None)
     → first_fault isa [] (start isa.memory) n (blanks ts ++ rs) ≡ None
 blank_first isa n [] rs h = h n
-blank_first isa n (t ∷ ts) rs h =
-    let text : 0 ≤ text_limit isa.memory = omega arith in
-    let ram : 0 ≤ data_limit isa.memory = omega arith in
-    ap (λ k. option_or (at_line n k) (first_fault isa [] (start isa.memory) (n + 1)
-    (blanks ts ++ rs)))
-    (line_room isa.memory 0 0 text ram)
-    ∙ blank_first isa (n + 1) ts rs h
+blank_first isa n (t ∷ ts) rs h = grind (arith, nat_tests, (blank_first isa (n + 1) ts rs h))
 
 blank_second : (memory : Memory) (tbl : Table) (n : ℕ) (ts : List (List ℕ)) (rs : List Reading)
     → ((k : ℕ) → second_fault tbl (start memory) k rs ≡ None)
@@ -89,18 +74,12 @@ blank_ram memory env (t ∷ ts) rs = blank_ram memory env ts rs
 -- ---- the image of a list of read lines
 image_blank : (memory : Memory) (tbl : Table) (ts : List (List ℕ)) (rs : List Reading)
     → image_of memory tbl (blanks ts ++ rs) ≡ image_of memory tbl rs
-image_blank memory tbl ts rs =
-    ap (λ x. parts_of memory tbl x (section false (address_of tbl) (blanks ts ++ rs)
-    (start memory)))
-    (blank_text memory (address_of tbl) ts rs)
-    ∙ ap (parts_of memory tbl (section true (address_of tbl) rs (start memory)))
-    (blank_ram memory (address_of tbl) ts rs)
+image_blank memory tbl ts rs = simp (false, blanks, blank_text, true, blank_ram)
 
 -- ---- what is asked of the choices
 points_fine : (ps : List Point) → ArePrintable ps → ArePoints ps
 points_fine [] h = tt
-points_fine (p ∷ ps) h =
-    ((tested is_text_byte p.kind h.0, tested is_text_byte p.key h.1), points_fine ps h.2)
+points_fine (p ∷ ps) h = grind (arith, tested, (points_fine ps h.2))
 
 -- ---- the steps of the header
 -- so many digits for numbers so large
@@ -116,8 +95,7 @@ pub record IsShort (n : ℕ) (ds : List ℕ) : Type 0 where
 one_more : (ds : List ℕ) (c k : ℕ) → length ds ≤ k → length (ds ++ c ∷ []) ≤ k + 1
 one_more [] c k h = omega arith
 one_more (d ∷ ds) c zero h = absurd (omega arith)
-one_more (d ∷ ds) c (suc k) h =
-    let g : length (ds ++ c ∷ []) ≤ k + 1 = one_more ds c k (omega arith) in omega arith
+one_more (d ∷ ds) c (suc k) h = grind (arith, length, (one_more ds c k (omega arith)))
 
 short : (n : ℕ) → n < 2 ^ 64 → IsShort n (decimal n)
 short n h = decimal_by_steps IsShort first next n h
@@ -158,27 +136,16 @@ number_read n low high =
 
 header_first : (label : List ℕ) (isa : Isa) (n : ℕ) (ps : List Point) (ls : List (List ℕ)) → 1 ≤ n
     → n ≤ 2000000 → first_steps (header label isa n ps ++ ls) ≡ Some n
-header_first label isa n ps ls low high =
-    ap (λ o. option_or o (first_steps (claim_lines 0 ps ++ ls))) (number_read n low high)
+header_first label isa n ps ls low high = simp number_read
 
 -- ---- all of it
 cleared : (isa : Isa) → AreCleared isa (last_register isa)
-cleared isa = record {
-  low = last_low isa.e;
-  few = λ e. subst (λ b. cond b 15 31 ≤ 15) (sym e) (omega arith);
-}
+cleared isa = grind (arith, last_low, cond)
 
 pub steps_high : (isa : Isa) (cs : List Solved) → AreReady isa cs → all_steps cs ≤ 544 * length cs
 steps_high isa [] h = omega arith
 steps_high isa (Many is ∷ cs) h = omega (arith, steps_high isa cs h.1)
-steps_high isa (One c ∷ cs) h =
-    omega (arith, one (row c.op).form c h.0.0.memory, steps_high isa cs h.1)
-  where
-    one : (f : Format) (c : ChoiceValue) → Accesses isa c f
-        → jump_steps f (unwrap_or c.imm (pos 0)) ≤ 544
-    one Branch c a = omega (arith, a.most)
-    one Jump c a = omega (arith, a.most)
-    one _ c a = omega arith
+steps_high isa (One c ∷ cs) h = grind (arith, (steps_high isa cs h.1))
 
 -- the text is cut into the lines of its header and of its statements, whether there is room for it
 -- or not

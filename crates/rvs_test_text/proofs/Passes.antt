@@ -1,11 +1,10 @@
 -- Printed statements in the two passes of the assembler: places, symbols and no fault.
-use Rattle.std.proofs.Common.{◌≡◌, ℕ, ◌+◌, ◌/◌, ◌%◌, ◌^◌, ◌-◌, ◌<◌, ◌≤◌, Bool, true, []}
+use Rattle.std.proofs.Common.{◌≡◌, ℕ, ◌+◌, ◌/◌, ◌^◌, ◌<◌, Bool, true, []}
 use Rattle.std.proofs.Common.{false, cond, List, ◌∷◌, ◌++◌, Option, Some, None}
 use Rattle.std.proofs.Common.{Ok, refl, sym, ap, ◌∙◌, arith, subst, append_assoc, append-nil}
-use Rattle.std.specs.Prelude.{ℤ, pos, negsuc, map}
+use Rattle.std.specs.Prelude.{ℤ, pos, map}
 use Rattle.std.specs.Option.{option_or}
-use Rattle.std.proofs.Common.{⊎_elim}
-use Rattle.std.proofs.lemmas.Int.{ints}
+use Rattle.std.proofs.Common.{rules}
 use Rattle.std.proofs.lemmas.Nat.{mod_below}
 use Rattle.std.proofs.lemmas.Bool.{cases_lt}
 use Rattle.std.proofs.lemmas.Bool.Decides.{nat_tests}
@@ -13,7 +12,7 @@ use Rattle.rvs_base.specs.Digits.{digits_of}
 use Rattle.rvs_insn.specs.declared.op.Format.TheVariants.{I, Upper}
 use Rattle.rvs_insn.specs.Isa.{Isa}
 use Rattle.rvs_insn.specs.Table.{row}
-use Rattle.rvs_insn.specs.Fields.{Fields, signed}
+use Rattle.rvs_insn.specs.Fields.{Fields}
 use Rattle.rvs_insn.specs.Word.{AreOf, FitsBits, IsEncodable}
 use Rattle.rvs_insn.specs.Names.{is_admitted}
 use Rattle.rvs_asm_text.specs.declared.bodies.Line.{Line}
@@ -22,7 +21,7 @@ use Rattle.rvs_asm_text.specs.Lines.{read_line}
 use Rattle.rvs_asm.specs.declared.mark.Mark.{Mark}
 use Rattle.rvs_asm.specs.declared.location.Location.{Location}
 use Rattle.rvs_asm.specs.declared.refusal.AsmKind.TheVariants.{DoubleSymbol, OutOfRange}
-use Rattle.rvs_asm.specs.Locations.{Reading, readings, body_of, goes_on, next, address}
+use Rattle.rvs_asm.specs.Locations.{Reading, readings, goes_on, next, address}
 use Rattle.rvs_asm.specs.Locations.{location_after}
 use Rattle.rvs_asm.specs.Locations.{own_label, labels}
 use Rattle.rvs_asm.specs.Bytes.{high, low, distance}
@@ -61,21 +60,11 @@ none {b} = record { reads = λ us. refl }
 
 pub cons : {b b' : Bool} {t : List ℕ} {ts : List (List ℕ)} {l : Line} {rs : List Reading}
     → read_line b t ≡ Ok l → Reads (goes_on b l.body) ts rs b' → Reads b (t ∷ ts) (Ok l ∷ rs) b'
-cons {b} {b'} {t} {ts} {l} {rs} p q =
-    record {
-      reads =
-          λ us. ap (λ x. x ∷ readings (goes_on b (body_of x)) (ts ++ us)) p
-          ∙ ap (λ x. Ok l ∷ x) (q.reads us);
-    }
+cons {b} {b'} {t} {ts} {l} {rs} p q = grind (arith, Ok)
 
 pub also : {b c d : Bool} {ts us : List (List ℕ)} {rs qs : List Reading} → Reads b ts rs c
     → Reads c us qs d → Reads b (ts ++ us) (rs ++ qs) d
-also {b} {c} {d} {ts} {us} {rs} {qs} p q =
-    record {
-      reads =
-          λ vs. ap (readings b) (append_assoc ts us vs) ∙ p.reads (us ++ vs)
-          ∙ ap (λ x. rs ++ x) (q.reads vs) ∙ sym (append_assoc rs qs (readings d vs));
-    }
+also {b} {c} {d} {ts} {us} {rs} {qs} p q = grind (arith, append_assoc)
 
 -- ---- statements of the text section
 abbrev pub IsFine : Isa → Statement → Type 0
@@ -100,8 +89,7 @@ fine_join isa (x ∷ xs) ys a b = (a.0, fine_join isa xs ys a.1 b)
 
 pub fine_read : (isa : Isa) (s : Statement) → IsFine isa s
     → read_line true (printed s) ≡ Ok (line_of s)
-fine_read isa (Label n) h =
-    let is = name_is n h in label_read true (name_of n) is.word is.is_symbol_text
+fine_read isa (Label n) h = grind (arith, name_is, label_read, true)
 fine_read isa (Plain i) h = plain_line i h.0 h.1
 fine_read isa (High r n) h = high_line r (name_of n) h.0 (name_is n h.1)
 fine_read isa (Low r n) h = low_line r (name_of n) h.0 (name_is n h.1)
@@ -117,16 +105,12 @@ fine_read isa (Nops n) h = nops_line n h
 fine_read isa (FixedLine f) h = absurd h
 
 pub fine_goes_on : (isa : Isa) (s : Statement) → IsFine isa s → goes_on true (line_of s).body ≡ true
-fine_goes_on isa (FixedLine f) h = absurd h
-fine_goes_on isa _ h = refl
+fine_goes_on isa s h = grind arith
 
 pub all_read : (isa : Isa) (ss : List Statement) → AllFine isa ss
     → Reads true (map printed ss) (read_as ss) true
 all_read isa [] h = none
-all_read isa (s ∷ ss) h =
-    cons (fine_read isa s h.0)
-    (subst (λ b. Reads b (map printed ss) (read_as ss) true) (sym (fine_goes_on isa s h.0))
-    (all_read isa ss h.1))
+all_read isa (s ∷ ss) h = grind (arith, cons, fine_read, true, fine_goes_on, (all_read isa ss h.1))
 
 -- ---- places, wherever the lines begin
 abbrev pub after : List Statement → Location → Location
@@ -142,8 +126,7 @@ marks (s ∷ ss) p = own_marks p s ++ marks ss (next p (line_of s).body)
 
 own_labelled : (p : Location) (s : Statement)
     → own_label (line_of s).label p ≡ named (own_marks p s)
-own_labelled p (Label n) = refl
-own_labelled p _ = refl
+own_labelled p s = grind arith
 
 pub labelled : (ss : List Statement) (p : Location) → labels (read_as ss) p ≡ named (marks ss p)
 labelled [] p = refl
@@ -197,12 +180,10 @@ stands_join isa (x ∷ xs) ys p a b = (a.0, stands_join isa xs ys (next p (line_
 
 not_double : (t : Marks) (s : Statement) → AllSmall t → OwnDistinct t s
     → is_double (named t) (line_of s).label ≡ false
-not_double t (Label n) hs h = lacks_mark t n h.0 hs h.1
-not_double t _ hs h = refl
+not_double t s hs h = search (rules, lacks_mark)
 
 own_small : (t : Marks) (p : Location) (s : Statement) → OwnDistinct t s → AllSmall (own_marks p s)
-own_small t p (Label n) h = (h.0, tt)
-own_small t p _ h = tt
+own_small t p s h = grind arith
 
 pub first_free : (isa : Isa) (t : Marks) (p : Location) (n : ℕ) (ss : List Statement) → AllSmall t
     → Distinct t ss p → Stands isa ss p → first_fault isa (named t) p n (read_as ss) ≡ None
@@ -227,8 +208,7 @@ pub marks_small : (t : Marks) (ss : List Statement) (p : Location) → Distinct 
     → AllSmall (marks ss p)
 marks_small t [] p d = tt
 marks_small t (s ∷ ss) p d =
-    small_join (own_marks p s) (marks ss (next p (line_of s).body)) (own_small t p s d.0)
-    (marks_small (t ++ own_marks p s) ss (next p (line_of s).body) d.1)
+    grind (arith, nat_tests, (marks_small (t ++ own_marks p s) ss (next p (line_of s).body) d.1))
 
 -- ---- no fault in the second pass
 -- the symbols that a statement names are there, and near enough
@@ -257,16 +237,7 @@ linked_join t [] ys p a b = b
 linked_join t (x ∷ xs) ys p a b = (a.0, linked_join t xs ys (next p (line_of x).body) a.1 b)
 
 low_number : (a : ℕ) → FitsBits 12 (low a)
-low_number a = signed_fits (a % 2 ^ 12) (omega arith)
-  where
-    signed_fits : (x : ℕ) → x < 2 ^ 12 → FitsBits 12 (signed 12 x)
-    signed_fits x h =
-        ⊎_elim
-        (λ (l : x < 2048). let e : signed 12 x ≡ pos x = grind (arith, ints) in
-        subst (FitsBits 12) (sym e) l)
-        (λ (g : 2048 ≤ x). let e : signed 12 x ≡ negsuc (4095 - x) = grind (arith, ints) in
-        subst (FitsBits 12) (sym e) (let b : 4095 - x < 2 ^ 11 = omega arith in b))
-        (cases_lt x 2048)
+low_number a = grind (arith, cases_lt)
 
 pub low_fits : (a : ℕ) → FitsBits 12 (low a)
 low_fits a = low_number a
@@ -278,8 +249,7 @@ high_field : (h : ℕ) → h < 2 ^ 20 → in_field Upper (pos h) ≡ true
 high_field h low = grind (arith, nat_tests)
 
 low_field : (z : ℤ) → FitsBits 12 z → in_field I z ≡ true
-low_field (pos n) h = grind (arith, nat_tests)
-low_field (negsuc n) h = grind (arith, nat_tests)
+low_field z h = grind arith
 
 statement_linked : (t : Marks) (pc : ℕ) (s : Statement) → AllSmall t → Linked t pc s
     → symbol_fault (named t) pc (line_of s).body ≡ None

@@ -1,11 +1,11 @@
 -- A written statement is read as its word and operands.
 use Rattle.std.proofs.Common.{◌≡◌, ◌≢◌, ℕ, Bool, true, false, cond, List, [], ◌∷◌, ◌++◌, Some, None}
-use Rattle.std.proofs.Common.{Ok, Err, refl, sym, ap, ◌∙◌, append-nil}
+use Rattle.std.proofs.Common.{Ok, Err, refl, sym, ap, ◌∙◌, append-nil, arith, rules}
 use Rattle.std.specs.Prelude.{◌==◌}
 use Rattle.std.specs.List.{list_all}
 use Rattle.rvs_asm_text.specs.declared.bodies.LineFault.TheVariants.{BadLine}
 use Rattle.rvs_asm_text.specs.declared.bodies.Body.TheVariants.{Nothing}
-use Rattle.rvs_base.specs.Lines.{before, after, onto_first}
+use Rattle.rvs_base.specs.Lines.{before, after}
 use Rattle.rvs_asm_text.specs.Text.{is_blank, is_text_byte, drop_blanks, keep_end, trim_end, trim}
 use Rattle.rvs_asm_text.specs.Text.{first_word, after_word, parts, trim_all, operands, statement}
 use Rattle.rvs_asm_text.specs.Text.{labelled, tokens}
@@ -30,8 +30,7 @@ none_clean (x ∷ xs) p = let d = differs x p.0 in (d.hash, d.colon, d.text, non
 none_joined : (t : List ℕ) (ts : List (List ℕ)) → IsWord t → AreWords ts → HasNone (joined t ts)
 none_joined t [] h hs = none_clean t (clean_word t h)
 none_joined t (u ∷ us) h hs =
-    none_join t (44 ∷ 32 ∷ joined u us) (none_clean t (clean_word t h))
-    (refl, refl, refl, (refl, refl, refl, none_joined u us hs.0 hs.1))
+    grind (arith, none_join, none_clean, clean_word, (none_joined u us hs.0 hs.1))
 
 no_hash : (xs : List ℕ) → HasNone xs → before 35 xs ≡ xs
 no_hash [] p = refl
@@ -50,8 +49,7 @@ abbrev EndsWell : List ℕ → Type 0
 EndsWell xs = (trim_end xs ≡ xs) × (xs ≢ [])
 
 keep_more : (c : ℕ) (xs : List ℕ) → xs ≢ [] → keep_end c xs ≡ c ∷ xs
-keep_more c [] ne = absurd (ne refl)
-keep_more c (x ∷ xs) ne = refl
+keep_more c xs ne = grind arith
 
 not_empty : (c : ℕ) (xs : List ℕ) → (c ∷ xs) ≢ []
 not_empty c xs e = cc
@@ -73,9 +71,7 @@ ends_word (c ∷ d ∷ ds) h = ends_more c (d ∷ ds) (ends_word (d ∷ ds) h.1)
 
 ends_joined : (t : List ℕ) (ts : List (List ℕ)) → IsWord t → AreWords ts → EndsWell (joined t ts)
 ends_joined t [] h hs = ends_word t h
-ends_joined t (u ∷ us) h hs =
-    ends_join t (44 ∷ 32 ∷ joined u us)
-    (ends_more 44 (32 ∷ joined u us) (ends_more 32 (joined u us) (ends_joined u us hs.0 hs.1)))
+ends_joined t (u ∷ us) h hs = grind (arith, ends_join, ends_more, (ends_joined u us hs.0 hs.1))
 
 -- the first word of a text
 word_read : (w rest : List ℕ) → All is_clean w → first_word (w ++ 32 ∷ rest) ≡ w
@@ -87,9 +83,7 @@ word_left [] rest h = refl
 word_left (c ∷ cs) rest h = rw ((differs c h.0).blank, word_left cs rest h.1) refl
 
 starts_word : (t rest : List ℕ) → IsWord t → drop_blanks (t ++ rest) ≡ t ++ rest
-starts_word [] rest h = absurd h
-starts_word (c ∷ cs) rest h =
-    ap (λ b. cond b (drop_blanks (cs ++ rest)) (c ∷ (cs ++ rest))) (differs c h.0).blank
+starts_word t rest h = grind arith
 
 starts_joined : (t : List ℕ) (ts : List (List ℕ)) → IsWord t
     → drop_blanks (joined t ts) ≡ joined t ts
@@ -106,58 +100,25 @@ part_first [] rest h = refl
 part_first (c ∷ cs) rest h = rw ((differs c h.0).comma, part_first cs rest h.1) refl
 
 pub trim_word : (t : List ℕ) → IsWord t → trim t ≡ t
-trim_word t h =
-    ap trim_end (ap drop_blanks (sym (append-nil t)) ∙ starts_word t [] h ∙ append-nil t)
-    ∙ (ends_word t h).0
+trim_word t h = grind (arith, append-nil, starts_word, ends_word)
 
 -- a blank before the text goes to its first part
 blank_first : (t : List ℕ) (ts : List (List ℕ)) → IsWord t → AreWords ts
     → trim_all (parts (32 ∷ joined t ts)) ≡ t ∷ ts
-blank_first t [] h hs =
-    ap (λ p. trim_all (onto_first 32 p)) (part_alone t (clean_word t h))
-    ∙ ap (λ x. x ∷ []) (trim_word t h)
+blank_first t [] h hs = grind (arith, part_alone, clean_word, trim_word)
 blank_first t (u ∷ us) h hs =
-    ap (λ p. trim_all (onto_first 32 p)) (part_first t (32 ∷ joined u us) (clean_word t h))
-    ∙ ap (λ x. x ∷ trim_all (parts (32 ∷ joined u us))) (trim_word t h)
-    ∙ ap (λ x. t ∷ x) (blank_first u us hs.0 hs.1)
+    grind (arith, part_first, clean_word, trim_word, (blank_first u us hs.0 hs.1))
 
 parts_read : (t : List ℕ) (ts : List (List ℕ)) → IsWord t → AreWords ts
     → trim_all (parts (joined t ts)) ≡ t ∷ ts
-parts_read t [] h hs =
-    ap trim_all (part_alone t (clean_word t h)) ∙ ap (λ x. x ∷ []) (trim_word t h)
-parts_read t (u ∷ us) h hs =
-    ap trim_all (part_first t (32 ∷ joined u us) (clean_word t h))
-    ∙ ap (λ x. x ∷ trim_all (parts (32 ∷ joined u us))) (trim_word t h)
-    ∙ ap (λ x. t ∷ x) (blank_first u us hs.0 hs.1)
+parts_read t ts h hs = search (rules, part_alone, clean_word, trim_word, part_first, blank_first)
 
 operands_are : (xs : List ℕ) → xs ≢ [] → operands xs ≡ trim_all (parts xs)
-operands_are [] ne = absurd (ne refl)
-operands_are (x ∷ xs) ne = refl
+operands_are xs ne = grind arith
 
 pub written_none : (word t : List ℕ) (ts : List (List ℕ)) → IsWord word → IsWord t → AreWords ts
     → HasNone (written word (t ∷ ts))
-written_none word t ts hw h hs = (
-  refl,
-  refl,
-  refl,
-  (
-    refl,
-    refl,
-    refl,
-    (
-      refl,
-      refl,
-      refl,
-      (
-        refl,
-        refl,
-        refl,
-        none_join word (32 ∷ joined t ts) (none_clean word (clean_word word hw))
-            (refl, refl, refl, none_joined t ts h hs),
-      ),
-    ),
-  ),
-)
+written_none word t ts hw h hs = grind (arith, none_join, none_clean, clean_word, none_joined)
 
 -- A written statement is cut into its word and operands, without a label.
 written_tokens : (word t : List ℕ) (ts : List (List ℕ)) → IsWord word → IsWord t → AreWords ts
@@ -203,21 +164,15 @@ label_text s = s ++ 58 ∷ []
 
 hash_free : (s : List ℕ) → All is_clean s → before 35 (label_text s) ≡ label_text s
 hash_free [] h = refl
-hash_free (c ∷ cs) h =
-    ap (λ b. cond b [] (c ∷ before 35 (label_text cs))) (differs c h.0).hash
-    ∙ ap (λ x. c ∷ x) (hash_free cs h.1)
+hash_free (c ∷ cs) h = grind (arith, cond, differs, (hash_free cs h.1))
 
 before_read : (s : List ℕ) → All is_clean s → before 58 (label_text s) ≡ s
 before_read [] h = refl
-before_read (c ∷ cs) h =
-    ap (λ b. cond b [] (c ∷ before 58 (label_text cs))) (differs c h.0).colon
-    ∙ ap (λ x. c ∷ x) (before_read cs h.1)
+before_read (c ∷ cs) h = grind (arith, cond, differs, (before_read cs h.1))
 
 after_read : (s : List ℕ) → All is_clean s → after 58 (label_text s) ≡ Some []
 after_read [] h = refl
-after_read (c ∷ cs) h =
-    ap (λ b. cond b (Some (label_text cs)) (after 58 (label_text cs))) (differs c h.0).colon
-    ∙ after_read cs h.1
+after_read (c ∷ cs) h = grind (arith, cond, Some, differs, (after_read cs h.1))
 
 pub label_bytes : (s : List ℕ) → All is_clean s → list_all is_text_byte (label_text s) ≡ true
 label_bytes [] h = refl

@@ -1,14 +1,11 @@
 -- The registers that a core has, and that a test's own instructions over them are of that core.
-use Rattle.std.proofs.Common.{◌≡◌, ℕ, ◌<◌, Bool, true, false, Option, Some, None, refl, ap, ◌∙◌}
+use Rattle.std.proofs.Common.{◌≡◌, ℕ, ◌<◌, Bool, true, Option, Some, None, refl}
 use Rattle.std.proofs.Common.{◌≤◌, arith}
 use Rattle.std.proofs.lemmas.Bool.Decides.{nat_tests}
 use Rattle.std.specs.Prelude.{nat_lt, ◌&&◌, ◌||◌, not, ℤ, unwrap_or}
 use Rattle.rvs_insn.specs.declared.op.Op.{Op}
 use Rattle.rvs_insn.specs.declared.op.Op.TheVariants.{ScW}
 use Rattle.rvs_insn.specs.declared.op.Format.{Format}
-use Rattle.rvs_insn.specs.declared.op.Format.TheVariants.{R, I, Shift, Load, JumpReg, Store, Branch}
-use Rattle.rvs_insn.specs.declared.op.Format.TheVariants.{Upper, Jump, Fence, System, Amo}
-use Rattle.rvs_insn.specs.declared.op.Format.TheVariants.{LoadReserved}
 use Rattle.rvs_insn.specs.Isa.{Isa}
 use Rattle.rvs_insn.specs.Table.{row}
 use Rattle.rvs_insn.specs.Fields.{Fields, IsRegister}
@@ -35,8 +32,7 @@ pub has_zero : (isa : Isa) → Has isa 0
 has_zero isa = has_low isa 0 (omega arith)
 
 pub has_or_zero : (isa : Isa) (r : Option ℕ) → HasField isa r → Has isa (unwrap_or r 0)
-has_or_zero isa None h = has_zero isa
-has_or_zero isa (Some r) h = h
+has_or_zero isa r h = grind arith
 
 -- ---- what such registers are to the test of what a core admits
 abbrev are_low : Option ℕ → Option ℕ → Option ℕ → Bool
@@ -46,34 +42,21 @@ abbrev IsLowIn : Bool → Option ℕ → Type 0
 IsLowIn e r = e ≡ true → is_low_register r ≡ true
 
 field_low : (isa : Isa) (r : Option ℕ) → HasField isa r → IsLowIn isa.e r
-field_low isa None h e = refl
-field_low isa (Some r) h e = test r (h.few e)
-  where
-    test : (r : ℕ) → r < 16 → nat_lt r 16 ≡ true
-    test r h = grind (arith, nat_tests)
+field_low isa r h = grind arith
 
 all_low : (e : Bool) (rd rs1 rs2 : Option ℕ) → IsLowIn e rd → IsLowIn e rs1 → IsLowIn e rs2
     → (not e || are_low rd rs1 rs2) ≡ true
-all_low false rd rs1 rs2 d a b = refl
-all_low true rd rs1 rs2 d a b =
-    ap (λ x. x && is_low_register rs1 && is_low_register rs2) (d refl)
-    ∙ ap (λ x. x && is_low_register rs2) (a refl) ∙ b refl
+all_low e rd rs1 rs2 d a b = grind arith
 
 -- an instruction of a mnemonic that the core has
 pub admitted_op : (isa : Isa) (i : Fields) → HasField isa i.rd → HasField isa i.rs1
     → HasField isa i.rs2 → is_admitted_op isa i.op ≡ true → is_admitted isa i ≡ true
-admitted_op isa i d a b h =
-    ap (λ x. x && (not isa.e || are_low i.rd i.rs1 i.rs2)) h
-    ∙ all_low isa.e i.rd i.rs1 i.rs2 (field_low isa i.rd d) (field_low isa i.rs1 a)
-    (field_low isa i.rs2 b)
+admitted_op isa i d a b h = grind (arith, all_low, field_low)
 
 -- each core has what is of no extension
 pub admitted_low : (isa : Isa) (i : Fields) → HasField isa i.rd → HasField isa i.rs1
     → HasField isa i.rs2 → (not (is_m i.op) && not (is_a i.op)) ≡ true → is_admitted isa i ≡ true
-admitted_low isa i d a b h =
-    let n = both (not (is_m i.op)) (not (is_a i.op)) h in
-    admitted_op isa i d a b
-    (ap (λ x. (x || isa.m) && (not (is_a i.op) || isa.a)) n.0 ∙ ap (λ x. x || isa.a) n.1)
+admitted_low isa i d a b h = grind (arith, both, admitted_op)
 
 pub has_lui : (isa : Isa) (r : ℕ) (z : ℤ) → Has isa r → is_admitted isa (lui r z) ≡ true
 has_lui isa r z h = admitted_low isa (lui r z) h tt tt refl
@@ -106,20 +89,7 @@ pub record AreRegisters (i : Fields) : Type 0 where
 
 by_format : (f : Format) (op : Op) (rd rs1 rs2 : Option ℕ) (imm : Option ℤ) → AreOf f rd rs1 rs2 imm
     → AreRegisters (record { op = op; rd = rd; rs1 = rs1; rs2 = rs2; imm = imm })
-by_format R op (Some d) (Some a) (Some b) None h = record { rd = h.0; rs1 = h.1; rs2 = h.2 }
-by_format I op (Some d) (Some a) None (Some z) h = record { rd = h.0; rs1 = h.1; rs2 = tt }
-by_format Shift op (Some d) (Some a) None (Some z) h = record { rd = h.0; rs1 = h.1; rs2 = tt }
-by_format Load op (Some d) (Some a) None (Some z) h = record { rd = h.0; rs1 = h.1; rs2 = tt }
-by_format JumpReg op (Some d) (Some a) None (Some z) h = record { rd = h.0; rs1 = h.1; rs2 = tt }
-by_format Store op None (Some a) (Some b) (Some z) h = record { rd = tt; rs1 = h.0; rs2 = h.1 }
-by_format Branch op None (Some a) (Some b) (Some z) h = record { rd = tt; rs1 = h.0; rs2 = h.1 }
-by_format Amo op (Some d) (Some a) (Some b) None h = record { rd = h.0; rs1 = h.1; rs2 = h.2 }
-by_format LoadReserved op (Some d) (Some a) None None h = record { rd = h.0; rs1 = h.1; rs2 = tt }
-by_format Upper op (Some d) None None (Some z) h = record { rd = h.0; rs1 = tt; rs2 = tt }
-by_format Jump op (Some d) None None (Some z) h = record { rd = h.0; rs1 = tt; rs2 = tt }
-by_format Fence op None None None None h = record { rd = tt; rs1 = tt; rs2 = tt }
-by_format System op None None None None h = record { rd = tt; rs1 = tt; rs2 = tt }
-by_format _ op _ _ _ _ h = absurd h
+by_format f op rd rs1 rs2 imm h = grind arith
 
 pub registers_of : (i : Fields) → IsEncodable i → AreRegisters i
 registers_of i h = by_format (row i.op).form i.op i.rd i.rs1 i.rs2 i.imm h
@@ -134,28 +104,14 @@ low_of : (r : ℕ) → nat_lt r 16 ≡ true → r < 16
 low_of r h = grind (arith, nat_tests)
 
 has_field : (isa : Isa) (r : Option ℕ) → IsRegister r → IsLowIn isa.e r → HasField isa r
-has_field isa None h low = tt
-has_field isa (Some r) h low = record { low = h; few = λ e. low_of r (low e) }
+has_field isa r h low = grind arith
 
 are_low_in : (e : Bool) (rd rs1 rs2 : Option ℕ) → (not e || are_low rd rs1 rs2) ≡ true
     → IsLowIn e rd × IsLowIn e rs1 × IsLowIn e rs2
-are_low_in false rd rs1 rs2 h = (λ e. cc, λ e. cc, λ e. cc)
-are_low_in true rd rs1 rs2 h =
-    let b = both (is_low_register rd && is_low_register rs1) (is_low_register rs2) h in
-    let c = both (is_low_register rd) (is_low_register rs1) b.0 in
-    (λ e. c.0, λ e. c.1, λ e. b.1)
+are_low_in e rd rs1 rs2 h = grind arith
 
 pub has_all : (isa : Isa) (i : Fields) → IsEncodable i → is_admitted isa i ≡ true → HasAll isa i
-has_all isa i encodable admitted =
-    let are = registers_of i encodable in
-    let low =
-    (both (is_admitted_op isa i.op) (not isa.e || are_low i.rd i.rs1 i.rs2) admitted).1 in
-    let each = are_low_in isa.e i.rd i.rs1 i.rs2 low in
-    record {
-      rd = has_field isa i.rd are.rd each.0;
-      rs1 = has_field isa i.rs1 are.rs1 each.1;
-      rs2 = has_field isa i.rs2 are.rs2 each.2;
-    }
+has_all isa i encodable admitted = grind (arith, registers_of, both, are_low_in, has_field)
 
 -- ---- the registers that are cleared at the start: those from x1 up to x31, or to x15
 pub record AreCleared (isa : Isa) (n : ℕ) : Type 0 where
@@ -163,5 +119,4 @@ pub record AreCleared (isa : Isa) (n : ℕ) : Type 0 where
   pub few : isa.e ≡ true → n ≤ 15
 
 pub has_cleared : (isa : Isa) (n r : ℕ) → AreCleared isa n → r ≤ n → Has isa r
-has_cleared isa n r is h =
-    record { low = omega (arith, is.low); few = λ e. omega (arith, is.few e) }
+has_cleared isa n r is h = grind arith

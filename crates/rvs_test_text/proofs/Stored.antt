@@ -1,7 +1,7 @@
 -- What a stored word reads as, and what it leaves alone.
-use Rattle.std.proofs.Common.{◌≡◌, ◌≢◌, ℕ, zero, suc, ◌+◌, ◌*◌, ◌/◌, ◌%◌, ◌^◌, ◌<◌, ◌≤◌, List}
-use Rattle.std.proofs.Common.{length, refl, sym, ap, ◌∙◌, arith, ◌⊎◌, inl, inr, get_or-set_same}
-use Rattle.std.proofs.Common.{get_or-set_other, length-set}
+use Rattle.std.proofs.Common.{◌≡◌, ◌≢◌, ℕ, zero, suc, ◌+◌, ◌/◌, ◌%◌, ◌^◌, ◌<◌, ◌≤◌, List}
+use Rattle.std.proofs.Common.{length, refl, ◌∙◌, arith, ◌⊎◌, inl, inr, get_or-set_same}
+use Rattle.std.proofs.Common.{get_or-set_other, length-set, rules}
 use Rattle.std.specs.Prelude.{slice_index, slice_set}
 use Rattle.rvs_machine.specs.Machine.{word_at, store_bytes}
 use Rattle.rvs_test_text.proofs.Cases.{Leaves}
@@ -9,8 +9,7 @@ use Rattle.rvs_test_text.proofs.Cases.{Leaves}
 pub store_length : (n at v : ℕ) (ram : List ℕ) → length (store_bytes n ram at v) ≡ length ram
 store_length zero at v ram = refl
 store_length (suc n) at v ram =
-    store_length n (at + 1) (v / 2 ^ 8) (slice_set ram at (v % 2 ^ 8))
-    ∙ length-set ram at (v % 2 ^ 8)
+    simp (length-set, (store_length n (at + 1) (v / 2 ^ 8) (slice_set ram at (v % 2 ^ 8))))
 
 pub stored_other : (n at v i : ℕ) (ram : List ℕ) → (i < at) ⊎ (at + n ≤ i)
     → slice_index (store_bytes n ram at v) i ≡ slice_index ram i
@@ -27,38 +26,12 @@ stored_other (suc n) at v i ram out =
 
 stored_first : (n at v : ℕ) (ram : List ℕ) → at < length ram
     → slice_index (store_bytes (suc n) ram at v) at ≡ v % 2 ^ 8
-stored_first n at v ram h =
-    stored_other n (at + 1) (v / 2 ^ 8) at (slice_set ram at (v % 2 ^ 8)) (inl (omega arith))
-    ∙ get_or-set_same ram at (v % 2 ^ 8) 0 h
+stored_first n at v ram h = grind (arith, stored_other, inl, get_or-set_same)
 
 -- a stored word reads as it is
 pub stored_word : (at v : ℕ) (ram : List ℕ) → at + 4 ≤ length ram → v < 2 ^ 32
     → word_at (store_bytes 4 ram at v) at ≡ v
-stored_word at v ram room low =
-    let ram1 = slice_set ram at (v % 2 ^ 8) in
-    let ram2 = slice_set ram1 (at + 1) (v / 2 ^ 8 % 2 ^ 8) in
-    let ram3 = slice_set ram2 (at + 1 + 1) (v / 2 ^ 8 / 2 ^ 8 % 2 ^ 8) in
-    let l1 : length ram1 ≡ length ram = length-set ram at _ in
-    let l2 : length ram2 ≡ length ram1 = length-set ram1 (at + 1) _ in
-    let l3 : length ram3 ≡ length ram2 = length-set ram2 (at + 1 + 1) _ in
-    let e2 : at + 1 + 1 ≡ at + 2 = omega arith in
-    let e3 : at + 1 + 1 + 1 ≡ at + 3 = omega arith in
-    let out = store_bytes 4 ram at v in
-    let a : slice_index out at ≡ v % 2 ^ 8 = stored_first 3 at v ram (omega arith) in
-    let b : slice_index out (at + 1) ≡ v / 2 ^ 8 % 2 ^ 8 =
-    stored_first 2 (at + 1) (v / 2 ^ 8) ram1 (omega arith) in
-    let c : slice_index out (at + 2) ≡ v / 2 ^ 8 / 2 ^ 8 % 2 ^ 8 =
-    ap (slice_index out) (sym e2)
-    ∙ stored_first 1 (at + 1 + 1) (v / 2 ^ 8 / 2 ^ 8) ram2 (omega arith) in
-    let d : slice_index out (at + 3) ≡ v / 2 ^ 8 / 2 ^ 8 / 2 ^ 8 % 2 ^ 8 =
-    ap (slice_index out) (sym e3)
-    ∙ stored_first 0 (at + 1 + 1 + 1) (v / 2 ^ 8 / 2 ^ 8 / 2 ^ 8) ram3 (omega arith) in
-    rw (a, b, c, d) (whole v low)
-  where
-    whole : (v : ℕ) → v < 2 ^ 32
-        → v % 2 ^ 8 + v / 2 ^ 8 % 2 ^ 8 * 2 ^ 8 + v / 2 ^ 8 / 2 ^ 8 % 2 ^ 8 * 2 ^ 16 + v / 2 ^ 8 / 2
-        ^ 8 / 2 ^ 8 % 2 ^ 8 * 2 ^ 24 ≡ v
-    whole v h = omega arith
+stored_word at v ram room low = search (rules, length, length-set, stored_first)
 
 -- two words of a slot
 pub leaves_two : (slot v w : ℕ) (ram : List ℕ) → slot + 8 ≤ length ram → v < 2 ^ 32 → w < 2 ^ 32

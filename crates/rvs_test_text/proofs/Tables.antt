@@ -1,6 +1,6 @@
 -- What the names of a test text mark.
 use Rattle.std.proofs.Common.{◌≡◌, ℕ, ◌+◌, ◌^◌, ◌<◌, ◌≤◌, Bool, true, false, cond, List, [], ◌∷◌}
-use Rattle.std.proofs.Common.{◌++◌, Option, Some, None, refl, ap, ◌∙◌, arith, ⊎_elim}
+use Rattle.std.proofs.Common.{◌++◌, Option, Some, None, refl, ap, ◌∙◌, arith, rules}
 use Rattle.std.specs.Prelude.{◌==◌, is_some}
 use Rattle.std.specs.Option.{option_or}
 use Rattle.std.specs.Fmt.{decimal}
@@ -35,37 +35,16 @@ same_name EndSignature EndSignature = true
 same_name _ _ = false
 
 not_true : (t : Bool) → (t ≡ true → ⊥) → t ≡ false
-not_true true h = absurd (h refl)
-not_true false h = refl
+not_true t h = grind arith
 
 same_decimal : (j k : ℕ) → j < 2 ^ 32 → k < 2 ^ 32 → bytes_eq (decimal j) (decimal k) ≡ (j == k)
 same_decimal j k hj hk =
-    ⊎_elim
-    (λ (e : j ≡ k). (bytes_eq-Decides (decimal j) (decimal k)).1 (ap decimal e)
-    ∙ (let t : true ≡ (j == k) = grind (arith, nat_tests) in t))
-    (λ (ne : j ≡ k → ⊥).
-    not_true (bytes_eq (decimal j) (decimal k))
-    (λ t. ne
-    (decimal_injective j k (omega arith) (omega arith)
-    ((bytes_eq-Decides (decimal j) (decimal k)).0 t)))
-    ∙ (let t : false ≡ (j == k) = grind (arith, nat_tests) in t))
-    (cases_eq j k)
+    grind (arith, bytes_eq-Decides, true, not_true, decimal_injective, false, cases_eq)
 
 -- names are told apart by their texts
 pub same_bytes : (a b : Name) → IsSmall a → IsSmall b
     → bytes_eq (name_of a) (name_of b) ≡ same_name a b
-same_bytes (Case j) (Case k) ha hb = same_decimal j k ha hb
-same_bytes (Target j) (Target k) ha hb = same_decimal j k ha hb
-same_bytes (Done j) (Done k) ha hb = same_decimal j k ha hb
-same_bytes (Slot j) (Slot k) ha hb = same_decimal j k ha hb
-same_bytes Start Start ha hb = refl
-same_bytes Halt Halt ha hb = refl
-same_bytes Scratch Scratch ha hb = refl
-same_bytes Pattern Pattern ha hb = refl
-same_bytes ToHost ToHost ha hb = refl
-same_bytes BeginSignature BeginSignature ha hb = refl
-same_bytes EndSignature EndSignature ha hb = refl
-same_bytes _ _ ha hb = refl
+same_bytes a b ha hb = search (rules, same_decimal)
 
 -- ---- marks
 abbrev pub Marks : Type 0
@@ -86,9 +65,7 @@ AllSmall (m ∷ ms) = IsSmall m.0 × AllSmall ms
 pub found : (ms : Marks) (n : Name) → IsSmall n → AllSmall ms
     → find_mark (named ms) (name_of n) ≡ find_name ms n
 found [] n h hs = refl
-found (m ∷ ms) n h hs =
-    ap (λ b. cond b (Some m.1) (find_mark (named ms) (name_of n))) (same_bytes n m.0 h hs.0)
-    ∙ ap (λ o. cond (same_name n m.0) (Some m.1) o) (found ms n h hs.1)
+found (m ∷ ms) n h hs = grind (arith, cond, Some, same_bytes, (found ms n h hs.1))
 
 pub named_join : (xs ys : Marks) → named (xs ++ ys) ≡ named xs ++ named ys
 named_join [] ys = refl
@@ -100,15 +77,12 @@ small_join (x ∷ xs) ys a b = (a.0, small_join xs ys a.1 b)
 
 or_cond : (t : Bool) (m : Mark) (a b : Option Mark)
     → cond t (Some m) (option_or a b) ≡ option_or (cond t (Some m) a) b
-or_cond true m a b = refl
-or_cond false m a b = refl
+or_cond t m a b = grind arith
 
 pub find_join : (xs ys : Marks) (n : Name)
     → find_name (xs ++ ys) n ≡ option_or (find_name xs n) (find_name ys n)
 find_join [] ys n = refl
-find_join (x ∷ xs) ys n =
-    ap (λ o. cond (same_name n x.0) (Some x.1) o) (find_join xs ys n)
-    ∙ or_cond (same_name n x.0) x.1 (find_name xs n) (find_name ys n)
+find_join (x ∷ xs) ys n = grind (arith, cond, Some, or_cond, (find_join xs ys n))
 
 -- a table without a name
 abbrev pub Lacks : Marks → Name → Type 0
@@ -150,18 +124,7 @@ same_number : (j k : ℕ) → (j == k) ≡ true → j ≡ k
 same_number j k h = grind (arith, nat_tests)
 
 same_stage : (n : ℕ) (a b : Name) → same_name a b ≡ true → stage n a ≡ stage n b
-same_stage n (Case j) (Case k) h = ap (λ x. 1 + x) (same_number j k h)
-same_stage n (Target j) (Target k) h = ap (λ x. 1 + x) (same_number j k h)
-same_stage n (Done j) (Done k) h = ap (λ x. 1 + x) (same_number j k h)
-same_stage n (Slot j) (Slot k) h = ap (λ x. n + 6 + x) (same_number j k h)
-same_stage n Start Start h = refl
-same_stage n Halt Halt h = refl
-same_stage n Scratch Scratch h = refl
-same_stage n Pattern Pattern h = refl
-same_stage n ToHost ToHost h = refl
-same_stage n BeginSignature BeginSignature h = refl
-same_stage n EndSignature EndSignature h = refl
-same_stage n _ _ h = first_of (cc, search h)
+same_stage n a b h = grind arith
 
 abbrev pub AllBelow : ℕ → ℕ → Marks → Type 0
 AllBelow n limit [] = Unit {0}
@@ -182,7 +145,4 @@ pub lacks_later : (n limit : ℕ) (ms : Marks) (name : Name) → limit ≤ stage
     → AllBelow n limit ms → Lacks ms name
 lacks_later n limit [] name h a = refl
 lacks_later n limit (m ∷ ms) name h a =
-    let other : same_name name m.0 ≡ false =
-    not_true (same_name name m.0)
-    (λ t. let e = same_stage n name m.0 t in omega (arith, e, a.0)) in
-    ap (λ b. cond b (Some m.1) (find_name ms name)) other ∙ lacks_later n limit ms name h a.1
+    grind (arith, false, not_true, same_stage, cond, Some, (lacks_later n limit ms name h a.1))

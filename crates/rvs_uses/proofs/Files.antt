@@ -16,8 +16,8 @@ use Rattle.rvs_isa.specs.Check.{checked}
 use Rattle.rvs_isa.specs.declared.accepted_spec.AcceptedSpec.{AcceptedSpec}
 use Rattle.rvs_isa.specs.declared.refusal.IsaRefusal.{IsaRefusal}
 use Rattle.rvs_suite.specs.Says.{Says}
-use Rattle.rvs_suite.specs.Specification.{isa_limit, yaml_text, isa_text, checked_end, tree_end}
-use Rattle.rvs_suite.specs.Specification.{bytes_said, said_in}
+use Rattle.rvs_inputs.specs.Specification.{isa_limit, yaml_text, isa_text, checked_end, tree_end}
+use Rattle.rvs_inputs.specs.Specification.{bytes_said, said_in}
 use Rattle.rvs_suite.proofs.Meanings.{whole-of}
 use Rattle.rvs_uses.specs.Limits.{PassesLimit}
 use Rattle.rvs_uses.specs.Says.{IsRefused}

@@ -1,6 +1,5 @@
 -- What a caller of `generate` gets for each point that a choice hits.
-use Rattle.std.proofs.Common.{◌≡◌, ◌≤◌, ℕ, List, map, Some, sym, ap, subst}
-use Rattle.std.proofs.Common.{◌∙◌, slice_get}
+use Rattle.std.proofs.Common.{◌≡◌, ◌≤◌, ℕ, List, map, Some, sym, ap, subst, ◌∙◌, slice_get}
 use Rattle.std.proofs.lemmas.List.Elements.{All-contains}
 use Rattle.rvs_base.specs.Host.{Files}
 use Rattle.rvs_insn.specs.Isa.{Isa}
@@ -8,7 +7,7 @@ use Rattle.rvs_cgf.specs.Groups.{Label, Point}
 use Rattle.rvs_log.specs.Logs.{as_entry}
 use Rattle.rvs_count.specs.Counting.{count}
 use Rattle.rvs_solver.specs.Solving.{IsSolvableAt}
-use Rattle.rvs_suite.specs.Tests.{run_on}
+use Rattle.rvs_generate.specs.Tests.{run_on}
 use Rattle.rvs_suite.specs.Headline.{IsKept, HasProvedTest}
 use Rattle.rvs_uses.specs.Laws.{MakesTests}
 use Rattle.rvs_uses.specs.Testing.{HitsPoint}

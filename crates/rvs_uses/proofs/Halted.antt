@@ -1,6 +1,6 @@
 -- What holds of each run that `reference` tells of.
 use Rattle.std.proofs.Common.{arith}
-use Rattle.rvs_suite.specs.TestRun.{limit_of}
+use Rattle.rvs_reference.specs.TestRun.{limit_of}
 use Rattle.rvs_suite.proofs.Meanings.{both-halt}
 use Rattle.rvs_suite.proofs.LogEntries.{halting_entries}
 use Rattle.rvs_suite.proofs.StepLimits.{limits_are_low, halting-run}

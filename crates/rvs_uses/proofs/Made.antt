@@ -9,10 +9,10 @@ use Rattle.rvs_elf.specs.Written.{elf_of}
 use Rattle.rvs_elf.proofs.ReadBack.{reads_back, runs_alike}
 use Rattle.rvs_asm.proofs.Answered.{answered_stands}
 use Rattle.rvs_device.proofs.Passing as passing
-use Rattle.rvs_suite.specs.Tests.{IsRunnable, executable_of}
+use Rattle.rvs_generate.specs.Tests.{IsRunnable, executable_of}
 use Rattle.rvs_suite.specs.RunLeft.{task_of}
-use Rattle.rvs_suite.specs.declared.gathering.Test.{Test}
-use Rattle.rvs_suite.proofs.Executables.{elf-of-test}
+use Rattle.rvs_generate.specs.declared.gathering.Test.{Test}
+use Rattle.rvs_generate.proofs.Runnable.{elf-of-test}
 use Rattle.rvs_suite.proofs.Signed as signed
 use Rattle.rvs_suite.proofs.Tested.{groups-accepted, tested-labels, testable-labels}
 use Rattle.rvs_suite.proofs.Tested.{runnable-labels}

@@ -23,17 +23,18 @@ use Rattle.rvs_test.specs.Made.{cases_of, text_of_label}
 use Rattle.rvs_test_text.specs.TestText.{step_limit}
 use Rattle.rvs_device.specs.Printed.{verdict_line}
 use Rattle.rvs_select.specs.declared.database.Entry.{Entry}
-use Rattle.rvs_suite.specs.DatabaseInput.{marked_from}
-use Rattle.rvs_suite.specs.GenerateTexts.{label_text, total_line, none, with_labels, listing}
-use Rattle.rvs_suite.specs.GroupFiles.{Inputs, and_then, tested_in, parted_inputs}
-use Rattle.rvs_suite.specs.RunDatabase.{Given, chosen_if, chosen}
+use Rattle.rvs_inputs.specs.DatabaseInput.{marked_from}
+use Rattle.rvs_generate.specs.GenerateTexts.{label_text, total_line, none, with_labels, listing}
+use Rattle.rvs_inputs.specs.GroupFiles.{Inputs, and_then, parted_inputs}
+use Rattle.rvs_generate.specs.TestedInputs.{tested_in}
+use Rattle.rvs_run.specs.RunDatabase.{Given, chosen_if, chosen}
 use Rattle.rvs_suite.specs.RunLeft.{verdict_by, verdict_lines, passed_onto}
-use Rattle.rvs_suite.specs.RunTests.{Bench, passes, with_one}
-use Rattle.rvs_suite.specs.Tests.{test_with, tests_of_label, tests_of}
-use Rattle.rvs_suite.specs.declared.gathering.Test.{Test}
-use Rattle.rvs_suite.proofs.Paths.{same-ending, not-reference, not-executable}
-use Rattle.rvs_suite.proofs.Paths.{reference-not-executable, device-not-executable, not-device}
-use Rattle.rvs_suite.proofs.Paths.{apart-signatures}
+use Rattle.rvs_run.specs.RunTests.{Bench, passes, with_one}
+use Rattle.rvs_generate.specs.Tests.{test_with, tests_of_label, tests_of}
+use Rattle.rvs_generate.specs.declared.gathering.Test.{Test}
+use Rattle.rvs_generate.proofs.Paths.{same-ending, not-reference, not-executable}
+use Rattle.rvs_generate.proofs.Paths.{reference-not-executable, device-not-executable, not-device}
+use Rattle.rvs_generate.proofs.Paths.{apart-signatures}
 use Rattle.rvs_suite.proofs.Written.{apart-labels}
 use Rattle.rvs_uses.specs.Parted.{part_of, PartsReadAll, label_name, tests_in_part, IsInOne}
 use Rattle.rvs_uses.specs.Parted.{IsFileOf, IsText, IsExecutable, IsReference, IsDevice}

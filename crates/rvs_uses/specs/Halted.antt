@@ -5,8 +5,8 @@ use Rattle.rvs_log.specs.Entries.{entries_of}
 use Rattle.rvs_log.specs.Logs.{log_of, as_entry}
 use Rattle.rvs_suite.specs.Halting.{BothHalt, HoldsOctets}
 use Rattle.rvs_suite.specs.Referencing.{run_in}
-use Rattle.rvs_suite.specs.TestRun.{limit_of}
-use Rattle.rvs_suite.specs.declared.test_run.Run.{Run}
+use Rattle.rvs_reference.specs.TestRun.{limit_of}
+use Rattle.rvs_reference.specs.declared.test_run.Run.{Run}
 use Rattle.rvs_words.specs.Commands.{command_of, most_steps}
 use Rattle.rvs_words.specs.declared.command.Command.TheVariants.{Reference}
 use Rattle.rvs_words.specs.declared.command.ReferenceArguments.{ReferenceArguments}

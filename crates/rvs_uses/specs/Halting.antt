@@ -10,10 +10,10 @@ use Rattle.rvs_uses.specs.Limits.{PassesLimit}
 use Rattle.rvs_suite.specs.Says.{Says}
 use Rattle.rvs_suite.specs.Halting.{BothHalt, with_log}
 use Rattle.rvs_uses.specs.Says.{IsRefused}
-use Rattle.rvs_suite.specs.TestTexts.{ran_line}
-use Rattle.rvs_suite.specs.TestRun.{test_found}
-use Rattle.rvs_suite.specs.Reference.{test_limit}
-use Rattle.rvs_suite.specs.declared.test_run.Run.{Run}
+use Rattle.rvs_reference.specs.TestTexts.{ran_line}
+use Rattle.rvs_reference.specs.TestRun.{test_found}
+use Rattle.rvs_reference.specs.Reference.{test_limit}
+use Rattle.rvs_reference.specs.declared.test_run.Run.{Run}
 use Rattle.rvs_words.specs.declared.command.ReferenceArguments.{ReferenceArguments}
 
 -- The test halts. The files are as before, but that of the signature, which has its words, and that

@@ -16,14 +16,15 @@ use Rattle.rvs_solver.specs.Solving.{IsSolvableAt}
 use Rattle.rvs_test.specs.Made.{text_of_label}
 use Rattle.rvs_device.specs.Judging.{Spells}
 use Rattle.rvs_device.specs.declared.verdicts.TestVerdict.TheVariants.{Pass}
-use Rattle.rvs_suite.specs.GroupFiles.{Inputs, labels_in}
+use Rattle.rvs_inputs.specs.GroupFiles.{Inputs}
+use Rattle.rvs_generate.specs.TestedInputs.{labels_in}
 use Rattle.rvs_suite.specs.Headline.{IsProved}
 use Rattle.rvs_suite.specs.Judging.{run_inputs_in}
 use Rattle.rvs_suite.specs.RunLeft.{verdict_by, task_of}
-use Rattle.rvs_suite.specs.RunTests.{Bench, RunInputs}
+use Rattle.rvs_run.specs.RunTests.{Bench, RunInputs}
 use Rattle.rvs_suite.specs.Tested.{AreTested}
-use Rattle.rvs_suite.specs.Tests.{IsRunnable, reference_words, executable_of, tests_of}
-use Rattle.rvs_suite.specs.declared.gathering.Test.{Test}
+use Rattle.rvs_generate.specs.Tests.{IsRunnable, reference_words, executable_of, tests_of}
+use Rattle.rvs_generate.specs.declared.gathering.Test.{Test}
 use Rattle.rvs_words.specs.declared.command.RunArguments.{RunArguments}
 
 -- this holds of whatever the ISA file and the group files give, of all labels or those of a part

@@ -11,15 +11,16 @@ use Rattle.rvs_plan.specs.declared.status.Finish.TheVariants.{Done}
 use Rattle.rvs_insn.specs.Isa.{Isa}
 use Rattle.rvs_cgf.specs.Groups.{Label}
 use Rattle.rvs_select.specs.declared.database.Entry.{Entry}
-use Rattle.rvs_suite.specs.DatabaseInput.{marked}
-use Rattle.rvs_suite.specs.GenerateTexts.{label_text, total_line, none, with_labels, listing}
-use Rattle.rvs_suite.specs.GroupFiles.{Inputs, and_then, parted_inputs, labels_in}
-use Rattle.rvs_suite.specs.RunDatabase.{Given, chosen}
+use Rattle.rvs_inputs.specs.DatabaseInput.{marked}
+use Rattle.rvs_generate.specs.GenerateTexts.{label_text, total_line, none, with_labels, listing}
+use Rattle.rvs_inputs.specs.GroupFiles.{Inputs, and_then, parted_inputs}
+use Rattle.rvs_generate.specs.TestedInputs.{labels_in}
+use Rattle.rvs_run.specs.RunDatabase.{Given, chosen}
 use Rattle.rvs_suite.specs.RunLeft.{verdict_lines, passed_onto}
-use Rattle.rvs_suite.specs.RunTests.{Bench, verdict_of_all}
-use Rattle.rvs_suite.specs.TestFiles.{files_of}
-use Rattle.rvs_suite.specs.Tests.{tests_of_label, tests_of}
-use Rattle.rvs_suite.specs.declared.gathering.Test.{Test}
+use Rattle.rvs_run.specs.RunTests.{Bench, verdict_of_all}
+use Rattle.rvs_generate.specs.TestFiles.{files_of}
+use Rattle.rvs_generate.specs.Tests.{tests_of_label, tests_of}
+use Rattle.rvs_generate.specs.declared.gathering.Test.{Test}
 
 -- the part of this number of so many
 abbrev pub part_of : ℕ → ℕ → PartValue

@@ -8,7 +8,7 @@ use Rattle.rvs_suite.specs.Call.{Call, world_of, Asks, NothingFailed, HostRose, 
 use Rattle.rvs_suite.specs.Halting.{BothHalt, HoldsOctets}
 use Rattle.rvs_uses.specs.Refusals.{HasRefused, HasMissed}
 use Rattle.rvs_uses.specs.Halting.{HasRecorded, FirstRefused, FirstMissing}
-use Rattle.rvs_suite.specs.declared.test_run.Run.{Run}
+use Rattle.rvs_reference.specs.declared.test_run.Run.{Run}
 use Rattle.rvs_words.specs.declared.command.Command.TheVariants.{Reference}
 use Rattle.rvs_words.specs.declared.command.ReferenceArguments.{ReferenceArguments}
 

@@ -11,7 +11,7 @@ use Rattle.rvs_isa.specs.declared.accepted_spec.AcceptedSpec.{AcceptedSpec}
 use Rattle.rvs_isa.specs.declared.refusal.IsaRefusal.{IsaRefusal}
 use Rattle.rvs_suite.specs.Says.{Says}
 use Rattle.rvs_uses.specs.Limits.{PassesLimit}
-use Rattle.rvs_suite.specs.Specification.{isa_limit, yaml_text, isa_text}
+use Rattle.rvs_inputs.specs.Specification.{isa_limit, yaml_text, isa_text}
 
 -- the file is within its limit and has no tree, for the first fault in it
 pub record HasNoTree (name bytes text : List ℕ) : Type 0 where

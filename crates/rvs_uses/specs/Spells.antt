@@ -6,7 +6,7 @@ use Rattle.rvs_sig.specs.Words.{words_of}
 use Rattle.rvs_sig.specs.Verdicts.{verdict_of}
 use Rattle.rvs_sig.specs.declared.words.SigRefusal.{SigRefusal}
 use Rattle.rvs_uses.specs.Limits.{PassesLimit}
-use Rattle.rvs_suite.specs.Texts.{same_line, verdict_line, refusal_text}
+use Rattle.rvs_plain.specs.Texts.{same_line, verdict_line, refusal_text}
 use Rattle.rvs_device.specs.Judged.{signature_limit}
 
 -- the named file is there, within its limit, and spells these words

@@ -10,9 +10,10 @@ use Rattle.rvs_cgf.specs.Groups.{Label, Point}
 use Rattle.rvs_log.specs.Logs.{as_entry}
 use Rattle.rvs_count.specs.Counting.{count}
 use Rattle.rvs_solver.specs.Solving.{IsSolvableAt}
-use Rattle.rvs_suite.specs.Generate.{path_of}
-use Rattle.rvs_suite.specs.GroupFiles.{Inputs, labels_in}
-use Rattle.rvs_suite.specs.Tests.{run_on}
+use Rattle.rvs_generate.specs.Generate.{path_of}
+use Rattle.rvs_inputs.specs.GroupFiles.{Inputs}
+use Rattle.rvs_generate.specs.TestedInputs.{labels_in}
+use Rattle.rvs_generate.specs.Tests.{run_on}
 use Rattle.rvs_words.specs.declared.command.GenerateArguments.{GenerateArguments}
 
 -- the named file is there, one image stands to its bytes, the image's run halts within the steps

@@ -1,12 +1,12 @@
 use Rattle.std.proofs.lemmas.Result.{err_from_is_err_and}
 use Rattle.std.proofs.Common.{subst}
-use Rattle.rvs_count.proofs.Telling.{told-nothing}
+use Rattle.rvs_log.proofs.Telling.{told-nothing}
 use Rattle.rvs_plan.specs.World.{world}
 use Rattle.rvs_words.specs.Words.{texts}
 use Rattle.rvs_words.specs.Commands.{command_of}
 use Rattle.rvs_suite.specs.Plans.{Performs}
 use Rattle.rvs_suite.specs.Progressing.{asks_progress, lines_of}
-use Rattle.rvs_suite.specs.Telling.{HasToldOf, as_planned}
+use Rattle.rvs_coverage.specs.Telling.{HasToldOf, as_planned}
 use Rattle.rvs_words.specs.declared.command.Command.{Command}
 use Rattle.rvs_suite.proofs.Running.{Performs-no_memory}
 use Rattle.rvs_suite.proofs.suite.perform.Goals as goal

@@ -1,0 +1,4 @@
+pub mod Sums
+pub mod LogReads
+pub mod Tellings
+pub mod Quiet

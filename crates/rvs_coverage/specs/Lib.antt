@@ -1,0 +1,6 @@
+pub mod Summing
+pub mod LogReport
+pub mod Telling
+pub mod LogLines
+pub mod Coverage
+pub mod Propagate

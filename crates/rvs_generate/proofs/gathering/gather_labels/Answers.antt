@@ -1,0 +1,60 @@
+use Rattle.std.proofs.Common.{◌≡◌, ◌+◌, ◌++◌, ◌∷◌, ◌∙◌, List, [], drop, flat_map, ap, sym}
+use Rattle.std.proofs.Common.{append_assoc, append-nil}
+use Rattle.std.proofs.lemmas.List.{drop_more, drop_all}
+use Rattle.rvs_cgf.specs.Groups.{Label}
+use Rattle.rvs_cgf.specs.GroupView.{label_view}
+use Rattle.rvs_inputs.specs.GroupsView.{groups_view}
+use Rattle.rvs_generate.specs.GenerateTexts.{Totals, label_text, with_labels}
+use Rattle.rvs_generate.specs.GenerateView.{totals_view}
+use Rattle.rvs_generate.specs.Tests.{tests_of_label, tests_of}
+use Rattle.rvs_generate.specs.declared.gathering.Test.{Test}
+use Rattle.rvs_generate.proofs.gathering.gather_labels.Goals as goal
+
+pub loop-label-preserved : goal.loop-label-preserved
+loop-label-preserved c =
+    let i = c.loop-label.label-index in
+    let isa = c.args.isa.now in
+    let rest = groups_view (drop (i + 1) c.args.labels.now) in
+    let said = c.loop-label.said in
+    let here : groups_view (drop i c.args.labels.now) ≡ label_view c.label-item.result ∷ rest =
+    ap groups_view (drop_more c.args.labels.now i _ c.loop-label-test.true)
+    ∙ ap (λ l. label_view l ∷ rest) (sym c.label-item.is) in
+    record {
+      text = ap (λ t. t ++ flat_map (label_text isa) rest) c.in_ok-gather_label.ensures.text
+          ∙ append_assoc said.text (label_text isa (label_view c.label-item.result))
+          (flat_map (label_text isa) rest)
+          ∙ ap (λ ls. said.text ++ flat_map (label_text isa) ls) (sym here)
+          ∙ c.loop-label.invariant.text;
+      totals = ap (λ (t : Totals). with_labels isa t rest) c.in_ok-gather_label.ensures.totals
+          ∙ ap (λ ls. with_labels isa (totals_view said.totals) ls) (sym here)
+          ∙ c.loop-label.invariant.totals;
+      tests = ap (λ (ts : List Test). ts ++ tests_of isa rest) c.in_ok-gather_label.ensures.tests
+          ∙ append_assoc c.loop-label.tests (tests_of_label isa (label_view c.label-item.result))
+          (tests_of isa rest)
+          ∙ ap (λ (ls : List Label). c.loop-label.tests ++ tests_of isa ls) (sym here)
+          ∙ c.loop-label.invariant.tests;
+      runs = c.in_ok-gather_label.ensures.runs c.loop-label.invariant.runs;
+    }
+
+pub returns-clause-said : goal.returns-clause-said
+returns-clause-said c =
+    let isa = c.args.isa.now in
+    let said = c.loop-label.said in
+    let over : groups_view (drop c.loop-label.label-index c.args.labels.now) ≡ [] = ap groups_view
+    (drop_all c.loop-label.label-index c.args.labels.now c.loop-label-test.false) in
+    record {
+      lines = sym (append-nil said.text)
+          ∙ ap (λ ls. said.text ++ flat_map (label_text isa) ls) (sym over)
+          ∙ c.loop-label.invariant.text;
+      counted = ap (λ ls. with_labels isa (totals_view said.totals) ls) (sym over)
+          ∙ c.loop-label.invariant.totals;
+    }
+
+pub returns-clause-tests : goal.returns-clause-tests
+returns-clause-tests c =
+    let isa = c.args.isa.now in
+    let over : groups_view (drop c.loop-label.label-index c.args.labels.now) ≡ [] = ap groups_view
+    (drop_all c.loop-label.label-index c.args.labels.now c.loop-label-test.false) in
+    sym (append-nil c.loop-label.tests)
+    ∙ ap (λ (ls : List Label). c.loop-label.tests ++ tests_of isa ls) (sym over)
+    ∙ c.loop-label.invariant.tests

@@ -1,0 +1,130 @@
+// The tests of all labels at once.
+ghost use Rattle.std.specs.Prelude.{◌≡◌, ◌++◌, All, IfOk, IfSome, OnOk};
+ghost use Rattle.rvs_cgf.specs.GroupView.{label_view};
+ghost use Rattle.rvs_generate.specs.GenerateTexts as texts;
+ghost use Rattle.rvs_generate.specs.GenerateView.{totals_view};
+ghost use Rattle.rvs_inputs.specs.GroupsView.{groups_view};
+ghost use Rattle.rvs_generate.specs.Testable.{IsTestableIfSelected};
+ghost use Rattle.rvs_generate.specs.Generate.{IsSaid};
+ghost use Rattle.rvs_generate.specs.Tests.{IsRunnable, test_with, tests_of_label, tests_of};
+
+use crate::listing::{push_total, push_unselected};
+use crate::making::{Said, say_made};
+use rvs_base::{Items, NoMemory, Text};
+use rvs_cgf::Label;
+use rvs_inputs::Inputs;
+use rvs_insn::IsaSpec;
+use rvs_words::owned;
+use std::alloc::Global;
+
+/// The test of a label.
+#[derive(Drop)]
+pub struct Test {
+    /// The name of the label.
+    pub name: Text,
+    pub text: Text,
+    /// How many instructions its run takes at most.
+    pub steps: u64,
+}
+
+/// What is said of labels, and their tests.
+#[derive(Drop)]
+struct Gathering {
+    said: Said,
+    tests: Items<Test>,
+}
+
+/// The listing of all labels, and their tests.
+#[derive(Drop)]
+pub struct Gathered {
+    pub text: Text,
+    pub tests: Items<Test>,
+}
+
+/// Makes the tests of all labels, and says what they are.
+///
+/// # Errors
+///
+/// [`NoMemory`].
+pub fn gather_tests(alloc: Global, inputs: &Inputs) -> Result<Gathered, NoMemory>
+    requires { All (λ l. IsTestableIfSelected inputs.now.isa (label_view l)) inputs.now.groups }
+    ensures text { IfOk result (λ g.
+        g.text ≡ texts.listing inputs.now.isa (groups_view inputs.now.groups)) }
+    ensures tests { IfOk result (λ g.
+        g.tests ≡ tests_of inputs.now.isa (groups_view inputs.now.groups)) }
+    ensures runs { IfOk result (λ g. All (IsRunnable inputs.now.isa) g.tests) }
+{
+    let gathering = gather_labels(alloc, &inputs.isa, inputs.groups.as_slice())?;
+    let Gathering { said, tests } = gathering;
+    let text = with_total(alloc, said)?;
+    Ok(Gathered { text, tests })
+}
+
+/// The text that is said, with the last line.
+fn with_total(alloc: Global, said: Said) -> Result<Text, NoMemory>
+    ensures { IfOk result (λ text.
+        text ≡ said.text ++ texts.total_line (totals_view said.totals)) }
+{
+    let Said { mut text, totals } = said;
+    push_total(alloc, &mut text, &totals)?;
+    Ok(text)
+}
+
+fn gather_labels(alloc: Global, isa: &IsaSpec, labels: &[Label]) -> Result<Gathering, NoMemory>
+    requires { All (λ l. IsTestableIfSelected isa.now (label_view l)) labels.now }
+    ensures said { IfOk result (λ g.
+        IsSaid isa.now (groups_view labels.now) g.said.text (totals_view g.said.totals)) }
+    ensures tests { IfOk result (λ g. g.tests ≡ tests_of isa.now (groups_view labels.now)) }
+    ensures runs { IfOk result (λ g. All (IsRunnable isa.now) g.tests) }
+{
+    let mut said = Said::nothing(alloc);
+    let mut tests = Items::new(alloc);
+    for label in labels {
+        gather_label(alloc, isa, label, &mut said, &mut tests)?;
+    }
+    Ok(Gathering { said, tests })
+}
+
+/// Makes the test of a label, where a point of it is solved, and says what it is.
+fn gather_label(
+    alloc: Global,
+    isa: &IsaSpec,
+    label: &Label,
+    said: &mut Said,
+    tests: &mut Items<Test>,
+) -> Result<(), NoMemory>
+    requires { IsTestableIfSelected isa.now (label_view label.now) }
+    ensures text { OnOk result (said.new.text
+        ≡ said.old.text ++ texts.label_text isa.now (label_view label.now)) }
+    ensures totals { OnOk result (totals_view said.new.totals
+        ≡ texts.with_label isa.now (totals_view said.old.totals) (label_view label.now)) }
+    ensures tests { OnOk result (tests.new
+        ≡ tests.old ++ tests_of_label isa.now (label_view label.now)) }
+    ensures runs { OnOk result (All (IsRunnable isa.now) tests.old
+        → All (IsRunnable isa.now) tests.new) }
+{
+    if label.selected {
+        let made = say_made(alloc, isa, label, said)?;
+        return push_test(alloc, label, made.text, made.steps, tests);
+    }
+    push_unselected(alloc, &mut said.text, label)
+}
+
+/// Adds a test, where there is a text.
+fn push_test(
+    alloc: Global,
+    label: &Label,
+    text: Option<Text>,
+    steps: u64,
+    tests: &mut Items<Test>,
+) -> Result<(), NoMemory>
+    ensures { OnOk result (tests.new ≡ tests.old ++ test_with label.now.name steps text) }
+{
+    match text {
+        None => Ok(()),
+        Some(text) => {
+            let name = owned(alloc, label.name.as_str())?;
+            tests.push(Test { name, text, steps })
+        },
+    }
+}

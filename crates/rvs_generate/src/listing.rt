@@ -1,0 +1,222 @@
+// What `generate` puts.
+ghost use Rattle.std.specs.Prelude.{◌≡◌, ◌++◌, ◌≤◌, IfOk, IsTrue, OnOk, codes, map, length};
+ghost use Rattle.std.specs.List.{flat_map};
+ghost use Rattle.rvs_cgf.specs.GroupView.{label_view, point_view, skipped_view};
+ghost use Rattle.rvs_count.specs.Report.{skipped_line};
+ghost use Rattle.rvs_generate.specs.GenerateTexts as spec;
+ghost use Rattle.rvs_generate.specs.GenerateView.{totals_view};
+
+use rvs_base::{NoMemory, Text};
+use rvs_cgf::{Label, Point, Skipped};
+use rvs_test::{Claim, Made};
+use std::alloc::Global;
+
+/// How many tests, cases, points without one and skipped entries there are. A number stands at
+/// 2^64 - 1 where it would be greater.
+#[derive(Clone, Copy)]
+pub struct Totals {
+    pub tests: u64,
+    pub cases: u64,
+    pub unsolved: u64,
+    pub skipped: u64,
+}
+
+fn push_case(alloc: Global, text: &mut Text, case: usize, point: &Point) -> Result<(), NoMemory>
+    ensures { OnOk result (text.new ≡ text.old ++ spec.case_line case (point_view point.now)) }
+{
+    let kind = point.kind.name();
+    let key = point.key.as_str();
+    let line = format!(in alloc; "case {case} {kind} {key}\n")?;
+    text.push_str(line.as_str())
+}
+
+fn push_unsolved(alloc: Global, text: &mut Text, point: &Point) -> Result<(), NoMemory>
+    ensures { OnOk result (text.new ≡ text.old ++ spec.unsolved_line (point_view point.now)) }
+{
+    let kind = point.kind.name();
+    let key = point.key.as_str();
+    let line = format!(in alloc; "unsolved {kind} {key}\n")?;
+    text.push_str(line.as_str())
+}
+
+fn push_point(
+    alloc: Global,
+    text: &mut Text,
+    case: Option<usize>,
+    point: &Point,
+) -> Result<(), NoMemory>
+    ensures { OnOk result (text.new ≡ text.old ++ spec.point_line case (point_view point.now)) }
+{
+    match case {
+        None => push_unsolved(alloc, text, point),
+        Some(case) => push_case(alloc, text, case, point),
+    }
+}
+
+/// The case of a point, where the first claim is of it.
+fn case_at(claims: &[Claim], place: usize) -> Option<usize>
+    ensures { result ≡ spec.case_at claims.now place }
+{
+    let claim = claims.first()?;
+    if claim.point == place {
+        Some(claim.case)
+    } else {
+        None
+    }
+}
+
+/// The claims behind that one.
+fn claims_after(claims: &[Claim], place: usize) -> &[Claim]
+    ensures { result.now ≡ spec.claims_after claims.now place }
+{
+    match claims {
+        [claim, after @ ..] if claim.point == place => after,
+        _ => claims,
+    }
+}
+
+/// Adds the points in their order, each with its case or without. The claims are in the order of
+/// their points.
+#[tactic(auto, using(crate::proofs::Listings::lines_more, crate::proofs::Listings::lines_all))]
+fn push_points(
+    alloc: Global,
+    text: &mut Text,
+    claims: &[Claim],
+    points: &[Point],
+) -> Result<(), NoMemory>
+    ensures { OnOk result (text.new
+        ≡ text.old ++ spec.point_lines claims.now 0 (map point_view points.now)) }
+{
+    let mut rest = claims;
+    for (place, point) in points.iter().enumerate() {
+        push_point(alloc, text, case_at(rest, place), point)?;
+        rest = claims_after(rest, place);
+    }
+    Ok(())
+}
+
+fn push_skipped_line(alloc: Global, text: &mut Text, skipped: &Skipped) -> Result<(), NoMemory>
+    ensures { OnOk result (text.new ≡ text.old ++ skipped_line (skipped_view skipped.now)) }
+{
+    let node = skipped.node.as_str();
+    let key = skipped.key.as_str();
+    let line = format!(in alloc; "skipped {node} {key}\n")?;
+    text.push_str(line.as_str())
+}
+
+#[tactic(auto, using(crate::proofs::Listings::skipped_more, crate::proofs::Listings::skipped_all))]
+fn push_skipped(alloc: Global, text: &mut Text, skipped: &[Skipped]) -> Result<(), NoMemory>
+    ensures { OnOk result (text.new
+        ≡ text.old ++ flat_map skipped_line (map skipped_view skipped.now)) }
+{
+    for one in skipped {
+        push_skipped_line(alloc, text, one)?;
+    }
+    Ok(())
+}
+
+fn push_steps(alloc: Global, text: &mut Text, made: &Made) -> Result<(), NoMemory>
+    ensures { OnOk result (text.new ≡ text.old ++ spec.steps_line made.now.text made.now.steps) }
+{
+    if made.text.is_none() {
+        return Ok(());
+    }
+    let steps = made.steps;
+    let line = format!(in alloc; "steps {steps}\n")?;
+    text.push_str(line.as_str())
+}
+
+fn push_name(alloc: Global, text: &mut Text, label: &Label) -> Result<(), NoMemory>
+    ensures { OnOk result (text.new ≡ text.old ++ spec.name_line label.now.name) }
+{
+    let name = label.name.as_str();
+    let line = format!(in alloc; "label {name}\n")?;
+    text.push_str(line.as_str())
+}
+
+/// Adds a label that isn't selected.
+///
+/// # Errors
+///
+/// [`NoMemory`].
+pub fn push_unselected(alloc: Global, text: &mut Text, label: &Label) -> Result<(), NoMemory>
+    ensures { OnOk result (text.new
+        ≡ text.old ++ (codes "label " ++ (label.now.name ++ codes " unselected\n"))) }
+{
+    let name = label.name.as_str();
+    let line = format!(in alloc; "label {name} unselected\n")?;
+    text.push_str(line.as_str())
+}
+
+/// Adds a label with what was made of it.
+///
+/// # Errors
+///
+/// [`NoMemory`].
+pub fn push_made(alloc: Global, text: &mut Text, label: &Label, made: &Made) -> Result<(), NoMemory>
+    ensures { OnOk result (text.new ≡ text.old
+        ++ spec.made_text (label_view label.now) made.now.claims made.now.text made.now.steps) }
+{
+    push_name(alloc, text, label)?;
+    push_points(alloc, text, made.claims.as_slice(), label.points.as_slice())?;
+    push_skipped(alloc, text, label.skipped.as_slice())?;
+    push_steps(alloc, text, made)
+}
+
+fn tests_in(made: &Made) -> u64
+    ensures value { result ≡ spec.tests_in made.now.text }
+    ensures small { result ≤ 1 }
+{
+    if made.text.is_some() { 1 } else { 0 }
+}
+
+impl Totals {
+    /// None of all.
+    pub fn none() -> Totals
+        ensures { totals_view result ≡ spec.none }
+    {
+        Totals {
+            tests: 0,
+            cases: 0,
+            unsolved: 0,
+            skipped: 0,
+        }
+    }
+
+    /// Adds what was made of a label.
+    pub fn add(&mut self, label: &Label, made: &Made)
+        ensures { totals_view self.new ≡ spec.with_made (totals_view self.old)
+            (label_view label.now) made.now.claims made.now.unsolved made.now.text }
+    {
+        self.tests = self.tests.saturating_add(tests_in(made));
+        self.cases = self
+            .cases
+            .saturating_add(made.claims.as_slice().len() as u64);
+        self.unsolved = self
+            .unsolved
+            .saturating_add(made.unsolved.as_slice().len() as u64);
+        self.skipped = self
+            .skipped
+            .saturating_add(label.skipped.as_slice().len() as u64);
+    }
+}
+
+/// Adds the last line.
+///
+/// # Errors
+///
+/// [`NoMemory`].
+pub fn push_total(alloc: Global, text: &mut Text, totals: &Totals) -> Result<(), NoMemory>
+    ensures { OnOk result (text.new ≡ text.old ++ spec.total_line (totals_view totals.now)) }
+{
+    let Totals {
+        tests,
+        cases,
+        unsolved,
+        skipped,
+    } = *totals;
+    let line = format!(in alloc;
+        "total {tests} tests, {cases} cases, {unsolved} unsolved, {skipped} skipped\n"
+    )?;
+    text.push_str(line.as_str())
+}

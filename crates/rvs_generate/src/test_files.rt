@@ -1,0 +1,90 @@
+// The files of a label's test.
+ghost use Rattle.std.specs.Prelude.{◌≡◌, IfOk};
+ghost use Rattle.rvs_generate.specs.Generate.{path_of};
+ghost use Rattle.rvs_generate.specs.TestFiles.{files_of, files_at};
+
+use rvs_base::{NoMemory, Text};
+use rvs_words::owned;
+use std::alloc::Global;
+
+/// The files of a label's test.
+#[derive(Drop)]
+pub struct TestFiles {
+    /// The test.
+    pub test: Text,
+    /// The test as an executable.
+    pub executable: Text,
+    /// The signature that the reference machine leaves.
+    pub reference: Text,
+    /// The signature that the device leaves.
+    pub device: Text,
+}
+
+impl TestFiles {
+    /// Those of the label of this name in a folder.
+    ///
+    /// # Errors
+    ///
+    /// [`NoMemory`].
+    pub fn new(alloc: Global, work: &Text, name: &Text) -> Result<TestFiles, NoMemory>
+        ensures { IfOk result (λ files. files ≡ files_of work.now name.now) }
+    {
+        Ok(TestFiles {
+            test: test_path(alloc, work, name)?,
+            executable: executable_path(alloc, work, name)?,
+            reference: reference_path(alloc, work, name)?,
+            device: device_path(alloc, work, name)?,
+        })
+    }
+
+    /// Those of a test of its own name at a place of a database: the others are named by the place.
+    ///
+    /// # Errors
+    ///
+    /// [`NoMemory`].
+    pub fn of_place(
+        alloc: Global,
+        work: &Text,
+        place: usize,
+        test: &Text,
+    ) -> Result<TestFiles, NoMemory>
+        ensures { IfOk result (λ files. files ≡ files_at work.now place test.now) }
+    {
+        let name = Text::from(format!(in alloc; "{place}")?);
+        Ok(TestFiles {
+            test: owned(alloc, test.as_str())?,
+            executable: executable_path(alloc, work, &name)?,
+            reference: reference_path(alloc, work, &name)?,
+            device: device_path(alloc, work, &name)?,
+        })
+    }
+}
+
+/// The test of the label of this name in a folder.
+///
+/// # Errors
+///
+/// [`NoMemory`].
+pub fn test_path(alloc: Global, work: &Text, name: &Text) -> Result<Text, NoMemory>
+    ensures { IfOk result (λ path. path ≡ path_of work.now name.now) }
+{
+    Ok(Text::from(format!(in alloc; "{work}/{name}.S")?))
+}
+
+fn executable_path(alloc: Global, work: &Text, name: &Text) -> Result<Text, NoMemory>
+    ensures { IfOk result (λ path. path ≡ (files_of work.now name.now).executable) }
+{
+    Ok(Text::from(format!(in alloc; "{work}/{name}.elf")?))
+}
+
+fn reference_path(alloc: Global, work: &Text, name: &Text) -> Result<Text, NoMemory>
+    ensures { IfOk result (λ path. path ≡ (files_of work.now name.now).reference) }
+{
+    Ok(Text::from(format!(in alloc; "{work}/{name}.reference.sig")?))
+}
+
+fn device_path(alloc: Global, work: &Text, name: &Text) -> Result<Text, NoMemory>
+    ensures { IfOk result (λ path. path ≡ (files_of work.now name.now).device) }
+{
+    Ok(Text::from(format!(in alloc; "{work}/{name}.device.sig")?))
+}

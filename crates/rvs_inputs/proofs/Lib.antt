@@ -1,0 +1,7 @@
+pub mod Accepting
+pub mod Keeping
+pub mod Finding
+pub mod Readers
+pub mod GroupInputs
+pub mod PartsKept
+pub mod Chains

@@ -1,0 +1,22 @@
+use Rattle.std.proofs.lemmas.Result.{err_from_is_err_and}
+use Rattle.rvs_plan.specs.World.{world}
+use Rattle.rvs_plan.specs.Plan.{Ends}
+use Rattle.rvs_plan.proofs.Sequence.{Meets-then, Meets-stop}
+use Rattle.rvs_inputs.specs.GroupFiles.{groups_found}
+use Rattle.rvs_inputs.proofs.group_files.read_group_files.Goals as goal
+
+pub returns-in_err-text-clause-met : goal.returns-in_err-text-clause-met
+returns-in_err-text-clause-met g c = λ out.
+    let p = err_from_is_err_and c.from_residual.result c.from_residual.ensures.1 in
+    rw (p.1, p.2)
+    (Meets-stop (λ text. Ends (groups_found c.args.isa.now c.args.families text))
+    (rw c.as_slice.ensures at
+    (c.in_err-text.ensures out)))
+
+pub returns-clause-met : goal.returns-clause-met
+returns-clause-met g c = λ out.
+    let w = world (g.H.Host.state c.read_joined.new.host) out in
+    Meets-then (λ text. Ends (groups_found c.args.isa.now c.args.families text))
+    (rw c.as_slice.ensures at
+    (c.in_ok-text.ensures out))
+    (c.check_text.ensures.met w)

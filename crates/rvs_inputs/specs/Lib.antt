@@ -1,0 +1,8 @@
+pub mod Specification
+pub mod Printing
+pub mod GroupTexts
+pub mod GroupFiles
+pub mod Seen
+pub mod GroupsView
+pub mod DeviceInput
+pub mod DatabaseInput

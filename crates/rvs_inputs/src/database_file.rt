@@ -1,0 +1,77 @@
+// Reading a database of tests.
+ghost use Rattle.std.specs.Prelude.{◌≡◌, ◌≢◌, IfOk};
+ghost use Rattle.rvs_base.specs.Sink.{SinkState};
+ghost use Rattle.rvs_plan.specs.World.{World, world};
+ghost use Rattle.rvs_plan.specs.Plan.{Ends};
+ghost use Rattle.rvs_plan.specs.Meets.{Meets};
+ghost use Rattle.rvs_tree.specs.TreeView.{view};
+ghost use Rattle.rvs_select.specs.Database.{database_of};
+ghost use Rattle.rvs_inputs.specs.DatabaseInput.{database_text, checked_end, checks, database_file};
+
+use crate::isa_file::yaml_text;
+use rvs_base::{Host, NoMemory, Text};
+use rvs_insn::IsaSpec;
+use rvs_plan::{Stop, read_input};
+use rvs_select::{Database, SelectKind, SelectRefusal, read_database, refusal_text};
+use rvs_yaml::{Tree, parse};
+use std::alloc::Global;
+
+/// The greatest length of a database in bytes: 4 MiB.
+const DATABASE_LIMIT: u64 = 4_194_304;
+
+/// Reads a database of tests, and checks it for a core.
+///
+/// # Errors
+///
+/// [`Stop`]: the file isn't there, can't be read, has more than 4,194,304 bytes, has no tree, or
+/// breaks a rule of databases.
+pub fn read_database_file<H: Host>(
+    alloc: Global,
+    host: &mut H,
+    isa: &IsaSpec,
+    name: &Text,
+) -> Result<Database, Stop>
+    ensures { (out : SinkState) → Meets (database_file isa.now name.now)
+        (world (H.state host.old) out) (world (H.state host.new) out) result }
+{
+    let bytes = read_input(alloc, host, name.as_str(), DATABASE_LIMIT)?;
+    check_bytes(alloc, isa, name.as_str(), bytes.as_slice())
+}
+
+fn check_bytes(alloc: Global, isa: &IsaSpec, name: &str, bytes: &[u8]) -> Result<Database, Stop>
+    ensures { (w : World) → Meets (checks isa.now name.now bytes.now) w w result }
+{
+    match parse(alloc, bytes) {
+        Ok(tree) => check_tree(alloc, isa, name, &tree),
+        Err(refusal) => Err(Stop::Refused(yaml_text(alloc, name, &refusal)?)),
+    }
+}
+
+fn check_tree(alloc: Global, isa: &IsaSpec, name: &str, tree: &Tree) -> Result<Database, Stop>
+    ensures { (w : World)
+        → Meets (Ends (checked_end name.now (database_of isa.now (view tree.now)))) w w result }
+{
+    match read_database(alloc, tree, isa) {
+        Ok(database) => Ok(database),
+        Err(refusal) => Err(Stop::Refused(database_text(alloc, name, &refusal)?)),
+    }
+}
+
+/// Why the tree of the named file is no database. There is no text where memory was wanting.
+fn database_text(alloc: Global, name: &str, refusal: &SelectRefusal) -> Result<Text, NoMemory>
+    ensures fault { IfOk result (λ _. refusal.now.kind ≢ SelectKind.NoMemory) }
+    ensures text { IfOk result (λ text. text ≡ database_text name.now refusal.now) }
+{
+    match refusal.kind {
+        SelectKind::NoMemory => Err(NoMemory),
+        _ => database_line(alloc, name, refusal),
+    }
+}
+
+#[tactic(auto, unfolding(crate::specs::DatabaseInput::database_text))]
+fn database_line(alloc: Global, name: &str, refusal: &SelectRefusal) -> Result<Text, NoMemory>
+    ensures { IfOk result (λ text. text ≡ database_text name.now refusal.now) }
+{
+    let text = refusal_text(alloc, refusal)?;
+    Ok(Text::from(format!(in alloc; "{name}: {text}")?))
+}

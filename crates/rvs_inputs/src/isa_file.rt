@@ -1,0 +1,96 @@
+// Reading an ISA file.
+ghost use Rattle.std.specs.Prelude.{◌≡◌, ◌≢◌, ℕ, IfOk};
+ghost use Rattle.rvs_base.specs.Sink.{SinkState};
+ghost use Rattle.rvs_plan.specs.World.{World, world};
+ghost use Rattle.rvs_plan.specs.Plan.{Ends};
+ghost use Rattle.rvs_plan.specs.Meets.{Meets};
+ghost use Rattle.rvs_yaml_text.specs.Kinds.{number_of};
+ghost use Rattle.rvs_tree.specs.TreeView.{view};
+ghost use Rattle.rvs_isa.specs.Check.{checked};
+ghost use Rattle.rvs_inputs.specs.Specification.{yaml_text, isa_text, checked_end, checks};
+ghost use Rattle.rvs_inputs.specs.Specification.{specification};
+
+use rvs_base::{Host, NoMemory, Text};
+use rvs_isa::{AcceptedSpec, IsaKind, IsaRefusal, check, refusal_text};
+use rvs_plan::{Stop, read_input};
+use rvs_yaml::{Tree, YamlKind, YamlRefusal, parse};
+use std::alloc::Global;
+
+/// The greatest length of an ISA file in bytes.
+pub const ISA_LIMIT: u64 = 65_536;
+
+/// Reads an ISA file and checks it.
+///
+/// # Errors
+///
+/// [`Stop`]: the file isn't there, can't be read, is longer than [`ISA_LIMIT`], has no tree, or
+/// fails a check.
+pub fn read_isa<H: Host>(alloc: Global, host: &mut H, name: &Text) -> Result<AcceptedSpec, Stop>
+    ensures { (out : SinkState) → Meets (specification name.now) (world (H.state host.old) out)
+        (world (H.state host.new) out) result }
+{
+    let bytes = read_input(alloc, host, name.as_str(), ISA_LIMIT)?;
+    check_bytes(alloc, name.as_str(), bytes.as_slice())
+}
+
+fn check_bytes(alloc: Global, name: &str, bytes: &[u8]) -> Result<AcceptedSpec, Stop>
+    ensures { (w : World) → Meets (checks name.now bytes.now) w w result }
+{
+    match parse(alloc, bytes) {
+        Ok(tree) => check_tree(alloc, name, &tree),
+        Err(refusal) => Err(Stop::Refused(yaml_text(alloc, name, &refusal)?)),
+    }
+}
+
+fn check_tree(alloc: Global, name: &str, tree: &Tree) -> Result<AcceptedSpec, Stop>
+    ensures { (w : World)
+        → Meets (Ends (checked_end name.now (checked (view tree.now)))) w w result }
+{
+    match check(alloc, tree) {
+        Ok(said) => Ok(said),
+        Err(refusal) => Err(Stop::Refused(isa_text(alloc, name, &refusal)?)),
+    }
+}
+
+/// Why the named file has no tree. There is no text where memory was wanting.
+///
+/// # Errors
+///
+/// [`NoMemory`].
+pub fn yaml_text(alloc: Global, name: &str, refusal: &YamlRefusal) -> Result<Text, NoMemory>
+    ensures fault { IfOk result (λ _. refusal.now.kind ≢ YamlKind.NoMemory) }
+    ensures text { IfOk result
+        (λ text. text ≡ yaml_text name.now refusal.now.line refusal.now.kind) }
+{
+    match refusal.kind {
+        YamlKind::NoMemory => Err(NoMemory),
+        kind => yaml_line(alloc, name, refusal.line, kind),
+    }
+}
+
+#[tactic(auto, unfolding(crate::specs::Specification::yaml_text))]
+fn yaml_line(alloc: Global, name: &str, line: u64, kind: YamlKind) -> Result<Text, NoMemory>
+    ensures { IfOk result (λ text. text ≡ yaml_text name.now line kind) }
+{
+    let number = kind.number();
+    Ok(Text::from(format!(in alloc; "{name}: yaml {number} line {line}")?))
+}
+
+/// Why the tree of the named file is no specification. There is no text where memory was wanting.
+fn isa_text(alloc: Global, name: &str, refusal: &IsaRefusal) -> Result<Text, NoMemory>
+    ensures fault { IfOk result (λ _. refusal.now.kind ≢ IsaKind.NoMemory) }
+    ensures text { IfOk result (λ text. text ≡ isa_text name.now refusal.now) }
+{
+    match refusal.kind {
+        IsaKind::NoMemory => Err(NoMemory),
+        _ => isa_line(alloc, name, refusal),
+    }
+}
+
+#[tactic(auto, unfolding(crate::specs::Specification::isa_text))]
+fn isa_line(alloc: Global, name: &str, refusal: &IsaRefusal) -> Result<Text, NoMemory>
+    ensures { IfOk result (λ text. text ≡ isa_text name.now refusal.now) }
+{
+    let text = refusal_text(alloc, refusal)?;
+    Ok(Text::from(format!(in alloc; "{name}: {text}")?))
+}

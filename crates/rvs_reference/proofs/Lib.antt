@@ -1,0 +1,2 @@
+mod TestRuns
+pub mod Accepts

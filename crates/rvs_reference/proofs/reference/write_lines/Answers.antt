@@ -1,0 +1,32 @@
+use Rattle.std.proofs.Common.{◌≡◌, List, ℕ, subst, ◌∙◌}
+use Rattle.std.proofs.lemmas.Result.{err_from_is_err_and}
+use Rattle.rvs_plan.specs.World.{world}
+use Rattle.rvs_plan.specs.Plan.{writes}
+use Rattle.rvs_plan.specs.Meets.{Meets}
+use Rattle.rvs_plan.proofs.Sequence.{Meets-no_memory}
+use Rattle.rvs_log.specs.Logs.{log_of}
+use Rattle.rvs_reference.proofs.reference.write_lines.Goals as goal
+
+pub returns-in_err-lines : goal.returns-in_err-lines
+returns-in_err-lines g c = λ out.
+    let p = err_from_is_err_and c.from_residual.result c.from_residual.ensures.1 in
+    rw (p.1, p.2) (Meets-no_memory (writes c.args.log.now (log_of c.args.trace.now))
+    (world (g.H.Host.state c.args.host.now) out))
+
+pub returns-in_err-name : goal.returns-in_err-name
+returns-in_err-name g c = λ out.
+    let p = err_from_is_err_and c.from_residual-in_err-name.result
+    c.from_residual-in_err-name.ensures.1 in
+    rw (p.1, p.2) (Meets-no_memory (writes c.args.log.now (log_of c.args.trace.now))
+    (world (g.H.Host.state c.args.host.now) out))
+
+pub returns : goal.returns
+returns g c = λ out.
+    let text : c.as_slice.result.now ≡ log_of c.args.trace.now =
+    c.as_slice.ensures ∙ c.in_ok-lines.ensures in
+    let old = world (g.H.Host.state c.args.host.now) out in
+    let new = world (g.H.Host.state c.write_output.new.host) out in
+    subst (λ (bytes : List ℕ). Meets (writes c.args.log.now bytes) old new c.write_output.result)
+    text (subst
+    (λ (name : List ℕ). Meets (writes name c.as_slice.result.now) old new c.write_output.result)
+    (c.in_ok-name.ensures ∙ c.as_str.ensures) (c.write_output.ensures out))

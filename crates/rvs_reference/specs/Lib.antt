@@ -1,0 +1,3 @@
+pub mod TestTexts
+pub mod TestRun
+pub mod Reference

@@ -1,0 +1,10 @@
+//! A test on the reference machine, and the command `reference`.
+#![tactic(auto)]
+
+mod assembling;
+mod reference;
+mod test_run;
+
+pub use assembling::assemble;
+pub use reference::{TEST_LIMIT, run_reference};
+pub use test_run::{Run, image_of, image_of_text, limit_of, run_image};

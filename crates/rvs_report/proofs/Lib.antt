@@ -1,0 +1,2 @@
+mod Absences
+mod Shows

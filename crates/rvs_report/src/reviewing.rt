@@ -1,0 +1,194 @@
+// What the files that a run left of a test say.
+ghost use Rattle.std.specs.Prelude.{◌≡◌, ◌≤◌, Some, IfOk, length};
+ghost use Rattle.rvs_base.specs.Sink.{SinkState};
+ghost use Rattle.rvs_plan.specs.World.{world, IsAnswer};
+ghost use Rattle.rvs_plan.specs.Meets.{MeetsWith};
+ghost use Rattle.rvs_sig.specs.Verdicts.{verdict_of};
+ghost use Rattle.rvs_generate.specs.Tests.{IsRunnable};
+ghost use Rattle.rvs_report.specs.Findings.{likeness, asks_like, found_open, compared};
+ghost use Rattle.rvs_report.specs.Findings.{judged_left, finds_signature, finds_words, finds_test};
+
+use rvs_base::{Bytes, FileRefusal, Host, Items, NoMemory, Text, read_file};
+use rvs_device::SIGNATURE_LIMIT;
+use rvs_generate::{Test, TestFiles, reference_of};
+use rvs_insn::IsaSpec;
+use rvs_page::State;
+use rvs_plan::Stop;
+use rvs_sig::{SigRefusal, Verdict, compare, print_words, read_words};
+use rvs_words::owned;
+use std::alloc::Global;
+
+/// A file, beside what it should hold.
+#[derive(Drop, Clone, Copy)]
+pub enum Likeness {
+    /// It isn't there.
+    Absent,
+    /// It holds something else.
+    Other,
+    /// It holds this.
+    Same,
+}
+
+/// What is found of a test.
+#[derive(Drop)]
+pub struct Found {
+    pub state: State,
+    /// The device's words, where they are as many as the reference's and not the same.
+    pub device: Items<u32>,
+    /// The reference's words, where the device's are here.
+    pub reference: Items<u32>,
+}
+
+/// A state in which there are no words to compare.
+pub fn found_open(alloc: Global, state: State) -> Found
+    ensures { result ≡ found_open state }
+{
+    Found {
+        state,
+        device: Items::new(alloc),
+        reference: Items::new(alloc),
+    }
+}
+
+/// Reads a file that should hold this, up to one byte more.
+fn read_like<H: Host>(
+    alloc: Global,
+    host: &mut H,
+    name: &Text,
+    expected: &[u8],
+) -> Result<Likeness, Stop>
+    ensures { (out : SinkState) → MeetsWith IsAnswer (asks_like name.now expected.now)
+        (world (H.state host.old) out) (world (H.state host.new) out) result }
+{
+    let file = owned(alloc, name.as_str())?;
+    match read_file(alloc, host, name.as_str(), expected.len() as u64) {
+        Ok(bytes) => Ok(like(bytes.as_slice(), expected)),
+        Err(FileRefusal::NoFile) => Ok(Likeness::Absent),
+        Err(FileRefusal::TooLong { .. }) => Ok(Likeness::Other),
+        Err(FileRefusal::Failed) => Err(Stop::CannotRead(file)),
+        Err(FileRefusal::NoMemory) => Err(Stop::NoMemory),
+    }
+}
+
+fn like(bytes: &[u8], expected: &[u8]) -> Likeness
+    ensures { result ≡ likeness expected.now (Some bytes.now) }
+{
+    if bytes == expected {
+        Likeness::Same
+    } else {
+        Likeness::Other
+    }
+}
+
+/// Finds what the files of a test say, the later only where the earlier are of this test.
+///
+/// # Errors
+///
+/// [`Stop`]: a file can't be read.
+pub fn find_test<H: Host>(
+    alloc: Global,
+    host: &mut H,
+    isa: IsaSpec,
+    work: &Text,
+    test: &Test,
+) -> Result<Found, Stop>
+    requires { IsRunnable isa test.now }
+    ensures { (out : SinkState) → MeetsWith IsAnswer (finds_test isa work.now test.now)
+        (world (H.state host.old) out) (world (H.state host.new) out) result }
+{
+    let files = TestFiles::new(alloc, work, &test.name)?;
+    match read_like(alloc, host, &files.test, test.text.as_str().as_bytes())? {
+        Likeness::Absent => Ok(found_open(alloc, State::NotRun)),
+        Likeness::Other => Ok(found_open(alloc, State::OtherTest)),
+        Likeness::Same => find_words(alloc, host, isa, &files, test),
+    }
+}
+
+fn find_words<H: Host>(
+    alloc: Global,
+    host: &mut H,
+    isa: IsaSpec,
+    files: &TestFiles,
+    test: &Test,
+) -> Result<Found, Stop>
+    requires { IsRunnable isa test.now }
+    ensures { (out : SinkState) → MeetsWith IsAnswer (finds_words files.now isa test.now)
+        (world (H.state host.old) out) (world (H.state host.new) out) result }
+{
+    let words = reference_of(alloc, isa, test)?;
+    let text = print_words(alloc, words.as_slice())?;
+    match read_like(alloc, host, &files.reference, text.as_str().as_bytes())? {
+        Likeness::Absent => Ok(found_open(alloc, State::NotRun)),
+        Likeness::Other => Ok(found_open(alloc, State::OtherTest)),
+        Likeness::Same => find_signature(alloc, host, &files.device, words),
+    }
+}
+
+/// Judges the device's signature by the reference's words.
+fn find_signature<H: Host>(
+    alloc: Global,
+    host: &mut H,
+    name: &Text,
+    words: Items<u32>,
+) -> Result<Found, Stop>
+    ensures { (out : SinkState) → MeetsWith IsAnswer (finds_signature name.now words)
+        (world (H.state host.old) out) (world (H.state host.new) out) result }
+{
+    let file = owned(alloc, name.as_str())?;
+    match read_file(alloc, host, name.as_str(), SIGNATURE_LIMIT) {
+        Ok(bytes) => Ok(judge_left(alloc, words, bytes)?),
+        Err(FileRefusal::NoFile) => Ok(found_open(alloc, State::NoSignature)),
+        Err(FileRefusal::TooLong { .. }) => Ok(found_open(alloc, State::TooLong)),
+        Err(FileRefusal::Failed) => Err(Stop::CannotRead(file)),
+        Err(FileRefusal::NoMemory) => Err(Stop::NoMemory),
+    }
+}
+
+fn judge_left(alloc: Global, words: Items<u32>, bytes: Bytes) -> Result<Found, NoMemory>
+    ensures { IfOk result (λ found. found ≡ judged_left words bytes) }
+{
+    if bytes.as_slice().is_empty() && !words.as_slice().is_empty() {
+        return Ok(found_open(alloc, State::NoSignature));
+    }
+    match read_words(alloc, bytes.as_slice()) {
+        Ok(device) => Ok(compared(alloc, device, words)),
+        Err(SigRefusal::BadLine { line }) => Ok(found_open(alloc, State::BadLine { line })),
+        Err(SigRefusal::TooLong) => Ok(found_open(alloc, State::TooLong)),
+        Err(SigRefusal::NoMemory) => Err(NoMemory),
+    }
+}
+
+fn compared(alloc: Global, device: Items<u32>, reference: Items<u32>) -> Found
+    ensures { result ≡ compared device reference (verdict_of device reference) }
+{
+    let words = reference.as_slice().len();
+    match compare(device.as_slice(), reference.as_slice()) {
+        Verdict::Same { n } => found_open(alloc, State::Pass { words: n }),
+        Verdict::Lengths { left, right } => {
+            let state = State::Lengths {
+                device: left,
+                reference: right,
+            };
+            found_open(alloc, state)
+        },
+        Verdict::Differs {
+            at,
+            left,
+            right,
+            differing,
+        } => {
+            let state = State::Differs {
+                at,
+                left,
+                right,
+                differing,
+                words,
+            };
+            Found {
+                state,
+                device,
+                reference,
+            }
+        },
+    }
+}

@@ -1,0 +1,2 @@
+mod DatabaseSteps
+mod DatabaseMade

@@ -1,0 +1,3 @@
+pub mod RunTests
+pub mod RunView
+pub mod RunDatabase
