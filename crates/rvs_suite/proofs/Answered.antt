@@ -1,10 +1,11 @@
 -- How a command answers that reads its inputs first, and then does its deeds.
 use Rattle.std.proofs.Common.{◌≡◌, ◌⊎◌, inl, inr, List, Some, Result, Ok, Err, refl, ap, subst, ◌∙◌}
+use Rattle.std.proofs.Common.{arith, rules}
 use Rattle.rvs_base.specs.Host.{Files, Tells}
 use Rattle.rvs_base.specs.Sink.{SinkState}
 use Rattle.rvs_plan.specs.World.{World, Contents, contents}
 use Rattle.rvs_plan.specs.Effect.{Answer}
-use Rattle.rvs_plan.specs.Plan.{Plan, Ends, Goes, followed, ◌>>=◌}
+use Rattle.rvs_plan.specs.Plan.{Plan, followed, ◌>>=◌}
 use Rattle.rvs_plan.specs.Performed.{end_of}
 use Rattle.rvs_plan.specs.Meets.{Completes}
 use Rattle.rvs_plan.specs.Account.{end_status, NoneRose}
@@ -20,7 +21,7 @@ use Rattle.rvs_words.specs.Commands.{command_of}
 use Rattle.rvs_suite.specs.Call.{Call, world_of}
 use Rattle.rvs_suite.specs.Answered.{HasLeft, Answered}
 use Rattle.rvs_suite.proofs.Ends.{same_end, means-end, WasRefused, was_refused, was_missing}
-use Rattle.rvs_inputs.proofs.Finding.{Finds, end-found, Behind, behind, Deeds, left, end-deeds}
+use Rattle.rvs_inputs.proofs.Finding.{Finds, end-found, behind, Deeds, left, end-deeds}
 use Rattle.rvs_inputs.proofs.Finding.{left-after}
 use Rattle.rvs_suite.proofs.Running.{Ran, at_status, asked_means}
 use Rattle.rvs_words.specs.declared.command.Command.{Command}
@@ -44,9 +45,7 @@ followed-end : {A : Type 0} (files : Files) (answers : List Answer) (found : Res
     (deeds : A → Plan Finish) (ends : A → Finish)
     → ((given : A) → Deeds (ends given) (deeds given)) → end_of
     (followed found deeds) files answers ≡ Some (end_after ends found)
-followed-end files answers (Ok given) deeds ends does =
-    end-deeds files answers (ends given) (deeds given) (does given)
-followed-end files answers (Err stop) deeds ends does = refl
+followed-end files = search (rules, end-deeds)
 
 works-end : {A : Type 0} {command : Command} {files : Files} {found : Result A Stop}
     → (w : Works command files found) → (answers : List Answer)
@@ -60,11 +59,7 @@ works-end {files = files} {found = found} w answers =
 works-left : {A : Type 0} {command : Command} {files : Files} (given : A) (end : Result Finish Stop)
     (old new : Contents) → (w : Works command files (Ok given)) → old.files ≡ Some files → Completes
     (plan_of command) end old new → new ≡ left (w.deeds given) old
-works-left {A} {command} {files} given end old new w told r =
-    let b : Behind (w.deeds given) end r.effects old = behind files w.inputs w.deeds (Ok given) end
-    r.effects old w.finds told r.saw
-    (subst (λ (p : Plan Finish). Goes p r.effects (Ends end)) w.plan r.goes) in
-    r.did ∙ b.same ∙ left-after (w.ends given) end (w.deeds given) b.later old (w.does given) b.goes
+works-left {A} {command} {files} given end old new w told r = grind (arith, behind, left-after)
 
 -- an end that the command came to is the one that its inputs lead to
 works-same : {A : Type 0} {command : Command} {files : Files} {found : Result A Stop}
@@ -97,14 +92,11 @@ left-ended (Err stop) old new Left end w t leaves r = let no : Ok end ≡ Err st
 verdict-status : (end : Finish) (status : Status)
     → (status ≡ end_status (Ok end)) ⊎ (status ≡ answer.NoMemory)
     → (status ≡ answer.Done) ⊎ (status ≡ answer.NotPassed) ⊎ (status ≡ answer.NoMemory)
-verdict-status Done status (inl is) = inl is
-verdict-status NotPassed status (inl is) = inr (inl is)
-verdict-status end status (inr no_memory) = inr (inr no_memory)
+verdict-status end status h = grind arith
 
 refused-for : {A : Type 0} (ends : A → Finish) (found : Result A Stop) (stop : Stop)
     → Err stop ≡ end_after ends found → found ≡ Err stop
-refused-for ends (Ok given) stop e = absurd cc
-refused-for ends (Err s) stop e = let same : s ≡ stop = cc in ap (λ (x : Stop). Err x) same
+refused-for ends = grind arith
 
 -- the status of such a command, where nothing failed
 works-means : {A : Type 0} {command : Command} {files : Files} {found : Result A Stop}
@@ -129,8 +121,7 @@ pub record RunsOn (call : Call) (files : Files) (command : Command) : Type 0 whe
 
 pub ran-command : {call : Call} {files : Files} {command : Command} → RunsOn call files command
     → Ran command (world_of call.old) (world_of call.new) call.old.err call.new.err call.status
-ran-command {call} r = subst (λ (c : Command). Ran c (world_of call.old) (world_of call.new)
-    call.old.err call.new.err call.status) r.asks r.ran
+ran-command {call} r = grind arith
 
 pub answered : {A : Type 0} {call : Call} {files : Files} {command : Command}
     {found : Result A Stop} (Left : A → Finish → Type 0) → RunsOn call files command

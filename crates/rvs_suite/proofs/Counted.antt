@@ -1,22 +1,21 @@
 -- What hits a point of a test is counted in the log of its run.
-use Rattle.std.proofs.Common.{◌≡◌, ◌≢◌, ◌≤◌, ℕ, ◌+◌, ◌==◌, Bool, true, false, true≢false, cond}
-use Rattle.std.proofs.Common.{List, [], ◌∷◌, ◌++◌, length, map, take, Option, refl, sym, ap}
-use Rattle.std.proofs.Common.{subst, ◌∙◌, arith}
+use Rattle.std.proofs.Common.{◌≡◌, ◌≢◌, ◌≤◌, ℕ, ◌+◌, Bool, true, cond}
+use Rattle.std.proofs.Common.{List, [], ◌∷◌, ◌++◌, map, Option, refl, sym, ap}
+use Rattle.std.proofs.Common.{subst, ◌∙◌, arith, rules}
 use Rattle.std.specs.Prelude.{count_by}
 use Rattle.std.proofs.Math.Seq.{take-append_seam}
 use Rattle.std.proofs.lemmas.Bool.{eq-eqb}
-use Rattle.std.proofs.lemmas.Bool.Decides.{nat_tests}
 use Rattle.std.proofs.lemmas.List.Sums.{sum_by-cons}
 use Rattle.rvs_machine.specs.declared.event.Executed.{Executed}
 use Rattle.rvs_insn.specs.Memory.{Memory}
-use Rattle.rvs_insn.specs.Fields.{Fields, insn_of_word}
+use Rattle.rvs_insn.specs.Fields.{Fields}
 use Rattle.rvs_cross.specs.Cross.{Place}
 use Rattle.rvs_cross.specs.Windows.{matches}
 use Rattle.rvs_cgf.specs.Groups.{Meaning, op_is, reg_is, regs, nums, window, Label, Point}
 use Rattle.rvs_log.specs.Entries.{Entry}
 use Rattle.rvs_log.specs.Logs.{as_entry}
 use Rattle.rvs_count.specs.Runs.{suffixes}
-use Rattle.rvs_count.specs.Counting.{Aim, begins, count, count_for, decoded, hits, hits_insn}
+use Rattle.rvs_count.specs.Counting.{begins, count, count_for, decoded, hits}
 use Rattle.rvs_count.proofs.Matching.{length_matches}
 use Rattle.rvs_test_text.specs.Claim.{IsOnly, insns_of}
 use Rattle.rvs_test.specs.Claimed.{HitsAlone, HitsAs}
@@ -35,72 +34,48 @@ counted {X} q x xs h =
 
 counted-behind : {X : Type 0} (q : X → Bool) (x : X) (xs : List X) → 1 ≤ count_by q xs
     → 1 ≤ count_by q (x ∷ xs)
-counted-behind {X} q x xs h =
-    let sum : count_by q (x ∷ xs) ≡ bit (q x) + count_by q xs =
-    sum_by-cons (λ (y : X). bit (q y)) x xs in
-    omega (arith, sum, h)
+counted-behind {X} q x xs h = omega (arith, sum_by-cons)
 
 alone : (q : Entry → Bool) (xs : List Executed) (e : Executed) (ys : List Executed)
     → q (as_entry e) ≡ true → 1 ≤ count_by q (map as_entry (xs ++ e ∷ ys))
 alone q [] e ys h = counted q (as_entry e) (map as_entry ys) h
-alone q (x ∷ xs) e ys h = counted-behind q (as_entry x) (map as_entry (xs ++ e ∷ ys))
-    (alone q xs e ys h)
+alone q (x ∷ xs) e ys h = grind (arith, counted-behind, (alone q xs e ys h))
 
 -- ---- neighbours
 decoded-all : (es : List Executed) → map decoded (map as_entry es) ≡ insns_of es
 decoded-all [] = refl
-decoded-all (e ∷ es) =
-    ap (λ (is : List (Option Fields)). insn_of_word e.word ∷ is) (decoded-all es)
+decoded-all (e ∷ es) = simp (decoded-all es)
 
 insns-append : (xs ys : List Executed) → insns_of (xs ++ ys) ≡ insns_of xs ++ insns_of ys
 insns-append [] ys = refl
-insns-append (x ∷ xs) ys =
-    ap (λ (is : List (Option Fields)). insn_of_word x.word ∷ is) (insns-append xs ys)
+insns-append (x ∷ xs) ys = simp (insns-append xs ys)
 
 together : (ps : List Place) (xs : List Executed) (e : Executed) (ys : List Executed)
     → begins ps (insns_of (e ∷ ys)) ≡ true
     → 1 ≤ count_by (begins ps) (suffixes (insns_of (xs ++ e ∷ ys)))
 together ps [] e ys h = counted (begins ps) (insns_of (e ∷ ys)) (suffixes (insns_of ys)) h
-together ps (x ∷ xs) e ys h =
-    counted-behind (begins ps) (insns_of (x ∷ xs ++ e ∷ ys)) (suffixes (insns_of (xs ++ e ∷ ys)))
-    (together ps xs e ys h)
+together ps (x ∷ xs) e ys h = omega (arith, (together ps xs e ys h), counted-behind)
 
 same-size : (a b : ℕ) → (a ≢ b → ⊥) → a ≡ b
-same-size a b h = by-case (a == b) refl
-  where
-    by-case : (t : Bool) → (a == b) ≡ t → a ≡ b
-    by-case true e = grind (arith, nat_tests)
-    by-case false e = absurd (h (λ same. true≢false (sym (eq-eqb a b same) ∙ e)))
+same-size a b h = grind (arith, eq-eqb)
 
 window-begins : (ps : List Place) (e : Executed) (more after : List Executed)
     → matches ps (insns_of (e ∷ more)) ≡ true
     → begins ps (insns_of (e ∷ (more ++ after))) ≡ true
 window-begins ps e more after h =
-    let front = insns_of (e ∷ more) in
-    let size : length front ≡ length ps = same-size (length front) (length ps)
-    (λ other. true≢false (sym h ∙ length_matches ps front other)) in
-    let cut : take (length ps) (insns_of (e ∷ (more ++ after))) ≡ front =
-    ap (λ (n : ℕ). take n (insns_of (e ∷ (more ++ after)))) (sym size)
-    ∙ ap (take (length front)) (insns-append (e ∷ more) after)
-    ∙ take-append_seam front (insns_of after) in
-    ap (matches ps) cut ∙ h
+    grind (arith, same-size, length_matches, insns-append, take-append_seam)
 
 -- ---- a claim
 alone-hits : (memory : Memory) (l : Label) (p : Point) (e : Executed) (more : List Executed)
     (outcome : ℕ × ℕ)
     → HitsAlone memory l p e more outcome → hits (record { ops = l.ops; point = p }) (as_entry e)
     ≡ true
-alone-hits memory l p e more outcome h =
-    ap (λ (i : Option Fields). hits_insn (record { ops = l.ops; point = p }) i e.v1 e.v2) h.decoded
-    ∙ h.hit
+alone-hits memory l p e more outcome h = grind arith
 
 single : (memory : Memory) (l : Label) (p : Point) (at : ℕ) (e : Executed) (more es : List Executed)
     (outcome : ℕ × ℕ) → IsOnly at e more es → HitsAlone memory l p e more outcome
     → 1 ≤ count_by (hits (record { ops = l.ops; point = p })) (map as_entry es)
-single memory l p at e more es outcome only h =
-    let a : Aim = record { ops = l.ops; point = p } in
-    subst (λ (xs : List Executed). 1 ≤ count_by (hits a) (map as_entry xs)) (sym only.split)
-    (alone (hits a) only.before e (more ++ only.after) (alone-hits memory l p e more outcome h))
+single memory l p at e more es outcome only h = grind (arith, alone, alone-hits)
 
 counted-as : (memory : Memory) (l : Label) (p : Point) (m : Meaning) (at : ℕ) (e : Executed)
     (more es : List Executed)
@@ -113,18 +88,13 @@ counted-as memory l p (window ps) at e more es outcome only h =
     decoded-all es ∙ ap insns_of only.split in
     subst (λ (ds : List (Option Fields)). 1 ≤ count_by (begins ps) (suffixes ds)) (sym is)
     (together ps only.before e (more ++ only.after) (window-begins ps e more only.after met))
-counted-as memory l p (op_is op) at e more es outcome only h = single memory l p at e more es
-    outcome only h
-counted-as memory l p (reg_is n) at e more es outcome only h = single memory l p at e more es
-    outcome only h
-counted-as memory l p (regs f) at e more es outcome only h = single memory l p at e more es outcome
-    only h
-counted-as memory l p (nums f) at e more es outcome only h = single memory l p at e more es outcome
-    only h
+counted-as memory l p (op_is op) at e more es outcome only h = search (rules, single)
+counted-as memory l p (reg_is n) at e more es outcome only h = search (rules, single)
+counted-as memory l p (regs f) at e more es outcome only h = search (rules, single)
+counted-as memory l p (nums f) at e more es outcome only h = search (rules, single)
 
 pub counted-claim : (memory : Memory) (l : Label) (p : Point) (at : ℕ) (e : Executed)
     (more es : List Executed)
     (outcome : ℕ × ℕ) → IsOnly at e more es → HitsAs memory l p p.meaning e more outcome
     → 1 ≤ count (map as_entry es) (record { ops = l.ops; point = p })
-counted-claim memory l p at e more es outcome only h =
-    counted-as memory l p p.meaning at e more es outcome only h
+counted-claim memory l p at e more es outcome only h = search (rules, counted-as)

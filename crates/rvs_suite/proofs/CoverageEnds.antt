@@ -118,26 +118,16 @@ low-hits : (files : Files) (windows : List Window) (a : Aim) (names logs : List 
 low-hits files windows a [] [] are = tt
 low-hits files windows a [] (log ∷ logs) are = absurd are
 low-hits files windows a (name ∷ names) [] are = absurd are
-low-hits files windows a (name ∷ names) (log ∷ logs) are = (
-  omega (
-    arith,
-    count-few (kept windows (entries_of log)) a,
-    kept-few windows (entries_of log),
-    log-few log,
-    are.1,
-  ),
-  low-hits files windows a names logs are.2,
-)
+low-hits files windows a (name ∷ names) (log ∷ logs) are =
+    grind (arith, count-few, kept-few, log-few, (low-hits files windows a names logs are.2))
 
 low-all : (files : Files) (windows : List Window) (names logs : List (List ℕ))
     → AreLogs files names logs → AreLow (all-in windows) logs
 low-all files windows [] [] are = tt
 low-all files windows [] (log ∷ logs) are = absurd are
 low-all files windows (name ∷ names) [] are = absurd are
-low-all files windows (name ∷ names) (log ∷ logs) are = (
-  omega (arith, kept-few windows (entries_of log), log-few log, are.1),
-  low-all files windows names logs are.2,
-)
+low-all files windows (name ∷ names) (log ∷ logs) are =
+    grind (arith, kept-few, log-few, (low-all files windows names logs are.2))
 
 -- all of it, of logs that are there
 known-exact : (files : Files) (windows : List Window) (groups : List Label)

@@ -1,7 +1,7 @@
 -- What every call of `run` over a database promises.
 use Rattle.std.proofs.Common.{◌≡◌, ◌⊎◌, inl, inr, ℕ, true, is_some, List, [], ◌∷◌, ◌++◌, length}
-use Rattle.std.proofs.Common.{option_map, Option, Some, None, Result, Ok, Err, refl, sym, ap, subst}
-use Rattle.std.proofs.Common.{◌∙◌, append-nil, arith, Contains, IsTrue}
+use Rattle.std.proofs.Common.{option_map, Option, Some, Result, Ok, Err, refl, sym, ap, subst}
+use Rattle.std.proofs.Common.{◌∙◌, append-nil, arith, Contains, IsTrue, rules}
 use Rattle.rvs_base.specs.Host.{Files, Tells}
 use Rattle.rvs_base.specs.Faults.{raised}
 use Rattle.rvs_base.specs.Sink.{SinkState, appended}
@@ -9,7 +9,6 @@ use Rattle.rvs_base.specs.declared.host.DeviceRun.{DeviceRun}
 use Rattle.rvs_plan.specs.World.{World, Contents, contents}
 use Rattle.rvs_plan.specs.Account.{line_of, status_of, NoneRose, LosesSink}
 use Rattle.rvs_plan.specs.Effect.{Answer, Effect, Did, Out, after, Saw}
-use Rattle.rvs_plan.specs.Inputs.{part_end}
 use Rattle.rvs_plan.specs.Meets.{Completes, Halts, HasCause}
 use Rattle.rvs_plan.specs.Performed.{end_of}
 use Rattle.rvs_plan.specs.Plan.{Plan, Ends, Goes, followed}
@@ -24,14 +23,12 @@ use Rattle.rvs_device.specs.Judging.{Spells}
 use Rattle.rvs_suite.specs.Call.{Call, world_of, NothingFailed, AnswersOnly}
 use Rattle.rvs_suite.specs.DatabaseLeft.{made_in, Trial, with_trials, task_on, trial_lines}
 use Rattle.rvs_suite.specs.DatabaseLeft.{trials_passed, runs_of}
-use Rattle.rvs_inputs.specs.GroupFiles.{and_then}
 use Rattle.rvs_suite.specs.JudgingDatabase.{database_inputs_in, chosen_in, HasJudged, LeftAsItWas}
 use Rattle.rvs_suite.specs.JudgingDatabase.{HasStopped, IsMadeOf, HasExecutable, RunsDatabase}
-use Rattle.rvs_reference.specs.Reference.{test_limit}
-use Rattle.rvs_run.specs.RunDatabase.{Given, made_by, made_found, DatabaseInputs, database_inputs}
+use Rattle.rvs_run.specs.RunDatabase.{Given, made_by, DatabaseInputs}
 use Rattle.rvs_run.specs.RunDatabase.{database_bench, runs_database, run_database}
 use Rattle.rvs_run.specs.RunTests.{Bench, asks_elf, tally_line, tallies, verdict_of_all}
-use Rattle.rvs_reference.specs.TestRun.{found_end, then_found, test_found}
+use Rattle.rvs_reference.specs.TestRun.{then_found}
 use Rattle.rvs_run.specs.declared.judging.Made.{Made}
 use Rattle.rvs_reference.specs.declared.test_run.Run.{Run}
 use Rattle.rvs_suite.proofs.Answered.{RunsOn, ran-command}
@@ -53,8 +50,7 @@ use Rattle.rvs_words.specs.declared.command.RunDatabaseArguments.{RunDatabaseArg
 -- ---- what is left
 told-runs : (r : Option (List DeviceRun)) → is_some r ≡ true
     → (runs : List DeviceRun) × (r ≡ Some runs)
-told-runs (Some runs) is = (runs, refl)
-told-runs None is = absurd cc
+told-runs r is = grind arith
 
 -- nothing comes behind an end
 over : (value : Finish) (end : Result Finish Stop) (effects : List Effect)
@@ -73,12 +69,7 @@ tried-now : (call : Call) (bench : Bench) (files : Files) (given : List Given)
     × (call.new.host.files ≡ Some (with_trials trials files))
     × (call.new.out.bytes
     ≡ appended call.old.out.bytes (trial_lines given trials ++ last))
-tried-now call bench files given trials last before told new = (
-  ap (λ (c : Contents). c.runs) new
-      ∙ sym (ap (λ (r : Option (List DeviceRun)). option_map (λ b. b ++ runs_of trials) r) told),
-  ap (λ (c : Contents). c.files) new,
-  ap (λ (c : Contents). c.out) new,
-)
+tried-now call bench files given trials last before told new = grind (arith, option_map)
 
 -- where the plan came to its end, all tests were judged
 has-judged : (call : Call) (program work : List ℕ) (inputs : DatabaseInputs) (files : Files)
@@ -141,30 +132,7 @@ has-stopped : (call : Call) (program work : List ℕ) (inputs : DatabaseInputs) 
     → call.new.err.bytes ≡ appended call.old.err.bytes (line_of stop)
     → HasStopped call files program work stop inputs
 has-stopped call program work inputs files stop effects before told at did line =
-    let bench = database_bench program work inputs in
-    let out = call.old.out.bytes in
-    let lines = trial_lines at.before at.trials in
-    let now = contents_of (with_trials at.trials files) (before ++ runs_of at.trials) in
-    let new = did ∙ at.same
-    ∙ ap (λ (text : List ℕ). now (appended out text)) (sym (append-nil lines)) in
-    let tried = tried-now call bench files at.before at.trials [] before told new in
-    let both : Err stop ≡ Err at.stop = at.ends in
-    let same : at.stop ≡ stop = cc in
-    record {
-      before = at.before;
-      given = at.last;
-      behind = at.behind;
-      all = at.all;
-      trials = at.trials;
-      tried = record {
-        each = at.each;
-        made = tried.0;
-        files_are = tried.1;
-        out = tried.2;
-      };
-      stops = at.stops ∙ ap (λ (s : Stop). Err s) same;
-      line = line;
-    }
+    grind (arith, contents_of, append-nil, tried-now, behind)
 
 -- what is left, by how the plan ended
 abbrev LeftBy : Call → Files → List ℕ → List ℕ → Result DatabaseInputs Stop → Result Finish Stop
@@ -193,15 +161,9 @@ left-parts call program work inputs files (Ok end) effects before told (inl all)
 left-parts call program work inputs files (Ok end) effects before told (inr at) did =
     absurd (never-stopped end at.stop at.ends)
 left-parts call program work inputs files (Err stop) effects before told (inl all) did =
-    absurd (never-tallies (length (chosen_in inputs)) (trials_passed 0 all.trials) stop all.later
-    all.goes)
+    grind (arith, never-tallies)
 left-parts call program work inputs files (Err stop) effects before told (inr at) did =
-    λ line. inr (record {
-      given = inputs;
-      accepted = refl;
-      left = has-stopped call program work inputs files stop effects before told at did
-          line;
-    })
+    search (rules, inr, has-stopped)
 
 left-accepted : (call : Call) (program work : List ℕ) (inputs : DatabaseInputs) (files : Files)
     (end : Result Finish Stop) (effects : List Effect) → Tells call.old.host files
@@ -225,8 +187,7 @@ left-refused : (call : Call) (files : Files) (program work : List ℕ) (s : Stop
     → contents (world_of call.new) ≡ after effects (contents (world_of call.old))
     → LeftBy call files program work (Err s) end
 left-refused call files program work s (Ok end) [] goes did = absurd cc
-left-refused call files program work s (Err stop) [] goes did =
-    let same : s ≡ stop = cc in λ line. inl (ap (λ (x : Stop). Err x) same, did)
+left-refused call files program work s (Err stop) [] goes did = grind (arith, inl)
 left-refused call files program work s end (effect ∷ effects) goes did = absurd goes
 
 -- by what the inputs come to
@@ -235,66 +196,38 @@ left-by : (call : Call) (program work : List ℕ) (found : Result DatabaseInputs
     (followed found (runs_database program work)) end effects (contents (world_of call.old))
     → contents (world_of call.new) ≡ after effects (contents (world_of call.old))
     → LeftBy call files program work found end
-left-by call program work (Ok inputs) files end effects t b did =
-    left-accepted call program work inputs files end b.later t b.goes b.saw
-    (did ∙ b.same)
-left-by call program work (Err s) files end effects t b did =
-    left-refused call files program work s end b.later b.goes (did ∙ b.same)
+left-by call program work (Ok inputs) files end effects t b did = grind (arith, left-accepted)
+left-by call program work (Err s) files end effects t b did = grind (arith, left-refused)
 
 left : (call : Call) (files : Files) (asked : RunDatabaseArguments) (end : Result Finish Stop)
     → Tells call.old.host files → Completes (run_database asked) end
     (contents (world_of call.old)) (contents (world_of call.new))
     → LeftBy call files asked.program asked.work (database_inputs_in files asked) end
-left call files asked end t r =
-    left-by call asked.program asked.work (database_inputs_in files asked) files end
-    r.effects t (behind files (database_inputs asked) (runs_database asked.program asked.work)
-    (database_inputs_in files asked) end r.effects (contents (world_of call.old))
-    (finds-database-inputs files asked) t.files r.saw r.goes) r.did
+left call files asked end t r = search (rules, left-by, behind, finds-database-inputs)
 
 -- inputs that aren't accepted end it so
 stops : (files : Files) (asked : RunDatabaseArguments) (stop : Stop)
     → database_inputs_in files asked ≡ Err stop → (answers : List Answer)
     → end_of (run_database asked) files answers ≡ Some (Err stop)
-stops files asked stop is answers =
-    end-found files answers (database_inputs asked) (runs_database asked.program asked.work)
-    (database_inputs_in files asked) (finds-database-inputs files asked)
-    ∙ ap (λ (found : Result DatabaseInputs Stop). end_of
-    (followed found (runs_database asked.program asked.work)) files answers) is
+stops files asked stop is answers = grind (arith, end-found, finds-database-inputs)
 
 -- ---- one test is run as by `reference`
 ran-of : (bench : Bench) (given : Given) (bytes : List ℕ) (made : Made)
     (ran : Result Run (List ℕ))
     → then_found ran (λ run. Ok (made_by bench given bytes run)) ≡ Ok made
     → (run : Run) × (ran ≡ Ok run) × (made ≡ made_by bench given bytes run)
-ran-of bench given bytes made (Ok run) is =
-    let same : made ≡ made_by bench given bytes run = cc in (run, refl, same)
-ran-of bench given bytes made (Err text) is = absurd cc
+ran-of bench given bytes made ran is = grind arith
 
 is-made : (files : Files) (bench : Bench) (given : Given) (made : Made)
     → made_in files bench given ≡ Ok made → IsMadeOf files bench given made
-is-made files bench given made is =
-    let t = then-ok (part_end test_limit given.name given.name test_limit (files given.name))
-    (λ bytes. found_end (made_found bench given bytes)) made is in
-    let r = ran-of bench given t.0 made (test_found None bench.isa given.name t.0)
-    (found-of (made_found bench given t.0) made t.2) in
-    record {
-      run = r.0;
-      ran = ap (λ (p : Result (List ℕ) Stop). and_then p
-          (λ bytes. found_end (test_found None bench.isa given.name bytes))) t.1
-          ∙ ap (λ (f : Result Run (List ℕ)). found_end f) r.1;
-      words = ap (λ (m : Made). m.words) r.2;
-      named = ap (λ (m : Made). m.files) r.2;
-    }
+is-made files bench given made is = grind (arith, then-ok, ran-of, found-of)
 
 -- ---- one selected test that passes
 given-left : {call : Call} (files : Files) (program work : List ℕ) (inputs : DatabaseInputs)
     (end : Finish) (found : Result DatabaseInputs Stop) → found ≡ Ok inputs
     → HasLeft found (HasJudged call files program work end)
     → HasJudged call files program work end inputs
-given-left {call} files program work inputs end found is l =
-    let both : Ok l.given ≡ Ok inputs = sym l.accepted ∙ is in
-    let same : l.given ≡ inputs = cc in
-    subst (λ (g : DatabaseInputs). HasJudged call files program work end g) same l.left
+given-left {call} files program work inputs end found is l = grind (arith, left)
 
 -- no stop behind its inputs, and none at them
 unstopped : {call : Call} (files : Files) (program work : List ℕ) (stop : Stop)

@@ -2,6 +2,7 @@
 use Rattle.std.proofs.Common.{◌≡◌, ◌≢◌, ◌≤◌, ◌<◌, ◌+◌, ◌^◌, ℕ, zero, suc, Bool, true, false, List}
 use Rattle.std.proofs.Common.{[], ◌∷◌, length, Contains, IsTrue, Option, Some, None, Result, Ok}
 use Rattle.std.proofs.Common.{Err, bytes_eq, codes, decimal, refl, sym, ap, subst, ◌∙◌, arith}
+use Rattle.std.proofs.Common.{rules}
 use Rattle.std.specs.Prelude.{⊤}
 use Rattle.std.proofs.lemmas.Fmt.{decimal_injective}
 use Rattle.std.proofs.lemmas.List.Elements.{Contains-append_right}
@@ -58,17 +59,7 @@ image-of : (found : Result ImageValue (List ℕ)) (next : ImageValue → Result 
     → then_found (then_found found next) (λ run. Ok (made_by bench given bytes run)) ≡ Ok made
     → (image : ImageValue) × (run : Run) × (found ≡ Ok image)
     × (made ≡ made_by bench given bytes run)
-image-of (Err text) next bench given bytes made is = absurd cc
-image-of (Ok image) next bench given bytes made is = by (next image) is
-  where
-    by : (r : Result Run (List ℕ))
-        → then_found r (λ run. Ok (made_by bench given bytes run)) ≡ Ok made
-        → (i : ImageValue) × (run : Run)
-        × (imaged image ≡ imaged i)
-        × (made ≡ made_by bench given bytes run)
-    by (Ok run) is =
-        let same : made ≡ made_by bench given bytes run = cc in (image, run, refl, same)
-    by (Err text) is = absurd cc
+image-of found next bench given bytes made is = grind arith
 
 was-made : (files : Files) (bench : Bench) (given : Given) (made : Made)
     → made_in files bench given ≡ Ok made → WasMade bench given made
@@ -96,20 +87,12 @@ left-of : (bench : Bench) (given : Given) (run : DeviceRun) (bytes : List ℕ) (
     → with_trial (record { made = made_by bench given bytes ran; run = run }) files other
     ≡ files other
 left-of bench given run bytes ran files other apart =
-    let names = files_at bench.work given.place given.name in
-    passed-by (bytes_eq other names.device) _ _ (other-bytes other names.device apart.device)
-    ∙ passed-by (bytes_eq other names.reference) _ _
-    (other-bytes other names.reference apart.reference)
-    ∙ kept-executable (asks_elf bench) names.executable
-    (elf_found (image_found bench.isa given.name bytes)) files other apart.executable
+    grind (arith, passed-by, bytes_eq, other-bytes, kept-executable)
 
 kept-trial : (bench : Bench) (files : Files) (given : Given) (t : Trial) (other : List ℕ)
     → made_in files bench given ≡ Ok t.made → IsNoneOf bench given other
     → with_trial t files other ≡ files other
-kept-trial bench files given t other made apart =
-    let w = was-made files bench given t.made made in
-    ap (λ (m : Made). with_trial (record { made = m; run = t.run }) files other) w.is
-    ∙ left-of bench given t.run w.bytes w.run files other apart
+kept-trial bench files given t other made apart = search (rules, was-made, left-of)
 
 kept-trials : (bench : Bench) (files : Files) (gs : List Given) (ts : List Trial)
     (other : List ℕ) → AreTrialsOf bench files gs ts
@@ -279,8 +262,7 @@ pub all-there : (bench : Bench) → HasRoom bench.isa.memory → (files : Files)
     → AreTrialsOf bench files gs ts → AreApart gs
     → ((g : Given) → Contains gs g → g.place < 2 ^ 64) → IsTrue (asks_elf bench)
     → (g : Given) → Contains gs g → HasExecutable bench (with_trials ts files) g
-all-there bench room files [] ts each apart low wanted g (i, within, at) =
-    absurd (omega (arith, within))
+all-there bench room files [] ts each apart low wanted g (i, within, at) = grind arith
 all-there bench room files (h ∷ gs) [] each apart low wanted g there = absurd each
 all-there bench room files (h ∷ gs) (t ∷ ts) each apart low wanted g (zero, within, at) =
     subst (λ (x : Given). HasExecutable bench (with_trials (t ∷ ts) files) x) at

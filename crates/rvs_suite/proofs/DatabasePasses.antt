@@ -1,5 +1,5 @@
 -- Which trials of a database pass, by the verdict on all of them; and one test that passes.
-use Rattle.std.proofs.Common.{◌≡◌, ◌≢◌, ◌≤◌, ◌⊎◌, inl, inr, ℕ, zero, suc, ◌+◌, ◌==◌, Bool, true}
+use Rattle.std.proofs.Common.{◌≡◌, ◌≢◌, ◌≤◌, ◌⊎◌, ℕ, suc, ◌+◌, ◌==◌, Bool, true}
 use Rattle.std.proofs.Common.{false, if◌then◌else◌, List, [], ◌∷◌, ◌++◌, length, length-append}
 use Rattle.std.proofs.Common.{option_map, Option, Some, Ok, Err, refl, sym, ap, subst, ◌∙◌, arith}
 use Rattle.std.proofs.Common.{All, Contains}
@@ -97,9 +97,7 @@ one-fails bench n (t ∷ ts) e =
 judged-for : (bench : Bench) (ts : List Trial) (tests : ℕ) (end : Finish) (b : Bool)
     → length ts ≡ tests → (trials_passed 0 ts == tests) ≡ b
     → end ≡ (if b then finish.Done else finish.NotPassed) → AreJudged bench end ts
-judged-for bench ts tests finish.Done true long is e =
-    let all : trials_passed 0 ts ≡ tests = grind (arith, nat_tests) in
-    all-spelled bench 0 ts (omega (arith, all, long))
+judged-for bench ts tests finish.Done true long is e = grind (arith, all-spelled)
 judged-for bench ts tests finish.NotPassed true long is e = absurd cc
 judged-for bench ts tests finish.Done false long is e = absurd cc
 judged-for bench ts tests finish.NotPassed false long is e =
@@ -110,9 +108,7 @@ judged-for bench ts tests finish.NotPassed false long is e =
 pub are-judged : (bench : Bench) (files : Files) (given : List Given) (ts : List Trial)
     (end : Finish) → AreTrialsOf bench files given ts
     → end ≡ verdict_of_all (length given) (trials_passed 0 ts) → AreJudged bench end ts
-are-judged bench files given ts end each verdict =
-    judged-for bench ts (length given) end (trials_passed 0 ts == length given)
-    (same-length bench given ts files each) refl verdict
+are-judged bench files given ts end each verdict = grind (arith, judged-for, same-length)
 
 -- ---- where one test is selected
 only-one : (before : List Given) (x g : Given) (behind : List Given)
@@ -124,8 +120,7 @@ only-one (b ∷ before) x g behind is =
 
 none-tried : (bench : Bench) (files : Files) (ts : List Trial) → AreTrialsOf bench files [] ts
     → ts ≡ []
-none-tried bench files [] each = refl
-none-tried bench files (t ∷ ts) each = absurd each
+none-tried bench files ts each = grind arith
 
 -- it didn't stop there
 pub never-stopped-at : {call : Call} (files : Files) (program work : List ℕ) (stop : Stop)
@@ -148,18 +143,7 @@ one-trial : (bench : Bench) (files : Files) (given : Given) (made : Made) (run :
     (ts : List Trial) (t : Trial) → AreTrialsOf bench files (given ∷ []) ts
     → made_in files bench given ≡ Ok made → run ∷ [] ≡ runs_of ts → Contains ts t
     → (t.made ≡ made) × (t.run ≡ run)
-one-trial bench files given made run [] t each is runs there = absurd each
-one-trial bench files given made run (s ∷ u ∷ ts) t each is runs there = absurd each.1
-one-trial bench files given made run (s ∷ []) t each is runs (zero, low, at) =
-    let both : Ok s.made ≡ Ok made = sym each.0.made ∙ is in
-    let made-is : s.made ≡ made = cc in
-    let run-is : run ≡ s.run = cc in
-    let same : s ≡ t = at in (
-      ap (λ (x : Trial). x.made) (sym same) ∙ made-is,
-      ap (λ (x : Trial). x.run) (sym same) ∙ sym run-is,
-    )
-one-trial bench files given made run (s ∷ []) t each is runs (suc k, low, at) =
-    absurd (omega (arith, low))
+one-trial bench files given made run ts t each is runs there = grind arith
 
 -- nor was it judged and doesn't pass
 pub never-failed : {call : Call} (files : Files) (program work : List ℕ) (inputs : DatabaseInputs)
@@ -188,10 +172,4 @@ pub done-or-memory : (status : Status) → (status ≡ answer.NotPassed → ⊥)
     → (status ≡ answer.Usage → ⊥) → (status ≡ answer.Refused → ⊥)
     → (status ≡ answer.HostFault → ⊥) → (status ≡ answer.SinkFault → ⊥)
     → (status ≡ answer.Done) ⊎ (status ≡ answer.NoMemory)
-done-or-memory answer.Done n u r h s = inl refl
-done-or-memory answer.NotPassed n u r h s = absurd (n refl)
-done-or-memory answer.Usage n u r h s = absurd (u refl)
-done-or-memory answer.Refused n u r h s = absurd (r refl)
-done-or-memory answer.HostFault n u r h s = absurd (h refl)
-done-or-memory answer.SinkFault n u r h s = absurd (s refl)
-done-or-memory answer.NoMemory n u r h s = inr refl
+done-or-memory status n u r h s = grind arith

@@ -1,9 +1,10 @@
 -- Reading a database: it only reads, and what it finds over given files.
-use Rattle.std.proofs.Common.{◌≡◌, ◌∙◌, ℕ, List, Option, Result, Ok, Err, refl, sym, ap}
+use Rattle.std.proofs.lemmas.Bool.Decides.{nat_tests}
+use Rattle.std.proofs.Common.{◌≡◌, ℕ, List, Option, Result, Ok, sym, arith}
 use Rattle.rvs_base.specs.Host.{Files}
 use Rattle.rvs_plan.specs.Plan.{followed}
 use Rattle.rvs_device.specs.DeviceFile.{Told}
-use Rattle.rvs_plan.specs.Inputs.{input, part_end}
+use Rattle.rvs_plan.specs.Inputs.{part_end}
 use Rattle.rvs_plan.specs.declared.stop.Stop.{Stop}
 use Rattle.rvs_insn.specs.Isa.{Isa}
 use Rattle.rvs_tree.specs.Data.{Data}
@@ -15,55 +16,43 @@ use Rattle.rvs_select.specs.declared.refusal.SelectRefusal.{SelectRefusal}
 use Rattle.rvs_select.proofs.Accepted.{accepts, read_few}
 use Rattle.rvs_inputs.specs.GroupFiles.{and_then}
 use Rattle.rvs_inputs.specs.DatabaseInput.{database_limit, checked_end, tree_end, checks}
-use Rattle.rvs_inputs.specs.DatabaseInput.{database_file, database_in, marked, gives_marked}
+use Rattle.rvs_inputs.specs.DatabaseInput.{database_file, database_in}
 use Rattle.rvs_inputs.specs.DatabaseInput.{marked_file, marked_in}
 use Rattle.rvs_parts.specs.Parts.{PartValue}
-use Rattle.rvs_inputs.specs.DeviceInput.{device_file, device_in}
 use Rattle.rvs_suite.specs.JudgingDatabase.{database_inputs_in}
-use Rattle.rvs_run.specs.RunDatabase.{DatabaseInputs, with_device, device_behind}
-use Rattle.rvs_run.specs.RunDatabase.{database_behind, database_inputs}
+use Rattle.rvs_run.specs.RunDatabase.{DatabaseInputs}
+use Rattle.rvs_run.specs.RunDatabase.{database_inputs}
 use Rattle.rvs_plain.specs.Select.{selection_in, reads_selection}
 use Rattle.rvs_suite.specs.Selecting.{HoldsTests}
-use Rattle.rvs_inputs.specs.Specification.{said_in, specification}
-use Rattle.rvs_inputs.proofs.Readers.{OnlyReads, OnlyReads-then}
+use Rattle.rvs_inputs.specs.Specification.{said_in}
+use Rattle.rvs_inputs.proofs.Readers.{OnlyReads}
 use Rattle.rvs_inputs.proofs.Finding.{Finds}
 use Rattle.rvs_inputs.proofs.GroupInputs.{reads-specification, finds-specification, finds-and_then}
 use Rattle.rvs_suite.proofs.Meanings.{then-ok, whole-of}
-use Rattle.rvs_suite.proofs.RunReads.{finds-device}
 use Rattle.rvs_words.specs.declared.command.RunDatabaseArguments.{RunDatabaseArguments}
 use Rattle.rvs_words.specs.declared.command.SelectArguments.{SelectArguments}
 
 pub reads-database : (isa : Isa) (name : List ℕ) → OnlyReads (database_file isa name)
-reads-database isa name = OnlyReads-then (input database_limit name) (checks isa name)
-    (λ found. tt) (λ bytes. tt)
+reads-database isa name = grind arith
 
 pub reads-selection : (asked : SelectArguments) → OnlyReads (reads_selection asked)
-reads-selection asked = OnlyReads-then (specification asked.isa)
-    (λ said. database_file said.spec asked.database) (reads-specification asked.isa)
-    (λ said. reads-database said.spec asked.database)
+reads-selection asked = grind (arith, reads-specification, reads-database)
 
 told-by : (files : Files) (isa : Isa) (name : List ℕ) (bytes : Result (List ℕ) Stop) → Finds files
     (followed bytes (checks isa name)) (and_then bytes (λ b. tree_end isa name (answer b)))
-told-by files isa name (Ok bytes) = refl
-told-by files isa name (Err stop) = refl
+told-by files isa name bytes = grind arith
 
 pub finds-database : (files : Files) (isa : Isa) (name : List ℕ)
     → Finds files (database_file isa name) (database_in files isa name)
-finds-database files isa name =
-    told-by files isa name (part_end database_limit name name database_limit (files name))
+finds-database files isa name = grind (arith, told-by)
 
 pub finds-selection : (files : Files) (asked : SelectArguments)
     → Finds files (reads_selection asked) (selection_in files asked)
-finds-selection files asked = finds-and_then files (specification asked.isa)
-    (λ said. database_file said.spec asked.database) (said_in files asked.isa)
-    (λ said. database_in files said.spec asked.database) (finds-specification files asked.isa)
-    (λ said. finds-database files said.spec asked.database)
+finds-selection files asked = grind (arith, finds-and_then, finds-specification, finds-database)
 
 pub finds-marked : (files : Files) (part : Option PartValue) (isa : Isa) (name : List ℕ)
     → Finds files (marked_file part isa name) (marked_in files part isa name)
-finds-marked files part isa name = finds-and_then files (database_file isa name)
-    (gives_marked part) (database_in files isa name) (λ entries. Ok (marked part entries))
-    (finds-database files isa name) (λ entries. refl)
+finds-marked files part isa name = grind (arith, finds-and_then, finds-database)
 
 -- ---- the inputs of a run over a database
 abbrev inputs-with : Isa → List Entry → Told → Result DatabaseInputs Stop
@@ -71,30 +60,17 @@ inputs-with isa entries told = Ok (record { isa = isa; entries = entries; device
 
 pub finds-database-inputs : (files : Files) (asked : RunDatabaseArguments)
     → Finds files (database_inputs asked) (database_inputs_in files asked)
-finds-database-inputs files asked = finds-and_then files (specification asked.isa)
-    (λ said. database_behind asked said.spec) (said_in files asked.isa)
-    (λ said. and_then (marked_in files asked.part said.spec asked.database)
-    (λ entries. and_then (device_in files asked.device) (inputs-with said.spec entries)))
-    (finds-specification files asked.isa)
-    (λ said. finds-and_then files (marked_file asked.part said.spec asked.database)
-    (device_behind asked.device said.spec) (marked_in files asked.part said.spec asked.database)
-    (λ entries. and_then (device_in files asked.device) (inputs-with said.spec entries))
-    (finds-marked files asked.part said.spec asked.database)
-    (λ entries. finds-and_then files (device_file asked.device) (with_device said.spec entries)
-    (device_in files asked.device) (inputs-with said.spec entries)
-    (finds-device files asked.device) (λ told. refl)))
+finds-database-inputs files asked = grind (arith, nat_tests)
 
 -- ---- what an accepted database holds
 tree-of : (isa : Isa) (name : List ℕ) (p : Parsed) (entries : List Entry)
     → tree_end isa name p ≡ Ok entries
     → (tree : Data) × (p ≡ Ok tree) × (checked_end name (database_of isa tree) ≡ Ok entries)
-tree-of isa name (Ok tree) entries is = (tree, refl, is)
-tree-of isa name (Err fault) entries is = absurd cc
+tree-of isa name p entries is = grind arith
 
 checked-of : (name : List ℕ) (r : Result (List Entry) SelectRefusal) (entries : List Entry)
     → checked_end name r ≡ Ok entries → r ≡ Ok entries
-checked-of name (Ok es) entries is = let same : es ≡ entries = cc in ap Ok same
-checked-of name (Err refusal) entries is = absurd cc
+checked-of name r entries is = grind arith
 
 pub holds-tests : (files : Files) (isa : Isa) (name : List ℕ) (entries : List Entry)
     → database_in files isa name ≡ Ok entries → HoldsTests files isa name entries
@@ -117,7 +93,4 @@ holds-tests files isa name entries is =
 pub selected-tests : (files : Files) (asked : SelectArguments) (said : AcceptedSpec)
     (entries : List Entry) → said_in files asked.isa ≡ Ok said
     → selection_in files asked ≡ Ok entries → HoldsTests files said.spec asked.database entries
-selected-tests files asked said entries says is =
-    holds-tests files said.spec asked.database entries
-    (sym (ap (λ (r : Result AcceptedSpec Stop). and_then r
-    (λ (s : AcceptedSpec). database_in files s.spec asked.database)) says) ∙ is)
+selected-tests files asked said entries says is = grind (arith, holds-tests)

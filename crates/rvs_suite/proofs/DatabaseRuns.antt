@@ -1,6 +1,7 @@
 -- What the effects of `run` over a database leave, test by test.
 use Rattle.std.proofs.Common.{◌≡◌, ◌⊎◌, inl, inr, ℕ, List, [], ◌∷◌, ◌++◌, append_assoc, append-nil}
 use Rattle.std.proofs.Common.{Option, Result, Ok, Err, refl, sym, ap, subst, ◌∙◌, Bool, bytes_eq}
+use Rattle.std.proofs.Common.{arith}
 use Rattle.rvs_base.specs.Host.{Files, with_left, run_over}
 use Rattle.rvs_base.specs.Sink.{appended}
 use Rattle.rvs_base.specs.declared.host.DeviceRun.{DeviceRun}
@@ -38,15 +39,13 @@ behind_made bench given next made = announces_made bench given made >>= next
 by-found : (bench : Bench) (given : Given) (next : Bool → Plan Finish)
     (found : Result Made (List ℕ)) → ((accepted found >>= announces_made bench given) >>= next)
     ≡ followed (found_end found) (behind_made bench given next)
-by-found bench given next (Ok made) = refl
-by-found bench given next (Err text) = refl
+by-found bench given next found = grind arith
 
 by-bytes : (bench : Bench) (given : Given) (next : Bool → Plan Finish)
     (bytes : Result (List ℕ) Stop) → ((followed bytes (λ b. accepted (made_found bench given b))
     >>= announces_made bench given) >>= next) ≡ followed
     (and_then bytes (λ b. found_end (made_found bench given b))) (behind_made bench given next)
-by-bytes bench given next (Ok bytes) = by-found bench given next (made_found bench given bytes)
-by-bytes bench given next (Err stop) = refl
+by-bytes bench given next bytes = grind arith
 
 -- ---- one test that is judged
 abbrev after_trial : Given → Files → List DeviceRun → Option (List ℕ) → Trial → Contents
@@ -195,25 +194,14 @@ with-read : {bench : Bench} {given : Given} {next : Bool → Plan Finish} {files
     → effects ≡ Read given.name found ∷ rest
     → TriedOne bench given next files runs out end rest
     → TriedOne bench given next files runs out end effects
-with-read {files = files} {runs = runs} {out = out} effects rest found is t = record {
-  trial = t.trial;
-  is = t.is;
-  later = t.later;
-  goes = t.goes;
-  saw = t.saw;
-  same = ap (λ (es : List Effect). after es (contents_of files runs out)) is ∙ t.same;
-}
+with-read {files = files} {runs = runs} {out = out} effects rest found is t =
+    grind (arith, contents_of)
 
 ended-read : {bench : Bench} {given : Given} {files : Files} {end : Result Finish Stop}
     {c : Contents} (effects rest : List Effect) (found : Option (List ℕ))
     → effects ≡ Read given.name found ∷ rest → EndedOne bench given files end rest c
     → EndedOne bench given files end effects c
-ended-read {c = c} effects rest found is t = record {
-  stop = t.stop;
-  stops = t.stops;
-  ends = t.ends;
-  same = ap (λ (es : List Effect). after es c) is ∙ t.same;
-}
+ended-read {c = c} effects rest found is t = grind arith
 
 tried-one : (bench : Bench) (given : Given) (next : Bool → Plan Finish) (files : Files)
     (runs : List DeviceRun) (out : Option (List ℕ)) (end : Result Finish Stop)

@@ -1,22 +1,20 @@
 -- That `run` over a database changes no file but those that its places name, however it ends.
-use Rattle.std.proofs.Common.{◌≡◌, ◌≢◌, ℕ, Bool, true, false, List, [], ◌∷◌, length, Some}
-use Rattle.std.proofs.Common.{None, Result, Ok, Err, Contains, refl, arith}
+use Rattle.std.proofs.Common.{◌≡◌, ◌≢◌, ℕ, Bool, true, List, [], ◌∷◌, length, Some}
+use Rattle.std.proofs.Common.{Result, Ok, Contains, refl, arith}
 use Rattle.std.proofs.lemmas.List.Elements.{Contains-append_right}
 use Rattle.rvs_base.specs.Host.{Files, Tells}
 use Rattle.rvs_base.specs.Sink.{SinkState}
 use Rattle.rvs_plan.specs.World.{World}
 use Rattle.rvs_plan.specs.Plan.{followed, ◌>>=◌}
-use Rattle.rvs_plan.specs.Inputs.{part_end}
 use Rattle.rvs_plan.specs.declared.stop.Stop.{Stop}
 use Rattle.rvs_plan.specs.declared.status.Status.{Status}
 use Rattle.rvs_suite.specs.JudgingDatabase.{database_inputs_in, chosen_in, IsNoneOf}
-use Rattle.rvs_reference.specs.Reference.{test_limit}
-use Rattle.rvs_run.specs.RunDatabase.{Given, elf_found, made_by, made_found, announces_made}
+use Rattle.rvs_run.specs.RunDatabase.{Given, made_by, made_found, announces_made}
 use Rattle.rvs_run.specs.RunDatabase.{judges_given, judges_chosen, DatabaseInputs, database_inputs}
 use Rattle.rvs_run.specs.RunDatabase.{database_bench, runs_database, run_database}
-use Rattle.rvs_run.specs.RunTests.{Bench, asks_elf, if_asked, with_one, tallies}
+use Rattle.rvs_run.specs.RunTests.{Bench, if_asked, with_one, tallies}
 use Rattle.rvs_generate.specs.TestFiles.{files_at}
-use Rattle.rvs_reference.specs.TestRun.{accepted, then_found, image_found, test_found}
+use Rattle.rvs_reference.specs.TestRun.{accepted, then_found}
 use Rattle.rvs_reference.specs.declared.test_run.Run.{Run}
 use Rattle.rvs_suite.proofs.DatabaseReads.{finds-database-inputs}
 use Rattle.rvs_suite.proofs.Running.{Ran}
@@ -33,33 +31,24 @@ spares-made : (other : List ℕ) (bench : Bench) (given : Given) (words : List �
       executable = if_asked wants executable;
       words = words;
     }))
-spares-made other bench given words true executable apart this =
-    (apart refl, (this.reference, (this.device, (this.device, λ answer found. tt))))
-spares-made other bench given words false executable apart this =
-    (this.reference, (this.device, (this.device, λ answer found. tt)))
+spares-made other bench given words wants executable apart this = grind arith
 
 -- by what comes of its run
 spares-ran : (other : List ℕ) (bench : Bench) (given : Given) (bytes : List ℕ)
     (ran : Result Run (List ℕ)) → IsNoneOf bench given other → Spares other
     (accepted (then_found ran (λ run. Ok (made_by bench given bytes run)))
     >>= announces_made bench given)
-spares-ran other bench given bytes (Ok run) this =
-    spares-made other bench given run.words (asks_elf bench)
-    (elf_found (image_found bench.isa given.name bytes)) this.executable this
-spares-ran other bench given bytes (Err text) this = tt
+spares-ran other bench given bytes ran this = grind arith
 
 -- and of its bytes
 spares-bytes : (other : List ℕ) (bench : Bench) (given : Given) (bytes : Result (List ℕ) Stop)
     → IsNoneOf bench given other → Spares other
     (followed bytes (λ b. accepted (made_found bench given b)) >>= announces_made bench given)
-spares-bytes other bench given (Ok bytes) this =
-    spares-ran other bench given bytes (test_found None bench.isa given.name bytes) this
-spares-bytes other bench given (Err stop) this = tt
+spares-bytes other bench given bytes this = grind arith
 
 spares-given : (other : List ℕ) (bench : Bench) (given : Given) → IsNoneOf bench given other
     → Spares other (judges_given bench given)
-spares-given other bench given this = λ found. spares-bytes other bench given
-    (part_end test_limit given.name given.name test_limit found) this
+spares-given other bench given this = grind (arith, spares-bytes)
 
 spares-chosen : (other : List ℕ) (bench : Bench) (passed : ℕ) (given : List Given)
     → ((g : Given) → Contains given g → IsNoneOf bench g other)

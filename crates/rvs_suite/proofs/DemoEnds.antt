@@ -53,9 +53,7 @@ never-refused {call} Left a is =
 done-or : {status : Status} → (status ≡ answer.Done) ⊎ (status ≡ answer.NotPassed)
     ⊎ (status ≡ answer.NoMemory) → (status ≡ answer.NotPassed → ⊥)
     → (status ≡ answer.Done) ⊎ (status ≡ answer.NoMemory)
-done-or (inl is) never = inl is
-done-or (inr (inl is)) never = absurd (never is)
-done-or (inr (inr is)) never = inr is
+done-or h never = grind arith
 
 -- a host that tells all that it holds, which is nothing
 abbrev bare : HostState

@@ -1,5 +1,6 @@
 -- The end of a plan over told files, and the status of a run.
-use Rattle.std.proofs.Common.{◌≡◌, ◌⊎◌, inl, inr, ℕ, List, [], Some, Result, Err, sym, ap, ◌∙◌}
+use Rattle.std.proofs.Common.{◌≡◌, ◌⊎◌, ℕ, List, [], Some, Result, Err}
+use Rattle.std.proofs.Common.{arith}
 use Rattle.rvs_base.specs.Host.{Files}
 use Rattle.rvs_base.specs.Sink.{SinkState, appended}
 use Rattle.rvs_plan.specs.World.{World, contents}
@@ -19,15 +20,13 @@ use Rattle.rvs_plan.specs.declared.status.Finish.{Finish}
 pub same_end : (plan : Plan Finish) (files : Files) (end end' : Result Finish Stop)
     → ComesTo plan files end → ((answers : List Answer) → end_of plan files answers ≡ Some end')
     → end ≡ end'
-same_end plan files end end' comes is = let both : Some end ≡ Some end' =
-    sym comes.is ∙ is comes.answers in cc
+same_end plan files end end' comes is = grind arith
 
 -- the status that such a plan means
 pub means-end : (plan : Plan Finish) (files : Files) (status : Status) (end : Result Finish Stop)
     → Means plan files status → ((answers : List Answer) → end_of plan files answers ≡ Some end)
     → status ≡ end_status end
-means-end plan files status end m is =
-    m.status_is ∙ ap end_status (same_end plan files m.end end m.comes is)
+means-end plan files status end m is = grind (arith, same_end)
 
 -- a refused input, and its line
 pub record WasRefused (plan : Plan Finish) (old new : World) (err err' : SinkState) : Type 0 where
@@ -38,20 +37,11 @@ pub record WasRefused (plan : Plan Finish) (old new : World) (err err' : SinkSta
 refused_for : (plan : Plan Finish) (old new : World) (err err' : SinkState) (reason : Stop)
     → Halts plan (contents old) (contents new) reason → answer.Refused ≡ status_of reason
     → err'.bytes ≡ appended err.bytes (line_of reason) → WasRefused plan old new err err'
-refused_for plan old new err err' why.Usage h is line = absurd cc
-refused_for plan old new err err' (why.Refused text) h is line =
-    record { text = text; completes = h; line = line }
-refused_for plan old new err err' (why.NoFile name) h is line = absurd cc
-refused_for plan old new err err' (why.CannotRead name) h is line = absurd cc
-refused_for plan old new err err' (why.CannotWrite name) h is line = absurd cc
-refused_for plan old new err err' (why.CannotRun test) h is line = absurd cc
-refused_for plan old new err err' why.NoMemory h is line = absurd cc
-refused_for plan old new err err' why.SinkFault h is line = absurd cc
+refused_for plan old new err err' reason h is line = grind arith
 
 pub was_refused : (plan : Plan Finish) (old new : World) (err err' : SinkState)
     → Reports plan answer.Refused old new err err' → WasRefused plan old new err err'
-was_refused plan old new err err' r =
-    refused_for plan old new err err' r.reason r.halts r.status_is r.line
+was_refused plan old new err err' r = grind (arith, refused_for)
 
 -- an input file that isn't there, and its line
 pub record WasMissing (plan : Plan Finish) (old new : World) (err err' : SinkState) : Type 0 where
@@ -64,21 +54,9 @@ missing_for : (plan : Plan Finish) (old new : World) (err err' : SinkState) (rea
     → ((reason ≡ why.Usage) ⊎ HasCause old new reason) → answer.HostFault ≡ status_of reason
     → err'.bytes ≡ appended err.bytes (line_of reason)
     → WasMissing plan old new err err' ⊎ HostRose old new
-missing_for plan old new err err' why.Usage h c is line = absurd cc
-missing_for plan old new err err' (why.Refused text) h c is line = absurd cc
-missing_for plan old new err err' (why.NoFile name) h c is line =
-    inl (record { name = name; completes = h; line = line })
-missing_for plan old new err err' (why.CannotRead name) h (inl e) is line = absurd cc
-missing_for plan old new err err' (why.CannotRead name) h (inr rose) is line = inr (inl rose)
-missing_for plan old new err err' (why.CannotWrite name) h (inl e) is line = absurd cc
-missing_for plan old new err err' (why.CannotWrite name) h (inr rose) is line = inr (inr (inl rose))
-missing_for plan old new err err' (why.CannotRun test) h (inl e) is line = absurd cc
-missing_for plan old new err err' (why.CannotRun test) h (inr rose) is line = inr (inr (inr rose))
-missing_for plan old new err err' why.NoMemory h c is line = absurd cc
-missing_for plan old new err err' why.SinkFault h c is line = absurd cc
+missing_for plan old new err err' reason h c is line = grind arith
 
 pub was_missing : (plan : Plan Finish) (old new : World) (err err' : SinkState)
     → Reports plan answer.HostFault old new err err'
     → WasMissing plan old new err err' ⊎ HostRose old new
-was_missing plan old new err err' r =
-    missing_for plan old new err err' r.reason r.halts r.cause r.status_is r.line
+was_missing plan old new err err' r = grind (arith, missing_for)

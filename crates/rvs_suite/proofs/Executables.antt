@@ -1,13 +1,12 @@
 -- The executable of a test, which is written where the device asks for it.
-use Rattle.std.proofs.Common.{◌≡◌, ◌≢◌, ℕ, Bool, true, false, List, ◌∷◌, Option, Some, None}
-use Rattle.std.proofs.Common.{bytes_eq, refl}
+use Rattle.std.proofs.Common.{◌≡◌, ◌≢◌, ℕ, Bool, true, List, ◌∷◌, Option, Some, None}
+use Rattle.std.proofs.Common.{arith, rules}
 use Rattle.rvs_base.specs.Host.{Files}
 use Rattle.rvs_base.specs.declared.host.DeviceRun.{DeviceRun}
 use Rattle.rvs_plan.specs.World.{Contents}
 use Rattle.rvs_plan.specs.Effect.{Write, Effect, Did, after, Saw}
 use Rattle.rvs_run.specs.RunTests.{if_asked}
 use Rattle.rvs_suite.specs.RunLeft.{with_executable}
-use Rattle.rvs_generate.proofs.Paths.{found-in, passed-by, same-bytes, other-bytes}
 
 -- ---- effects
 -- the write of an executable, where there is one, and then others
@@ -22,26 +21,20 @@ pub after-executable : (name : List ℕ) (executable : Option (List ℕ)) (later
     (files : Files) (runs : List DeviceRun) (out : Option (List ℕ))
     → after (written_before name executable later) (contents_of files runs out)
     ≡ after later (contents_of (with_executable name executable files) runs out)
-after-executable name None later files runs out = refl
-after-executable name (Some executable) later files runs out = refl
+after-executable name executable later files runs out = grind arith
 
 pub saw-executable : (name : List ℕ) (executable : Option (List ℕ)) (later : List Effect)
     (files : Files) (runs : List DeviceRun) (out : Option (List ℕ))
     → Saw (written_before name executable later) (contents_of files runs out)
     → Saw later (contents_of (with_executable name executable files) runs out)
-saw-executable name None later files runs out saw = saw
-saw-executable name (Some executable) later files runs out saw = saw.1
+saw-executable name executable later files runs out saw = grind arith
 
 -- ---- files
 pub kept-executable : (wants : Bool) (name executable : List ℕ) (files : Files) (other : List ℕ)
     → (wants ≡ true → other ≢ name)
     → with_executable name (if_asked wants executable) files other ≡ files other
-kept-executable true name executable files other apart =
-    passed-by (bytes_eq other name) _ _ (other-bytes other name (apart refl))
-kept-executable false name executable files other apart = refl
+kept-executable wants name executable files other apart = search rules
 
 pub there-executable : (wants : Bool) (name executable : List ℕ) (files : Files) → wants ≡ true
     → with_executable name (if_asked wants executable) files name ≡ Some executable
-there-executable true name executable files wanted =
-    found-in (bytes_eq name name) _ _ (same-bytes name)
-there-executable false name executable files wanted = absurd cc
+there-executable wants name executable files wanted = search rules

@@ -1,5 +1,6 @@
 -- What holds of the image of a test file, whichever kind of file it is.
-use Rattle.std.proofs.Common.{◌≡◌, ℕ, Bool, true, false, if◌then◌else◌, List, Result, Ok, Err, ap}
+use Rattle.std.proofs.Common.{◌≡◌, ℕ, Bool, true, false, if◌then◌else◌, List, Result, Ok}
+use Rattle.std.proofs.Common.{arith}
 use Rattle.rvs_insn.specs.Isa.{Isa}
 use Rattle.rvs_machine.specs.Image.{ImageValue, IsImage}
 use Rattle.rvs_machine.specs.ImageText.{image_of_bytes}
@@ -15,18 +16,15 @@ use Rattle.rvs_suite.proofs.ImageRegions.{file-image, elf-image, stands-map}
 
 pub of-file : (name : List ℕ) (r : Result ImageValue ImageRefusal) (image : ImageValue)
     → file_found name r ≡ Ok image → r ≡ Ok image
-of-file name (Ok i) image is = let same : i ≡ image = cc in ap Ok same
-of-file name (Err refusal) image is = absurd cc
+of-file name r image is = grind arith
 
 pub of-elf : (name : List ℕ) (r : Result ImageValue ElfRefusal) (image : ImageValue)
     → executable_found name r ≡ Ok image → r ≡ Ok image
-of-elf name (Ok i) image is = let same : i ≡ image = cc in ap Ok same
-of-elf name (Err refusal) image is = absurd cc
+of-elf name r image is = grind arith
 
 pub of-text : (name : List ℕ) (r : Result ImageValue AsmRefusal) (image : ImageValue)
     → text_found name r ≡ Ok image → r ≡ Ok image
-of-text name (Ok i) image is = let same : i ≡ image = cc in ap Ok same
-of-text name (Err refusal) image is = absurd cc
+of-text name r image is = grind arith
 
 -- its regions are in order, and it lies where the memory of the core does
 pub sound : (isa : Isa) (name bytes : List ℕ) (image : ImageValue)

@@ -1,7 +1,7 @@
 -- What every call of `generate` promises.
-use Rattle.std.proofs.Common.{◌≡◌, ℕ, Bool, true, false, if◌then◌else◌, List, [], ◌∷◌, Option, Some}
-use Rattle.std.proofs.Common.{None, is_some, Result, Ok, Err, Contains, IsTrue, inr, refl, sym, ap}
-use Rattle.std.proofs.Common.{subst, ◌∙◌}
+use Rattle.std.proofs.Common.{◌≡◌, ℕ, Bool, true, if◌then◌else◌, List, [], ◌∷◌, Option, Some}
+use Rattle.std.proofs.Common.{is_some, Result, Ok, Err, Contains, IsTrue, inr, refl, sym, ap}
+use Rattle.std.proofs.Common.{subst, ◌∙◌, arith}
 use Rattle.std.proofs.lemmas.List.Elements.{All-head}
 use Rattle.rvs_base.specs.Host.{Files, written}
 use Rattle.rvs_base.specs.Sink.{appended}
@@ -52,17 +52,14 @@ abbrev chosen : Bool → List ℕ → Option (List ℕ) → Plan (Unit {0})
 chosen b path text = if b then writes_text path text else gives tt
 
 deeds-chosen : (b : Bool) (path : List ℕ) (text : Option (List ℕ)) → Deeds tt (chosen b path text)
-deeds-chosen true path None = refl
-deeds-chosen true path (Some text) = refl
-deeds-chosen false path text = refl
+deeds-chosen b path text = grind arith
 
 deeds-test : (work : List ℕ) (isa : Isa) (l : Label) → Deeds tt (writes_test work isa l)
 deeds-test work isa l = deeds-chosen l.selected (path_of work l.name) (text_of_label isa l)
 
 deeds-tests : (work : List ℕ) (isa : Isa) (ls : List Label) → Deeds tt (writes_tests work isa ls)
 deeds-tests work isa [] = refl
-deeds-tests work isa (l ∷ ls) = deeds-then tt tt (writes_test work isa l)
-    (λ _. writes_tests work isa ls) (deeds-test work isa l) (deeds-tests work isa ls)
+deeds-tests work isa (l ∷ ls) = grind (arith, deeds-then, deeds-test, (deeds-tests work isa ls))
 
 deeds-written : (work : List ℕ) (isa : Isa) (ls : List Label)
     → Deeds (listing isa ls) (written_tests work isa ls)
@@ -80,9 +77,7 @@ with_files c files = record { files = files; runs = c.runs; out = c.out }
 left-chosen : (b : Bool) (path : List ℕ) (text : Option (List ℕ)) (c : Contents)
     → left (chosen b path text) c
     ≡ with_files c (if b then generating.with_text path text c.files else c.files)
-left-chosen true path None c = refl
-left-chosen true path (Some text) c = refl
-left-chosen false path text c = refl
+left-chosen b path text c = grind arith
 
 left-test : (work : List ℕ) (isa : Isa) (l : Label) (c : Contents)
     → left (writes_test work isa l) c ≡ with_files c (generating.with_test work isa l c.files)

@@ -1,18 +1,17 @@
 -- Text and data of an image are bytes.
-use Rattle.std.proofs.Common.{◌≡◌, ℕ, zero, suc, ◌/◌, ◌^◌, Bool, true, false, cond, not, List}
-use Rattle.std.proofs.Common.{[], ◌∷◌, Option, Some, None, Result, Ok, Err, subst, arith}
+use Rattle.std.proofs.Common.{◌≡◌, ℕ, zero, suc, ◌^◌, Bool, cond, List}
+use Rattle.std.proofs.Common.{[], ◌∷◌, Option, Result, Ok, Err, subst, arith, rules}
 use Rattle.std.specs.Prelude.{codes, ℤ}
 use Rattle.std.specs.List.{flat_map}
 use Rattle.std.specs.Int.{w32, to_le_bytes}
 use Rattle.rvs_text.specs.Outcomes.{◌>>=◌}
 use Rattle.rvs_insn.specs.Isa.{Isa}
-use Rattle.rvs_insn.specs.Word.{low_bits, word_of}
+use Rattle.rvs_insn.specs.Word.{word_of}
 use Rattle.rvs_insn.specs.Memory.{Memory}
-use Rattle.rvs_machine.specs.Image.{ImageValue, is_image, if_image}
-use Rattle.rvs_machine.specs.FileLines.{Rest, taken}
+use Rattle.rvs_machine.specs.Image.{ImageValue, if_image}
+use Rattle.rvs_machine.specs.FileLines.{Rest}
 use Rattle.rvs_machine.specs.ImageText as file
 use Rattle.rvs_machine.specs.declared.reading.ImageRefusal.{ImageRefusal}
-use Rattle.rvs_machine.specs.declared.reading.ImageKind.TheVariants.{BadRegion}
 use Rattle.rvs_asm_text.specs.declared.bodies.Value.{Value}
 use Rattle.rvs_asm_text.specs.declared.bodies.Body.{Body}
 use Rattle.rvs_asm_text.specs.declared.bodies.Body.TheVariants.{Nothing, ToText, ToData, Insn}
@@ -20,11 +19,11 @@ use Rattle.rvs_asm_text.specs.declared.bodies.Body.TheVariants.{Values, Align, F
 use Rattle.rvs_asm_text.specs.Directives.{data_value}
 use Rattle.rvs_asm.specs.declared.location.Location.{Location}
 use Rattle.rvs_asm.specs.declared.refusal.AsmRefusal.{AsmRefusal}
-use Rattle.rvs_asm.specs.Symbols.{Table, address_of}
-use Rattle.rvs_asm.specs.Locations.{Reading, body_of, padding, offset, address, next, start, labels}
-use Rattle.rvs_asm.specs.Bytes.{linked, value_in, number_bytes, value_bytes, repeated, nop_word}
+use Rattle.rvs_asm.specs.Symbols.{Table}
+use Rattle.rvs_asm.specs.Locations.{Reading, body_of, padding, offset, address, next, start}
+use Rattle.rvs_asm.specs.Bytes.{linked, number_bytes, value_bytes, repeated}
 use Rattle.rvs_asm.specs.Bytes.{filler, bytes_of, section}
-use Rattle.rvs_asm.specs.Faults.{first_fault, second_fault, first_missing, needed}
+use Rattle.rvs_asm.specs.Faults.{first_fault}
 use Rattle.rvs_log.proofs.Octets.{AreBytes, joined, front, word_bytes}
 use Rattle.rvs_asm.specs.Answer.{text_readings, image_of, region_checked, if_all_there, if_linked}
 use Rattle.rvs_asm.specs.Answer.{if_placed, answer}
@@ -46,22 +45,19 @@ held {A} {E} P r a h e = subst (λ (x : Result A E). Holds P x) e h
 goes_on : {A B : Type 0} (P : A → Type 0) (Q : B → Type 0) (r : Result A ImageRefusal)
     (go : A → Result B ImageRefusal) → Holds P r → ((a : A) → P a → Holds Q (go a))
     → Holds Q (r >>= go)
-goes_on P Q (Ok a) go h all = all a h
-goes_on P Q (Err e) go h all = tt
+goes_on h e = grind arith
 
 -- the same whatever was read
 goes_any : {A B : Type 0} (Q : B → Type 0) (r : Result A ImageRefusal)
     (go : A → Result B ImageRefusal) → ((a : A) → Holds Q (go a)) → Holds Q (r >>= go)
-goes_any Q (Ok a) go all = all a
-goes_any Q (Err e) go all = tt
+goes_any h = grind arith
 
 abbrev BytesFirst : List ℕ × Rest → Type 0
 BytesFirst p = AreBytes p.0
 
 put_bytes : (bs : List ℕ) (r : Result (List ℕ × Rest) ImageRefusal) → AreBytes bs
     → Holds BytesFirst r → Holds BytesFirst (file.put_before bs r)
-put_bytes bs (Ok p) g h = joined bs p.0 g h
-put_bytes bs (Err e) g h = tt
+put_bytes bs r g h = search (rules, joined)
 
 lines_bytes : (n : ℕ) (r : Rest) → Holds BytesFirst (file.word_lines n r)
 lines_bytes zero r = tt
@@ -73,20 +69,15 @@ lines_bytes (suc n) r =
 
 section_bytes : (name : List ℕ) (limit : ℕ) (r : Rest)
     → Holds BytesFirst (file.section name limit r)
-section_bytes name limit r =
-    goes_any BytesFirst (file.count_line name limit r) (λ p. file.word_lines p.0 p.1)
-    (λ p. lines_bytes p.0 p.1)
+section_bytes name limit r = grind (arith, goes_any, lines_bytes)
 
 either_image : {E : Type 0} (b : Bool) (image : ImageValue) (e : E) → HasBytes image
     → Holds HasBytes (cond b (Ok image) (Err e))
-either_image true image e h = h
-either_image false image e h = tt
+either_image h = grind arith
 
 whole_bytes : (n : ℕ) (image : ImageValue) (o : Option (List ℕ × Rest)) → HasBytes image
     → Holds HasBytes (file.whole_with n image o)
-whole_bytes n image (Some p) h = tt
-whole_bytes n image None h =
-    either_image (is_image image) image (file.refusal 0 BadRegion) h
+whole_bytes n image o h = grind arith
 
 abbrev from_end : Memory → List ℕ → List ℕ → Rest → Result ImageValue ImageRefusal
 from_end memory text ram r = file.address_lines r >>= (λ a. file.whole memory text ram a.0 a.1)
@@ -101,31 +92,14 @@ from_text memory r = file.section (codes "text ") (file.most_text memory) r >>=
 
 end_bytes : (memory : Memory) (text ram : List ℕ) (r : Rest) → AreBytes text → AreBytes ram
     → Holds HasBytes (from_end memory text ram r)
-end_bytes memory text ram r g h =
-    goes_any HasBytes (file.address_lines r) (λ a. file.whole memory text ram a.0 a.1)
-    (λ a. whole_bytes a.1.line (record {
-      memory = memory;
-      text = text;
-      data_bytes = ram;
-      tohost = a.0.tohost;
-      sig_begin = a.0.sig_begin;
-      sig_end = a.0.sig_end;
-      symbols = [];
-    }) (taken a.1) (record { text = g; ram = h }))
+end_bytes memory text ram r g h = search (rules, goes_any, whole_bytes)
 
 data_bytes : (memory : Memory) (text : List ℕ) (r : Rest) → AreBytes text
     → Holds HasBytes (from_data memory text r)
-data_bytes memory text r g =
-    goes_on BytesFirst HasBytes (file.section (codes "data ") (file.most_data memory) r)
-    (λ d. from_end memory text d.0 d.1)
-    (section_bytes (codes "data ") (file.most_data memory) r)
-    (λ d h. end_bytes memory text d.0 d.1 g h)
+data_bytes memory text r g = grind (arith, goes_on, section_bytes, end_bytes)
 
 text_bytes : (memory : Memory) (r : Rest) → Holds HasBytes (from_text memory r)
-text_bytes memory r =
-    goes_on BytesFirst HasBytes (file.section (codes "text ") (file.most_text memory) r)
-    (λ t. from_data memory t.0 t.1)
-    (section_bytes (codes "text ") (file.most_text memory) r) (λ t h. data_bytes memory t.0 t.1 h)
+text_bytes memory r = grind (arith, goes_on, section_bytes, data_bytes)
 
 file_bytes : (memory : Memory) (bytes : List ℕ) → Holds HasBytes (file.image_of_bytes memory bytes)
 unfolding file.image_of_bytes
@@ -141,35 +115,25 @@ of_file memory bytes image e = held HasBytes (file.image_of_bytes memory bytes) 
 
 -- ---- assembler text
 number_below : (size : ℕ) (z : ℤ) → AreBytes (number_bytes size z)
-number_below size z =
-    front size (to_le_bytes w32 (low_bits 32 z)) (word_bytes (low_bits 32 z))
+number_below size z = grind (arith, front, word_bytes)
 
 value_below : (env : List ℕ → ℕ) (size : ℕ) (v : Option Value) → AreBytes (value_bytes env size v)
-value_below env size None = tt
-value_below env size (Some v) = number_below size (value_in env v.link v.number)
+value_below env size v = search (rules, number_below)
 
 values_below : (env : List ℕ → ℕ) (size : ℕ) (args : List (List ℕ))
     → AreBytes (flat_map (λ text. value_bytes env size (data_value size text)) args)
 values_below env size [] = tt
-values_below env size (a ∷ args) =
-    let value = value_below env size (data_value size a) in
-    joined (value_bytes env size (data_value size a))
-    (flat_map (λ text. value_bytes env size (data_value size text)) args) value
-    (values_below env size args)
+values_below env size (a ∷ args) = grind (arith, value_below, joined, (values_below env size args))
 
 repeated_below : (n : ℕ) (bs : List ℕ) → AreBytes bs → AreBytes (repeated n bs)
 repeated_below zero bs h = tt
 repeated_below (suc n) bs h = joined bs (repeated n bs) h (repeated_below n bs h)
 
 either : (b : Bool) (x y : List ℕ) → AreBytes x → AreBytes y → AreBytes (cond b x y)
-either true x y g h = g
-either false x y g h = h
+either b x y g h = grind arith
 
 filler_below : (in_text : Bool) (n : ℕ) → AreBytes (filler in_text n)
-filler_below in_text n =
-    let nop = to_le_bytes w32 nop_word in
-    either in_text (repeated (n / 4) nop) (repeated n (0 ∷ []))
-    (repeated_below (n / 4) nop (word_bytes nop_word)) (repeated_below n (0 ∷ []) (omega arith, tt))
+filler_below in_text n = grind (arith, either, repeated_below, word_bytes)
 
 body_below : (env : List ℕ → ℕ) (p : Location) (body : Body) → AreBytes (bytes_of env p body)
 body_below env p (Insn i link) = word_bytes (word_of (linked env (address p) i link))
@@ -184,44 +148,27 @@ lines_below : (text : Bool) (env : List ℕ → ℕ) (rs : List Reading) (p : Lo
     → AreBytes (section text env rs p)
 lines_below text env [] p = tt
 lines_below text env (r ∷ rs) p =
-    let here = cond text p.in_text (not p.in_text) in
-    let body = bytes_of env p (body_of r) in
-    joined (cond here body []) (section text env rs (next p (body_of r)))
-    (either here body [] (body_below env p (body_of r)) tt)
-    (lines_below text env rs (next p (body_of r)))
+    grind (arith, joined, either, body_below, (lines_below text env rs (next p (body_of r))))
 
 image_bytes : (memory : Memory) (ss : Table) (rs : List Reading)
     → HasBytes (image_of memory ss rs)
-image_bytes memory ss rs = record {
-  text = lines_below true (address_of ss) rs (start memory);
-  ram = lines_below false (address_of ss) rs (start memory);
-}
+image_bytes memory ss rs = grind (arith, lines_below)
 
 regions_bytes : (image : ImageValue) → HasBytes image
     → Holds HasBytes (region_checked (if_image image))
-regions_bytes image h = turn (is_image image)
-  where
-    turn : (b : Bool) → Holds HasBytes (region_checked (cond b (Some image) None))
-    turn true = h
-    turn false = tt
+regions_bytes image h = grind arith
 
 there_bytes : (o : Option (List ℕ)) (image : ImageValue) → HasBytes image
     → Holds HasBytes (if_all_there o image)
-there_bytes (Some name) image h = tt
-there_bytes None image h = regions_bytes image h
+there_bytes o image h = grind arith
 
 linked_bytes : (memory : Memory) (o : Option AsmRefusal) (ss : Table) (rs : List Reading)
     → Holds HasBytes (if_linked memory o ss rs)
-linked_bytes memory (Some refusal) ss rs = tt
-linked_bytes memory None ss rs =
-    there_bytes (first_missing ss needed) (image_of memory ss rs) (image_bytes memory ss rs)
+linked_bytes memory o ss rs = search (rules, there_bytes, image_bytes)
 
 placed_bytes : (memory : Memory) (o : Option AsmRefusal) (rs : List Reading)
     → Holds HasBytes (if_placed memory o rs)
-placed_bytes memory (Some refusal) rs = tt
-placed_bytes memory None rs =
-    linked_bytes memory (second_fault (labels rs (start memory)) (start memory) 1 rs)
-    (labels rs (start memory)) rs
+placed_bytes memory o rs = search (rules, linked_bytes)
 
 answer_bytes : (isa : Isa) (text : List ℕ) → Holds HasBytes (answer isa text)
 unfolding answer

@@ -1,6 +1,6 @@
 -- The regions of an image that is read are in order.
-use Rattle.std.proofs.Common.{◌≡◌, ◌≤◌, ◌==◌, ℕ, Bool, true, false, cond, List, []}
-use Rattle.std.proofs.Common.{◌<◌, length, nat_le, nat_lt, Option, Some, None, Result, Ok, Err}
+use Rattle.std.proofs.Common.{◌≡◌, ◌≤◌, ◌==◌, ℕ, Bool, true, cond, List, []}
+use Rattle.std.proofs.Common.{◌<◌, nat_le, nat_lt, Option, Some, None, Result, Ok, Err}
 use Rattle.std.proofs.Common.{refl, ap, subst, arith, codes}
 use Rattle.std.proofs.lemmas.Bool.{and_parts}
 use Rattle.std.proofs.lemmas.Bool.Decides.{nat_tests}
@@ -13,7 +13,6 @@ use Rattle.rvs_machine.specs.FileLines.{Rest, taken}
 use Rattle.rvs_machine.specs.ImageText as file
 use Rattle.rvs_machine.specs.ImageText.{image_of_bytes}
 use Rattle.rvs_machine.specs.declared.reading.ImageRefusal.{ImageRefusal}
-use Rattle.rvs_machine.specs.declared.reading.ImageKind.TheVariants.{BadRegion}
 use Rattle.rvs_elf.specs.Executable.{image_of_elf, image_of, image_with, judged}
 use Rattle.rvs_elf.specs.Header.{header_of}
 use Rattle.rvs_elf.specs.Tables.{segments_of, symbols_of}
@@ -30,33 +29,7 @@ is_under : (m n : ℕ) → nat_lt m n ≡ true → m < n
 is_under m n h = grind (arith, nat_tests)
 
 pub in_order : (i : ImageValue) → is_image i ≡ true → IsImage i
-in_order i h =
-    let size = length i.data_bytes in
-    let (rest, signature) = and_parts _ _ h in
-    let (lengths, tohost) = and_parts _ _ rest in
-    let (text, small) = and_parts _ _ lengths in
-    let (words, short) = and_parts _ _ text in
-    let (low, high) = and_parts _ _ tohost in
-    let (word, begin) = and_parts _ _ low in
-    let (bounded, small_end) = and_parts _ _ signature in
-    let (ordered, last) = and_parts _ _ bounded in
-    let (starts, between) = and_parts _ _ ordered in
-    let (ends, first) = and_parts _ _ starts in
-    let (one, other) = and_parts _ _ ends in
-    record {
-      text_words = is_zero _ words;
-      text_short = is_below _ _ short;
-      data_short = is_below _ _ small;
-      tohost_word = is_zero _ word;
-      tohost_low = is_below _ _ begin;
-      tohost_high = is_below _ _ high;
-      begin_word = is_zero _ one;
-      begin_low = is_below _ _ first;
-      ordered = is_below _ _ between;
-      end_word = is_zero _ other;
-      end_high = is_below _ _ last;
-      end_small = is_under _ _ small_end;
-    }
+in_order i h = grind (arith, and_parts, is_zero, is_below, is_under)
 
 -- an image that is answered is one, in this memory
 abbrev Holds : {E : Type 0} → Memory → Result ImageValue E → Type 0
@@ -69,19 +42,15 @@ held {E} memory r image h e = subst (λ (x : Result ImageValue E). Holds memory 
 
 goes_any : {A E : Type 0} (memory : Memory) (r : Result A E) (go : A → Result ImageValue E)
     → ((a : A) → Holds memory (go a)) → Holds memory (r >>= go)
-goes_any memory (Ok a) go all = all a
-goes_any memory (Err e) go all = tt
+goes_any memory = grind arith
 
 tested : {E : Type 0} (memory : Memory) (b : Bool) (image : ImageValue) (e : E)
     → image.memory ≡ memory → (b ≡ true → IsImage image) → Holds memory (cond b (Ok image) (Err e))
-tested memory true image e same h = (h refl, same)
-tested memory false image e same h = tt
+tested memory h = grind arith
 
 whole : (memory : Memory) (n : ℕ) (image : ImageValue) (o : Option (List ℕ × Rest))
     → image.memory ≡ memory → Holds memory (file.whole_with n image o)
-whole memory n image (Some p) same = tt
-whole memory n image None same =
-    tested memory (is_image image) image (file.refusal 0 BadRegion) same (in_order image)
+whole memory n image o same = grind (arith, nat_tests)
 
 abbrev from_end : Memory → List ℕ → List ℕ → Rest → Result ImageValue ImageRefusal
 from_end memory text ram r = file.address_lines r >>= (λ a. file.whole memory text ram a.0 a.1)
@@ -117,8 +86,7 @@ file-image memory bytes image is =
 
 chosen : (memory : Memory) (b : Bool) (image : ImageValue) → image.memory ≡ memory
     → (b ≡ true → IsImage image) → Holds memory (judged (cond b (Some image) None))
-chosen memory true image same h = (h refl, same)
-chosen memory false image same h = tt
+chosen memory b image same h = grind arith
 
 pub elf-image : (memory : Memory) (bytes : List ℕ) (image : ImageValue)
     → image_of_elf memory bytes ≡ Ok image → IsImage image × (image.memory ≡ memory)

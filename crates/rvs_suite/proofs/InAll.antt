@@ -1,6 +1,6 @@
 -- What holds of a value that may not be there.
-use Rattle.std.proofs.Common.{◌≡◌, Bool, true, false, if◌then◌else◌, Option, Some, None}
-use Rattle.std.proofs.Common.{option_and_then, refl, subst}
+use Rattle.std.proofs.Common.{◌≡◌, Bool, if◌then◌else◌, Option, Some, None}
+use Rattle.std.proofs.Common.{option_and_then, arith}
 use Rattle.std.specs.Option.{option_or}
 use Rattle.rvs_text.specs.Options.{◌>>=◌}
 
@@ -11,26 +11,20 @@ pub none-in : {A : Type 0} {P : A → Type 0} → InAll P None
 none-in = record { holds = λ a e. absurd cc }
 
 pub some-in : {A : Type 0} {P : A → Type 0} (a : A) → P a → InAll P (Some a)
-some-in {A} {P} a p = record {
-  holds = λ b e. let same : a ≡ b = cc in subst P same p;
-}
+some-in {A} {P} a p = grind arith
 
 pub then-in : {A B : Type 0} {P : B → Type 0} (o : Option A) (f : A → Option B)
     → ((a : A) → o ≡ Some a → InAll P (f a)) → InAll P (o >>= f)
-then-in None f h = none-in
-then-in (Some a) f h = h a refl
+then-in h = grind arith
 
 pub chain-in : {A B : Type 0} {P : B → Type 0} (f : A → Option B) (o : Option A)
     → ((a : A) → InAll P (f a)) → InAll P (option_and_then f o)
-chain-in f None h = none-in
-chain-in f (Some a) h = h a
+chain-in f = grind arith
 
 pub either-in : {A : Type 0} {P : A → Type 0} (b : Bool) (x y : Option A) → InAll P x → InAll P y
     → InAll P (if b then x else y)
-either-in true x y p q = p
-either-in false x y p q = q
+either-in h x = grind arith
 
 pub first-in : {A : Type 0} {P : A → Type 0} (x y : Option A) → InAll P x → InAll P y
     → InAll P (option_or x y)
-first-in None y p q = q
-first-in (Some a) y p q = p
+first-in h y = grind arith

@@ -1,8 +1,8 @@
 -- The line on the sink for errors, by the status.
-use Rattle.std.proofs.Common.{◌≡◌, ◌≢◌, ◌⊎◌, inl, inr, ℕ, Bool, true, false, List, [], Result, Ok}
-use Rattle.std.proofs.Common.{Err, refl, sym, ap, codes, ◌∙◌, subst}
+use Rattle.std.proofs.Common.{◌≡◌, ◌≢◌, ◌⊎◌, inl, inr, ℕ, Bool, true, false, List, [], Result}
+use Rattle.std.proofs.Common.{Err, refl, sym, ap, codes, ◌∙◌, subst, arith}
 use Rattle.rvs_base.specs.Sink.{SinkState, appended}
-use Rattle.rvs_plan.specs.World.{World, Absence, Failing, Reading, Writing, Running, Putting}
+use Rattle.rvs_plan.specs.World.{World, Absence, Failing, Reading, Writing, Running}
 use Rattle.rvs_plan.specs.World.{NoneFaulted, FirstFault, FirstAbsence}
 use Rattle.rvs_plan.specs.Meets.{StopsUnfaulted, NoFault}
 use Rattle.rvs_plan.specs.Account.{status_of, line_of, fault_line, Concludes}
@@ -11,7 +11,6 @@ use Rattle.rvs_plan.specs.declared.stop.Stop.TheVariants as why
 use Rattle.rvs_plan.specs.declared.status.Status.{Status}
 use Rattle.rvs_plan.specs.declared.status.Status.TheVariants as answer
 use Rattle.rvs_plan.specs.declared.status.Finish.{Finish}
-use Rattle.rvs_plan.specs.declared.status.Finish.TheVariants.{Done, NotPassed}
 
 -- a stop of this status, whose line was put
 pub record Stopped (wanted : Status) (err err' : SinkState) (result : Result Finish Stop) : Type
@@ -24,39 +23,14 @@ pub record Stopped (wanted : Status) (err err' : SinkState) (result : Result Fin
 pub stopped : (status wanted : Status) (err err' : SinkState) (result : Result Finish Stop)
     → Concludes result status err err' → status ≡ wanted → wanted ≢ answer.Done
     → wanted ≢ answer.NotPassed → wanted ≢ answer.SinkFault → Stopped wanted err err' result
-stopped status wanted err err' (Ok Done) c is done not_passed sink = absurd (done (sym is ∙ c.0))
-stopped status wanted err err' (Ok NotPassed) c is done not_passed sink =
-    absurd (not_passed (sym is ∙ c.0))
-stopped status wanted err err' (Err reason) c is done not_passed sink = elim c.outcome [
-  | inl whole ↦ record {
-    reason = reason;
-    given = refl;
-    is = sym whole.0 ∙ is;
-    line = whole.1;
-  }
-  | inr lost ↦ absurd (sink (sym is ∙ lost.0))
-]
+stopped status wanted err err' result c is done not_passed sink = grind arith
 
 usage-line : (reason : Stop) → status_of reason ≡ answer.Usage → line_of reason ≡ line_of why.Usage
-usage-line why.Usage e = refl
-usage-line (why.Refused text) e = absurd cc
-usage-line (why.NoFile name) e = absurd cc
-usage-line (why.CannotRead name) e = absurd cc
-usage-line (why.CannotWrite name) e = absurd cc
-usage-line (why.CannotRun test) e = absurd cc
-usage-line why.NoMemory e = absurd cc
-usage-line why.SinkFault e = absurd cc
+usage-line reason e = grind arith
 
 memory-line : (reason : Stop) → status_of reason ≡ answer.NoMemory
     → line_of reason ≡ line_of why.NoMemory
-memory-line why.Usage e = absurd cc
-memory-line (why.Refused text) e = absurd cc
-memory-line (why.NoFile name) e = absurd cc
-memory-line (why.CannotRead name) e = absurd cc
-memory-line (why.CannotWrite name) e = absurd cc
-memory-line (why.CannotRun test) e = absurd cc
-memory-line why.NoMemory e = refl
-memory-line why.SinkFault e = absurd cc
+memory-line reason e = grind arith
 
 refused-line : (reason : Stop) → status_of reason ≡ answer.Refused
     → (text : List ℕ) × (line_of reason ≡ fault_line text [])
@@ -88,12 +62,9 @@ host-line : (absence : Absence) (old new : World) (err err' : SinkState) (reason
 host-line absence old new err err' why.Usage e first line = absurd cc
 host-line absence old new err err' (why.Refused text) e first line = absurd cc
 host-line absence old new err err' (why.NoFile name) e first line = (name, inl (line, first))
-host-line absence old new err err' (why.CannotRead name) e first line =
-    (name, inr (inl (line, first)))
-host-line absence old new err err' (why.CannotWrite name) e first line =
-    (name, inr (inr (inl (line, first))))
-host-line absence old new err err' (why.CannotRun test) e first line =
-    (test, inr (inr (inr (line, first))))
+host-line absence old new err err' (why.CannotRead name) e first line = grind (arith, inr, inl)
+host-line absence old new err err' (why.CannotWrite name) e first line = grind (arith, inr, inl)
+host-line absence old new err err' (why.CannotRun test) e first line = grind (arith, inr)
 host-line absence old new err err' why.NoMemory e first line = absurd cc
 host-line absence old new err err' why.SinkFault e first line = absurd cc
 
@@ -101,24 +72,17 @@ host-line absence old new err err' why.SinkFault e first line = absurd cc
 pub says-usage : (status : Status) (err err' : SinkState) (result : Result Finish Stop)
     → Concludes result status err err' → status ≡ answer.Usage
     → err'.bytes ≡ appended err.bytes (fault_line (codes "usage: rvsuite <command> <options>") [])
-says-usage status err err' result c is = let s =
-    stopped status answer.Usage err err' result c is (λ e. cc) (λ e. cc) (λ e. cc) in
-    s.line ∙ ap (appended err.bytes) (usage-line s.reason s.is)
+says-usage status err err' result c is = grind (arith, stopped, usage-line)
 
 pub says-no_memory : (status : Status) (err err' : SinkState) (result : Result Finish Stop)
     → Concludes result status err err' → status ≡ answer.NoMemory
     → err'.bytes ≡ appended err.bytes (fault_line (codes "out of memory") [])
-says-no_memory status err err' result c is = let s =
-    stopped status answer.NoMemory err err' result c is (λ e. cc) (λ e. cc) (λ e. cc) in
-    s.line ∙ ap (appended err.bytes) (memory-line s.reason s.is)
+says-no_memory status err err' result c is = grind (arith, stopped, memory-line)
 
 pub says-refused : (status : Status) (err err' : SinkState) (result : Result Finish Stop)
     → Concludes result status err err' → status ≡ answer.Refused
     → (text : List ℕ) × (err'.bytes ≡ appended err.bytes (fault_line text []))
-says-refused status err err' result c is =
-    let s = stopped status answer.Refused err err' result c is (λ e. cc) (λ e. cc) (λ e. cc) in
-    let line = refused-line s.reason s.is in
-    (line.0, s.line ∙ ap (appended err.bytes) line.1)
+says-refused status err err' result c is = grind (arith, stopped, refused-line)
 
 pub says-host : (absence : Absence) (old new : World) (status : Status) (err err' : SinkState)
     (result : Result Finish Stop) → NoFault absence old new result
@@ -136,14 +100,7 @@ is_end answer.NotPassed = true
 is_end _ = false
 
 stops_are_none : (reason : Stop) → is_end (status_of reason) ≡ false
-stops_are_none why.Usage = refl
-stops_are_none (why.Refused text) = refl
-stops_are_none (why.NoFile name) = refl
-stops_are_none (why.CannotRead name) = refl
-stops_are_none (why.CannotWrite name) = refl
-stops_are_none (why.CannotRun test) = refl
-stops_are_none why.NoMemory = refl
-stops_are_none why.SinkFault = refl
+stops_are_none reason = grind arith
 
 -- it isn't one that no end has
 no-end : (end status : Status) → (end ≡ answer.Done) ⊎ (end ≡ answer.NotPassed) → end ≡ status
@@ -155,19 +112,11 @@ no-end end status (inr failed) e none =
 pub says-nothing : (status : Status) (err err' : SinkState) (result : Result Finish Stop)
     → Concludes result status err err' → (status ≡ answer.Done) ⊎ (status ≡ answer.NotPassed)
     → err' ≡ err
-says-nothing status err err' (Ok end) c is = c.1
-says-nothing status err err' (Err reason) c is = elim c.outcome [
-  | inl whole ↦ absurd (no-end status (status_of reason) is whole.0 (stops_are_none reason))
-  | inr lost ↦ absurd (no-end status answer.SinkFault is lost.0 refl)
-]
+says-nothing status err err' result c is = grind arith
 
 pub unfaulted-line : (status : Status) (err err' : SinkState) (result : Result Finish Stop)
     → Concludes result status err err' → status ≢ answer.SinkFault → err'.faults ≡ err.faults
-unfaulted-line status err err' (Ok end) c never = ap (λ (s : SinkState). s.faults) c.1
-unfaulted-line status err err' (Err reason) c never = elim c.outcome [
-  | inl whole ↦ whole.2
-  | inr lost ↦ absurd (never lost.0)
-]
+unfaulted-line status err err' result c never = grind arith
 
 -- ---- a line that can't be put
 -- no call failed before it but one, which ended the work
@@ -177,17 +126,8 @@ Ended absence old new = NoneFaulted absence old new ⊎ FirstAbsence absence old
 
 has-ended : (absence : Absence) (old new : World) (result : Result Finish Stop)
     → NoFault absence old new result → Ended absence old new
-has-ended absence old new (Ok end) u = inl u
-has-ended absence old new (Err why.Usage) u = inl u
-has-ended absence old new (Err (why.Refused text)) u = inl u
-has-ended absence old new (Err (why.NoFile name)) u = inr (inl u)
-has-ended absence old new (Err (why.CannotRead name)) u = inr (inr (Reading, u))
-has-ended absence old new (Err (why.CannotWrite name)) u = inr (inr (Writing, u))
-has-ended absence old new (Err (why.CannotRun test)) u = inr (inr (Running, u))
-has-ended absence old new (Err why.NoMemory) u = inl u
-has-ended absence old new (Err why.SinkFault) u = inr (inr (Putting, u))
+has-ended absence old new result u = grind arith
 
 pub with-ended : {A B : Type 0} (absence : Absence) (old new : World) (result : Result Finish Stop)
     → NoFault absence old new result → A ⊎ B → A ⊎ (B × Ended absence old new)
-with-ended absence old new result u (inl a) = inl a
-with-ended absence old new result u (inr b) = inr (b, has-ended absence old new result u)
+with-ended absence old = grind arith

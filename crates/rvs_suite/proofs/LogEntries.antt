@@ -1,6 +1,6 @@
 -- The log of a test that halts has the executed instructions as its entries.
-use Rattle.std.proofs.Common.{◌≡◌, ℕ, Bool, true, false, cond, List, Option, Ok, refl}
-use Rattle.std.proofs.Common.{sym, ap, subst, ◌^◌, ◌<◌}
+use Rattle.std.proofs.Common.{◌≡◌, ℕ, Bool, true, false, cond, List, Option, Ok}
+use Rattle.std.proofs.Common.{sym, ap, subst, ◌^◌, ◌<◌, arith, rules}
 use Rattle.std.specs.Prelude.{map}
 use Rattle.rvs_base.specs.Host.{Files}
 use Rattle.rvs_insn.specs.Isa.{Isa}
@@ -30,8 +30,7 @@ record HasOctets (image : ImageValue) : Type 0 where
   ram : AreOctets image.data_bytes
 
 octets : (image : ImageValue) → HasBytes image → HasOctets image
-octets image h =
-    record { text = bytes_below image.text h.text; ram = bytes_below image.data_bytes h.ram }
+octets image h = grind (arith, bytes_below)
 
 -- an image file, an executable of bytes, or assembler text
 found_bytes : (b e : Bool) (isa : Isa) (name bytes : List ℕ) (image : ImageValue)
@@ -40,16 +39,9 @@ found_bytes : (b e : Bool) (isa : Isa) (name bytes : List ℕ) (image : ImageVal
     (cond e (executable_found name (image_of_elf isa.memory bytes))
     (text_found name (answer isa bytes)))
     ≡ Ok image → HasOctets image
-found_bytes true e isa name bytes image holds h =
-    octets image
-    (of_file isa.memory bytes image (of-file name (image_of_bytes isa.memory bytes) image h))
-found_bytes false true isa name bytes image holds h =
-    let both =
-    octets_stay isa.memory bytes image (holds refl)
-    (of-elf name (image_of_elf isa.memory bytes) image h) in
-    record { text = both.0; ram = both.1 }
-found_bytes false false isa name bytes image holds h =
-    octets image (of_text isa bytes image (of-text name (answer isa bytes) image h))
+found_bytes true e isa name bytes image holds h = search (rules, octets, of_file, of-file)
+found_bytes false true isa name bytes image holds h = grind (arith, octets_stay, of-elf)
+found_bytes false false isa name bytes image holds h = search (rules, octets, of_text, of-text)
 
 image_entries : (image : ImageValue) (isa : Isa) (n : ℕ) → image.memory.text_base < 2 ^ 32
     → HasOctets image

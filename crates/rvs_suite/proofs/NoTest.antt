@@ -1,6 +1,6 @@
 -- What `generate` leaves of a single point that no choice hits.
 use Rattle.std.proofs.Common.{◌≡◌, ◌<◌, ℕ, Bool, true, false, cond, not, if◌then◌else◌, List, []}
-use Rattle.std.proofs.Common.{◌∷◌, ◌++◌, length, Option, Some, None, is_some, option_to_list}
+use Rattle.std.proofs.Common.{◌∷◌, ◌++◌, length, Option, None, is_some, option_to_list}
 use Rattle.std.proofs.Common.{flat_map, codes, refl, sym, ap, subst, ◌∙◌, arith, append_assoc}
 use Rattle.std.proofs.Common.{append-nil}
 use Rattle.std.specs.List.{range_with_len}
@@ -22,8 +22,7 @@ use Rattle.rvs_suite.proofs.PointLines.{unsolved-at}
 
 -- what is made of it
 none-first : (first : Option Solved) → is_some first ≡ false → first ≡ None
-none-first None is = refl
-none-first (Some s) is = absurd cc
+none-first first is = grind arith
 
 cases-none : (isa : Isa) (l : Label) (p : Point) → l.points ≡ p ∷ [] → first_at isa l 0 ≡ None
     → cases_of isa l ≡ []
@@ -87,10 +86,7 @@ put_of name selected points skipped claims unsolved text steps =
 
 tidy : (name line total : List ℕ)
     → ((name ++ ((line ++ []) ++ [])) ++ []) ++ total ≡ name ++ (line ++ total)
-tidy name line total =
-    ap (λ (text : List ℕ). text ++ total) (append-nil (name ++ ((line ++ []) ++ []))
-    ∙ ap (λ (text : List ℕ). name ++ text) (append-nil (line ++ []) ∙ append-nil line))
-    ∙ append_assoc name line total
+tidy name line total = simp (append-nil, append_assoc)
 
 total-is : total_line (record { tests = 0; cases = 0; unsolved = 1; skipped = 0 })
     ≡ codes "total 0 tests, 0 cases, 1 unsolved, 0 skipped\n"

@@ -1,8 +1,6 @@
 -- What `normalize` puts is read again.
-use Rattle.std.proofs.Common.{◌≡◌, ℕ, ◌≤◌, false, List, [], ◌∷◌, length, map}
+use Rattle.std.proofs.Common.{◌≡◌, ℕ, ◌≤◌, List, [], ◌∷◌, length, map}
 use Rattle.std.proofs.Common.{Some, None, Ok, Err, Result, refl, sym, ap, ◌∙◌, arith}
-use Rattle.std.specs.Prelude.{nat_lt, if◌then◌else◌}
-use Rattle.std.proofs.lemmas.Bool.Decides.{nat_tests}
 use Rattle.rvs_base.specs.Host.{Files}
 use Rattle.rvs_abstract.specs.declared.families.Families.{Families}
 use Rattle.rvs_plan.specs.declared.stop.Stop.{Stop}
@@ -13,12 +11,7 @@ use Rattle.rvs_cgf.specs.Groups.{Label, Refusal, groups_of}
 use Rattle.rvs_cgf.specs.Print.{normal_text}
 use Rattle.rvs_cgf.specs.Spelled.{bare, selected}
 use Rattle.rvs_normal.proofs.ReadAgain.{read-again, short-keeps, own-admitted}
-use Rattle.rvs_plan.specs.Inputs.{part_end, too_long_text}
-use Rattle.rvs_plan.specs.declared.stop.Stop.TheVariants.{Refused}
-use Rattle.rvs_inputs.specs.GroupTexts.{groups_name}
-use Rattle.rvs_isa.specs.declared.accepted_spec.AcceptedSpec.{AcceptedSpec}
-use Rattle.rvs_inputs.specs.Specification.{said_in, bytes_said, isa_limit}
-use Rattle.rvs_inputs.specs.GroupFiles.{groups_limit, join_found, and_then, text_in, checked_groups}
+use Rattle.rvs_inputs.specs.GroupFiles.{groups_limit, text_in, checked_groups}
 use Rattle.rvs_inputs.specs.GroupFiles.{tree_groups, groups_found, Inputs, inputs_of, inputs_in}
 
 -- the groups again, where these are those of a text
@@ -62,14 +55,7 @@ again-of isa families other text inputs e short = by-answer (answer text) refl e
 
 kept-text : (after : Files) (name text : List ℕ) → after name ≡ Some text
     → length text ≤ groups_limit → text_in after None (name ∷ []) ≡ Ok text
-kept-text after name text there short =
-    ap (λ found. and_then (join_found None name found) (λ t. text_in after (Some t) [])) there
-    ∙ ap (λ b. and_then
-    (if b then Err (Refused (too_long_text groups_name groups_limit)) else Ok text)
-    (λ t. text_in after (Some t) [])) (fits (length text) short)
-  where
-    fits : (n : ℕ) → n ≤ groups_limit → nat_lt groups_limit n ≡ false
-    fits n h = grind (arith, nat_tests)
+kept-text after name text there short = grind arith
 
 -- what was put, kept in a file, gives the selected labels again
 pub normal-again : (files after : Files) (isa : List ℕ) (families other : Families)
@@ -81,29 +67,4 @@ pub normal-again : (files after : Files) (isa : List ℕ) (families other : Fami
     → inputs_in after isa other (name ∷ [])
     ≡ Ok (record { isa = inputs.isa; groups = map bare (selected inputs.groups) })
 normal-again files after isa families other names name inputs e short same there =
-    by-said (said_in files isa) refl e
-  where
-    by-text : (said : AcceptedSpec) (r : Result (List ℕ) Stop) → said_in files isa ≡ Ok said
-        → and_then r (λ text. inputs_of said.spec (groups_found said.spec families text))
-        ≡ Ok inputs
-        → inputs_in after isa other (name ∷ [])
-        ≡ Ok (record { isa = inputs.isa; groups = map bare (selected inputs.groups) })
-    by-text said (Err stop) s e = cc
-    by-text said (Ok text) s e =
-        let a = again-of said.spec families other text inputs e short in
-        ap (λ r. and_then r (λ c. and_then (text_in after None (name ∷ []))
-        (λ t. inputs_of c.spec (groups_found c.spec other t)))) (ap (λ found. bytes_said isa
-        (part_end isa_limit isa isa isa_limit found)) same ∙ s)
-        ∙ ap (λ r. and_then r (λ t. inputs_of said.spec (groups_found said.spec other t)))
-        (kept-text after name (normal_text inputs.groups) there short)
-        ∙ ap (inputs_of said.spec) a.1
-        ∙ ap (λ i. Ok (record { isa = i; groups = map bare (selected inputs.groups) })) (sym a.0)
-
-    by-said : (r : Result AcceptedSpec Stop) → said_in files isa ≡ r → and_then r (λ said. and_then
-        (text_in files None names)
-        (λ text. inputs_of said.spec (groups_found said.spec families text))) ≡ Ok
-        inputs
-        → inputs_in after isa other (name ∷ [])
-        ≡ Ok (record { isa = inputs.isa; groups = map bare (selected inputs.groups) })
-    by-said (Err stop) s e = cc
-    by-said (Ok said) s e = by-text said (text_in files None names) s e
+    grind (arith, again-of, kept-text)

@@ -1,16 +1,16 @@
 -- The report on a log of one instruction, which hits the only point of the only label.
-use Rattle.std.proofs.Common.{◌≡◌, ℕ, Bool, true, false, ◌+◌, cond, List, [], ◌∷◌, map, length}
-use Rattle.std.proofs.Common.{Option, Some, None, refl, ap, ◌∙◌, IsTrue, sym}
+use Rattle.std.proofs.Common.{◌≡◌, ℕ, Bool, true, false, List, [], ◌∷◌, map, length}
+use Rattle.std.proofs.Common.{Option, Some, None, ap, ◌∙◌, IsTrue, sym, arith}
 use Rattle.std.specs.Prelude.{count_by}
 use Rattle.std.proofs.lemmas.List.Sums.{sum_by-cons}
 use Rattle.rvs_insn.specs.Fields.{Fields}
 use Rattle.rvs_facts.specs.Facts.{facts_of}
 use Rattle.rvs_cross.specs.Cross.{Place}
 use Rattle.rvs_log.specs.Entries.{Entry}
-use Rattle.rvs_cgf.specs.Groups.{Meaning, op_is, reg_is, regs, nums, window, Label, Point}
+use Rattle.rvs_cgf.specs.Groups.{Meaning, window, Label, Point}
 use Rattle.rvs_cgf.specs.Hits.{has_op, is_meant}
 use Rattle.rvs_cgf.proofs.Distinct.{and-right}
-use Rattle.rvs_count.specs.Counting.{Aim, aims_of, count, count_for, decoded, hits, hits_insn, kept}
+use Rattle.rvs_count.specs.Counting.{Aim, aims_of, count, count_for, hits, hits_insn, kept}
 use Rattle.rvs_count.specs.Report.{report_of}
 use Rattle.rvs_base.specs.declared.asked.Window.{Window}
 
@@ -26,16 +26,11 @@ no-window a (Some i) v1 v2 ps is hit =
     let both : true ≡ false = sym meant ∙ none in cc
 
 counts-one : (test : Entry → Bool) (e : Entry) → test e ≡ true → count_by test (e ∷ []) ≡ 1
-counts-one test e hit = sum_by-cons (λ (x : Entry). cond (test x) 1 0) e []
-    ∙ ap (λ (b : Bool). cond b 1 0 + 0) hit
+counts-one test e hit = grind (arith, sum_by-cons)
 
 counted-for : (m : Meaning) (a : Aim) (e : Entry) → a.point.meaning ≡ m → hits a e ≡ true
     → count_for m (e ∷ []) a ≡ 1
-counted-for (op_is op) a e is hit = counts-one (hits a) e hit
-counted-for (reg_is number) a e is hit = counts-one (hits a) e hit
-counted-for (regs formula) a e is hit = counts-one (hits a) e hit
-counted-for (nums formula) a e is hit = counts-one (hits a) e hit
-counted-for (window ps) a e is hit = absurd (no-window a (decoded e) e.v1 e.v2 ps is hit)
+counted-for m a e is hit = grind arith
 
 -- what the report says of these entries
 abbrev report-on : List Label → List Entry → List ℕ
@@ -60,10 +55,4 @@ pub one-count : (windows : List Window) (l : Label) (p : Point) (e : Entry) → 
     → l.points ≡ p ∷ [] → windows ≡ [] → IsTrue (hits (record { ops = l.ops; point = p }) e)
     → report_of (l ∷ []) (map (count (kept windows (e ∷ []))) (aims_of (l ∷ [])))
     (length (kept windows (e ∷ []))) ≡ report_of (l ∷ []) (1 ∷ []) 1
-one-count windows l p e selected single none hit =
-    let a : Aim = record { ops = l.ops; point = p } in
-    let chosen : l.selected ≡ true = selected in
-    ap (λ (ws : List Window). report-on (l ∷ []) (kept ws (e ∷ []))) none
-    ∙ ap (λ (found : List Aim). report_of (l ∷ []) (map (count (e ∷ [])) found) 1)
-    (one-aim l p chosen single)
-    ∙ ap (λ (n : ℕ). report_of (l ∷ []) (n ∷ []) 1) (counted-for p.meaning a e refl hit)
+one-count windows l p e selected single none hit = grind (arith, one-aim, counted-for)

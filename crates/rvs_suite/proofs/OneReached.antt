@@ -1,11 +1,11 @@
 -- The report on a log of two instructions, of which the second stores the first one's result.
-use Rattle.std.proofs.Common.{◌≡◌, ℕ, Bool, true, false, ◌+◌, cond, List, [], ◌∷◌, map, length}
-use Rattle.std.proofs.Common.{IsTrue, refl, sym, ap, ◌∙◌}
-use Rattle.std.specs.Prelude.{◌==◌, ◌&&◌, count_by, sum_by}
+use Rattle.std.proofs.Common.{◌≡◌, ℕ, Bool, true, false, List, [], ◌∷◌, map, length}
+use Rattle.std.proofs.Common.{IsTrue, refl, sym, ap, ◌∙◌, arith}
+use Rattle.std.specs.Prelude.{◌==◌, count_by}
 use Rattle.std.proofs.lemmas.List.Sums.{sum_by-cons}
 use Rattle.rvs_log.specs.Entries.{Entry, entries_of}
-use Rattle.rvs_cgf.specs.Groups.{Meaning, op_is, reg_is, regs, nums, window, Label, Point}
-use Rattle.rvs_count.specs.Counting.{Aim, aims_of, count_for, decoded, hits}
+use Rattle.rvs_cgf.specs.Groups.{Meaning, Label, Point}
+use Rattle.rvs_count.specs.Counting.{Aim, aims_of, hits}
 use Rattle.rvs_prop.specs.Acts.{Act, acts_of}
 use Rattle.rvs_prop.specs.Reach.{reached, reaches, saves_register, target_of}
 use Rattle.rvs_prop.specs.Report.{report_of}
@@ -13,35 +13,21 @@ use Rattle.rvs_prop.specs.State.{hit_count, hits_for}
 use Rattle.rvs_prop.proofs.Listing.{acts_are_entries}
 use Rattle.rvs_prop.proofs.Stored.{reaches_next}
 use Rattle.rvs_suite.specs.Propagating.{IsFirst}
-use Rattle.rvs_suite.proofs.OneCount.{no-window, one-aim}
+use Rattle.rvs_suite.proofs.OneCount.{one-aim}
 
 counts-first : (test : Entry → Bool) (e f : Entry) → test e ≡ true → test f ≡ false
     → count_by test (e ∷ f ∷ []) ≡ 1
-counts-first test e f hit miss =
-    let one = λ (x : Entry). cond (test x) 1 0 in
-    sum_by-cons one e (f ∷ [])
-    ∙ ap (λ (b : Bool). cond b 1 0 + sum_by one (f ∷ [])) hit
-    ∙ ap (λ n. 1 + n) (sum_by-cons one f [] ∙ ap (λ (b : Bool). cond b 1 0 + 0) miss)
+counts-first test e f hit miss = grind (arith, sum_by-cons)
 
 -- the number of hits, by the point's meaning
 hits-first : (m : Meaning) (a : Aim) (e f : Entry) → a.point.meaning ≡ m → hits a e ≡ true
     → hits a f ≡ false → hits_for m (e ∷ f ∷ []) a ≡ 1
-hits-first (op_is op) a e f is hit miss =
-    ap (λ (m : Meaning). count_for m (e ∷ f ∷ []) a) is ∙ counts-first (hits a) e f hit miss
-hits-first (reg_is number) a e f is hit miss =
-    ap (λ (m : Meaning). count_for m (e ∷ f ∷ []) a) is ∙ counts-first (hits a) e f hit miss
-hits-first (regs formula) a e f is hit miss =
-    ap (λ (m : Meaning). count_for m (e ∷ f ∷ []) a) is ∙ counts-first (hits a) e f hit miss
-hits-first (nums formula) a e f is hit miss =
-    ap (λ (m : Meaning). count_for m (e ∷ f ∷ []) a) is ∙ counts-first (hits a) e f hit miss
-hits-first (window ps) a e f is hit miss =
-    absurd (no-window a (decoded e) e.v1 e.v2 ps is hit)
+hits-first m a e f is hit miss = grind arith
 
 reached-first : (lo hi : ℕ) (a : Aim) (hit store : Act) → hits a hit.entry ≡ true
     → hits a store.entry ≡ false → reaches lo hi hit.entry (store ∷ []) ≡ true
     → reached lo hi (hit ∷ store ∷ []) a ≡ 1
-reached-first lo hi a hit store is miss later =
-    λ k. cond (is k && later k) 1 0 + (cond (miss k && reaches lo hi store.entry []) 1 0 + 0)
+reached-first lo hi a hit store is miss later = grind arith
 
 -- what the report says of these instructions and these points
 abbrev report-on : ℕ → ℕ → Label → List Act → List Entry → List Aim → List ℕ

@@ -1,11 +1,9 @@
 -- What `generate` leaves of a single point that a choice hits.
 use Rattle.std.proofs.Common.{◌≡◌, ◌<◌, inl, inr, ℕ, Bool, true, false, if◌then◌else◌, List, []}
 use Rattle.std.proofs.Common.{◌∷◌, ◌++◌, length, Contains, Option, Some, None, is_some}
-use Rattle.std.proofs.Common.{option_to_list, refl, sym, ap, subst, ◌∙◌, arith}
+use Rattle.std.proofs.Common.{option_to_list, refl, sym, ap, subst, ◌∙◌, arith, rules}
 use Rattle.std.specs.List.{range_with_len}
-use Rattle.std.specs.Str.{bytes_eq}
-use Rattle.std.proofs.lemmas.Slice.Eq.{bytes_eq-Decides}
-use Rattle.rvs_base.specs.Host.{Files, with_file, written}
+use Rattle.rvs_base.specs.Host.{Files, written}
 use Rattle.rvs_insn.specs.Isa.{Isa}
 use Rattle.rvs_cgf.specs.Groups.{Label, Point}
 use Rattle.rvs_solver.specs.Solving.{first_at, IsSolvableAt}
@@ -21,11 +19,7 @@ only_claim = record { case = 0; point = 0 }
 
 claims-by : (isa : Isa) (l : Label) (b : Bool) → is_solved isa l 0 ≡ b
     → numbered 0 (solved_among isa l (0 ∷ [])) ≡ (if b then only_claim ∷ [] else [])
-claims-by isa l b is = ap (λ (t : Bool). numbered 0 (if t then 0 ∷ [] else [])) is ∙ step b
-  where
-    step : (b : Bool) → numbered 0 (if b then 0 ∷ [] else []) ≡ (if b then only_claim ∷ [] else [])
-    step true = refl
-    step false = refl
+claims-by isa l b is = grind arith
 
 pub claims-are : (isa : Isa) (l : Label) (p : Point) (b : Bool) → l.points ≡ p ∷ []
     → is_solved isa l 0 ≡ b → claims_of isa l ≡ (if b then only_claim ∷ [] else [])
@@ -52,8 +46,7 @@ solved-by isa l p false one is solvable =
 cases-by : (isa : Isa) (l : Label) (first : Option Solved) → first_at isa l 0 ≡ first
     → is_solved isa l 0 ≡ true
     → (cases : List Solved) × (s : Solved) × (cases_among isa l (0 ∷ []) ≡ s ∷ cases)
-cases-by isa l None is solved = let no : false ≡ true =
-    sym (ap (λ (o : Option Solved). is_some o) is) ∙ solved in absurd cc
+cases-by isa l None is solved = grind (arith, is_some)
 cases-by isa l (Some s) is solved = ([], s, ap (λ (o : Option Solved). option_to_list o ++ []) is)
 
 cases-are : (isa : Isa) (l : Label) (p : Point) → l.points ≡ p ∷ [] → is_solved isa l 0 ≡ true
@@ -84,11 +77,4 @@ one-point isa l p one solvable =
 -- the file of a written text
 pub file-there : (path text : List ℕ) (files : Option Files) (files' : Files)
     → written path text files ≡ Some files' → files' path ≡ Some text
-file-there path text None files' is = absurd cc
-file-there path text (Some files) files' is =
-    let same : with_file path text files ≡ files' = cc in
-    ap (λ (f : Files). f path) (sym same) ∙ found-in (bytes_eq path path) (Some text) (files path)
-    ((bytes_eq-Decides path path).1 refl)
-  where
-    found-in : (b : Bool) (x y : Option (List ℕ)) → b ≡ true → (if b then x else y) ≡ x
-    found-in b x y e = rw e refl
+file-there path text files files' is = search rules

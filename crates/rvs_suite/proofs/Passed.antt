@@ -1,9 +1,8 @@
 -- Which tests of a run pass, by the verdict on all of them.
 use Rattle.std.proofs.Common.{◌≡◌, ◌≢◌, ◌≤◌, ℕ, suc, ◌+◌, ◌==◌, Bool, true, false, All}
 use Rattle.std.proofs.Common.{if◌then◌else◌, List, [], ◌∷◌, length, Contains, refl, sym, ap, ◌∙◌}
-use Rattle.std.proofs.Common.{arith}
+use Rattle.std.proofs.Common.{arith, rules}
 use Rattle.std.specs.List.{zip}
-use Rattle.std.proofs.lemmas.Bool.Decides.{nat_tests}
 use Rattle.std.proofs.lemmas.List.Elements.{All-cons, All-nil, Contains-append_right}
 use Rattle.rvs_base.specs.declared.host.DeviceRun.{DeviceRun}
 use Rattle.rvs_plan.specs.declared.status.Finish.{Finish}
@@ -85,18 +84,10 @@ one-fails bench n (t ∷ ts) (r ∷ rs) each e =
 judged-for : (bench : Bench) (ts : List Test) (rs : List DeviceRun) (end : Finish) (b : Bool)
     → AreRunsOf bench ts rs → (passed_onto bench 0 ts rs == length ts) ≡ b
     → end ≡ (if b then finish.Done else finish.NotPassed) → AreJudged bench end ts rs
-judged-for bench ts rs finish.Done true each is e =
-    let all : passed_onto bench 0 ts rs ≡ length ts = grind (arith, nat_tests) in
-    all-spelled bench 0 ts rs (omega (arith, all))
-judged-for bench ts rs finish.NotPassed true each is e = absurd cc
-judged-for bench ts rs finish.Done false each is e = absurd cc
-judged-for bench ts rs finish.NotPassed false each is e =
-    let some : passed_onto bench 0 ts rs ≢ length ts = λ h. grind (arith, nat_tests) in
-    one-fails bench 0 ts rs each (λ h. some (omega (arith, h)))
+judged-for bench ts rs end b each is e = search (rules, all-spelled, one-fails)
 
 -- the verdict on all says which pass
 pub are-judged : (bench : Bench) (ts : List Test) (rs : List DeviceRun) (end : Finish)
     → AreRunsOf bench ts rs → end ≡ verdict_of_all (length ts) (passed_onto bench 0 ts rs)
     → AreJudged bench end ts rs
-are-judged bench ts rs end each verdict =
-    judged-for bench ts rs end (passed_onto bench 0 ts rs == length ts) each refl verdict
+are-judged bench ts rs end each verdict = grind (arith, judged-for)

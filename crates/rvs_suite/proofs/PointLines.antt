@@ -1,10 +1,10 @@
 -- The lines of a label's points: one a point, with its case where a choice hits it.
 use Rattle.std.proofs.Common.{◌≡◌, ◌<◌, inl, inr, ℕ, zero, suc, ◌+◌, ◌==◌, Bool, true, false}
 use Rattle.std.proofs.Common.{cond, not, if◌then◌else◌, List, [], ◌∷◌, ◌++◌, length, All, Contains}
-use Rattle.std.proofs.Common.{filter, flat_map, Option, Some, None, option_map, slice_get, refl}
+use Rattle.std.proofs.Common.{filter, flat_map, Some, None, option_map, slice_get, refl}
 use Rattle.std.proofs.Common.{sym, ap, ◌∙◌, arith}
 use Rattle.std.specs.List.{range_with_len}
-use Rattle.std.proofs.lemmas.Bool.{eq-eqb, ne_eqb, not-true}
+use Rattle.std.proofs.lemmas.Bool.{ne_eqb, not-true}
 use Rattle.std.proofs.lemmas.Option.{slice_get_within}
 use Rattle.std.proofs.lemmas.List.Elements.{All-nil, All-cons, All-head, All-tail, All-contains}
 use Rattle.std.proofs.lemmas.List.Elements.{filter_passes}
@@ -14,7 +14,7 @@ use Rattle.rvs_solver.specs.Solving.{IsSolvableAt}
 use Rattle.rvs_test_text.specs.declared.claim.Claim.{Claim}
 use Rattle.rvs_test.specs.Made.{places, is_solved, solved_among, numbered, claims_of, unsolved_of}
 use Rattle.rvs_test.proofs.Joined.{accounted}
-use Rattle.rvs_generate.specs.GenerateTexts.{case_line, unsolved_line, point_line, case_at}
+use Rattle.rvs_generate.specs.GenerateTexts.{case_line, unsolved_line, case_at}
 use Rattle.rvs_generate.specs.GenerateTexts.{claims_after, point_lines}
 use Rattle.rvs_suite.specs.Tested.{HasLines}
 
@@ -78,41 +78,26 @@ apart a k h = ne_eqb a k (λ e. omega arith)
 
 passed-by : (b : Bool) (j a k : ℕ) (ks : List ℕ) → k < a → IsPassed (numbered j ks) k
     → IsPassed (numbered j (cond b (a ∷ ks) ks)) k
-passed-by true j a k ks h later = record {
-  none = ap (λ (t : Bool). if t then Some j else None) (apart a k h);
-  kept = ap (λ (t : Bool). if t then numbered (j + 1) ks else numbered j (a ∷ ks)) (apart a k h);
-}
-passed-by false j a k ks h later = later
+passed-by b j a k ks h later = grind arith
 
 passed : (q : ℕ → Bool) (n j a k : ℕ) → k < a
     → IsPassed (numbered j (filter q (range_with_len a n))) k
 passed q zero j a k h = record { none = refl; kept = refl }
-passed q (suc n) j a k h = passed-by (q a) j a k (filter q (range_with_len (a + 1) n)) h
-    (passed q n j (a + 1) k (omega arith))
+passed q (suc n) j a k h = grind (arith, passed-by, (passed q n j (a + 1) k (omega arith)))
 
 step : (b : Bool) (p : Point) (ps : List Point) (j a : ℕ) (ks : List ℕ)
     → IsPassed (numbered j ks) a
     → point_lines (numbered j (cond b (a ∷ ks) ks)) a (p ∷ ps)
     ≡ (if b then case_line j p else unsolved_line p)
     ++ point_lines (numbered (if b then j + 1 else j) ks) (a + 1) ps
-step true p ps j a ks later =
-    ap (λ (t : Bool). point_line (if t then Some j else None) p
-    ++ point_lines (if t then numbered (j + 1) ks else numbered j (a ∷ ks)) (a + 1) ps)
-    (eq-eqb a a refl)
-step false p ps j a ks later =
-    ap (λ (o : Option ℕ). point_line o p
-    ++ point_lines (claims_after (numbered j ks) a) (a + 1) ps) later.none
-    ∙ ap (λ (cs : List Claim). unsolved_line p ++ point_lines cs (a + 1) ps) later.kept
+step b p ps j a ks later = grind arith
 
 walked : (q : ℕ → Bool) (ps : List Point) (j a : ℕ)
     → point_lines (numbered j (filter q (range_with_len a (length ps)))) a ps
     ≡ flat_map (λ (line : List ℕ). line) (lines_from q j a ps)
 walked q [] j a = refl
 walked q (p ∷ ps) j a =
-    step (q a) p ps j a (filter q (range_with_len (a + 1) (length ps)))
-    (passed q (length ps) j (a + 1) a (omega arith))
-    ∙ ap (λ (rest : List ℕ). (if q a then case_line j p else unsolved_line p) ++ rest)
-    (walked q ps (if q a then j + 1 else j) (a + 1))
+    grind (arith, step, passed, (walked q ps (if q a then j + 1 else j) (a + 1)))
 
 lines-many : (q : ℕ → Bool) (ps : List Point) (j a : ℕ)
     → length (lines_from q j a ps) ≡ length ps
@@ -165,10 +150,7 @@ has-case q (x ∷ ps) j a (suc k) n p is at solved =
 has-none : (q : ℕ → Bool) (ps : List Point) (j a k n : ℕ) (p : Point) → slice_get ps k ≡ Some p
     → a + k ≡ n → q n ≡ false → slice_get (lines_from q j a ps) k ≡ Some (unsolved_line p)
 has-none q [] j a k n p is at left = absurd cc
-has-none q (x ∷ ps) j a zero n p is at left =
-    let here : a ≡ n = omega arith in
-    ap (λ (b : Bool). Some (if b then case_line j x else unsolved_line x)) (ap q here ∙ left)
-    ∙ ap (option_map unsolved_line) is
+has-none q (x ∷ ps) j a zero n p is at left = grind (arith, option_map)
 has-none q (x ∷ ps) j a (suc k) n p is at left =
     let next : a + 1 + k ≡ n = omega arith in
     has-none q ps (if q a then j + 1 else j) (a + 1) k n p is next left

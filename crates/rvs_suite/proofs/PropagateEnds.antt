@@ -1,7 +1,7 @@
 -- What every call of `propagate` promises.
-use Rattle.std.proofs.Common.{◌≡◌, ◌≤◌, ◌+◌, ◌*◌, ℕ, Bool, true, false, List, [], ◌∷◌, map, length}
+use Rattle.std.proofs.Common.{◌≡◌, ◌≤◌, ◌+◌, ◌*◌, ℕ, Bool, List, [], ◌∷◌, map, length}
 use Rattle.std.proofs.Common.{if◌then◌else◌, Ok, refl, sym, ap, subst, ◌∙◌, arith, ◌++◌}
-use Rattle.std.proofs.Common.{append-nil, append_assoc}
+use Rattle.std.proofs.Common.{append-nil, append_assoc, rules}
 use Rattle.std.specs.List.{zip}
 use Rattle.std.proofs.lemmas.Slice.Zip.{seconds-zip}
 use Rattle.rvs_base.specs.Host.{Files}
@@ -12,7 +12,7 @@ use Rattle.rvs_log.specs.Entries.{entries_of}
 use Rattle.rvs_cgf.specs.Groups.{Label}
 use Rattle.std.proofs.lemmas.List.{length-map}
 use Rattle.rvs_log.specs.Entries.{Entry}
-use Rattle.rvs_cgf.specs.Groups.{Meaning, op_is, reg_is, regs, nums, window}
+use Rattle.rvs_cgf.specs.Groups.{Meaning}
 use Rattle.rvs_count.specs.Counting.{Aim, aims_of, hits}
 use Rattle.rvs_prop.specs.Acts.{Act, acts_of}
 use Rattle.rvs_prop.proofs.Listing.{acts_are_entries}
@@ -102,8 +102,7 @@ known-all groups f g ns (log ∷ logs) =
     (append_assoc ns (all-by log ∷ []) (map all-by logs))
 
 one-more : (b : Bool) (n m : ℕ) → n ≤ m → (if b then 1 else 0) + n ≤ 1 + m
-one-more true n m low = omega (arith, low)
-one-more false n m low = omega (arith, low)
+one-more b n m low = grind arith
 
 acts-few : (lo hi : ℕ) (acts : List Act) (a : Aim) → reached lo hi acts a ≤ length acts
 acts-few lo hi [] a = omega arith
@@ -120,11 +119,7 @@ as-entries log = sym (length-map (acts_of log) (λ (x : Act). x.entry))
 
 hits-few : (m : Meaning) (es : List Entry) (a : Aim) → a.point.meaning ≡ m
     → hits_for m es a ≤ length es
-hits-few (op_is op) es a is = count-few es a
-hits-few (reg_is r) es a is = count-few es a
-hits-few (regs f) es a is = count-few es a
-hits-few (nums f) es a is = count-few es a
-hits-few (window ps) es a is = omega arith
+hits-few m es a is = search (rules, count-few)
 
 abbrev Have : Files → List SignedLog → List (List ℕ) → Type 0
 Have files signed logs = AreLogs files (map file_name signed) logs
@@ -134,26 +129,16 @@ low-reached : (files : Files) (a : Aim) (signed : List SignedLog) (logs : List (
 low-reached files a [] [] are = tt
 low-reached files a [] (log ∷ logs) are = absurd are
 low-reached files a (name ∷ signed) [] are = absurd are
-low-reached files a (name ∷ signed) (log ∷ logs) are = (
-  omega (
-    arith,
-    acts-few name.signature.lo name.signature.hi (acts_of log) a,
-    as-entries log,
-    log-few log,
-    are.1,
-  ),
-  low-reached files a signed logs are.2,
-)
+low-reached files a (name ∷ signed) (log ∷ logs) are =
+    grind (arith, acts-few, as-entries, log-few, (low-reached files a signed logs are.2))
 
 low-hits : (files : Files) (a : Aim) (signed : List SignedLog) (logs : List (List ℕ))
     → Have files signed logs → AreLow (hits-by a) (zip signed logs)
 low-hits files a [] [] are = tt
 low-hits files a [] (log ∷ logs) are = absurd are
 low-hits files a (name ∷ signed) [] are = absurd are
-low-hits files a (name ∷ signed) (log ∷ logs) are = (
-  omega (arith, hits-few a.point.meaning (entries_of log) a refl, log-few log, are.1),
-  low-hits files a signed logs are.2,
-)
+low-hits files a (name ∷ signed) (log ∷ logs) are =
+    grind (arith, hits-few, log-few, (low-hits files a signed logs are.2))
 
 abbrev all-in : List ℕ → ℕ
 all-in log = length (entries_of log)
@@ -169,8 +154,7 @@ low-all files (name ∷ names) (log ∷ logs) are =
 -- logs with their bytes, by the bytes alone
 as-many-bytes : (files : Files) (signed : List SignedLog) (logs : List (List ℕ))
     → Have files signed logs → length logs ≡ length signed
-as-many-bytes files signed logs are =
-    as-many files (map file_name signed) logs are ∙ length-map signed file_name
+as-many-bytes files signed logs are = grind (arith, as-many, length-map)
 
 the-bytes : (files : Files) (signed : List SignedLog) (logs : List (List ℕ))
     → Have files signed logs → map (λ (log : Log). log.1) (zip signed logs) ≡ logs
@@ -178,15 +162,11 @@ the-bytes files signed logs are = seconds-zip signed logs (as-many-bytes files s
 
 over-bytes : (f : List ℕ → ℕ) (files : Files) (signed : List SignedLog) (logs : List (List ℕ))
     → Have files signed logs → over (λ (log : Log). f log.1) (zip signed logs) ≡ over f logs
-over-bytes f files signed logs are =
-    sym (over_map f (λ (log : Log). log.1) (zip signed logs))
-    ∙ ap (over f) (the-bytes files signed logs are)
+over-bytes f files signed logs are = grind (arith, over_map, the-bytes)
 
 ran-bytes : (files : Files) (signed : List SignedLog) (logs : List (List ℕ))
     → Have files signed logs → map all-by (zip signed logs) ≡ propagating.ran_in logs
-ran-bytes files signed logs are =
-    sym (map_map all-in (λ (log : Log). log.1) (zip signed logs))
-    ∙ ap (map all-in) (the-bytes files signed logs are)
+ran-bytes files signed logs are = grind (arith, map_map, the-bytes)
 
 few-names : (signed : List SignedLog) → length signed ≤ 4096
     → length (map file_name signed) ≤ 4096
@@ -195,17 +175,12 @@ few-names signed few = omega (arith, length-map signed file_name, few)
 room-bytes : (files : Files) (signed : List SignedLog) (logs : List (List ℕ))
     → Have files signed logs → length signed ≤ 4096
     → 0 + 1_099_511_627_776 * length logs ≤ 18_446_744_073_709_551_615
-room-bytes files signed logs are few =
-    few-logs files (map file_name signed) logs are (few-names signed few)
+room-bytes files signed logs are few = grind (arith, few-logs, few-names)
 
 room-logs : (files : Files) (signed : List SignedLog) (logs : List (List ℕ))
     → Have files signed logs → length signed ≤ 4096
     → 0 + 1_099_511_627_776 * length (zip signed logs) ≤ 18_446_744_073_709_551_615
-room-logs files signed logs are few =
-    let long : length (zip signed logs) ≡ length logs =
-    sym (length-map (zip signed logs) (λ (log : Log). log.1))
-    ∙ ap (λ (ls : List (List ℕ)). length ls) (the-bytes files signed logs are) in
-    omega (arith, long, room-bytes files signed logs are few)
+room-logs files signed logs are few = grind (arith, length-map, the-bytes, room-bytes)
 
 -- all of it, of logs that are there
 known-exact : (files : Files) (groups : List Label) (signed : List SignedLog)
@@ -244,12 +219,7 @@ with-total : (files : Files) (groups : List Label) (signed : List SignedLog)
     (logs : List (List ℕ)) → Have files signed logs → length signed ≤ 4096
     → report_with groups signed (tracked-at groups (propagating.reached_in signed logs)
     (propagating.hits_in logs) (propagating.ran_in logs)) ≡ on-bytes groups signed logs
-with-total files groups signed logs are few =
-    ap (λ (n : ℕ). lines_of_many (map file_name signed) (propagating.ran_in logs)
-    ++ report_of groups (map (propagating.reached_in signed logs) (aims_of groups))
-    (map (propagating.hits_in logs) (aims_of groups)) n)
-    (total_map all-in logs (low-all files (map file_name signed) logs are)
-    (room-bytes files signed logs are few))
+with-total files groups signed logs are few = grind (arith, total_map, low-all, room-bytes)
 
 reported-numbers : {call : Call} (files : Files) (asked : PropagateArguments)
     → Answered call (report_in files asked) (OnDone (HasReported call))
@@ -275,9 +245,7 @@ reported-numbers {call} files asked a few inputs logs given are done =
 one-log : (files : Files) (signed : List SignedLog) (log : SignedLog) (bytes : List ℕ)
     → signed ≡ log ∷ [] → propagating.IsLog files log.name bytes
     → Have files signed (bytes ∷ [])
-one-log files signed log bytes is is_log =
-    subst (λ (ls : List SignedLog). Have files ls (bytes ∷ [])) (sym is)
-    (is_log.0, is_log.1, tt)
+one-log files signed log bytes is is_log = grind arith
 
 no-more : (n : ℕ) → n + 0 ≡ n
 no-more n = omega arith

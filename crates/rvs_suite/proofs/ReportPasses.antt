@@ -1,9 +1,8 @@
 -- Which tests of a page pass, and when all do.
-use Rattle.std.proofs.Common.{◌≡◌, ◌↔◌, ℕ, Bool, true, false, if◌then◌else◌, not, ℤ, pos}
+use Rattle.std.proofs.Common.{◌≡◌, ◌↔◌, ℕ, Bool, true, false, if◌then◌else◌, ℤ, pos}
 use Rattle.std.proofs.Common.{List, [], ◌∷◌, ◌++◌, length, take, drop, All, Option, Some, None}
-use Rattle.std.proofs.Common.{nat_lt, Result, Ok, Err, refl, sym, ap, subst, ◌∙◌}
-use Rattle.std.specs.Prelude.{◌&&◌, bytes_eq, find}
-use Rattle.std.specs.Cmp.Lexicographic.{bytes_decides}
+use Rattle.std.proofs.Common.{nat_lt, Result, Ok, refl, sym, ap, subst, ◌∙◌, arith, rules}
+use Rattle.std.specs.Prelude.{bytes_eq}
 use Rattle.std.proofs.lemmas.List.Elements.{All-nil, All-cons, All-head, All-tail, All-append}
 use Rattle.rvs_base.specs.Host.{Files}
 use Rattle.rvs_plan.specs.declared.stop.Stop.{Stop}
@@ -12,13 +11,10 @@ use Rattle.rvs_cgf.specs.Groups.{Label}
 use Rattle.rvs_count.specs.Report.{width}
 use Rattle.rvs_test.specs.Made.{cases_of, text_of_label}
 use Rattle.rvs_test_text.specs.TestText.{step_limit}
-use Rattle.rvs_sig.specs.Words.{words_of, text_of_words}
-use Rattle.rvs_sig.specs.Verdicts.{verdict_of}
+use Rattle.rvs_sig.specs.Words.{text_of_words}
 use Rattle.rvs_sig.specs.declared.words.SigRefusal.{SigRefusal}
-use Rattle.rvs_sig.specs.declared.words.SigRefusal.TheVariants as why
 use Rattle.rvs_sig.specs.declared.comparison.Verdict.{Verdict}
 use Rattle.rvs_sig.specs.declared.comparison.Verdict.TheVariants as sig
-use Rattle.rvs_device.specs.Command.{is_empty}
 use Rattle.rvs_device.specs.DeviceFile.{Told}
 use Rattle.rvs_device.specs.Judged.{signature_limit, verdict_on}
 use Rattle.rvs_device.specs.Judged as judged
@@ -34,7 +30,7 @@ use Rattle.rvs_page.specs.declared.shown.Page.{Page}
 use Rattle.rvs_page.specs.declared.shown.Label.{Label as ShownLabel}
 use Rattle.rvs_page.proofs.Verdicts.{pass_says_that_all_pass}
 use Rattle.rvs_inputs.specs.GroupFiles.{Inputs, and_then, inputs_in}
-use Rattle.rvs_generate.specs.TestedInputs.{lacks_room, unless_for, with_room}
+use Rattle.rvs_generate.specs.TestedInputs.{unless_for}
 use Rattle.rvs_inputs.specs.DeviceInput.{device_in}
 use Rattle.rvs_coverage.specs.LogReport.{logs_in}
 use Rattle.rvs_coverage.specs.Coverage.{uncounted, counts_more, file_name}
@@ -69,26 +65,18 @@ by-verdict device reference (sig.Differs at left right differing) is = absurd cc
 
 by-words : (reference : List ℕ) (read : Result (List ℕ) SigRefusal)
     → IsSettled (spelt reference read) → Passes (judged.spelt status reference read)
-by-words reference (Ok words) is = by-verdict words reference (verdict_of words reference) is
-by-words reference (Err (why.BadLine line)) is = absurd cc
-by-words reference (Err why.TooLong) is = absurd cc
-by-words reference (Err why.NoMemory) is = absurd cc
+by-words reference read is = search (rules, by-verdict)
 
 by-tests : (reference : List ℕ) (read : Result (List ℕ) SigRefusal) (long bare : Bool)
     → IsSettled (if long then found_open state.TooLong
     else (if bare then found_open state.NoSignature else spelt reference read))
     → Passes (if long then told.TooLong status
     else (if bare then told.NoSignature status else judged.spelt status reference read))
-by-tests reference read true bare is = absurd cc
-by-tests reference read false true is = absurd cc
-by-tests reference read false false is = by-words reference read is
+by-tests reference read long bare is = search (rules, by-words)
 
 by-left : (reference : List ℕ) (left : Option (List ℕ)) → IsSettled (found_on reference left)
     → Passes (verdict_on status reference left)
-by-left reference None is = absurd cc
-by-left reference (Some bytes) is =
-    by-tests reference (words_of bytes) (nat_lt signature_limit (length bytes))
-    (is_empty bytes && not (is_empty reference)) is
+by-left reference left is = search (rules, by-tests, nat_lt)
 
 -- a task of these words
 abbrev of-words : List ℕ → Task
@@ -104,19 +92,12 @@ spells reference left is =
 same-verdict : (device reference : List ℕ) (n : ℕ) (v : Verdict)
     → judged.compared status v ≡ told.Pass n status
     → (compared device reference v).state ≡ state.Pass n
-same-verdict device reference n (sig.Same m) e =
-    let same : m ≡ n = cc in ap (λ (k : ℕ). state.Pass k) same
-same-verdict device reference n (sig.Lengths left right) e = absurd cc
-same-verdict device reference n (sig.Differs at left right differing) e = absurd cc
+same-verdict device reference n v e = grind arith
 
 same-words : (reference : List ℕ) (n : ℕ) (read : Result (List ℕ) SigRefusal)
     → judged.spelt status reference read ≡ told.Pass n status
     → (spelt reference read).state ≡ state.Pass n
-same-words reference n (Ok words) e =
-    same-verdict words reference n (verdict_of words reference) e
-same-words reference n (Err (why.BadLine line)) e = absurd cc
-same-words reference n (Err why.TooLong) e = absurd cc
-same-words reference n (Err why.NoMemory) e = absurd cc
+same-words reference n read e = grind arith
 
 same-tests : (reference : List ℕ) (n : ℕ) (read : Result (List ℕ) SigRefusal) (long bare : Bool)
     → (if long then told.TooLong status
@@ -125,17 +106,12 @@ same-tests : (reference : List ℕ) (n : ℕ) (read : Result (List ℕ) SigRefus
     → (if long then found_open state.TooLong
     else (if bare then found_open state.NoSignature else spelt reference read)).state
     ≡ state.Pass n
-same-tests reference n read true bare e = absurd cc
-same-tests reference n read false true e = absurd cc
-same-tests reference n read false false e = same-words reference n read e
+same-tests reference n read long bare e = grind arith
 
 same-left : (reference : List ℕ) (n : ℕ) (left : Option (List ℕ))
     → verdict_on status reference left ≡ told.Pass n status
     → (found_on reference left).state ≡ state.Pass n
-same-left reference n None e = absurd cc
-same-left reference n (Some bytes) e =
-    same-tests reference n (words_of bytes) (nat_lt signature_limit (length bytes))
-    (is_empty bytes && not (is_empty reference)) e
+same-left reference n left e = grind arith
 
 -- ---- a file that should hold this
 record IsSame (expected : List ℕ) (found : Option (List ℕ)) (next : Found) : Type 0 where
@@ -145,24 +121,15 @@ record IsSame (expected : List ℕ) (found : Option (List ℕ)) (next : Found) :
 same-bytes : (expected bytes : List ℕ) (next : Found) (b : Bool) → bytes_eq bytes expected ≡ b
     → IsSettled (by_likeness (if b then Same else Other) next)
     → IsSame expected (Some bytes) next
-same-bytes expected bytes next true e is = record {
-  there = ap (λ (bs : List ℕ). Some bs) ((bytes_decides bytes expected).0 e);
-  settled = is;
-}
-same-bytes expected bytes next false e is = absurd cc
+same-bytes expected bytes next b e is = search rules
 
 is-same : (expected : List ℕ) (found : Option (List ℕ)) (next : Found)
     → IsSettled (by_likeness (likeness expected found) next) → IsSame expected found next
-is-same expected None next is = absurd cc
-is-same expected (Some bytes) next is =
-    same-bytes expected bytes next (bytes_eq bytes expected) refl is
+is-same expected found next is = search rules
 
 next-one : (expected : List ℕ) (found : Option (List ℕ)) (next : Found) → found ≡ Some expected
     → by_likeness (likeness expected found) next ≡ next
-next-one expected found next e =
-    ap (λ (o : Option (List ℕ)). by_likeness (likeness expected o) next) e
-    ∙ ap (λ (b : Bool). by_likeness (if b then Same else Other) next)
-    ((bytes_decides expected expected).1 refl)
+next-one expected found next e = search rules
 
 -- ---- a test
 holds : (files : Files) (isa : Isa) (work : List ℕ) (test : Test)
@@ -206,18 +173,12 @@ pass files isa work test h =
 pub shown-passes : (files : Files) (isa : Isa) (work : List ℕ) (test : Test)
     → ((finding_in files isa work test).state ≡ state.Pass (length (reference_words isa test)))
     ↔ HoldPass files isa work test
-shown-passes files isa work test = (
-  λ e. holds files isa work test (ap is_settled e),
-  pass files isa work test,
-)
+shown-passes files isa work test = grind (arith, holds, pass)
 
 pub found-apart : (files others : Files) (isa : Isa) (work : List ℕ) (test : Test)
     → AreAlike files others work test
     → finding_in files isa work test ≡ finding_in others isa work test
-found-apart files others isa work test alike =
-    λ i. by_likeness (likeness test.text (alike.text i))
-    (by_likeness (likeness (text_of_words (reference_words isa test)) (alike.reference i))
-    (found_on (reference_words isa test) (alike.device i)))
+found-apart files others isa work test alike = grind arith
 
 -- ---- all tests
 all-front : {A : Type 0} (P : A → Type 0) (xs ys : List A) → All P (xs ++ ys) → All P xs
@@ -300,14 +261,7 @@ with-logs : (files : Files) (asked : ReportArguments) (inputs : Inputs) (page : 
     → and_then covered (λ known. Ok (page_with asked inputs device known
     (all_shown_in files inputs.isa asked.work known.counts inputs.groups))) ≡ Ok page
     → HasLabels files asked inputs page
-with-logs files asked inputs page device (Ok covered) e = record {
-  counts = covered.counts;
-  are =
-      let labels = all_shown_in files inputs.isa asked.work covered.counts inputs.groups in
-      let same : page_with asked inputs device covered labels ≡ page = cc in
-      sym (ap (λ (p : Page). p.labels) same);
-}
-with-logs files asked inputs page device (Err stop) e = absurd cc
+with-logs files asked inputs page device covered e = grind arith
 
 with-device : (files : Files) (asked : ReportArguments) (inputs : Inputs) (page : Page)
     (device : Result Told Stop)
@@ -316,10 +270,7 @@ with-device : (files : Files) (asked : ReportArguments) (inputs : Inputs) (page 
     Ok (page_with asked inputs told_device known
     (all_shown_in files inputs.isa asked.work known.counts inputs.groups)))) ≡ Ok page
     → HasLabels files asked inputs page
-with-device files asked inputs page (Ok device) e =
-    with-logs files asked inputs page device (logs_in files file_name
-    (counts_more asked.windows inputs.groups) (uncounted inputs.groups) asked.logs) e
-with-device files asked inputs page (Err stop) e = absurd cc
+with-device files asked inputs page device e = grind arith
 
 -- no label lacks room where there is a page
 with-rooms : (files : Files) (asked : ReportArguments) (inputs : Inputs) (page : Page)
@@ -330,21 +281,12 @@ with-rooms : (files : Files) (asked : ReportArguments) (inputs : Inputs) (page :
     Ok (page_with asked i device known
     (all_shown_in files i.isa asked.work known.counts i.groups))))) ≡ Ok page
     → HasLabels files asked inputs page
-with-rooms files asked inputs page None e =
-    with-device files asked inputs page (device_in files asked.device) e
-with-rooms files asked inputs page (Some l) e = absurd cc
+with-rooms files asked inputs page o e = grind arith
 
 has-labels : (files : Files) (asked : ReportArguments) (inputs : Inputs) (page : Page)
     → inputs_in files asked.isa asked.families asked.groups ≡ Ok inputs
     → page_in files asked ≡ Ok page → HasLabels files asked inputs page
-has-labels files asked inputs page given e =
-    with-rooms files asked inputs page (find (lacks_room inputs.isa) inputs.groups)
-    (sym (ap (λ (r : Result Inputs Stop). and_then (and_then r with_room) (λ (i : Inputs).
-    and_then (device_in files asked.device) (λ (device : Told).
-    and_then (logs_in files file_name (counts_more asked.windows i.groups)
-    (uncounted i.groups) asked.logs) (λ (known : Covered).
-    Ok (page_with asked i device known
-    (all_shown_in files i.isa asked.work known.counts i.groups)))))) given) ∙ e)
+has-labels files asked inputs page given e = grind (arith, with-rooms)
 
 pub all-pass : (files : Files) (asked : ReportArguments) (inputs : Inputs) (page : Page)
     → inputs_in files asked.isa asked.families asked.groups ≡ Ok inputs

@@ -1,14 +1,13 @@
 -- Reading what a run left: it only reads, and what it finds over given files.
-use Rattle.std.proofs.Common.{ℕ, Bool, true, false, if◌then◌else◌, List, [], ◌∷◌, ◌++◌, take, drop}
-use Rattle.std.proofs.Common.{Option, Some, None, Ok, refl, sym, ap, subst, append_assoc}
-use Rattle.std.proofs.Common.{append-nil}
+use Rattle.std.proofs.Common.{ℕ, Bool, if◌then◌else◌, List, [], ◌∷◌, ◌++◌, take, drop}
+use Rattle.std.proofs.Common.{Option, Some, None, Ok, refl, subst, append_assoc}
+use Rattle.std.proofs.Common.{append-nil, arith, rules}
 use Rattle.rvs_base.specs.Host.{Files}
 use Rattle.rvs_plan.specs.Plan.{Plan, gives, ◌>>=◌}
 use Rattle.rvs_plan.specs.Inputs.{input}
 use Rattle.rvs_insn.specs.Isa.{Isa}
 use Rattle.rvs_cgf.specs.Groups.{Label}
 use Rattle.rvs_count.specs.Report.{width}
-use Rattle.rvs_sig.specs.Words.{text_of_words}
 use Rattle.rvs_test.specs.Made.{claims_of, text_of_label}
 use Rattle.rvs_device.specs.DeviceFile.{Told}
 use Rattle.rvs_page.specs.declared.shown.Page.{Page}
@@ -18,16 +17,14 @@ use Rattle.rvs_generate.specs.TestedInputs.{tested_in, tested_inputs}
 use Rattle.rvs_inputs.specs.DeviceInput.{device_limit, checks, device_file, device_in}
 use Rattle.rvs_coverage.specs.LogReport.{takes_logs, logs_in}
 use Rattle.rvs_coverage.specs.Coverage.{uncounted, counts_more, file_name}
-use Rattle.rvs_generate.specs.Tests.{reference_words}
 use Rattle.rvs_generate.specs.TestFiles.{files_of}
-use Rattle.rvs_report.specs.Findings.{likeness, found_on, by_likeness, finding_in, asks_like}
-use Rattle.rvs_report.specs.Findings.{if_like, finds_signature, finds_words, finds_test}
+use Rattle.rvs_report.specs.Findings.{by_likeness, finding_in}
+use Rattle.rvs_report.specs.Findings.{if_like, finds_words, finds_test}
 use Rattle.rvs_report.specs.Showing.{shown_label, shown_unselected}
-use Rattle.rvs_report.specs.Report.{test_of, page_with, shown_by, shown_in, all_shown_in, page_in}
+use Rattle.rvs_report.specs.Report.{page_with, shown_by, shown_in, all_shown_in, page_in}
 use Rattle.rvs_report.specs.Report.{shows_by, shows_label, shows_labels, finds_page}
 use Rattle.rvs_coverage.specs.declared.covering.Covered.{Covered}
 use Rattle.rvs_report.specs.declared.reviewing.Likeness.{Likeness}
-use Rattle.rvs_report.specs.declared.reviewing.Likeness.TheVariants.{Absent, Other, Same}
 use Rattle.rvs_report.specs.declared.reviewing.Found.{Found}
 use Rattle.rvs_generate.specs.declared.gathering.Test.{Test}
 use Rattle.rvs_words.specs.declared.command.ReportArguments.{ReportArguments}
@@ -61,38 +58,24 @@ asks_device asked inputs = device_file asked.device >>= takes_all asked inputs
 
 -- ---- it only reads
 reads-if : (like : Likeness) (next : Plan Found) → OnlyReads next → OnlyReads (if_like like next)
-reads-if Absent next reads = tt
-reads-if Other next reads = tt
-reads-if Same next reads = reads
+reads-if like next reads = grind arith
 
 reads-words : (isa : Isa) (work : List ℕ) (test : Test)
     → OnlyReads (finds_words (files_of work test.name) isa test)
-reads-words isa work test =
-    let words = reference_words isa test in
-    let names = files_of work test.name in
-    OnlyReads-then (asks_like names.reference (text_of_words words))
-    (λ like. if_like like (finds_signature names.device words)) (λ found. tt)
-    (λ like. reads-if like (finds_signature names.device words) (λ left. tt))
+reads-words isa work test = grind (arith, reads-if)
 
 reads-test : (isa : Isa) (work : List ℕ) (test : Test) → OnlyReads (finds_test isa work test)
-reads-test isa work test =
-    let names = files_of work test.name in
-    OnlyReads-then (asks_like names.test test.text)
-    (λ like. if_like like (finds_words names isa test)) (λ found. tt)
-    (λ like. reads-if like (finds_words names isa test) (reads-words isa work test))
+reads-test isa work test = grind (arith, reads-if, reads-words)
 
 reads-by : (isa : Isa) (work counts : List ℕ) (l : Label) (text : Option (List ℕ))
     → OnlyReads (shows_by isa work counts l text)
 reads-by isa work counts l None = tt
-reads-by isa work counts l (Some text) =
-    OnlyReads-then (finds_test isa work (test_of isa l text)) (gives_label counts text isa l)
-    (reads-test isa work (test_of isa l text)) (λ found. tt)
+reads-by isa work counts l (Some text) = grind (arith, reads-test)
 
 reads-label : (isa : Isa) (work counts : List ℕ) (l : Label) (selected : Bool)
     → OnlyReads (if selected then shows_by isa work counts l (text_of_label isa l)
     else gives (shown_unselected l))
-reads-label isa work counts l true = reads-by isa work counts l (text_of_label isa l)
-reads-label isa work counts l false = tt
+reads-label isa work counts l selected = search (rules, reads-by)
 
 reads-all : (isa : Isa) (work : List ℕ) (shown : List ShownLabel) (counts : List ℕ)
     (ls : List Label) → OnlyReads (shows_labels isa work shown counts ls)
@@ -122,44 +105,28 @@ reads-page asked =
 -- ---- what it finds
 finds-if : (files : Files) (like : Likeness) (next : Plan Found) (found : Found)
     → Finds files next (Ok found) → Finds files (if_like like next) (Ok (by_likeness like found))
-finds-if files Absent next found is = refl
-finds-if files Other next found is = refl
-finds-if files Same next found is = is
+finds-if files like next found is = grind arith
 
 found-test : (files : Files) (isa : Isa) (work : List ℕ) (test : Test)
     → Finds files (finds_test isa work test) (Ok (finding_in files isa work test))
-found-test files isa work test =
-    let words = reference_words isa test in
-    let names = files_of work test.name in
-    let by_words = likeness (text_of_words words) (files names.reference) in
-    let by_left = found_on words (files names.device) in
-    finds-if files (likeness test.text (files names.test)) (finds_words names isa test)
-    (by_likeness by_words by_left)
-    (finds-if files by_words (finds_signature names.device words) by_left refl)
+found-test files isa work test = grind (arith, finds-if)
 
 found-by : (files : Files) (isa : Isa) (work counts : List ℕ) (l : Label) (text : Option (List ℕ))
     → Finds files (shows_by isa work counts l text) (Ok (shown_by files isa work counts l text))
-found-by files isa work counts l None = refl
-found-by files isa work counts l (Some text) =
-    let found = finding_in files isa work (test_of isa l text) in
-    finds-then files (finds_test isa work (test_of isa l text)) (gives_label counts text isa l)
-    (Ok found) (Ok (shown_label found text counts (claims_of isa l) l))
-    (found-test files isa work (test_of isa l text)) refl
+found-by files isa work counts l text = grind arith
 
 found-label : (files : Files) (isa : Isa) (work counts : List ℕ) (l : Label) (selected : Bool)
     → Finds files (if selected then shows_by isa work counts l (text_of_label isa l)
     else gives (shown_unselected l))
     (Ok (if selected then shown_by files isa work counts l (text_of_label isa l)
     else shown_unselected l))
-found-label files isa work counts l true = found-by files isa work counts l (text_of_label isa l)
-found-label files isa work counts l false = refl
+found-label files isa work counts l selected = grind arith
 
 found-all : (files : Files) (isa : Isa) (work : List ℕ) (shown : List ShownLabel)
     (counts : List ℕ) (ls : List Label)
     → Finds files (shows_labels isa work shown counts ls)
     (Ok (shown ++ all_shown_in files isa work counts ls))
-found-all files isa work shown counts [] =
-    ap (λ (xs : List ShownLabel). Ok xs) (sym (append-nil shown))
+found-all files isa work shown counts [] = simp append-nil
 found-all files isa work shown counts (l ∷ ls) =
     let one = shown_in files isa work (take (width l) counts) l in
     let others = drop (width l) counts in

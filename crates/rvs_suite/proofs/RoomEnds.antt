@@ -21,23 +21,21 @@ use Rattle.rvs_cgf.specs.Groups.{Label, refusal_at, at_label}
 use Rattle.rvs_cgf.specs.declared.refusal.CgfKind.TheVariants.{NoRoom}
 use Rattle.rvs_cgf.specs.Valid.{IsValid}
 use Rattle.rvs_test_text.proofs.Fits.{fit_regions, usual_fits}
-use Rattle.rvs_test.specs.Made.{cases_of, has_room}
+use Rattle.rvs_test.specs.Made.{has_room}
 use Rattle.rvs_test.proofs.Solvings.{cases_few, cases_ready}
 use Rattle.rvs_suite.specs.Answered.{Answered}
 use Rattle.rvs_suite.specs.Call.{Call, world_of}
 use Rattle.rvs_inputs.specs.GroupTexts.{group_text}
 use Rattle.rvs_inputs.specs.GroupFiles.{Inputs, and_then}
 use Rattle.rvs_generate.specs.TestedInputs.{lacks_room, no_room, unless_for, with_room}
-use Rattle.rvs_suite.specs.Rooms.{IsFirstLacking, IsRefusedFor, AsksForRoom}
+use Rattle.rvs_suite.specs.Rooms.{IsFirstLacking, AsksForRoom}
 use Rattle.rvs_suite.proofs.Meanings.{then-ok}
 use Rattle.rvs_suite.proofs.Tested.{IsGood, IsPlaced, valid-good}
 use Rattle.rvs_generate.proofs.Testable.{has-room, none-first, none-behind}
 
 -- ---- the first label that lacks room
 not-by : (selected room : Bool) → (selected ≡ true → room ≡ true) → (selected && not room) ≡ false
-not-by true true has = refl
-not-by true false has = let no : false ≡ true = has refl in absurd cc
-not-by false room has = refl
+not-by selected room has = grind arith
 
 lacks-not : (isa : Isa) (l : Label) → (IsTrue l.selected → IsTrue (has_room isa l))
     → lacks_room isa l ≡ false
@@ -52,8 +50,7 @@ lacks-is isa l selected none = λ i. selected i && not (none i)
 find-first : (isa : Isa) (before after : List Label) (l : Label)
     → ((m : Label) → Contains before m → IsTrue m.selected → IsTrue (has_room isa m))
     → lacks_room isa l ≡ true → find (lacks_room isa) (before ++ l ∷ after) ≡ Some l
-find-first isa [] after l others is =
-    ap (λ (b : Bool). cond b (Some l) (find (lacks_room isa) after)) is
+find-first isa [] after l others is = grind arith
 find-first isa (m ∷ ms) after l others is =
     ap (λ (b : Bool). cond b (Some m) (find (lacks_room isa) (ms ++ l ∷ after)))
     (lacks-not isa m (others m (0, omega arith, refl)))
@@ -68,10 +65,7 @@ first-is isa ls l f =
 each-room : (isa : Isa) (ls : List Label) → find (lacks_room isa) ls ≡ None → (l : Label)
     → Contains ls l → IsTrue l.selected → IsTrue (has_room isa l)
 each-room isa [] none l (i, within, at) selected = absurd (omega (arith, within))
-each-room isa (m ∷ ms) none l (zero, within, at) selected =
-    let has = has-room isa m
-    (none-first (lacks_room isa m) m (find (lacks_room isa) ms) none) in
-    subst (λ (x : Label). x.selected ≡ true → has_room isa x ≡ true) at has selected
+each-room isa (m ∷ ms) none l (zero, within, at) selected = grind (arith, has-room, none-first)
 each-room isa (m ∷ ms) none l (suc i, within, at) selected =
     each-room isa ms (none-behind (lacks_room isa m) m (find (lacks_room isa) ms) none) l
     (i, omega (arith, within), at) selected
@@ -79,10 +73,7 @@ each-room isa (m ∷ ms) none l (suc i, within, at) selected =
 -- ---- where the memory lies as usual
 usual-room : (isa : Isa) (l : Label) → HasRoom isa.memory → IsValid isa l
     → isa.memory ≡ usual_memory → IsTrue (has_room isa l)
-usual-room isa l place valid is =
-    let cs = cases_of isa l in
-    fit_regions isa cs
-    (usual_fits isa cs is (cases_few isa l valid) (cases_ready isa place l valid))
+usual-room isa l place valid is = simp (fit_regions, usual_fits, cases_few, cases_ready)
 
 -- ---- what comes of inputs hangs on whether there is one
 pub record IsAsked {A : Type 0} (inputs : Inputs) (found : Result A Stop) : Type 0 where
@@ -91,28 +82,19 @@ pub record IsAsked {A : Type 0} (inputs : Inputs) (found : Result A Stop) : Type
       → found ≡ Err (why.Refused (no_room l))
 
 none-of : (inputs : Inputs) (o : Option Label) (a : Inputs) → unless_for inputs o ≡ Ok a → o ≡ None
-none-of inputs None a is = refl
-none-of inputs (Some l) a is = absurd cc
+none-of inputs o a is = grind arith
 
 pub asked-room : (inputs : Inputs) (r : Result Inputs Stop) → r ≡ Ok inputs
     → IsAsked inputs (and_then r with_room)
-asked-room inputs r given =
-    subst (λ (x : Result Inputs Stop). IsAsked inputs (and_then x with_room)) (sym given) (record {
-      none = λ a. none-of inputs (find (lacks_room inputs.isa) inputs.groups) a;
-      some = λ l. ap (unless_for inputs);
-    })
+asked-room inputs r given = grind (arith, none-of)
 
 pub asked-then : {A B : Type 0} (inputs : Inputs) (found : Result A Stop) (next : A → Result B Stop)
     → IsAsked inputs found → IsAsked inputs (and_then found next)
-asked-then {A} {B} inputs found next asked = record {
-  none = λ b is. let t = then-ok found next b is in asked.none t.0 t.1;
-  some = λ l is. ap (λ (r : Result A Stop). and_then r next) (asked.some l is);
-}
+asked-then {A} {B} inputs found next asked = grind (arith, then-ok)
 
 -- ---- the line
 twelve : decimal 12 ≡ 49 ∷ 50 ∷ []
-twelve = decimal_step_wide 12 (omega arith) (omega arith)
-    ∙ ap (λ ds. ds ++ 50 ∷ []) (decimal_digit 1 (omega arith))
+twelve = grind (arith, decimal_step_wide, decimal_digit)
 
 no_room-line : (name : List ℕ) → is_label_name name ≡ true
     → group_text (refusal_at (at_label name) NoRoom)

@@ -1,12 +1,12 @@
 -- What every call of `run` promises.
 use Rattle.std.proofs.Common.{◌≡◌, ◌⊎◌, inl, inr, ℕ, true, is_some, List, [], ◌∷◌, ◌++◌, length}
-use Rattle.std.proofs.Common.{option_map, Option, Some, None, Result, Ok, Err, refl, sym, ap, subst}
-use Rattle.std.proofs.Common.{◌∙◌, Contains, IsTrue}
+use Rattle.std.proofs.Common.{option_map, Option, Some, Result, Ok, Err, refl, sym, ap, subst}
+use Rattle.std.proofs.Common.{◌∙◌, Contains, IsTrue, arith, rules}
 use Rattle.std.proofs.lemmas.List.{append_cancel_left}
 use Rattle.rvs_base.specs.Host.{Files, Tells}
 use Rattle.rvs_base.specs.Sink.{appended}
 use Rattle.rvs_base.specs.declared.host.DeviceRun.{DeviceRun}
-use Rattle.rvs_plan.specs.World.{Contents, contents}
+use Rattle.rvs_plan.specs.World.{contents}
 use Rattle.rvs_plan.specs.Effect.{Answer, Effect, Did, Out, after, Saw}
 use Rattle.rvs_plan.specs.Plan.{Plan, Ends, Goes, followed}
 use Rattle.rvs_plan.specs.Performed.{end_of, ComesTo}
@@ -30,7 +30,7 @@ use Rattle.rvs_suite.specs.Headline.{HasProvedTest}
 use Rattle.rvs_suite.specs.Answered.{HasLeft, Answered}
 use Rattle.rvs_generate.specs.GenerateTexts.{listing}
 use Rattle.rvs_run.specs.RunTests.{Bench, tally_line, tallies, passes, with_one, verdict_of_all}
-use Rattle.rvs_run.specs.RunTests.{RunInputs, run_inputs, bench_of, runs, run}
+use Rattle.rvs_run.specs.RunTests.{RunInputs, bench_of, runs, run}
 use Rattle.rvs_suite.specs.RunLeft.{verdict_lines, passed_onto, with_all_judged, task_of}
 use Rattle.rvs_inputs.specs.DeviceInput.{device_in}
 use Rattle.rvs_inputs.specs.GroupFiles.{Inputs, and_then, inputs_in, parted_inputs}
@@ -64,33 +64,23 @@ rest_of program work found = followed found (runs program work)
 end-rest : (files : Files) (answers : List Answer) (asked : RunArguments)
     → end_of (run asked) files answers ≡ end_of
     (rest_of asked.program asked.work (run_inputs_in files asked)) files answers
-end-rest files answers asked = end-found files answers
-    (run_inputs asked) (runs asked.program asked.work) (run_inputs_in files asked)
-    (finds-run files asked)
+end-rest files answers asked = grind (arith, end-found, finds-run)
 
 stopped-rest : (files : Files) (answers : List Answer) (program work : List ℕ)
     (found : Result RunInputs Stop) (stop : Stop) → end_of (rest_of program work found) files
     answers ≡ Some (Err stop) → found ≡ Err stop
-stopped-rest files answers program work (Ok inputs) stop is = absurd
-    (never-end (runs program work inputs) files answers stop (runs-on program work inputs) is)
-stopped-rest files answers program work (Err s) stop is = let same : s ≡ stop = cc in
-    ap (λ (x : Stop). Err x) same
+stopped-rest files answers program work found stop is = search (rules, never-end, runs-on)
 
 -- a run that stopped did so at its inputs
 stopped : (files : Files) (asked : RunArguments)
     (stop : Stop) → ComesTo (run asked) files (Err stop) → run_inputs_in
     files asked ≡ Err stop
-stopped files asked stop comes = stopped-rest files comes.answers asked.program
-    asked.work (run_inputs_in files asked) stop
-    (sym (end-rest files comes.answers asked) ∙ comes.is)
+stopped files asked stop comes = grind (arith, stopped-rest, end-rest)
 
 stops : (files : Files) (asked : RunArguments)
     (stop : Stop) → run_inputs_in files asked ≡ Err stop → (answers : List Answer)
     → end_of (run asked) files answers ≡ Some (Err stop)
-stops files asked stop is answers =
-    end-rest files answers asked
-    ∙ ap (λ (found : Result RunInputs Stop). end_of
-    (rest_of asked.program asked.work found) files answers) is
+stops files asked stop is answers = grind (arith, end-rest)
 
 ended : (files : Files) (asked : RunArguments)
     (inputs : RunInputs) (status : Status) (end : Result Finish Stop)
@@ -98,8 +88,7 @@ ended : (files : Files) (asked : RunArguments)
     ≡ end_status end → (status ≡ answer.Done) ⊎ (status ≡ answer.NotPassed) ⊎
     (status ≡ answer.NoMemory)
 ended files asked inputs status (Ok finish.Done) given comes is = inl is
-ended files asked inputs status (Ok finish.NotPassed) given comes is =
-    inr (inl is)
+ended files asked inputs status (Ok finish.NotPassed) given comes is = grind (arith, inr, inl)
 ended files asked inputs status (Err stop) given comes is =
     let both : Ok inputs ≡ Err stop =
     sym given ∙ stopped files asked stop comes in absurd cc
@@ -178,8 +167,7 @@ judged program work inputs files before out end effects goes saw =
 
 told-runs : (r : Option (List DeviceRun)) → is_some r ≡ true
     → (runs : List DeviceRun) × (r ≡ Some runs)
-told-runs (Some runs) is = (runs, refl)
-told-runs None is = absurd cc
+told-runs r is = grind arith
 
 has-judged : {call : Call} (program work : List ℕ) (inputs : RunInputs) (files : Files)
     (end : Finish) (effects : List Effect) → Tells call.old.host files → Goes
@@ -187,27 +175,7 @@ has-judged : {call : Call} (program work : List ℕ) (inputs : RunInputs) (files
     → contents (world_of call.new) ≡ after effects (contents (world_of call.old)) → HasJudged call
     program work end inputs
 has-judged {call} program work inputs files end effects t goes saw did =
-    let before = told-runs call.old.host.runs t.runs in
-    let out = call.old.out.bytes in
-    let old : contents (world_of call.old) ≡ contents_of files before.0 out =
-    λ i. record { files = t.files i; runs = before.1 i; out = out } in
-    let now = judged program work inputs files before.0 out end effects goes
-    (subst (λ (c : Contents). Saw effects c) old saw) in
-    let left = now.1 in
-    let new = did ∙ ap (λ (c : Contents). after effects c) old ∙ now.2 ∙ left.same in
-    record {
-      runs = left.all.news;
-      each = left.all.each;
-      made = ap (λ (c : Contents). c.runs) new ∙ sym
-          (ap (λ (r : Option (List DeviceRun)). option_map (λ b. b ++ left.all.news) r) before.1);
-      files = ap (λ (c : Contents). c.files) new ∙ sym (ap (λ (f : Option Files). option_map
-          (with_all_judged (bench_of program work inputs) (tests_in inputs) left.all.news) f)
-          t.files);
-      out = ap (λ (c : Contents). c.out) new;
-      verdict = left.verdict;
-      means = are-judged (bench_of program work inputs) (tests_in inputs) left.all.news end
-          left.all.each left.verdict;
-    }
+    grind (arith, told-runs, contents_of, judged, option_map, are-judged)
 
 -- by what the inputs come to
 left-by : {call : Call} (program work : List ℕ) (found : Result RunInputs Stop) (files : Files)
@@ -231,11 +199,7 @@ left : {call : Call} (files : Files) (asked : RunArguments) (end : Finish)
     (run asked) (Ok end) (contents (world_of call.old))
     (contents (world_of call.new)) → HasLeft (run_inputs_in files asked)
     (HasJudged call asked.program asked.work end)
-left {call} files asked end t r =
-    left-by asked.program asked.work (run_inputs_in files asked) files end r.effects t
-    (behind files (run_inputs asked) (runs asked.program asked.work)
-    (run_inputs_in files asked) (Ok end) r.effects (contents (world_of call.old))
-    (finds-run files asked) t.files r.saw r.goes) r.did
+left {call} files asked end t r = search (rules, left-by, behind, finds-run)
 
 -- ---- one test that passes
 one_passes : (bench : Bench) (test : Test) (run : DeviceRun) → Spells (task_of bench test) run.after
@@ -268,18 +232,13 @@ not-failed {call} program work inputs test before run judged one old new spells 
 done-only : (status : Status)
     → (status ≡ answer.Done) ⊎ (status ≡ answer.NotPassed) ⊎ (status ≡ answer.NoMemory)
     → (status ≡ answer.NotPassed → ⊥) → (status ≡ answer.Done) ⊎ (status ≡ answer.NoMemory)
-done-only status (inl done) never = inl done
-done-only status (inr (inl not_passed)) never = absurd (never not_passed)
-done-only status (inr (inr no_memory)) never = inr no_memory
+done-only status h never = grind arith
 
 given-left : {call : Call} (program work : List ℕ) (inputs : RunInputs) (end : Finish)
     (found : Result RunInputs Stop)
     → found ≡ Ok inputs → HasLeft found (HasJudged call program work end)
     → HasJudged call program work end inputs
-given-left {call} program work inputs end found is l =
-    let both : Ok l.given ≡ Ok inputs = sym l.accepted ∙ is in
-    let same : l.given ≡ inputs = cc in
-    subst (λ (g : RunInputs). HasJudged call program work end g) same l.left
+given-left {call} program work inputs end found is l = grind (arith, left)
 
 -- where it came to its end, all tests were judged
 abbrev WasJudged : Call → Files → RunArguments → Finish → Type 0

@@ -1,7 +1,7 @@
 -- What the effects of `run` leave, test by test.
-use Rattle.std.proofs.Common.{◌≡◌, ℕ, Bool, true, false, if◌then◌else◌, List, [], ◌∷◌}
+use Rattle.std.proofs.Common.{◌≡◌, ℕ, Bool, if◌then◌else◌, List, [], ◌∷◌}
 use Rattle.std.proofs.Common.{◌++◌, append_assoc, append-nil, Option, Some}
-use Rattle.std.proofs.Common.{None, Result, refl, sym, ap, subst, ◌∙◌}
+use Rattle.std.proofs.Common.{None, Result, refl, sym, ap, subst, ◌∙◌, arith, rules}
 use Rattle.std.specs.Str.{bytes_eq}
 use Rattle.rvs_base.specs.Host.{Files, with_file, with_left, run_over}
 use Rattle.rvs_base.specs.Sink.{appended}
@@ -39,8 +39,7 @@ pub first_did : (deed : Deed) (plan : Plan Finish) (end : Result Finish Stop)
     (effects : List Effect) → Goes (Does deed plan) effects (Ends end) → FirstDid deed plan end
     effects
 first_did deed plan end [] goes = absurd cc
-first_did deed plan end (Did d ∷ effects) goes =
-    record { rest = effects; is = ap (λ (x : Deed). Did x ∷ effects) (sym goes.0); goes = goes.1 }
+first_did deed plan end (Did d ∷ effects) goes = grind arith
 first_did deed plan end (Read name found ∷ effects) goes = absurd goes
 first_did deed plan end (Device words test signature answer ∷ effects) goes = absurd goes
 
@@ -56,11 +55,7 @@ pub first_written : (name : List ℕ) (executable : Option (List ℕ)) (plan : P
     (effects : List Effect)
     → Goes ((writes_executable name executable >>= (λ _. plan)) >>= put >>= next) effects (Ends end)
     → FirstWritten name executable (plan >>= put >>= next) end effects
-first_written name None plan put next end effects goes =
-    record { rest = effects; is = refl; goes = goes }
-first_written name (Some executable) plan put next end effects goes =
-    let first = first_did (Write name executable) (plan >>= put >>= next) end effects goes in
-    record { rest = first.rest; is = first.is; goes = first.goes }
+first_written name executable plan put next end effects goes = search (rules, first_did)
 
 pub record FirstRead (name : List ℕ) (next : Option (List ℕ) → Plan Finish)
     (end : Result Finish Stop) (effects : List Effect) : Type 0 where
@@ -73,12 +68,7 @@ pub first_read : (name : List ℕ) (bound : ℕ) (next : Option (List ℕ) → P
     (end : Result Finish Stop) (effects : List Effect) → Goes (Asks name bound next) effects
     (Ends end) → FirstRead name next end effects
 first_read name bound next end [] goes = absurd cc
-first_read name bound next end (Read n found ∷ effects) goes = record {
-  found = found;
-  rest = effects;
-  is = ap (λ (x : List ℕ). Read x found ∷ effects) (sym goes.0);
-  goes = goes.1;
-}
+first_read name bound next end (Read n found ∷ effects) goes = grind arith
 first_read name bound next end (Did deed ∷ effects) goes = absurd goes
 first_read name bound next end (Device words test signature answer ∷ effects) goes = absurd goes
 
@@ -93,12 +83,7 @@ pub first_ran : (words : List (List ℕ)) (test signature : List ℕ) (next : An
     (end : Result Finish Stop) (effects : List Effect) → Goes (Runs words test signature next)
     effects (Ends end) → FirstRan words test signature next end effects
 first_ran words test signature next end [] goes = absurd cc
-first_ran words test signature next end (Device w t s answer ∷ effects) goes = record {
-  answer = answer;
-  rest = effects;
-  is = λ i. Device (sym goes.0 i) (sym goes.1 i) (sym goes.2 i) answer ∷ effects;
-  goes = goes.3;
-}
+first_ran words test signature next end (Device w t s answer ∷ effects) goes = grind arith
 first_ran words test signature next end (Did deed ∷ effects) goes = absurd goes
 first_ran words test signature next end (Read name found ∷ effects) goes = absurd goes
 
@@ -125,9 +110,7 @@ test-there bench test files =
 
 empty-there : (bench : Bench) (test : Test) (files : Files)
     → started bench test files (files_for bench test).device ≡ Some []
-empty-there bench test files = found-in
-    (bytes_eq (files_for bench test).device (files_for bench test).device) _ _
-    (same-bytes (files_for bench test).device)
+empty-there bench test files = simp (found-in, same-bytes)
 
 pub left-there : (name : List ℕ) (left : Option (List ℕ)) (files : Files)
     → with_left name left files name ≡ left
@@ -135,19 +118,16 @@ left-there name left files = found-in (bytes_eq name name) _ _ (same-bytes name)
 
 either : (b : Bool) (x y z : Option (List ℕ))
     → (if b then x else (if b then y else z)) ≡ (if b then x else z)
-either true x y z = refl
-either false x y z = refl
+either b x y z = grind arith
 
 -- what a run leaves takes the place of what was written before it
 pub left-over : (name bytes : List ℕ) (left : Option (List ℕ)) (files : Files)
     → with_left name left (with_file name bytes files) ≡ with_left name left files
-left-over name bytes left files =
-    λ i other. either (bytes_eq other name) left (Some bytes) (files other) i
+left-over name bytes left files = grind (arith, either)
 
 pub appended-twice : (out : Option (List ℕ)) (one more : List ℕ)
     → appended (appended out one) more ≡ appended out (one ++ more)
-appended-twice None one more = refl
-appended-twice (Some out) one more = ap (λ (x : List ℕ). Some x) (append_assoc out one more)
+appended-twice out one more = search (rules, append_assoc)
 
 -- ---- one test
 abbrev run_with : Bench → Test → Files → Answer → DeviceRun
@@ -305,8 +285,7 @@ pub record JudgedAll (bench : Bench) (tests : List Test) (passed : ℕ) (next : 
       ≡ after later (after_tests bench tests files runs out news)
 
 pub append-none : (out : Option (List ℕ)) → appended out [] ≡ out
-append-none None = refl
-append-none (Some out) = ap (λ (x : List ℕ). Some x) (append-nil out)
+append-none out = search rules
 
 pub judged-all : (bench : Bench) (tests : List Test) (passed : ℕ) (next : ℕ → Plan Finish)
     (files : Files) (runs : List DeviceRun) (out : Option (List ℕ)) (end : Result Finish Stop)

@@ -1,5 +1,5 @@
 -- What a command line left, and what its conclusion says of it.
-use Rattle.std.proofs.Common.{◌≡◌, ◌⊎◌, inl, inr, ℕ, Result, Err, refl, subst}
+use Rattle.std.proofs.Common.{◌≡◌, ◌⊎◌, inl, inr, ℕ, Result, Err, refl, subst, arith}
 use Rattle.rvs_base.specs.Host.{HostState, Files, Tells}
 use Rattle.rvs_base.specs.Sink.{SinkState}
 use Rattle.rvs_plan.specs.World.{World, world}
@@ -26,13 +26,7 @@ pub Performs-meets : {command : Command} {old new : World} {result : Result Fini
     → (command ≡ Unknown → ⊥) → ((count : ℕ) → command ≡ Demo count → ⊥)
     → MeetsWith (absence_of command) (plan_of command) old new result
     → Performs command old new result
-Performs-meets known hosted m = record {
-  obeys = Obeys-meets m;
-  usage = λ is. absurd (Meets-not_usage m is);
-  no_command = λ is. absurd (known is);
-  unchanged = λ is. absurd (known is);
-  apart = λ count is. absurd (hosted count is);
-}
+Performs-meets known hosted m = grind arith
 
 pub Performs-demo : (count : ℕ) (host : HostState) (out out' : SinkState)
     (result : Result Finish Stop)

@@ -1,5 +1,5 @@
 -- What every call of `select` promises.
-use Rattle.std.proofs.Common.{refl, ap}
+use Rattle.std.proofs.Common.{refl, ap, arith}
 use Rattle.rvs_base.specs.Host.{Files}
 use Rattle.rvs_plan.specs.World.{Contents}
 use Rattle.rvs_plan.specs.declared.status.Finish.TheVariants as finish
@@ -9,7 +9,7 @@ use Rattle.rvs_plain.specs.Select.{selection_in, reads_selection, print_selectio
 use Rattle.rvs_suite.specs.Selecting as selecting
 use Rattle.rvs_suite.proofs.Answered.{Works, RunsOn, answered}
 use Rattle.rvs_suite.proofs.DatabaseReads.{reads-selection, finds-selection, selected-tests}
-use Rattle.rvs_inputs.proofs.Keeping.{WritesNone, WritesNone-then, reads-none}
+use Rattle.rvs_inputs.proofs.Keeping.{WritesNone, reads-none}
 use Rattle.rvs_suite.proofs.Running.{keeps}
 use Rattle.rvs_words.specs.declared.command.Command.TheVariants.{Select}
 use Rattle.rvs_words.specs.declared.command.SelectArguments.{SelectArguments}
@@ -26,8 +26,7 @@ works files asked = record {
 }
 
 writes-select : (asked : SelectArguments) → WritesNone (select asked)
-writes-select asked = WritesNone-then (reads_selection asked) print_selection
-    (reads-none (reads_selection asked) (reads-selection asked)) (λ entries. tt)
+writes-select asked = grind (arith, reads-none, reads-selection)
 
 pub selects : {call : Call} (files : Files) (asked : SelectArguments)
     → RunsOn call files (Select asked) → selecting.Selects call files asked

@@ -15,14 +15,12 @@ use Rattle.rvs_cgf.specs.Groups.{Label, Point, same_kind, is_point, has}
 use Rattle.rvs_cgf.specs.Print.{kind_name}
 use Rattle.rvs_cgf.specs.Valid.{are_distinct}
 use Rattle.rvs_cgf.specs.declared.group.Kind.{Kind}
-use Rattle.rvs_cgf.specs.declared.group.Kind.TheVariants.{Mnemonic, Rs1, Rs2, Rd, OpComb, ValComb}
-use Rattle.rvs_cgf.specs.declared.group.Kind.TheVariants.{CrossComb}
 use Rattle.rvs_normal.proofs.Truths.{both, and-true, or-both, not-true}
 use Rattle.rvs_solver.specs.Solving.{first_at, IsSolvableAt}
 use Rattle.rvs_solver.specs.declared.solved.Solved.{Solved}
 use Rattle.rvs_test_text.specs.declared.claim.Claim.{Claim}
 use Rattle.rvs_test_text.specs.TestText.{step_limit}
-use Rattle.rvs_test.specs.Made.{claims_of, cases_of, named_or_none, text_for, text_of_label}
+use Rattle.rvs_test.specs.Made.{claims_of, cases_of, text_for, text_of_label}
 use Rattle.rvs_test.specs.Made.{cases_among, solved_among, numbered, places}
 use Rattle.rvs_test.specs.Claimed.{IsClaimed, words_of_case}
 use Rattle.rvs_test.specs.Named.{Named, named_claim}
@@ -37,55 +35,7 @@ use Rattle.rvs_suite.proofs.PointLines.{claim-solved, unsolved-at}
 
 -- ---- points are told apart by the names of their kinds and their keys
 same-names : (j k : Kind) → bytes_eq (kind_name j) (kind_name k) ≡ true → same_kind j k ≡ true
-same-names Mnemonic Mnemonic h = refl
-same-names Mnemonic Rs1 h = h
-same-names Mnemonic Rs2 h = h
-same-names Mnemonic Rd h = h
-same-names Mnemonic OpComb h = h
-same-names Mnemonic ValComb h = h
-same-names Mnemonic CrossComb h = h
-same-names Rs1 Mnemonic h = h
-same-names Rs1 Rs1 h = refl
-same-names Rs1 Rs2 h = h
-same-names Rs1 Rd h = h
-same-names Rs1 OpComb h = h
-same-names Rs1 ValComb h = h
-same-names Rs1 CrossComb h = h
-same-names Rs2 Mnemonic h = h
-same-names Rs2 Rs1 h = h
-same-names Rs2 Rs2 h = refl
-same-names Rs2 Rd h = h
-same-names Rs2 OpComb h = h
-same-names Rs2 ValComb h = h
-same-names Rs2 CrossComb h = h
-same-names Rd Mnemonic h = h
-same-names Rd Rs1 h = h
-same-names Rd Rs2 h = h
-same-names Rd Rd h = refl
-same-names Rd OpComb h = h
-same-names Rd ValComb h = h
-same-names Rd CrossComb h = h
-same-names OpComb Mnemonic h = h
-same-names OpComb Rs1 h = h
-same-names OpComb Rs2 h = h
-same-names OpComb Rd h = h
-same-names OpComb OpComb h = refl
-same-names OpComb ValComb h = h
-same-names OpComb CrossComb h = h
-same-names ValComb Mnemonic h = h
-same-names ValComb Rs1 h = h
-same-names ValComb Rs2 h = h
-same-names ValComb Rd h = h
-same-names ValComb OpComb h = h
-same-names ValComb ValComb h = refl
-same-names ValComb CrossComb h = h
-same-names CrossComb Mnemonic h = h
-same-names CrossComb Rs1 h = h
-same-names CrossComb Rs2 h = h
-same-names CrossComb Rd h = h
-same-names CrossComb OpComb h = h
-same-names CrossComb ValComb h = h
-same-names CrossComb CrossComb h = refl
+same-names j k h = grind arith
 
 clash : (ps : List Point) (k : ℕ) (p q : Point) → slice_get ps k ≡ Some q
     → has p.kind p.key ps ≡ false → kind_name q.kind ≡ kind_name p.kind → q.key ≡ p.key → ⊥
@@ -105,18 +55,8 @@ unique : (ps : List Point) (i k : ℕ) (p q : Point) → slice_get ps i ≡ Some
     → q.key ≡ p.key → k ≡ i
 unique [] i k p q here there own kind key = absurd cc
 unique (x ∷ xs) zero zero p q here there own kind key = refl
-unique (x ∷ xs) zero (suc k) p q here there own kind key =
-    let same : x ≡ p = cc in
-    let o = both (not (has x.kind x.key xs)) (are_distinct xs) own in
-    absurd (clash xs k x q there (not-true (has x.kind x.key xs) o.0)
-    (kind ∙ sym (ap (λ (y : Point). kind_name y.kind) same))
-    (key ∙ sym (ap (λ (y : Point). y.key) same)))
-unique (x ∷ xs) (suc i) zero p q here there own kind key =
-    let same : x ≡ q = cc in
-    let o = both (not (has x.kind x.key xs)) (are_distinct xs) own in
-    absurd (clash xs i x p here (not-true (has x.kind x.key xs) o.0)
-    (sym kind ∙ sym (ap (λ (y : Point). kind_name y.kind) same))
-    (sym key ∙ sym (ap (λ (y : Point). y.key) same)))
+unique (x ∷ xs) zero (suc k) p q here there own kind key = grind (arith, both, clash, not-true)
+unique (x ∷ xs) (suc i) zero p q here there own kind key = grind (arith, both, clash, not-true)
 unique (x ∷ xs) (suc i) (suc k) p q here there own kind key =
     let o = both (not (has x.kind x.key xs)) (are_distinct xs) own in
     ap (λ (n : ℕ). suc n) (unique xs i k p q here there o.1 kind key)
@@ -124,10 +64,7 @@ unique (x ∷ xs) (suc i) (suc k) p q here there own kind key =
 -- ---- claims and their names
 names-it : (l : Label) (c : Claim) (p : Point) → slice_get l.points c.point ≡ Some p
     → Names (named_claim l c) p
-names-it l c p is = record {
-  kind = sym (ap (λ (o : Option Point). (named_or_none o).kind) is);
-  key = sym (ap (λ (o : Option Point). (named_or_none o).key) is);
-}
+names-it l c p is = grind arith
 
 contains-map : {A B : Type 0} (f : A → B) (xs : List A) (x : A) → Contains xs x
     → Contains (map f xs) (f x)
@@ -236,8 +173,7 @@ none-solved isa l (k ∷ ks) none =
         absurd cc
 
 no-cases : (isa : Isa) (l : Label) (cs : List Solved) → text_for isa l cs ≡ None → cs ≡ []
-no-cases isa l [] none = refl
-no-cases isa l (c ∷ cs) none = absurd cc
+no-cases isa l cs none = grind arith
 
 no-claims : (isa : Isa) (l : Label) → text_of_label isa l ≡ None → claims_of isa l ≡ []
 unfolding claims_of cases_of

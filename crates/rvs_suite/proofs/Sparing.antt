@@ -1,9 +1,8 @@
 -- That `reference`, `generate` and `run` change no file but their own, however they end.
 use Rattle.std.proofs.Common.{◌≡◌, ◌≢◌, ℕ, Bool, true, false, List, [], ◌∷◌, length, Option, Some}
-use Rattle.std.proofs.Common.{None, Result, Ok, Err, bytes_eq, if◌then◌else◌, refl, sym, subst, ap}
-use Rattle.std.proofs.Common.{◌∙◌, Contains, arith}
+use Rattle.std.proofs.Common.{None, Result, Ok, Err, if◌then◌else◌, refl, sym, subst, ap}
+use Rattle.std.proofs.Common.{◌∙◌, Contains, arith, rules}
 use Rattle.std.specs.Prelude.{⊤}
-use Rattle.std.proofs.lemmas.Slice.Eq.{bytes_eq-Decides}
 use Rattle.std.proofs.lemmas.List.Elements.{Contains-append_left, Contains-append_right}
 use Rattle.rvs_base.specs.Host.{Files, Tells, MaySpoil, ChangesOne, written}
 use Rattle.rvs_base.specs.Sink.{SinkState}
@@ -11,7 +10,6 @@ use Rattle.rvs_plan.specs.World.{World, Contents, contents}
 use Rattle.rvs_plan.specs.Effect.{Answer, Write, Out, Effect, Read, Device, Did, left_by, after}
 use Rattle.rvs_plan.specs.Effect.{after_one, after_deed, Saw}
 use Rattle.rvs_plan.specs.Plan.{Plan, Ends, Does, Asks, Runs, Goes, followed, gives, ◌>>=◌}
-use Rattle.rvs_plan.specs.Inputs.{input}
 use Rattle.rvs_plan.specs.Meets.{Reaches, Halts}
 use Rattle.rvs_plan.specs.Account.{Accounts}
 use Rattle.rvs_plan.specs.declared.stop.Stop.{Stop}
@@ -20,9 +18,7 @@ use Rattle.rvs_plan.specs.declared.status.Status.{Status}
 use Rattle.rvs_plan.specs.declared.status.Status.TheVariants as answer
 use Rattle.rvs_plan.specs.declared.status.Finish.{Finish}
 use Rattle.rvs_device.specs.Command.{wants_elf}
-use Rattle.rvs_inputs.specs.Specification.{isa_limit, checks, specification}
-use Rattle.rvs_reference.specs.Reference.{test_limit, trial, records, reference_on, reference}
-use Rattle.rvs_reference.specs.TestRun.{accepted, test_found}
+use Rattle.rvs_reference.specs.Reference.{records, reference}
 use Rattle.rvs_insn.specs.Isa.{Isa}
 use Rattle.rvs_cgf.specs.Groups.{Label}
 use Rattle.rvs_test.specs.Made.{cases_of, text_of_label}
@@ -60,34 +56,23 @@ held name None = None
 held name (Some files) = Some (files name)
 
 unchosen : (b : Bool) (x y : Option (List ℕ)) → (b ≡ true → ⊥) → (if b then x else y) ≡ y
-unchosen true x y never = absurd (never refl)
-unchosen false x y never = refl
+unchosen b x y never = grind arith
 
 pub unwritten : (other name bytes : List ℕ) (files : Option Files) → other ≢ name
     → held other (written name bytes files) ≡ held other files
-unwritten other name bytes None apart = refl
-unwritten other name bytes (Some files) apart = ap (λ (x : Option (List ℕ)). Some x) (unchosen
-    (bytes_eq other name) (Some bytes) (files other)
-    (λ same. apart ((bytes_eq-Decides other name).0 same)))
+unwritten other name bytes files apart = search rules
 
 unspoilt : (other name bytes : List ℕ) (files files' : Option Files) → other ≢ name
     → MaySpoil name bytes files files' → held other files' ≡ held other files
-unspoilt other name bytes None files' apart m = ap (λ (f : Option Files). held other f) m
-unspoilt other name bytes (Some files) files' apart m = ap (λ (f : Option Files). held other f) m.1
-    ∙ ap (λ (x : Option (List ℕ)). Some x) (m.2.others other apart)
+unspoilt other name bytes files files' apart m = grind arith
 
 unleft : (other signature : List ℕ) (answer : Answer) (files : Option Files) → other ≢ signature
     → held other (left_by signature answer files) ≡ held other files
-unleft other signature answer None apart = refl
-unleft other signature answer (Some files) apart = ap (λ (x : Option (List ℕ)). Some x) (unchosen
-    (bytes_eq other signature) answer.left (files other)
-    (λ same. apart ((bytes_eq-Decides other signature).0 same)))
+unleft other signature answer files apart = search rules
 
 unchanged : (other signature : List ℕ) (files files' : Option Files) → other ≢ signature
     → ChangesOne signature files files' → held other files' ≡ held other files
-unchanged other signature None files' apart m = ap (λ (f : Option Files). held other f) m
-unchanged other signature (Some files) files' apart m = ap (λ (f : Option Files). held other f) m.1
-    ∙ ap (λ (x : Option (List ℕ)). Some x) (m.2 other apart)
+unchanged other signature files files' apart m = grind arith
 
 -- a plan that doesn't write this file, nor has a device that may
 abbrev pub Spares : {A : Type 0} → List ℕ → Plan A → Type 0
@@ -100,8 +85,7 @@ Spares other (Runs words test signature next) =
 
 Spares-followed : {A B : Type 0} (other : List ℕ) (end : Result A Stop) (next : A → Plan B)
     → ((a : A) → Spares other (next a)) → Spares other (followed end next)
-Spares-followed other (Ok a) next rest_spares = rest_spares a
-Spares-followed other (Err stop) next rest_spares = tt
+Spares-followed other = grind arith
 
 pub Spares-then : {A B : Type 0} (other : List ℕ) (plan : Plan A) (next : A → Plan B)
     → Spares other plan → ((a : A) → Spares other (next a)) → Spares other (plan >>= next)
@@ -118,8 +102,7 @@ Spares-then other (Runs words test signature rest) next spares rest_spares =
 spared : {A : Type 0} (other : List ℕ) (plan rest : Plan A) (effects : List Effect) (c : Contents)
     → Spares other plan → Goes plan effects rest
     → (held other (after effects c).files ≡ held other c.files) × Spares other rest
-spared {A = A} other plan rest [] c spares goes =
-    (refl, subst (λ (p : Plan A). Spares other p) goes spares)
+spared {A = A} other plan rest [] c spares goes = grind arith
 spared other (Ends end) rest (effect ∷ effects) c spares goes = absurd goes
 spared other (Does (Write name bytes) plan) rest (Did (Write n put) ∷ effects) c spares goes =
     let e : Write name bytes ≡ Write n put = goes.0 in
@@ -134,8 +117,7 @@ spared other (Does (Write name bytes) plan) rest (Device words test signature an
     spares goes = absurd goes
 spared other (Does (Out bytes) plan) rest (Did (Out put) ∷ effects) c spares goes =
     spared other plan rest effects (after_deed (Out put) c) spares goes.1
-spared other (Does (Out bytes) plan) rest (Did (Write n put) ∷ effects) c spares goes =
-    let e : Out bytes ≡ Write n put = goes.0 in absurd cc
+spared other (Does (Out bytes) plan) rest (Did (Write n put) ∷ effects) c spares goes = grind arith
 spared other (Does (Out bytes) plan) rest (Read n found ∷ effects) c spares goes = absurd goes
 spared other (Does (Out bytes) plan) rest (Device words test signature answer ∷ effects) c spares
     goes = absurd goes
@@ -172,9 +154,7 @@ spares-over files other (Runs words test signature next) spares = spares
 spares-followed : {A B : Type 0} (files : Files) (other : List ℕ) (found : Result A Stop)
     (next : A → Plan B) → ((a : A) → found ≡ Ok a → Spares other (next a))
     → SparesOver files other (followed found next)
-spares-followed files other (Ok a) next rest_spares =
-    spares-over files other (next a) (rest_spares a refl)
-spares-followed files other (Err stop) next rest_spares = tt
+spares-followed files = search (rules, spares-over)
 
 -- what comes behind reading has to spare the file for what was found alone
 pub spares-found : {A B : Type 0} (files : Files) (other : List ℕ) (plan : Plan A)
@@ -192,8 +172,7 @@ spared-over : {A : Type 0} (files : Files) (other : List ℕ) (plan rest : Plan 
     (effects : List Effect) (c : Contents) → c.files ≡ Some files → SparesOver files other plan
     → Saw effects c → Goes plan effects rest
     → (held other (after effects c).files ≡ held other c.files) × SparesOver files other rest
-spared-over {A} files other plan rest [] c told spares saw goes =
-    (refl, subst (λ (p : Plan A). SparesOver files other p) goes spares)
+spared-over {A} files other plan rest [] c told spares saw goes = grind arith
 spared-over files other (Ends end) rest (effect ∷ effects) c told spares saw goes = absurd goes
 spared-over files other (Does deed plan) rest (effect ∷ effects) c told spares saw goes =
     let k = spared other (Does deed plan) rest (effect ∷ effects) c spares goes in
@@ -216,9 +195,7 @@ spared-over files other (Runs words test signature next) rest (effect ∷ effect
 reached : {A : Type 0} (files : Files) (other : List ℕ) (plan rest : Plan A) (old new : Contents)
     → old.files ≡ Some files → SparesOver files other plan → Reaches plan rest old new
     → (held other new.files ≡ held other old.files) × SparesOver files other rest
-reached files other plan rest old new told spares r =
-    let k = spared-over files other plan rest r.effects old told spares r.saw r.goes in
-    (ap (λ (c : Contents). held other c.files) r.did ∙ k.0, k.1)
+reached files other plan rest old new told spares r = grind (arith, spared-over)
 
 halted : (files : Files) (other : List ℕ) (plan : Plan Finish) (old new : Contents) (stop : Stop)
     → old.files ≡ Some files → SparesOver files other plan → Halts plan old new stop
@@ -266,19 +243,11 @@ accounted files other plan old new err err' answer.NoMemory told spares a =
 
 spares-records : (other signature : List ℕ) (log : Option (List ℕ)) (run : TestRun)
     → other ≢ signature → log ≢ Some other → Spares other (records signature log run)
-spares-records other signature None run apart unlogged = (apart, tt)
-spares-records other signature (Some log) run apart unlogged =
-    (apart, (λ p. unlogged (ap (λ (x : List ℕ). Some x) (sym p)), tt))
+spares-records other signature log run apart unlogged = grind arith
 
 spares-reference : (other : List ℕ) (asked : ReferenceArguments) → other ≢ asked.signature
     → asked.log ≢ Some other → Spares other (reference asked)
-spares-reference other asked apart unlogged =
-    Spares-then other (specification asked.isa) (λ said. reference_on asked said.spec)
-    (Spares-then other (input isa_limit asked.isa) (checks asked.isa) (λ found. tt) (λ bytes. tt))
-    (λ said. Spares-then other (trial asked.steps said.spec asked.test)
-    (records asked.signature asked.log) (Spares-then other (input test_limit asked.test)
-    (λ bytes. accepted (test_found asked.steps said.spec asked.test bytes)) (λ found. tt)
-    (λ bytes. tt)) (λ run. spares-records other asked.signature asked.log run apart unlogged))
+spares-reference other asked apart unlogged = grind (arith, Spares-then, spares-records)
 
 -- ---- of commands
 spares-test : (other work name : List ℕ) (steps : ℕ) (b : Bool) (text : Option (List ℕ))
@@ -325,12 +294,7 @@ spares-made : (other : List ℕ) (bench : Bench) (text name : List ℕ) (files :
       executable = if_asked wants executable;
       words = words;
     }) >>= announces name)
-spares-made other bench text name files words true executable this = (
-  this.test,
-  (this.executable refl, (this.reference, (this.device, (this.device, λ answer found. tt)))),
-)
-spares-made other bench text name files words false executable this =
-    (this.test, (this.reference, (this.device, (this.device, λ answer found. tt))))
+spares-made other bench text name files words wants executable this = grind arith
 
 spares-judging : (other : List ℕ) (bench : Bench) (passed : ℕ) (tests : List Test)
     → ((test : Test) → Contains tests test

@@ -1,5 +1,6 @@
 -- Plans that read a few files at most.
-use Rattle.std.proofs.Common.{◌≤◌, ◌+◌, ◌-◌, ℕ, List, [], ◌∷◌, Option, Result, Ok, Err, arith}
+use Rattle.std.proofs.lemmas.Bool.Decides.{nat_tests}
+use Rattle.std.proofs.Common.{◌≤◌, ◌+◌, ◌-◌, ℕ, List, [], ◌∷◌, Option, Result, arith}
 use Rattle.std.specs.Prelude.{⊤}
 use Rattle.rvs_base.specs.File.{ReadsAtMost}
 use Rattle.rvs_base.specs.Host.{Files, HostState}
@@ -39,14 +40,12 @@ more (Runs words test signature next) n b n' b' few small s =
 
 spends-followed : {A B : Type 0} (end : Result A Stop) (next : A → Plan B) (n b : ℕ)
     → ((a : A) → Spends n b (next a)) → Spends n b (followed end next)
-spends-followed (Ok a) next n b then = then a
-spends-followed (Err stop) next n b then = tt
+spends-followed h = grind arith
 
 -- one plan, and what follows it
 pub Spends-then : {A B : Type 0} (plan : Plan A) (next : A → Plan B) (n b m c : ℕ)
     → Spends n b plan → ((a : A) → Spends m c (next a)) → Spends (n + m) (b + c) (plan >>= next)
-Spends-then (Ends end) next n b m c s then = spends-followed end next (n + m) (b + c)
-    (λ a. more (next a) m c (n + m) (b + c) (omega arith) (omega arith) (then a))
+Spends-then (Ends end) next n b m c s then = grind (arith, spends-followed, more)
 Spends-then (Does deed plan) next n b m c s then = Spends-then plan next n b m c s then
 Spends-then (Asks name bound rest) next n b m c s then = (
   omega (arith, s.0),
@@ -60,10 +59,7 @@ Spends-then (Runs words test signature rest) next n b m c s then =
 
 ReadsAtMost-then : {n m a b : ℕ} {old mid new : HostState} → ReadsAtMost n a old mid
     → ReadsAtMost m b mid new → ReadsAtMost (n + m) (a + b) old new
-ReadsAtMost-then first next = record {
-  opened = omega (arith, first.opened, next.opened);
-  taken = omega (arith, first.taken, next.taken);
-}
+ReadsAtMost-then first next = grind arith
 
 -- what is read on any way through such a plan
 on_way : {A : Type 0} (plan : Plan A) (effects : List Effect) (n b : ℕ) (old new : HostState)
@@ -74,12 +70,7 @@ on_way (Does deed plan) (Did d ∷ es) n b old new s t = on_way plan es n b old 
 on_way (Does deed plan) (Read name found ∷ es) n b old new s t = absurd t
 on_way (Does deed plan) (Device w x g answer ∷ es) n b old new s t = absurd t
 on_way (Asks name bound next) (Read m found ∷ es) n b old new s t =
-    let both = ReadsAtMost-then t.1 (on_way (next found) es (n - 1) (b - bound) t.0 new
-    (s.2 found) t.2) in
-    record {
-      opened = omega (arith, both.opened, s.0);
-      taken = omega (arith, both.taken, s.1);
-    }
+    grind (arith, nat_tests, (on_way (next found) es (n - 1) (b - bound) t.0 new (s.2 found) t.2))
 on_way (Asks name bound next) (Device w x g answer ∷ es) n b old new s t = absurd t
 on_way (Asks name bound next) (Did d ∷ es) n b old new s t = absurd t
 on_way (Runs words test signature next) (Device w x g answer ∷ es) n b old new s t =
@@ -91,6 +82,4 @@ on_way (Runs words test signature next) (Did d ∷ es) n b old new s t = absurd 
 pub spent : {call : Call} {files : Files} {command : Command} (n b : ℕ)
     → RunsOn call files command → Spends n b (plan_of command)
     → ReadsAtMost n b call.old.host call.new.host
-spent {call} n b r s =
-    let way = (answers (ran-command r)).reading in
-    on_way _ way.1.effects n b call.old.host call.new.host s way.1.reads
+spent {call} n b r s = grind (arith, answers, ran-command, on_way)

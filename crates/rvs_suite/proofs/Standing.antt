@@ -42,11 +42,7 @@ none-in x (i, within, at) = omega (arith, within)
 
 named-with : (name : List ℕ) (steps : ℕ) (b : Bool) (text : Option (List ℕ)) (t : Test)
     → Contains (if b then test_with name steps text else []) t → t.name ≡ name
-named-with name steps true None t there = absurd (none-in t there)
-named-with name steps true (Some text) t (zero, within, at) =
-    sym (ap (λ (x : Test). x.name) at)
-named-with name steps true (Some text) t (suc i, within, at) = absurd (omega (arith, within))
-named-with name steps false text t there = absurd (none-in t there)
+named-with name steps b text t there = grind arith
 
 label-of : (isa : Isa) (ls : List Label) (t : Test) → Contains (tests_of isa ls) t
     → (l : Label) × Contains ls l × (t.name ≡ l.name)
@@ -78,9 +74,7 @@ not-any name (m ∷ ms) l none (suc i, within, at) =
 apart-with : (name : List ℕ) (steps : ℕ) (b : Bool) (text : Option (List ℕ)) (rest : List Test)
     → ((u : Test) → Contains rest u → name ≢ u.name) → AreApart rest
     → AreApart ((if b then test_with name steps text else []) ++ rest)
-apart-with name steps true None rest others apart = apart
-apart-with name steps true (Some text) rest others apart = (others, apart)
-apart-with name steps false text rest others apart = apart
+apart-with name steps b text rest others apart = grind arith
 
 apart-tests : (isa : Isa) (ls : List Label) → names_are_apart ls ≡ true
     → AreApart (tests_of isa ls)
@@ -98,21 +92,7 @@ test-with : (name : List ℕ) (steps : ℕ) (b : Bool) (text : Option (List ℕ)
     → b ≡ true → text ≡ Some t
     → Contains (if b then test_with name steps text else [])
     (record { name = name; text = t; steps = steps })
-test-with name steps true (Some text) t chosen is = (
-  0,
-  omega arith,
-  ap (λ (x : Option (List ℕ)). record {
-    name = name;
-    text = text_or x;
-    steps = steps;
-  }) is,
-)
-  where
-    text_or : Option (List ℕ) → List ℕ
-    text_or (Some x) = x
-    text_or None = []
-test-with name steps true None t chosen is = absurd cc
-test-with name steps false text t chosen is = absurd cc
+test-with name steps b text t chosen is = grind arith
 
 -- the test of a label that has this text
 abbrev pub test_by : Isa → Label → List ℕ → Test
@@ -142,14 +122,7 @@ kept-one : (bench : Bench) (t : Test) (run : DeviceRun) (files : Files) (other :
     → IsOther (asks_elf bench) (files_for bench t) other
     → with_judged bench t run files other ≡ files other
 kept-one bench t run files other apart =
-    passed-by (bytes_eq other (files_for bench t).device) _ _
-    (other-bytes other (files_for bench t).device apart.device)
-    ∙ passed-by (bytes_eq other (files_for bench t).reference) _ _
-    (other-bytes other (files_for bench t).reference apart.reference)
-    ∙ kept-executable (asks_elf bench) (files_for bench t).executable
-    (executable_of bench.isa t) _ other apart.executable
-    ∙ passed-by (bytes_eq other (files_for bench t).test) _ _
-    (other-bytes other (files_for bench t).test apart.test)
+    grind (arith, passed-by, bytes_eq, other-bytes, kept-executable)
 
 kept-all : (bench : Bench) (ts : List Test) (runs : List DeviceRun) (files : Files)
     (other : List ℕ)

@@ -1,6 +1,6 @@
 -- A test whose run is found halts, and the run of one that halts is found.
 use Rattle.std.proofs.Common.{◌≡◌, ◌≤◌, ℕ, List, length, Option, Some, Result, Ok, Err, refl, sym}
-use Rattle.std.proofs.Common.{ap, subst, ◌∙◌}
+use Rattle.std.proofs.Common.{ap, ◌∙◌, arith}
 use Rattle.rvs_base.specs.Host.{Files}
 use Rattle.rvs_insn.specs.Isa.{Isa}
 use Rattle.rvs_machine.specs.Image.{ImageValue}
@@ -8,7 +8,6 @@ use Rattle.rvs_machine.specs.Machine.{State, started}
 use Rattle.rvs_machine.specs.Run.{Outcome, run_of}
 use Rattle.rvs_machine.specs.declared.event.Executed.{Executed}
 use Rattle.rvs_machine.specs.declared.event.End.{End}
-use Rattle.rvs_machine.specs.declared.event.End.TheVariants.{Halted, Trapped, StepLimit, NoMemory}
 use Rattle.rvs_reference.specs.TestRun.{then_found, image_found, limit_of, left_by, run_end}
 use Rattle.rvs_reference.specs.TestRun.{outcome_end, run_found, test_found}
 use Rattle.rvs_reference.specs.Reference.{test_limit}
@@ -26,20 +25,7 @@ halts_by : (name : List ℕ) (limit : ℕ) (isa : Isa) (image : ImageValue) (tra
       state = state;
       end = end;
     })) end ≡ Ok run → Halts isa limit image run
-halts_by name limit isa image trace state Halted run is found =
-    let left : left_by (started image isa).setup (record {
-      trace = trace;
-      state = state;
-      end = Halted;
-    }) ≡ run = cc in
-    subst (λ (r : Run). Halts isa limit image r) left (record {
-      state = state;
-      halts = is;
-      words = refl;
-    })
-halts_by name limit isa image trace state (Trapped trap) run is found = absurd cc
-halts_by name limit isa image trace state StepLimit run is found = absurd cc
-halts_by name limit isa image trace state NoMemory run is found = absurd cc
+halts_by name limit isa image trace state end run is found = grind arith
 
 -- an image of which a run is found halts
 Halts-found : (name : List ℕ) (limit : ℕ) (isa : Isa) (image : ImageValue) (run : Run)

@@ -1,9 +1,8 @@
 -- What holds of the tests that are made of accepted inputs.
-use Rattle.std.proofs.Common.{◌≡◌, ℕ, Bool, true, false, if◌then◌else◌, List, [], ◌∷◌, map, All}
+use Rattle.std.proofs.Common.{◌≡◌, ℕ, Bool, true, if◌then◌else◌, List, [], ◌∷◌, map, All}
 use Rattle.std.proofs.Common.{Contains, Option, Some, None, Result, Ok, Err, IfOk, IsTrue, refl}
-use Rattle.std.proofs.Common.{sym, subst}
+use Rattle.std.proofs.Common.{subst, arith, rules}
 use Rattle.std.proofs.lemmas.List.Elements.{All-nil, All-cons, All-append, All-head, All-tail}
-use Rattle.std.proofs.lemmas.List.Elements.{All-contains}
 use Rattle.std.specs.Prelude.{find}
 use Rattle.rvs_base.specs.Host.{Files}
 use Rattle.rvs_abstract.specs.declared.families.Families.{Families}
@@ -13,7 +12,7 @@ use Rattle.rvs_insn.specs.Isa.{Isa}
 use Rattle.rvs_insn.specs.Memory.{HasRoom}
 use Rattle.rvs_isa.proofs.Rooms.{accepted_have_room}
 use Rattle.rvs_isa.specs.declared.accepted_spec.AcceptedSpec.{AcceptedSpec}
-use Rattle.rvs_yaml.specs.Parsed.{Parsed, answer}
+use Rattle.rvs_yaml.specs.Parsed.{Parsed}
 use Rattle.rvs_cgf.specs.Groups.{Label, Refusal, groups_of}
 use Rattle.rvs_cgf.specs.Valid.{IsValid, IsValidIfSelected}
 use Rattle.rvs_cgf.proofs.Validity.{groups_good}
@@ -34,7 +33,6 @@ use Rattle.rvs_generate.specs.TestedInputs.{lacks_room, unless_for, with_room, t
 use Rattle.rvs_inputs.specs.GroupFiles.{parted_inputs}
 use Rattle.rvs_generate.specs.Testable.{IsTestable, IsTestableIfSelected}
 use Rattle.rvs_parts.specs.Parts.{PartValue}
-use Rattle.rvs_inputs.specs.DeviceInput.{device_in}
 use Rattle.rvs_generate.specs.Tests.{IsRunnable, test_with, tests_of_label, tests_of}
 use Rattle.rvs_run.specs.RunTests.{RunInputs}
 use Rattle.rvs_suite.specs.Judging.{run_inputs_in}
@@ -58,13 +56,11 @@ good-checked isa families tree (Err refusal) is = tt
 
 good-tree : (isa : Isa) (families : Families) (a : Parsed)
     → IfOk (inputs_of isa (tree_groups isa families a)) IsGood
-good-tree isa families (Ok tree) = good-checked isa families tree (groups_of isa families tree) refl
-good-tree isa families (Err fault) = tt
+good-tree isa families a = search (rules, good-checked)
 
 good-text : (isa : Isa) (families : Families) (r : Result (List ℕ) Stop)
     → IfOk (and_then r (λ text. inputs_of isa (groups_found isa families text))) IsGood
-good-text isa families (Ok text) = good-tree isa families (answer text)
-good-text isa families (Err stop) = tt
+good-text isa families r = search (rules, good-tree)
 
 good-said : (files : Files) (families : Families) (names : List (List ℕ))
     (r : Result AcceptedSpec Stop)
@@ -86,13 +82,11 @@ IsPlaced inputs = HasRoom inputs.isa.memory
 
 placed-groups : (isa : Isa) (r : Result (List Label) Stop) → HasRoom isa.memory
     → IfOk (inputs_of isa r) IsPlaced
-placed-groups isa (Ok ls) room = room
-placed-groups isa (Err stop) room = tt
+placed-groups isa r room = grind arith
 
 placed-text : (isa : Isa) (families : Families) (r : Result (List ℕ) Stop) → HasRoom isa.memory
     → IfOk (and_then r (λ text. inputs_of isa (groups_found isa families text))) IsPlaced
-placed-text isa families (Ok text) room = placed-groups isa (groups_found isa families text) room
-placed-text isa families (Err stop) room = tt
+placed-text isa families r room = grind arith
 
 placed-said : (files : Files) (isa : List ℕ) (families : Families) (names : List (List ℕ))
     (r : Result AcceptedSpec Stop) → said_in files isa ≡ r
@@ -117,22 +111,15 @@ pub record AreTestable (inputs : Inputs) : Type 0 where
 
 testable-by : (inputs : Inputs) (o : Option Label) → IsGood inputs → IsPlaced inputs
     → find (lacks_room inputs.isa) inputs.groups ≡ o → IfOk (unless_for inputs o) AreTestable
-testable-by inputs None good place none =
-    record { place = place; each = all-testable inputs.isa inputs.groups good.valid none }
-testable-by inputs (Some l) good place some = tt
+testable-by inputs o good place none = search (rules, all-testable)
 
 testable-found : (r : Result Inputs Stop) → IfOk r IsGood → IfOk r IsPlaced
     → IfOk (and_then r with_room) AreTestable
-testable-found (Ok inputs) good place =
-    testable-by inputs (find (lacks_room inputs.isa) inputs.groups) good place refl
-testable-found (Err stop) good place = tt
+testable-found r good place = search (rules, testable-by)
 
 testable-in : (files : Files) (isa : List ℕ) (families : Families) (names : List (List ℕ))
     → IfOk (tested_in files isa families names) AreTestable
-testable-in files isa families names =
-    testable-found (inputs_in files isa families names)
-    (good-said files families names (said_in files isa))
-    (placed-said files isa families names (said_in files isa) refl)
+testable-in files isa families names = grind (arith, testable-found, good-said, placed-said)
 
 testable-part : (part : Option PartValue) (r : Result Inputs Stop) → IfOk r AreTestable
     → IfOk (and_then r (λ inputs. Ok (parted_inputs part inputs))) AreTestable
@@ -152,19 +139,16 @@ testable-labels files part isa families names inputs given =
 
 pub valid-good : (inputs : Inputs) (l : Label) → IsGood inputs → Contains inputs.groups l
     → IsTrue l.selected → IsValid inputs.isa l
-valid-good inputs l good there selected =
-    All-contains (IsValidIfSelected inputs.isa) inputs.groups l good.valid there selected
+valid-good inputs l good there selected = grind arith
 
 testable-of : (inputs : Inputs) (l : Label) → AreTestable inputs → Contains inputs.groups l
     → IsTrue l.selected → IsTestable inputs.isa l
-testable-of inputs l all there selected =
-    All-contains (IsTestableIfSelected inputs.isa) inputs.groups l all.each there selected
+testable-of inputs l all there selected = grind arith
 
 -- ---- the text of a label's test is that of its cases
 whole : (isa : Isa) (l : Label) (cs : List Solved) (text : List ℕ) → text_for isa l cs ≡ Some text
     → test_text l.name isa (map (λ (c : Claim). named_at l c.point) (claims_of isa l)) cs ≡ text
-whole isa l [] text is = absurd cc
-whole isa l (c ∷ cs) text is = cc
+whole isa l cs text is = grind arith
 
 pub runs-label : (isa : Isa) (l : Label) (text : List ℕ) → HasRoom isa.memory → IsTestable isa l
     → text_of_label isa l ≡ Some text
@@ -177,8 +161,7 @@ runs-label isa l text place test is = subst
 reads-label : (isa : Isa) → HasRoom isa.memory → (l : Label) (text : List ℕ) → IsValid isa l
     → text_of_label isa l ≡ Some text
     → claims_read text ≡ Some (map (named_claim l) (claims_of isa l))
-reads-label isa place l text valid is = back_there isa place l valid text (claims_of isa l)
-    (cases_of isa l) refl refl (sym (whole isa l (cases_of isa l) text is))
+reads-label isa place l text valid is = grind (arith, back_there, whole)
 
 -- ---- of all that is made of accepted inputs
 tested-all : (inputs : Inputs) → AreTestable inputs → AreTested inputs
@@ -214,9 +197,7 @@ runnable-with isa l (Some text) place test is =
 runnable-by : (isa : Isa) (l : Label) (b : Bool) → HasRoom isa.memory
     → (b ≡ true → IsTestable isa l) → All (IsRunnable isa)
     (if b then test_with l.name (step_limit (cases_of isa l)) (text_of_label isa l) else [])
-runnable-by isa l true place test =
-    runnable-with isa l (text_of_label isa l) place (test refl) refl
-runnable-by isa l false place test = All-nil (IsRunnable isa)
+runnable-by isa l b place test = search (rules, runnable-with)
 
 runnable-all : (isa : Isa) (ls : List Label) → HasRoom isa.memory
     → All (IsTestableIfSelected isa) ls → All (IsRunnable isa) (tests_of isa ls)
@@ -234,32 +215,21 @@ with_device inputs found =
 groups-of : (groups : Result Inputs Stop) (found : Result Told Stop)
     → IfOk (and_then groups (λ inputs. with_device inputs found))
     (λ (i : RunInputs). groups ≡ Ok i.groups)
-groups-of (Ok inputs) (Ok told) = refl
-groups-of (Ok inputs) (Err stop) = tt
-groups-of (Err stop) found = tt
+groups-of groups found = grind arith
 
 pub groups-accepted : (files : Files) (asked : RunArguments)
     (inputs : RunInputs) → run_inputs_in files asked ≡ Ok inputs
     → labels_in files asked.part asked.isa asked.families asked.groups ≡ Ok inputs.groups
-groups-accepted files asked inputs given = subst
-    (λ (r : Result RunInputs Stop).
-    IfOk r (λ (i : RunInputs). labels_in files asked.part asked.isa asked.families asked.groups
-    ≡ Ok i.groups)) given
-    (groups-of (labels_in files asked.part asked.isa asked.families asked.groups)
-    (device_in files asked.device))
+groups-accepted files asked inputs given = grind (arith, groups-of)
 
 pub tested-run : (files : Files) (asked : RunArguments)
     (inputs : RunInputs) → run_inputs_in files asked ≡ Ok inputs
     → AreTested inputs.groups
-tested-run files asked inputs given =
-    tested-labels files asked.part asked.isa asked.families asked.groups inputs.groups
-    (groups-accepted files asked inputs given)
+tested-run files asked inputs given = grind (arith, tested-labels, groups-accepted)
 
 pub runnable-labels : (files : Files) (part : Option PartValue) (isa : List ℕ) (families : Families)
     (names : List (List ℕ)) (inputs : Inputs)
     → labels_in files part isa families names ≡ Ok inputs → (test : Test)
     → Contains (tests_of inputs.isa inputs.groups) test → IsRunnable inputs.isa test
 runnable-labels files part isa families names inputs given test there =
-    let all = testable-labels files part isa families names inputs given in
-    All-contains (IsRunnable inputs.isa) (tests_of inputs.isa inputs.groups) test
-    (runnable-all inputs.isa inputs.groups all.place all.each) there
+    grind (arith, testable-labels, runnable-all)

@@ -1,10 +1,10 @@
 -- Reading what tests are made of: it only reads, and what it finds over given files.
-use Rattle.std.proofs.Common.{ℕ, List, Option, Ok, refl}
+use Rattle.std.proofs.Common.{ℕ, List, Option, arith}
 use Rattle.rvs_base.specs.Host.{Files}
 use Rattle.rvs_abstract.specs.declared.families.Families.{Families}
 use Rattle.rvs_plan.specs.Inputs.{part}
-use Rattle.rvs_inputs.specs.GroupFiles.{inputs_in, group_inputs, parted_inputs}
-use Rattle.rvs_generate.specs.TestedInputs.{with_room, tested_in, asks_room, tested_inputs}
+use Rattle.rvs_inputs.specs.GroupFiles.{group_inputs}
+use Rattle.rvs_generate.specs.TestedInputs.{tested_in, asks_room, tested_inputs}
 use Rattle.rvs_generate.specs.TestedInputs.{labels_in, gives_part, part_inputs}
 use Rattle.rvs_parts.specs.Parts.{PartValue}
 use Rattle.rvs_inputs.proofs.Readers.{OnlyReads, OnlyReads-then}
@@ -19,10 +19,7 @@ reads-tested isa families names =
 
 pub finds-tested : (files : Files) (isa : List ℕ) (families : Families) (names : List (List ℕ))
     → Finds files (tested_inputs isa families names) (tested_in files isa families names)
-finds-tested files isa families names =
-    finds-and_then files (group_inputs isa families names) asks_room
-    (inputs_in files isa families names) with_room
-    (finds-inputs files isa families names) (λ inputs. refl)
+finds-tested files isa families names = grind (arith, finds-and_then, finds-inputs)
 
 pub reads-labels : (part : Option PartValue) (isa : List ℕ) (families : Families)
     (names : List (List ℕ))
@@ -34,7 +31,4 @@ reads-labels part isa families names =
 pub finds-labels : (files : Files) (part : Option PartValue) (isa : List ℕ) (families : Families)
     (names : List (List ℕ))
     → Finds files (part_inputs part isa families names) (labels_in files part isa families names)
-finds-labels files part isa families names =
-    finds-and_then files (tested_inputs isa families names) (gives_part part)
-    (tested_in files isa families names) (λ inputs. Ok (parted_inputs part inputs))
-    (finds-tested files isa families names) (λ inputs. refl)
+finds-labels files part isa families names = grind (arith, finds-and_then, finds-tested)

@@ -1,13 +1,13 @@
 -- That a command which stops for its words, its inputs or their absence has changed nothing.
-use Rattle.std.proofs.Common.{◌≡◌, ◌⊎◌, inl, inr, ℕ, Bool, true, false, if◌then◌else◌, List, []}
-use Rattle.std.proofs.Common.{◌∷◌, length, Option, Some, None, Result, Ok, Err, refl, subst, ◌∙◌}
+use Rattle.std.proofs.Common.{◌≡◌, ◌⊎◌, inl, inr, ℕ, Bool, if◌then◌else◌, List, []}
+use Rattle.std.proofs.Common.{◌∷◌, Option, Some, Result, Ok, Err, refl, subst}
+use Rattle.std.proofs.Common.{arith, rules}
 use Rattle.std.specs.Prelude.{⊤}
 use Rattle.rvs_base.specs.Host.{Files, Tells, with_left}
 use Rattle.rvs_base.specs.Sink.{SinkState}
 use Rattle.rvs_plan.specs.World.{World, Contents, contents}
 use Rattle.rvs_plan.specs.Effect.{Answer, Effect, Read, Device, Did, after}
 use Rattle.rvs_plan.specs.Plan.{Plan, Ends, Does, Asks, Runs, Goes, followed, gives, ◌>>=◌}
-use Rattle.rvs_plan.specs.Inputs.{input}
 use Rattle.rvs_plan.specs.Performed.{end_of, files_after}
 use Rattle.rvs_plan.specs.Meets.{Completes, Halts}
 use Rattle.rvs_plan.specs.Account.{Accounts, status_of, HostRose}
@@ -16,31 +16,25 @@ use Rattle.rvs_plan.specs.declared.stop.Stop.TheVariants as why
 use Rattle.rvs_plan.specs.declared.status.Status.{Status}
 use Rattle.rvs_plan.specs.declared.status.Status.TheVariants as answer
 use Rattle.rvs_plan.specs.declared.status.Finish.{Finish}
-use Rattle.rvs_device.specs.Judged.{signature_limit}
 use Rattle.rvs_insn.specs.Isa.{Isa}
 use Rattle.rvs_plain.specs.Compare as comparing
 use Rattle.rvs_plain.specs.Validate.{print_said}
-use Rattle.rvs_plain.specs.Demonstrate.{demonstrate}
 use Rattle.rvs_inputs.specs.Specification.{specification}
 use Rattle.rvs_cgf.specs.Groups.{Label}
-use Rattle.rvs_test.specs.Made.{text_of_label}
 use Rattle.rvs_inputs.specs.GroupFiles.{Inputs, group_inputs}
 use Rattle.rvs_generate.specs.TestedInputs.{part_inputs}
-use Rattle.rvs_generate.specs.GenerateTexts.{listing}
-use Rattle.rvs_generate.specs.Generate.{path_of, writes_text, writes_test, writes_tests}
-use Rattle.rvs_generate.specs.Generate.{written_tests, generates}
+use Rattle.rvs_generate.specs.Generate.{writes_text, writes_tests}
+use Rattle.rvs_generate.specs.Generate.{generates}
 use Rattle.rvs_plain.specs.Normalize.{print_normal}
 use Rattle.rvs_inputs.specs.Printing.{print_text}
 use Rattle.rvs_coverage.specs.Coverage as covering
 use Rattle.rvs_coverage.specs.Propagate as propagating
-use Rattle.rvs_reference.specs.Reference.{test_limit, trial, records, reference_on}
-use Rattle.rvs_reference.specs.TestRun.{accepted, test_found}
-use Rattle.rvs_generate.specs.Tests.{tests_of}
+use Rattle.rvs_reference.specs.Reference.{trial, records, reference_on}
 use Rattle.rvs_run.specs.RunTests.{Bench, judges_made, made_for, announces, judges_one, with_one}
-use Rattle.rvs_run.specs.RunTests.{judges_all, tallies, RunInputs, run_inputs, bench_of, runs}
+use Rattle.rvs_run.specs.RunTests.{judges_all, RunInputs, run_inputs, runs}
 use Rattle.rvs_suite.specs.Plans.{plan_of, ReadsFirst}
 use Rattle.rvs_suite.proofs.Ends.{was_refused, WasMissing, was_missing}
-use Rattle.rvs_inputs.proofs.Readers.{OnlyReads, OnlyReads-then}
+use Rattle.rvs_inputs.proofs.Readers.{OnlyReads}
 use Rattle.rvs_inputs.proofs.GroupInputs.{reads-specification, reads-inputs}
 use Rattle.rvs_suite.proofs.TestedInputs.{reads-labels}
 use Rattle.rvs_coverage.proofs.LogReads.{reads-reported}
@@ -98,15 +92,13 @@ untouched-end A stop (effect ∷ effects) stop' c goes = absurd goes
 
 untouched-followed : {A B : Type 0} (end : Result A Stop) (next : A → Plan B)
     → ((a : A) → StopsUntouched (next a)) → StopsUntouched (followed end next)
-untouched-followed (Ok a) next each = each a
-untouched-followed {B = B} (Err stop) next each = untouched-end B stop
+untouched-followed h = search (rules, untouched-end)
 
 -- what is read first, and what follows from it
 untouched-then : {A B : Type 0} (plan : Plan A) (next : A → Plan B) → OnlyReads plan
     → ((a : A) → StopsUntouched (next a)) → (effects : List Effect) (stop : Stop) (c : Contents)
     → Goes (plan >>= next) effects (Ends (Err stop)) → after effects c ≡ c
-untouched-then (Ends end) next reads each effects stop c goes =
-    untouched-followed end next each effects stop c goes
+untouched-then (Ends end) next reads each effects stop c goes = grind (arith, untouched-followed)
 untouched-then (Does deed plan) next reads each effects stop c goes = absurd reads
 untouched-then (Runs words test signature rest) next reads each effects stop c goes = absurd reads
 untouched-then (Asks name bound rest) next reads each [] stop c goes = absurd cc
@@ -118,17 +110,14 @@ untouched-then (Asks name bound rest) next reads each (Device words test signatu
 untouched-then (Asks name bound rest) next reads each (Did deed ∷ effects) stop c goes = absurd goes
 
 reads-signature : (name : List ℕ) → OnlyReads (comparing.signature name)
-reads-signature name = OnlyReads-then (input signature_limit name) (comparing.words name)
-    (λ found. tt) (λ bytes. tt)
+reads-signature name = grind arith
 
 reads-trial : (steps : Option ℕ) (isa : Isa) (test : List ℕ) → OnlyReads (trial steps isa test)
-reads-trial steps isa test = OnlyReads-then (input test_limit test)
-    (λ bytes. accepted (test_found steps isa test bytes)) (λ found. tt) (λ bytes. tt)
+reads-trial steps isa test = grind arith
 
 records-on : (signature : List ℕ) (log : Option (List ℕ)) (run : TestRun)
     → NeverStops (records signature log run)
-records-on signature None run = tt
-records-on signature (Some log) run = tt
+records-on signature log run = grind arith
 
 pub never-then : {A B : Type 0} (plan : Plan A) (next : A → Plan B) → NeverStops plan
     → ((a : A) → NeverStops (next a)) → NeverStops (plan >>= next)
@@ -155,26 +144,19 @@ never-end (Runs words test signature next) files (answer ∷ answers) stop never
 
 chosen-on : (b : Bool) (path : List ℕ) (text : Option (List ℕ))
     → NeverStops (if b then writes_text path text else gives tt)
-chosen-on true path None = tt
-chosen-on true path (Some text) = tt
-chosen-on false path text = tt
+chosen-on b path text = grind arith
 
 tests-on : (work : List ℕ) (isa : Isa) (ls : List Label) → NeverStops (writes_tests work isa ls)
 tests-on work isa [] = tt
-tests-on work isa (l ∷ ls) = never-then (writes_test work isa l) (λ _. writes_tests work isa ls)
-    (chosen-on l.selected (path_of work l.name) (text_of_label isa l)) (λ _. tests-on work isa ls)
+tests-on work isa (l ∷ ls) = grind (arith, never-then, chosen-on, (tests-on work isa ls))
 
 generates-on : (work : List ℕ) (inputs : Inputs) → NeverStops (generates work inputs)
-generates-on work inputs = never-then (written_tests work inputs.isa inputs.groups) print_text
-    (never-then (writes_tests work inputs.isa inputs.groups)
-    (λ _. gives (listing inputs.isa inputs.groups)) (tests-on work inputs.isa inputs.groups)
-    (λ _. tt)) (λ text. tt)
+generates-on work inputs = grind (arith, never-then, tests-on)
 
 made-on : (bench : Bench) (text name : List ℕ) (files : TestFiles) (words : List ℕ)
     (executable : Option (List ℕ)) → NeverStops (judges_made bench text
     (record { files = files; executable = executable; words = words }) >>= announces name)
-made-on bench text name files words None = λ answer found. tt
-made-on bench text name files words (Some executable) = λ answer found. tt
+made-on bench text name files words executable = grind arith
 
 judges-on : (bench : Bench) (passed : ℕ) (tests : List Test)
     → NeverStops (judges_all bench passed tests)
@@ -186,11 +168,7 @@ judges-on bench passed (test ∷ tests) = never-then (judges_one bench test)
     (λ pass. judges-on bench (with_one passed pass) tests)
 
 pub runs-on : (program work : List ℕ) (inputs : RunInputs) → NeverStops (runs program work inputs)
-runs-on program work inputs =
-    let bench = bench_of program work inputs in
-    let tests = tests_of bench.isa inputs.groups.groups in
-    never-then (judges_all bench 0 tests) (tallies (length tests)) (judges-on bench 0 tests)
-    (λ passed. tt)
+runs-on program work inputs = grind (arith, never-then, judges-on)
 
 -- no command stops once it has changed anything
 stops_untouched : (command : Command) → ReadsFirst command → (effects : List Effect) (stop : Stop)
@@ -238,8 +216,7 @@ stops_untouched (Select asked) first =
     untouched-then (reads_selection asked) print_selection (reads-selection asked)
     (λ entries effects stop c goes.
     absurd (goes-on (print_selection entries) effects stop tt goes))
-stops_untouched (Demo count) first =
-    λ effects stop c goes. absurd (goes-on (demonstrate count) effects stop tt goes)
+stops_untouched (Demo count) first = grind (arith, goes-on)
 stops_untouched (Reference asked) first =
     untouched-then (specification asked.isa) (λ said. reference_on asked said.spec)
     (reads-specification asked.isa) (λ said.
@@ -250,21 +227,12 @@ stops_untouched (Reference asked) first =
 
 unchanged : (command : Command) (stop : Stop) (old new : Contents) → ReadsFirst command
     → Completes (plan_of command) (Err stop) old new → new ≡ old
-unchanged command stop old new first r =
-    r.did ∙ stops_untouched command first r.effects stop old r.goes
+unchanged command stop old new first r = grind (arith, stops_untouched)
 
 used : (command : Command) (old new : World) (reason : Stop) → ReadsFirst command
     → Halts (plan_of command) (contents old) (contents new) reason → answer.Usage ≡ status_of reason
     → contents new ≡ contents old
-used command old new why.Usage first h is =
-    unchanged command why.Usage (contents old) (contents new) first h
-used command old new (why.Refused text) first h is = absurd cc
-used command old new (why.NoFile name) first h is = absurd cc
-used command old new (why.CannotRead name) first h is = absurd cc
-used command old new (why.CannotWrite name) first h is = absurd cc
-used command old new (why.CannotRun test) first h is = absurd cc
-used command old new why.NoMemory first h is = absurd cc
-used command old new why.SinkFault first h is = absurd cc
+used command old new reason first h is = search (rules, unchanged)
 
 accounts : {command : Command} {old new : World} {err err' : SinkState} {status : Status}
     → Ran command old new err err' status → (files : Files) (wanted : Status) → Tells old.host files
@@ -277,17 +245,12 @@ pub untouched : {command : Command} {old new : World} {err err' : SinkState} {st
     → Ran command old new err err' status → (files : Files) → Tells old.host files
     → ReadsFirst command → (status ≡ answer.Usage) ⊎ (status ≡ answer.Refused)
     → contents new ≡ contents old
-untouched {command} {old} {new} {err} {err'} r files t first (inl is) = let a =
-    accounts r files answer.Usage t is in used command old new a.reason first a.halts a.status_is
-untouched {command} {old} {new} {err} {err'} r files t first (inr is) = let w =
-    was_refused (plan_of command) old new err err' (accounts r files answer.Refused t is) in
-    unchanged command (why.Refused w.text) (contents old) (contents new) first w.completes
+untouched h files e g p = search (rules, accounts, used, was_refused, unchanged)
 
 absent : (command : Command) (old new : World) (err err' : SinkState) → ReadsFirst command
     → WasMissing (plan_of command) old new err err' ⊎ HostRose old new
     → (contents new ≡ contents old) ⊎ HostRose old new
-absent command old new err err' first (inl w) =
-    inl (unchanged command (why.NoFile w.name) (contents old) (contents new) first w.completes)
+absent command old new err err' first (inl w) = search (rules, inl, unchanged)
 absent command old new err err' first (inr rose) = inr rose
 
 -- one that lacks an input

@@ -5,16 +5,14 @@ use Rattle.rvs_plan.specs.World.{Contents}
 use Rattle.rvs_plan.specs.declared.status.Finish.TheVariants as finish
 use Rattle.rvs_suite.specs.Answered.{OnDone}
 use Rattle.rvs_suite.specs.Call.{Call}
-use Rattle.rvs_plan.specs.Inputs.{input}
 use Rattle.rvs_inputs.specs.Specification.{isa_limit, specification, said_in}
-use Rattle.rvs_inputs.specs.Specification as spec
 use Rattle.rvs_plain.specs.Validate.{print_said, validate}
 use Rattle.rvs_suite.specs.Validating as validating
 use Rattle.rvs_words.specs.declared.command.Command.TheVariants.{Validate}
 use Rattle.rvs_suite.proofs.Answered.{Works, RunsOn, answered}
 use Rattle.rvs_inputs.proofs.GroupInputs.{reads-specification, finds-specification}
-use Rattle.rvs_suite.proofs.Spending.{Spends, Spends-then, spent}
-use Rattle.rvs_inputs.proofs.Keeping.{WritesNone, WritesNone-then, reads-none}
+use Rattle.rvs_suite.proofs.Spending.{Spends, spent}
+use Rattle.rvs_inputs.proofs.Keeping.{WritesNone, reads-none}
 use Rattle.rvs_suite.proofs.Running.{keeps}
 use Rattle.rvs_words.specs.declared.command.ValidateArguments.{ValidateArguments}
 
@@ -30,16 +28,13 @@ works files asked = record {
 }
 
 writes-validate : (asked : ValidateArguments) → WritesNone (validate asked)
-writes-validate asked = WritesNone-then (specification asked.isa) print_said
-    (reads-none (specification asked.isa) (reads-specification asked.isa)) (λ said. tt)
+writes-validate asked = grind (arith, reads-none, reads-specification)
 
 spends-specification : (name : List ℕ) → Spends 1 (isa_limit + 1) (specification name)
-spends-specification name = Spends-then (input isa_limit name) (spec.checks name) 1
-    (isa_limit + 1) 0 0 (omega arith, omega arith, λ found. tt) (λ bytes. tt)
+spends-specification name = grind arith
 
 spends-validate : (asked : ValidateArguments) → Spends 1 (isa_limit + 1) (validate asked)
-spends-validate asked = Spends-then (specification asked.isa) print_said 1 (isa_limit + 1) 0 0
-    (spends-specification asked.isa) (λ said. tt)
+spends-validate asked = grind (arith, spends-specification)
 
 pub checks : {call : Call} (files : Files) (asked : ValidateArguments)
     → RunsOn call files (Validate asked) → validating.Checks call files asked

@@ -1,7 +1,6 @@
 -- A verdict is a pass exactly where the words are the same.
-use Rattle.std.proofs.Common.{◌≡◌, ◌≢◌, ℕ, Bool, true, false, ◌==◌, eq-eqb, if◌then◌else◌, List}
-use Rattle.std.proofs.Common.{length, Option, Some, None, refl, sym, ap, subst, ◌∙◌, arith}
-use Rattle.std.proofs.lemmas.Bool.Decides.{nat_tests}
+use Rattle.std.proofs.Common.{◌≡◌, ◌≢◌, ℕ, Bool, ◌==◌, eq-eqb, if◌then◌else◌, List}
+use Rattle.std.proofs.Common.{length, Option, sym, subst, ◌∙◌, arith, rules}
 use Rattle.std.specs.List.{zip, position}
 use Rattle.rvs_plan.specs.declared.status.Finish.TheVariants as finish
 use Rattle.rvs_sig.proofs.Differences.{agrees, differs_nowhere}
@@ -15,25 +14,14 @@ done_by : (left right : List ℕ) (lengths : Bool) (first : Option ℕ) → (len
     ≡ finish.Done → (left ≡ right)
     × ((if lengths then verdict_at left right first else Lengths (length left) (length right))
     ≡ Same (length left))
-done_by left right true None lengths first done = let n : length left ≡ length right =
-    grind (arith, nat_tests) in (agrees left right n first, refl)
-done_by left right true (Some at) lengths first done = let no : finish.NotPassed ≡ finish.Done =
-    done in absurd cc
-done_by left right false first lengths is done = let no : finish.NotPassed ≡ finish.Done = done in
-    absurd cc
+done_by left right lengths first h is done = search (rules, agrees)
 
 pub finish-done : (left right : List ℕ) → verdict_finish (verdict_of left right) ≡ finish.Done
     → (left ≡ right) × (verdict_of left right ≡ Same (length left))
-finish-done left right done = done_by left right (length left == length right)
-    (position differ (zip left right)) refl refl done
+finish-done left right done = grind (arith, done_by)
 
 finish-same : (words : List ℕ) → verdict_finish (verdict_of words words) ≡ finish.Done
-finish-same words =
-    ap (λ (lengths : Bool). verdict_finish (if lengths then verdict_at words words
-    (position differ (zip words words)) else Lengths (length words) (length words))) (eq-eqb
-    (length words) (length words) refl)
-    ∙ ap (λ (first : Option ℕ). verdict_finish (verdict_at words words first))
-    (differs_nowhere words)
+finish-same words = simp (eq-eqb, differs_nowhere)
 
 pub finish-not_passed : (left right : List ℕ)
     → verdict_finish (verdict_of left right) ≡ finish.NotPassed → left ≢ right

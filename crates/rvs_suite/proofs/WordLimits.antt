@@ -1,11 +1,10 @@
 -- No call asks for more than 4,096 logs, nor for more than 2,000,000 steps.
-use Rattle.std.proofs.Common.{◌≡◌, ◌≤◌, ℕ, ◌&&◌, Bool, true, false, if◌then◌else◌, List, [], ◌∷◌}
+use Rattle.std.proofs.Common.{◌≡◌, ◌≤◌, ℕ, ◌&&◌, Bool, if◌then◌else◌, List, [], ◌∷◌}
 use Rattle.std.proofs.Common.{length, Option, Some, None, unwrap_or, option_map, nat_le, bytes_eq}
-use Rattle.std.proofs.Common.{codes, refl, subst, arith}
-use Rattle.std.specs.Prelude.{map, option_and_then, ◌==◌}
+use Rattle.std.proofs.Common.{codes, arith, rules}
+use Rattle.std.specs.Prelude.{map, option_and_then}
 use Rattle.std.proofs.lemmas.List.{length-map}
-use Rattle.std.proofs.lemmas.Bool.Decides.{nat_tests}
-use Rattle.rvs_words.specs.Commands.{Values, number_of, most_steps, within_steps, steps_of, some_of}
+use Rattle.rvs_words.specs.Commands.{Values, most_steps, within_steps, steps_of, some_of}
 use Rattle.rvs_words.specs.Commands.{most_logs, with_options, compare_of, validate_of, normalize_of}
 use Rattle.rvs_words.specs.Commands.{generate_of, reference_of, coverage_of, propagate_of}
 use Rattle.rvs_words.specs.Commands.{report_of, select_of, run_groups_of, run_database_of, run_of}
@@ -32,25 +31,18 @@ IsLow n = n ≤ most_steps
 
 pub tested : (n : ℕ) (b : Bool) → (nat_le 1 n && nat_le n most_steps) ≡ b
     → InAll IsLow (if b then Some n else None)
-tested n true is = some-in n (grind (arith, nat_tests))
-tested n false is = none-in
+tested n b is = grind arith
 
 within : (o : Option ℕ) → InAll IsLow (within_steps o)
-within None = none-in
-within (Some n) = tested n (nat_le 1 n && nat_le n most_steps) refl
+within o = grind arith
 
 mapped : (o steps : Option ℕ) → InAll IsLow o → option_map {U = Option ℕ} Some o ≡ Some steps
     → InAll IsLow steps
-mapped None steps low e = absurd cc
-mapped (Some n) steps low e =
-    let same : Some n ≡ steps = cc in subst (λ s. InAll IsLow s) same low
+mapped o steps low e = grind arith
 
 steps-low : (texts : List (List ℕ)) (steps : Option ℕ) → steps_of texts ≡ Some steps
     → InAll IsLow steps
-steps-low [] steps e = let same : None ≡ steps = cc in subst (λ s. InAll IsLow s) same none-in
-steps-low (text ∷ []) steps e =
-    mapped (within_steps (number_of text)) steps (within (number_of text)) e
-steps-low (text ∷ other ∷ texts) steps e = absurd cc
+steps-low texts steps e = grind arith
 
 -- ---- numbers of logs
 abbrev IsFew : ℕ → Type 0
@@ -62,14 +54,11 @@ AreFew logs = IsFew (length logs)
 few-of : (values : List (List ℕ)) (b : Bool)
     → (nat_le 1 (length values) && nat_le (length values) most_logs) ≡ b
     → InAll AreFew (if b then Some values else None)
-few-of values true is = some-in values (grind (arith, nat_tests))
-few-of values false is = none-in
+few-of values b is = grind arith
 
 some-few : (values logs : List (List ℕ)) → some_of most_logs values ≡ Some logs
     → IsFew (length logs)
-some-few values logs is =
-    (few-of values (nat_le 1 (length values) && nat_le (length values) most_logs) refl).holds logs
-    is
+some-few values logs is = grind (arith, few-of, nat_le)
 
 -- there are no more logs with ranges than names
 abbrev NoMore : List (List ℕ) → List SignedLog → Type 0
@@ -82,9 +71,7 @@ each-few (name ∷ names) (range ∷ ranges) = omega (arith, each-few names rang
 
 with-each-few : (names : List (List ℕ)) (ranges : List Window)
     → InAll (NoMore names) (with_each names ranges)
-with-each-few names ranges =
-    either-in (length ranges == length names) _ _
-    (some-in (signed_each names ranges) (each-few names ranges)) none-in
+with-each-few names ranges = grind (arith, either-in, some-in, each-few, none-in)
 
 alike-few : (names : List (List ℕ)) (range : Window)
     → NoMore names (map (λ name. signed_log name range) names)
@@ -92,14 +79,11 @@ alike-few names range = omega (arith, length-map names (λ name. signed_log name
 
 ranged-few : (names : List (List ℕ)) (ranges : List Window)
     → InAll (NoMore names) (with_ranges names ranges)
-ranged-few names [] = with-each-few names []
-ranged-few names (range ∷ []) = some-in _ (alike-few names range)
-ranged-few names (range ∷ second ∷ ranges) = with-each-few names (range ∷ second ∷ ranges)
+ranged-few names ranges = search (rules, with-each-few, some-in, alike-few)
 
 spelled-few : (names : List (List ℕ)) (o : Option (List Window))
     → InAll (NoMore names) (option_and_then (with_ranges names) o)
-spelled-few names None = none-in
-spelled-few names (Some ranges) = ranged-few names ranges
+spelled-few names o = search (rules, none-in, ranged-few)
 
 signed-few : (values names texts : List (List ℕ)) (logs : List SignedLog)
     → some_of most_logs values ≡ Some names
@@ -117,10 +101,7 @@ IsWithin (Propagate asked) = IsFew (length asked.logs)
 IsWithin _ = Unit {0}
 
 by-compare : (words : List (List ℕ)) → InAll IsWithin (compare_of words)
-by-compare [] = none-in
-by-compare (left ∷ []) = none-in
-by-compare (left ∷ right ∷ []) = either-in _ _ _ (some-in _ tt) none-in
-by-compare (left ∷ right ∷ other ∷ words) = none-in
+by-compare words = grind arith
 
 by-validate : (values : Values) → InAll IsWithin (validate_of values)
 by-validate values = search (then-in, some-in) depth 12
@@ -153,15 +134,10 @@ by-database : (program : List ℕ) (values : Values) → InAll IsWithin (run_dat
 by-database program values = search (then-in, some-in) depth 12
 
 by-run : (program : List ℕ) (values : Values) → InAll IsWithin (run_of program values)
-by-run program values =
-    either-in _ _ _
-    (either-in _ _ _ none-in (either-in _ _ _ none-in (by-database program values)))
-    (by-groups program values)
+by-run program values = grind (arith, either-in, none-in, by-database, by-groups)
 
 by-demo : (words : List (List ℕ)) → InAll IsWithin (demo_of words)
-by-demo [] = none-in
-by-demo (text ∷ []) = search (then-in, some-in) depth 12
-by-demo (text ∷ other ∷ words) = none-in
+by-demo words = grind arith
 
 by-options : (names : List (List ℕ)) (of : Values → Option Command) (words : List (List ℕ))
     → ((values : Values) → InAll IsWithin (of values)) → InAll IsWithin (with_options names of words)
@@ -196,13 +172,11 @@ by-words (program ∷ []) = none-in
 by-words (program ∷ name ∷ words) = by-name program name words
 
 whole : (o : Option Command) → InAll IsWithin o → IsWithin (unwrap_or o Unknown)
-whole None limited = tt
-whole (Some command) limited = limited.holds command refl
+whole o limited = grind arith
 
 of-words : (words : List (List ℕ)) (command : Command) → command_of words ≡ command
     → IsWithin command
-of-words words command is =
-    subst (λ command. IsWithin command) is (whole (asked_by words) (by-words words))
+of-words words command is = grind (arith, whole, by-words)
 
 pub asked-low : (words : List (List ℕ)) (asked : ReferenceArguments)
     → command_of words ≡ Reference asked → InAll IsLow asked.steps

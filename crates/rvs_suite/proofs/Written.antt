@@ -1,7 +1,7 @@
 -- That each label's test is in its own file, since no two labels have one name.
 use Rattle.std.proofs.Common.{◌≡◌, ◌≢◌, ℕ, Bool, true, false, true≢false, if◌then◌else◌, List, []}
 use Rattle.std.proofs.Common.{◌∷◌, All, Contains, Option, Some, None, is_some, Result, Ok, Err}
-use Rattle.std.proofs.Common.{IfOk, codes, bytes_eq, refl, sym, ap, subst, ◌∙◌}
+use Rattle.std.proofs.Common.{IfOk, codes, bytes_eq, refl, sym, ap, subst, ◌∙◌, arith, rules}
 use Rattle.std.specs.Prelude.{not}
 use Rattle.std.specs.List.{list_any}
 use Rattle.std.proofs.lemmas.List.Elements.{All-nil, All-cons, All-contains}
@@ -9,7 +9,7 @@ use Rattle.std.proofs.lemmas.Slice.Eq.{bytes_eq-Decides}
 use Rattle.rvs_base.specs.Host.{Files}
 use Rattle.rvs_abstract.specs.declared.families.Families.{Families}
 use Rattle.rvs_plan.specs.declared.stop.Stop.{Stop}
-use Rattle.rvs_tree.specs.Data.{Data, scalar, sequence, mapping, own_pairs}
+use Rattle.rvs_tree.specs.Data.{Data, own_pairs}
 use Rattle.rvs_yaml.specs.Parsed.{Parsed, answer}
 use Rattle.rvs_insn.specs.Isa.{Isa}
 use Rattle.rvs_isa.specs.declared.accepted_spec.AcceptedSpec.{AcceptedSpec}
@@ -32,14 +32,12 @@ use Rattle.std.specs.Prelude.{◌+◌, ◌&&◌, ◌||◌}
 use Rattle.rvs_generate.specs.Generate.{path_of}
 use Rattle.rvs_suite.specs.Generating.{with_text, with_test, with_tests}
 use Rattle.rvs_generate.proofs.Paths.{same-ending}
-use Rattle.rvs_suite.proofs.Sparing.{held, unwritten}
+use Rattle.rvs_suite.proofs.Sparing.{held}
 use Rattle.rvs_generate.proofs.Testable.{room-keeps}
 
 -- ---- no two labels have one name
 top-own : (d : Data) → KeysOnce d → keys_are_own (own_pairs d) ≡ true
-top-own (scalar t l) o = refl
-top-own (sequence is l) o = refl
-top-own (mapping es l) o = o.0
+top-own d o = grind arith
 
 abbrev AreApart : Inputs → Type 0
 AreApart inputs = names_are_apart inputs.groups ≡ true
@@ -54,14 +52,11 @@ apart-checked isa families text tree (Err refusal) a is = tt
 
 apart-tree : (isa : Isa) (families : Families) (text : List ℕ) (r : Parsed) → answer text ≡ r
     → IfOk (inputs_of isa (tree_groups isa families r)) AreApart
-apart-tree isa families text (Ok tree) a =
-    apart-checked isa families text tree (groups_of isa families tree) a refl
-apart-tree isa families text (Err fault) a = tt
+apart-tree isa families text r a = search (rules, apart-checked)
 
 apart-text : (isa : Isa) (families : Families) (r : Result (List ℕ) Stop)
     → IfOk (and_then r (λ text. inputs_of isa (groups_found isa families text))) AreApart
-apart-text isa families (Ok text) = apart-tree isa families text (answer text) refl
-apart-text isa families (Err stop) = tt
+apart-text isa families r = search (rules, apart-tree)
 
 apart-said : (files : Files) (families : Families) (names : List (List ℕ))
     (r : Result AcceptedSpec Stop)
@@ -80,16 +75,13 @@ apart-inputs files isa families names inputs given =
 -- ---- those of a part
 kept-any : (test : Label → Bool) (b : Bool) (l : Label) (rest : List Label) → test l ≡ false
     → list_any test rest ≡ false → list_any test (if b then l ∷ rest else rest) ≡ false
-kept-any test true l rest first later = ap (λ (t : Bool). t || list_any test rest) first ∙ later
-kept-any test false l rest first later = later
+kept-any test b l rest first later = grind arith
 
 or-left : (a b : Bool) → (a || b) ≡ false → a ≡ false
-or-left true b is = absurd cc
-or-left false b is = refl
+or-left a b is = grind arith
 
 or-right : (a b : Bool) → (a || b) ≡ false → b ≡ false
-or-right true b is = absurd cc
-or-right false b is = is
+or-right a b is = grind arith
 
 none-parted : (test : Label → Bool) (part : Option PartValue) (place : ℕ) (ls : List Label)
     → list_any test ls ≡ false → list_any test (parted_from part place ls) ≡ false
@@ -102,17 +94,13 @@ none-parted test part place (l ∷ ls) none =
 kept-apart : (b other : Bool) (l : Label) (rest : List Label)
     → list_any (λ (m : Label). bytes_eq l.name m.name) rest ≡ false
     → names_are_apart rest ≡ true → names_are_apart (if b then l ∷ rest else rest) ≡ true
-kept-apart true other l rest none apart =
-    ap (λ (t : Bool). not t && names_are_apart rest) none ∙ apart
-kept-apart false other l rest none apart = apart
+kept-apart b other l rest none apart = grind arith
 
 first-apart : (a b : Bool) → (not a && b) ≡ true → a ≡ false
-first-apart true b is = absurd cc
-first-apart false b is = refl
+first-apart a b is = grind arith
 
 rest-apart : (a b : Bool) → (not a && b) ≡ true → b ≡ true
-rest-apart true b is = absurd cc
-rest-apart false b is = is
+rest-apart a b is = grind arith
 
 apart-parted : (part : Option PartValue) (place : ℕ) (ls : List Label)
     → names_are_apart ls ≡ true → names_are_apart (parted_from part place ls) ≡ true
@@ -127,8 +115,7 @@ apart-parted part place (l ∷ ls) apart =
 
 apart-part : (part : Option PartValue) (r : Result Inputs Stop) → IfOk r AreApart
     → IfOk (and_then r (λ inputs. Ok (parted_inputs part inputs))) AreApart
-apart-part part (Ok inputs) apart = apart-parted part 0 inputs.groups apart
-apart-part part (Err stop) apart = tt
+apart-part part r apart = search (rules, apart-parted)
 
 pub apart-labels : (files : Files) (part : Option PartValue) (isa : List ℕ) (families : Families)
     (names : List (List ℕ)) (inputs : Inputs)
@@ -148,29 +135,16 @@ apart-paths work a b apart same =
 kept-chosen : (b : Bool) (other path : List ℕ) (text : Option (List ℕ)) (files : Option Files)
     → other ≢ path
     → held other (if b then with_text path text files else files) ≡ held other files
-kept-chosen true other path None files apart = refl
-kept-chosen true other path (Some text) files apart = unwritten other path text files apart
-kept-chosen false other path text files apart = refl
+kept-chosen b other path text files apart = search rules
 
 told-chosen : (b : Bool) (path : List ℕ) (text : Option (List ℕ)) (files : Option Files)
     → is_some (if b then with_text path text files else files) ≡ is_some files
-told-chosen true path None files = refl
-told-chosen true path (Some text) None = refl
-told-chosen true path (Some text) (Some files) = refl
-told-chosen false path text files = refl
+told-chosen b path text files = grind arith
 
 here-chosen : (b : Bool) (path : List ℕ) (text : Option (List ℕ)) (t : List ℕ)
     (files : Option Files) → is_some files ≡ true → b ≡ true → text ≡ Some t
     → held path (if b then with_text path text files else files) ≡ Some (Some t)
-here-chosen false path text t files told chosen is = absurd cc
-here-chosen true path None t files told chosen is = absurd cc
-here-chosen true path (Some s) t None told chosen is = absurd cc
-here-chosen true path (Some s) t (Some files) told chosen is =
-    ap (λ (x : Option (List ℕ)). Some x) (found (bytes_eq path path) (Some s) (files path)
-    ((bytes_eq-Decides path path).1 refl) ∙ is)
-  where
-    found : (b : Bool) (x y : Option (List ℕ)) → b ≡ true → (if b then x else y) ≡ x
-    found b x y e = rw e refl
+here-chosen b path text t files told chosen is = search rules
 
 kept-tests : (work name : List ℕ) (isa : Isa) (ls : List Label) (files : Option Files)
     → list_any (λ (m : Label). bytes_eq name m.name) ls ≡ false
